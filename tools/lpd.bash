@@ -5,9 +5,10 @@
 # The commands: the plain words of each, as placeholders, and then its options.
 declare -A _lpd_commands=(
     [run]="--workers --places"
-    [solve]="--form"
+    [solve]="--form --wide"
     [check]="--form --wide"
     [basis]="--form"
+    [presolve]="--form"
     [iis]="--form"
     [range]="WHAT NAME --form"
     [gen]="SEED ROWS COLS"

@@ -8,8 +8,9 @@ use Rattle.spec_mps.specs.Reader.{start}
 use denote.Ref.{Bor}
 use Rattle.spec_program.specs.declared.command_line.Moved.{Moved}
 use Rattle.spec_program.specs.declared.command_line.TextCommand.{TextCommand}
-use Rattle.spec_program.specs.declared.command_line.TextCommand.TheVariants.{Solve, Check, CheckWide, Basis, Iis, Range}
-use Rattle.spec_program.specs.IisOut.{IisOut, iis_code}
+use Rattle.spec_program.specs.declared.command_line.TextCommand.TheVariants.{Solve, SolveWide, Check, CheckWide, Basis, Presolve, Iis, Range}
+use Rattle.lp_text_commands.specs.declared.tasked.Task.TheVariants as task
+use Rattle.lp_text_commands.specs.Tasked.{TaskOut, task_code}
 use Rattle.spec_program.specs.RangeOut.{RangeOut, range_code}
 use Rattle.spec_program.specs.Spelled.{spelled_text}
 use Rattle.spec_server.specs.Machine.{ExactReply}
@@ -164,8 +165,24 @@ module _ (style : Style) (reader : TextRead) (begun : reader ≡ record { style 
   range_reads command moved name asked s result h =
       reads_as command (Range moved name) style s result asked (h (text_said style) text_agrees)
 
-  pub iis_reads : (command : Asked) → command ≡ Iis → (s : Streams) (result : Result ExitStatus Halt) →
-      SaysSo (text_said reader.style) IisOut iis_code s result → ReadsText (spelled_text command) style s result
-  iis_reads command asked s result h =
-      reads_as command Iis style s result asked
-      (subst (λ (r : TextRead). SaysSo (text_said r.style) IisOut iis_code s result) begun h)
+  module _ (command : Asked) (s : Streams) (result : Result ExitStatus Halt) where
+    pub wide_solve_reads : command ≡ SolveWide →
+        SaysSo (text_said reader.style) (TaskOut task.SolveWide) task_code s result →
+        ReadsText (spelled_text command) style s result
+    wide_solve_reads asked h =
+        reads_as command SolveWide style s result asked
+        (subst (λ (r : TextRead). SaysSo (text_said r.style) (TaskOut task.SolveWide) task_code s result) begun h)
+
+    pub presolve_reads : command ≡ Presolve →
+        SaysSo (text_said reader.style) (TaskOut task.Presolve) task_code s result →
+        ReadsText (spelled_text command) style s result
+    presolve_reads asked h =
+        reads_as command Presolve style s result asked
+        (subst (λ (r : TextRead). SaysSo (text_said r.style) (TaskOut task.Presolve) task_code s result) begun h)
+
+    pub iis_reads : command ≡ Iis →
+        SaysSo (text_said reader.style) (TaskOut task.Search) task_code s result →
+        ReadsText (spelled_text command) style s result
+    iis_reads asked h =
+        reads_as command Iis style s result asked
+        (subst (λ (r : TextRead). SaysSo (text_said r.style) (TaskOut task.Search) task_code s result) begun h)

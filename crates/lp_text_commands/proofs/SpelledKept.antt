@@ -13,7 +13,7 @@ use Rattle.spec_server.specs.SolveOut.{TextSaid, text_said, text_step, behind_li
 use Rattle.mps_read.specs.TextRead.{TextRead}
 use Rattle.lp_line.specs.Stages.{TextSays}
 use Rattle.lp_text_commands.specs.Hearing.{Agrees, Hears}
-use Rattle.lp_text_commands.specs.Searched.{MayBeKept}
+use Rattle.lp_text_commands.specs.Tasked.{MayBeKept}
 
 same_model : (m o : Model) → ◌≡◌ {A = Option TextSaid} (Some (Ok m)) (Some (Ok o)) → m ≡ o
 same_model m o e = cc

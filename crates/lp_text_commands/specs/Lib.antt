@@ -7,5 +7,5 @@ pub mod WideSaid
 pub mod WideStage
 pub mod FileAt
 pub mod Basis
-pub mod Searched
+pub mod Tasked
 pub mod TextCommands

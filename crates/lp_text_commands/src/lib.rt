@@ -1,5 +1,6 @@
-//! The commands that read the text of a model from an input: to solve it, to check the certificate after it, to solve it
-//! from the basis of the file after it, to find limits that contradict each other, and to range one of its numbers.
+//! The commands that read the text of a model from an input: to solve it, at 127 bits, at any width or by a smaller model,
+//! to check the certificate after it, to solve it from the basis of the file after it, to find limits that contradict each
+//! other, and to range one of its numbers.
 //!
 //! | Item | What it is | Where |
 //! |---|---|---|
@@ -7,7 +8,7 @@
 //! | `ExitStatus` | how a command ended | src/exit_status |
 //! | `say`, `Output` | reads an input, and writes what is said of it, whatever says it | src/hearing |
 //! | `say_range`, `Ranged` | the same of a text of which a number is ranged | src/ranged |
-//! | `say_iis`, `Searched` | the same of a text in whose model limits are sought that contradict each other | src/searched |
+//! | `say_tasked`, `Task`, `Tasked` | the same of a text of whose model more is asked than a solve at 127 bits | src/tasked |
 //! | `CheckStage`, `WideStage`, `BasisStage` | where the reading stands | src/check, src/check_wide, src/basis |
 //! | `ReadsText`, `TellsOfText` | what is read and written, by the answer and by the status | specs/TextCommands |
 #![tactic(auto)]
@@ -20,7 +21,7 @@ mod exit_status;
 mod hearing;
 mod outputs;
 mod ranged;
-mod searched;
+mod tasked;
 mod text;
 
 pub use exit_status::ExitStatus;

@@ -11,7 +11,7 @@ use crate::check_wide::WideStage;
 use crate::exit_status::ExitStatus;
 use crate::hearing::say;
 use crate::ranged::say_range;
-use crate::searched::say_iis;
+use crate::tasked::{Task, say_tasked};
 use lp_base::{Sink, Source};
 use lp_line::Halt;
 use mps_read::Reader;
@@ -35,10 +35,12 @@ pub fn read_text<S: Source, K: Sink>(
     let text = Reader::new(alloc, style);
     match command {
         TextCommand::Solve => say(alloc, text, src, out),
+        TextCommand::SolveWide => say_tasked(alloc, text, Task::SolveWide, src, out),
         TextCommand::Check => say(alloc, CheckStage::Text(text), src, out),
         TextCommand::CheckWide => say(alloc, WideStage::Text(text), src, out),
         TextCommand::Basis => say(alloc, BasisStage::Text(text), src, out),
-        TextCommand::Iis => say_iis(alloc, text, src, out),
+        TextCommand::Presolve => say_tasked(alloc, text, Task::Presolve, src, out),
+        TextCommand::Iis => say_tasked(alloc, text, Task::Search, src, out),
         TextCommand::Range { moved, name } => say_range(alloc, text, moved, name, src, out),
     }
 }

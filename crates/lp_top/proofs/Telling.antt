@@ -4,7 +4,7 @@ use Rattle.std.specs.Io.KnownBytes.{Consumes}
 use denote.Ref.{Bor}
 use Rattle.spec_text.specs.declared.line.Line.{Line}
 use Rattle.spec_program.specs.declared.command_line.CommandLine.{CommandLine}
-use Rattle.spec_program.specs.declared.command_line.TextCommand.TheVariants.{Solve, Check, CheckWide, Basis, Iis, Range}
+use Rattle.spec_program.specs.declared.command_line.TextCommand.TheVariants.{Solve, SolveWide, Check, CheckWide, Basis, Presolve, Iis, Range}
 use Rattle.spec_program.specs.CommandLine.{ExactTextCommand}
 use Rattle.spec_program.specs.Spelled.{spelled}
 use Rattle.spec_program.specs.RangeOut.{place_by, place_code}
@@ -153,10 +153,14 @@ text_codes : (command : ExactTextCommand) (what : SaidBy command) →
     (code_of command what ≡ 0) ⊎ (code_of command what ≡ 9)
 text_codes Solve (Ok m) = inl refl
 text_codes Solve (Err fault) = inr refl
+text_codes SolveWide (Ok m) = inl refl
+text_codes SolveWide (Err fault) = inr refl
 text_codes Check what = check_codes what
 text_codes CheckWide what = check_codes what
 text_codes Basis (Ok handed) = inl refl
 text_codes Basis (Err fault) = inr refl
+text_codes Presolve (Ok m) = inl refl
+text_codes Presolve (Err fault) = inr refl
 text_codes Iis (Ok m) = inl refl
 text_codes Iis (Err fault) = inr refl
 text_codes (Range moved name) (Ok m) = place_codes (place_by moved m name)

@@ -3,7 +3,7 @@ use clap::{Arg, ArgAction, Command};
 use std::alloc::{AllocError, Global};
 
 /// The commands with their plain words, and what each does.
-pub const COMMANDS: [(&str, &str); 8] = [
+pub const COMMANDS: [(&str, &str); 9] = [
     ("run", "Run a script of up to 64 sessions"),
     ("solve", "Solve the model of one text"),
     (
@@ -14,6 +14,7 @@ pub const COMMANDS: [(&str, &str); 8] = [
         "basis",
         "Solve a model from a basis file, which follows its text",
     ),
+    ("presolve", "Solve a model by a smaller one"),
     (
         "iis",
         "Solve a model, or find limits that contradict each other",
@@ -54,13 +55,13 @@ pub const OPTIONS: [(&str, &str, &str, &str); 5] = [
         "Links that each worker serves, 1 to 1,000; else 1",
     ),
     (
-        "Options of solve, check, basis, iis and range",
+        "Options of solve, check, basis, presolve, iis and range",
         "form",
         "FORM",
         "The text's form, free or fixed; else free",
     ),
     (
-        "Options of check",
+        "Options of solve and check",
         "wide",
         "",
         "Numbers of any width; else of up to 127 bits",

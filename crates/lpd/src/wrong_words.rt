@@ -10,7 +10,7 @@ use std::io;
 const NOTICES: [&str; 2] = ["--help", "--version"];
 
 // The commands that read standard input: a word behind them is often the name of a file.
-const READERS: [&str; 6] = ["run", "solve", "check", "basis", "iis", "range"];
+const READERS: [&str; 7] = ["run", "solve", "check", "basis", "presolve", "iis", "range"];
 
 /// Writes on standard error that the words are no command line, and behind that line why. Where memory runs out, it says
 /// no more than what it has said by then.

@@ -1,10 +1,15 @@
 -- From the start of a text on.
-use Rattle.lp_text_commands.proofs.Saying.{solve_reads, check_reads, wide_reads, basis_reads, iis_reads, range_reads}
+use Rattle.lp_text_commands.proofs.Saying.{solve_reads, wide_solve_reads, check_reads, wide_reads, basis_reads, presolve_reads, iis_reads, range_reads}
 use Rattle.lp_text_commands.proofs.text.read_text.Goals as goal
 
 pub returns-in-Solve-clause-output : goal.returns-in-Solve-clause-output
 returns-in-Solve-clause-output g c =
     solve_reads c.args.style c.new-text.result c.new-text.ensures c.args.command c.in-Solve.is _ _ c.say.ensures.output
+
+pub returns-in-SolveWide-clause-output : goal.returns-in-SolveWide-clause-output
+returns-in-SolveWide-clause-output g c =
+    wide_solve_reads c.args.style c.new-text.result c.new-text.ensures c.args.command _ _ c.in-SolveWide.is
+    c.say_tasked.ensures.output
 
 pub returns-in-Check-clause-output : goal.returns-in-Check-clause-output
 returns-in-Check-clause-output g c =
@@ -21,9 +26,15 @@ returns-in-Basis-clause-output g c =
     basis_reads c.args.style c.new-text.result c.new-text.ensures c.args.command c.in-Basis.is _ _
     c.say-in-Basis.ensures.output
 
+pub returns-in-Presolve-clause-output : goal.returns-in-Presolve-clause-output
+returns-in-Presolve-clause-output g c =
+    presolve_reads c.args.style c.new-text.result c.new-text.ensures c.args.command _ _ c.in-Presolve.is
+    c.say_tasked-in-Presolve.ensures.output
+
 pub returns-in-Iis-clause-output : goal.returns-in-Iis-clause-output
 returns-in-Iis-clause-output g c =
-    iis_reads c.args.style c.new-text.result c.new-text.ensures c.args.command c.in-Iis.is _ _ c.say_iis.ensures.output
+    iis_reads c.args.style c.new-text.result c.new-text.ensures c.args.command _ _ c.in-Iis.is
+    c.say_tasked-in-Iis.ensures.output
 
 pub returns-in-Range-clause-output : goal.returns-in-Range-clause-output
 returns-in-Range-clause-output g c =

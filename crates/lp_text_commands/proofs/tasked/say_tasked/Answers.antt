@@ -1,12 +1,12 @@
 -- The model may be kept, and what is written of what is said.
 use Rattle.std.proofs.Common.{subst}
 use Rattle.std.proofs.lemmas.Result.{err_from_is_err_and}
-use Rattle.spec_program.specs.IisOut.{IisOut, iis_code}
 use Rattle.spec_server.specs.SolveOut.{text_said}
+use Rattle.lp_text_commands.specs.Tasked.{ExactTasked, TaskOut, task_code}
 use Rattle.lp_text_commands.specs.Writing.{WritesSo}
 use Rattle.lp_text_commands.proofs.Saying.{says_nothing, says}
 use Rattle.lp_text_commands.proofs.SpelledKept.{heard_kept, start_agrees}
-use Rattle.lp_text_commands.proofs.searched.say_iis.Goals as goal
+use Rattle.lp_text_commands.proofs.tasked.say_tasked.Goals as goal
 
 pub new-requires : goal.new-requires
 new-requires g c =
@@ -18,16 +18,17 @@ new-requires g c =
 pub returns-in_err-said-clause-output : goal.returns-in_err-said-clause-output
 returns-in_err-said-clause-output g c =
     let p = err_from_is_err_and c.from_residual.result c.from_residual.ensures.1 in
-    says_nothing (text_said c.args.text.style) IisOut iis_code (g.S.Source.left c.args.src.now)
+    says_nothing (text_said c.args.text.style) (TaskOut c.args.task) task_code (g.S.Source.left c.args.src.now)
     (g.S.Source.left c.hear_input.new.src) (g.K.Sink.taken c.args.out.now) c.in_err-said.field-0.0
     (c.in_err-said.ensures.output (text_said c.args.text.style)
     (start_agrees c.args.text c.requires.state c.requires.lines)) c.from_residual.result p.0 p.1 p.2
 
 pub returns-clause-output : goal.returns-clause-output
 returns-clause-output g c =
-    says (text_said c.args.text.style) IisOut iis_code (g.S.Source.left c.args.src.now)
+    says (text_said c.args.text.style) (TaskOut c.args.task) task_code (g.S.Source.left c.args.src.now)
     (g.S.Source.left c.hear_input.new.src) (g.K.Sink.taken c.args.out.now) c.in_ok-said.said
     (c.in_ok-said.ensures.output (text_said c.args.text.style)
     (start_agrees c.args.text c.requires.state c.requires.lines)) _ c.write_said.result
-    (subst (λ what. WritesSo (IisOut what) (iis_code what) (g.K.Sink.taken c.args.out.now)
-    (g.K.Sink.taken c.write_said.new.out) c.write_said.result) c.new.ensures c.write_said.ensures.output)
+    (subst (λ (tasked : ExactTasked). WritesSo (TaskOut tasked.task tasked.said) (task_code tasked.said)
+    (g.K.Sink.taken c.args.out.now) (g.K.Sink.taken c.write_said.new.out) c.write_said.result) c.new.ensures
+    c.write_said.ensures.output)
