@@ -1,12 +1,13 @@
 #!/usr/bin/env python3
 """Solves made models as planners write them, ten of a kind, by one program or more and by esolver.
 
-    planners.py [--program [NAME=]PROGRAM ..] [--only WORD,..] [--seed WORD] [--runs N] [--seconds N] [--write PAGE]
+    planners.py [--program [NAME=]PROGRAM ..] [--wide NAME,..] [--only WORD,..] [--seed WORD] [--runs N] [--seconds N]
+                [--write PAGE]
 
 The rows ask for at least something, or have room for at most something; the columns cost something. A kind has 15 x 25 to 60 x 90
 rows and columns, 3 or 8 entries a column, and whole numbers from 1 to 9 or two decimals from 0.10 to 99.99: 20 kinds, 200 models.
---only takes the kinds of these sizes, as 15x25. Each model is solved by `PROGRAM solve`, and by esolver (Debian's qsopt-ex) where
-it is on the path. All that answer have to answer the same, and the checker in Python, which shares nothing with lpd, has to say
+--only takes the kinds of these sizes, as 15x25. Each model is solved by `PROGRAM solve`, by `PROGRAM solve --wide` for the names
+of --wide, and by esolver (Debian's qsopt-ex) where it is on the path. All that answer have to answer the same, and the checker in Python, which shares nothing with lpd, has to say
 yes to each certificate.
 
 The table has for each kind how many of ten are answered, and the median and the largest time of all ten, answered or not. Times are
@@ -64,7 +65,8 @@ def by_lpd(options, model, faults):
     told, times = {}, {}
     for _ in range(options.runs):
         for name, program in options.programs.items():
-            said, spent = run([*program, "solve"], model.data, options.seconds)
+            wide = ["--wide"] * (name in options.wide)
+            said, spent = run([*program, "solve", *wide], model.data, options.seconds)
             told[name] = said or "TIME\n"
             times[name] = min(times.get(name, options.seconds), options.seconds if spent is None else spent)
     for name, said in told.items():
@@ -73,7 +75,7 @@ def by_lpd(options, model, faults):
         if word not in ANSWERS:
             yield name, (None, times[name])
             continue
-        checked = run(CHECKER, model.data + certificate.encode(), options.seconds)[0]
+        checked = run([*CHECKER, "--wide"], model.data + certificate.encode(), options.seconds)[0]
         if checked != f"YES {answer}\n":
             faults.append(f"{name} answers {answer} to {model.name}, and the checker says {checked}")
         yield name, ((word, *map(Fraction, value)), times[name])
@@ -126,6 +128,7 @@ def table(options, faults):
 def main():
     options = argparse.ArgumentParser(description=__doc__, formatter_class=argparse.RawDescriptionHelpFormatter)
     options.add_argument("--program", dest="programs", type=named, nargs="+", default=[named(PROGRAM)])
+    options.add_argument("--wide", type=lambda names: names.split(","), default=[])
     options.add_argument("--only")
     options.add_argument("--seed", default="")
     options.add_argument("--runs", type=int, default=1)
