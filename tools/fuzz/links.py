@@ -15,15 +15,16 @@ links, the next one is started.
 - After the last round the server has as many descriptors as before the first, and hardly more memory than in the middle. (At
   first each worker's share grows to what the largest sessions take.)
 
-A client whose link is reset before its first reply, as the system does where its queue is full for long, is tried again, and
-counted. It tells of each round on standard error, prints a line of counts for each server, and has status 1 where something is
-wrong.
+A client that gets no connection, or whose link is reset before its first reply, as the system does where its queue is full
+for long, is tried again, and counted. It tells of each round on standard error, prints two lines of counts for each server,
+and has status 1 where something is wrong.
 """
 from __future__ import annotations
 
 import argparse
 import asyncio
 import datetime
+import errno
 import os
 import random
 import re
@@ -47,8 +48,9 @@ from replies import Reply, Unknown, may_both_be, replies_of  # noqa: E402
 from talk import Ended, commands  # noqa: E402
 
 WORKERS = 16
-# How long a client waits for its connection, and for each reply.
-SECONDS = 600.0
+# How long a client waits for each reply, and how often it connects anew where the system makes no connection, or breaks it
+# off before the first reply.
+SECONDS, TRIES = 600.0, 8
 # How long a bad peer stays at most.
 STAYS = 0.5
 # How many sessions the good clients of a server draw from: a tenth of its clients at once, and at least so many.
@@ -243,13 +245,18 @@ class Round:
             self.wrong.append(f"{type(why).__name__}: {why}")
 
     async def connect(self, dice: random.Random) -> Client:
-        local = (f"127.0.0.{dice.randint(2, 250)}", 0)
-        connecting = asyncio.open_connection(HOST, self.server.port, local_addr=local, limit=2**20)
-        return Client(*await asyncio.wait_for(connecting, SECONDS))
+        """A link, once the system makes one: while the server's queue is full it gives up after two minutes."""
+        for _ in range(TRIES):
+            local = (f"127.0.0.{dice.randint(2, 250)}", 0)
+            try:
+                return Client(*await asyncio.open_connection(HOST, self.server.port, local_addr=local, limit=2**20))
+            except OSError as why:
+                self.counts[f"not connected, {errno.errorcode.get(why.errno or 0)}"] += 1
+        raise Wrong(f"no connection in {TRIES} tries")
 
     async def good_client(self, session: Session, dice: random.Random) -> None:
         way = dice.choice(GOOD)
-        for _ in range(5):
+        for _ in range(TRIES):
             client = await self.connect(dice)
             got = b""
             try:
