@@ -9,9 +9,7 @@ from typing import Callable, Iterator, List, Tuple
 
 TOP = Path(__file__).resolve().parent.parent.parent
 sys.path.insert(0, str(TOP / "tools"))
-sys.path.insert(0, str(TOP / "clients" / "python"))
 
-import lpd  # noqa: E402  (the package of this repository)
 import made_models  # noqa: E402
 
 LONGEST = 16384
@@ -27,6 +25,8 @@ BYTES = bytes(range(256))
 SPECIAL = b"\0\t\n\r \x0b\x0c\x7f\x80\xa0\xff*#'-/.0e"
 ALPHABET = b"0123456789 \t\nLOADFREESOLVECERTHOWCHECKQUITWRITEROWSCOLUMNSRHSENDATAEND xyr.-/e#*\r"
 SEEDS = [path.read_bytes() for path in sorted((TOP / "examples").glob("*.lpd"))]
+# The rows and the columns of a text that made_models has made.
+ROW, COLUMN = re.compile(r"^[ \t]+[LGE][ \t]+(\S+)", re.M), re.compile(r"^[ \t]+([xcv$-]\d)[ \t]", re.M)
 SOLVE = re.compile(rb"^[ \t]*([1-9]|[1-5][0-9]|6[0-4])[ \t]+SOLVE[ \t]*(?:\r?\n|\Z)", re.M)
 
 
@@ -45,6 +45,8 @@ class Makers:
 
     def __init__(self, dice: random.Random) -> None:
         self.dice = dice
+        # The sessions made so far, of which more inputs are made.
+        self.sessions: List[bytes] = []
 
     def made(self, kind: str) -> bytes:
         make: Callable[[], bytes] = {"bytes": self.noise, "lines": self.lines, "sessions": self.session}[kind]
@@ -66,8 +68,12 @@ class Makers:
 
     def seed(self) -> bytes:
         """A script that is right, or a piece of one that begins with a model."""
-        if self.dice.random() < 0.6:
-            return self.session()
+        way = self.dice.random()
+        if way < 0.2 or not self.sessions:
+            self.sessions.append(self.session())
+            return self.sessions[-1]
+        if way < 0.7:
+            return self.dice.choice(self.sessions)
         lines = self.dice.choice(SEEDS).splitlines(keepends=True)
         start = self.dice.choice([0, *(at for at, line in enumerate(lines) if b" LOAD " in line)])
         return b"".join(lines[start : start + 60])
@@ -87,11 +93,7 @@ class Makers:
     def session(self, alone: bool = False) -> bytes:
         """Sessions that load the same model, solve it, edit it, and check certificates. One that is alone has the number 1."""
         made = made_models.Maker(self.dice, self.dice.choice([4, 5, 5, 8, 20, 60])).made()
-        try:
-            model = lpd.read_model(made.text, made.fixed)
-        except lpd.LpdError:
-            return load(1, made.fixed, made.text)
-        talk = Talk(self.dice, made, list(model.rows), list(model.columns))
+        talk = Talk(self.dice, made, ROW.findall(made.text), sorted(set(COLUMN.findall(made.text))))
         talk.sessions = [1] if alone else talk.sessions
         return "".join(talk.steps()).encode("latin-1")
 
