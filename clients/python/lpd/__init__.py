@@ -58,6 +58,7 @@ from .replies import Basis, Cold, Fell, Found, Full, Published, Raced, Same, Unp
 from .report import ColumnReport, Conflict, ConflictRow, Report, RowReport, conflict, report
 from .session import Session, connect
 from .ways import Answered, Effort, answered
+from .wide import WideSolved, solve_wide
 
 __all__ = [
     "Accepted",
@@ -131,6 +132,7 @@ __all__ = [
     "UnknownName",
     "Unpublished",
     "Verdict",
+    "WideSolved",
     "answered",
     "certify",
     "check",
@@ -148,5 +150,6 @@ __all__ = [
     "report",
     "run",
     "solve_from",
+    "solve_wide",
     "turns_of",
 ]

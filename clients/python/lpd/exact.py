@@ -6,12 +6,14 @@ certificate, and its word counts for nothing: a checker judges the certificate.
 """
 from __future__ import annotations
 
+import contextlib
 import sys
+import threading
 import time
 from dataclasses import dataclass, field
 from fractions import Fraction
 from types import TracebackType
-from typing import Dict, List, Mapping, NamedTuple, Optional, Sequence, Set, Tuple, Type, Union
+from typing import Dict, Iterator, List, Mapping, NamedTuple, Optional, Sequence, Set, Tuple, Type, Union
 
 from .errors import LpdError
 from .model import ZERO, Limits, Model
@@ -42,8 +44,13 @@ class Watch:
             print("\r\x1b[K", end="", file=sys.stderr, flush=True)
 
     def left(self) -> Optional[float]:
-        """How many seconds are left."""
-        return None if self.seconds is None else max(0.1, self.seconds - (time.monotonic() - self.started))
+        """How many seconds are left, in tenths."""
+        return None if self.seconds is None else max(0.1, round(self.seconds - (time.monotonic() - self.started), 1))
+
+    def half(self) -> Watch:
+        """One for half of the seconds that are left."""
+        left = self.left()
+        return Watch(None if left is None else max(0.1, round(left / 2, 1)))
 
     def step(self, steps: int, what: str) -> None:
         """Before each step: how many were made. OutOfTime ends them."""
@@ -57,6 +64,23 @@ class Watch:
         if spent - self.told > 1 and sys.stderr.isatty():
             self.told = spent
             print(f"\r\x1b[K{what}, {spent:.0f} seconds", end="", file=sys.stderr, flush=True)
+
+    @contextlib.contextmanager
+    def telling(self, what: str) -> Iterator[None]:
+        """Tells that while the block waits for another program."""
+        is_done = threading.Event()
+
+        def tell() -> None:
+            while not is_done.wait(0.5):
+                self.tell(what)
+
+        teller = threading.Thread(target=tell, daemon=True)
+        teller.start()
+        try:
+            yield
+        finally:
+            is_done.set()
+            teller.join()
 
 
 class Factors:

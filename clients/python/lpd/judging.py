@@ -38,10 +38,7 @@ def check_wide(text: str, certificate: Sequence[str], fixed: bool = False, path:
     numbers have 127 bits. A program without it raises CommandMissing."""
     form = ["--form", "fixed"] if fixed else []
     end = next((n for n, line in enumerate(certificate, 1) if words_of(line) == ["END"]), len(certificate))
-    try:
-        lines = output_of(["check", "--wide", *form], body_of(text, fixed), certificate[:end], path)
-    except CommandMissing as missing:
-        raise CommandMissing("check --wide", missing.complaint) from None
+    lines = output_of(["check", "--wide", *form], body_of(text, fixed), certificate[:end], path)
     words = words_of(lines[0]) if lines else []
     verdict = verdict_of(words)
     if verdict is None:

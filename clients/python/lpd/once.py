@@ -19,10 +19,17 @@ WORDS = {
     "iis": ["iis"],
     "presolve": ["presolve"],
     "range": ["range", "cost", "x"],
+    "solve --wide": ["solve", "--wide"],
 }
+SWITCH = "--wide"  # which later versions of a command have
 NO_MODEL = ["ENDATA"]
 # What is refused in the lines behind the text: a certificate, and a basis file.
 BEHIND = (["14"], ["17"])
+
+
+def name_of(words: Sequence[str]) -> str:
+    """The name of a command, with its switch."""
+    return " ".join(words[: 2 if SWITCH in words[1:2] else 1])
 
 
 def output_of(
@@ -38,7 +45,7 @@ def output_of(
     try:
         done = subprocess.run([program, *words], input=encoded([*body, *behind]), capture_output=True, timeout=seconds)
     except subprocess.TimeoutExpired:
-        raise OutOfTime(f"lpd {words[0]} is not done in {seconds or 0:g} seconds") from None
+        raise OutOfTime(f"lpd {name_of(words)} is not done in {seconds or 0:g} seconds") from None
     except OSError as error:
         raise ProgramMissing(f"{program} does not start: {error.strerror}") from None
     lines, complaint = done.stdout.decode("latin-1").split("\n")[:-1], done.stderr.decode("latin-1").strip()
@@ -46,7 +53,7 @@ def output_of(
         replied = words_of(lines[0])
         raise refusal(replied, " ".join(words), behind if replied[1:2] in BEHIND else body)
     if done.returncode == BAD_WORDS:
-        raise CommandMissing(words[0], complaint)
+        raise CommandMissing(name_of(words), complaint)
     if done.returncode:
         raise ProgramEnded(done.returncode, complaint)
     return lines

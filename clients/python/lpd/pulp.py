@@ -30,7 +30,7 @@ from .names import LONGEST, plain
 from .program import the_program
 from .replies import Answer, Infeasible, Optimal, Unbounded
 from .report import report
-from .ways import Effort, answered, other_solver
+from .ways import Effort, answered
 
 KINDS = {pulp.LpConstraintLE: "L", pulp.LpConstraintEQ: "E", pulp.LpConstraintGE: "G"}
 
@@ -46,7 +46,7 @@ class Exact:
     dj: Dict[str, Fraction] = field(default_factory=dict)
     pi: Dict[str, Fraction] = field(default_factory=dict)
     slack: Dict[str, Fraction] = field(default_factory=dict)
-    certified_with: Optional[str] = None  # the other solver, where lpd itself had no answer
+    certified_with: Optional[str] = None  # the other solver whose basis was made exact, or none, where the program had no answer
     way: str = ""
     accepted_by: str = ""
     rows: Dict[str, str] = field(default_factory=dict)  # PuLP's names of the rows and columns of `text`
@@ -144,9 +144,10 @@ class Options(argparse.ArgumentParser):
 class LPD(pulp.LpSolver):  # type: ignore[misc]
     """The solver. `budget` is the most pivots, and `timeLimit` the seconds of all ways together. Where lpd itself has no answer
     within 127 bits it goes on by the basis of the solver that `certify` names (glpsol, clp, cbc, esolver, highs, or none), or of
-    the first that is there, unless only_lpd=True; where a budget is set it is kept to, unless certify names one. `mip=False`
-    takes whole-number variables as real ones. `options` are words as those of python3 -m lpd solve, as ["--budget", "500"], and
-    the log, that msg=True shows, goes to the file `logPath` too."""
+    the first that is there, and by lpd solve --wide, unless only_lpd=True; where a budget is set it is kept to, unless certify
+    names one. With `wide=False` lpd solve --wide is not asked, and no answer is taken whose numbers pass 127 bits, by whichever
+    way: what is accepted is accepted by lpd check. `mip=False` takes whole-number variables as real ones. `options` are words as
+    those of python3 -m lpd solve, as ["--budget", "500"], and the log, that msg=True shows, goes to the file `logPath` too."""
 
     name = "LPD"
 
@@ -161,6 +162,7 @@ class LPD(pulp.LpSolver):  # type: ignore[misc]
         logPath: Optional[str] = None,
         options: Optional[List[str]] = None,
         only_lpd: bool = False,
+        wide: bool = True,
     ) -> None:
         super().__init__(mip=mip, msg=msg, options=options, timeLimit=timeLimit, logPath=logPath)
         if certify is not None and certify not in CHOICES:
@@ -168,11 +170,12 @@ class LPD(pulp.LpSolver):  # type: ignore[misc]
         words = Options().parse_args([str(word) for word in options or []])
         self.budget = words.budget if budget is None else budget
         self.binary, self.only_lpd, self.logPath = binary or words.binary, only_lpd or words.only_lpd, logPath
-        self.certify = certify or words.solver
+        self.certify, self.wide = certify or words.solver, wide
         self.seconds: float = words.seconds
 
     def copy(self) -> LPD:
-        return LPD(self.mip, self.msg, self.budget, self.binary, self.certify, self.timeLimit, self.logPath, self.options, self.only_lpd)
+        ways = (self.only_lpd, self.wide)
+        return LPD(self.mip, self.msg, self.budget, self.binary, self.certify, self.timeLimit, self.logPath, self.options, *ways)
 
     def available(self) -> bool:
         try:
@@ -194,8 +197,7 @@ class LPD(pulp.LpSolver):  # type: ignore[misc]
             return put_nothing(lp)
         except LpdError as error:
             raise pulp.PulpSolverError(f"lpd: {error}") from error
-        other = None if found.is_by_program else other_solver(self.certify)
-        lp.exact = Exact(found.answer, found.certificate, text, certified_with=other, way=found.way, accepted_by=found.accepted_by)
+        lp.exact = Exact(found.answer, found.certificate, text, certified_with=found.solver, way=found.way, accepted_by=found.accepted_by)
         lp.exact.rows = dict(zip(model.rows, lp.constraints))
         lp.exact.columns = dict(zip(model.columns, (variable.name for variable in lp.variables())))
         self.log([f"lpd: {found.answer}", *(f"lpd: {line}" for line in [*found.notes, *([] if found.is_by_lpd else [found.told()])])])
@@ -204,7 +206,7 @@ class LPD(pulp.LpSolver):  # type: ignore[misc]
 
     def effort(self) -> Effort:
         seconds = self.seconds if self.timeLimit is None else float(self.timeLimit)
-        return Effort(self.budget, self.only_lpd, self.certify, seconds, self.timeLimit)
+        return Effort(self.budget, self.only_lpd, self.certify, seconds, self.timeLimit, wide=self.wide)
 
     def log(self, lines: List[str]) -> None:
         if self.msg:

@@ -1,10 +1,15 @@
 """An answer by whichever way there is.
 
 The first way is the program's own solve. Where it ends past 127 bits, or after the pivots that it makes where nobody sets a
-budget, a person still wants an answer: past 127 bits `lpd presolve` is tried, in whose smaller model numbers are often shorter; and
-then another solver's basis is made exact, by `lpd basis` or by exact steps in Python, or without another solver a basis that
-rough steps in Python come to, for as long as that may take. Whatever finds an answer, its certificate is judged, and it is said
-who accepted it.
+budget, a person still wants an answer. The other ways are, one after the other:
+
+1. past 127 bits `lpd presolve`, in whose smaller model numbers are often shorter;
+2. if another solver is there, its basis, made exact by `lpd basis` or by exact steps in Python;
+3. past 127 bits `lpd solve --wide`, whose numbers have more of them;
+4. a basis that rough steps in Python come to, made exact likewise.
+
+They have some seconds together: each may take half of those that are left, and the last one all. Whatever finds an answer, its
+certificate is judged, and it is said who accepted it.
 """
 from __future__ import annotations
 
@@ -12,7 +17,7 @@ import contextlib
 import shutil
 import threading
 from dataclasses import dataclass, field, replace
-from typing import Iterator, List, Optional
+from typing import Callable, Iterator, List, Optional
 
 from .certificate import check_lines
 from .certifying import PROGRAM, Exact, made_exact
@@ -25,18 +30,23 @@ from .presolving import Presolved, Size, presolve
 from .program import Program
 from .replies import Accepted, Answer, Past, Spent
 from .session import Session
+from .wide import solve_wide
 
 SECONDS = 60.0  # for all other ways of a model together
 BOTH, WIDE, ALONE = (f"{LPD_CHECK} and the checker in Python", f"{LPD_CHECK_WIDE} and the checker in Python", "the checker in Python alone")
-SOLVE, PRESOLVE = "lpd solve", "lpd presolve"
+SOLVE, PRESOLVE, SOLVE_WIDE = "lpd solve", "lpd presolve", "lpd solve --wide"
+
+
+class WayFailed(LpdError):
+    """A way led to no answer. Its words say why, where that is to be told."""
 
 
 @dataclass(frozen=True)
 class Effort:
     """How far it goes: at most so many pivots of the program (a number that is set is kept to, unless a solver is named),
     whether the program alone is asked, which other solver (else the first that is there), how many seconds the other ways
-    have, and how many the program's own solve has (else as many as it takes). With `presolve` that is `lpd presolve`, which has
-    a budget of its own."""
+    have, and how many the program's own solve has (else as many as it takes). With `presolve` that is `lpd presolve`, and with
+    `wide_first` `lpd solve --wide`, which have a budget of their own. Without `wide` no answer is taken whose numbers pass 127 bits."""
 
     budget: Optional[int] = None
     only_lpd: bool = False
@@ -44,13 +54,15 @@ class Effort:
     seconds: float = SECONDS
     solve_seconds: Optional[float] = None
     presolve: bool = False
+    wide_first: bool = False
+    wide: bool = True
 
 
 @dataclass(frozen=True)
 class Answered:
     """An answer, and its certificate, which Past and Spent have not; by which way it came, and who accepted the certificate
     (BOTH, WIDE, or ALONE and why). The notes say what came of the ways that led to none. `reduced` is the size of the smaller model that
-    `lpd presolve` solved."""
+    `lpd presolve` solved, and `solver` whose basis was made exact, if one was: another solver's, or NONE's."""
 
     answer: Answer
     certificate: List[str]
@@ -59,16 +71,12 @@ class Answered:
     pivots: Optional[int] = None
     notes: List[str] = field(default_factory=list)
     reduced: Optional[Size] = None
+    solver: Optional[str] = None
 
     @property
     def is_proved(self) -> bool:
         """Whether a proved checker accepted the certificate."""
         return self.accepted_by in (BOTH, WIDE)
-
-    @property
-    def is_by_program(self) -> bool:
-        """Whether it is the answer of the program, by its own solve or by its presolve."""
-        return self.way.partition(",")[0] in (SOLVE, PRESOLVE)
 
     @property
     def is_by_lpd(self) -> bool:
@@ -101,16 +109,34 @@ def by_lpd(text: str, model: Model, budget: Optional[int] = None, seconds: Optio
 def by_presolve(text: str, model: Model, seconds: Optional[float] = None) -> Answered:
     """The answer of `lpd presolve`, whose certificate both checkers accept for the model as it is given."""
     found = presolve(text, seconds=seconds)
-    if found.certificate:
-        for known in (judged(text, found.certificate).known, known_in_python(model, found.certificate)):
-            if known != found.answer:
-                raise NotCertified(f"lpd presolve answers {found.answer}, and a checker says {known} to its certificate")
+    by = judges_of(PRESOLVE, text, model, found.answer, found.certificate)
     notes = [f"lpd presolve solved the model as it is, since the smaller one ended with {found.plain}"] if found.plain else []
-    return Answered(found.answer, found.certificate, way_to(found, model), BOTH if found.certificate else "", None, notes, found.reduced)
+    return Answered(found.answer, found.certificate, way_to(found, model), by, None, notes, found.reduced)
+
+
+def by_solve_wide(text: str, model: Model, watch: Watch) -> Answered:
+    """The answer of `lpd solve --wide`, whose certificate `lpd check --wide` and the checker in Python accept."""
+    try:
+        with watch.telling(SOLVE_WIDE):
+            found = solve_wide(text, seconds=watch.left())
+    except OutOfTime as late:
+        raise OutOfTime(f"{late}: --seconds allows more") from None
+    return Answered(found.answer, found.certificate, SOLVE_WIDE, judges_of(SOLVE_WIDE, text, model, found.answer, found.certificate))
+
+
+def judges_of(command: str, text: str, model: Model, answer: Answer, certificate: List[str]) -> str:
+    """Who accepts the certificate that a command wrote behind its answer, in words; nobody where it wrote none."""
+    if not certificate:
+        return ""
+    by = judged(text, certificate)
+    for known in (by.known or answer, known_in_python(model, certificate)):
+        if known != answer:
+            raise NotCertified(f"{command} answers {answer}, and a checker says {known} to its certificate")
+    return accepted_by(by)
 
 
 def known_in_python(model: Model, certificate: List[str]) -> Optional[Answer]:
-    verdict = check_lines(model, certificate)
+    verdict = check_lines(model, certificate, wide=True)
     return verdict.known if isinstance(verdict, Accepted) else None
 
 
@@ -152,15 +178,16 @@ def way_of(found: Exact, solver: str) -> str:
     return f"exact steps in Python from {begin}, {found.steps} of them"
 
 
-def by_others(text: str, model: Model, effort: Effort, watch: Watch) -> Answered:
-    """The answer from another solver's basis, or from none. OutOfTime says that the seconds were not enough."""
-    solver = other_solver(effort.solver)
+def from_basis(text: str, model: Model, solver: str, watch: Watch) -> Answered:
+    """The answer from the basis of a solver, or from one of the package's own. OutOfTime says that the seconds were not enough."""
     claim = ask(solver, model, watch.left())
+    if solver != NONE and claim.basis is None and not claim.parts:
+        raise WayFailed(f"{solver} gives no basis, and says: {claim.said}")
     found = made_exact(text, model, claim, watch=watch)
     by = judged(text, found.certificate)
     if by.known not in (None, found.known):
         raise NotCertified(f"{by.judge} says {by.known}, and the checker in Python {found.known}")
-    return Answered(found.known, found.certificate, way_of(found, solver), accepted_by(by), found.steps, found.notes)
+    return Answered(found.known, found.certificate, way_of(found, solver), accepted_by(by), found.steps, found.notes, solver=solver)
 
 
 def accepted_by(found: Judged) -> str:
@@ -171,11 +198,14 @@ def accepted_by(found: Judged) -> str:
 
 
 def by_program(text: str, model: Model, effort: Effort) -> Answered:
-    """The answer of the program's own solve, or of its presolve where that is asked for and the program has it."""
-    if not effort.presolve:
+    """The answer of the program's own solve, or of its presolve or its wide solve where that is asked for and the program has it."""
+    if not effort.presolve and not effort.wide_first:
         return by_lpd(text, model, effort.budget, effort.solve_seconds)
     try:
-        return by_presolve(text, model, effort.solve_seconds)
+        if effort.presolve:
+            return by_presolve(text, model, effort.solve_seconds)
+        with Watch(effort.seconds) as watch:
+            return by_solve_wide(text, model, watch)
     except CommandMissing as missing:
         found = by_lpd(text, model, effort.budget, effort.solve_seconds)
         return replace(found, notes=[f"{missing}, so lpd solve was asked", *found.notes])
@@ -186,7 +216,7 @@ def by_lpd_first(text: str, model: Model, effort: Effort) -> "tuple[Optional[Ans
     try:
         found = by_program(text, model, effort)
     except TextFault as fault:
-        if fault.fault != TOO_WIDE or effort.only_lpd:
+        if fault.fault != TOO_WIDE or effort.only_lpd or not effort.wide:
             raise
         return None, f"line {fault.line} of the model has a number past 127 bits"
     is_meant = isinstance(found.answer, Spent) and effort.budget is not None and effort.solver is None
@@ -194,15 +224,52 @@ def by_lpd_first(text: str, model: Model, effort: Effort) -> "tuple[Optional[Ans
     return found, "" if found.certificate or effort.only_lpd or is_meant else ended
 
 
-def by_presolve_then(text: str, model: Model, first: Optional[Answered], watch: Watch) -> Optional[Answered]:
-    """The answer of `lpd presolve` where lpd solve ends past 127 bits, if the program has the command, and that one."""
-    if first is None or not first.is_by_lpd or not isinstance(first.answer, Past):
-        return None
+# ---- the other ways: each answers, or says by WayFailed or OutOfTime that it does not
+
+Way = Callable[[str, Model, Effort, Watch], Answered]
+
+
+def by_presolve_then(text: str, model: Model, effort: Effort, watch: Watch) -> Answered:
+    """The answer of `lpd presolve`, of which nothing is told where it has none."""
     try:
         found = by_presolve(text, model, watch.left())
     except (CommandMissing, OutOfTime):
-        return None
-    return found if found.certificate else None
+        raise WayFailed from None
+    if not found.certificate:
+        raise WayFailed
+    return found
+
+
+def from_another_basis(text: str, model: Model, effort: Effort, watch: Watch) -> Answered:
+    return from_basis(text, model, other_solver(effort.solver), watch)
+
+
+def by_solve_wide_then(text: str, model: Model, effort: Effort, watch: Watch) -> Answered:
+    """The answer of `lpd solve --wide`, which may run out of memory."""
+    try:
+        found = by_solve_wide(text, model, watch)
+    except ProgramEnded as ended:
+        raise WayFailed(str(ended)) from None
+    if not found.certificate:
+        raise WayFailed(f"{SOLVE_WIDE} ends likewise")
+    return found
+
+
+def from_own_basis(text: str, model: Model, effort: Effort, watch: Watch) -> Answered:
+    return from_basis(text, model, NONE, watch)
+
+
+def ways_after(first: Optional[Answered], effort: Effort) -> List[Way]:
+    """The ways that are left, in their order, where the program ended so, or refused a text with such numbers."""
+    past = first.way.partition(",")[0] if first is not None and isinstance(first.answer, Past) else None
+    ways: List[Way] = []
+    if past in (SOLVE, SOLVE_WIDE):
+        ways.append(by_presolve_then)
+    if other_solver(effort.solver) != NONE:
+        ways.append(from_another_basis)
+    if past in (SOLVE, PRESOLVE) and effort.wide and not effort.wide_first:
+        ways.append(by_solve_wide_then)
+    return [*ways, from_own_basis]
 
 
 def answered(text: str, model: Model, effort: Effort = Effort()) -> Answered:
@@ -210,12 +277,20 @@ def answered(text: str, model: Model, effort: Effort = Effort()) -> Answered:
     first, ended = by_lpd_first(text, model, effort)
     if first is not None and not ended:
         return first
-    before = first.notes if first else []
+    notes, ways = [*(first.notes if first else []), ended], ways_after(first, effort)
     with Watch(effort.seconds) as watch:
-        try:
-            found = by_presolve_then(text, model, first, watch) or by_others(text, model, effort, watch)
-        except OutOfTime as late:
-            if first is None:
-                raise OutOfTime(f"{ended}, and {late}") from None
-            return replace(first, notes=[*before, f"{ended}, and {late}"])
-    return replace(found, notes=[*before, ended, *found.notes])
+        for way in ways:
+            try:
+                if way is ways[-1]:
+                    found = way(text, model, effort, watch)
+                else:
+                    with watch.half() as part:
+                        found = way(text, model, effort, part)
+                if effort.wide or found.accepted_by == BOTH:
+                    return replace(found, notes=[*notes, *found.notes])
+                notes.append(f"{found.way} has an answer whose numbers pass 127 bits, which is not wanted")
+            except (WayFailed, OutOfTime) as failed:
+                notes += [str(failed)] if str(failed) else []
+    if first is None:
+        raise OutOfTime(", and ".join(notes))
+    return replace(first, notes=notes)

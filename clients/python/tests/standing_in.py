@@ -1,4 +1,4 @@
-"""Programs that stand in for the built one, and know `lpd check --wide`, or do not, whatever that one does."""
+"""Programs that stand in for the built one, and know `lpd check --wide` or `lpd solve --wide`, or do not, whatever that one does."""
 import contextlib
 import os
 import sys
@@ -16,7 +16,7 @@ from lpd.program import find_program
 PACKAGE = Path(__file__).resolve().parents[1]
 SCRIPT = """#!/bin/sh
 case "$1 $2" in
-"check --wide") {wide} ;;
+"{command}") {wide} ;;
 *) exec "{program}" "$@" ;;
 esac
 """
@@ -25,11 +25,11 @@ DOES_NOT_KNOW = "/bin/cat >/dev/null; exit 2"
 
 
 @contextlib.contextmanager
-def program(wide: str) -> Iterator[None]:
-    """A program that does so for `check --wide`, and else as the built one does."""
+def program(wide: str, command: str = "check --wide") -> Iterator[None]:
+    """A program that does so for this command, and else as the built one does."""
     with tempfile.TemporaryDirectory() as folder:
         script = Path(folder) / "lpd"
-        script.write_text(SCRIPT.format(wide=wide, program=find_program()))
+        script.write_text(SCRIPT.format(wide=wide, command=command, program=find_program()))
         script.chmod(0o755)
         with mock.patch.dict(os.environ, {"LPD": str(script)}):
             yield

@@ -69,9 +69,10 @@ class Ways(unittest.TestCase):
         with mock.patch("lpd.ways.presolve", side_effect=lpd.CommandMissing("presolve")):
             said = command("solve", str(MODELS / "diet.mps"), "--presolve", "--show", "answer")
             self.assertEqual(said, (0, reported("OPTIMAL 92.5\n"), "note: this program has no command presolve, so lpd solve was asked\n"))
-            with mock.patch("lpd.ways.by_lpd", return_value=lpd.Answered(PAST, [], "lpd solve")):
+            no_wide = mock.patch("lpd.ways.solve_wide", side_effect=lpd.CommandMissing("solve --wide"))
+            with no_wide, mock.patch("lpd.ways.by_lpd", return_value=lpd.Answered(PAST, [], "lpd solve")):
                 said = command("solve", str(MODELS / "diet.mps"), "--with", "none", "--show", "answer")
-        self.assertEqual((said.status, said.complaints), (0, "note: lpd solve ends with PAST ADD 1 2\n"))
+        self.assertEqual((said.status, said.complaints), (0, "note: lpd solve ends with PAST ADD 1 2\nnote: this program has no command solve --wide\n"))
         self.assertIn("This answer is by lpd basis from a basis of its own", said.output)
 
     def test_past_127_bits_presolve_comes_before_other_solvers(self) -> None:

@@ -120,7 +120,9 @@ class WithPulp(unittest.TestCase):
 
     def test_it_goes_on_by_itself(self) -> None:
         past = lpd.Answered(lpd.Past("ADD", Fraction(1), Fraction(2)), [], "lpd solve")
-        with mock.patch("lpd.ways.by_lpd", return_value=past), mock.patch("lpd.ways.presolve", side_effect=lpd.CommandMissing("presolve")):
+        missing = lpd.CommandMissing("presolve")
+        without = mock.patch("lpd.ways.presolve", side_effect=missing), mock.patch("lpd.ways.solve_wide", side_effect=missing)
+        with mock.patch("lpd.ways.by_lpd", return_value=past), without[0], without[1]:
             problem = self.diet()
             self.assertEqual(problem.solve(LPD(msg=False, options=["--with", "none"])), pulp.LpStatusOptimal)
             self.assertEqual((self.milk.varValue, problem.exact.certified_with), (3.0, "none"))

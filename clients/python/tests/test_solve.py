@@ -178,12 +178,13 @@ class Shown(unittest.TestCase):
 
 @unittest.skipUnless(has_program(), "the program is not built")
 class GoingOn(unittest.TestCase):
-    """A model that lpd solve has no answer to, nor lpd presolve."""
+    """A model that lpd solve has no answer to, nor lpd presolve, nor lpd solve --wide."""
 
     def setUp(self) -> None:
-        without = mock.patch("lpd.ways.presolve", side_effect=lpd.CommandMissing("presolve"))
-        without.start()
-        self.addCleanup(without.stop)
+        for name, option in (("presolve", "presolve"), ("solve_wide", "solve --wide")):
+            without = mock.patch(f"lpd.ways.{name}", side_effect=lpd.CommandMissing(option))
+            without.start()
+            self.addCleanup(without.stop)
 
     def test_from_a_number_past_127_bits(self) -> None:
         said = command("solve", "-", "--with", "none", "--show", "answer", stdin=WIDE.encode())
@@ -225,4 +226,4 @@ class GoingOn(unittest.TestCase):
         with mock.patch("lpd.ways.by_lpd", return_value=PAST):
             told = json.loads(command("solve", DIET, "--with", "none", "--json").output)
         self.assertTrue(told["way"].startswith("lpd basis from a basis of its own"))
-        self.assertEqual((told["accepted_by"], told["notes"]), (BOTH, ["lpd solve ends with PAST ADD 1 2"]))
+        self.assertEqual((told["accepted_by"], told["notes"]), (BOTH, ["lpd solve ends with PAST ADD 1 2", "this program has no command solve --wide"]))

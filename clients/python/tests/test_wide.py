@@ -1,7 +1,9 @@
-"""Certificates whose numbers pass 127 bits: by whom they are accepted, with a program that has lpd check --wide and without."""
+"""Certificates whose numbers pass 127 bits: by whom they are accepted, with a program that has lpd check --wide and without; and
+models that lpd solve --wide answers."""
 import csv
 import io
 import json
+import os
 import tempfile
 import unittest
 from fractions import Fraction
@@ -10,11 +12,19 @@ from typing import List
 from unittest import mock
 
 import lpd
-from lpd.ways import ALONE, WIDE
+from lpd.floating import Claim
+from lpd.once import has_command
+from lpd.ways import ALONE, BOTH, WIDE, Effort, answered
+from lpd.wide import read_wide_solved
 
-from .commands import command
+from .commands import command, reported
 from .models import has_program
 from .standing_in import DOES_NOT_KNOW, program, program_with_wide
+
+try:
+    import pulp
+except ImportError:
+    pulp = None
 
 # x is a third of the right side, and y 10^30 times that.
 TEXT = "ROWS\n N cost\n E a\n E b\nCOLUMNS\n x a 3 b -1e30\n y cost 1 b 1\nRHS\n RHS a 1e30\nENDATA\n"
@@ -31,7 +41,8 @@ ENDATA
 """
 VALUE = f"1{'0' * 60}/3"
 CERTIFICATE = ["OPTIMAL", f"x x 1{'0' * 30}/3", f"x y {VALUE}", f"y a 1{'0' * 30}/3", "y b 1", "END"]
-NO_COMMAND = "this program has no command check --wide"
+OPTIMAL = f"OPTIMAL {VALUE}"
+NO_COMMAND, NO_SOLVE = "this program has no command check --wide", "this program has no command solve --wide"
 TOO_WIDE = "line 3 of the certificate has a number past 127 bits"
 
 
@@ -115,3 +126,88 @@ class Wide(unittest.TestCase):
                     self.assertIn(f"1 {what} by lpd check, 1 by lpd check --wide, 0 by the checker in Python alone", said)
             with program(DOES_NOT_KNOW):
                 self.assertEqual(judges(), [*["python alone"] * 2, *["lpd check"] * 2])
+
+
+@unittest.skipUnless(has_program(), "the program is not built")
+class SolveWide(unittest.TestCase):
+    """Where lpd solve ends past 127 bits, and no other solver is there."""
+
+    def setUp(self) -> None:
+        for patch in (mock.patch.dict(os.environ, {"PATH": ""}), mock.patch("lpd.ways.presolve", side_effect=lpd.CommandMissing("presolve"))):
+            patch.start()
+            self.addCleanup(patch.stop)
+
+    def solved(self, answer: str = OPTIMAL, certificate: List[str] = CERTIFICATE) -> "mock._patch[mock.MagicMock]":
+        return mock.patch("lpd.ways.solve_wide", return_value=read_wide_solved([answer, *certificate]))
+
+    def test_what_is_read(self) -> None:
+        found = read_wide_solved([OPTIMAL, *CERTIFICATE])
+        self.assertEqual(found, lpd.WideSolved(lpd.Optimal(Fraction(VALUE)), CERTIFICATE))
+        self.assertEqual(read_wide_solved(["PAST MUL 2 3"]), lpd.WideSolved(lpd.Past("MUL", Fraction(2), Fraction(3)), []))
+        for lines in ([], ["YES"], ["REDUCED 1 2"]):
+            with self.assertRaises(lpd.Unexpected):
+                read_wide_solved(lines)
+
+    def test_the_way(self) -> None:
+        """It comes before a basis of the front's own, and behind that of another solver, where this one gives any."""
+        model = lpd.read_model(TEXT)
+        with program_with_wide(), self.solved():
+            found = answered(TEXT, model)
+            self.assertEqual((str(found.answer), found.certificate, found.way, found.accepted_by), (OPTIMAL, CERTIFICATE, "lpd solve --wide", WIDE))
+            self.assertEqual([note.partition(" ends")[0] for note in found.notes], ["lpd solve"])
+            with mock.patch("lpd.ways.other_solver", return_value="glpsol"), mock.patch("lpd.ways.ask", return_value=Claim("nothing")):
+                found = answered(TEXT, model)
+            self.assertEqual((found.way, found.notes[1:]), ("lpd solve --wide", ["glpsol gives no basis, and says: nothing"]))
+            self.assertEqual(str(answered(TEXT, model, Effort(only_lpd=True)).answer)[:4], "PAST")
+            narrow = answered(TEXT, model, Effort(wide=False))
+            self.assertEqual((str(narrow.answer)[:4], narrow.certificate), ("PAST", []))
+            self.assertRegex(narrow.notes[-1], "^exact steps in Python from a basis of its own, .* has an answer whose numbers pass 127 bits")
+
+    def test_it_leads_to_none(self) -> None:
+        """Then exact steps in Python do, and it is told."""
+        for fault, told in ((lpd.OutOfTime("late"), "late: --seconds allows more"), (lpd.CommandMissing("solve --wide"), NO_SOLVE)):
+            with program_with_wide(), mock.patch("lpd.ways.solve_wide", side_effect=fault):
+                said = command("solve", "-", "--show", "answer", stdin=TEXT.encode())
+            self.assertEqual((said.status, said.output.split(" (")[0], said.complaints.count(f"note: {told}\n")), (0, OPTIMAL, 1))
+            self.assertIn("This answer is by exact steps in Python from a basis of its own", said.output)
+        with program(DOES_NOT_KNOW, "solve --wide"):
+            self.assertEqual(command("solve", "-", "--show", "answer", stdin=TEXT.encode()).complaints.count(NO_SOLVE), 1)
+            said = command("solve", "-", "--wide", "--show", "answer", stdin=TEXT.replace("e30", "e3").encode())
+        self.assertEqual(said, (0, reported(OPTIMAL.replace("0" * 60, "0" * 6) + "\n"), f"note: {NO_SOLVE}, so lpd solve was asked\n"))
+
+    def test_a_certificate_that_a_checker_does_not_accept(self) -> None:
+        for wrong in (self.solved("OPTIMAL 1"), self.solved(certificate=[*CERTIFICATE[:4], "y b 2", "END"])):
+            with program_with_wide(), wrong, self.assertRaises(lpd.LpdError):
+                answered(TEXT, lpd.read_model(TEXT))
+
+    @unittest.skipUnless(has_program() and has_command("solve --wide"), "the program has no command solve --wide")
+    def test_with_the_program(self) -> None:
+        self.assertEqual(lpd.solve_wide(TEXT), lpd.WideSolved(lpd.Optimal(Fraction(VALUE)), CERTIFICATE))
+        told = json.loads(command("solve", "-", "--json", stdin=TEXT.encode()).output)
+        self.assertEqual((told["answer"], told["way"], told["accepted_by"], told["certificate"]), (OPTIMAL, "lpd solve --wide", WIDE, CERTIFICATE))
+        said = command("solve", "-", "--wide", "--show", "answer", stdin=TEXT.encode())
+        self.assertEqual((said.status, said.complaints), (0, ""))
+        self.assertIn(f"This answer is by lpd solve --wide, accepted by {WIDE}.\n", said.output)
+        short = command("solve", "-", "--wide", "--show", "answer", stdin=TEXT.replace("e30", "e3").encode())
+        self.assertIn(f"This answer is by lpd solve --wide, accepted by {BOTH}.\n", short.output)
+        with tempfile.TemporaryDirectory() as folder:
+            (Path(folder) / "long.mps").write_text(TEXT)
+            (row,) = csv.DictReader(io.StringIO(command("batch", folder, "--csv").output))
+        self.assertEqual((row["value"], row["way"], row["accepted by"]), (VALUE, "lpd solve --wide", "lpd check --wide"))
+
+    @unittest.skipIf(pulp is None, "python3-pulp is not installed")
+    def test_with_pulp(self) -> None:
+        from lpd.pulp import LPD
+
+        problem = pulp.LpProblem("long", pulp.LpMinimize)
+        x, y = pulp.LpVariable("x", 0), pulp.LpVariable("y", 0)
+        problem += y
+        problem += 3 * x == 10**30, "a"
+        problem += y - 10**30 * x == 0, "b"
+        with program_with_wide():
+            with self.solved(certificate=CERTIFICATE):
+                self.assertEqual(problem.solve(LPD(msg=False)), pulp.LpStatusOptimal)
+                self.assertEqual((str(problem.exact.answer), problem.exact.way, problem.exact.certified_with), (OPTIMAL, "lpd solve --wide", None))
+            with mock.patch("lpd.ways.solve_wide") as asked:
+                self.assertEqual(problem.solve(LPD(msg=False, wide=False).copy()), pulp.LpStatusNotSolved)
+                asked.assert_not_called()

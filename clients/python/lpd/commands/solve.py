@@ -41,6 +41,7 @@ def add(commands: "argparse._SubParsersAction[argparse.ArgumentParser]") -> None
     own = solve.add_mutually_exclusive_group()
     own.add_argument("--budget", type=budget, metavar="N", help="makes at most N pivots and flips, up to 1000000 (10000)")
     add_presolve(own)
+    own.add_argument("--wide", action="store_true", help="goes on past 127 bits in wider numbers, by lpd solve --wide, within --seconds")
     solve.add_argument("--convert", action="store_true", help="converts the text from other dialects first, as the command convert does")
     add_options(solve)
     add_ways(solve)
@@ -65,7 +66,7 @@ def add_ways(parser: argparse.ArgumentParser) -> None:
 
 
 def effort_of(words: argparse.Namespace) -> Effort:
-    return Effort(words.budget, words.only_lpd, words.solver, words.seconds, presolve=words.presolve)
+    return Effort(words.budget, words.only_lpd, words.solver, words.seconds, presolve=words.presolve, wide_first=words.wide)
 
 
 def words_for(answer: Answer, model: Model, certificate: List[str]) -> str:
