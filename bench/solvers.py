@@ -6,6 +6,7 @@ get a model written anew, in the dialect that all of them read: its costs to be 
 is put to their values afterwards. glpsol reads no quotients and prints a value in ten digits or so; the others' values
 are quotients.
 """
+import os
 import pathlib
 import random
 import re
@@ -13,6 +14,7 @@ import resource
 import shutil
 import subprocess
 import sys
+import tempfile
 from fractions import Fraction
 
 HERE = pathlib.Path(__file__).resolve().parent
@@ -122,6 +124,18 @@ def run(command, data, seconds):
     after = resource.getrusage(resource.RUSAGE_CHILDREN)
     spent = after.ru_utime - before.ru_utime + after.ru_stime - before.ru_stime
     return done.stdout.decode("latin-1"), spent
+
+
+def limited(command, data, seconds):
+    """What a process wrote that may take so many seconds of the processor, and those that it took. Threads may run several at once."""
+    with tempfile.TemporaryFile() as given, tempfile.TemporaryFile() as written:
+        given.write(data)
+        given.seek(0)
+        child = subprocess.Popen(["prlimit", f"--cpu={seconds}", *command], stdin=given, stdout=written, stderr=subprocess.DEVNULL)
+        status, used = os.wait4(child.pid, 0)[1:]
+        child.returncode = os.waitstatus_to_exitcode(status)
+        written.seek(0)
+        return written.read().decode("latin-1"), used.ru_utime + used.ru_stime
 
 
 def script(form, data, *commands):
