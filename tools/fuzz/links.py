@@ -81,10 +81,10 @@ def session_of(program: str, dice: random.Random) -> Session:
         script = probed(Makers(dice).session(alone=True) + b"1 QUIT\n")
         script = script[: script.index(b"1 QUIT\n") + len(b"1 QUIT\n")]
         done = subprocess.run([program, "run"], input=script, capture_output=True)
-        asks = [ask for ask, _ in commands(re.sub(rb"(?m)^1 ", b"", script).splitlines(keepends=True))]
+        asks = [ask for ask, _ in commands(re.sub(rb"(?m)^[ \t]*1[ \t]+", b"", script).splitlines(keepends=True))]
         # A line that names no session is answered under session 0 there, and here as any other.
         replies = [reply._replace(session=1) for reply in replies_of(done.stdout)]
-        if done.returncode == 0 and len(asks) == len(replies):
+        if done.returncode == 0 and len(asks) == len(replies) and asks[-1] == b"QUIT\n":
             return Session(asks, replies)
 
 

@@ -216,7 +216,7 @@ def check_text(program: Program, dice: random.Random, made: made_models.Made) ->
         certificate = certificate[: certificate.index("END") + 1]
         check_answer(program, made, certificate, lines[0])
     elif lines[0].startswith("YES "):
-        check_answer(program, made, made.certificate.split("\n")[:-1], lines[0][4:])
+        check_answer(program, made, made.certificate.removesuffix("\n").split("\n"), lines[0][4:])
 
 
 BASIS = "NAME b\n UL x0\n XL x0 r0\n LL v1\nENDATA\n"
