@@ -43,7 +43,7 @@ sys.path.insert(0, str(Path(__file__).resolve().parent.parent))
 
 from answers import Answers, Untrue  # noqa: E402
 from check_serve import HOST, Server  # noqa: E402
-from makers import Makers, probed  # noqa: E402
+from makers import LONGEST, Makers, probed  # noqa: E402
 from replies import Reply, Unknown, may_both_be, replies_of  # noqa: E402
 from talk import Ended, commands  # noqa: E402
 
@@ -58,6 +58,8 @@ SESSIONS = 20
 # How much memory a server may gain from the middle of its rounds to the last: of what it had, and in KiB.
 GAIN, GAIN_KIB = 0.1, 1024
 MOST = 2**26
+# The number of the only session of a script, which its lines over a link do not have.
+OWN = re.compile(rb"(?m)^[ \t]*1[ \t]+")
 LINE = re.compile(r"worker=(\d+) link=(\d+) peer=([\d.]+:\d+) word=([A-Z]+) ")
 HTTP = b"GET / HTTP/1.1\r\nHost: lpd\r\nUser-Agent: stranger\r\n\r\n"
 TLS = bytes.fromhex("16030100c8010000c40303") + bytes(range(32)) + b"\x20" + bytes(range(32)) + bytes.fromhex("003e130213031301c02cc030") + bytes(128)
@@ -76,12 +78,14 @@ class Session(NamedTuple):
 
 
 def session_of(program: str, dice: random.Random) -> Session:
-    """A session that ends with QUIT, and not in a body that swallows it."""
+    """A session that ends with QUIT, and not in a body that swallows it. None of its lines is too long by its number alone."""
     while True:
         script = probed(Makers(dice).session(alone=True) + b"1 QUIT\n")
         script = script[: script.index(b"1 QUIT\n") + len(b"1 QUIT\n")]
+        if any(len(line) > LONGEST >= len(OWN.sub(b"", line)) for line in script.split(b"\n")):
+            continue
         done = subprocess.run([program, "run"], input=script, capture_output=True)
-        asks = [ask for ask, _ in commands(re.sub(rb"(?m)^[ \t]*1[ \t]+", b"", script).splitlines(keepends=True))]
+        asks = [ask for ask, _ in commands(OWN.sub(b"", script).splitlines(keepends=True))]
         # A line that names no session is answered under session 0 there, and here as any other.
         replies = [reply._replace(session=1) for reply in replies_of(done.stdout)]
         if done.returncode == 0 and len(asks) == len(replies) and asks[-1] == b"QUIT\n":
