@@ -8,15 +8,18 @@ use Rattle.spec_exact.specs.declared.past.Op.{Op}
 use Rattle.spec_exact.specs.declared.past.Op.TheVariants.{Add, Sub, Mul, Cmp}
 use Rattle.spec_exact.proofs.Limit.{add_gives, add_unlimited, sub_gives, sub_unlimited, mul_gives, mul_unlimited}
 use Rattle.spec_exact.proofs.Compare.{compare_gives, compare_unlimited}
-use Rattle.spec_exact.specs.Run.{◌>>=◌, steps}
-use Rattle.spec_model.specs.declared.parts.Kind.{Kind}
-use Rattle.spec_model.specs.declared.parts.Kind.TheVariants.{L, G, E}
-use Rattle.spec_model.specs.Model.{Model, ExactRow, Limits, width, height, bounds, row, cost, coefficient, part}
+use Rattle.spec_exact.specs.Answer.{told}
+use Rattle.spec_exact.specs.Run.{◌>>=◌, refused_as, steps}
+use Rattle.spec_model.specs.declared.parts.RowLimit.{RowLimit}
+use Rattle.spec_model.specs.declared.parts.RowLimit.TheVariants.{Absent, Given, Sum, Difference}
+use Rattle.spec_model.specs.Model.{Model, ExactRow, Limits, width, height, bounds, cost, coefficient, part}
+use Rattle.spec_model.specs.Model.{row, lower_of, upper_of, limit_run}
 use Rattle.spec_check.specs.declared.certificate.Certificate.{Certificate}
 use Rattle.spec_check.specs.declared.certificate.Certificate.TheVariants.{Optimal, Infeasible, Clash, Unbounded}
+use Rattle.spec_check.specs.declared.certificate.CheckStop.TheVariants as stop
 use Rattle.spec_check.specs.Checks.{signed, turned_limits}
 use Rattle.spec_check.specs.Run.{Run, Agrees, step, each, plus_product, less_product}
-use Rattle.spec_check.specs.Run.{sum_run, some_run, lower_by_run, upper_by_run, lower_run, upper_run, at_least}
+use Rattle.spec_check.specs.Run.{sum_run, lower_run, upper_run, at_least}
 use Rattle.spec_check.specs.Run.{at_most, column_within_run, activity_run, row_within_run, reduced_run}
 use Rattle.spec_check.specs.Run.{column_tight_run, row_tight_run, value_run, optimal_run, check_run}
 use Rattle.spec_check.specs.Run.{weighed_at, weighed, row_asks_run, priced_run, column_gives_run, infeasible_run}
@@ -46,6 +49,15 @@ step_agrees : {A : Type 0} (op : Op) (v w : ℚ) (a b : Option A) (y : A) → ((
 unfolding Agrees
 step_agrees op v w (Some x) b y g u = inl (ap (λ z. step op v w z) (ap Some (g x refl) ∙ sym u))
 step_agrees op v w None b y g u = inr (record { op = op; a = v; b = w }, refl)
+
+-- a row's limit
+some_agrees : (op : Op) (v w : ℚ) (a b : Option ℚ) (y : ℚ) → ((x : ℚ) → a ≡ Some x → x ≡ y) → b ≡ Some y →
+    Agrees (refused_as stop.Past (told op v w a >>= λ s. Ok (Some s)))
+    (refused_as stop.Past (told op v w b >>= λ s. Ok (Some s)))
+unfolding Agrees
+some_agrees op v w (Some x) b y g u =
+    inl (ap (λ z. refused_as stop.Past (told op v w z >>= λ s. Ok (Some s))) (ap Some (g x refl) ∙ sym u))
+some_agrees op v w None b y g u = inr (record { op = op; a = v; b = w }, refl)
 
 choice_agrees : {A : Type 0} (t : Bool) (a b c d : Run A) → Agrees a c → Agrees b d → Agrees (cond t a b) (cond t c d)
 choice_agrees true a b c d h k = h
@@ -93,28 +105,20 @@ module _ (limit : Option ℕ) where
   sum_agrees n f g = steps_agrees 0ℚ n _ _ (λ k s. plus_agrees (f k) (g k) s)
 
   -- a row's limits
-  some_agrees : (o u : Run ℚ) → Agrees o u → Agrees (some_run o) (some_run u)
-  some_agrees o u h = after_agrees o u _ _ h (λ v. same _)
-
-  lower_by_agrees : (k : Kind) (b : ℚ) (o : Option ℚ) → Agrees (lower_by_run limit k b o) (lower_by_run None k b o)
-  lower_by_agrees L b None = same _
-  lower_by_agrees L b (Some r) = some_agrees _ _ (sub_agrees b (abs_ℚ r))
-  lower_by_agrees G b o = same _
-  lower_by_agrees E b None = same _
-  lower_by_agrees E b (Some r) = choice_agrees (lt_ℚ r 0ℚ) _ _ _ _ (some_agrees _ _ (add_agrees b r)) (same _)
-
-  upper_by_agrees : (k : Kind) (b : ℚ) (o : Option ℚ) → Agrees (upper_by_run limit k b o) (upper_by_run None k b o)
-  upper_by_agrees L b o = same _
-  upper_by_agrees G b None = same _
-  upper_by_agrees G b (Some r) = some_agrees _ _ (add_agrees b (abs_ℚ r))
-  upper_by_agrees E b None = same _
-  upper_by_agrees E b (Some r) = choice_agrees (lt_ℚ r 0ℚ) _ _ _ _ (same _) (some_agrees _ _ (add_agrees b r))
+  limit_agrees : (o : RowLimit ℚ) →
+      Agrees (refused_as stop.Past (limit_run limit o)) (refused_as stop.Past (limit_run None o))
+  limit_agrees Absent = same _
+  limit_agrees (Given v) = same _
+  limit_agrees (Sum v w) =
+      some_agrees Add v w (add limit v w) (add None v w) (v +ℚ w) (λ x e. add_gives limit v w x e) (add_unlimited v w)
+  limit_agrees (Difference v w) =
+      some_agrees Sub v w (sub limit v w) (sub None v w) (v -ℚ w) (λ x e. sub_gives limit v w x e) (sub_unlimited v w)
 
   lower_agrees : (r : ExactRow) → Agrees (lower_run limit r) (lower_run None r)
-  lower_agrees r = lower_by_agrees r.kind r.rhs r.range
+  lower_agrees r = limit_agrees (lower_of r)
 
   upper_agrees : (r : ExactRow) → Agrees (upper_run limit r) (upper_run None r)
-  upper_agrees r = upper_by_agrees r.kind r.rhs r.range
+  upper_agrees r = limit_agrees (upper_of r)
 
   least_agrees : (n : ℕ) (o : Option ℚ) (v : ℚ) → Agrees (at_least n limit o v) (at_least n None o v)
   least_agrees n None v = same _

@@ -14,15 +14,15 @@ use Rattle.spec_exact.proofs.Order.{clash_ℚ, lt_if}
 use Rattle.spec_exact.proofs.Limit.{add_unlimited, sub_unlimited, mul_unlimited}
 use Rattle.spec_exact.proofs.Compare.{compare_unlimited, order_less, order_greater}
 use Rattle.spec_exact.proofs.Same.{eq_test}
-use Rattle.spec_exact.specs.Run.{◌>>=◌, steps}
-use Rattle.spec_model.specs.declared.parts.Kind.{Kind}
-use Rattle.spec_model.specs.declared.parts.Kind.TheVariants.{L, G, E}
-use Rattle.spec_model.specs.Model.{Model, ExactRow, Limits, limits_by, limits_of, from_to, width}
+use Rattle.spec_exact.specs.Run.{◌>>=◌, refused_as, steps}
+use Rattle.spec_model.specs.Model.{Model, ExactRow, Limits, lower_of, upper_of, limits_of, width}
 use Rattle.spec_model.specs.Model.{height, bounds, limits, row, coefficient, activity, part}
 use Rattle.spec_model.specs.Truth.{IsBetween, IsFeasible}
+use Rattle.spec_model.proofs.RowLimits.{limit_all}
+use Rattle.spec_check.specs.declared.certificate.CheckStop.TheVariants as stop
 use Rattle.spec_check.specs.Checks.{IsTight}
 use Rattle.spec_check.specs.Run.{Run, step, need, each, plus_product, less_product}
-use Rattle.spec_check.specs.Run.{sum_run, some_run, lower_by_run, upper_by_run, lower_run, upper_run}
+use Rattle.spec_check.specs.Run.{sum_run, lower_run, upper_run}
 use Rattle.spec_check.specs.Run.{at_least, at_most, stands_at, is_tight}
 use Rattle.spec_check.specs.Run.{column_within_run, columns_run, activity_run, row_within_run, rows_run}
 use Rattle.spec_check.proofs.Stops.{plus_is, less_is}
@@ -78,42 +78,11 @@ sum_all n f g =
     ∙ ap Ok (zero-+ℚ _)
 
 -- ---- a row's limits
-pub some_all : (run : Run ℚ) (v : ℚ) → run ≡ Ok v → some_run run ≡ Ok (Some v)
-some_all run v e = ap some_run e
-
-pub lower_by_all : (k : Kind) (b : ℚ) (o : Option ℚ) → lower_by_run None k b o ≡ Ok (limits_by k b o).lower
-lower_by_all L b None = refl
-lower_by_all L b (Some r) = some_all _ (b -ℚ abs_ℚ r) (taken b (abs_ℚ r))
-lower_by_all G b None = refl
-lower_by_all G b (Some r) = refl
-lower_by_all E b None = refl
-lower_by_all E b (Some r) = by (lt_ℚ r 0ℚ)
-  where
-    by : (t : Bool) →
-        cond t (some_run (step Add b r (add None b r))) (Ok (Some b))
-        ≡ Ok (cond t (from_to (b +ℚ r) b) (from_to b (b +ℚ r))).lower
-    by true = some_all _ (b +ℚ r) (added b r)
-    by false = refl
-
-pub upper_by_all : (k : Kind) (b : ℚ) (o : Option ℚ) → upper_by_run None k b o ≡ Ok (limits_by k b o).upper
-upper_by_all L b None = refl
-upper_by_all L b (Some r) = refl
-upper_by_all G b None = refl
-upper_by_all G b (Some r) = some_all _ (b +ℚ abs_ℚ r) (added b (abs_ℚ r))
-upper_by_all E b None = refl
-upper_by_all E b (Some r) = by (lt_ℚ r 0ℚ)
-  where
-    by : (t : Bool) →
-        cond t (Ok (Some b)) (some_run (step Add b r (add None b r)))
-        ≡ Ok (cond t (from_to (b +ℚ r) b) (from_to b (b +ℚ r))).upper
-    by true = refl
-    by false = some_all _ (b +ℚ r) (added b r)
-
 pub lower_all : (r : ExactRow) → lower_run None r ≡ Ok (limits_of r).lower
-lower_all r = lower_by_all r.kind r.rhs r.range
+lower_all r = ap (refused_as stop.Past) (limit_all (lower_of r))
 
 pub upper_all : (r : ExactRow) → upper_run None r ≡ Ok (limits_of r).upper
-upper_all r = upper_by_all r.kind r.rhs r.range
+upper_all r = ap (refused_as stop.Past) (limit_all (upper_of r))
 
 -- ---- comparisons
 pub ordered : (v k : ℚ) → step Cmp v k (compare None v k) ≡ Ok (order v k)

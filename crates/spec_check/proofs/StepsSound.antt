@@ -16,16 +16,18 @@ use Rattle.spec_exact.proofs.Order.{≤ℚ_refl, <ℚ-le, lt_test, not_lt_test}
 use Rattle.spec_exact.proofs.Limit.{add_gives, sub_gives, mul_gives}
 use Rattle.spec_exact.proofs.Compare.{compare_gives, order_less, order_equal, order_greater}
 use Rattle.spec_exact.proofs.Same.{eq_if}
-use Rattle.spec_exact.proofs.Results.{ok_same}
-use Rattle.spec_exact.specs.Run.{◌>>=◌, steps}
-use Rattle.spec_model.specs.declared.parts.Kind.{Kind}
-use Rattle.spec_model.specs.declared.parts.Kind.TheVariants.{L, G, E}
-use Rattle.spec_model.specs.Model.{Model, ExactRow, Limits, limits_by, limits_of, from_to, width}
+use Rattle.spec_exact.proofs.Results.{ok_same, err_not_ok}
+use Rattle.spec_exact.specs.Run.{◌>>=◌, refused_as, steps}
+use Rattle.spec_exact.specs.Run as exact
+use Rattle.spec_model.specs.Model.{Model, ExactRow, Limits, lower_of, upper_of, limits_of, width}
 use Rattle.spec_model.specs.Model.{height, bounds, limits, row, coefficient, activity, part}
+use Rattle.spec_model.specs.Model as model
 use Rattle.spec_model.specs.Truth.{IsBetween, IsFeasible}
+use Rattle.spec_model.proofs.RowLimits.{limit_ok}
+use Rattle.spec_check.specs.declared.certificate.CheckStop.TheVariants as stop
 use Rattle.spec_check.specs.Checks.{IsTight}
 use Rattle.spec_check.specs.Run.{Run, step, need, each, plus_product, less_product}
-use Rattle.spec_check.specs.Run.{sum_run, some_run, lower_by_run, upper_by_run, lower_run, upper_run}
+use Rattle.spec_check.specs.Run.{sum_run, lower_run, upper_run}
 use Rattle.spec_check.specs.Run.{at_least, at_most, stands_at, is_tight}
 use Rattle.spec_check.specs.Run.{column_within_run, columns_run, activity_run, row_within_run, rows_run}
 use Rattle.spec_check.proofs.Stops.{plus_is, less_is}
@@ -93,52 +95,18 @@ products_ok limit n f g v e =
     (λ k u w p h. plus_ok limit (f k) (g k) u w h) v e ∙ zero-+ℚ _
 
 -- ---- a row's limits
-pub some_ok : (run : Run ℚ) (v : ℚ) → ((x : ℚ) → run ≡ Ok x → x ≡ v) → (l : Option ℚ) → some_run run ≡ Ok l → l ≡ Some v
-some_ok run v g l e =
-    let a = after_ok run (λ x. Ok (Some x)) l e in
-    sym (ok_same (Some a.0) l a.2) ∙ ap Some (g a.0 a.1)
-
 pub added : (limit : Option ℕ) (v w x : ℚ) → step Add v w (add limit v w) ≡ Ok x → x ≡ v +ℚ w
 added limit v w x e = add_gives limit v w x (step_ok Add v w (add limit v w) x e)
 
-pub taken : (limit : Option ℕ) (v w x : ℚ) → step Sub v w (sub limit v w) ≡ Ok x → x ≡ v -ℚ w
-taken limit v w x e = sub_gives limit v w x (step_ok Sub v w (sub limit v w) x e)
-
-pub lower_by_ok : (limit : Option ℕ) (k : Kind) (b : ℚ) (o : Option ℚ) (l : Option ℚ) →
-    lower_by_run limit k b o ≡ Ok l → l ≡ (limits_by k b o).lower
-lower_by_ok limit L b None l e = sym (ok_same _ l e)
-lower_by_ok limit L b (Some r) l e =
-    some_ok (step Sub b (abs_ℚ r) (sub limit b (abs_ℚ r))) (b -ℚ abs_ℚ r) (taken limit b (abs_ℚ r)) l e
-lower_by_ok limit G b None l e = sym (ok_same _ l e)
-lower_by_ok limit G b (Some r) l e = sym (ok_same _ l e)
-lower_by_ok limit E b None l e = sym (ok_same _ l e)
-lower_by_ok limit E b (Some r) l e = by (lt_ℚ r 0ℚ) e
-  where
-    by : (t : Bool) → cond t (some_run (step Add b r (add limit b r))) (Ok (Some b)) ≡ Ok l →
-        l ≡ (cond t (from_to (b +ℚ r) b) (from_to b (b +ℚ r))).lower
-    by true h = some_ok (step Add b r (add limit b r)) (b +ℚ r) (added limit b r) l h
-    by false h = sym (ok_same _ l h)
-
-pub upper_by_ok : (limit : Option ℕ) (k : Kind) (b : ℚ) (o : Option ℚ) (l : Option ℚ) →
-    upper_by_run limit k b o ≡ Ok l → l ≡ (limits_by k b o).upper
-upper_by_ok limit L b None l e = sym (ok_same _ l e)
-upper_by_ok limit L b (Some r) l e = sym (ok_same _ l e)
-upper_by_ok limit G b None l e = sym (ok_same _ l e)
-upper_by_ok limit G b (Some r) l e =
-    some_ok (step Add b (abs_ℚ r) (add limit b (abs_ℚ r))) (b +ℚ abs_ℚ r) (added limit b (abs_ℚ r)) l e
-upper_by_ok limit E b None l e = sym (ok_same _ l e)
-upper_by_ok limit E b (Some r) l e = by (lt_ℚ r 0ℚ) e
-  where
-    by : (t : Bool) → cond t (Ok (Some b)) (some_run (step Add b r (add limit b r))) ≡ Ok l →
-        l ≡ (cond t (from_to (b +ℚ r) b) (from_to b (b +ℚ r))).upper
-    by true h = sym (ok_same _ l h)
-    by false h = some_ok (step Add b r (add limit b r)) (b +ℚ r) (added limit b r) l h
+refused_ok : {A : Type 0} (o : exact.Run A) (a : A) → refused_as stop.Past o ≡ Ok a → o ≡ Ok a
+refused_ok (Ok b) a h = ap Ok (ok_same b a h)
+refused_ok (Err p) a h = err_not_ok (stop.Past p) a h
 
 pub lower_ok : (limit : Option ℕ) (r : ExactRow) (l : Option ℚ) → lower_run limit r ≡ Ok l → l ≡ (limits_of r).lower
-lower_ok limit r l e = lower_by_ok limit r.kind r.rhs r.range l e
+lower_ok limit r l e = limit_ok limit (lower_of r) l (refused_ok (model.lower_run limit r) l e)
 
 pub upper_ok : (limit : Option ℕ) (r : ExactRow) (l : Option ℚ) → upper_run limit r ≡ Ok l → l ≡ (limits_of r).upper
-upper_ok limit r l e = upper_by_ok limit r.kind r.rhs r.range l e
+upper_ok limit r l e = limit_ok limit (upper_of r) l (refused_ok (model.upper_run limit r) l e)
 
 -- ---- comparisons
 pub least_from : (o : Ordering) (v k : ℚ) → o ≡ order v k → not (is_lt o) ≡ true → k ≤ℚ v

@@ -2,17 +2,16 @@
 use Rattle.std.specs.Prelude.{◌≡◌, ◌⊎◌, ℕ, ⊤, List, Option, Some, None}
 use Rattle.std.specs.Prelude.{Result, Ok, Err, Bool, true, false, not, cond}
 use Rattle.std.specs.Ordering.{is_lt, is_gt}
-use Rattle.spec_exact.specs.Fraction.{ℚ, 0ℚ, abs_ℚ, lt_ℚ, eq_ℚ}
-use Rattle.spec_exact.specs.Limit.{add, sub, compare}
+use Rattle.spec_exact.specs.Fraction.{ℚ, 0ℚ, lt_ℚ, eq_ℚ}
+use Rattle.spec_exact.specs.Limit.{add, compare}
 use Rattle.spec_exact.specs.Answer.{told}
 use Rattle.spec_exact.specs.declared.past.Op.{Op}
-use Rattle.spec_exact.specs.declared.past.Op.TheVariants.{Add, Sub, Cmp}
+use Rattle.spec_exact.specs.declared.past.Op.TheVariants.{Add, Cmp}
 use Rattle.spec_exact.specs.declared.past.Past.{Past}
 use Rattle.spec_exact.specs.Run.{◌>>=◌, refused_as, steps}
 use Rattle.spec_exact.specs.Run as exact
-use Rattle.spec_model.specs.declared.parts.Kind.{Kind}
-use Rattle.spec_model.specs.declared.parts.Kind.TheVariants.{L, G, E}
 use Rattle.spec_model.specs.Model.{Model, ExactRow, Limits, width, height, bounds, row, cost, coefficient, part}
+use Rattle.spec_model.specs.Model as model
 use Rattle.spec_check.specs.declared.certificate.Certificate.{Certificate}
 use Rattle.spec_check.specs.declared.certificate.Certificate.TheVariants.{Optimal, Infeasible, Clash, Unbounded}
 use Rattle.spec_check.specs.declared.certificate.Known.{Known}
@@ -51,29 +50,12 @@ less_product limit v w s = refused_as stop.Past (exact.less_product limit v w s)
 abbrev pub sum_run : Option ℕ → ℕ → (ℕ → ℚ) → (ℕ → ℚ) → Run ℚ
 sum_run limit n f g = steps n (λ k s. plus_product limit (f k) (g k) s) 0ℚ
 
--- ---- a row's limits, each by one operation where the range asks for it
-abbrev pub some_run : Run ℚ → Run (Option ℚ)
-some_run run = run >>= λ v. Ok (Some v)
-
-abbrev pub lower_by_run : Option ℕ → Kind → ℚ → Option ℚ → Run (Option ℚ)
-lower_by_run limit L b None = Ok None
-lower_by_run limit L b (Some r) = some_run (step Sub b (abs_ℚ r) (sub limit b (abs_ℚ r)))
-lower_by_run limit G b range = Ok (Some b)
-lower_by_run limit E b None = Ok (Some b)
-lower_by_run limit E b (Some r) = cond (lt_ℚ r 0ℚ) (some_run (step Add b r (add limit b r))) (Ok (Some b))
-
-abbrev pub upper_by_run : Option ℕ → Kind → ℚ → Option ℚ → Run (Option ℚ)
-upper_by_run limit L b range = Ok (Some b)
-upper_by_run limit G b None = Ok None
-upper_by_run limit G b (Some r) = some_run (step Add b (abs_ℚ r) (add limit b (abs_ℚ r)))
-upper_by_run limit E b None = Ok (Some b)
-upper_by_run limit E b (Some r) = cond (lt_ℚ r 0ℚ) (Ok (Some b)) (some_run (step Add b r (add limit b r)))
-
+-- ---- a row's limits
 abbrev pub lower_run : Option ℕ → ExactRow → Run (Option ℚ)
-lower_run limit r = lower_by_run limit r.kind r.rhs r.range
+lower_run limit r = refused_as stop.Past (model.lower_run limit r)
 
 abbrev pub upper_run : Option ℕ → ExactRow → Run (Option ℚ)
-upper_run limit r = upper_by_run limit r.kind r.rhs r.range
+upper_run limit r = refused_as stop.Past (model.upper_run limit r)
 
 -- ---- tests
 -- v is at least, and at most, a limit

@@ -1,11 +1,14 @@
 -- A linear program, as plain data.
-use Rattle.std.specs.Prelude.{ℕ, List, [], ◌∷◌, length, Option, Some, None, nat_eq, cond, get_or}
+use Rattle.std.specs.Prelude.{ℕ, List, [], ◌∷◌, length, Option, Some, None, Ok, nat_eq, cond, get_or}
 use Rattle.spec_exact.specs.Fraction.{ℚ, ◌+ℚ◌, ◌-ℚ◌, ◌*ℚ◌, 0ℚ, abs_ℚ, lt_ℚ}
 use Rattle.spec_exact.specs.Sums.{sum_below}
+use Rattle.spec_exact.specs.Run.{Run, ◌>>=◌, sum_run, difference_run}
 use Rattle.spec_model.specs.declared.parts.Sense.{Sense}
 use Rattle.spec_model.specs.declared.parts.Kind.{Kind}
 use Rattle.spec_model.specs.declared.parts.Kind.TheVariants.{L, G, E}
 use Rattle.spec_model.specs.declared.parts.Row.{Row}
+use Rattle.spec_model.specs.declared.parts.RowLimit.{RowLimit}
+use Rattle.spec_model.specs.declared.parts.RowLimit.TheVariants.{Absent, Given, Sum, Difference}
 use Rattle.spec_model.specs.declared.parts.Column.{Column}
 
 -- a name, by its bytes
@@ -33,26 +36,53 @@ pub record Limits : Type 0 where
   pub lower : Option ℚ
   pub upper : Option ℚ
 
-abbrev pub up_to : ℚ → Limits
-up_to b = record { lower = None; upper = Some b }
+-- The lower and the upper limit of a row of this kind, right side and range, each by the operation that gives it. No
+-- other definition tells kinds of rows apart by their limits.
+abbrev pub lower_by : Kind → ℚ → Option ℚ → RowLimit ℚ
+lower_by L b None = Absent
+lower_by L b (Some r) = Difference b (abs_ℚ r)
+lower_by G b range = Given b
+lower_by E b None = Given b
+lower_by E b (Some r) = cond (lt_ℚ r 0ℚ) (Sum b r) (Given b)
 
-abbrev pub from_on : ℚ → Limits
-from_on b = record { lower = Some b; upper = None }
+abbrev pub upper_by : Kind → ℚ → Option ℚ → RowLimit ℚ
+upper_by L b range = Given b
+upper_by G b None = Absent
+upper_by G b (Some r) = Sum b (abs_ℚ r)
+upper_by E b None = Given b
+upper_by E b (Some r) = cond (lt_ℚ r 0ℚ) (Given b) (Sum b r)
 
-abbrev pub from_to : ℚ → ℚ → Limits
-from_to a b = record { lower = Some a; upper = Some b }
+abbrev pub lower_of : ExactRow → RowLimit ℚ
+lower_of r = lower_by r.kind r.rhs r.range
 
--- the limits of a row of this kind, right side and range
+abbrev pub upper_of : ExactRow → RowLimit ℚ
+upper_of r = upper_by r.kind r.rhs r.range
+
+-- the limit itself
+abbrev pub limit_of : RowLimit ℚ → Option ℚ
+limit_of Absent = None
+limit_of (Given v) = Some v
+limit_of (Sum v w) = Some (v +ℚ w)
+limit_of (Difference v w) = Some (v -ℚ w)
+
 abbrev pub limits_by : Kind → ℚ → Option ℚ → Limits
-limits_by L b None = up_to b
-limits_by L b (Some r) = from_to (b -ℚ abs_ℚ r) b
-limits_by G b None = from_on b
-limits_by G b (Some r) = from_to b (b +ℚ abs_ℚ r)
-limits_by E b None = from_to b b
-limits_by E b (Some r) = cond (lt_ℚ r 0ℚ) (from_to (b +ℚ r) b) (from_to b (b +ℚ r))
+limits_by k b range = record { lower = limit_of (lower_by k b range); upper = limit_of (upper_by k b range) }
 
 abbrev pub limits_of : ExactRow → Limits
 limits_of r = limits_by r.kind r.rhs r.range
+
+-- the limit, where its operation may be refused
+abbrev pub limit_run : Option ℕ → RowLimit ℚ → Run (Option ℚ)
+limit_run limit Absent = Ok None
+limit_run limit (Given v) = Ok (Some v)
+limit_run limit (Sum v w) = sum_run limit v w >>= λ s. Ok (Some s)
+limit_run limit (Difference v w) = difference_run limit v w >>= λ d. Ok (Some d)
+
+abbrev pub lower_run : Option ℕ → ExactRow → Run (Option ℚ)
+lower_run limit r = limit_run limit (lower_of r)
+
+abbrev pub upper_run : Option ℕ → ExactRow → Run (Option ℚ)
+upper_run limit r = limit_run limit (upper_of r)
 
 abbrev pub bounds_of : ExactColumn → Limits
 bounds_of c = record { lower = c.lower; upper = c.upper }

@@ -3,7 +3,10 @@
 //! | Item | What it is | Where |
 //! |---|---|---|
 //! | `Sense`, `Kind`, `Row`, `Column` | the parts of a model, over any names and numbers | src/parts |
-//! | `Model`, `limits_of` | a model, and a row's limits | specs/Model |
+//! | `RowLimit` | a limit of a row, as the operation that gives it | src/parts |
+//! | `Model` | a model | specs/Model |
+//! | `lower_by`, `upper_by`, `limits_of` | a row's limits, by its kind, its right side and its range | specs/Model |
+//! | `lower_run`, `upper_run` | the same where operations may be refused | specs/Model |
 //! | `coefficient`, `activity`, `value_of` | by the numbers of rows and columns | specs/Model |
 //! | `IsModel` | what holds of each model that is kept | specs/Kept |
 //! | `IsFeasible`, `IsBetter` | points | specs/Truth |
@@ -15,12 +18,13 @@
 
 mod parts;
 
-ghost use Rattle.std.specs.Prelude.{◌≡◌};
+ghost use Rattle.std.specs.Prelude.{◌≡◌, ℕ, Option, None, Ok};
 ghost use Rattle.spec_exact.specs.Fraction.{ℚ};
-ghost use Rattle.spec_model.specs.Model.{Model};
+ghost use Rattle.spec_model.specs.declared.parts.RowLimit.{RowLimit};
+ghost use Rattle.spec_model.specs.Model.{Model, limit_of, limit_run};
 ghost use Rattle.spec_model.specs.Truth.{IsOptimal, IsInfeasible, IsUnbounded};
 
-pub use parts::{Column, Kind, Row, Sense};
+pub use parts::{Column, Kind, Row, RowLimit, Sense};
 
 /// No two of the truths hold together, and there is one optimal value.
 pub fn truths_exclude_each_other()
@@ -28,4 +32,10 @@ pub fn truths_exclude_each_other()
     ensures optimal_infeasible { (m : Model) (v : ℚ) → IsOptimal m v → ¬ (IsInfeasible m) }
     ensures optimal_unbounded { (m : Model) (v : ℚ) → IsOptimal m v → ¬ (IsUnbounded m) }
     ensures infeasible_unbounded { (m : Model) → IsInfeasible m → ¬ (IsUnbounded m) }
+{}
+
+/// A limit of a row is the exact one, or its operation is refused; without a limit of numbers none is.
+pub fn row_limits_are_exact_or_refused()
+    ensures exact { (limit : Option ℕ) (o : RowLimit ℚ) (l : Option ℚ) → limit_run limit o ≡ Ok l → l ≡ limit_of o }
+    ensures unlimited { (o : RowLimit ℚ) → limit_run None o ≡ Ok (limit_of o) }
 {}

@@ -36,3 +36,14 @@ pub struct Column<N, F, E> {
     /// The coefficients that are not 0, each with the number of its row.
     pub entries: E,
 }
+
+/// A limit of a row, if it has one, by the operation that gives it, if it takes one.
+#[derive(Clone, Copy)]
+pub enum RowLimit<F> {
+    /// There is none.
+    Absent,
+    /// This number, which takes no operation.
+    Given(F),
+    Sum(F, F),
+    Difference(F, F),
+}

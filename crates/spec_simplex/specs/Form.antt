@@ -4,19 +4,17 @@
 -- Column j below `cols` is structural, the model's own. Column `cols + i` is the logical of row i: the row's sum, with
 -- the row's limits as its bounds and the cost 0.
 use Rattle.std.specs.Prelude.{◌≡◌, ℕ, ◌+◌, ◌≤◌, List, [], ◌++◌, length, get_or, All, map}
-use Rattle.std.specs.Prelude.{replicate, Option, Some, None, Result, Ok, Err, if◌then◌else◌}
+use Rattle.std.specs.Prelude.{replicate, Option, Some, None, Result, Ok, Err}
 use Rattle.std.specs.declared.cmp.Ordering.{Ordering}
 use Rattle.std.specs.declared.cmp.Ordering.TheVariants.{Less, Equal, Greater}
-use Rattle.spec_exact.specs.Fraction.{ℚ, 0ℚ, neg_ℚ, abs_ℚ, lt_ℚ}
+use Rattle.spec_exact.specs.Fraction.{ℚ, 0ℚ, neg_ℚ}
 use Rattle.spec_model.specs.declared.parts.Sense.{Sense}
 use Rattle.spec_model.specs.declared.parts.Sense.TheVariants.{Min, Max}
-use Rattle.spec_model.specs.declared.parts.Kind.{Kind}
-use Rattle.spec_model.specs.declared.parts.Kind.TheVariants.{L, G, E}
-use Rattle.spec_model.specs.Model.{Model, ExactRow, width, height, row, column, entry_of}
+use Rattle.spec_model.specs.Model.{Model, ExactRow, width, height, row, column, entry_of, lower_run, upper_run}
 use Rattle.spec_model.specs.Kept.{AreEntries, row_limit, column_limit}
 use Rattle.spec_simplex.specs.declared.ends.FormFault.{FormFault}
 use Rattle.spec_simplex.specs.declared.ends.FormFault.TheVariants as fault
-use Rattle.spec_exact.specs.Run.{Run, ◌>>=◌, refused_as, sum_run, difference_run, order_run, steps, list_run}
+use Rattle.spec_exact.specs.Run.{Run, ◌>>=◌, refused_as, order_run, steps, list_run}
 
 pub record Form : Type 0 where
   pub rows : ℕ
@@ -48,20 +46,9 @@ form_upper f k = get_or f.upper k None
 abbrev pub form_cost : Form → ℕ → ℚ
 form_cost f k = get_or f.cost k 0ℚ
 
--- ---- the limits of a row, with one operation where it has a range
-abbrev pub equation_limits : Option ℕ → ℚ → ℚ → Run (Option ℚ × Option ℚ)
-equation_limits limit b r = sum_run limit b r >>= λ c. Ok (if lt_ℚ r 0ℚ then (Some c, Some b) else (Some b, Some c))
-
-abbrev pub limits_by : Option ℕ → Kind → ℚ → Option ℚ → Run (Option ℚ × Option ℚ)
-limits_by limit L b None = Ok (None, Some b)
-limits_by limit L b (Some r) = difference_run limit b (abs_ℚ r) >>= λ a. Ok (Some a, Some b)
-limits_by limit G b None = Ok (Some b, None)
-limits_by limit G b (Some r) = sum_run limit b (abs_ℚ r) >>= λ c. Ok (Some b, Some c)
-limits_by limit E b None = Ok (Some b, Some b)
-limits_by limit E b (Some r) = equation_limits limit b r
-
+-- ---- the limits of a row, the lower one first
 abbrev pub limits_run : Option ℕ → ExactRow → Run (Option ℚ × Option ℚ)
-limits_run limit r = limits_by limit r.kind r.rhs r.range
+limits_run limit r = lower_run limit r >>= λ l. upper_run limit r >>= λ u. Ok (l, u)
 
 -- ---- column j has no bounds that clash
 abbrev pub clash_by : ℕ → Ordering → Result (Unit {0}) (FormFault ℚ)
