@@ -5,11 +5,11 @@ use Rattle.spec_model.specs.Model.{Model, Name, ExactRow, ExactColumn, width, he
 use Rattle.spec_edit.specs.declared.edit.Edit.TheVariants.{AddRow, DelRow, AddCol, DelCol, SetCost}
 use Rattle.spec_edit.specs.declared.edit.Edit.TheVariants.{SetCoef, SetRhs, SetRange, SetBound, SetSense}
 use Rattle.spec_edit.specs.Changes.{changed_row, changed_column, with_entry, with_cost}
-use Rattle.spec_edit.specs.Changes.{with_coefficient, with_bounds, with_range, with_sense}
+use Rattle.spec_edit.specs.Changes.{with_coefficient, with_bounds, with_sense}
 use Rattle.spec_edit.specs.Edited.{ExactEdit, with_right_side, edited}
 use Rattle.spec_edit.specs.Meaning.{adds_or_removes, KeepsNames}
 use Rattle.spec_edit.proofs.NameLemmas.{row_names-changed, column_names-changed}
-use Rattle.spec_edit.proofs.Steps.{same_ok, at_row, at_column, at_entry, right_side-ok}
+use Rattle.spec_edit.proofs.Steps.{same_ok, at_column, at_entry, right_side-ok, range-ok}
 
 at_a_row : (m : Model) (i : ℕ) (change : ExactRow → ExactRow) → i < height m →
     (change (row m i)).name ≡ (row m i).name → KeepsNames m (changed_row change m i)
@@ -41,7 +41,7 @@ edited-names m n (SetCoef row column v) other h =
     (λ (c : ExactColumn). record c { entries = with_entry s.row v c.entries }) s.column_inside refl)
 edited-names m n (SetRhs name v) other h = right_side-names m n name v h
 edited-names m n (SetRange name range) other h =
-    let s = at_row m n name (λ i. with_range m i range) h in
+    let s = range-ok m n name range h in
     subst (KeepsNames m) s.model (at_a_row m s.place (λ (r : ExactRow). record r { range = range }) s.inside refl)
 edited-names m n (SetBound name bounds) other h =
     let s = at_column m n name (λ j. with_bounds m j bounds) h in

@@ -9,10 +9,11 @@ use Rattle.spec_model.specs.Model.{Model, Name, ExactRow, height}
 use Rattle.spec_model.specs.Kept.{IsModel, IsNarrowRow, is_row_name, row_limit}
 use Rattle.spec_edit.specs.declared.edit.Edit.TheVariants.{AddRow, DelRow, AddCol, DelCol, SetCost}
 use Rattle.spec_edit.specs.declared.edit.Edit.TheVariants.{SetCoef, SetRhs, SetRange, SetBound, SetSense}
+use Rattle.spec_edit.specs.declared.edit.EditFault.TheVariants.{FreeRow}
 use Rattle.spec_edit.specs.Changes.{with_row, without_row, without_column, with_cost}
-use Rattle.spec_edit.specs.Changes.{with_coefficient, with_bounds, with_range, with_sense}
-use Rattle.spec_edit.specs.Edited.{ExactEdit, IsKeptEdit, is_row_taken, new_row, with_right_side, edited}
-use Rattle.spec_edit.proofs.Steps.{test_ok, same_ok, at_row, at_column, at_entry, right_side-ok}
+use Rattle.spec_edit.specs.Changes.{with_coefficient, with_bounds, with_sense}
+use Rattle.spec_edit.specs.Edited.{ExactEdit, IsKeptEdit, is_row_taken, is_ranged_free, new_row, with_right_side, edited}
+use Rattle.spec_edit.proofs.Steps.{test_ok, same_ok, at_row, at_column, at_entry, right_side-ok, range-ok, fits}
 use Rattle.spec_edit.proofs.Keeping.{with_row-kept, without_row-kept, without_column-kept}
 use Rattle.spec_edit.proofs.Keeping.{with_cost-kept, with_coefficient-kept, with_bounds-kept, with_rhs-kept}
 use Rattle.spec_edit.proofs.Keeping.{with_range-kept, with_offset-kept, with_sense-kept}
@@ -24,8 +25,10 @@ new_row-kept m n r k narrow h =
     let a = test_ok (not (is_row_name r.name)) _ _ n h in
     let b = test_ok (is_row_taken m r.name) _ _ n a.1 in
     let c = test_ok (leb row_limit (height m)) _ _ n b.1 in
-    subst IsModel (same_ok (with_row m r) n c.1)
-    (with_row-kept m r k (leb-false row_limit (height m) c.0) (not-false (is_row_name r.name) a.0) b.0 narrow)
+    let d = test_ok (is_ranged_free r.kind r.range) (FreeRow r.name) (Ok (with_row m r)) n c.1 in
+    subst IsModel (same_ok (with_row m r) n d.1)
+    (with_row-kept m r k (leb-false row_limit (height m) c.0) (not-false (is_row_name r.name) a.0) b.0
+    (fits r.kind r.range d.0) narrow)
 
 right_side-kept : (m n : Model) (name : Name) (v : ℚ) → IsModel m → IsNarrow v → with_right_side m name v ≡ Ok n →
     IsModel n
@@ -54,8 +57,8 @@ edited-kept m n (SetCoef row column v) k may h =
     subst IsModel s.model (with_coefficient-kept m s.row s.column v k s.row_inside s.column_inside may)
 edited-kept m n (SetRhs name v) k may h = right_side-kept m n name v k may h
 edited-kept m n (SetRange name range) k may h =
-    let s = at_row m n name (λ i. with_range m i range) h in
-    subst IsModel s.model (with_range-kept m s.place range k s.inside may)
+    let s = range-ok m n name range h in
+    subst IsModel s.model (with_range-kept m s.place range k s.inside s.fit may)
 edited-kept m n (SetBound name bounds) k may h =
     let s = at_column m n name (λ j. with_bounds m j bounds) h in
     subst IsModel s.model (with_bounds-kept m s.place bounds k s.inside may.0 may.1)

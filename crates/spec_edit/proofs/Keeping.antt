@@ -11,7 +11,7 @@ use Rattle.spec_exact.specs.Narrow.{IsNarrow}
 use Rattle.spec_model.specs.declared.parts.Sense.{Sense}
 use Rattle.spec_model.specs.Model.{Model, Name, Limits, ExactRow, ExactColumn}
 use Rattle.spec_model.specs.Model.{no_row, no_column, width, height, row, column}
-use Rattle.spec_model.specs.Kept.{IsModel, IsKeptColumn, IsNarrowRow, IsNarrowColumn}
+use Rattle.spec_model.specs.Kept.{IsModel, IsKeptColumn, IsNarrowRow, IsNarrowColumn, FitsKind}
 use Rattle.spec_model.specs.Kept.{is_row_name, row_limit, column_limit, row_names, column_names}
 use Rattle.spec_edit.specs.Changes.{with_row, with_column, changed_row, changed_column, without_entry}
 use Rattle.spec_edit.specs.Changes.{with_entry, without_row, without_column, with_cost, with_coefficient}
@@ -28,6 +28,9 @@ name_of_row r = r.name
 abbrev name_of_column : ExactColumn → Name
 name_of_column c = c.name
 
+abbrev HasFitRange : ExactRow → Type 0
+HasFitRange r = FitsKind r.kind r.range
+
 abbrev Distinct : List Name → Type 0
 Distinct = AllPairs (λ x y. x ≢ y)
 
@@ -35,16 +38,17 @@ Distinct = AllPairs (λ x y. x ≢ y)
 
 -- other rows that fit the columns, another sense and another offset
 other_rows-kept : (m : Model) (sense : Sense) (offset : ℚ) (rows : List ExactRow) → IsModel m → IsNarrow offset →
-    length rows ≤ row_limit → All (λ r. IsTrue (is_row_name r.name)) rows →
+    length rows ≤ row_limit → All (λ r. IsTrue (is_row_name r.name)) rows → All HasFitRange rows →
     All (IsKeptColumn (length rows)) m.columns → Distinct (m.objective ∷ map name_of_row rows) → All IsNarrowRow rows →
     IsModel (record m { sense = sense; offset = offset; rows = rows })
-other_rows-kept m sense offset rows k narrow few named fit distinct narrow_rows =
+other_rows-kept m sense offset rows k narrow few named ranges fit distinct narrow_rows =
     record {
       few_rows = few;
       few_columns = k.few_columns;
       name = k.name;
       objective = k.objective;
       rows = named;
+      ranges = ranges;
       columns = fit;
       rows_distinct = distinct;
       columns_distinct = k.columns_distinct;
@@ -63,6 +67,7 @@ other_columns-kept m columns k few kept distinct narrow =
       name = k.name;
       objective = k.objective;
       rows = k.rows;
+      ranges = k.ranges;
       columns = kept;
       rows_distinct = k.rows_distinct;
       columns_distinct = distinct;
@@ -89,11 +94,12 @@ higher n m l c k =
     }
 
 pub with_row-kept : (m : Model) (r : ExactRow) → IsModel m → height m < row_limit → IsTrue (is_row_name r.name) →
-    is_row_taken m r.name ≡ false → IsNarrowRow r → IsModel (with_row m r)
-with_row-kept m r k few named new narrow =
+    is_row_taken m r.name ≡ false → HasFitRange r → IsNarrowRow r → IsModel (with_row m r)
+with_row-kept m r k few named new fit narrow =
     let one_more : length (m.rows ++ r ∷ []) ≡ length m.rows + 1 = length-append m.rows (r ∷ []) in
     other_rows-kept m m.sense m.offset (m.rows ++ r ∷ []) k k.offset (omega arith)
     (All-push (λ (r : ExactRow). IsTrue (is_row_name r.name)) m.rows r k.rows named)
+    (All-push HasFitRange m.rows r k.ranges fit)
     (All-weaker (IsKeptColumn (length m.rows)) (IsKeptColumn (length (m.rows ++ r ∷ [])))
     (higher _ _ (omega arith)) m.columns k.columns)
     (subst Distinct (ap (λ names. m.objective ∷ names) (sym (map-append name_of_row m.rows (r ∷ []))))
@@ -134,6 +140,7 @@ without_row-kept m i k l =
       name = k.name;
       objective = k.objective;
       rows = All-remove (λ (r : ExactRow). IsTrue (is_row_name r.name)) m.rows i k.rows;
+      ranges = All-remove HasFitRange m.rows i k.ranges;
       columns =
           subst (λ n. All (IsKeptColumn n) (map (lowered i) m.columns)) height_is
           (All-map (IsKeptColumn (length m.rows - 1)) (lowered i) m.columns
@@ -165,12 +172,14 @@ without_column-kept m j k l =
 -- ---- a row or a column that is changed
 
 pub changed_row-kept : (m : Model) (i : ℕ) (change : ExactRow → ExactRow) → IsModel m → i < height m →
-    (change (row m i)).name ≡ (row m i).name → IsNarrowRow (change (row m i)) → IsModel (changed_row change m i)
-changed_row-kept m i change k l named narrow =
+    (change (row m i)).name ≡ (row m i).name → HasFitRange (change (row m i)) → IsNarrowRow (change (row m i)) →
+    IsModel (changed_row change m i)
+changed_row-kept m i change k l named fit narrow =
     let long : length (set m.rows i (change (row m i))) ≡ length m.rows = length-set m.rows i (change (row m i)) in
     other_rows-kept m m.sense m.offset (set m.rows i (change (row m i))) k k.offset (omega (arith, k.few_rows))
     (All-set (λ (r : ExactRow). IsTrue (is_row_name r.name)) m.rows i (change (row m i))
     (subst (λ name. IsTrue (is_row_name name)) (sym named) (k.rows i no_row l)) k.rows)
+    (All-set HasFitRange m.rows i (change (row m i)) fit k.ranges)
     (subst (λ n. All (IsKeptColumn n) m.columns) (sym long) k.columns)
     (subst (λ names. Distinct (m.objective ∷ names)) (sym (row_names-changed m i change l named)) k.rows_distinct)
     (All-set IsNarrowRow m.rows i (change (row m i)) narrow k.narrow_rows)
@@ -228,20 +237,20 @@ with_bounds-kept m j l k q lower upper =
 
 pub with_rhs-kept : (m : Model) (i : ℕ) (v : ℚ) → IsModel m → i < height m → IsNarrow v → IsModel (with_rhs m i v)
 with_rhs-kept m i v k l narrow =
-    changed_row-kept m i (λ (r : ExactRow). record r { rhs = v }) k l refl
+    changed_row-kept m i (λ (r : ExactRow). record r { rhs = v }) k l refl (k.ranges i no_row l)
     (record { rhs = narrow; range = (k.narrow_rows i no_row l).range })
 
-pub with_range-kept : (m : Model) (i : ℕ) (range : Option ℚ) → IsModel m → i < height m → IfSome range IsNarrow →
-    IsModel (with_range m i range)
-with_range-kept m i range k l narrow =
-    changed_row-kept m i (λ (r : ExactRow). record r { range = range }) k l refl
+pub with_range-kept : (m : Model) (i : ℕ) (range : Option ℚ) → IsModel m → i < height m →
+    FitsKind (row m i).kind range → IfSome range IsNarrow → IsModel (with_range m i range)
+with_range-kept m i range k l fit narrow =
+    changed_row-kept m i (λ (r : ExactRow). record r { range = range }) k l refl fit
     (record { rhs = (k.narrow_rows i no_row l).rhs; range = narrow })
 
 -- the rows as they are, with another sense and another offset
 same_rows-kept : (m : Model) (sense : Sense) (v : ℚ) → IsModel m → IsNarrow v →
     IsModel (record m { sense = sense; offset = v })
 same_rows-kept m sense v k narrow =
-    other_rows-kept m sense v m.rows k narrow k.few_rows k.rows k.columns k.rows_distinct k.narrow_rows
+    other_rows-kept m sense v m.rows k narrow k.few_rows k.rows k.ranges k.columns k.rows_distinct k.narrow_rows
 
 pub with_offset-kept : (m : Model) (v : ℚ) → IsModel m → IsNarrow v → IsModel (with_offset m v)
 with_offset-kept m v k narrow = same_rows-kept m m.sense v k narrow

@@ -9,3 +9,4 @@ pub mod EditNames
 pub mod Coefficients
 pub mod Meanings
 pub mod PairsGiven
+pub mod FreeRows

@@ -48,7 +48,7 @@ with_coefficient-means m i j v l a b = by (eqb b j) refl
 
 -- ---- a row that is gone, and a new one
 
-column-lowered : (m : Model) (i j : ℕ) → column (without_row m i) j ≡ lowered i (column m j)
+pub column-lowered : (m : Model) (i j : ℕ) → column (without_row m i) j ≡ lowered i (column m j)
 unfolding without_entry
 column-lowered m i j = get_or-map (lowered i) m.columns j no_column
 

@@ -1,13 +1,17 @@
 -- What was found on the way to what is no fault.
-use Rattle.std.proofs.Common.{◌≡◌, ℕ, ◌<◌, Bool, true, false, cond, Option, Some, None, Ok, Err, refl, ◌⊎◌, inl, inr}
+use Rattle.std.proofs.Common.{◌≡◌, ℕ, ◌<◌, Bool, true, false, cond, Option, Some, None, Ok, Err, refl}
+use Rattle.std.proofs.Common.{◌⊎◌, inl, inr}
 use Rattle.spec_text.specs.Words.{same}
 use Rattle.spec_exact.specs.Fraction.{ℚ, neg_ℚ}
-use Rattle.spec_model.specs.Model.{Model, Name, width, height}
-use Rattle.spec_model.specs.Kept.{row_place, column_place}
+use Rattle.spec_model.specs.declared.parts.Kind.{Kind}
+use Rattle.spec_model.specs.Model.{Model, Name, width, height, row}
+use Rattle.spec_model.specs.Kept.{FitsKind, row_place, column_place}
 use Rattle.spec_model.proofs.NamePlaces.{row_inside, column_inside}
 use Rattle.spec_edit.specs.declared.edit.EditFault.{EditFault}
-use Rattle.spec_edit.specs.Changes.{with_rhs, with_offset}
+use Rattle.spec_edit.specs.declared.edit.EditFault.TheVariants.{FreeRow}
+use Rattle.spec_edit.specs.Changes.{with_rhs, with_range, with_offset}
 use Rattle.spec_edit.specs.Edited.{OrFault, ◌>>=◌, known, row_named, column_named, with_right_side}
+use Rattle.spec_edit.specs.Edited.{is_ranged_free, with_new_range}
 
 -- a step that goes on had a value
 pub step_ok : {A B : Type 0} (o : OrFault A) (f : A → OrFault B) (b : B) → (o >>= f) ≡ Ok b →
@@ -85,3 +89,26 @@ right_side-ok m n name v h = by (same m.objective name) h
         (with_offset m (neg_ℚ v) ≡ n) ⊎ AtPlace (height m) n (λ i. with_rhs m i v)
     by true e = inl (same_ok (with_offset m (neg_ℚ v)) n e)
     by false e = inr (at_row m n name (λ i. with_rhs m i v) e)
+
+-- a range that the kind of its row may have
+pub record AtRange (m n : Model) (range : Option ℚ) : Type 0 where
+  pub place : ℕ
+  pub inside : place < height m
+  pub fit : FitsKind (row m place).kind range
+  pub model : with_range m place range ≡ n
+
+pub fits : (kind : Kind) (range : Option ℚ) → is_ranged_free kind range ≡ false → FitsKind kind range
+fits kind None h = tt
+fits kind (Some r) h = h
+
+pub range-ok : (m n : Model) (name : Name) (range : Option ℚ) → with_new_range m name range ≡ Ok n → AtRange m n range
+unfolding with_new_range
+range-ok m n name range h =
+    let a = step_ok (row_named m name) _ n h in
+    let b = test_ok (is_ranged_free (row m a.0).kind range) (FreeRow name) (Ok (with_range m a.0 range)) n a.2 in
+    record {
+      place = a.0;
+      inside = named_inside m name a.0 a.1;
+      fit = fits (row m a.0).kind range b.0;
+      model = same_ok (with_range m a.0 range) n b.1;
+    }

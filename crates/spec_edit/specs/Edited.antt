@@ -1,17 +1,18 @@
 -- The model after an edit, or why the edit is refused.
-use Rattle.std.specs.Prelude.{ℕ, ◌||◌, Bool, true, false, not, is_some, Option, Some, None, IfSome}
+use Rattle.std.specs.Prelude.{ℕ, ◌||◌, ◌&&◌, Bool, true, false, not, is_some, Option, Some, None, IfSome}
 use Rattle.std.specs.Prelude.{Result, Ok, Err, List, [], ◌∷◌, ◌++◌, All, nat_le, if◌then◌else◌}
 use Rattle.std.specs.List.{list_any}
 use Rattle.spec_text.specs.Words.{same}
 use Rattle.spec_exact.specs.Fraction.{ℚ, 0ℚ, neg_ℚ}
 use Rattle.spec_exact.specs.Narrow.{IsNarrow}
-use Rattle.spec_model.specs.Model.{Model, Name, Limits, ExactRow, ExactColumn, width, height}
+use Rattle.spec_model.specs.declared.parts.Kind.{Kind}
+use Rattle.spec_model.specs.Model.{Model, Name, Limits, ExactRow, ExactColumn, width, height, row, is_free}
 use Rattle.spec_model.specs.Kept.{IsBound, is_name, is_row_name, row_limit, column_limit, row_place, column_place}
 use Rattle.spec_edit.specs.declared.edit.Edit.{Edit}
 use Rattle.spec_edit.specs.declared.edit.Edit.TheVariants.{AddRow, DelRow, AddCol, DelCol, SetCost}
 use Rattle.spec_edit.specs.declared.edit.Edit.TheVariants.{SetCoef, SetRhs, SetRange, SetBound, SetSense}
 use Rattle.spec_edit.specs.declared.edit.EditFault.{EditFault}
-use Rattle.spec_edit.specs.declared.edit.EditFault.TheVariants.{UnknownName, Taken, Limit, BadName, Repeated}
+use Rattle.spec_edit.specs.declared.edit.EditFault.TheVariants.{UnknownName, Taken, Limit, BadName, Repeated, FreeRow}
 use Rattle.spec_edit.specs.declared.edit.Which.TheVariants.{Rows, Columns}
 use Rattle.spec_edit.specs.Changes.{with_row, without_row, with_column, without_column, with_entry, with_cost}
 use Rattle.spec_edit.specs.Changes.{with_coefficient, with_bounds, with_rhs, with_range, with_offset, with_sense}
@@ -52,11 +53,16 @@ is_row_taken m name = same m.objective name || is_some (row_place m name)
 abbrev pub is_column_taken : Model → Name → Bool
 is_column_taken m name = is_some (column_place m name)
 
+-- a free row that is to have a range
+abbrev pub is_ranged_free : Kind → Option ℚ → Bool
+is_ranged_free kind range = is_some range && is_free kind
+
 unfoldable pub new_row : Model → ExactRow → OrFault Model
 new_row m r =
     if not (is_row_name r.name) then Err BadName
     else if is_row_taken m r.name then Err (Taken r.name)
     else if nat_le row_limit (height m) then Err (Limit Rows row_limit)
+    else if is_ranged_free r.kind r.range then Err (FreeRow r.name)
     else Ok (with_row m r)
 
 -- a pair before has this name already
@@ -89,6 +95,11 @@ with_right_side m name v =
     if same m.objective name then Ok (with_offset m (neg_ℚ v))
     else (row_named m name >>= λ i. Ok (with_rhs m i v))
 
+unfoldable pub with_new_range : Model → Name → Option ℚ → OrFault Model
+with_new_range m name range =
+    row_named m name >>= λ i.
+    if is_ranged_free (row m i).kind range then Err (FreeRow name) else Ok (with_range m i range)
+
 unfoldable pub edited : Model → ExactEdit → OrFault Model
 edited m (AddRow name kind rhs range) = new_row m (record { name = name; kind = kind; rhs = rhs; range = range })
 edited m (DelRow name) = row_named m name >>= λ i. Ok (without_row m i)
@@ -97,7 +108,7 @@ edited m (DelCol name) = column_named m name >>= λ j. Ok (without_column m j)
 edited m (SetCost name v) = column_named m name >>= λ j. Ok (with_cost m j v)
 edited m (SetCoef row column v) = row_named m row >>= λ i. column_named m column >>= λ j. Ok (with_coefficient m i j v)
 edited m (SetRhs name v) = with_right_side m name v
-edited m (SetRange name range) = row_named m name >>= λ i. Ok (with_range m i range)
+edited m (SetRange name range) = with_new_range m name range
 edited m (SetBound name bounds) = column_named m name >>= λ j. Ok (with_bounds m j bounds)
 edited m (SetSense sense) = Ok (with_sense m sense)
 

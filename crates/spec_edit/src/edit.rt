@@ -64,4 +64,7 @@ pub enum EditFault<N: Debug> {
     /// The row stands twice among those of a new column.
     #[error("expected each row once in a new column, but found {0:?} twice")]
     Repeated(N),
+    /// The row that is to have a range has no limits.
+    #[error("expected a row with limits to have a range, but {0:?} is free")]
+    FreeRow(N),
 }

@@ -14,11 +14,13 @@
 
 mod edit;
 
-ghost use Rattle.std.specs.Prelude.{◌≡◌, ◌<◌, ℕ, false, Ok};
+ghost use Rattle.std.specs.Prelude.{◌≡◌, ◌<◌, ◌↔◌, ℕ, true, false, Ok, List};
 ghost use Rattle.spec_exact.specs.Fraction.{ℚ, 0ℚ};
 ghost use Rattle.spec_model.specs.Kept.{IsModel};
 ghost use Rattle.spec_model.specs.Model.{Model, Name, ExactRow, width, height, row, coefficient};
-ghost use Rattle.spec_edit.specs.Changes.{with_row};
+ghost use Rattle.spec_model.specs.Model.{is_free, value_of};
+ghost use Rattle.spec_model.specs.Truth.{IsFeasible, IsOptimal, IsInfeasible, IsUnbounded};
+ghost use Rattle.spec_edit.specs.Changes.{with_row, without_row};
 ghost use Rattle.spec_edit.specs.Edited.{ExactEdit, IsKeptEdit, Pairs, edited, new_column};
 ghost use Rattle.spec_edit.specs.Meaning.{IsWithCoefficient, IsWithoutRow, IsWithoutColumn};
 ghost use Rattle.spec_edit.specs.Meaning.{IsWithPairs, adds_or_removes, KeepsNames};
@@ -44,6 +46,18 @@ pub fn changes_have_their_meaning()
 pub fn new_columns_have_their_pairs()
     ensures { (m n : Model) (name : Name) (cost : ℚ) (pairs : Pairs) →
         IsModel m → new_column m name cost pairs ≡ Ok n → IsWithPairs m n pairs }
+{}
+
+/// A model has the same feasible points with the same values, and so the same truths, without a free row.
+pub fn free_rows_change_no_truth()
+    ensures points { (m : Model) (i : ℕ) → i < height m → is_free (row m i).kind ≡ true → (z : List ℚ) →
+        (IsFeasible m z ↔ IsFeasible (without_row m i) z) × (value_of (without_row m i) z ≡ value_of m z) }
+    ensures optimal { (m : Model) (i : ℕ) → i < height m → is_free (row m i).kind ≡ true → (v : ℚ) →
+        IsOptimal m v ↔ IsOptimal (without_row m i) v }
+    ensures infeasible { (m : Model) (i : ℕ) → i < height m → is_free (row m i).kind ≡ true →
+        IsInfeasible m ↔ IsInfeasible (without_row m i) }
+    ensures unbounded { (m : Model) (i : ℕ) → i < height m → is_free (row m i).kind ≡ true →
+        IsUnbounded m ↔ IsUnbounded (without_row m i) }
 {}
 
 /// The names of the objective, the rows and the columns change only where a row or a column is added or removed.

@@ -1,11 +1,12 @@
 -- What holds of each model that is kept.
-use Rattle.std.specs.Prelude.{ℕ, ◌<◌, ◌≤◌, ◌≢◌, ◌^◌, ◌&&◌, Bool, not, pos, List, ◌∷◌, length}
+use Rattle.std.specs.Prelude.{ℕ, ◌≡◌, ◌<◌, ◌≤◌, ◌≢◌, ◌^◌, ◌&&◌, Bool, false, not, pos, List, ◌∷◌, length}
 use Rattle.std.specs.Prelude.{map, nat_lt, nat_le, codes, All, AllPairs, IsTrue, Option, IfSome}
 use Rattle.std.specs.List.{list_all, position}
 use Rattle.spec_text.specs.Words.{same}
 use Rattle.spec_exact.specs.Fraction.{ℚ, 0ℚ, whole, abs_ℚ, ◌<ℚ◌}
 use Rattle.spec_exact.specs.Narrow.{IsNarrow}
-use Rattle.spec_model.specs.Model.{Model, Name, ExactRow, ExactColumn}
+use Rattle.spec_model.specs.declared.parts.Kind.{Kind}
+use Rattle.spec_model.specs.Model.{Model, Name, ExactRow, ExactColumn, is_free}
 
 -- the most rows and columns
 abbrev pub row_limit : ℕ
@@ -59,6 +60,10 @@ pub record IsKeptColumn (height : ℕ) (c : ExactColumn) : Type 0 where
   pub upper : IsBound c.upper
   pub entries : AreEntries height c.entries
 
+-- a free row has no range
+abbrev pub FitsKind : Kind → Option ℚ → Type 0
+FitsKind kind range = IfSome range (λ r. is_free kind ≡ false)
+
 -- numbers of at most 127 bits
 pub record IsNarrowRow (r : ExactRow) : Type 0 where
   pub rhs : IsNarrow r.rhs
@@ -76,6 +81,7 @@ pub record IsModel (m : Model) : Type 0 where
   pub name : IsTrue (is_model_name m.name)
   pub objective : IsTrue (is_row_name m.objective)
   pub rows : All (λ r. IsTrue (is_row_name r.name)) m.rows
+  pub ranges : All (λ r. FitsKind r.kind r.range) m.rows
   pub columns : All (IsKeptColumn (length m.rows)) m.columns
   pub rows_distinct : AllPairs (λ x y. x ≢ y) (m.objective ∷ row_names m)
   pub columns_distinct : AllPairs (λ x y. x ≢ y) (column_names m)

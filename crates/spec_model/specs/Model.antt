@@ -1,11 +1,11 @@
 -- A linear program, as plain data.
-use Rattle.std.specs.Prelude.{ℕ, List, [], ◌∷◌, length, Option, Some, None, Ok, nat_eq, cond, get_or}
+use Rattle.std.specs.Prelude.{ℕ, Bool, true, false, List, [], ◌∷◌, length, Option, Some, None, Ok, nat_eq, cond, get_or}
 use Rattle.spec_exact.specs.Fraction.{ℚ, ◌+ℚ◌, ◌-ℚ◌, ◌*ℚ◌, 0ℚ, abs_ℚ, lt_ℚ}
 use Rattle.spec_exact.specs.Sums.{sum_below}
 use Rattle.spec_exact.specs.Run.{Run, ◌>>=◌, sum_run, difference_run}
 use Rattle.spec_model.specs.declared.parts.Sense.{Sense}
 use Rattle.spec_model.specs.declared.parts.Kind.{Kind}
-use Rattle.spec_model.specs.declared.parts.Kind.TheVariants.{L, G, E}
+use Rattle.spec_model.specs.declared.parts.Kind.TheVariants.{L, G, E, N}
 use Rattle.spec_model.specs.declared.parts.Row.{Row}
 use Rattle.spec_model.specs.declared.parts.RowLimit.{RowLimit}
 use Rattle.spec_model.specs.declared.parts.RowLimit.TheVariants.{Absent, Given, Sum, Difference}
@@ -31,6 +31,13 @@ pub record Model : Type 0 where
   pub rows : List ExactRow
   pub columns : List ExactColumn
 
+-- whether rows of this kind have no limits
+abbrev pub is_free : Kind → Bool
+is_free L = false
+is_free G = false
+is_free E = false
+is_free N = true
+
 -- from the lower one to the upper one, as far as they are there
 pub record Limits : Type 0 where
   pub lower : Option ℚ
@@ -44,6 +51,7 @@ lower_by L b (Some r) = Difference b (abs_ℚ r)
 lower_by G b range = Given b
 lower_by E b None = Given b
 lower_by E b (Some r) = cond (lt_ℚ r 0ℚ) (Sum b r) (Given b)
+lower_by N b range = Absent
 
 abbrev pub upper_by : Kind → ℚ → Option ℚ → RowLimit ℚ
 upper_by L b range = Given b
@@ -51,6 +59,7 @@ upper_by G b None = Absent
 upper_by G b (Some r) = Sum b (abs_ℚ r)
 upper_by E b None = Given b
 upper_by E b (Some r) = cond (lt_ℚ r 0ℚ) (Given b) (Sum b r)
+upper_by N b range = Absent
 
 abbrev pub lower_of : ExactRow → RowLimit ℚ
 lower_of r = lower_by r.kind r.rhs r.range

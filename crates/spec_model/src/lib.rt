@@ -6,6 +6,7 @@
 //! | `RowLimit` | a limit of a row, as the operation that gives it | src/parts |
 //! | `Model` | a model | specs/Model |
 //! | `lower_by`, `upper_by`, `limits_of` | a row's limits, by its kind, its right side and its range | specs/Model |
+//! | `is_free` | whether a kind of row has no limits | specs/Model |
 //! | `lower_run`, `upper_run` | the same where operations may be refused | specs/Model |
 //! | `coefficient`, `activity`, `value_of` | by the numbers of rows and columns | specs/Model |
 //! | `IsModel` | what holds of each model that is kept | specs/Kept |

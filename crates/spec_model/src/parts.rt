@@ -7,12 +7,14 @@ pub enum Sense {
     Max,
 }
 
-/// A row's sum is at most (`L`), at least (`G`) or equal to (`E`) its right side.
+/// A row's sum is at most (`L`), at least (`G`) or equal to (`E`) its right side, or it has no limits (`N`): the row is
+/// free.
 #[derive(Clone, Copy)]
 pub enum Kind {
     L,
     G,
     E,
+    N,
 }
 
 /// A row.
@@ -22,7 +24,7 @@ pub struct Row<N, F> {
     pub kind: Kind,
     /// The right side.
     pub rhs: F,
-    /// How far the row's sum may be from the right side, if it may.
+    /// How far the row's sum may be from the right side, if it may. A free row has none.
     pub range: Option<F>,
 }
 
