@@ -1,19 +1,19 @@
 -- What a data card of each section did to what was read so far.
 use Rattle.std.proofs.Common.{◌≡◌, ℕ, ◌+◌, Bool, true, false, not, ◌||◌, cond, ltb, Option, Some, is_none, Ok, Err}
-use Rattle.std.proofs.Common.{List, [], ◌∷◌, ◌++◌, length, refl, sym, ◌∙◌, subst, codes, append-nil, append_assoc}
+use Rattle.std.proofs.Common.{List, [], ◌∷◌, ◌++◌, length, get_or, refl, sym, ◌∙◌, subst, codes, append-nil, append_assoc}
 use Rattle.std.specs.List.{list_any, position}
 use Rattle.spec_text.specs.Words.{same}
 use Rattle.spec_exact.specs.Fraction.{ℚ}
 use Rattle.spec_model.specs.declared.parts.Sense.{Sense}
-use Rattle.spec_model.specs.Model.{Name}
+use Rattle.spec_model.specs.declared.parts.Kind.{Kind}
+use Rattle.spec_model.specs.Model.{Name, no_row, is_free}
 use Rattle.spec_model.specs.Kept.{is_name, is_row_name}
 use Rattle.spec_mps.specs.declared.bound_kind.BoundKind.{BoundKind}
 use Rattle.spec_mps.specs.declared.fault.Code.TheVariants as code
-use Rattle.spec_mps.specs.declared.row_type.RowType.{RowType}
 use Rattle.spec_mps.specs.declared.section.Section.{Section}
 use Rattle.spec_mps.specs.declared.section.Section.TheVariants as section
 use Rattle.spec_mps.specs.declared.style.Style.{Style}
-use Rattle.spec_mps.specs.declared.target.Place.{Place}
+use Rattle.spec_mps.specs.declared.target.Target.{Target}
 use Rattle.spec_mps.specs.Fields.{Fields, text_at, texts_of}
 use Rattle.spec_mps.specs.Checks.{Check, ◌>>=◌, must, need}
 use Rattle.spec_mps.specs.Shapes.{sense_of, row_type_of, bound_kind_of, has_shape, shapes_of, shaped}
@@ -21,7 +21,7 @@ use Rattle.spec_mps.specs.Reader.{State, place_of, number_in, is_first, with_row
 use Rattle.spec_mps.specs.Reader.{whole_columns, is_open, opened, enter, column_pair, pairs_of, in_turn, column_pairs}
 use Rattle.spec_mps.specs.Reader.{column_by, marker_field, columns_card}
 use Rattle.spec_mps.specs.Sides.{SetAndPairs, set_and_pairs, is_used, put_side, side_pair, side_pairs, rhs_card}
-use Rattle.spec_mps.specs.Sides.{ranged_row, put_range, range_pair, range_pairs, ranges_card}
+use Rattle.spec_mps.specs.Sides.{ranged_row, new_range, put_range, range_pair, range_pairs, ranges_card}
 use Rattle.spec_mps.specs.Bounds.{BoundCard, bound_card, BoundTexts, bound_texts, with_bound, use_bound, bounds_card}
 use Rattle.spec_mps.specs.Steps.{take_sense, data_card}
 use Rattle.spec_mps.proofs.CheckSteps.{step_ok, must_ok, need_ok, same_ok}
@@ -51,22 +51,22 @@ sense_did s word t h =
 -- ---- ROWS
 
 pub record RowsDid (s : State) (fields : Fields) (t : State) : Type 0 where
-  pub type : RowType
-  pub type_is : row_type_of (text_at 1 fields) ≡ Some type
+  pub kind : Kind
+  pub kind_is : row_type_of (text_at 1 fields) ≡ Some kind
   pub name : is_row_name (text_at 2 fields) ≡ true
   pub free : is_none (place_of s (text_at 2 fields)) ≡ true
-  pub few : (is_first s type || ltb (length s.rows + length s.dropped) 256) ≡ true
-  pub new : with_row s type (text_at 2 fields) ≡ t
+  pub few : (is_first s kind || ltb (length s.rows) 256) ≡ true
+  pub new : with_row s kind (text_at 2 fields) ≡ t
 
-add_row_did : (s : State) (type : RowType) (fields : Fields) (t : State) → row_type_of (text_at 1 fields) ≡ Some type →
-    add_row s type (text_at 2 fields) ≡ Ok t → RowsDid s fields t
+add_row_did : (s : State) (kind : Kind) (fields : Fields) (t : State) → row_type_of (text_at 1 fields) ≡ Some kind →
+    add_row s kind (text_at 2 fields) ≡ Ok t → RowsDid s fields t
 unfolding add_row
-add_row_did s type fields t e h =
+add_row_did s kind fields t e h =
     let name = text_at 2 fields in
     let a = must_ok (is_row_name name) code.Name _ t h in
     let b = must_ok (is_none (place_of s name)) code.RowTaken _ t a.1 in
-    let c = must_ok (is_first s type || ltb (length s.rows + length s.dropped) 256) code.Limit _ t b.1 in
-    record { type = type; type_is = e; name = a.0; free = b.0; few = c.0; new = same_ok _ t c.1 }
+    let c = must_ok (is_first s kind || ltb (length s.rows) 256) code.Limit _ t b.1 in
+    record { kind = kind; kind_is = e; name = a.0; free = b.0; few = c.0; new = same_ok _ t c.1 }
 
 pub rows_did : (style : Style) (s : State) (fields : Fields) (t : State) → rows_card style s fields ≡ Ok t →
     RowsDid s fields t
@@ -79,23 +79,23 @@ rows_did style s fields t h =
 -- ---- pairs of a row's name and a number
 
 -- the number of a pair was put at the place that its name stands for
-pub record PairDid (put : State → Place → ℚ → Check State)
+pub record PairDid (put : State → Target → ℚ → Check State)
     (s : State) (pair : List ℕ × List ℕ) (t : State) : Type 0 where
-  pub place : Place
+  pub place : Target
   pub value : ℚ
   pub place_is : place_of s pair.0 ≡ Some place
   pub number_is : number_in pair.1 ≡ Ok value
   pub did : put s place value ≡ Ok t
 
 -- each pair in its turn
-pub record PutsPairs (put : State → Place → ℚ → Check State)
+pub record PutsPairs (put : State → Target → ℚ → Check State)
     (run : State → List (List ℕ × List ℕ) → Check State) : Type 0 where
   pub none : (s t : State) → run s [] ≡ Ok t → s ≡ t
   pub one : (s t : State) (pair : List ℕ × List ℕ) (pairs : List (List ℕ × List ℕ)) → run s (pair ∷ pairs) ≡ Ok t →
       (u : State) × PairDid put s pair u × (run u pairs ≡ Ok t)
 
 -- what each pair keeps, all of them keep
-pub pairs_keep : (put : State → Place → ℚ → Check State) (run : State → List (List ℕ × List ℕ) → Check State) →
+pub pairs_keep : (put : State → Target → ℚ → Check State) (run : State → List (List ℕ × List ℕ) → Check State) →
     PutsPairs put run → (K : List (List ℕ × List ℕ) → State → Type 0) →
     ((done : List (List ℕ × List ℕ)) (s : State) (pair : List ℕ × List ℕ) (t : State) → PairDid put s pair t →
     K done s → K (done ++ pair ∷ []) t) →
@@ -107,7 +107,7 @@ pairs_keep put run puts K f (pair ∷ pairs) done s t h k =
     subst (λ l. K l t) (append_assoc done (pair ∷ []) pairs)
     (pairs_keep put run puts K f pairs (done ++ pair ∷ []) a.0 t a.2 (f done s pair a.0 a.1 k))
 
-pair_did : (put : State → Place → ℚ → Check State) (s : State) (pair : List ℕ × List ℕ) (t : State) →
+pair_did : (put : State → Target → ℚ → Check State) (s : State) (pair : List ℕ × List ℕ) (t : State) →
     (need (place_of s pair.0) code.UnknownRow >>= λ place. number_in pair.1 >>= λ v. put s place v) ≡ Ok t →
     PairDid put s pair t
 pair_did put s pair t h =
@@ -116,7 +116,7 @@ pair_did put s pair t h =
     record { place = a.0; value = b.0; place_is = a.1; number_is = b.1; did = b.2 }
 
 -- a run that takes one step for each pair
-puts_by : (put : State → Place → ℚ → Check State) (step : State → List ℕ × List ℕ → Check State)
+puts_by : (put : State → Target → ℚ → Check State) (step : State → List ℕ × List ℕ → Check State)
     (run : State → List (List ℕ × List ℕ) → Check State) → ((s t : State) → run s [] ≡ Ok t → s ≡ t) →
     ((s : State) (pair : List ℕ × List ℕ) (pairs : List (List ℕ × List ℕ)) →
     run s (pair ∷ pairs) ≡ (step s pair >>= λ u. run u pairs)) →
@@ -140,8 +140,8 @@ unfolding side_pair
 side_puts =
     puts_by put_side (λ s pair. side_pair s pair.0 pair.1) side_pairs same_ok (λ s pair pairs. refl) (pair_did put_side)
 
--- a range at a place, which may be no objective's
-abbrev pub put_ranged : State → Place → ℚ → Check State
+-- a range at a target, which may not be the objective
+abbrev pub put_ranged : State → Target → ℚ → Check State
 put_ranged s place v = ranged_row place >>= λ row. put_range s row v
 
 range_did : (s : State) (pair : List ℕ × List ℕ) (t : State) → range_pair s pair.0 pair.1 ≡ Ok t →
@@ -152,15 +152,29 @@ range_did s pair t h =
     let b = step_ok (ranged_row a.0) _ t a.2 in
     let c = step_ok (number_in pair.1) _ t b.2 in
     let put : put_ranged s a.0 c.0 ≡ Ok t =
-    subst (λ (r : Check (Option ℕ)). (r >>= λ row. put_range s row c.0) ≡ Ok t) (sym b.1) c.2 in
+    subst (λ (r : Check ℕ). (r >>= λ row. put_range s row c.0) ≡ Ok t) (sym b.1) c.2 in
     record { place = a.0; value = c.0; place_is = a.1; number_is = c.1; did = put }
+
+-- a range is forgotten, or a row that had none gets it
+pub data RangeDid (s : State) (i : ℕ) (v : ℚ) (t : State) : Type 0 where
+  Forgotten : (free : is_free (get_or s.rows i no_row).kind ≡ true) → (same : s ≡ t) → RangeDid s i v t
+  Kept : (limited : is_free (get_or s.rows i no_row).kind ≡ false) → (did : new_range s i v ≡ Ok t) → RangeDid s i v t
+
+pub put_range_did : (s : State) (i : ℕ) (v : ℚ) (t : State) → put_range s i v ≡ Ok t → RangeDid s i v t
+unfolding put_range
+put_range_did s i v t h = go (is_free (get_or s.rows i no_row).kind) refl h
+  where
+    go : (b : Bool) → is_free (get_or s.rows i no_row).kind ≡ b → cond b (Ok s) (new_range s i v) ≡ Ok t →
+        RangeDid s i v t
+    go true e k = Forgotten e (same_ok s t k)
+    go false e k = Kept e k
 
 pub range_puts : PutsPairs put_ranged range_pairs
 range_puts =
     puts_by put_ranged (λ s pair. range_pair s pair.0 pair.1) range_pairs same_ok (λ s pair pairs. refl) range_did
 
 -- what the number of a pair does at a place
-abbrev pub put_of : Sets → State → Place → ℚ → Check State
+abbrev pub put_of : Sets → State → Target → ℚ → Check State
 put_of Sides = put_side
 put_of Ranges = put_ranged
 
@@ -273,7 +287,7 @@ pub ranges_did : (style : Style) (s : State) (fields : Fields) (t : State) → r
 ranges_did = card_did Ranges
 
 -- what a card's set and each of its pairs keep, the card keeps
-pub set_keeps : (put : State → Place → ℚ → Check State) (run : State → List (List ℕ × List ℕ) → Check State) →
+pub set_keeps : (put : State → Target → ℚ → Check State) (run : State → List (List ℕ × List ℕ) → Check State) →
     PutsPairs put run → (K : State → Type 0) →
     ((s : State) (set : Option Name) → K s → K (record s { set = Some set })) →
     ((s : State) (pair : List ℕ × List ℕ) (t : State) → PairDid put s pair t → K s → K t) →

@@ -3,43 +3,42 @@ use Rattle.std.proofs.Common.{◌≡◌, ◌≢◌, ℕ, zero, suc, ◌+◌, ◌
 use Rattle.std.proofs.Common.{cond, ltb, Option, Some, None, is_none, Ok, List, [], ◌∷◌, ◌++◌, length}
 use Rattle.std.proofs.Common.{map, All, refl, sym, ap, subst, arith, get_or, length-append}
 use borrow.Author.Tests.{ltb-true}
-use Rattle.std.specs.List.{list_any, position}
+use Rattle.std.specs.List.{position}
 use Rattle.std.specs.Option.{option_to_list}
 use Rattle.std.proofs.lemmas.List.{map-append, length-map}
-use Rattle.std.proofs.lemmas.List.Elements.{All-cons}
+use Rattle.std.proofs.lemmas.Bool.{and_parts}
+use Rattle.std.proofs.lemmas.List.Elements.{All-cons, All-head, All-tail, All-push}
 use Rattle.std.proofs.lemmas.List.Quantifiers.{position-Some}
 use Rattle.spec_text.specs.Words.{same}
 use Rattle.spec_exact.specs.Fraction.{ℚ, abs_ℚ, ◌<ℚ◌}
 use Rattle.spec_exact.specs.Narrow.{IsNarrow}
 use Rattle.spec_exact.proofs.Narrow.{neg_narrow}
-use Rattle.spec_model.specs.Model.{Name, ExactRow, ExactColumn, no_row}
-use Rattle.spec_model.specs.Kept.{IsNarrowRow, is_name, is_row_name}
+use Rattle.spec_model.specs.declared.parts.Kind.{Kind}
+use Rattle.spec_model.specs.Model.{Name, ExactRow, ExactColumn, no_row, is_free}
+use Rattle.spec_model.specs.Kept.{IsNarrowRow, FitsKind, is_name, is_row_name}
 use Rattle.spec_mps.specs.declared.fault.Code.TheVariants as code
 use Rattle.spec_mps.specs.declared.bound_kind.BoundKind.{BoundKind}
-use Rattle.spec_mps.specs.declared.row_type.RowType.{RowType}
-use Rattle.spec_mps.specs.declared.row_type.RowType.TheVariants.{Unlimited, Limited}
 use Rattle.spec_mps.specs.declared.style.Style.{Style}
 use Rattle.spec_mps.specs.declared.target.Target.{Target}
 use Rattle.spec_mps.specs.declared.target.Target.TheVariants.{Objective, Row}
-use Rattle.spec_mps.specs.declared.target.Place.{Place}
-use Rattle.spec_mps.specs.declared.target.Place.TheVariants.{Kept, Dropped}
 use Rattle.spec_mps.specs.BoundText.{infinite}
 use Rattle.spec_mps.specs.Fields.{Fields, text_at}
 use Rattle.spec_mps.specs.Checks.{Check}
 use Rattle.spec_mps.specs.Reader.{State, is_objective, row_at, place_of, is_among, new_row, is_first, with_row}
 use Rattle.spec_mps.specs.Reader.{rows_card, whole_columns, enter, columns_card, pairs_of}
-use Rattle.spec_mps.specs.Sides.{changed_at, put_side, rhs_card, put_range, ranges_card}
+use Rattle.spec_mps.specs.Sides.{changed_at, put_side, rhs_card, new_range, ranges_card}
 use Rattle.spec_mps.specs.Bounds.{BoundCard, BoundTexts, with_bound, bounds_card}
 use Rattle.spec_mps.proofs.BoundLemmas.{bound_is_within, abs_from_within}
 use Rattle.spec_mps.proofs.Steps.{negated, none_if}
 use Rattle.spec_mps.proofs.Names.{same_false, none_pass, nowhere, others}
 use Rattle.spec_mps.proofs.CheckSteps.{must_ok, same_ok, same_some}
 use Rattle.spec_mps.proofs.CardsDid.{rows_did, PairDid, pairs_keep, column_puts, side_puts, put_ranged, range_puts}
+use Rattle.spec_mps.proofs.CardsDid.{RangeDid, Forgotten, Kept, put_range_did}
 use Rattle.spec_mps.proofs.CardsDid.{Opens, Same, New, columns_did, rhs_did, ranges_did, set_keeps}
 use Rattle.spec_mps.proofs.CardsDid.{BoundDid, UsedBound, SkippedBound, bounds_did}
 use Rattle.spec_mps.proofs.BoundsSet.{SetsAll, card_sets}
 use Rattle.spec_mps.proofs.NarrowNumbers.{bound_narrow}
-use Rattle.spec_mps.proofs.NarrowSoFar.{AreNarrow, in_narrow, more_narrow, new_narrow, entered_narrow}
+use Rattle.spec_mps.proofs.NarrowSoFar.{AreNarrow, changed_all, in_narrow, more_narrow, new_narrow, entered_narrow}
 use Rattle.spec_mps.proofs.NarrowSoFar.{offset_narrow, row_narrow, bounds_narrow}
 use Rattle.spec_mps.proofs.SoundRows.{SoundRows, with_objective, push_row}
 use Rattle.spec_mps.proofs.SoundColumns.{SoundColumns, IsInside, more_rows}
@@ -48,102 +47,96 @@ use Rattle.spec_mps.proofs.SoundColumns.{more_paired, closed, with_new, with_pai
 abbrev pub row_names : List ExactRow → List Name
 row_names rows = map (λ r. r.name) rows
 
+-- a free row has no range
+abbrev pub HasFitRange : ExactRow → Type 0
+HasFitRange r = FitsKind r.kind r.range
+
 -- what was read is sound
 pub record IsSound (s : State) : Type 0 where
   pub rows : SoundRows s.name s.objective (row_names s.rows)
+  pub fit : All HasFitRange s.rows
   pub columns : SoundColumns (length (row_names s.rows)) s.columns s.column s.paired
   pub narrow : AreNarrow s.offset s.rows s.columns s.column
 
 -- ---- names of rows
 
-untaken : (t u : Bool) (o : Option ℕ) → cond t (Some (Kept Objective)) (cond u (Some Dropped) (row_at o)) ≡ None →
-    (t ≡ false) × (o ≡ None)
-untaken true u o h = cc
-untaken false true o h = cc
-untaken false false None h = (refl, refl)
-untaken false false (Some i) h = cc
+untaken : (t : Bool) (o : Option ℕ) → cond t (Some Objective) (row_at o) ≡ None → (t ≡ false) × (o ≡ None)
+untaken true o h = cc
+untaken false None h = (refl, refl)
+untaken false (Some i) h = cc
 
 beside_objective : (o : Option Name) (names : List Name) (name : Name) → is_objective o name ≡ false →
     All (λ n. n ≢ name) names → All (λ n. n ≢ name) (option_to_list o ++ names)
 beside_objective None names name f h = h
 beside_objective (Some x) names name f h = All-cons (λ n. n ≢ name) x names (same_false x name f) h
 
--- a name of a dropped row is no row's and not the objective's
+-- a name that stands for nothing is no row's and not the objective's
 free_name : (s : State) (name : Name) → place_of s name ≡ None →
     All (λ n. n ≢ name) (option_to_list s.objective ++ row_names s.rows)
 unfolding place_of
 free_name s name h =
-    let u =
-    untaken (is_objective s.objective name) (list_any (same name) s.dropped)
-    (position (λ r. same r.name name) s.rows) h in
+    let u = untaken (is_objective s.objective name) (position (λ r. same r.name name) s.rows) h in
     beside_objective s.objective (row_names s.rows) name u.0
     (others (λ (r : ExactRow). r.name) name s.rows (nowhere (λ (r : ExactRow). same r.name name) s.rows u.1))
 
-abbrev IsKeptInside : ℕ → Place → Type 0
-IsKeptInside n Dropped = Unit {0}
-IsKeptInside n (Kept t) = IsInside n t
-
 -- a name stands for a row that there is
-place_inside : (s : State) (name : Name) (place : Place) → place_of s name ≡ Some place →
-    IsKeptInside (length (row_names s.rows)) place
+place_inside : (s : State) (name : Name) (place : Target) → place_of s name ≡ Some place →
+    IsInside (length (row_names s.rows)) place
 unfolding place_of
 place_inside s name place h =
-    go (is_objective s.objective name) (list_any (same name) s.dropped)
-    (position (λ r. same r.name name) s.rows) (λ i k. omega (
+    go (is_objective s.objective name) (position (λ r. same r.name name) s.rows) (λ i k. omega (
       arith,
       (position-Some (λ (r : ExactRow). same r.name name) s.rows i no_row k).0,
       length-map s.rows (λ (r : ExactRow). r.name),
     )) h
   where
-    go : (t u : Bool) (o : Option ℕ) → ((i : ℕ) → o ≡ Some i → i < length (row_names s.rows)) →
-        cond t (Some (Kept Objective)) (cond u (Some Dropped) (row_at o)) ≡ Some place →
-        IsKeptInside (length (row_names s.rows)) place
-    go true u o f k = subst (IsKeptInside (length (row_names s.rows))) (same_some (Kept Objective) place k) tt
-    go false true o f k = subst (IsKeptInside (length (row_names s.rows))) (same_some Dropped place k) tt
-    go false false None f k = absurd (cc)
-    go false false (Some i) f k =
-        subst (IsKeptInside (length (row_names s.rows))) (same_some (Kept (Row i)) place k) (f i refl)
+    go : (t : Bool) (o : Option ℕ) → ((i : ℕ) → o ≡ Some i → i < length (row_names s.rows)) →
+        cond t (Some Objective) (row_at o) ≡ Some place → IsInside (length (row_names s.rows)) place
+    go true o f k = subst (IsInside (length (row_names s.rows))) (same_some Objective place k) tt
+    go false None f k = absurd (cc)
+    go false (Some i) f k = subst (IsInside (length (row_names s.rows))) (same_some (Row i) place k) (f i refl)
 
 -- ---- ROWS
 
-with_row_sound : (s : State) (type : RowType) (name : Name) → is_row_name name ≡ true → place_of s name ≡ None →
-    (is_first s type || ltb (length s.rows + length s.dropped) 256) ≡ true → IsSound s → IsSound (with_row s type name)
-with_row_sound s Unlimited name t n few sound = go (is_none s.objective) refl
+with_row_sound : (s : State) (kind : Kind) (name : Name) → is_row_name name ≡ true → place_of s name ≡ None →
+    (is_first s kind || ltb (length s.rows) 256) ≡ true → IsSound s → IsSound (with_row s kind name)
+with_row_sound s kind name t n few sound = go (is_first s kind) refl few
   where
-    go : (b : Bool) → is_none s.objective ≡ b →
-        IsSound (cond b (record s { objective = Some name }) (record s { dropped = s.dropped ++ name ∷ [] }))
-    go true e =
-        let none : s.objective ≡ None = none_if s.objective e in
+    go : (b : Bool) → is_first s kind ≡ b → (b || ltb (length s.rows) 256) ≡ true →
+        IsSound (cond b (record s { objective = Some name }) (record s { rows = s.rows ++ new_row kind name ∷ [] }))
+    go true e k =
+        let none : s.objective ≡ None = none_if s.objective (and_parts (is_none s.objective) (is_free kind) e).0 in
         let f = subst (λ o. All (λ n. n ≢ name) (option_to_list o ++ row_names s.rows)) none (free_name s name n) in
         record {
           rows =
               with_objective s.name (row_names s.rows) name t f
               (subst (λ o. SoundRows s.name o (row_names s.rows)) none sound.rows);
+          fit = sound.fit;
           columns = sound.columns;
           narrow = sound.narrow;
         }
-    go false e = record { rows = sound.rows; columns = sound.columns; narrow = sound.narrow }
-with_row_sound s (Limited kind) name t n few sound =
-    let less : length (row_names s.rows) < 256 =
-    omega (arith, ltb-true _ _ few, length-map s.rows (λ (r : ExactRow). r.name)) in
-    let e : row_names (s.rows ++ new_row kind name ∷ []) ≡ row_names s.rows ++ name ∷ [] =
-    map-append (λ (r : ExactRow). r.name) s.rows (new_row kind name ∷ []) in
-    let longer : length (row_names s.rows) ≤ length (row_names (s.rows ++ new_row kind name ∷ [])) =
-    omega (arith, ap length e, length-append (row_names s.rows) (name ∷ [])) in
-    record {
-      rows =
-          subst (SoundRows s.name s.objective) (sym e)
-          (push_row s.name s.objective (row_names s.rows) name t less (free_name s name n) sound.rows);
-      columns = more_rows _ _ s.columns s.column s.paired longer sound.columns;
-      narrow = more_narrow s.offset s.rows s.columns s.column sound.narrow kind name;
-    }
+    go false e k =
+        let less : length (row_names s.rows) < 256 =
+        omega (arith, ltb-true _ _ k, length-map s.rows (λ (r : ExactRow). r.name)) in
+        let e : row_names (s.rows ++ new_row kind name ∷ []) ≡ row_names s.rows ++ name ∷ [] =
+        map-append (λ (r : ExactRow). r.name) s.rows (new_row kind name ∷ []) in
+        let longer : length (row_names s.rows) ≤ length (row_names (s.rows ++ new_row kind name ∷ [])) =
+        omega (arith, ap length e, length-append (row_names s.rows) (name ∷ [])) in
+        record {
+          rows =
+              subst (SoundRows s.name s.objective) (sym e)
+              (push_row s.name s.objective (row_names s.rows) name t less (free_name s name n) sound.rows);
+          fit = All-push HasFitRange s.rows (new_row kind name) sound.fit tt;
+          columns = more_rows _ _ s.columns s.column s.paired longer sound.columns;
+          narrow = more_narrow s.offset s.rows s.columns s.column sound.narrow kind name;
+        }
 
 pub rows_card_sound : (style : Style) (s : State) (fields : Fields) (t : State) → rows_card style s fields ≡ Ok t →
     IsSound s → IsSound t
 rows_card_sound style s fields t h sound =
     let d = rows_did style s fields t h in
     subst IsSound d.new
-    (with_row_sound s d.type (text_at 2 fields) d.name (none_if (place_of s (text_at 2 fields)) d.free) d.few sound)
+    (with_row_sound s d.kind (text_at 2 fields) d.name (none_if (place_of s (text_at 2 fields)) d.free) d.few sound)
 
 -- ---- COLUMNS
 
@@ -156,35 +149,30 @@ opens_sound s name t named (New other free few new) sound =
     subst IsSound new
     (record {
       rows = sound.rows;
+      fit = sound.fit;
       columns =
           with_new (length (row_names s.rows)) (whole_columns s) name named f (ltb-true _ _ few)
           (closed (length (row_names s.rows)) s.columns s.column s.paired sound.columns);
       narrow = new_narrow s.offset s.rows s.columns s.column sound.narrow name;
     })
 
-pair_narrow : {put : State → Place → ℚ → Check State} {s : State} {pair : List ℕ × List ℕ} {t : State} →
+pair_narrow : {put : State → Target → ℚ → Check State} {s : State} {pair : List ℕ × List ℕ} {t : State} →
     (p : PairDid put s pair t) → IsNarrow p.value
 pair_narrow {pair = pair} p = in_narrow pair.1 p.value p.number_is
 
 entered_sound : (s : State) (pair : List ℕ × List ℕ) (t : State) → PairDid enter s pair t → IsSound s → IsSound t
 unfolding enter
 entered_sound s pair t p sound =
-    by p.place (place_inside s pair.0 p.place p.place_is) p.did
-  where
-    by : (place : Place) → IsKeptInside (length (row_names s.rows)) place → enter s place p.value ≡ Ok t → IsSound t
-    by Dropped i h = subst IsSound (same_ok s t h) sound
-    by (Kept x) i h =
-        let a = must_ok (not (is_among x s.paired)) code.EntryRepeated _ t h in
-        subst IsSound (same_ok _ t a.1)
-        (record {
-          rows = sound.rows;
-          columns =
-              with_pair (length (row_names s.rows)) s.columns s.column s.paired
-              x p.value i (negated _ a.0) sound.columns;
-          narrow =
-              entered_narrow s.offset s.rows s.columns s.column sound.narrow
-              x p.value (pair_narrow p);
-        })
+    let a = must_ok (not (is_among p.place s.paired)) code.EntryRepeated _ t p.did in
+    subst IsSound (same_ok _ t a.1)
+    (record {
+      rows = sound.rows;
+      fit = sound.fit;
+      columns =
+          with_pair (length (row_names s.rows)) s.columns s.column s.paired p.place p.value
+          (place_inside s pair.0 p.place p.place_is) (negated _ a.0) sound.columns;
+      narrow = entered_narrow s.offset s.rows s.columns s.column sound.narrow p.place p.value (pair_narrow p);
+    })
 
 pub columns_card_sound : (style : Style) (s : State) (fields : Fields) (t : State) →
     columns_card style s fields ≡ Ok t → IsSound s → IsSound t
@@ -204,11 +192,13 @@ changed_rows (suc i) change (r ∷ rows) same_name = ap (λ names. r.name ∷ na
 -- a number of a row, which keeps its name
 row_sound : (s : State) (t : Target) (i : ℕ) (change : ExactRow → ExactRow) →
     ((r : ExactRow) → (change r).name ≡ r.name) → ((r : ExactRow) → IsNarrowRow r → IsNarrowRow (change r)) →
-    IsSound s → IsSound (record s { rows = changed_at i change s.rows; paired = t ∷ s.paired })
-row_sound s t i change same_name small sound =
+    All HasFitRange (changed_at i change s.rows) → IsSound s →
+    IsSound (record s { rows = changed_at i change s.rows; paired = t ∷ s.paired })
+row_sound s t i change same_name small fit sound =
     let e = changed_rows i change s.rows same_name in
     record {
       rows = subst (SoundRows s.name s.objective) (sym e) sound.rows;
+      fit = fit;
       columns =
           subst (λ names. SoundColumns (length names) s.columns s.column (t ∷ s.paired)) (sym e)
           (more_paired (length (row_names s.rows)) t s.columns s.column s.paired sound.columns);
@@ -219,37 +209,51 @@ put_side_sound : (s : State) (pair : List ℕ × List ℕ) (t : State) → PairD
 unfolding put_side
 put_side_sound s pair t p sound = by p.place p.did
   where
-    by : (place : Place) → put_side s place p.value ≡ Ok t → IsSound t
-    by Dropped h = subst IsSound (same_ok s t h) sound
-    by (Kept Objective) h =
+    by : (place : Target) → put_side s place p.value ≡ Ok t → IsSound t
+    by Objective h =
         let a = must_ok (not (is_among Objective s.paired)) code.EntryRepeated _ t h in
         subst IsSound (same_ok _ t a.1)
         (record {
           rows = sound.rows;
+          fit = sound.fit;
           columns = more_paired (length (row_names s.rows)) Objective s.columns s.column s.paired sound.columns;
           narrow = offset_narrow s.offset s.rows s.columns s.column sound.narrow _ (neg_narrow p.value (pair_narrow p));
         })
-    by (Kept (Row i)) h =
+    by (Row i) h =
         let a = must_ok (not (is_among (Row i) s.paired)) code.EntryRepeated _ t h in
         subst IsSound (same_ok _ t a.1)
         (row_sound s (Row i) i (λ r. record r { rhs = p.value }) (λ r. refl)
-        (λ r k. record { rhs = pair_narrow p; range = k.range }) sound)
+        (λ r k. record { rhs = pair_narrow p; range = k.range })
+        (changed_all HasFitRange i (λ r. record r { rhs = p.value }) s.rows (λ r k. k) sound.fit) sound)
+
+-- a range of a row that is not free
+ranged_fit : (i : ℕ) (v : ℚ) (rows : List ExactRow) → is_free (get_or rows i no_row).kind ≡ false →
+    All HasFitRange rows → All HasFitRange (changed_at i (λ r. record r { range = Some v }) rows)
+ranged_fit i v [] f h = h
+ranged_fit zero v (r ∷ rows) f h =
+    All-cons HasFitRange (record r { range = Some v }) rows f (All-tail HasFitRange r rows h)
+ranged_fit (suc i) v (r ∷ rows) f h =
+    All-cons HasFitRange r (changed_at i (λ r. record r { range = Some v }) rows) (All-head HasFitRange r rows h)
+    (ranged_fit i v rows f (All-tail HasFitRange r rows h))
 
 put_range_sound : (s : State) (pair : List ℕ × List ℕ) (t : State) → PairDid put_ranged s pair t → IsSound s → IsSound t
-unfolding put_range
+unfolding new_range
 put_range_sound s pair t p sound = by p.place p.did
   where
-    by : (place : Place) → put_ranged s place p.value ≡ Ok t → IsSound t
-    by Dropped h = subst IsSound (same_ok s t h) sound
-    by (Kept Objective) h = absurd (cc)
-    by (Kept (Row i)) h =
-        let a = must_ok (not (is_among (Row i) s.paired)) code.EntryRepeated _ t h in
+    new : (i : ℕ) → RangeDid s i p.value t → IsSound t
+    new i (Forgotten free same) = subst IsSound same sound
+    new i (Kept limited did) =
+        let a = must_ok (not (is_among (Row i) s.paired)) code.EntryRepeated _ t did in
         subst IsSound (same_ok _ t a.1)
         (row_sound s (Row i) i (λ r. record r { range = Some p.value }) (λ r. refl)
-        (λ r k. record { rhs = k.rhs; range = pair_narrow p }) sound)
+        (λ r k. record { rhs = k.rhs; range = pair_narrow p }) (ranged_fit i p.value s.rows limited sound.fit) sound)
+
+    by : (place : Target) → put_ranged s place p.value ≡ Ok t → IsSound t
+    by Objective h = absurd (cc)
+    by (Row i) h = new i (put_range_did s i p.value t h)
 
 with_set : (s : State) (set : Option Name) → IsSound s → IsSound (record s { set = Some set })
-with_set s set sound = record { rows = sound.rows; columns = sound.columns; narrow = sound.narrow }
+with_set s set sound = record { rows = sound.rows; fit = sound.fit; columns = sound.columns; narrow = sound.narrow }
 
 pub rhs_card_sound : (style : Style) (s : State) (fields : Fields) (t : State) → rhs_card style s fields ≡ Ok t →
     IsSound s → IsSound t
@@ -269,6 +273,7 @@ unfolding with_bound
 with_bound_sound s place card small narrow sound =
     record {
       rows = sound.rows;
+      fit = sound.fit;
       columns =
           with_bounds (length (row_names s.rows)) place
           (get_or s.lowered place false) card s.columns s.column s.paired small sound.columns;

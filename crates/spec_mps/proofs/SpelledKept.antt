@@ -23,7 +23,7 @@ use Rattle.spec_mps.specs.Steps.{on_card, on_reading, reading_of, step, Verdict,
 use Rattle.spec_mps.proofs.CheckSteps.{step_ok, must_ok, need_ok, same_ok}
 use Rattle.spec_mps.proofs.SoundRows.{SoundRows, no_rows, with_name}
 use Rattle.spec_mps.proofs.SoundColumns.{no_columns, closed, close_column}
-use Rattle.spec_mps.proofs.SoundCards.{IsSound, row_names, rows_card_sound, columns_card_sound}
+use Rattle.spec_mps.proofs.SoundCards.{IsSound, HasFitRange, row_names, rows_card_sound, columns_card_sound}
 use Rattle.spec_mps.proofs.SoundCards.{rhs_card_sound, ranges_card_sound, bounds_card_sound}
 use Rattle.spec_mps.proofs.NarrowSoFar.{none_narrow, closed_narrow}
 use Rattle.spec_mps.proofs.CardsDid.{sense_did}
@@ -33,7 +33,7 @@ use Rattle.spec_mps.proofs.CardsDid.{sense_did}
 take_sense_sound : (s : State) (text : List ℕ) (t : State) → take_sense s text ≡ Ok t → IsSound s → IsSound t
 take_sense_sound s text t h sound =
     subst IsSound (sense_did s text t h).3
-    (record { rows = sound.rows; columns = sound.columns; narrow = sound.narrow })
+    (record { rows = sound.rows; fit = sound.fit; columns = sound.columns; narrow = sound.narrow })
 
 sense_card_sound : (style : Style) (s : State) (fields : Fields) (t : State) → sense_card style s fields ≡ Ok t →
     IsSound s → IsSound t
@@ -46,6 +46,7 @@ begun_sound : (s : State) (part : Section) → IsSound s → IsSound (begun s pa
 begun_sound s part sound =
     record {
       rows = sound.rows;
+      fit = sound.fit;
       columns = closed (length (row_names s.rows)) s.columns s.column s.paired sound.columns;
       narrow = closed_narrow s.offset s.rows s.columns s.column sound.narrow;
     }
@@ -61,6 +62,7 @@ headed_sound s section.Name word t h sound =
     subst IsSound (same_ok _ t a.1)
     (record {
       rows = with_name s.name s.objective (row_names s.rows) word a.0 sound.rows;
+      fit = sound.fit;
       columns = sound.columns;
       narrow = sound.narrow;
     })
@@ -88,6 +90,7 @@ model_kept s objective e sound =
       name = r.model_name;
       objective = r.objective_name;
       rows = All-unmap (λ n. IsTrue (is_row_name n)) (λ (r : ExactRow). r.name) s.rows r.each_name;
+      ranges = sound.fit;
       columns =
           subst (λ n. All (IsKeptColumn n) (whole_columns s)) size
           (close_column (length (row_names s.rows)) s.paired s.columns s.column c.each c.last);
@@ -163,7 +166,7 @@ step_sound style s line.Over p h sound = absurd (cc)
 -- ---- a whole text
 
 start_sound : IsSound start
-start_sound = record { rows = no_rows; columns = no_columns; narrow = none_narrow }
+start_sound = record { rows = no_rows; fit = All-nil HasFitRange; columns = no_columns; narrow = none_narrow }
 
 same_spelled : (m o : Model) → Spelled m ≡ Spelled o → m ≡ o
 same_spelled m o h = cc

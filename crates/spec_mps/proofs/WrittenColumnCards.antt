@@ -15,7 +15,6 @@ use Rattle.spec_mps.specs.declared.style.Style.TheVariants.{Free, Fixed}
 use Rattle.spec_mps.specs.declared.section.Section.{Section}
 use Rattle.spec_mps.specs.declared.section.Section.TheVariants as section
 use Rattle.spec_mps.specs.declared.target.Target.{Target}
-use Rattle.spec_mps.specs.declared.target.Place.TheVariants.{Kept}
 use Rattle.spec_mps.specs.Fields.{Is}
 use Rattle.spec_mps.specs.Shapes.{shaped, has_shape}
 use Rattle.spec_mps.specs.NumberWritten.{number_text}
@@ -61,8 +60,8 @@ columns_read Free s t u group name text g n o p =
 columns_read Fixed s t u group name text g n o p =
     rw (no_marker name n, has_number_shape Fixed group name text, g, o, p) refl
 
-pair_read : (s u : State) (name : Name) (value : ℚ) (t : Target) → place_of s name ≡ Some (Kept t) → IsNarrow value →
-    enter s (Kept t) value ≡ Ok u → column_pair s name (number_text value) ≡ Ok u
+pair_read : (s u : State) (name : Name) (value : ℚ) (t : Target) → place_of s name ≡ Some t → IsNarrow value →
+    enter s t value ≡ Ok u → column_pair s name (number_text value) ≡ Ok u
 unfolding column_pair
 pair_read s u name value t p n e = rw (p, number_is_in value n, e) refl
 
@@ -77,8 +76,8 @@ pub record IsColumnCard (style : Style) (s : State) (group name : Name) (value :
   pub narrow : IsNarrow value
 
 pub column_card_goes : (style : Style) (s t u : State) (group name : Name) (value : ℚ) (target : Target) →
-    IsColumnCard style s group name value → opened s group ≡ Ok t → place_of t name ≡ Some (Kept target)
-    → enter t (Kept target) value ≡ Ok u → Goes style s (number_card group name value ∷ []) u
+    IsColumnCard style s group name value → opened s group ≡ Ok t → place_of t name ≡ Some target
+    → enter t target value ≡ Ok u → Goes style s (number_card group name value ∷ []) u
 unfolding step
 column_card_goes style s t u group name value target c o p e =
     goes_one style s u (number_card group name value)
@@ -105,6 +104,6 @@ unfolding opened
 opened_open s name h = rw h refl
 
 pub entered : (s : State) (c : ExactColumn) (t : Target) (value : ℚ) → s.column ≡ Some c → is_among t s.paired ≡ false
-    → enter s (Kept t) value ≡ Ok (record s { column = Some (with_number c t value); paired = t ∷ s.paired })
+    → enter s t value ≡ Ok (record s { column = Some (with_number c t value); paired = t ∷ s.paired })
 unfolding enter
 entered s c t value e h = rw (h, e) refl

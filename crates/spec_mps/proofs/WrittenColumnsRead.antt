@@ -46,7 +46,7 @@ rows_at : (m : Model) (s : State) (columns : List ExactColumn)
     (column : Option ExactColumn) (lowered : List Bool) (paired : List Target) →
     HasRowsOf m s → HasRowsOf m (at s columns column lowered paired)
 rows_at m s columns column lowered paired h =
-    record { objective = h.objective; none_dropped = h.none_dropped; rows = h.rows }
+    record { objective = h.objective; rows = h.rows }
 
 -- ---- the entries of a column
 
@@ -242,7 +242,7 @@ columns_are_read style m kept fits s none =
     let rhs : WrittenCards = section_card (codes "RHS") ∷ [] in
     let empty : columns_with s.columns s.column ≡ [] = rw (none.none_open, none.no_column) refl in
     let rows : HasRowsOf m one =
-    record { objective = none.objective; none_dropped = none.none_dropped; rows = none.rows } in
+    record { objective = none.objective; rows = none.rows } in
     let within : IsWithin m one = record { part = refl; rows = rows; begun = refl; no_sides = none.no_sides } in
     let F : List ExactColumn → Type 0 = λ cs. AreFresh (names_of_columns cs) (names_of_columns m.columns) in
     let short : length (columns_with s.columns s.column) ≡ 0 = ap length empty in

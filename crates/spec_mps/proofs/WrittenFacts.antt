@@ -12,29 +12,27 @@ use Rattle.spec_mps.proofs.WrittenSteps.{bare_row, bare_column}
 abbrev pub rangeless : ExactRow → ExactRow
 rangeless r = record r { range = None }
 
--- what no later section changes: the name, the sense, the objective, the dropped rows, that COLUMNS has begun, and the
--- column that cards are read of
-pub record IsStart (n : Name) (sense_read : Option Sense) (o : Option Name) (dropped : List Name)
+-- what no later section changes: the name, the sense, the objective, that COLUMNS has begun, and the column that
+-- cards are read of
+pub record IsStart (n : Name) (sense_read : Option Sense) (o : Option Name)
     (begun : Bool) (column : Option ExactColumn) (m : Model) : Type 0 where
   pub name : n ≡ m.name
   pub sense : sense_or_min sense_read ≡ m.sense
   pub objective : o ≡ Some m.objective
-  pub none_dropped : dropped ≡ []
   pub may_follow : begun ≡ true
   pub none_open : column ≡ None
 
 abbrev pub HasStart : State → Model → Type 0
-HasStart s m = IsStart s.name s.sense s.objective s.dropped s.seen.columns s.column m
+HasStart s m = IsStart s.name s.sense s.objective s.seen.columns s.column m
 
 -- as a section begins
 pub start_closed : (s : State) (m : Model) → HasStart s m →
-    IsStart s.name s.sense s.objective s.dropped s.seen.columns None m
+    IsStart s.name s.sense s.objective s.seen.columns None m
 start_closed s m k =
     record {
       name = k.name;
       sense = k.sense;
       objective = k.objective;
-      none_dropped = k.none_dropped;
       may_follow = k.may_follow;
       none_open = refl;
     }

@@ -12,7 +12,6 @@ use Rattle.spec_exact.specs.Narrow.{IsNarrow}
 use Rattle.spec_model.specs.Model.{Model, Name, ExactRow, no_row, row}
 use Rattle.spec_model.specs.Kept.{IsModel}
 use Rattle.spec_mps.specs.declared.target.Target.TheVariants.{Objective, Row}
-use Rattle.spec_mps.specs.declared.target.Place.TheVariants.{Kept}
 use Rattle.spec_mps.specs.Checks.{coded}
 use Rattle.spec_mps.specs.NumberText.{answer}
 use Rattle.spec_mps.specs.NumberWritten.{number_text}
@@ -67,24 +66,22 @@ position_of rows i h l = rw (passed rows i h l, length-map rows bare_row, lt-ltb
 
 -- ---- what names stand for
 
--- the objective and the rows of a model are read, and no row is dropped
+-- the objective and the rows of a model are read
 pub record HasRowsOf (m : Model) (s : State) : Type 0 where
   pub objective : s.objective ≡ Some m.objective
-  pub none_dropped : s.dropped ≡ []
   pub rows : s.rows ≡ map bare_row m.rows
 
-pub objective_place : (m : Model) (s : State) → HasRowsOf m s → place_of s m.objective ≡ Some (Kept Objective)
+pub objective_place : (m : Model) (s : State) → HasRowsOf m s → place_of s m.objective ≡ Some Objective
 unfolding place_of
 objective_place m s h = rw (h.objective, same_itself m.objective) refl
 
 pub row_place : (m : Model) (s : State) (i : ℕ) → IsModel m → HasRowsOf m s → i < length m.rows →
-    place_of s (row m i).name ≡ Some (Kept (Row i))
+    place_of s (row m i).name ≡ Some (Row i)
 unfolding place_of
 row_place m s i kept h l =
     rw (
       h.objective,
       not_same m.objective (row m i).name (names_differ m.rows m.objective i kept.rows_distinct l),
-      h.none_dropped,
       h.rows,
       position_of m.rows i (tail_pairs m.objective (names_of m.rows) kept.rows_distinct) l,
     ) refl

@@ -5,8 +5,8 @@ use Rattle.std.specs.Prelude.{codes, IfSome, is_some}
 use Rattle.std.specs.List.{flat_map, list_any}
 use Rattle.spec_exact.specs.Fraction.{ℚ}
 use Rattle.spec_exact.specs.Narrow.{IsNarrow}
-use Rattle.spec_model.specs.Model.{Name, Model, ExactRow}
-use Rattle.spec_model.specs.Kept.{IsModel, IsNarrowRow}
+use Rattle.spec_model.specs.Model.{Name, Model, ExactRow, is_free}
+use Rattle.spec_model.specs.Kept.{IsModel, IsNarrowRow, FitsKind}
 use Rattle.spec_mps.specs.declared.style.Style.{Style}
 use Rattle.spec_mps.specs.declared.section.Section.TheVariants as section
 use Rattle.spec_mps.specs.declared.target.Target.{Target}
@@ -35,9 +35,9 @@ use Rattle.spec_mps.proofs.WrittenSets.{number_goes}
 abbrev ranges_of : List ExactRow → WrittenCards
 ranges_of rows = flat_map (λ r. range_cards r.name r.range) rows
 
--- a row that has a range has room for its card
+-- a row that has a range is not free, and has room for its card
 abbrev NeedsRange : Style → ExactRow → Type 0
-NeedsRange style r = (v : ℚ) → r.range ≡ Some v → IsNumberCard style r.name v
+NeedsRange style r = (v : ℚ) → r.range ≡ Some v → IsNumberCard style r.name v × (is_free r.kind ≡ false)
 
 as_they_are : (rows : List ExactRow) → map (λ r. r) rows ≡ rows
 as_they_are [] = refl
@@ -45,10 +45,10 @@ as_they_are (r ∷ rows) = ap (λ l. r ∷ l) (as_they_are rows)
 
 ranges_go : (style : Style) (s : State) (objective : Name) (rows : List ExactRow)
     (paired : List Target) (set : Option (Option Name)) → s.part ≡ Some section.Ranges →
-    s.objective ≡ Some objective → s.dropped ≡ [] → AllNeed (NeedsRange style) rows
+    s.objective ≡ Some objective → AllNeed (NeedsRange style) rows
     → AreFresh (objective ∷ []) (names_of rows) → IsUnpaired 0 paired → is_used set (Some (codes "RNG")) ≡ true
     → RowsGo style s (map rangeless rows) (ranges_of rows) rows paired set
-ranges_go style s objective rows paired set e o d known fresh unpaired used =
+ranges_go style s objective rows paired set e o known fresh unpaired used =
     subst (λ l. RowsGo style s (map rangeless rows) (ranges_of rows) l paired set) (as_they_are rows)
     (rows_go style s objective (codes "RNG") rangeless (λ r. r) (λ r. range_cards r.name r.range) (NeedsRange style)
     (λ r. refl) (λ done r more p q k f u v. row_goes done r more p q k f u v r.range refl)
@@ -80,19 +80,21 @@ ranges_go style s objective rows paired set e o d known fresh unpaired used =
                 paired = Row (length done) ∷ paired;
                 set = Some (Some (codes "RNG"));
               })) same
-              (number_goes Ranges style s objective done (rangeless r) v more paired set e o d
-              (known v z) fresh unpaired used),
+              (number_goes Ranges style s objective done (rangeless r) v more paired set (known v z).1 e o
+              (known v z).0 fresh unpaired used),
           unpaired_next (length done) paired unpaired,
           refl,
         )
 
 -- ---- the section, which is there where a row has a range
 
-range_known : (style : Style) (r : ExactRow) → IsWord r.name → IsNarrowRow r →
+range_known : (style : Style) (r : ExactRow) → IsWord r.name → FitsKind r.kind r.range → IsNarrowRow r →
     RoomFor style (range_cards r.name r.range) → NeedsRange style r
-range_known style r word h room v z =
-    number_card_of style (codes "RNG") r.name v word (subst (λ x. IfSome x IsNarrow) z h.range)
-    (subst (λ x. RoomFor style (range_cards r.name x)) z room)
+range_known style r word fit h room v z = (
+  number_card_of style (codes "RNG") r.name v word (subst (λ x. IfSome x IsNarrow) z h.range)
+      (subst (λ x. RoomFor style (range_cards r.name x)) z room),
+  subst (FitsKind r.kind) z fit,
+)
 
 none_ranged : (rows : List ExactRow) → list_any has_range rows ≡ false → map rangeless rows ≡ rows
 none_ranged [] h = refl
@@ -119,9 +121,9 @@ ranges_are_read style m kept room s h =
     ranged : RoomFor style (ranges_of m.rows) →
         RowsGo style one (map rangeless m.rows) (ranges_of m.rows) m.rows [] None
     ranged r =
-        ranges_go style one m.objective m.rows [] None refl h.known.objective h.known.none_dropped
+        ranges_go style one m.objective m.rows [] None refl h.known.objective
         (rows_known style (λ r. range_cards r.name r.range) (NeedsRange style)
-        (range_known style) m.rows kept.rows kept.narrow_rows r)
+        (range_known style) m.rows kept.rows kept.ranges kept.narrow_rows r)
         (fresh_names m.objective (names_of m.rows) kept.rows_distinct) (λ i k. refl) refl
 
     some : RoomFor style (ranges_of m.rows) → (t : State) × Goes style one (ranges_of m.rows) t × HasNoBounds t m

@@ -7,11 +7,10 @@ use Rattle.std.proofs.lemmas.List.{map-append}
 use borrow.Author.Tests.{ne_eqb}
 use Rattle.spec_text.specs.Words.{same}
 use Rattle.spec_model.specs.Model.{Name, ExactRow}
-use Rattle.spec_model.specs.Kept.{IsNarrowRow, is_row_name}
+use Rattle.spec_model.specs.Kept.{IsNarrowRow, FitsKind, is_row_name}
 use Rattle.spec_mps.specs.declared.style.Style.{Style}
 use Rattle.spec_mps.specs.declared.target.Target.{Target}
 use Rattle.spec_mps.specs.declared.target.Target.TheVariants.{Row}
-use Rattle.spec_mps.specs.declared.target.Place.TheVariants.{Kept}
 use Rattle.spec_mps.specs.NumberWritten.{IsWord}
 use Rattle.spec_mps.specs.Reader.{State, place_of, is_among}
 use Rattle.spec_mps.specs.Sides.{is_used}
@@ -36,13 +35,13 @@ pub unpaired_later : (n : ℕ) (paired : List Target) → IsUnpaired n paired �
 unpaired_later n paired h i k = h i (omega arith)
 
 pub place_of_row : (s : State) (objective : Name) (done : List ExactRow) (r : ExactRow) (more : List ExactRow) →
-    s.objective ≡ Some objective → s.dropped ≡ [] →
+    s.objective ≡ Some objective →
     s.rows ≡ done ++ r ∷ more → IsAbsent r.name (objective ∷ names_of done)
-    → place_of s r.name ≡ Some (Kept (Row (length done)))
+    → place_of s r.name ≡ Some (Row (length done))
 unfolding place_of
-place_of_row s objective done r more o d e h =
+place_of_row s objective done r more o e h =
     let p = or_parts (same objective r.name) (list_any (λ n. same n r.name) (names_of done)) h in
-    rw (o, p.0, d, e, place_behind (λ q. q.name) r.name done r more p.1 refl) refl
+    rw (o, p.0, e, place_behind (λ q. q.name) r.name done r more p.1 refl) refl
 
 -- ---- all rows
 
@@ -111,13 +110,13 @@ module _ (style : Style) (s : State) (objective group : Name) (before after : Ex
 
 -- what rows of a model need, where their cards have room
 pub rows_known : (style : Style) (cards : ExactRow → WrittenCards) (Need : ExactRow → Type 0) →
-    ((r : ExactRow) → IsWord r.name → IsNarrowRow r → RoomFor style (cards r) → Need r) → (rows : List ExactRow) →
-    All (λ r. IsTrue (is_row_name r.name)) rows → All IsNarrowRow rows → RoomFor style (flat_map cards rows) →
-    AllNeed Need rows
-rows_known style cards Need f [] names narrow room = tt
-rows_known style cards Need f (r ∷ rows) names narrow room = (
-  f r (row_name_word r.name (names 0 r (omega arith))) (narrow 0 r (omega arith))
+    ((r : ExactRow) → IsWord r.name → FitsKind r.kind r.range → IsNarrowRow r → RoomFor style (cards r) → Need r) →
+    (rows : List ExactRow) → All (λ r. IsTrue (is_row_name r.name)) rows → All (λ r. FitsKind r.kind r.range) rows →
+    All IsNarrowRow rows → RoomFor style (flat_map cards rows) → AllNeed Need rows
+rows_known style cards Need f [] names fit narrow room = tt
+rows_known style cards Need f (r ∷ rows) names fit narrow room = (
+  f r (row_name_word r.name (names 0 r (omega arith))) (fit 0 r (omega arith)) (narrow 0 r (omega arith))
       (room_front style (cards r) (flat_map cards rows) room),
-  rows_known style cards Need f rows (λ i d a. names (suc i) d (omega arith)) (λ i d a. narrow (suc i) d (omega arith))
-      (room_back style (cards r) (flat_map cards rows) room),
+  rows_known style cards Need f rows (λ i d a. names (suc i) d (omega arith)) (λ i d a. fit (suc i) d (omega arith))
+      (λ i d a. narrow (suc i) d (omega arith)) (room_back style (cards r) (flat_map cards rows) room),
 )

@@ -7,7 +7,7 @@ use borrow.Author.Tests.{lt-ltb, le-ltb}
 use Rattle.spec_text.specs.declared.line.Line.TheVariants.{Text}
 use Rattle.spec_text.specs.Words.{same}
 use Rattle.spec_model.specs.declared.parts.Kind.{Kind}
-use Rattle.spec_model.specs.declared.parts.Kind.TheVariants.{L, G, E}
+use Rattle.spec_model.specs.declared.parts.Kind.TheVariants.{L, G, E, N}
 use Rattle.spec_model.specs.Model.{Name, ExactRow}
 use Rattle.spec_model.specs.Kept.{is_row_name}
 use Rattle.spec_mps.specs.declared.card.Card.TheVariants.{Given}
@@ -15,8 +15,6 @@ use Rattle.spec_mps.specs.declared.style.Style.{Style}
 use Rattle.spec_mps.specs.declared.style.Style.TheVariants.{Free, Fixed}
 use Rattle.spec_mps.specs.declared.section.Section.{Section}
 use Rattle.spec_mps.specs.declared.section.Section.TheVariants as section
-use Rattle.spec_mps.specs.declared.row_type.RowType.{RowType}
-use Rattle.spec_mps.specs.declared.row_type.RowType.TheVariants.{Unlimited, Limited}
 use Rattle.spec_mps.specs.Fields.{Fields, Is}
 use Rattle.spec_mps.specs.Shapes.{row_type_of, shaped, has_shape}
 use Rattle.spec_mps.specs.Reader.{State, place_of, new_row, add_row, rows_card}
@@ -63,12 +61,12 @@ unfolding shaped has_shape
 has_type_shape Free type name = refl
 has_type_shape Fixed type name = refl
 
-type_read : (style : Style) (s t : State) (type : List ℕ) (name : Name) (kind : RowType) →
+type_read : (style : Style) (s t : State) (type : List ℕ) (name : Name) (kind : Kind) →
     row_type_of type ≡ Some kind → add_row s kind name ≡ Ok t → rows_card style s (type_fields type name) ≡ Ok t
 unfolding rows_card
 type_read style s t type name kind known added = rw (has_type_shape style type name, known, added) refl
 
-pub type_step : (style : Style) (s t : State) (type : List ℕ) (name : Name) (kind : RowType) →
+pub type_step : (style : Style) (s t : State) (type : List ℕ) (name : Name) (kind : Kind) →
     s.part ≡ Some section.Rows → IsItem style 2 type → IsItem style 8 name → row_type_of type ≡ Some kind
     → add_row s kind name ≡ Ok t → step style s (Text (line_text style (type_card type name))) ≡ Ok (More t)
 unfolding step
@@ -81,34 +79,37 @@ kind_item : (style : Style) (kind : Kind) → IsItem style 2 (kind_word kind)
 kind_item Free L = record { word = record { some = refl; printable = refl }; room = tt }
 kind_item Free G = record { word = record { some = refl; printable = refl }; room = tt }
 kind_item Free E = record { word = record { some = refl; printable = refl }; room = tt }
+kind_item Free N = record { word = record { some = refl; printable = refl }; room = tt }
 kind_item Fixed L = record { word = record { some = refl; printable = refl }; room = omega arith }
 kind_item Fixed G = record { word = record { some = refl; printable = refl }; room = omega arith }
 kind_item Fixed E = record { word = record { some = refl; printable = refl }; room = omega arith }
+kind_item Fixed N = record { word = record { some = refl; printable = refl }; room = omega arith }
 
-kind_known : (kind : Kind) → row_type_of (kind_word kind) ≡ Some (Limited kind)
+kind_known : (kind : Kind) → row_type_of (kind_word kind) ≡ Some kind
 unfolding row_type_of
 kind_known L = refl
 kind_known G = refl
 kind_known E = refl
+kind_known N = refl
 
-row_added : (s : State) (kind : Kind) (name : Name) → is_row_name name ≡ true →
-    place_of s name ≡ None → length s.rows + length s.dropped < 256
-    → add_row s (Limited kind) name ≡ Ok (record s { rows = s.rows ++ new_row kind name ∷ [] })
+row_added : (s : State) (objective : Name) (kind : Kind) (name : Name) → s.objective ≡ Some objective →
+    is_row_name name ≡ true → place_of s name ≡ None → length s.rows < 256 →
+    add_row s kind name ≡ Ok (record s { rows = s.rows ++ new_row kind name ∷ [] })
 unfolding add_row
-row_added s kind name h k few = rw (h, k, lt-ltb (length s.rows + length s.dropped) 256 few) refl
+row_added s objective kind name o h k few = rw (h, k, o, lt-ltb (length s.rows) 256 few) refl
 
-pub row_goes : (style : Style) (s : State) (r : ExactRow) → s.part ≡ Some section.Rows → IsItem style 8 r.name →
-    is_row_name r.name ≡ true → place_of s r.name ≡ None → length s.rows + length s.dropped < 256
-    → Goes style s (row_card r ∷ []) (record s { rows = s.rows ++ bare_row r ∷ [] })
-row_goes style s r e item name free few =
+pub row_goes : (style : Style) (s : State) (objective : Name) (r : ExactRow) → s.part ≡ Some section.Rows →
+    s.objective ≡ Some objective → IsItem style 8 r.name → is_row_name r.name ≡ true → place_of s r.name ≡ None →
+    length s.rows < 256 → Goes style s (row_card r ∷ []) (record s { rows = s.rows ++ bare_row r ∷ [] })
+row_goes style s objective r e o item name free few =
     goes_one style s (record s { rows = s.rows ++ bare_row r ∷ [] }) (row_card r)
-    (type_step style s (record s { rows = s.rows ++ bare_row r ∷ [] }) (kind_word r.kind) r.name
-    (Limited r.kind) e (kind_item style r.kind) item (kind_known r.kind) (row_added s r.kind r.name name free few))
+    (type_step style s (record s { rows = s.rows ++ bare_row r ∷ [] }) (kind_word r.kind) r.name r.kind e
+    (kind_item style r.kind) item (kind_known r.kind) (row_added s objective r.kind r.name o name free few))
 
 -- ---- the objective
 
 pub objective_added : (s : State) (name : Name) → s.objective ≡ None → is_row_name name ≡ true →
-    place_of s name ≡ None → add_row s Unlimited name ≡ Ok (record s { objective = Some name })
+    place_of s name ≡ None → add_row s N name ≡ Ok (record s { objective = Some name })
 unfolding add_row
 objective_added s name none h k = rw (h, k, none) refl
 
@@ -141,12 +142,12 @@ position_absent : (rows : List ExactRow) (name : Name) → IsAbsent name (names_
     position (λ r. same r.name name) rows ≡ None
 position_absent rows name h = rw (all_past rows name h, le-ltb (length rows) (length rows) (omega arith)) refl
 
-place_absent : (s : State) (objective name : Name) → s.objective ≡ Some objective → s.dropped ≡ [] →
+place_absent : (s : State) (objective name : Name) → s.objective ≡ Some objective →
     IsAbsent name (objective ∷ names_of s.rows) → place_of s name ≡ None
 unfolding place_of
-place_absent s objective name e d h =
+place_absent s objective name e h =
     let p = or_parts (same objective name) (list_any (λ n. same n name) (names_of s.rows)) h in
-    rw (e, p.0, d, position_absent s.rows name p.1) refl
+    rw (e, p.0, position_absent s.rows name p.1) refl
 
 -- what each row needs
 abbrev pub AreRows : Style → List ExactRow → Type 0
@@ -158,21 +159,20 @@ names_next : (objective : Name) (rows : List ExactRow) (r : ExactRow) →
 names_next objective rows r = ap (λ l. objective ∷ l) (sym (map-append (λ q. q.name) rows (bare_row r ∷ [])))
 
 pub rows_go : (style : Style) (s : State) (objective : Name) (rows : List ExactRow) →
-    s.part ≡ Some section.Rows → s.objective ≡ Some objective → s.dropped ≡ [] → AreRows style rows
+    s.part ≡ Some section.Rows → s.objective ≡ Some objective → AreRows style rows
     → AreFresh (objective ∷ names_of s.rows) (names_of rows) → length s.rows + length rows ≤ 256 →
     Goes style s (map row_card rows) (record s { rows = s.rows ++ map bare_row rows })
-rows_go style s objective [] e o d known fresh few =
+rows_go style s objective [] e o known fresh few =
     let P : List ExactRow → Type 0 = λ rs. Goes style s [] (record s { rows = rs }) in
     subst P (sym (append-nil s.rows)) (goes_none style s)
-rows_go style s objective (r ∷ rows) e o d known fresh few =
+rows_go style s objective (r ∷ rows) e o known fresh few =
     let t : State = record s { rows = s.rows ++ bare_row r ∷ [] } in
-    let none : length s.dropped ≡ 0 = ap length d in
     let long : length t.rows ≡ length s.rows + 1 = length-append s.rows (bare_row r ∷ []) in
     let F : List Name → Type 0 = λ seen. AreFresh seen (names_of rows) in
     let P : List ExactRow → Type 0 = λ rs. Goes style t (map row_card rows) (record s { rows = rs }) in
     let one : Goes style s (row_card r ∷ []) t =
-    row_goes style s r e known.0 known.1 (place_absent s objective r.name o d fresh.0) (omega arith) in
+    row_goes style s objective r e o known.0 known.1 (place_absent s objective r.name o fresh.0) (omega arith) in
     let rest : Goes style t (map row_card rows) (record s { rows = t.rows ++ map bare_row rows }) =
-    rows_go style t objective rows e o d known.2 (subst F (names_next objective s.rows r) fresh.1) (omega arith) in
+    rows_go style t objective rows e o known.2 (subst F (names_next objective s.rows r) fresh.1) (omega arith) in
     goes_then style s t (record s { rows = s.rows ++ map bare_row (r ∷ rows) }) (row_card r)
     (map row_card rows) one (subst P (append_assoc s.rows (bare_row r ∷ []) (map bare_row rows)) rest)

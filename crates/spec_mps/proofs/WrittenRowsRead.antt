@@ -5,10 +5,10 @@ use Rattle.std.specs.List.{flat_map}
 use borrow.Author.Tests.{ltb-false}
 use Rattle.spec_model.specs.Model.{Name, Model, ExactRow}
 use Rattle.spec_model.specs.Kept.{IsModel, is_row_name}
+use Rattle.spec_model.specs.declared.parts.Kind.TheVariants.{N}
 use Rattle.spec_mps.specs.declared.style.Style.{Style}
 use Rattle.spec_mps.specs.declared.style.Style.TheVariants.{Free, Fixed}
 use Rattle.spec_mps.specs.declared.section.Section.TheVariants as section
-use Rattle.spec_mps.specs.declared.row_type.RowType.TheVariants.{Unlimited}
 use Rattle.spec_mps.specs.Shapes.{row_type_of}
 use Rattle.spec_mps.specs.Reader.{State, place_of}
 use Rattle.spec_mps.specs.Steps.{begun}
@@ -38,13 +38,13 @@ type_item : (style : Style) → IsItem style 2 (codes "N")
 type_item Free = record { word = record { some = refl; printable = refl }; room = tt }
 type_item Fixed = record { word = record { some = refl; printable = refl }; room = omega arith }
 
-type_known : row_type_of (codes "N") ≡ Some Unlimited
+type_known : row_type_of (codes "N") ≡ Some N
 unfolding row_type_of
 type_known = refl
 
 nowhere : (s : State) (name : Name) → HasNoRows s → place_of (begun s section.Rows) name ≡ None
 unfolding place_of
-nowhere s name h = rw (h.no_objective, h.none_dropped, h.no_row) refl
+nowhere s name h = rw (h.no_objective, h.no_row) refl
 
 pub rows_are_read : (style : Style) (m : Model) → IsModel m → Fits style m → RowsAreRead style m
 unfolding rows_cards
@@ -56,7 +56,7 @@ rows_are_read style m kept fits s none =
     goes_one style s one (section_card (codes "ROWS")) (rows_step style s none.no_section) in
     let objective : Goes style one (type_card (codes "N") m.objective ∷ []) two =
     goes_one style one two (type_card (codes "N") m.objective)
-    (type_step style one two (codes "N") m.objective Unlimited refl (type_item style) room.0 type_known
+    (type_step style one two (codes "N") m.objective N refl (type_item style) room.0 type_known
     (objective_added one m.objective none.no_objective kept.objective (nowhere s m.objective none))) in
     let F : List ExactRow → Type 0 = λ rows. AreFresh (m.objective ∷ names_of rows) (names_of m.rows) in
     let P : List ExactRow → Type 0 =
@@ -65,7 +65,7 @@ rows_are_read style m kept fits s none =
     let few : length m.rows ≤ 256 = kept.few_rows in
     let rows : Goes style two (map row_card m.rows) (with_rows_of s m) =
     subst P none.no_row
-    (rows_go style two m.objective m.rows refl refl none.none_dropped (rows_known style m.rows kept.rows room.1)
+    (rows_go style two m.objective m.rows refl refl (rows_known style m.rows kept.rows room.1)
     (subst F (sym none.no_row) (fresh_names m.objective (names_of m.rows) kept.rows_distinct)) (omega arith)) in
     goes_then style s one (with_rows_of s m) (section_card (codes "ROWS"))
     (type_card (codes "N") m.objective ∷ map row_card m.rows) heading

@@ -1,18 +1,19 @@
 -- A card of RHS or of RANGES of a written text is read as a number of its row.
-use Rattle.std.proofs.Common.{◌≡◌, ℕ, true, false, Option, Some, Ok, List, [], ◌∷◌, ◌++◌, length, refl, ap, ◌∙◌, arith}
+use Rattle.std.proofs.Common.{◌≡◌, ℕ, true, false, Option, Some, Ok, List, [], ◌∷◌, ◌++◌, length, get_or, refl, sym, ap, ◌∙◌}
+use Rattle.std.proofs.Common.{subst, arith}
 use Rattle.std.specs.Prelude.{codes}
 use Rattle.spec_exact.specs.Fraction.{ℚ}
-use Rattle.spec_model.specs.Model.{Name, ExactRow}
+use Rattle.spec_model.specs.declared.parts.Kind.{Kind}
+use Rattle.spec_model.specs.Model.{Name, ExactRow, no_row, is_free}
 use Rattle.spec_mps.specs.declared.style.Style.{Style}
 use Rattle.spec_mps.specs.declared.style.Style.TheVariants.{Free, Fixed}
 use Rattle.spec_mps.specs.declared.target.Target.{Target}
 use Rattle.spec_mps.specs.declared.target.Target.TheVariants.{Row}
-use Rattle.spec_mps.specs.declared.target.Place.TheVariants.{Kept}
 use Rattle.spec_mps.specs.NumberWritten.{IsWord, number_text}
 use Rattle.spec_mps.specs.Shapes.{shaped, has_shape}
 use Rattle.spec_mps.specs.Reader.{State, place_of, number_in, is_among}
 use Rattle.spec_mps.specs.Sides.{is_used, changed_at, set_and_pairs, put_side, side_pair, rhs_by, rhs_card}
-use Rattle.spec_mps.specs.Sides.{put_range, range_pair, ranges_by, ranges_card}
+use Rattle.spec_mps.specs.Sides.{put_range, new_range, range_pair, ranges_by, ranges_card}
 use Rattle.spec_mps.specs.Steps.{more, data_card}
 use Rattle.spec_mps.specs.Written.{number_card, line_text}
 use Rattle.spec_mps.proofs.Sets.{Sets, Sides, Ranges, part_of, pair_of}
@@ -20,7 +21,7 @@ use Rattle.spec_mps.proofs.WrittenCards.{IsItem, read_as}
 use Rattle.spec_mps.proofs.WrittenSteps.{Goes}
 use Rattle.spec_mps.proofs.WrittenBack.{cards_are_read_back}
 use Rattle.spec_mps.proofs.WrittenRows.{IsAbsent, names_of, goes_one}
-use Rattle.spec_mps.proofs.WrittenBehind.{changed_behind}
+use Rattle.spec_mps.proofs.WrittenBehind.{changed_behind, there_behind}
 use Rattle.spec_mps.proofs.WrittenParts.{number_fields, has_numbers, given_step, IsNumberCard}
 use Rattle.spec_mps.proofs.WrittenRowNumbers.{IsUnpaired, place_of_row}
 
@@ -33,6 +34,11 @@ group_of Ranges = codes "RNG"
 abbrev pub with_value : Sets → ℚ → ExactRow → ExactRow
 with_value Sides v r = record r { rhs = v }
 with_value Ranges v r = record r { range = Some v }
+
+-- the kinds of rows that take such a number
+abbrev pub Takes : Sets → Kind → Type 0
+Takes Sides kind = Unit {0}
+Takes Ranges kind = is_free kind ≡ false
 
 -- ---- one card
 
@@ -81,17 +87,20 @@ card_goes sets style s t name v e card used put =
 -- ---- the card of a row
 
 row_put : (sets : Sets) (s : State) (name : Name) (text : List ℕ) (n : ℕ) (v : ℚ) →
-    place_of s name ≡ Some (Kept (Row n)) → number_in text ≡ Ok v → is_among (Row n) s.paired ≡ false →
+    Takes sets (get_or s.rows n no_row).kind →
+    place_of s name ≡ Some (Row n) → number_in text ≡ Ok v → is_among (Row n) s.paired ≡ false →
     pair_of sets s name text
     ≡ Ok (record s { rows = changed_at n (with_value sets v) s.rows; paired = Row n ∷ s.paired })
-unfolding side_pair put_side range_pair put_range
-row_put Sides s name text n v there reads new = rw (there, reads, new) refl
-row_put Ranges s name text n v there reads new = rw (there, reads, new) refl
+unfolding side_pair put_side range_pair put_range new_range
+row_put Sides s name text n v takes there reads new = rw (there, reads, new) refl
+row_put Ranges s name text n v takes there reads new =
+    let limited : is_free (get_or s.rows n no_row).kind ≡ false = takes in
+    rw (there, reads, limited, new) refl
 
 -- the row behind those that are done gets its number where it is
 pub number_goes : (sets : Sets) (style : Style) (s : State) (objective : Name) (done : List ExactRow) (r : ExactRow)
     (v : ℚ) (more : List ExactRow) (paired : List Target) (set : Option (Option Name)) →
-    s.part ≡ Some (part_of sets) → s.objective ≡ Some objective → s.dropped ≡ [] →
+    Takes sets r.kind → s.part ≡ Some (part_of sets) → s.objective ≡ Some objective →
     IsNumberCard style r.name v → IsAbsent r.name (objective ∷ names_of done) →
     IsUnpaired (length done) paired → is_used set (Some (group_of sets)) ≡ true →
     Goes style (record s { rows = done ++ r ∷ more; paired = paired; set = set })
@@ -101,13 +110,14 @@ pub number_goes : (sets : Sets) (style : Style) (s : State) (objective : Name) (
       paired = Row (length done) ∷ paired;
       set = Some (Some (group_of sets));
     })
-number_goes sets style s objective done r v more paired set e o d card absent unpaired used =
+number_goes sets style s objective done r v more paired set takes e o card absent unpaired used =
     let before : State = record s { rows = done ++ r ∷ more; paired = paired; set = set } in
     let here : State = record before { set = Some (Some (group_of sets)) } in
     let with_rows : List ExactRow → State =
     λ rows. record here { rows = rows; paired = Row (length done) ∷ paired } in
-    let there = place_of_row here objective done r more o d refl absent in
+    let there = place_of_row here objective done r more o refl absent in
     let put =
-    row_put sets here r.name (number_text v) (length done) v there card.reads (unpaired (length done) (omega arith)) in
+    row_put sets here r.name (number_text v) (length done) v
+    (subst (λ (q : ExactRow). Takes sets q.kind) (sym (there_behind done r more no_row)) takes) there card.reads (unpaired (length done) (omega arith)) in
     card_goes sets style before (with_rows (done ++ with_value sets v r ∷ more)) r.name v e card used
     (put ∙ ap (λ rows. Ok (with_rows rows)) (changed_behind (with_value sets v) done r more))

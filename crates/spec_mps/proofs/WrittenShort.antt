@@ -14,7 +14,7 @@ use Rattle.spec_exact.specs.Fraction.{ℚ, 0ℚ, neg_ℚ, eq_ℚ, lt_ℚ}
 use Rattle.spec_exact.specs.Narrow.{IsNarrow, widest}
 use Rattle.spec_exact.proofs.Narrow.{neg_narrow}
 use Rattle.spec_model.specs.declared.parts.Kind.{Kind}
-use Rattle.spec_model.specs.declared.parts.Kind.TheVariants.{L, G, E}
+use Rattle.spec_model.specs.declared.parts.Kind.TheVariants.{L, G, E, N}
 use Rattle.spec_model.specs.declared.parts.Sense.{Sense}
 use Rattle.spec_model.specs.declared.parts.Sense.TheVariants.{Min, Max}
 use Rattle.spec_model.specs.Model.{Name, Model, ExactColumn, no_row, row}
@@ -235,6 +235,7 @@ kind_short : (kind : Kind) → IsShort (kind_word kind)
 kind_short L = record { fits = omega arith; plain = refl }
 kind_short G = record { fits = omega arith; plain = refl }
 kind_short E = record { fits = omega arith; plain = refl }
+kind_short N = record { fits = omega arith; plain = refl }
 
 rows_short : (m : Model) → IsModel m → AreShortCards (rows_cards m)
 unfolding rows_cards

@@ -34,10 +34,10 @@ zero_side r e = ap (λ b. record (bare_row r) { rhs = b }) (sym (eq_if r.rhs 0�
 
 pub sides_go : (style : Style) (s : State) (objective : Name) (rows : List ExactRow)
     (paired : List Target) (set : Option (Option Name)) → s.part ≡ Some section.RightSides →
-    s.objective ≡ Some objective → s.dropped ≡ [] → AllNeed (NeedsSide style) rows
+    s.objective ≡ Some objective → AllNeed (NeedsSide style) rows
     → AreFresh (objective ∷ []) (names_of rows) → IsUnpaired 0 paired → is_used set (Some (codes "RHS")) ≡ true
     → RowsGo style s (map bare_row rows) (sides_of rows) (map rangeless rows) paired set
-sides_go style s objective rows paired set e o d =
+sides_go style s objective rows paired set e o =
     rows_go style s objective (codes "RHS") bare_row rangeless (λ r. side_cards r.name r.rhs) (NeedsSide style)
     (λ r. refl) (λ done r more p q known fresh unpaired used.
     row_goes done r more p q known fresh unpaired used (eq_ℚ r.rhs 0ℚ) refl) [] rows paired set
@@ -60,7 +60,7 @@ sides_go style s objective rows paired set e o d =
     row_goes done r more paired set known fresh unpaired used false z = (
       Row (length done) ∷ paired,
       Some (Some (codes "RHS")),
-      number_goes Sides style s objective done (bare_row r) r.rhs more paired set e o d (known z) fresh unpaired used,
+      number_goes Sides style s objective done (bare_row r) r.rhs more paired set tt e o (known z) fresh unpaired used,
       unpaired_next (length done) paired unpaired,
       refl,
     )

@@ -7,11 +7,10 @@ use Rattle.spec_exact.proofs.Same.{eq_if}
 use Rattle.spec_exact.proofs.Ruleset.{neg-neg, neg-zero}
 use Rattle.spec_exact.proofs.Narrow.{neg_narrow}
 use Rattle.spec_model.specs.Model.{Model, Name, ExactRow}
-use Rattle.spec_model.specs.Kept.{IsModel, IsNarrowRow}
+use Rattle.spec_model.specs.Kept.{IsModel, IsNarrowRow, FitsKind}
 use Rattle.spec_mps.specs.declared.style.Style.{Style}
 use Rattle.spec_mps.specs.declared.section.Section.TheVariants as section
 use Rattle.spec_mps.specs.declared.target.Target.TheVariants.{Objective}
-use Rattle.spec_mps.specs.declared.target.Place.TheVariants.{Kept}
 use Rattle.spec_mps.specs.NumberWritten.{IsWord, number_text}
 use Rattle.spec_mps.specs.Reader.{State, place_of, number_in}
 use Rattle.spec_mps.specs.Sides.{is_used, put_side, side_pair}
@@ -30,9 +29,9 @@ use Rattle.spec_mps.proofs.WrittenSides.{NeedsSide, sides_of, sides_go}
 
 -- ---- the rows
 
-side_known : (style : Style) (r : ExactRow) → IsWord r.name → IsNarrowRow r →
+side_known : (style : Style) (r : ExactRow) → IsWord r.name → FitsKind r.kind r.range → IsNarrowRow r →
     RoomFor style (side_cards r.name r.rhs) → NeedsSide style r
-side_known style r word h room z =
+side_known style r word fit h room z =
     number_card_of style (codes "RHS") r.name r.rhs word h.rhs
     (subst (λ t. RoomFor style (cond t [] (number_card (codes "RHS") r.name r.rhs ∷ []))) z room)
 
@@ -52,9 +51,9 @@ rows_sided : (style : Style) (m : Model) → IsModel m → RoomFor style (sides_
 rows_sided style m kept room s h =
     let known =
     rows_known style (λ r. side_cards r.name r.rhs) (NeedsSide style)
-    (side_known style) m.rows kept.rows kept.narrow_rows room in
+    (side_known style) m.rows kept.rows kept.ranges kept.narrow_rows room in
     let go : RowsGo style s (map bare_row m.rows) (sides_of m.rows) (map rangeless m.rows) s.paired s.set =
-    sides_go style s m.objective m.rows s.paired s.set h.part h.known.objective h.known.none_dropped known
+    sides_go style s m.objective m.rows s.paired s.set h.part h.known.objective known
     (fresh_names m.objective (names_of m.rows) kept.rows_distinct) h.unpaired h.used in
     let here : RowsGo style s s.rows (sides_of m.rows) (map rangeless m.rows) s.paired s.set =
     subst (λ rows. RowsGo style s rows (sides_of m.rows) (map rangeless m.rows) s.paired s.set) (sym h.rows) go in (
@@ -72,7 +71,7 @@ rows_sided style m kept room s h =
 -- ---- the objective
 
 place_of_objective : (s : State) (objective : Name) → s.objective ≡ Some objective →
-    place_of s objective ≡ Some (Kept Objective)
+    place_of s objective ≡ Some Objective
 unfolding place_of
 place_of_objective s objective o = rw (o, same_itself objective) refl
 

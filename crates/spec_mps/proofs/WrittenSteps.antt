@@ -41,7 +41,6 @@ with_rows_of s m = record (begun s section.Rows) { objective = Some m.objective;
 pub record HasNoRows (s : State) : Type 0 where
   pub no_section : s.seen.rows ≡ false
   pub no_objective : s.objective ≡ None
-  pub none_dropped : s.dropped ≡ []
   pub no_row : s.rows ≡ []
 
 -- The cards of ROWS give the objective and the rows, without right sides and ranges.
@@ -81,7 +80,6 @@ pub record HasNoColumns (s : State) (m : Model) : Type 0 where
   pub no_section : s.seen.columns ≡ false
   pub no_sides : s.seen.right_sides ≡ false
   pub objective : s.objective ≡ Some m.objective
-  pub none_dropped : s.dropped ≡ []
   pub rows : s.rows ≡ map bare_row m.rows
   pub no_column : s.columns ≡ []
   pub none_open : s.column ≡ None

@@ -63,7 +63,7 @@ rows_first : (name : Name) (sense : Sense) → HasNoRows (with_start_of name sen
 rows_first name sense =
     at_start HasNoRows name sense
     (λ part seen o fresh e.
-    record { no_section = fresh.rows; no_objective = refl; none_dropped = refl; no_row = refl })
+    record { no_section = fresh.rows; no_objective = refl; no_row = refl })
 
 columns_then : (m : Model) (sense : Sense) → HasNoColumns (with_rows_of (with_start_of m.name sense) m) m
 columns_then m sense =
@@ -73,7 +73,6 @@ columns_then m sense =
       no_section = fresh.columns;
       no_sides = fresh.right_sides;
       objective = refl;
-      none_dropped = refl;
       rows = refl;
       no_column = refl;
       none_open = refl;
@@ -85,7 +84,7 @@ sides_then m =
     at_start (λ s. HasNoSides (with_columns_of (with_rows_of s m) m) m) m.name m.sense (λ part seen o fresh e.
     record {
       known =
-          record { name = refl; sense = e; objective = refl; none_dropped = refl; may_follow = refl; none_open = refl };
+          record { name = refl; sense = e; objective = refl; may_follow = refl; none_open = refl };
       unbounded = record { no_bounds = fresh.bounds; columns = refl; none_lowered = refl };
       part = refl;
       no_ranges = fresh.ranges;

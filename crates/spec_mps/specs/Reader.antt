@@ -1,12 +1,12 @@
 -- What was read of a text so far, and the cards of ROWS and COLUMNS.
-use Rattle.std.specs.Prelude.{ℕ, ◌+◌, ◌==◌, ◌||◌, Bool, true, false, not, Option, Some, None, is_none}
+use Rattle.std.specs.Prelude.{ℕ, ◌==◌, ◌||◌, ◌&&◌, Bool, true, false, not, Option, Some, None, is_none}
 use Rattle.std.specs.Prelude.{option_map, Ok, Err, List, [], ◌∷◌, ◌++◌, length, nat_lt, codes, if◌then◌else◌}
 use Rattle.std.specs.List.{list_any, position}
 use Rattle.spec_text.specs.Words.{same}
 use Rattle.spec_exact.specs.Fraction.{ℚ, 0ℚ, eq_ℚ}
 use Rattle.spec_model.specs.declared.parts.Kind.{Kind}
 use Rattle.spec_model.specs.declared.parts.Sense.{Sense}
-use Rattle.spec_model.specs.Model.{Name, ExactRow, ExactColumn}
+use Rattle.spec_model.specs.Model.{Name, ExactRow, ExactColumn, is_free}
 use Rattle.spec_model.specs.Kept.{is_name, is_row_name, row_limit, column_limit}
 use Rattle.spec_mps.specs.declared.fault.Code.TheVariants as code
 use Rattle.spec_mps.specs.declared.style.Style.{Style}
@@ -14,12 +14,8 @@ use Rattle.spec_mps.specs.declared.style.Style.TheVariants.{Free, Fixed}
 use Rattle.spec_mps.specs.declared.section.Section.{Section}
 use Rattle.spec_mps.specs.declared.section.Section.TheVariants as section
 use Rattle.spec_mps.specs.declared.section.Seen.{Seen}
-use Rattle.spec_mps.specs.declared.row_type.RowType.{RowType}
-use Rattle.spec_mps.specs.declared.row_type.RowType.TheVariants.{Unlimited, Limited}
 use Rattle.spec_mps.specs.declared.target.Target.{Target}
 use Rattle.spec_mps.specs.declared.target.Target.TheVariants.{Objective, Row}
-use Rattle.spec_mps.specs.declared.target.Place.{Place}
-use Rattle.spec_mps.specs.declared.target.Place.TheVariants.{Kept, Dropped}
 use Rattle.spec_mps.specs.NumberText.{number_of, answer}
 use Rattle.spec_mps.specs.Fields.{Fields, text_at}
 use Rattle.spec_mps.specs.Checks.{Check, ◌>>=◌, must, need, coded}
@@ -32,7 +28,6 @@ pub record State : Type 0 where
   pub name : Name
   pub sense : Option Sense
   pub objective : Option Name
-  pub dropped : List Name  -- the rows of type N behind the objective
   pub rows : List ExactRow
   pub offset : ℚ
   pub columns : List ExactColumn  -- the columns that are whole
@@ -58,7 +53,6 @@ start =
       name = [];
       sense = None;
       objective = None;
-      dropped = [];
       rows = [];
       offset = 0ℚ;
       columns = [];
@@ -74,15 +68,14 @@ abbrev pub is_objective : Option Name → Name → Bool
 is_objective None name = false
 is_objective (Some objective) name = same objective name
 
-abbrev pub row_at : Option ℕ → Option Place
+abbrev pub row_at : Option ℕ → Option Target
 row_at None = None
-row_at (Some i) = Some (Kept (Row i))
+row_at (Some i) = Some (Row i)
 
 -- what a row's name stands for
-unfoldable pub place_of : State → Name → Option Place
+unfoldable pub place_of : State → Name → Option Target
 place_of s name =
-    if is_objective s.objective name then Some (Kept Objective)
-    else (if list_any (same name) s.dropped then Some Dropped else row_at (position (λ r. same r.name name) s.rows))
+    if is_objective s.objective name then Some Objective else row_at (position (λ r. same r.name name) s.rows)
 
 unfoldable pub number_in : List ℕ → Check ℚ
 number_in text = coded (answer (number_of text))
@@ -101,29 +94,26 @@ is_among t ts = list_any (same_target t) ts
 abbrev pub new_row : Kind → Name → ExactRow
 new_row kind name = record { name = name; kind = kind; rhs = 0ℚ; range = None }
 
--- the first row of type N is the objective, and later ones are dropped
-abbrev pub is_first : State → RowType → Bool
-is_first s Unlimited = is_none s.objective
-is_first s (Limited kind) = false
+-- the first row of type N is the objective, and later ones are free rows
+abbrev pub is_first : State → Kind → Bool
+is_first s kind = is_none s.objective && is_free kind
 
-abbrev pub with_row : State → RowType → Name → State
-with_row s Unlimited name =
-    if is_none s.objective then record s { objective = Some name } else record s { dropped = s.dropped ++ name ∷ [] }
-with_row s (Limited kind) name = record s { rows = s.rows ++ new_row kind name ∷ [] }
+abbrev pub with_row : State → Kind → Name → State
+with_row s kind name =
+    if is_first s kind then record s { objective = Some name } else record s { rows = s.rows ++ new_row kind name ∷ [] }
 
--- rows that are dropped count too
-unfoldable pub add_row : State → RowType → Name → Check State
-add_row s type name = do
+unfoldable pub add_row : State → Kind → Name → Check State
+add_row s kind name = do
   _ ← must (is_row_name name) code.Name
   _ ← must (is_none (place_of s name)) code.RowTaken
-  _ ← must (is_first s type || nat_lt (length s.rows + length s.dropped) row_limit) code.Limit
-  Ok (with_row s type name)
+  _ ← must (is_first s kind || nat_lt (length s.rows) row_limit) code.Limit
+  Ok (with_row s kind name)
 
 unfoldable pub rows_card : Style → State → Fields → Check State
 rows_card style s fields = do
   _ ← shaped style section.Rows fields
-  type ← need (row_type_of (text_at 1 fields)) code.RowType
-  add_row s type (text_at 2 fields)
+  kind ← need (row_type_of (text_at 1 fields)) code.RowType
+  add_row s kind (text_at 2 fields)
 
 -- ---- COLUMNS: a marker, shape, the column's name, a name that is taken, too many columns, then the pairs
 
@@ -167,18 +157,17 @@ abbrev pub with_number : ExactColumn → Target → ℚ → ExactColumn
 with_number c Objective v = record c { cost = v }
 with_number c (Row i) v = if eq_ℚ v 0ℚ then c else record c { entries = put_entry i v c.entries }
 
--- a number of the column that is read, at a target that had none; one of a dropped row is forgotten
-unfoldable pub enter : State → Place → ℚ → Check State
-enter s Dropped v = Ok s
-enter s (Kept t) v = do
+-- a number of the column that is read, at a target that had none
+unfoldable pub enter : State → Target → ℚ → Check State
+enter s t v = do
   _ ← must (not (is_among t s.paired)) code.EntryRepeated
   Ok (record s { column = option_map (λ c. with_number c t v) s.column; paired = t ∷ s.paired })
 
 unfoldable pub column_pair : State → Name → List ℕ → Check State
 column_pair s name text = do
-  place ← need (place_of s name) code.UnknownRow
+  t ← need (place_of s name) code.UnknownRow
   v ← number_in text
-  enter s place v
+  enter s t v
 
 -- texts in pairs
 abbrev pub pairs_of : List (List ℕ) → List (List ℕ × List ℕ)

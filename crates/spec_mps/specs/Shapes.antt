@@ -2,7 +2,8 @@
 use Rattle.std.specs.Prelude.{ℕ, Bool, Option, Some, None, Ok, Err, List, [], ◌∷◌, codes, if◌then◌else◌}
 use Rattle.std.specs.List.{list_any}
 use Rattle.spec_text.specs.Words.{same}
-use Rattle.spec_model.specs.declared.parts.Kind.TheVariants.{L, G, E}
+use Rattle.spec_model.specs.declared.parts.Kind.{Kind}
+use Rattle.spec_model.specs.declared.parts.Kind.TheVariants.{L, G, E, N}
 use Rattle.spec_model.specs.declared.parts.Sense.{Sense}
 use Rattle.spec_model.specs.declared.parts.Sense.TheVariants.{Min, Max}
 use Rattle.spec_mps.specs.declared.fault.Code.TheVariants as code
@@ -10,8 +11,6 @@ use Rattle.spec_mps.specs.declared.style.Style.{Style}
 use Rattle.spec_mps.specs.declared.style.Style.TheVariants.{Free, Fixed}
 use Rattle.spec_mps.specs.declared.section.Section.{Section}
 use Rattle.spec_mps.specs.declared.section.Section.TheVariants as section
-use Rattle.spec_mps.specs.declared.row_type.RowType.{RowType}
-use Rattle.spec_mps.specs.declared.row_type.RowType.TheVariants.{Unlimited, Limited}
 use Rattle.spec_mps.specs.declared.bound_kind.BoundKind.{BoundKind}
 use Rattle.spec_mps.specs.declared.bound_kind.BoundKind.TheVariants.{Up, Lo, Fx, Fr, Mi, Pl}
 use Rattle.spec_mps.specs.Fields.{Fields, numbers_of, texts_of}
@@ -44,10 +43,8 @@ unfoldable pub sense_of : List ℕ → Option Sense
 sense_of word =
     look_up word ((codes "MIN", Min) ∷ (codes "MINIMIZE", Min) ∷ (codes "MAX", Max) ∷ (codes "MAXIMIZE", Max) ∷ [])
 
-unfoldable pub row_type_of : List ℕ → Option RowType
-row_type_of word =
-    look_up word
-    ((codes "N", Unlimited) ∷ (codes "L", Limited L) ∷ (codes "G", Limited G) ∷ (codes "E", Limited E) ∷ [])
+unfoldable pub row_type_of : List ℕ → Option Kind
+row_type_of word = look_up word ((codes "N", N) ∷ (codes "L", L) ∷ (codes "G", G) ∷ (codes "E", E) ∷ [])
 
 -- kinds that are read, and why others are not
 abbrev pub bound_kinds : List (List ℕ × Check BoundKind)

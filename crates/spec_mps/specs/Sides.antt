@@ -1,17 +1,15 @@
 -- The cards of RHS and RANGES.
 use Rattle.std.specs.Prelude.{ℕ, zero, suc, Bool, true, false, not, Option}
-use Rattle.std.specs.Prelude.{Some, None, Ok, Err, List, [], ◌∷◌, if◌then◌else◌}
+use Rattle.std.specs.Prelude.{Some, None, Ok, Err, List, [], ◌∷◌, get_or, if◌then◌else◌}
 use Rattle.spec_text.specs.Words.{same}
 use Rattle.spec_exact.specs.Fraction.{ℚ, neg_ℚ}
-use Rattle.spec_model.specs.Model.{Name}
+use Rattle.spec_model.specs.Model.{Name, no_row, is_free}
 use Rattle.spec_mps.specs.declared.fault.Code.TheVariants as code
 use Rattle.spec_mps.specs.declared.style.Style.{Style}
 use Rattle.spec_mps.specs.declared.section.Section.{Section}
 use Rattle.spec_mps.specs.declared.section.Section.TheVariants as section
 use Rattle.spec_mps.specs.declared.target.Target.{Target}
 use Rattle.spec_mps.specs.declared.target.Target.TheVariants.{Objective, Row}
-use Rattle.spec_mps.specs.declared.target.Place.{Place}
-use Rattle.spec_mps.specs.declared.target.Place.TheVariants.{Kept, Dropped}
 use Rattle.spec_mps.specs.Fields.{Fields}
 use Rattle.spec_mps.specs.Checks.{Check, ◌>>=◌, must, need}
 use Rattle.spec_mps.specs.Shapes.{shaped}
@@ -70,36 +68,37 @@ abbrev pub with_side : State → Target → ℚ → State
 with_side s Objective b = record s { offset = neg_ℚ b }
 with_side s (Row i) b = record s { rows = changed_at i (λ r. record r { rhs = b }) s.rows }
 
-unfoldable pub put_side : State → Place → ℚ → Check State
-put_side s Dropped b = Ok s
-put_side s (Kept t) b = do
+unfoldable pub put_side : State → Target → ℚ → Check State
+put_side s t b = do
   _ ← must (not (is_among t s.paired)) code.EntryRepeated
   Ok (record (with_side s t b) { paired = t ∷ s.paired })
 
 unfoldable pub side_pair : State → Name → List ℕ → Check State
 side_pair s name text = do
-  place ← need (place_of s name) code.UnknownRow
+  t ← need (place_of s name) code.UnknownRow
   b ← number_in text
-  put_side s place b
+  put_side s t b
 
 -- ---- a pair of RANGES: the same, and the objective, which comes after the row, has none
 
--- a row that may have a range, `None` for one that is dropped
-abbrev pub ranged_row : Place → Check (Option ℕ)
-ranged_row Dropped = Ok None
-ranged_row (Kept Objective) = Err code.RangeOnObjective
-ranged_row (Kept (Row i)) = Ok (Some i)
+abbrev pub ranged_row : Target → Check ℕ
+ranged_row Objective = Err code.RangeOnObjective
+ranged_row (Row i) = Ok i
 
-unfoldable pub put_range : State → Option ℕ → ℚ → Check State
-put_range s None v = Ok s
-put_range s (Some i) v = do
+-- a row that had no range gets it
+unfoldable pub new_range : State → ℕ → ℚ → Check State
+new_range s i v = do
   _ ← must (not (is_among (Row i) s.paired)) code.EntryRepeated
   Ok (record s { rows = changed_at i (λ r. record r { range = Some v }) s.rows; paired = Row i ∷ s.paired })
 
+-- that of a free row is forgotten
+unfoldable pub put_range : State → ℕ → ℚ → Check State
+put_range s i v = if is_free (get_or s.rows i no_row).kind then Ok s else new_range s i v
+
 unfoldable pub range_pair : State → Name → List ℕ → Check State
 range_pair s name text = do
-  place ← need (place_of s name) code.UnknownRow
-  row ← ranged_row place
+  t ← need (place_of s name) code.UnknownRow
+  row ← ranged_row t
   v ← number_in text
   put_range s row v
 

@@ -4,7 +4,7 @@ use Rattle.std.specs.Prelude.{List, [], ◌∷◌, ◌++◌, length, replicate, 
 use Rattle.std.specs.List.{list_any, flat_map}
 use Rattle.spec_exact.specs.Fraction.{ℚ, 0ℚ, neg_ℚ, eq_ℚ, lt_ℚ}
 use Rattle.spec_model.specs.declared.parts.Kind.{Kind}
-use Rattle.spec_model.specs.declared.parts.Kind.TheVariants.{L, G, E}
+use Rattle.spec_model.specs.declared.parts.Kind.TheVariants.{L, G, E, N}
 use Rattle.spec_model.specs.declared.parts.Sense.{Sense}
 use Rattle.spec_model.specs.declared.parts.Sense.TheVariants.{Min, Max}
 use Rattle.spec_model.specs.Model.{Model, Name, ExactRow, ExactColumn, row}
@@ -58,6 +58,7 @@ abbrev pub kind_word : Kind → List ℕ
 kind_word L = codes "L"
 kind_word G = codes "G"
 kind_word E = codes "E"
+kind_word N = codes "N"
 
 abbrev pub row_card : ExactRow → WrittenCard
 row_card r = type_card (kind_word r.kind) r.name

@@ -3,8 +3,8 @@
 //! | Item | What it is | Where |
 //! |---|---|---|
 //! | `Style` | the two forms of texts | src/style |
-//! | `Section`, `RowType`, `BoundKind` | the words of the format | src/section, src/row_type, src/bound_kind |
-//! | `Target`, `Place` | what a coefficient or a right side belongs to | src/target |
+//! | `Section`, `BoundKind` | words of the format | src/section, src/bound_kind |
+//! | `Target` | what a coefficient or a right side belongs to | src/target |
 //! | `Code`, `MpsFault` | what is wrong with a text, and in which line | src/fault |
 //! | `NumFault`, `BoundValue` | why a text is no number, and what it is as a bound | src/number |
 //! | `parts_of`, `number_of` | the parts of a number's text, and the number | specs/NumberText |
@@ -27,7 +27,6 @@ mod bound_kind;
 mod card;
 mod fault;
 mod number;
-mod row_type;
 mod section;
 mod style;
 mod target;
@@ -51,10 +50,9 @@ pub use bound_kind::BoundKind;
 pub use card::Card;
 pub use fault::{Code, MpsFault};
 pub use number::{BoundValue, NumFault};
-pub use row_type::RowType;
 pub use section::{Section, Seen};
 pub use style::Style;
-pub use target::{Place, Target};
+pub use target::Target;
 
 /// Each text spells one model, or one line refuses it with one fault.
 pub fn texts_are_judged()
