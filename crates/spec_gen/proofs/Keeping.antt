@@ -6,7 +6,7 @@ use Rattle.std.proofs.lemmas.List.FromFn.{length-map-range_with_len}
 use Rattle.std.proofs.lemmas.List.Elements.{All-map}
 use Rattle.std.proofs.lemmas.List.Kept.{AllPairs-cons}
 use Rattle.spec_model.specs.Model.{Name, ExactRow, ExactColumn}
-use Rattle.spec_model.specs.Kept.{IsModel, IsKeptColumn, IsNarrowRow, IsNarrowColumn, is_name}
+use Rattle.spec_model.specs.Kept.{IsModel, IsKeptColumn, IsNarrowRow, IsNarrowColumn, FitsKind, is_name}
 use Rattle.spec_model.specs.Kept.{is_row_name, is_model_name, row_limit, column_limit}
 use Rattle.spec_gen.specs.Draws.{next, after}
 use Rattle.spec_gen.specs.Generated.{at_column, generated_column, generated_columns}
@@ -56,6 +56,7 @@ generated-kept seed rows columns h k =
       name = refl;
       objective = refl;
       rows = All-made (λ (r : ExactRow). IsTrue (is_row_name r.name)) row rows (λ i l. row_name_is i (omega arith));
+      ranges = All-made (λ (r : ExactRow). FitsKind r.kind r.range) row rows (λ i l. tt);
       columns =
           All-made (IsKeptColumn (length drawn)) column columns
           (λ j l.
