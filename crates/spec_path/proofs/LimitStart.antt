@@ -3,16 +3,16 @@ use Rattle.std.proofs.Common.{◌≡◌, ℕ, ◌+◌, List, Option, Some, None,
 use Rattle.std.specs.declared.cmp.Ordering.{Ordering}
 use Rattle.std.specs.declared.cmp.Ordering.TheVariants.{Less, Equal, Greater}
 use Rattle.spec_exact.specs.Fraction.{ℚ, 0ℚ, abs_ℚ, lt_ℚ}
-use Rattle.spec_model.specs.declared.parts.Kind.{Kind}
-use Rattle.spec_model.specs.declared.parts.Kind.TheVariants.{L, G, E}
-use Rattle.spec_model.specs.Model.{Model, width, height, row, column}
+use Rattle.spec_model.specs.declared.parts.RowLimit.{RowLimit}
+use Rattle.spec_model.specs.declared.parts.RowLimit.TheVariants.{Absent, Given, Sum, Difference}
+use Rattle.spec_model.specs.Model.{Model, ExactRow, width, height, row, column, lower_of, upper_of, limit_run}
 use Rattle.spec_pivot.specs.declared.status.Status.{Status}
 use Rattle.spec_simplex.specs.declared.ends.Best.{Best}
 use Rattle.spec_simplex.specs.declared.ends.Entering.{Entering}
 use Rattle.spec_simplex.specs.declared.ends.FormFault.{FormFault}
 use Rattle.spec_simplex.specs.declared.ends.FormFault.TheVariants as fault
 use Rattle.spec_exact.specs.Run.{Run, ◌>>=◌}
-use Rattle.spec_simplex.specs.Form.{Form, form_entry, form_lower, form_upper, limits_by, limits_run}
+use Rattle.spec_simplex.specs.Form.{Form, form_entry, form_lower, form_upper, limits_run}
 use Rattle.spec_simplex.specs.Form.{clash_by, bounds_clash, column_clash, formed, form_of}
 use Rattle.spec_simplex.specs.Start.{first_value, below_by, below_run, above_by, above_run, row_start_by}
 use Rattle.spec_simplex.specs.Start.{row_start, cost_at, reduced_run, priced_run, start_of}
@@ -33,13 +33,15 @@ also o u f g = agrees_then as_it_is o u f g
 
 module _ (limit : Option ℕ) where
   -- ---- the form
-  limits_by_agrees : (k : Kind) (b : ℚ) (r : Option ℚ) → Agrees as_it_is (limits_by limit k b r) (limits_by None k b r)
-  limits_by_agrees L b None = ok _
-  limits_by_agrees L b (Some r) = also _ _ _ _ (agrees_difference limit b (abs_ℚ r)) (λ a. ok _)
-  limits_by_agrees G b None = ok _
-  limits_by_agrees G b (Some r) = also _ _ _ _ (agrees_sum limit b (abs_ℚ r)) (λ c. ok _)
-  limits_by_agrees E b None = ok _
-  limits_by_agrees E b (Some r) = also _ _ _ _ (agrees_sum limit b r) (λ c. ok _)
+  limit_agrees : (o : RowLimit ℚ) → Agrees as_it_is (limit_run limit o) (limit_run None o)
+  limit_agrees Absent = ok _
+  limit_agrees (Given v) = ok _
+  limit_agrees (Sum v w) = also _ _ _ _ (agrees_sum limit v w) (λ s. ok _)
+  limit_agrees (Difference v w) = also _ _ _ _ (agrees_difference limit v w) (λ d. ok _)
+
+  limits_agrees : (r : ExactRow) → Agrees as_it_is (limits_run limit r) (limits_run None r)
+  limits_agrees r =
+      also _ _ _ _ (limit_agrees (lower_of r)) (λ l. also _ _ _ _ (limit_agrees (upper_of r)) (λ u. ok (l, u)))
 
   clash_agrees : (j : ℕ) (o : Ordering) → Agrees fault.Past (clash_by j o) (clash_by j o)
   clash_agrees j Less = agrees_ok fault.Past tt
@@ -58,7 +60,7 @@ module _ (limit : Option ℕ) where
   unfolding form_of
   form_agrees m =
       agrees_then fault.Past _ _ _ _ (agrees_as fault.Past _ _ (agrees_list (height m) (λ i. limits_run limit (row m i))
-      (λ i. limits_run None (row m i)) (λ i. limits_by_agrees (row m i).kind (row m i).rhs (row m i).range))) (λ ls.
+      (λ i. limits_run None (row m i)) (λ i. limits_agrees (row m i)))) (λ ls.
       agrees_then fault.Past _ _ _ _ (agrees_steps fault.Past (width m) (λ j _. column_clash limit m j)
       (λ j _. column_clash None m j) tt (λ j _. bounds_agrees j (column m j).lower (column m j).upper)) (λ _.
       agrees_ok fault.Past (formed m ls)))
