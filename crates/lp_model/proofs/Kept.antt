@@ -5,8 +5,8 @@ use Rattle.std.specs.Prelude.{OnOk, OnErr}
 use Rattle.std.proofs.lemmas.List.{get_or_default, set-get_or}
 use Rattle.spec_exact.specs.Fraction.{ℚ}
 use Rattle.spec_exact.specs.Narrow.{IsNarrow}
-use Rattle.spec_model.specs.Model.{Model, Name, Limits, ExactRow, ExactColumn, no_row, no_column, width, height}
-use Rattle.spec_model.specs.Kept.{IsModel}
+use Rattle.spec_model.specs.Model.{Model, Name, Limits, ExactRow, ExactColumn, no_row, no_column, width, height, row}
+use Rattle.spec_model.specs.Kept.{IsModel, FitsKind}
 use Rattle.spec_edit.specs.Changes.{with_entry}
 use Rattle.spec_edit.specs.Edited.{IsKeptBound}
 use Rattle.spec_edit.proofs.Keeping.{with_cost-kept, with_coefficient-kept}
@@ -38,12 +38,12 @@ module _ (m : Model) (by_row by_column : Option (List Name)) (kept : IsIndexed m
       (subst IsModel (ap₂ (λ r v. record m { rows = set m.rows i (record r { rhs = v }) }) (sym row_here) (sym e))
       (with_rhs-kept m i v kept.model l narrow))
 
-  pub range_here : (range given : Option ℚ) → given ≡ range → IfSome range IsNarrow →
+  pub range_here : (range given : Option ℚ) → given ≡ range → FitsKind (row m i).kind range → IfSome range IsNarrow →
       IsIndexed (record m { rows = set m.rows i (record r { range = given }) }) by_row by_column
-  range_here range given e narrow =
+  range_here range given e fit narrow =
       row_set (record r { range = given }) refl
       (subst IsModel (ap₂ (λ r v. record m { rows = set m.rows i (record r { range = v }) }) (sym row_here) (sym e))
-      (with_range-kept m i range kept.model l narrow))
+      (with_range-kept m i range kept.model l fit narrow))
 
 -- ---- column j, which is x
 

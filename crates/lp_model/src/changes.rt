@@ -2,8 +2,9 @@
 ghost use Rattle.std.specs.Prelude.{◌≡◌, ◌<◌, false, All, IsTrue, map, OnOk, OnErr};
 ghost use Rattle.std.specs.List.{AllPairs};
 ghost use Rattle.spec_exact.specs.Narrow.{IsNarrow};
-ghost use Rattle.spec_model.specs.Model.{ExactColumn, width, height};
-ghost use Rattle.spec_model.specs.Kept.{IsBound, IsKeptColumn, row_limit, column_limit, is_row_name};
+ghost use Rattle.spec_model.specs.Model.{ExactColumn, width, height, row};
+ghost use Rattle.spec_model.specs.Kept.{IsBound, IsKeptColumn, FitsKind, row_limit, column_limit};
+ghost use Rattle.spec_model.specs.Kept.{is_row_name};
 ghost use Rattle.spec_edit.specs.Changes as changes;
 ghost use Rattle.spec_edit.specs.Edited.{is_row_taken, is_column_taken};
 
@@ -21,6 +22,7 @@ impl Model {
         requires few { height self.old < row_limit }
         requires name { IsTrue (is_row_name row.name) }
         requires free { is_row_taken self.old row.name ≡ false }
+        requires range { FitsKind row.kind row.range }
         ensures ok { OnOk result (self.new ≡ changes.with_row self.old row) }
         ensures err { OnErr result (self.new ≡ self.old) }
     {
@@ -103,9 +105,10 @@ impl Model {
         self.rows[i as usize].rhs = narrow(v);
     }
 
-    /// Gives row `i` this range, or takes it away.
+    /// Gives row `i` this range, or takes it away. A free row has none.
     pub fn set_range(&mut self, i: u32, range: Option<Frac>)
-        requires { i < height self.old }
+        requires inside { i < height self.old }
+        requires range { FitsKind (row self.old i).kind range }
         ensures { self.new ≡ changes.with_range self.old i range }
     {
         self.rows[i as usize].range = narrow_if(range);

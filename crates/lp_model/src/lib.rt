@@ -5,6 +5,9 @@
 //! | `Model` | a model that may be kept; to contracts a record of plain data, `spec_model`'s `Model` | src/model |
 //! | `Row`, `Column` | its parts, with names and numbers as the code holds them | src/model |
 //! | `Sense`, `Kind` | whether the objective is to be least or greatest; the kinds of rows | `spec_model` |
+//! | `RowLimit`, `lower_of`, `upper_of` | the limits of a row, as the operations that give them | src/limits |
+//! | `lower_limit`, `upper_limit` | the same, taken at 127 bits | src/limits |
+//! | `is_free` | whether a kind of row has no limits | src/limits |
 //! | `put_entry` | puts a coefficient among the entries of a column | src/entries |
 //! | `NameIndex` | distinct names that are found by their hashes | src/name_index |
 //! | `is_name`, `is_row_name`, `is_model_name` | whether a text may be a name | src/names |
@@ -15,12 +18,14 @@
 mod changes;
 mod entries;
 mod indexed;
+mod limits;
 mod model;
 mod name_index;
 mod names;
 mod narrow;
 
 pub use entries::put_entry;
+pub use limits::{RowLimit, is_free, lower_limit, lower_of, upper_limit, upper_of};
 pub use model::{Column, Model, Row};
 pub use name_index::NameIndex;
 pub use names::{is_model_name, is_name, is_row_name};

@@ -23,7 +23,7 @@ invariant_of-self-2 c =
           (with_row-kept _ c.args.row c.self.invariant.model
           (subst (λ m. height m < row_limit) (sym c.self.view_is) c.requires.few) c.requires.name
           (subst (λ m. is_row_taken m c.args.row.name ≡ false) (sym c.self.view_is) c.requires.free)
-          c.narrow_row.ensures.narrow);
+          c.requires.range c.narrow_row.ensures.narrow);
       rows =
           names_more (λ (x : ExactRow). x.name) _ _ _ c.self.inside.rows.items _ c.args.row _ c.take.ensures.value
           c.self.invariant.rows c.as_slice.ensures

@@ -1,0 +1,67 @@
+// The limits of a row: as operations, and taken at 127 bits.
+ghost use Rattle.std.specs.Prelude.{◌≡◌, Some};
+ghost use Rattle.spec_model.specs.Model as model;
+ghost use Rattle.lp_frac.specs.Narrow.{largest};
+
+use crate::model::Row;
+use lp_frac::{Frac, Past, abs, add, is_negative, sub};
+use spec_model::Kind;
+
+/// A limit of a row, if it has one, by the operation that gives it, if it takes one.
+pub type RowLimit = spec_model::RowLimit<Frac>;
+
+/// Whether rows of this kind have no limits.
+pub fn is_free(kind: Kind) -> bool
+    ensures { result ≡ model.is_free kind }
+{
+    matches!(kind, Kind::N)
+}
+
+/// The least that the row's sum may be.
+pub fn lower_of(row: &Row) -> RowLimit
+    ensures { result ≡ model.lower_of row.now }
+{
+    match (row.kind, row.range) {
+        (Kind::L, None) | (Kind::N, _) => RowLimit::Absent,
+        (Kind::L, Some(range)) => RowLimit::Difference(row.rhs, abs(range)),
+        (Kind::E, Some(range)) if is_negative(range) => RowLimit::Sum(row.rhs, range),
+        (Kind::G | Kind::E, _) => RowLimit::Given(row.rhs),
+    }
+}
+
+/// The most that the row's sum may be.
+pub fn upper_of(row: &Row) -> RowLimit
+    ensures { result ≡ model.upper_of row.now }
+{
+    match (row.kind, row.range) {
+        (Kind::G, None) | (Kind::N, _) => RowLimit::Absent,
+        (Kind::G, Some(range)) => RowLimit::Sum(row.rhs, abs(range)),
+        (Kind::E, Some(range)) if !is_negative(range) => RowLimit::Sum(row.rhs, range),
+        (Kind::L | Kind::E, _) => RowLimit::Given(row.rhs),
+    }
+}
+
+fn taken(limit: RowLimit) -> Result<Option<Frac>, Past>
+    ensures { result ≡ model.limit_run (Some largest) limit }
+{
+    match limit {
+        RowLimit::Absent => Ok(None),
+        RowLimit::Given(v) => Ok(Some(v)),
+        RowLimit::Sum(v, w) => Ok(Some(add(v, w)?)),
+        RowLimit::Difference(v, w) => Ok(Some(sub(v, w)?)),
+    }
+}
+
+/// The least that the row's sum may be, at 127 bits.
+pub fn lower_limit(row: &Row) -> Result<Option<Frac>, Past>
+    ensures { result ≡ model.lower_run (Some largest) row.now }
+{
+    taken(lower_of(row))
+}
+
+/// The most that the row's sum may be, at 127 bits.
+pub fn upper_limit(row: &Row) -> Result<Option<Frac>, Past>
+    ensures { result ≡ model.upper_run (Some largest) row.now }
+{
+    taken(upper_of(row))
+}
