@@ -19,8 +19,6 @@ use Rattle.spec_mps.specs.declared.section.Seen.{Seen}
 use Rattle.spec_mps.specs.declared.style.Style.{Style}
 use Rattle.spec_mps.specs.declared.target.Target.{Target}
 use Rattle.spec_mps.specs.declared.target.Target.TheVariants.{Objective, Row}
-use Rattle.spec_mps.specs.declared.target.Place.{Place}
-use Rattle.spec_mps.specs.declared.target.Place.TheVariants.{Kept, Dropped}
 use Rattle.spec_mps.specs.Fields.{Fields, text_at}
 use Rattle.spec_mps.specs.Reader.{State, is_among, new_column, columns_with, whole_columns}
 use Rattle.spec_mps.specs.Reader.{put_entry, with_number, enter, pairs_of, columns_card}
@@ -75,11 +73,10 @@ with_number_many columns None x v = refl
 with_number_many columns (Some c) x v =
     length-append columns (with_number c x v ∷ []) ∙ sym (length-append columns (c ∷ []))
 
-enter_new : (s : State) (place : Place) (v : ℚ) (t : State) → enter s place v ≡ Ok t →
+enter_new : (s : State) (place : Target) (v : ℚ) (t : State) → enter s place v ≡ Ok t →
     AreNew (whole_columns s) s.lowered → AreNew (whole_columns t) t.lowered
 unfolding enter
-enter_new s Dropped v t h k = subst (λ (u : State). AreNew (whole_columns u) u.lowered) (same_ok s t h) k
-enter_new s (Kept x) v t h k =
+enter_new s x v t h k =
     let a = must_ok (not (is_among x s.paired)) code.EntryRepeated _ t h in
     subst (λ (u : State). AreNew (whole_columns u) u.lowered) (same_ok _ t a.1)
     (record {

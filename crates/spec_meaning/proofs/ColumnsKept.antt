@@ -14,8 +14,6 @@ use Rattle.spec_mps.specs.declared.section.Section.TheVariants as section
 use Rattle.spec_mps.specs.declared.style.Style.{Style}
 use Rattle.spec_mps.specs.declared.target.Target.{Target}
 use Rattle.spec_mps.specs.declared.target.Target.TheVariants.{Objective, Row}
-use Rattle.spec_mps.specs.declared.target.Place.{Place}
-use Rattle.spec_mps.specs.declared.target.Place.TheVariants.{Kept, Dropped}
 use Rattle.spec_mps.specs.Fields.{Fields, text_at, texts_of}
 use Rattle.spec_mps.specs.Shapes.{shaped}
 use Rattle.spec_mps.specs.Reader.{State, is_among, new_column, columns_with, whole_columns}
@@ -28,8 +26,8 @@ use Rattle.spec_meaning.specs.ColumnCards.{column_on, numbers_on, named_columns,
 use Rattle.spec_mps.proofs.CardsDid.{PairDid, pairs_keep, column_puts, Opens, Same, New, columns_did}
 use Rattle.spec_meaning.proofs.SoFar.{is_section}
 use Rattle.spec_meaning.proofs.Order.{not_both}
-use Rattle.spec_meaning.proofs.RowViews.{RowView, row_view, place_in, place_by_view}
-use Rattle.spec_meaning.proofs.PairsKept.{Put, PutNowhere, PutAt, Tells, tells_push, number_is, texts_none}
+use Rattle.spec_meaning.proofs.RowViews.{RowView, row_view, place_in, place_by_view, every_kind, all_count, StandsFor}
+use Rattle.spec_meaning.proofs.PairsKept.{Put, PutAt, Tells, tells_push, number_is, texts_none}
 use Rattle.spec_meaning.proofs.ColumnLemmas.{IsColumn, column_is, pairs_push, is_named, named_push, firsts_push}
 use Rattle.spec_meaning.proofs.ColumnLemmas.{not_named, unnamed_pairs, AreNonZero}
 use Rattle.spec_meaning.proofs.ColumnNumbers.{number_at, open_number, open_at, number_here, number_there}
@@ -38,14 +36,14 @@ use Rattle.spec_meaning.proofs.ColumnNumbers.{number_name, number_non_zero}
 -- ---- what the cards say of columns
 
 pub record IsSaid (view : RowView) (cards : List Fields) (c : ExactColumn) : Type 0 where
-  pub numbers : (name : Name) (t : Target) → place_in view name ≡ Some (Kept t) →
+  pub numbers : (name : Name) (t : Target) → place_in view name ≡ Some t →
       IsTheNumber (texts_for name (pairs_of_column c.name cards)) (number_at c t)
 
 -- of the column that cards are read of
 pub record IsOpenSaid (view : RowView) (cards : List Fields)
     (columns : List ExactColumn) (paired : List Target) (c : ExactColumn) : Type 0 where
   pub said : IsSaid view cards c
-  pub unpaired : (name : Name) (t : Target) → place_in view name ≡ Some (Kept t) → is_among t paired ≡ false →
+  pub unpaired : (name : Name) (t : Target) → place_in view name ≡ Some t → is_among t paired ≡ false →
       texts_for name (pairs_of_column c.name cards) ≡ []
   pub non_zero : AreNonZero c.entries
   pub others : All (λ d. same d.name c.name ≡ false) columns
@@ -63,7 +61,7 @@ pub record ColumnsSay (cards : List Fields) (s : State) : Type 0 where
 record IsReading (view : RowView) (old : Pairs) (name : Name)
     (columns : List ExactColumn) (done : Pairs) (u : State) : Type 0 where
   columns_are : u.columns ≡ columns
-  tells : Tells ℚ open_at IsTheNumber view (old ++ done) u
+  tells : Tells ℚ open_at IsTheNumber every_kind view (old ++ done) u
   column : ExactColumn
   column_is : u.column ≡ Some column
   name_is : column.name ≡ name
@@ -73,7 +71,7 @@ one_pair : (view : RowView) (old : Pairs) (name : Name) (columns : List ExactCol
     (done : Pairs) (s : State) (pair : List ℕ × List ℕ) (t : State) → PairDid enter s pair t →
     IsReading view old name columns done s → IsReading view old name columns (done ++ pair ∷ []) t
 unfolding enter
-one_pair view old name columns done s pair t p k = by p.place p.did at
+one_pair view old name columns done s pair t p k = by
   where
     v : ℚ
     v = p.value
@@ -81,46 +79,36 @@ one_pair view old name columns done s pair t p k = by p.place p.did at
     at : place_in view pair.0 ≡ Some p.place
     at = ap (λ w. place_in w pair.0) (sym k.tells.view_is) ∙ sym (place_by_view s pair.0) ∙ p.place_is
 
-    push : (place : Place) (u : State) → place_in view pair.0 ≡ Some place → Put ℚ open_at s place v u →
-        Tells ℚ open_at IsTheNumber view (old ++ (done ++ pair ∷ [])) u
-    push place u at put =
-        subst (λ ps. Tells ℚ open_at IsTheNumber view ps u) (append_assoc old done (pair ∷ []))
-        (tells_push view (old ++ done) s u pair place v at (number_is pair.1 v p.number_is) k.tells put)
+    push : (u : State) → Put ℚ open_at every_kind s p.place v u →
+        Tells ℚ open_at IsTheNumber every_kind view (old ++ (done ++ pair ∷ [])) u
+    push u put =
+        subst (λ ps. Tells ℚ open_at IsTheNumber every_kind view ps u) (append_assoc old done (pair ∷ []))
+        (tells_push every_kind view (old ++ done) s u pair p.place v at (number_is pair.1 v p.number_is) k.tells put)
 
-    by : (place : Place) → enter s place v ≡ Ok t → place_in view pair.0 ≡ Some place →
-        IsReading view old name columns (done ++ pair ∷ []) t
-    by Dropped h at =
-        subst (IsReading view old name columns (done ++ pair ∷ [])) (same_ok s t h)
-        (record {
-          columns_are = k.columns_are;
-          tells = push Dropped s at (PutNowhere refl refl);
-          column = k.column;
-          column_is = k.column_is;
-          name_is = k.name_is;
-          non_zero = k.non_zero;
-        })
-    by (Kept x) h at =
-        let a = must_ok (not (is_among x s.paired)) code.EntryRepeated _ t h in
-        let new : is_among x s.paired ≡ false = negated _ a.0 in
-        let zero : number_at k.column x ≡ 0ℚ =
-        ap (λ o. open_number o x) (sym k.column_is) ∙ subst (λ texts. IsTheNumber texts (open_at s x))
-        (k.tells.unpaired pair.0 x at new) (k.tells.numbers pair.0 x at) in
-        let column : option_map (λ c. with_number c x v) s.column ≡ Some (with_number k.column x v) =
-        ap (option_map (λ c. with_number c x v)) k.column_is in
+    by : IsReading view old name columns (done ++ pair ∷ []) t
+    by =
+        let a = must_ok (not (is_among p.place s.paired)) code.EntryRepeated _ t p.did in
+        let new : is_among p.place s.paired ≡ false = negated _ a.0 in
+        let there : StandsFor every_kind view pair.0 p.place = (at, all_count view p.place) in
+        let zero : number_at k.column p.place ≡ 0ℚ =
+        ap (λ o. open_number o p.place) (sym k.column_is) ∙ subst (λ texts. IsTheNumber texts (open_at s p.place))
+        (k.tells.unpaired pair.0 p.place there new) (k.tells.numbers pair.0 p.place there) in
+        let column : option_map (λ c. with_number c p.place v) s.column ≡ Some (with_number k.column p.place v) =
+        ap (option_map (λ c. with_number c p.place v)) k.column_is in
         subst (IsReading view old name columns (done ++ pair ∷ [])) (same_ok _ t a.1)
         (record {
           columns_are = k.columns_are;
           tells =
-              push (Kept x)
-              (record s { column = option_map (λ c. with_number c x v) s.column; paired = x ∷ s.paired }) at
-              (PutAt x refl new refl refl refl
-              (ap (λ o. open_number o x) column ∙ number_here k.column x v k.non_zero zero)
-              (λ y ne. ap (λ o. open_number o y) column ∙ number_there k.column x y v ne
+              push
+              (record s { column = option_map (λ c. with_number c p.place v) s.column; paired = p.place ∷ s.paired })
+              (PutAt new refl refl refl
+              (ap (λ o. open_number o p.place) column ∙ number_here k.column p.place v k.non_zero zero)
+              (λ y ne. ap (λ o. open_number o y) column ∙ number_there k.column p.place y v ne
               ∙ ap (λ o. open_number o y) (sym k.column_is)));
-          column = with_number k.column x v;
+          column = with_number k.column p.place v;
           column_is = column;
-          name_is = number_name k.column x v ∙ k.name_is;
-          non_zero = number_non_zero k.column x v k.non_zero;
+          name_is = number_name k.column p.place v ∙ k.name_is;
+          non_zero = number_non_zero k.column p.place v k.non_zero;
         })
 
 -- ---- the column of a card
@@ -176,15 +164,15 @@ opened_again cards card s (Some c) e same_name last k =
       reading = record {
         columns_are = refl;
         tells =
-            subst (λ ps. Tells ℚ open_at IsTheNumber (row_view s) ps s)
+            subst (λ ps. Tells ℚ open_at IsTheNumber every_kind (row_view s) ps s)
             (sym (append-nil (pairs_of_column (column_on card) cards)))
             (record {
               view_is = refl;
               numbers =
                   λ n t p. subst₂ (λ m o. IsTheNumber (texts_for n (pairs_of_column m cards)) (open_number o t)) name
-                  (sym e) (last.said.numbers n t p);
+                  (sym e) (last.said.numbers n t p.0);
               unpaired =
-                  λ n t p free. ap (λ m. texts_for n (pairs_of_column m cards)) (sym name) ∙ last.unpaired n t p free;
+                  λ n t p free. ap (λ m. texts_for n (pairs_of_column m cards)) (sym name) ∙ last.unpaired n t p.0 free;
             });
         column = c;
         column_is = e;
@@ -297,11 +285,11 @@ finish cards card s u t seen here o r =
                 record {
                   numbers =
                       λ n x p. subst₂ (λ ps o. IsTheNumber (texts_for n ps) (open_number o x)) all_pairs r.column_is
-                      (r.tells.numbers n x (ap (λ v. place_in v n) view ∙ p));
+                      (r.tells.numbers n x (ap (λ v. place_in v n) view ∙ p, all_count (row_view s) x));
                 };
             unpaired =
                 λ n x p free. ap (texts_for n) (sym all_pairs)
-                ∙ r.tells.unpaired n x (ap (λ v. place_in v n) view ∙ p) free;
+                ∙ r.tells.unpaired n x (ap (λ v. place_in v n) view ∙ p, all_count (row_view s) x) free;
             non_zero = r.non_zero;
             others = subst₂ (λ n cs. All (λ (d : ExactColumn). same d.name n ≡ false) cs) name columns o.others;
             known =

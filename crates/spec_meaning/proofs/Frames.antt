@@ -1,34 +1,32 @@
 -- What a data card of a section leaves as it was.
 use Rattle.std.proofs.Common.{◌≡◌, ℕ, zero, suc, Bool, true, false, not, ◌&&◌, cond}
-use Rattle.std.proofs.Common.{Some, None, is_none, Ok, List, [], ◌∷◌, ◌++◌, map, refl}
+use Rattle.std.proofs.Common.{Some, None, Ok, List, [], ◌∷◌, ◌++◌, map, refl}
 use Rattle.std.proofs.Common.{ap, ◌∙◌, subst, get_or}
 use Rattle.spec_text.specs.Words.{same}
 use Rattle.spec_exact.specs.Fraction.{ℚ, 0ℚ}
+use Rattle.spec_model.specs.declared.parts.Kind.{Kind}
 use Rattle.spec_model.specs.Model.{Name, ExactRow, ExactColumn}
 use Rattle.spec_mps.specs.declared.fault.Code.TheVariants as code
 use Rattle.spec_mps.specs.declared.style.Style.{Style}
 use Rattle.spec_mps.specs.declared.section.Section.{Section}
 use Rattle.spec_mps.specs.declared.section.Section.TheVariants as section
-use Rattle.spec_mps.specs.declared.row_type.RowType.{RowType}
-use Rattle.spec_mps.specs.declared.row_type.RowType.TheVariants.{Unlimited, Limited}
 use Rattle.spec_mps.specs.declared.bound_kind.BoundKind.{BoundKind}
+use Rattle.spec_mps.specs.declared.target.Target.{Target}
 use Rattle.spec_mps.specs.declared.target.Target.TheVariants.{Objective, Row}
-use Rattle.spec_mps.specs.declared.target.Place.{Place}
-use Rattle.spec_mps.specs.declared.target.Place.TheVariants.{Kept, Dropped}
 use Rattle.spec_mps.specs.Fields.{Fields, text_at}
 use Rattle.spec_mps.specs.Shapes.{shaped}
-use Rattle.spec_mps.specs.Reader.{State, is_among, with_row}
+use Rattle.spec_mps.specs.Reader.{State, is_among, new_row, is_first, with_row}
 use Rattle.spec_mps.specs.Reader.{rows_card, enter}
 use Rattle.spec_mps.specs.Reader.{pairs_of, columns_card}
 use Rattle.spec_mps.specs.Sides.{SetAndPairs, changed_at, put_side}
 use Rattle.spec_mps.specs.Sides.{side_pairs}
-use Rattle.spec_mps.specs.Sides.{put_range, range_pairs}
+use Rattle.spec_mps.specs.Sides.{new_range, range_pairs}
 use Rattle.spec_mps.specs.Bounds.{BoundCard, SetsUpper, SetsLower, SetsBoth, is_negative, bounded}
 use Rattle.spec_mps.specs.Bounds.{BoundTexts, with_bound}
 use Rattle.spec_mps.specs.Steps.{take_sense, sense_card, data_card}
 use Rattle.spec_mps.proofs.CheckSteps.{step_ok, must_ok, same_ok}
 use Rattle.spec_mps.proofs.CardsDid.{sense_did, rows_did, pairs_keep, column_puts, side_puts}
-use Rattle.spec_mps.proofs.CardsDid.{put_ranged, range_puts, Opens, Same, New, columns_did, SetDid, rhs_did}
+use Rattle.spec_mps.proofs.CardsDid.{put_ranged, RangeDid, Forgotten, Kept, put_range_did, range_puts, Opens, Same, New, columns_did, SetDid, rhs_did}
 use Rattle.spec_mps.proofs.CardsDid.{ranges_did, set_keeps, BoundDid, UsedBound, SkippedBound, bounds_did}
 
 -- ---- what is left of a state without what the cards of a section change
@@ -45,7 +43,7 @@ without_bounds c = record c { lower = None; upper = None }
 abbrev pub beside : Section → State → State
 beside section.Name s = s
 beside section.Sense s = record s { sense = None }
-beside section.Rows s = record s { objective = None; dropped = []; rows = [] }
+beside section.Rows s = record s { objective = None; rows = [] }
 beside section.Columns s = record s { columns = []; column = None; lowered = []; paired = [] }
 beside section.RightSides s = record s { offset = 0ℚ; rows = map without_side s.rows; paired = []; set = None }
 beside section.Ranges s = record s { rows = map without_range s.rows; paired = []; set = None }
@@ -68,28 +66,26 @@ sense_leads style s fields t h =
     let a = step_ok (shaped style section.Sense fields) _ t h in
     take_sense_leads s (text_at 1 fields) t a.2
 
-with_row_leads : (s : State) (type : RowType) (name : Name) → Leads section.Rows s (with_row s type name)
-with_row_leads s Unlimited name = go (is_none s.objective)
+with_row_leads : (s : State) (kind : Kind) (name : Name) → Leads section.Rows s (with_row s kind name)
+with_row_leads s kind name = go (is_first s kind)
   where
     go : (b : Bool) →
         Leads section.Rows s
-        (cond b (record s { objective = Some name }) (record s { dropped = s.dropped ++ name ∷ [] }))
+        (cond b (record s { objective = Some name }) (record s { rows = s.rows ++ new_row kind name ∷ [] }))
     go true = refl
     go false = refl
-with_row_leads s (Limited kind) name = refl
 
 rows_leads : (style : Style) (s : State) (fields : Fields) (t : State) → rows_card style s fields ≡ Ok t →
     Leads section.Rows s t
 rows_leads style s fields t h =
     let d = rows_did style s fields t h in
-    subst (Leads section.Rows s) d.new (with_row_leads s d.type (text_at 2 fields))
+    subst (Leads section.Rows s) d.new (with_row_leads s d.kind (text_at 2 fields))
 
 -- ---- COLUMNS
 
-enter_leads : (s : State) (place : Place) (v : ℚ) (t : State) → enter s place v ≡ Ok t → Leads section.Columns s t
+enter_leads : (s : State) (place : Target) (v : ℚ) (t : State) → enter s place v ≡ Ok t → Leads section.Columns s t
 unfolding enter
-enter_leads s Dropped v t h = subst (Leads section.Columns s) (same_ok s t h) refl
-enter_leads s (Kept x) v t h =
+enter_leads s x v t h =
     let a = must_ok (not (is_among x s.paired)) code.EntryRepeated _ t h in
     subst (Leads section.Columns s) (same_ok _ t a.1) refl
 
@@ -114,14 +110,13 @@ changed_unseen view change i [] h = refl
 changed_unseen view change zero (x ∷ xs) h = ap (λ y. y ∷ map view xs) (h x)
 changed_unseen view change (suc i) (x ∷ xs) h = ap (λ ys. view x ∷ ys) (changed_unseen view change i xs h)
 
-put_side_leads : (s : State) (place : Place) (v : ℚ) (t : State) → put_side s place v ≡ Ok t →
+put_side_leads : (s : State) (place : Target) (v : ℚ) (t : State) → put_side s place v ≡ Ok t →
     Leads section.RightSides s t
 unfolding put_side
-put_side_leads s Dropped v t h = subst (Leads section.RightSides s) (same_ok s t h) refl
-put_side_leads s (Kept Objective) v t h =
+put_side_leads s Objective v t h =
     let a = must_ok (not (is_among Objective s.paired)) code.EntryRepeated _ t h in
     subst (Leads section.RightSides s) (same_ok _ t a.1) refl
-put_side_leads s (Kept (Row i)) v t h =
+put_side_leads s (Row i) v t h =
     let a = must_ok (not (is_among (Row i) s.paired)) code.EntryRepeated _ t h in
     subst (Leads section.RightSides s) (same_ok _ t a.1)
     (ap (λ (rows : List ExactRow). record s { offset = 0ℚ; rows = rows; paired = []; set = None })
@@ -132,16 +127,19 @@ rhs_leads s card t d =
     set_keeps put_side _ side_puts (Leads section.RightSides s) (λ u set k. k)
     (λ u pair w p k. put_side_leads u p.place p.value w p.did ∙ k) s card t d refl
 
-put_range_leads : (s : State) (place : Place) (v : ℚ) (t : State) → put_ranged s place v ≡ Ok t →
-    Leads section.Ranges s t
-unfolding put_range
-put_range_leads s Dropped v t h = subst (Leads section.Ranges s) (same_ok s t h) refl
-put_range_leads s (Kept Objective) v t h = absurd (cc)
-put_range_leads s (Kept (Row i)) v t h =
-    let a = must_ok (not (is_among (Row i) s.paired)) code.EntryRepeated _ t h in
+new_range_leads : (s : State) (i : ℕ) (v : ℚ) (t : State) → RangeDid s i v t → Leads section.Ranges s t
+unfolding new_range
+new_range_leads s i v t (Forgotten free same) = subst (Leads section.Ranges s) same refl
+new_range_leads s i v t (Kept limited did) =
+    let a = must_ok (not (is_among (Row i) s.paired)) code.EntryRepeated _ t did in
     subst (Leads section.Ranges s) (same_ok _ t a.1)
     (ap (λ (rows : List ExactRow). record s { rows = rows; paired = []; set = None })
     (changed_unseen without_range (λ r. record r { range = Some v }) i s.rows (λ r. refl)))
+
+put_range_leads : (s : State) (place : Target) (v : ℚ) (t : State) → put_ranged s place v ≡ Ok t →
+    Leads section.Ranges s t
+put_range_leads s Objective v t h = absurd (cc)
+put_range_leads s (Row i) v t h = new_range_leads s i v t (put_range_did s i v t h)
 
 ranges_leads : (s : State) (card : SetAndPairs) (t : State) → SetDid s card range_pairs t → Leads section.Ranges s t
 ranges_leads s card t d =

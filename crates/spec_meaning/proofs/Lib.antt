@@ -10,6 +10,7 @@ pub mod TitlesKept
 pub mod PairsKept
 pub mod SetsKept
 pub mod SetSections
+pub mod NoneFree
 pub mod NumbersKept
 pub mod SidesKept
 pub mod RangesKept

@@ -14,7 +14,8 @@ use Rattle.spec_text.proofs.WordLemmas.{same-refl}
 use Rattle.spec_model.specs.declared.parts.Sense.{Sense}
 use Rattle.spec_model.specs.declared.parts.Sense.TheVariants.{Min, Max}
 use Rattle.spec_model.specs.Model.{Model, Name, ExactRow, ExactColumn, no_row}
-use Rattle.spec_model.specs.Model.{no_column, row, column, height, width, entry_of}
+use Rattle.spec_model.specs.Model.{no_column, row, column, height, width, entry_of, is_free}
+use Rattle.spec_mps.proofs.CheckSteps.{same_some}
 use Rattle.spec_model.specs.Kept.{AreEntries, IsModel}
 use Rattle.spec_mps.specs.declared.style.Style.{Style}
 use Rattle.spec_mps.specs.NumberText.{Is}
@@ -22,7 +23,7 @@ use Rattle.spec_mps.specs.Steps.{Spells}
 use Rattle.spec_mps.specs.declared.section.Section.TheVariants as section
 use Rattle.spec_meaning.specs.TextCards.{Lines, cards_in}
 use Rattle.spec_meaning.specs.RowCards.{IsSenseWord, IsSenseOf}
-use Rattle.spec_meaning.specs.NumberCards.{texts_for, used_pairs, IsTheNumber, IsTheRange}
+use Rattle.spec_meaning.specs.NumberCards.{texts_for, used_pairs, IsTheNumber, IsTheRange, IsRangeIf, IsTheRangeOf}
 use Rattle.spec_meaning.specs.ColumnCards.{pairs_of_column}
 use Rattle.spec_meaning.specs.BoundCards.{bounds_of_column, lower_of, upper_of}
 use Rattle.spec_meaning.specs.Meaning.{Means}
@@ -31,7 +32,7 @@ use Rattle.spec_meaning.proofs.TitlesKept.{name_said, sense_said}
 use Rattle.spec_meaning.proofs.RowsKept.{rows_said, objective_said}
 use Rattle.spec_meaning.proofs.ColumnsSaid.{columns_named, coefficient_said, cost_said}
 use Rattle.spec_meaning.proofs.SidesKept.{right_side_said, offset_said}
-use Rattle.spec_meaning.proofs.RangesKept.{range_said}
+use Rattle.spec_meaning.proofs.RangesKept.{range_by_kind}
 use Rattle.spec_meaning.proofs.BoundsSaid.{bounds_said}
 
 -- what a text spells, it means
@@ -47,7 +48,7 @@ spelled_means style lines m h =
       costs = cost_said style lines m h;
       right_sides = right_side_said style lines m h;
       offset = offset_said style lines m h;
-      ranges = range_said style lines m h;
+      ranges = range_by_kind style lines m h;
       lower = λ j l. (bounds_said style lines m h j l).0;
       upper = λ j l. (bounds_said style lines m h j l).1;
     }
@@ -88,8 +89,14 @@ one_sense [] s t h k = h ∙ sym k
 one_sense (word ∷ []) s t h k = one_word s t word h k
 one_sense (word ∷ other ∷ more) s t h k = absurd h
 
-same_head : (a b : Name) (xs ys : List Name) → a ∷ xs ≡ b ∷ ys → a ≡ b
-same_head a b xs ys h = cc
+-- of rows of one kind
+one_range_of : (kind : Kind) (texts : List (List ℕ)) (p q : Option ℚ) → IsTheRangeOf kind texts p →
+    IsTheRangeOf kind texts q → p ≡ q
+one_range_of kind texts p q h k = by (is_free kind) h k
+  where
+    by : (b : Bool) → IsRangeIf b texts p → IsRangeIf b texts q → p ≡ q
+    by true h k = h ∙ sym k
+    by false h k = one_range texts p q h k
 
 -- ---- entries
 
@@ -181,7 +188,7 @@ one_entries n es ds h k same = one_list n 0 es ds (entries_rise n es h) (entries
 
 module _ (style : Style) (lines : Lines) (m o : Model) (h : Means style lines m) (k : Means style lines o) where
   objectives : m.objective ≡ o.objective
-  objectives = same_head m.objective o.objective h.objective.0 k.objective.0 (sym h.objective.1 ∙ k.objective.1)
+  objectives = same_some m.objective o.objective (sym h.objective ∙ k.objective)
 
   labels_same : map (λ (r : ExactRow). (let x : Kind × Name = (r.kind, r.name) in x)) m.rows
       ≡ map (λ (r : ExactRow). (let x : Kind × Name = (r.kind, r.name) in x)) o.rows
@@ -207,9 +214,10 @@ module _ (style : Style) (lines : Lines) (m o : Model) (h : Means style lines m)
       (subst (λ n. IsTheNumber (texts_for n (used_pairs (cards_in style section.RightSides lines))) (row o i).rhs)
       (sym name) (k.right_sides i l')) in
       let range =
-      one_range _ (row m i).range (row o i).range (h.ranges i l)
-      (subst (λ n. IsTheRange (texts_for n (used_pairs (cards_in style section.Ranges lines))) (row o i).range)
-      (sym name) (k.ranges i l')) in
+      one_range_of (row m i).kind _ (row m i).range (row o i).range (h.ranges i l)
+      (subst (λ (x : Kind × Name).
+      IsTheRangeOf x.0 (texts_for x.1 (used_pairs (cards_in style section.Ranges lines))) (row o i).range)
+      (sym (label_at i)) (k.ranges i l')) in
       λ j. record { name = name j; kind = (label_at i j).0; rhs = rhs j; range = range j }
 
   rows_same : m.rows ≡ o.rows

@@ -7,18 +7,17 @@ use Rattle.std.proofs.lemmas.List.Elements.{filter-append}
 use Rattle.spec_text.specs.Words.{same}
 use Rattle.spec_text.proofs.WordLemmas.{same_true, same-refl}
 use Rattle.spec_exact.specs.Fraction.{ℚ}
+use Rattle.spec_model.specs.declared.parts.Kind.{Kind}
 use Rattle.spec_model.specs.Model.{Name}
 use Rattle.spec_mps.specs.declared.target.Target.{Target}
 use Rattle.spec_mps.specs.declared.target.Target.TheVariants.{Objective, Row}
-use Rattle.spec_mps.specs.declared.target.Place.{Place}
-use Rattle.spec_mps.specs.declared.target.Place.TheVariants.{Kept, Dropped}
 use Rattle.spec_mps.specs.NumberText.{NumberReading, Is, Shape, Wide, number_of, answer}
 use Rattle.spec_mps.specs.Checks.{coded}
 use Rattle.spec_mps.specs.Reader.{State, number_in, same_target, is_among}
-use Rattle.spec_mps.proofs.CheckSteps.{same_ok, same_some}
+use Rattle.spec_mps.proofs.CheckSteps.{same_ok}
 use Rattle.spec_meaning.specs.NumberCards.{Pairs, texts_for}
 use Rattle.spec_meaning.proofs.Order.{not_both}
-use Rattle.spec_meaning.proofs.RowViews.{RowView, row_view, place_in, one_name, one_target}
+use Rattle.spec_meaning.proofs.RowViews.{RowView, row_view, place_in, one_name, one_target, counts, StandsFor}
 
 -- ---- numbers
 
@@ -75,88 +74,82 @@ same_target_itself (Row i) = eq-eqb i i refl
 
 -- ---- one pair
 
--- what a number at a place did to the values of targets
-pub data Put (V : Type 0) (value_of : State → Target → V) (u : State) (place : Place) (v : V) (w : State) : Type 0 where
-  PutNowhere : (place_is : place ≡ Dropped) → (same : u ≡ w) → Put V value_of u place v w
-  PutAt : (x : Target) → (place_is : place ≡ Kept x) → (new : is_among x u.paired ≡ false) →
-      (paired : w.paired ≡ x ∷ u.paired) → (set : w.set ≡ u.set) → (view : row_view w ≡ row_view u) →
-      (here : value_of w x ≡ v) → (elsewhere : (t : Target) → same_target t x ≡ false → value_of w t ≡ value_of u t) →
-      Put V value_of u place v w
+-- what a number at a target did to the values of targets: nothing, where the target is of a kind that does not count
+pub data Put (V : Type 0) (value_of : State → Target → V) (counted : Kind → Bool)
+    (u : State) (x : Target) (v : V) (w : State) : Type 0 where
+  PutNowhere : (off : counts counted (row_view u) x ≡ false) → (same : u ≡ w) → Put V value_of counted u x v w
+  PutAt : (new : is_among x u.paired ≡ false) → (paired : w.paired ≡ x ∷ u.paired) → (set : w.set ≡ u.set) →
+      (view : row_view w ≡ row_view u) → (here : value_of w x ≡ v) →
+      (elsewhere : (t : Target) → same_target t x ≡ false → value_of w t ≡ value_of u t) →
+      Put V value_of counted u x v w
 
--- the values of targets are what these pairs say
+-- the values of targets that count are what these pairs say
 pub record Tells (V : Type 0) (value_of : State → Target → V) (IsNumber : List (List ℕ) → V → Type 0)
-    (view : RowView) (pairs : Pairs) (u : State) : Type 0 where
+    (counted : Kind → Bool) (view : RowView) (pairs : Pairs) (u : State) : Type 0 where
   pub view_is : row_view u ≡ view
-  pub numbers : (name : Name) (t : Target) → place_in view name ≡ Some (Kept t) →
+  pub numbers : (name : Name) (t : Target) → StandsFor counted view name t →
       IsNumber (texts_for name pairs) (value_of u t)
-  pub unpaired : (name : Name) (t : Target) → place_in view name ≡ Some (Kept t) → is_among t u.paired ≡ false →
+  pub unpaired : (name : Name) (t : Target) → StandsFor counted view name t → is_among t u.paired ≡ false →
       texts_for name pairs ≡ []
 
-pub put_set : (V : Type 0) (value_of : State → Target → V) (u : State) (place : Place) (v : V) (w : State) →
-    Put V value_of u place v w → w.set ≡ u.set
-put_set V value_of u place v w (PutNowhere e same) = ap (λ (x : State). x.set) (sym same)
-put_set V value_of u place v w (PutAt x e new paired set same_view here elsewhere) = set
+pub put_set : (V : Type 0) (value_of : State → Target → V) (counted : Kind → Bool)
+    (u : State) (x : Target) (v : V) (w : State) → Put V value_of counted u x v w → w.set ≡ u.set
+put_set V value_of counted u x v w (PutNowhere off same) = ap (λ (x : State). x.set) (sym same)
+put_set V value_of counted u x v w (PutAt new paired set same_view here elsewhere) = set
 
 or_false : (a b : Bool) → (a || b) ≡ false → (a ≡ false) × (b ≡ false)
 or_false true b h = absurd (cc)
 or_false false b h = (refl, h)
 
-same_dropped : (t : Target) → Dropped ≡ Kept t → ⊥
-same_dropped t h = cc
-
-same_kept : (t u : Target) → Kept t ≡ Kept u → t ≡ u
-same_kept t u h = cc
-
-module _ {V : Type 0} {value_of : State → Target → V} {IsNumber : List (List ℕ) → V → Type 0}
+module _ {V : Type 0} {value_of : State → Target → V} {IsNumber : List (List ℕ) → V → Type 0} (counted : Kind → Bool)
     (view : RowView) (pairs : Pairs) (u w : State) (pair : List ℕ × List ℕ)
-    (place : Place) (v : V) (at : place_in view pair.0 ≡ Some place)
-    (one : IsNumber (pair.1 ∷ []) v) (k : Tells V value_of IsNumber view pairs u) where
+    (x : Target) (v : V) (at : place_in view pair.0 ≡ Some x)
+    (one : IsNumber (pair.1 ∷ []) v) (k : Tells V value_of IsNumber counted view pairs u) where
+  -- the pair's name stands for its target alone
+  own_target : (name : Name) (t : Target) → place_in view name ≡ Some t → same pair.0 name ≡ true → t ≡ x
+  own_target name t h f = one_target view name t x h (ap (place_in view) (sym (same_true pair.0 name f)) ∙ at)
+
   -- a name of another target than the pair's
-  other_name : (name : Name) (t x : Target) → place ≡ Kept x → place_in view name ≡ Some (Kept t) →
-      same_target t x ≡ false → same pair.0 name ≡ false
-  other_name name t x e h ne = by (same pair.0 name) refl
+  other_name : (name : Name) (t : Target) → place_in view name ≡ Some t → same_target t x ≡ false →
+      same pair.0 name ≡ false
+  other_name name t h ne = by (same pair.0 name) refl
     where
       by : (b : Bool) → same pair.0 name ≡ b → b ≡ false
       by true f =
-          let p : place_in view name ≡ Some (Kept x) =
-          ap (place_in view) (sym (same_true pair.0 name f)) ∙ at ∙ ap (λ y. Some y) e in
-          let same : t ≡ x = one_target view name t x h p in
-          not_both (same_target t x) (ap (λ y. same_target t y) (sym same) ∙ same_target_itself t) ne
+          not_both (same_target t x)
+          (ap (λ y. same_target t y) (sym (own_target name t h f)) ∙ same_target_itself t) ne
       by false f = refl
 
   -- the pair's own name
-  own_name : (name : Name) (t x : Target) → place ≡ Kept x → place_in view name ≡ Some (Kept t) → t ≡ x →
-      same pair.0 name ≡ true
-  own_name name t x e h same_t =
-      let p : place_in view pair.0 ≡ Some (Kept t) = at ∙ ap (λ y. Some y) (e ∙ ap (λ y. Kept y) (sym same_t)) in
-      ap (λ n. same n name) (one_name view pair.0 name t p h) ∙ same-refl name
+  own_name : (name : Name) (t : Target) → place_in view name ≡ Some t → t ≡ x → same pair.0 name ≡ true
+  own_name name t h same_t =
+      ap (λ n. same n name) (one_name view pair.0 name t (at ∙ ap (λ y. Some y) (sym same_t)) h) ∙ same-refl name
 
-  at_target : (x : Target) → place ≡ Kept x → is_among x u.paired ≡ false → w.paired ≡ x ∷ u.paired →
-      row_view w ≡ row_view u → value_of w x ≡ v →
+  at_target : is_among x u.paired ≡ false → w.paired ≡ x ∷ u.paired → row_view w ≡ row_view u → value_of w x ≡ v →
       ((t : Target) → same_target t x ≡ false → value_of w t ≡ value_of u t) →
-      Tells V value_of IsNumber view (pairs ++ pair ∷ []) w
-  at_target x e new paired same_view here elsewhere =
+      Tells V value_of IsNumber counted view (pairs ++ pair ∷ []) w
+  at_target new paired same_view here elsewhere =
       record {
         view_is = same_view ∙ k.view_is;
         numbers = λ name t h. by name t h (same_target t x) refl;
         unpaired = λ name t h free.
             let f = or_false (same_target t x) (is_among t u.paired) (ap (is_among t) (sym paired) ∙ free) in
-            texts_same name pairs pair (other_name name t x e h f.0) ∙ k.unpaired name t h f.1;
+            texts_same name pairs pair (other_name name t h.0 f.0) ∙ k.unpaired name t h f.1;
       }
     where
-      by : (name : Name) (t : Target) → place_in view name ≡ Some (Kept t) → (b : Bool) → same_target t x ≡ b →
+      by : (name : Name) (t : Target) → StandsFor counted view name t → (b : Bool) → same_target t x ≡ b →
           IsNumber (texts_for name (pairs ++ pair ∷ [])) (value_of w t)
       by name t h true f =
           let same_t : t ≡ x = same_target_true t x f in
           let none : texts_for name pairs ≡ [] = k.unpaired name t h (ap (λ y. is_among y u.paired) same_t ∙ new) in
-          subst₂ IsNumber (sym (texts_one name pairs pair (own_name name t x e h same_t) none))
+          subst₂ IsNumber (sym (texts_one name pairs pair (own_name name t h.0 same_t) none))
           (sym (ap (value_of w) same_t ∙ here)) one
       by name t h false f =
-          subst₂ IsNumber (sym (texts_same name pairs pair (other_name name t x e h f)))
+          subst₂ IsNumber (sym (texts_same name pairs pair (other_name name t h.0 f)))
           (sym (elsewhere t f)) (k.numbers name t h)
 
-  nowhere : place ≡ Dropped → Tells V value_of IsNumber view (pairs ++ pair ∷ []) u
-  nowhere e =
+  nowhere : counts counted view x ≡ false → Tells V value_of IsNumber counted view (pairs ++ pair ∷ []) u
+  nowhere off =
       record {
         view_is = k.view_is;
         numbers =
@@ -167,13 +160,14 @@ module _ {V : Type 0} {value_of : State → Target → V} {IsNumber : List (List
             ∙ k.unpaired name t h free;
       }
     where
-      differs : (name : Name) (t : Target) → place_in view name ≡ Some (Kept t) → (b : Bool) → same pair.0 name ≡ b →
+      differs : (name : Name) (t : Target) → StandsFor counted view name t → (b : Bool) → same pair.0 name ≡ b →
           b ≡ false
       differs name t h true f =
-          absurd (same_dropped t (same_some Dropped (Kept t)
-          (sym (ap (λ y. Some y) e) ∙ sym at ∙ ap (place_in view) (same_true pair.0 name f) ∙ h)))
+          not_both (counts counted view t) h.1 (ap (counts counted view) (own_target name t h.0 f) ∙ off)
       differs name t h false f = refl
 
-  pub tells_push : Put V value_of u place v w → Tells V value_of IsNumber view (pairs ++ pair ∷ []) w
-  tells_push (PutNowhere e same) = subst (Tells V value_of IsNumber view (pairs ++ pair ∷ [])) same (nowhere e)
-  tells_push (PutAt x e new paired set same_view here elsewhere) = at_target x e new paired same_view here elsewhere
+  pub tells_push : Put V value_of counted u x v w → Tells V value_of IsNumber counted view (pairs ++ pair ∷ []) w
+  tells_push (PutNowhere off same) =
+      subst (Tells V value_of IsNumber counted view (pairs ++ pair ∷ [])) same
+      (nowhere (ap (λ y. counts counted y x) (sym k.view_is) ∙ off))
+  tells_push (PutAt new paired set same_view here elsewhere) = at_target new paired same_view here elsewhere

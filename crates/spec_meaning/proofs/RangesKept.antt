@@ -1,28 +1,30 @@
 -- The ranges of rows are what RANGES says.
-use Rattle.std.proofs.Common.{◌≡◌, ℕ, ◌<◌, false, not, Option, Some, None, Ok, List, [], ◌∷◌, refl, ap, subst}
+use Rattle.std.proofs.Common.{◌≡◌, ℕ, ◌<◌, Bool, true, false, not, Option, Some, None, Ok, List, [], ◌∷◌, refl, ap, ◌∙◌, subst}
 use Rattle.spec_exact.specs.Fraction.{ℚ}
-use Rattle.spec_model.specs.Model.{Model, Name, ExactRow, row, height}
+use Rattle.spec_model.specs.declared.parts.Kind.{Kind}
+use Rattle.spec_model.specs.Model.{Model, Name, ExactRow, no_row, row, height, is_free}
+use Rattle.spec_model.specs.Kept.{FitsKind}
 use Rattle.spec_mps.specs.declared.fault.Code.TheVariants as code
 use Rattle.spec_mps.specs.declared.section.Section.{Section}
 use Rattle.spec_mps.specs.declared.section.Section.TheVariants as section
 use Rattle.spec_mps.specs.declared.style.Style.{Style}
 use Rattle.spec_mps.specs.declared.target.Target.{Target}
 use Rattle.spec_mps.specs.declared.target.Target.TheVariants.{Objective, Row}
-use Rattle.spec_mps.specs.declared.target.Place.{Place}
-use Rattle.spec_mps.specs.declared.target.Place.TheVariants.{Kept, Dropped}
 use Rattle.spec_mps.specs.Reader.{State, is_among, place_of}
-use Rattle.spec_mps.specs.Sides.{put_range}
+use Rattle.spec_mps.specs.Sides.{new_range}
 use Rattle.spec_mps.specs.Steps.{Spells}
 use Rattle.spec_mps.proofs.Steps.{negated}
 use Rattle.spec_mps.proofs.CheckSteps.{must_ok, same_ok}
 use Rattle.spec_mps.proofs.Sets.{Ranges}
-use Rattle.spec_mps.proofs.CardsDid.{put_ranged}
-use Rattle.spec_meaning.specs.NumberCards.{IsTheRange, texts_for, used_pairs}
+use Rattle.spec_mps.proofs.CardsDid.{put_ranged, RangeDid, Forgotten, Kept, put_range_did}
+use Rattle.spec_mps.proofs.SpelledKept.{spelled_kept}
+use Rattle.spec_meaning.specs.NumberCards.{IsTheRange, IsRangeIf, IsTheRangeOf, texts_for, used_pairs}
 use Rattle.spec_meaning.specs.TextCards.{Lines, cards_in}
 use Rattle.spec_meaning.proofs.Frames.{Leads, without_side}
 use Rattle.spec_meaning.proofs.SoFar.{is_section}
 use Rattle.spec_meaning.proofs.PairsKept.{Put, PutNowhere}
-use Rattle.spec_meaning.proofs.NumbersKept.{number_at, row_put, viewed_row, GivesNumbers, row_said, objective_said}
+use Rattle.spec_meaning.proofs.NumbersKept.{number_at, row_put, row_counts, viewed_row, GivesNumbers, row_said, objective_said}
+use Rattle.spec_meaning.proofs.Order.{not_both}
 
 -- the range of a target; the objective has none
 abbrev range_at : State → Target → Option ℚ
@@ -30,16 +32,24 @@ range_at = number_at (λ q. None) (λ r. r.range)
 
 -- ---- one pair
 
-range_put : (s : State) (name : Name) (place : Place) (v : ℚ) (t : State) → place_of s name ≡ Some place →
-    put_ranged s place v ≡ Ok t → Put (Option ℚ) range_at s place (Some v) t
-unfolding put_range
-range_put s name Dropped v t at h = PutNowhere refl (same_ok s t h)
-range_put s name (Kept Objective) v t at h = absurd (cc)
-range_put s name (Kept (Row i)) v t at h =
-    let a = must_ok (not (is_among (Row i) s.paired)) code.EntryRepeated _ t h in
-    subst (Put (Option ℚ) range_at s (Kept (Row i)) (Some v)) (same_ok _ t a.1)
-    (row_put (λ q. None) (λ r. r.range) (λ r. record r { range = Some v }) (Some v)
+-- the kinds of rows that have ranges
+abbrev is_ranged : Kind → Bool
+is_ranged kind = not (is_free kind)
+
+new_put : (s : State) (name : Name) (i : ℕ) (v : ℚ) (t : State) → place_of s name ≡ Some (Row i) → RangeDid s i v t →
+    Put (Option ℚ) range_at is_ranged s (Row i) (Some v) t
+unfolding new_range
+new_put s name i v t at (Forgotten free same) = PutNowhere (row_counts is_ranged s i ∙ ap not free) same
+new_put s name i v t at (Kept limited did) =
+    let a = must_ok (not (is_among (Row i) s.paired)) code.EntryRepeated _ t did in
+    subst (Put (Option ℚ) range_at is_ranged s (Row i) (Some v)) (same_ok _ t a.1)
+    (row_put (λ q. None) (λ r. r.range) is_ranged (λ r. record r { range = Some v }) (Some v)
     (λ r. refl) (λ r. refl) s name i at (negated _ a.0))
+
+range_put : (s : State) (name : Name) (place : Target) (v : ℚ) (t : State) → place_of s name ≡ Some place →
+    put_ranged s place v ≡ Ok t → Put (Option ℚ) range_at is_ranged s place (Some v) t
+range_put s name Objective v t at h = absurd (cc)
+range_put s name (Row i) v t at h = new_put s name i v t at (put_range_did s i v t h)
 
 -- ---- other cards
 
@@ -54,7 +64,7 @@ ranges_stay part s t e f h x = ap (λ (u : State). range_at u x) h
 
 -- ---- the model
 
-ranges_give : GivesNumbers (Option ℚ) (λ q. None) (λ r. r.range) IsTheRange (λ v. Some v) Ranges
+ranges_give : GivesNumbers (Option ℚ) (λ q. None) (λ r. r.range) IsTheRange is_ranged (λ v. Some v) Ranges
 ranges_give =
     record {
       one = λ text v e. (v, refl, e);
@@ -65,8 +75,24 @@ ranges_give =
     }
 
 pub range_said : (style : Style) (lines : Lines) (m : Model) → Spells style lines m → (i : ℕ) → i < height m →
+    is_free (row m i).kind ≡ false →
     IsTheRange (texts_for (row m i).name (used_pairs (cards_in style section.Ranges lines))) (row m i).range
-range_said = row_said ranges_give
+range_said style lines m h i l n = row_said ranges_give style lines m h i l (ap not n)
+
+-- a free row has none
+pub range_by_kind : (style : Style) (lines : Lines) (m : Model) → Spells style lines m → (i : ℕ) → i < height m →
+    IsTheRangeOf (row m i).kind (texts_for (row m i).name (used_pairs (cards_in style section.Ranges lines)))
+    (row m i).range
+range_by_kind style lines m h i l = by (is_free (row m i).kind) refl
+  where
+    none : (range : Option ℚ) → is_free (row m i).kind ≡ true → FitsKind (row m i).kind range → range ≡ None
+    none None e f = refl
+    none (Some q) e f = not_both (is_free (row m i).kind) e f
+
+    by : (b : Bool) → is_free (row m i).kind ≡ b →
+        IsRangeIf b (texts_for (row m i).name (used_pairs (cards_in style section.Ranges lines))) (row m i).range
+    by true e = none (row m i).range e ((spelled_kept style lines m h).ranges i no_row l)
+    by false e = range_said style lines m h i l e
 
 none_given : (texts : List (List ℕ)) → IsTheRange texts None → texts ≡ []
 none_given [] h = refl

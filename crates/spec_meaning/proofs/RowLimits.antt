@@ -1,10 +1,11 @@
 -- The limits of a row, by its kind, its right side and its range.
-use Rattle.std.proofs.Common.{◌≡◌, ◌↔◌, cond, Option, Some, None, refl, sym, ap, ◌∙◌, subst}
+use Rattle.std.proofs.Common.{◌≡◌, ◌↔◌, Bool, cond, Option, Some, None, refl, sym, ap, ◌∙◌, subst}
 use Rattle.spec_exact.specs.Fraction.{ℚ, 0ℚ, ◌+ℚ◌, ◌-ℚ◌, abs_ℚ, ◌≤ℚ◌, ◌<ℚ◌}
 use Rattle.spec_exact.proofs.Order.{≤ℚ_refl, ≤ℚ_antisym, lt_test, not_lt_test}
 use Rattle.spec_model.specs.declared.parts.Kind.{Kind}
-use Rattle.spec_model.specs.declared.parts.Kind.TheVariants.{L, G, E}
-use Rattle.spec_model.specs.Model.{ExactRow, Limits, up_to, from_on, from_to, limits_by, limits_of}
+use Rattle.spec_model.specs.declared.parts.Kind.TheVariants.{L, G, E, N}
+use Rattle.spec_model.specs.declared.parts.RowLimit.TheVariants.{Given, Sum}
+use Rattle.spec_model.specs.Model.{ExactRow, Limits, limit_of, limits_by, limits_of}
 use Rattle.spec_model.specs.Truth.{IsBetween}
 
 -- the limits of this kind and range
@@ -15,6 +16,15 @@ limits_are r kind range k e = λ i. limits_by (sym k i) r.rhs (sym e i)
 by_limits : (r : ExactRow) (kind : Kind) (range : Option ℚ) (l : Limits) (v : ℚ) (A : Type 0) → r.kind ≡ kind →
     r.range ≡ range → l ≡ limits_by kind r.rhs range → (IsBetween l v ↔ A) → IsBetween (limits_of r) v ↔ A
 by_limits r kind range l v A k e h f = subst (λ x. IsBetween x v ↔ A) (h ∙ limits_are r kind range k e) f
+
+abbrev up_to : ℚ → Limits
+up_to b = record { lower = None; upper = Some b }
+
+abbrev from_on : ℚ → Limits
+from_on b = record { lower = Some b; upper = None }
+
+abbrev from_to : ℚ → ℚ → Limits
+from_to a b = record { lower = Some a; upper = Some b }
 
 below : (b v : ℚ) → IsBetween (up_to b) v ↔ (v ≤ℚ b)
 below b v = (λ h. h.upper, λ h. record { lower = tt; upper = h })
@@ -48,16 +58,25 @@ at_least_to r q v k e = by_limits r G (Some q) (from_to r.rhs (r.rhs +ℚ abs_�
 pub equal : (r : ExactRow) (v : ℚ) → r.kind ≡ E → r.range ≡ None → IsBetween (limits_of r) v ↔ (v ≡ r.rhs)
 equal r v k e = by_limits r E None (from_to r.rhs r.rhs) v _ k e refl (on r.rhs v)
 
+-- the limits of an equation with a range, which is below 0 or not
+abbrev ranged : ℚ → ℚ → Bool → Limits
+ranged b q c = record { lower = limit_of (cond c (Sum b q) (Given b)); upper = limit_of (cond c (Given b) (Sum b q)) }
+
 pub equal_up_to : (r : ExactRow) (q v : ℚ) → r.kind ≡ E → r.range ≡ Some q → 0ℚ ≤ℚ q →
     IsBetween (limits_of r) v ↔ ((r.rhs ≤ℚ v) × (v ≤ℚ (r.rhs +ℚ q)))
 equal_up_to r q v k e h =
     by_limits r E (Some q) (from_to r.rhs (r.rhs +ℚ q)) v _ k e
-    (ap (λ b. cond b (from_to (r.rhs +ℚ q) r.rhs) (from_to r.rhs (r.rhs +ℚ q))) (sym (not_lt_test q 0ℚ h)))
+    (ap (ranged r.rhs q) (sym (not_lt_test q 0ℚ h)))
     (within r.rhs _ v)
 
 pub equal_down_to : (r : ExactRow) (q v : ℚ) → r.kind ≡ E → r.range ≡ Some q → q <ℚ 0ℚ →
     IsBetween (limits_of r) v ↔ (((r.rhs +ℚ q) ≤ℚ v) × (v ≤ℚ r.rhs))
 equal_down_to r q v k e h =
     by_limits r E (Some q) (from_to (r.rhs +ℚ q) r.rhs) v _ k e
-    (ap (λ b. cond b (from_to (r.rhs +ℚ q) r.rhs) (from_to r.rhs (r.rhs +ℚ q))) (sym (lt_test q 0ℚ h)))
+    (ap (ranged r.rhs q) (sym (lt_test q 0ℚ h)))
     (within _ r.rhs v)
+
+pub free : (r : ExactRow) (v : ℚ) → r.kind ≡ N → IsBetween (limits_of r) v
+free r v k =
+    subst (λ x. IsBetween x v) (limits_are r N r.range k refl)
+    (record { lower = tt; upper = tt })

@@ -1,9 +1,9 @@
 -- The names of rows that a state has, what they stand for, and what leaves them as they are.
-use Rattle.std.proofs.Common.{◌≡◌, ℕ, suc, ◌+◌, ◌<◌, ◌≤◌, Bool, true, false, not, ◌||◌, cond}
+use Rattle.std.proofs.Common.{◌≡◌, ℕ, suc, ◌+◌, ◌<◌, ◌≤◌, Bool, true, false, not, cond}
 use Rattle.std.proofs.Common.{ltb, Option, Some, None, Ok, List, [], ◌∷◌, ◌++◌, length}
 use Rattle.std.proofs.Common.{map, refl, sym, ap, ◌∙◌, subst, get_or, arith, length-append}
 use borrow.Author.Tests.{ltb-true, ltb-false, lt-ltb}
-use Rattle.std.specs.List.{list_any, position, position_or_len}
+use Rattle.std.specs.List.{position, position_or_len}
 use Rattle.std.proofs.lemmas.List.Quantifiers.{position-Some}
 use Rattle.spec_text.specs.Words.{same}
 use Rattle.spec_text.proofs.WordLemmas.{same_true, same-refl}
@@ -14,8 +14,6 @@ use Rattle.spec_mps.specs.declared.section.Section.{Section}
 use Rattle.spec_mps.specs.declared.section.Section.TheVariants as section
 use Rattle.spec_mps.specs.declared.target.Target.{Target}
 use Rattle.spec_mps.specs.declared.target.Target.TheVariants.{Objective, Row}
-use Rattle.spec_mps.specs.declared.target.Place.{Place}
-use Rattle.spec_mps.specs.declared.target.Place.TheVariants.{Kept, Dropped}
 use Rattle.spec_mps.specs.Reader.{State, is_objective, row_at, place_of}
 use Rattle.spec_mps.specs.Steps.{begun, headed}
 use Rattle.spec_mps.proofs.CheckSteps.{same_some}
@@ -27,14 +25,13 @@ use Rattle.spec_meaning.proofs.Runs.{headed_leads}
 
 pub record RowView : Type 0 where
   pub objective : Option Name
-  pub dropped : List Name
   pub rows : List (Kind × Name)
 
 abbrev pub labels : List ExactRow → List (Kind × Name)
 labels rows = map (λ r. (r.kind, r.name)) rows
 
 abbrev pub row_view : State → RowView
-row_view s = record { objective = s.objective; dropped = s.dropped; rows = labels s.rows }
+row_view s = record { objective = s.objective; rows = labels s.rows }
 
 -- rows that are the same but for what a view does not see
 same_labels : (view : ExactRow → ExactRow) → ((r : ExactRow) → (view r).kind ≡ r.kind) →
@@ -55,10 +52,10 @@ rows_stay section.Rows s t e h = absurd (cc)
 rows_stay section.Columns s t e h = ap row_view h
 rows_stay section.RightSides s t e h =
     let names = viewed_labels without_side (λ r. refl) (λ r. refl) t.rows s.rows (ap (λ (u : State). u.rows) h) in
-    λ i. record { objective = (h i).objective; dropped = (h i).dropped; rows = names i }
+    λ i. record { objective = (h i).objective; rows = names i }
 rows_stay section.Ranges s t e h =
     let names = viewed_labels without_range (λ r. refl) (λ r. refl) t.rows s.rows (ap (λ (u : State). u.rows) h) in
-    λ i. record { objective = (h i).objective; dropped = (h i).dropped; rows = names i }
+    λ i. record { objective = (h i).objective; rows = names i }
 rows_stay section.Bounds s t e h = ap row_view h
 rows_stay section.End s t e h = ap row_view h
 
@@ -66,15 +63,11 @@ pub rows_stay_headed : (s : State) (part : Section) (word : List ℕ) (t : State
     headed (begun s part) part word ≡ Ok t → row_view t ≡ row_view s
 rows_stay_headed s part word t h = ap row_view (headed_leads (begun s part) part word t h)
 
-same_kept : (t u : Target) → Kept t ≡ Kept u → t ≡ u
-same_kept t u h = cc
-
 -- ---- what a name stands for
 
-abbrev pub place_in : RowView → Name → Option Place
+abbrev pub place_in : RowView → Name → Option Target
 place_in v name =
-    cond (is_objective v.objective name) (Some (Kept Objective))
-    (cond (list_any (same name) v.dropped) (Some Dropped) (row_at (position (λ r. same r.1 name) v.rows)))
+    cond (is_objective v.objective name) (Some Objective) (row_at (position (λ r. same r.1 name) v.rows))
 
 first_label : (name : Name) (rows : List ExactRow) →
     position_or_len (λ r. same r.name name) rows ≡ position_or_len (λ r. same r.1 name) (labels rows)
@@ -88,9 +81,8 @@ many_labels (r ∷ rows) = ap suc (many_labels rows)
 pub place_by_view : (s : State) (name : Name) → place_of s name ≡ place_in (row_view s) name
 unfolding place_of
 place_by_view s name =
-    λ i. cond (is_objective s.objective name) (Some (Kept Objective))
-    (cond (list_any (same name) s.dropped) (Some Dropped) (row_at
-    (cond (ltb (first_label name s.rows i) (sym (many_labels s.rows) i)) (Some (first_label name s.rows i)) None)))
+    λ i. cond (is_objective s.objective name) (Some Objective) (row_at
+    (cond (ltb (first_label name s.rows i) (sym (many_labels s.rows) i)) (Some (first_label name s.rows i)) None))
 
 -- ---- the name of a target
 
@@ -109,51 +101,62 @@ objective_name : (o : Option Name) (name : Name) → is_objective o name ≡ tru
 objective_name None name h = absurd (cc)
 objective_name (Some objective) name h = ap (λ n. Some n) (same_true objective name h)
 
-pub place_name : (v : RowView) (name : Name) (t : Target) → place_in v name ≡ Some (Kept t) →
+pub place_name : (v : RowView) (name : Name) (t : Target) → place_in v name ≡ Some t →
     (name_in v t ≡ Some name) × IsIn v t
 place_name v name t h =
-    go (is_objective v.objective name) (list_any (same name) v.dropped)
-    (position (λ r. same r.1 name) v.rows) refl refl h
+    go (is_objective v.objective name) (position (λ r. same r.1 name) v.rows) refl refl h
   where
-    by_target : (u : Target) → Kept u ≡ Kept t → (name_in v u ≡ Some name) × IsIn v u →
-        (name_in v t ≡ Some name) × IsIn v t
-    by_target u e k = subst (λ x. (name_in v x ≡ Some name) × IsIn v x) (same_kept u t e) k
+    by_target : (u : Target) → u ≡ t → (name_in v u ≡ Some name) × IsIn v u → (name_in v t ≡ Some name) × IsIn v t
+    by_target u e k = subst (λ x. (name_in v x ≡ Some name) × IsIn v x) e k
 
-    go : (a b : Bool) (o : Option ℕ) → is_objective v.objective name ≡ a → position (λ r. same r.1 name) v.rows ≡ o →
-        cond a (Some (Kept Objective)) (cond b (Some Dropped) (row_at o)) ≡ Some (Kept t) →
-        (name_in v t ≡ Some name) × IsIn v t
-    go true b o e f k = by_target Objective (same_some _ _ k) (objective_name v.objective name e, tt)
-    go false true o e f k = absurd (cc)
-    go false false None e f k = absurd (cc)
-    go false false (Some i) e f k =
+    go : (a : Bool) (o : Option ℕ) → is_objective v.objective name ≡ a → position (λ r. same r.1 name) v.rows ≡ o →
+        cond a (Some Objective) (row_at o) ≡ Some t → (name_in v t ≡ Some name) × IsIn v t
+    go true o e f k = by_target Objective (same_some _ _ k) (objective_name v.objective name e, tt)
+    go false None e f k = absurd (cc)
+    go false (Some i) e f k =
         let p = position-Some (λ (r : Kind × Name). same r.1 name) v.rows i no_label f in
         by_target (Row i) (same_some _ _ k) (ap (λ n. Some n) (same_true (get_or v.rows i no_label).1 name p.1), p.0)
 
 -- a target has one name
-pub one_name : (v : RowView) (a b : Name) (t : Target) → place_in v a ≡ Some (Kept t) → place_in v b ≡ Some (Kept t) →
+pub one_name : (v : RowView) (a b : Name) (t : Target) → place_in v a ≡ Some t → place_in v b ≡ Some t →
     a ≡ b
 one_name v a b t h k = same_some a b (sym (place_name v a t h).0 ∙ (place_name v b t k).0)
 
 -- and a name has one target
-pub one_target : (v : RowView) (a : Name) (t u : Target) → place_in v a ≡ Some (Kept t) → place_in v a ≡ Some (Kept u) →
+pub one_target : (v : RowView) (a : Name) (t u : Target) → place_in v a ≡ Some t → place_in v a ≡ Some u →
     t ≡ u
-one_target v a t u h k = same_kept t u (same_some (Kept t) (Kept u) (sym h ∙ k))
+one_target v a t u h k = same_some t u (sym h ∙ k)
 
-pub objective_place : (v : RowView) (name : Name) → v.objective ≡ Some name → place_in v name ≡ Some (Kept Objective)
+pub objective_place : (v : RowView) (name : Name) → v.objective ≡ Some name → place_in v name ≡ Some Objective
 objective_place v name h =
-    ap (λ o. cond (is_objective o name) (Some (Kept Objective))
-    (cond (list_any (same name) v.dropped) (Some Dropped) (row_at (position (λ r. same r.1 name) v.rows)))) h
-    ∙ ap (λ b. cond b (Some (Kept Objective))
-    (cond (list_any (same name) v.dropped) (Some Dropped) (row_at (position (λ r. same r.1 name) v.rows))))
-    (same-refl name)
+    ap (λ o. cond (is_objective o name) (Some Objective) (row_at (position (λ r. same r.1 name) v.rows))) h
+    ∙ ap (λ b. cond b (Some Objective) (row_at (position (λ r. same r.1 name) v.rows))) (same-refl name)
+
+-- ---- the targets that count
+
+-- those of the kinds that count, and the objective
+abbrev pub counts : (Kind → Bool) → RowView → Target → Bool
+counts counted v Objective = true
+counts counted v (Row i) = counted (get_or v.rows i no_label).0
+
+abbrev pub every_kind : Kind → Bool
+every_kind kind = true
+
+pub all_count : (v : RowView) (t : Target) → counts every_kind v t ≡ true
+all_count v Objective = refl
+all_count v (Row i) = refl
+
+-- a name stands for a target that counts
+abbrev pub StandsFor : (Kind → Bool) → RowView → Name → Target → Type 0
+StandsFor counted v name t = (place_in v name ≡ Some t) × (counts counted v t ≡ true)
 
 -- ---- each row's name stands for it
 
 pub record IsPlaced (v : RowView) : Type 0 where
-  pub place : (i : ℕ) → i < length v.rows → place_in v (get_or v.rows i no_label).1 ≡ Some (Kept (Row i))
+  pub place : (i : ℕ) → i < length v.rows → place_in v (get_or v.rows i no_label).1 ≡ Some (Row i)
 
 -- a name that stands for something is not a new one
-differs : (v : RowView) (new old : Name) (x : Place) → place_in v new ≡ None → place_in v old ≡ Some x → (b : Bool) →
+differs : (v : RowView) (new old : Name) (x : Target) → place_in v new ≡ None → place_in v old ≡ Some x → (b : Bool) →
     same new old ≡ b → b ≡ false
 differs v new old x h k true e = absurd (no_some (sym h ∙ ap (place_in v) (same_true new old e) ∙ k))
   where
@@ -161,37 +164,16 @@ differs v new old x h k true e = absurd (no_some (sym h ∙ ap (place_in v) (sam
     no_some p = cc
 differs v new old x h k false e = refl
 
-differs_back : (v : RowView) (new old : Name) (x : Place) → place_in v new ≡ None → place_in v old ≡ Some x →
-    (b : Bool) → same old new ≡ b → b ≡ false
-differs_back v new old x h k true e = absurd (no_some (sym h ∙ ap (place_in v) (sym (same_true old new e)) ∙ k))
-  where
-    no_some : None ≡ Some x → ⊥
-    no_some p = cc
-differs_back v new old x h k false e = refl
-
 -- an objective, where there was none
 pub placed_objective : (v : RowView) (new old : Name) (t : Target) → v.objective ≡ None → place_in v new ≡ None →
-    place_in v old ≡ Some (Kept t) → place_in (record v { objective = Some new }) old ≡ Some (Kept t)
+    place_in v old ≡ Some t → place_in (record v { objective = Some new }) old ≡ Some t
 placed_objective v new old t none h k =
-    ap (λ b. cond b (Some (Kept Objective)) rest) (differs v new old (Kept t) h k (same new old) refl)
-    ∙ ap (λ o. cond (is_objective o old) (Some (Kept Objective)) rest) (sym none)
+    ap (λ b. cond b (Some Objective) rest) (differs v new old t h k (same new old) refl)
+    ∙ ap (λ o. cond (is_objective o old) (Some Objective) rest) (sym none)
     ∙ k
   where
-    rest : Option Place
-    rest = cond (list_any (same old) v.dropped) (Some Dropped) (row_at (position (λ r. same r.1 old) v.rows))
-
-any_push : (p : Name → Bool) (xs : List Name) (y : Name) → p y ≡ false → list_any p (xs ++ y ∷ []) ≡ list_any p xs
-any_push p [] y h = ap (λ b. b || false) h
-any_push p (x ∷ xs) y h = ap (λ b. p x || b) (any_push p xs y h)
-
--- one more row that is dropped
-pub placed_dropped : (v : RowView) (new old : Name) (t : Target) → place_in v new ≡ None →
-    place_in v old ≡ Some (Kept t) → place_in (record v { dropped = v.dropped ++ new ∷ [] }) old ≡ Some (Kept t)
-placed_dropped v new old t h k =
-    ap (λ b. cond (is_objective v.objective old) (Some (Kept Objective))
-    (cond b (Some Dropped) (row_at (position (λ r. same r.1 old) v.rows))))
-    (any_push (same old) v.dropped new (differs_back v new old (Kept t) h k (same old new) refl))
-    ∙ k
+    rest : Option Target
+    rest = row_at (position (λ r. same r.1 old) v.rows)
 
 first_more : {X : Type 0} (p : X → Bool) (xs ys : List X) → position_or_len p xs < length xs →
     position_or_len p (xs ++ ys) ≡ position_or_len p xs
@@ -244,32 +226,27 @@ position_last p xs y h e = go (ltb (position_or_len p xs) (length xs)) refl h
         ) refl
 
 -- one more row
-pub placed_row : (v : RowView) (new : Kind × Name) (old : Name) (t : Target) → place_in v old ≡ Some (Kept t) →
-    place_in (record v { rows = v.rows ++ new ∷ [] }) old ≡ Some (Kept t)
+pub placed_row : (v : RowView) (new : Kind × Name) (old : Name) (t : Target) → place_in v old ≡ Some t →
+    place_in (record v { rows = v.rows ++ new ∷ [] }) old ≡ Some t
 placed_row v new old t k =
-    go (is_objective v.objective old) (list_any (same old) v.dropped) (position (λ r. same r.1 old) v.rows) refl k
+    go (is_objective v.objective old) (position (λ r. same r.1 old) v.rows) refl k
   where
-    go : (a b : Bool) (o : Option ℕ) → position (λ r. same r.1 old) v.rows ≡ o →
-        cond a (Some (Kept Objective)) (cond b (Some Dropped) (row_at o)) ≡ Some (Kept t) →
-        cond a (Some (Kept Objective))
-        (cond b (Some Dropped) (row_at (position (λ r. same r.1 old) (v.rows ++ new ∷ [])))) ≡ Some (Kept t)
-    go true b o e k = k
-    go false true o e k = k
-    go false false None e k = absurd (cc)
-    go false false (Some i) e k = ap row_at (position_more (λ (r : Kind × Name). same r.1 old) v.rows new i e) ∙ k
+    go : (a : Bool) (o : Option ℕ) → position (λ r. same r.1 old) v.rows ≡ o →
+        cond a (Some Objective) (row_at o) ≡ Some t →
+        cond a (Some Objective) (row_at (position (λ r. same r.1 old) (v.rows ++ new ∷ []))) ≡ Some t
+    go true o e k = k
+    go false None e k = absurd (cc)
+    go false (Some i) e k = ap row_at (position_more (λ (r : Kind × Name). same r.1 old) v.rows new i e) ∙ k
 
 pub placed_new : (v : RowView) (kind : Kind) (new : Name) → place_in v new ≡ None →
-    place_in (record v { rows = v.rows ++ (kind, new) ∷ [] }) new ≡ Some (Kept (Row (length v.rows)))
+    place_in (record v { rows = v.rows ++ (kind, new) ∷ [] }) new ≡ Some (Row (length v.rows))
 placed_new v kind new h =
-    go (is_objective v.objective new) (list_any (same new) v.dropped) (position (λ r. same r.1 new) v.rows) refl h
+    go (is_objective v.objective new) (position (λ r. same r.1 new) v.rows) refl h
   where
-    go : (a b : Bool) (o : Option ℕ) → position (λ r. same r.1 new) v.rows ≡ o →
-        cond a (Some (Kept Objective)) (cond b (Some Dropped) (row_at o)) ≡ None →
-        cond a (Some (Kept Objective))
-        (cond b (Some Dropped) (row_at (position (λ r. same r.1 new) (v.rows ++ (kind, new) ∷ []))))
-        ≡ Some (Kept (Row (length v.rows)))
-    go true b o e k = absurd (cc)
-    go false true o e k = absurd (cc)
-    go false false (Some i) e k = absurd (cc)
-    go false false None e k =
+    go : (a : Bool) (o : Option ℕ) → position (λ r. same r.1 new) v.rows ≡ o → cond a (Some Objective) (row_at o) ≡ None →
+        cond a (Some Objective) (row_at (position (λ r. same r.1 new) (v.rows ++ (kind, new) ∷ [])))
+        ≡ Some (Row (length v.rows))
+    go true o e k = absurd (cc)
+    go false (Some i) e k = absurd (cc)
+    go false None e k =
         ap row_at (position_last (λ (r : Kind × Name). same r.1 new) v.rows (kind, new) e (same-refl new))

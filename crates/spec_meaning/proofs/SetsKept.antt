@@ -5,13 +5,13 @@ use Rattle.std.specs.List.{filter, flat_map, list_any}
 use Rattle.std.proofs.lemmas.List.Elements.{filter-append}
 use Rattle.spec_text.specs.Words.{same}
 use Rattle.spec_text.proofs.WordLemmas.{same_true, same-refl}
+use Rattle.spec_model.specs.declared.parts.Kind.{Kind}
 use Rattle.spec_model.specs.Model.{Name}
 use Rattle.spec_mps.specs.declared.section.Section.{Section}
 use Rattle.spec_mps.specs.declared.section.Seen.{Seen}
 use Rattle.spec_mps.specs.declared.style.Style.{Style}
 use Rattle.spec_mps.specs.declared.style.Style.TheVariants.{Free, Fixed}
 use Rattle.spec_mps.specs.declared.target.Target.{Target}
-use Rattle.spec_mps.specs.declared.target.Place.TheVariants.{Kept}
 use Rattle.spec_mps.specs.declared.fault.Code.TheVariants as code
 use Rattle.spec_mps.specs.Fields.{Fields, numbers_of, texts_of}
 use Rattle.spec_mps.specs.Shapes.{has_shape, shapes_of, set_shapes, shaped}
@@ -21,7 +21,7 @@ use Rattle.spec_mps.proofs.Sets.{Sets, part_of, shapes_are}
 use Rattle.spec_meaning.specs.NumberCards.{is_same_set, texts_for, side_of, set_on, pairs_on, used_pairs}
 use Rattle.spec_meaning.proofs.SoFar.{is_section}
 use Rattle.spec_meaning.proofs.Order.{not_both}
-use Rattle.spec_meaning.proofs.RowViews.{row_view, place_in}
+use Rattle.spec_meaning.proofs.RowViews.{row_view, StandsFor}
 use Rattle.spec_meaning.proofs.PairsKept.{texts_none, Tells}
 
 -- ---- the fields of a card
@@ -161,38 +161,38 @@ used_none = refl
 -- ---- what the cards of such a section say
 
 -- while its cards are read
-pub record IsDuring (cards : List Fields) (s : State) : Type 0 where
+pub record IsDuring (counted : Kind → Bool) (cards : List Fields) (s : State) : Type 0 where
   pub set : s.set ≡ first_set cards
-  pub unpaired : (name : Name) (t : Target) → place_in (row_view s) name ≡ Some (Kept t) → is_among t s.paired ≡ false →
+  pub unpaired : (name : Name) (t : Target) → StandsFor counted (row_view s) name t → is_among t s.paired ≡ false →
       texts_for name (used_pairs cards) ≡ []
 
 pub record Says (V : Type 0) (value_of : State → Target → V) (IsNumber : List (List ℕ) → V → Type 0)
-    (part : Section) (seen_of : Seen → Bool) (cards : List Fields) (s : State) : Type 0 where
+    (counted : Kind → Bool) (part : Section) (seen_of : Seen → Bool) (cards : List Fields) (s : State) : Type 0 where
   pub none : seen_of s.seen ≡ false → (cards ≡ []) × ((t : Target) → IsNumber [] (value_of s t))
-  pub numbers : (name : Name) (t : Target) → place_in (row_view s) name ≡ Some (Kept t) →
+  pub numbers : (name : Name) (t : Target) → StandsFor counted (row_view s) name t →
       IsNumber (texts_for name (used_pairs cards)) (value_of s t)
-  pub during : is_section s.part part ≡ true → IsDuring cards s
+  pub during : is_section s.part part ≡ true → IsDuring counted cards s
 
 module _ {V : Type 0} (value_of : State → Target → V) (IsNumber : List (List ℕ) → V → Type 0)
-    (part : Section) (seen_of : Seen → Bool) (cards : List Fields)
-    (s t : State) (k : Says V value_of IsNumber part seen_of cards s) where
+    (counted : Kind → Bool) (part : Section) (seen_of : Seen → Bool) (cards : List Fields)
+    (s t : State) (k : Says V value_of IsNumber counted part seen_of cards s) where
   -- where neither the rows nor the values change
   pub says_same : seen_of t.seen ≡ seen_of s.seen → row_view t ≡ row_view s →
       ((x : Target) → value_of t x ≡ value_of s x) → is_section t.part part ≡ false →
-      Says V value_of IsNumber part seen_of cards t
+      Says V value_of IsNumber counted part seen_of cards t
   says_same seen view value away =
       record {
         none = λ h. let n = k.none (sym seen ∙ h) in (n.0, λ x. subst (IsNumber []) (sym (value x)) (n.1 x));
         numbers =
             λ name x h. subst (IsNumber (texts_for name (used_pairs cards)))
-            (sym (value x)) (k.numbers name x (ap (λ v. place_in v name) (sym view) ∙ h));
+            (sym (value x)) (k.numbers name x (subst (λ v. StandsFor counted v name x) view h));
         during = λ h. not_both (is_section t.part part) h away;
       }
 
   -- before the section
   pub says_before : seen_of s.seen ≡ false → seen_of t.seen ≡ seen_of s.seen →
       ((x : Target) → IsNumber [] (value_of t x)) → is_section t.part part ≡ false →
-      Says V value_of IsNumber part seen_of cards t
+      Says V value_of IsNumber counted part seen_of cards t
   says_before new seen value away =
       let n = k.none new in
       record {
@@ -206,7 +206,7 @@ module _ {V : Type 0} (value_of : State → Target → V) (IsNumber : List (List
 
   -- as it begins
   pub says_begun : seen_of s.seen ≡ false → seen_of t.seen ≡ true → row_view t ≡ row_view s →
-      ((x : Target) → value_of t x ≡ value_of s x) → t.set ≡ None → Says V value_of IsNumber part seen_of cards t
+      ((x : Target) → value_of t x ≡ value_of s x) → t.set ≡ None → Says V value_of IsNumber counted part seen_of cards t
   says_begun new seen view value set =
       let n = k.none new in
       let nothing =
@@ -219,8 +219,8 @@ module _ {V : Type 0} (value_of : State → Target → V) (IsNumber : List (List
 
   -- a card of the set that is used
   pub says_used : (card : Fields) → seen_of t.seen ≡ true → is_used (first_set cards) (set_on card) ≡ true →
-      t.set ≡ Some (set_on card) → Tells V value_of IsNumber (row_view s) (used_pairs cards ++ pairs_on card) t →
-      Says V value_of IsNumber part seen_of (cards ++ card ∷ []) t
+      t.set ≡ Some (set_on card) → Tells V value_of IsNumber counted (row_view s) (used_pairs cards ++ pairs_on card) t →
+      Says V value_of IsNumber counted part seen_of (cards ++ card ∷ []) t
   says_used card seen used set tells =
       let pairs : used_pairs (cards ++ card ∷ []) ≡ used_pairs cards ++ pairs_on card =
       used_push cards card ∙ ap (λ b. used_pairs cards ++ cond b (pairs_on card) []) used in
@@ -228,21 +228,21 @@ module _ {V : Type 0} (value_of : State → Target → V) (IsNumber : List (List
         none = λ h. not_both (seen_of t.seen) seen h;
         numbers =
             λ name x h. subst (λ ps. IsNumber (texts_for name ps) (value_of t x)) (sym pairs)
-            (tells.numbers name x (ap (λ v. place_in v name) (sym tells.view_is) ∙ h));
+            (tells.numbers name x (subst (λ v. StandsFor counted v name x) tells.view_is h));
         during = λ h. record {
           set = set ∙ sym (first_used cards card used);
           unpaired =
               λ name x g free. ap (texts_for name) pairs
-              ∙ tells.unpaired name x (ap (λ v. place_in v name) (sym tells.view_is) ∙ g) free;
+              ∙ tells.unpaired name x (subst (λ v. StandsFor counted v name x) tells.view_is g) free;
         };
       }
 
 -- a card of another set
 pub says_skipped : {V : Type 0} (value_of : State → Target → V) (IsNumber : List (List ℕ) → V → Type 0)
-    (part : Section) (seen_of : Seen → Bool) (cards : List Fields) (s : State) (card : Fields) →
+    (counted : Kind → Bool) (part : Section) (seen_of : Seen → Bool) (cards : List Fields) (s : State) (card : Fields) →
     seen_of s.seen ≡ true → is_section s.part part ≡ true → is_used (first_set cards) (set_on card) ≡ false →
-    Says V value_of IsNumber part seen_of cards s → Says V value_of IsNumber part seen_of (cards ++ card ∷ []) s
-says_skipped {V} value_of IsNumber part seen_of cards s card seen here skipped k =
+    Says V value_of IsNumber counted part seen_of cards s → Says V value_of IsNumber counted part seen_of (cards ++ card ∷ []) s
+says_skipped {V} value_of IsNumber counted part seen_of cards s card seen here skipped k =
     let pairs : used_pairs (cards ++ card ∷ []) ≡ used_pairs cards =
     used_push cards card ∙ ap (λ b. used_pairs cards ++ cond b (pairs_on card) []) skipped
     ∙ append-nil (used_pairs cards) in

@@ -9,8 +9,6 @@ use Rattle.spec_mps.specs.declared.section.Section.TheVariants as section
 use Rattle.spec_mps.specs.declared.style.Style.{Style}
 use Rattle.spec_mps.specs.declared.target.Target.{Target}
 use Rattle.spec_mps.specs.declared.target.Target.TheVariants.{Objective, Row}
-use Rattle.spec_mps.specs.declared.target.Place.{Place}
-use Rattle.spec_mps.specs.declared.target.Place.TheVariants.{Kept, Dropped}
 use Rattle.spec_mps.specs.Reader.{State, is_among, same_target, place_of}
 use Rattle.spec_mps.specs.Sides.{put_side}
 use Rattle.spec_mps.specs.Steps.{Spells}
@@ -21,7 +19,8 @@ use Rattle.spec_meaning.specs.NumberCards.{IsTheNumber, texts_for, used_pairs}
 use Rattle.spec_meaning.specs.TextCards.{Lines, cards_in}
 use Rattle.spec_meaning.proofs.Frames.{Leads, without_range}
 use Rattle.spec_meaning.proofs.SoFar.{is_section}
-use Rattle.spec_meaning.proofs.PairsKept.{Put, PutNowhere, PutAt}
+use Rattle.spec_meaning.proofs.RowViews.{every_kind}
+use Rattle.spec_meaning.proofs.PairsKept.{Put, PutAt}
 use Rattle.spec_meaning.proofs.NumbersKept.{number_at, row_put, viewed_row, GivesNumbers, row_said, objective_said}
 
 -- the right side of a target; that of the objective is the offset negated
@@ -30,23 +29,22 @@ side_at = number_at neg_ℚ (λ r. r.rhs)
 
 -- ---- one pair
 
-side_put : (s : State) (name : Name) (place : Place) (v : ℚ) (t : State) → place_of s name ≡ Some place →
-    put_side s place v ≡ Ok t → Put ℚ side_at s place v t
+side_put : (s : State) (name : Name) (place : Target) (v : ℚ) (t : State) → place_of s name ≡ Some place →
+    put_side s place v ≡ Ok t → Put ℚ side_at every_kind s place v t
 unfolding put_side
-side_put s name Dropped v t at h = PutNowhere refl (same_ok s t h)
-side_put s name (Kept Objective) v t at h =
+side_put s name Objective v t at h =
     let a = must_ok (not (is_among Objective s.paired)) code.EntryRepeated _ t h in
-    subst (Put ℚ side_at s (Kept Objective) v) (same_ok _ t a.1)
-    (PutAt Objective refl (negated _ a.0) refl refl refl (neg-neg v) (λ x ne. elsewhere x ne))
+    subst (Put ℚ side_at every_kind s Objective v) (same_ok _ t a.1)
+    (PutAt (negated _ a.0) refl refl refl (neg-neg v) (λ x ne. elsewhere x ne))
   where
     elsewhere : (x : Target) → same_target x Objective ≡ false →
         side_at (record s { offset = neg_ℚ v; paired = Objective ∷ s.paired }) x ≡ side_at s x
     elsewhere Objective ne = absurd (cc)
     elsewhere (Row i) ne = refl
-side_put s name (Kept (Row i)) v t at h =
+side_put s name (Row i) v t at h =
     let a = must_ok (not (is_among (Row i) s.paired)) code.EntryRepeated _ t h in
-    subst (Put ℚ side_at s (Kept (Row i)) v) (same_ok _ t a.1)
-    (row_put neg_ℚ (λ r. r.rhs) (λ r. record r { rhs = v }) v (λ r. refl) (λ r. refl) s name i at (negated _ a.0))
+    subst (Put ℚ side_at every_kind s (Row i) v) (same_ok _ t a.1)
+    (row_put neg_ℚ (λ r. r.rhs) every_kind (λ r. record r { rhs = v }) v (λ r. refl) (λ r. refl) s name i at (negated _ a.0))
 
 -- ---- other cards
 
@@ -61,7 +59,7 @@ sides_stay part s t e f h x = ap (λ (u : State). side_at u x) h
 
 -- ---- the model
 
-sides_give : GivesNumbers ℚ neg_ℚ (λ r. r.rhs) IsTheNumber (λ v. v) Sides
+sides_give : GivesNumbers ℚ neg_ℚ (λ r. r.rhs) IsTheNumber every_kind (λ v. v) Sides
 sides_give =
     record {
       one = λ text v e. e;
@@ -73,7 +71,7 @@ sides_give =
 
 pub right_side_said : (style : Style) (lines : Lines) (m : Model) → Spells style lines m → (i : ℕ) → i < height m →
     IsTheNumber (texts_for (row m i).name (used_pairs (cards_in style section.RightSides lines))) (row m i).rhs
-right_side_said = row_said sides_give
+right_side_said style lines m h i l = row_said sides_give style lines m h i l refl
 
 pub offset_said : (style : Style) (lines : Lines) (m : Model) → Spells style lines m →
     IsTheNumber (texts_for m.objective (used_pairs (cards_in style section.RightSides lines))) (neg_ℚ m.offset)

@@ -3,7 +3,8 @@ use Rattle.std.specs.Prelude.{ℕ, ◌≡◌, Bool, true, false, Option, Some, N
 use Rattle.std.specs.List.{filter, flat_map}
 use Rattle.spec_text.specs.Words.{same}
 use Rattle.spec_exact.specs.Fraction.{ℚ, 0ℚ}
-use Rattle.spec_model.specs.Model.{Name}
+use Rattle.spec_model.specs.declared.parts.Kind.{Kind}
+use Rattle.spec_model.specs.Model.{Name, is_free}
 use Rattle.spec_mps.specs.NumberText.{Is, number_of}
 use Rattle.spec_mps.specs.Fields.{Fields, texts_of}
 use Rattle.spec_mps.specs.Sides.{SetAndPairs}
@@ -27,6 +28,15 @@ abbrev pub IsTheRange : List (List ℕ) → Option ℚ → Type 0
 IsTheRange [] range = range ≡ None
 IsTheRange (text ∷ []) range = (q : ℚ) × (range ≡ Some q) × (number_of text ≡ Is q)
 IsTheRange (text ∷ other ∷ more) range = ⊥
+
+-- what stands beside a free row counts for nothing
+abbrev pub IsRangeIf : Bool → List (List ℕ) → Option ℚ → Type 0
+IsRangeIf true texts range = range ≡ None
+IsRangeIf false texts range = IsTheRange texts range
+
+-- that of a row of this kind
+abbrev pub IsTheRangeOf : Kind → List (List ℕ) → Option ℚ → Type 0
+IsTheRangeOf kind = IsRangeIf (is_free kind)
 
 -- ---- RHS and RANGES: a set, which may be absent, and one pair or two
 

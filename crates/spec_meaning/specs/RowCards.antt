@@ -1,33 +1,42 @@
 -- What the cards of ROWS and of OBJSENSE say.
-use Rattle.std.specs.Prelude.{ℕ, ◌≡◌, ◌⊎◌, codes, Option, Some, None, List, [], ◌∷◌, ◌++◌, map}
+use Rattle.std.specs.Prelude.{ℕ, ◌≡◌, ◌⊎◌, codes, not, Option, Some, None, List, [], ◌∷◌, ◌++◌, map, if◌then◌else◌}
 use Rattle.std.specs.List.{filter, filter_map}
 use Rattle.spec_text.specs.Words.{has_bytes}
 use Rattle.spec_model.specs.declared.parts.Kind.{Kind}
 use Rattle.spec_model.specs.declared.parts.Sense.{Sense}
 use Rattle.spec_model.specs.declared.parts.Sense.TheVariants.{Min, Max}
-use Rattle.spec_model.specs.Model.{Name}
-use Rattle.spec_mps.specs.declared.row_type.RowType.{RowType}
-use Rattle.spec_mps.specs.declared.row_type.RowType.TheVariants.{Unlimited, Limited}
+use Rattle.spec_model.specs.Model.{Name, is_free}
 use Rattle.spec_mps.specs.Fields.{Fields, text_at}
 use Rattle.spec_mps.specs.Shapes.{row_type_of}
 
 -- ---- ROWS: the type in field 1 and the name in field 2
 
-abbrev pub unlimited : Option RowType → Name → Option Name
-unlimited (Some Unlimited) name = Some name
-unlimited type name = None
+abbrev pub Labels : Type 0
+Labels = List (Kind × Name)
 
-abbrev pub limited : Option RowType → Name → Option (Kind × Name)
-limited (Some (Limited kind)) name = Some (kind, name)
-limited type name = None
+abbrev pub typed : Option Kind → Name → Option (Kind × Name)
+typed None name = None
+typed (Some kind) name = Some (kind, name)
 
--- the names of the rows of type N, in the order of their cards
-unfoldable pub unlimited_rows : List Fields → List Name
-unlimited_rows cards = filter_map (λ card. unlimited (row_type_of (text_at 1 card)) (text_at 2 card)) cards
+-- the kinds and names of all rows, in the order of their cards
+unfoldable pub typed_rows : List Fields → Labels
+typed_rows cards = filter_map (λ card. typed (row_type_of (text_at 1 card)) (text_at 2 card)) cards
 
--- the kinds and names of the other rows
-unfoldable pub limited_rows : List Fields → List (Kind × Name)
-limited_rows cards = filter_map (λ card. limited (row_type_of (text_at 1 card)) (text_at 2 card)) cards
+-- the name of the first row of type N, and all rows but that one
+abbrev pub first_free : Labels → Option Name
+first_free [] = None
+first_free (r ∷ rows) = if is_free r.0 then Some r.1 else first_free rows
+
+abbrev pub but_first_free : Labels → Labels
+but_first_free [] = []
+but_first_free (r ∷ rows) = if is_free r.0 then rows else r ∷ but_first_free rows
+
+-- the names of the rows of type N, and the rows of the other types
+abbrev pub free_names : Labels → List Name
+free_names rows = map (λ r. r.1) (filter (λ r. is_free r.0) rows)
+
+abbrev pub limited : Labels → Labels
+limited rows = filter (λ r. not (is_free r.0)) rows
 
 -- ---- OBJSENSE: the sense stands beside the word, or on a card
 

@@ -4,13 +4,15 @@
 //! |---|---|---|
 //! | `cards_in` | the data cards of a section, up to ENDATA | specs/TextCards |
 //! | `title_of` | the words of the line that begins a section | specs/TextCards |
-//! | `unlimited_rows`, `limited_rows` | the rows of type N, and the others with their kinds | specs/RowCards |
+//! | `typed_rows` | the kinds and names of the rows | specs/RowCards |
+//! | `first_free`, `but_first_free` | the first row of type N, and all rows but that one | specs/RowCards |
+//! | `free_names`, `limited` | the names of the rows of type N, and the rows of other types | specs/RowCards |
 //! | `sense_words`, `IsSenseOf` | the words that say a sense, and the sense | specs/RowCards |
 //! | `named_columns` | the columns that cards name, by their first mention | specs/ColumnCards |
 //! | `pairs_of_column` | the pairs on the cards of a column | specs/ColumnCards |
 //! | `used_pairs` | the pairs of RHS or RANGES in the set that is used | specs/NumberCards |
 //! | `texts_for` | the texts beside a name | specs/NumberCards |
-//! | `IsTheNumber`, `IsTheRange` | the number that is the only text | specs/NumberCards |
+//! | `IsTheNumber`, `IsTheRange`, `IsTheRangeOf` | the number that is the only text; a free row has no range | specs/NumberCards |
 //! | `bounds_of_column` | the cards of a column in the set that BOUNDS uses | specs/BoundCards |
 //! | `lower_of`, `upper_of` | the bounds that cards make together | specs/BoundCards |
 //! | `Means` | all of this | specs/Meaning |
@@ -18,10 +20,10 @@
 //! The laws know nothing of how a text is read: they speak of its cards, whose fields `spec_mps` tells apart.
 #![tactic(auto)]
 
-ghost use Rattle.std.specs.Prelude.{◌≡◌, ◌<◌, ◌↔◌, ℕ, Some, None, List, [], ◌∷◌, map};
+ghost use Rattle.std.specs.Prelude.{◌≡◌, ◌<◌, ◌↔◌, ℕ, Some, None, [], ◌∷◌, map};
 ghost use Rattle.spec_exact.specs.Fraction.{ℚ, 0ℚ, ◌+ℚ◌, ◌-ℚ◌, ◌≤ℚ◌, ◌<ℚ◌, abs_ℚ, neg_ℚ};
 ghost use Rattle.spec_model.specs.declared.parts.Kind.TheVariants as kind;
-ghost use Rattle.spec_model.specs.Model.{Model, Name, ExactRow, limits_of};
+ghost use Rattle.spec_model.specs.Model.{Model, ExactRow, limits_of};
 ghost use Rattle.spec_model.specs.Model.{row, column, height, width, cost, coefficient};
 ghost use Rattle.spec_model.specs.Kept.{IsModel};
 ghost use Rattle.spec_model.specs.Truth.{IsBetween};
@@ -32,8 +34,9 @@ ghost use Rattle.spec_meaning.specs.TextCards.{Lines, cards_in, title_of};
 ghost use Rattle.spec_meaning.specs.BoundCards.{bounds_of_column, lower_of, upper_of};
 ghost use Rattle.spec_meaning.specs.ColumnCards.{named_columns, pairs_of_column};
 ghost use Rattle.spec_meaning.specs.Meaning.{Means};
-ghost use Rattle.spec_meaning.specs.NumberCards.{texts_for, used_pairs, IsTheNumber, IsTheRange};
-ghost use Rattle.spec_meaning.specs.RowCards.{second_word, sense_words, IsSenseOf, unlimited_rows, limited_rows};
+ghost use Rattle.spec_meaning.specs.NumberCards.{texts_for, used_pairs, IsTheNumber, IsTheRange, IsTheRangeOf};
+ghost use Rattle.spec_meaning.specs.RowCards.{second_word, sense_words, IsSenseOf, typed_rows};
+ghost use Rattle.spec_meaning.specs.RowCards.{first_free, but_first_free, free_names, limited};
 
 /// The name stands beside NAME, and the sense is what OBJSENSE says, MIN where nothing says one.
 pub fn titles_are_names_and_senses()
@@ -43,13 +46,25 @@ pub fn titles_are_names_and_senses()
         IsSenseOf (sense_words (title_of section.Sense lines) (cards_in style section.Sense lines)) m.sense }
 {}
 
-/// The objective is the first row of type N, and further ones are dropped. The rows are those of the other types, in
-/// the order of their cards.
+/// The objective is the first row of type N. The rows are all others, further ones of type N too, in the order of their
+/// cards.
 pub fn rows_cards_are_rows()
     ensures objective { (style : Style) (lines : Lines) (m : Model) → Spells style lines m →
-        (dropped : List Name) × (unlimited_rows (cards_in style section.Rows lines) ≡ m.objective ∷ dropped) }
+        first_free (typed_rows (cards_in style section.Rows lines)) ≡ Some m.objective }
     ensures rows { (style : Style) (lines : Lines) (m : Model) → Spells style lines m →
-        map (λ r. (r.kind, r.name)) m.rows ≡ limited_rows (cards_in style section.Rows lines) }
+        map (λ r. (r.kind, r.name)) m.rows ≡ but_first_free (typed_rows (cards_in style section.Rows lines)) }
+{}
+
+/// Where the objective alone is of type N, the rows are those of the other types, and each of them has the range that
+/// RANGES gives it. So such a text means what it means to a reader that knows of no free rows.
+pub fn lone_objectives_leave_rows_with_limits()
+    ensures rows { (style : Style) (lines : Lines) (m : Model) → Spells style lines m →
+        free_names (typed_rows (cards_in style section.Rows lines)) ≡ m.objective ∷ [] →
+        map (λ r. (r.kind, r.name)) m.rows ≡ limited (typed_rows (cards_in style section.Rows lines)) }
+    ensures ranges { (style : Style) (lines : Lines) (m : Model) → Spells style lines m →
+        free_names (typed_rows (cards_in style section.Rows lines)) ≡ m.objective ∷ [] →
+        (i : ℕ) → i < height m →
+        IsTheRange (texts_for (row m i).name (used_pairs (cards_in style section.Ranges lines))) (row m i).range }
 {}
 
 /// The columns are those that COLUMNS names, in the order of their first mention. A coefficient is the number of the
@@ -77,11 +92,12 @@ pub fn rhs_cards_are_right_sides()
         IsTheNumber (texts_for m.objective (used_pairs (cards_in style section.RightSides lines))) (neg_ℚ m.offset) }
 {}
 
-/// The range of a row is the number beside its name in the set that RANGES names first, if there is one. The objective
-/// stands in no such pair.
+/// The range of a row is the number beside its name in the set that RANGES names first, if there is one; a free row has
+/// none, whatever stands there. The objective stands in no such pair.
 pub fn ranges_cards_are_ranges()
     ensures rows { (style : Style) (lines : Lines) (m : Model) → Spells style lines m → (i : ℕ) → i < height m →
-        IsTheRange (texts_for (row m i).name (used_pairs (cards_in style section.Ranges lines))) (row m i).range }
+        IsTheRangeOf (row m i).kind
+        (texts_for (row m i).name (used_pairs (cards_in style section.Ranges lines))) (row m i).range }
     ensures objective { (style : Style) (lines : Lines) (m : Model) → Spells style lines m →
         texts_for m.objective (used_pairs (cards_in style section.Ranges lines)) ≡ [] }
 {}
@@ -112,6 +128,7 @@ pub fn rows_have_limits()
         IsBetween (limits_of r) v ↔ ((r.rhs ≤ℚ v) × (v ≤ℚ (r.rhs +ℚ range))) }
     ensures equal_down_to { (r : ExactRow) (range v : ℚ) → r.kind ≡ kind.E → r.range ≡ Some range → range <ℚ 0ℚ →
         IsBetween (limits_of r) v ↔ (((r.rhs +ℚ range) ≤ℚ v) × (v ≤ℚ r.rhs)) }
+    ensures free { (r : ExactRow) (v : ℚ) → r.kind ≡ kind.N → IsBetween (limits_of r) v }
 {}
 
 /// A text means the model that it spells, and no other model that may be kept: the laws above leave nothing open.

@@ -21,3 +21,6 @@ returns-clause-equal_up_to c = limits.equal_up_to
 
 pub returns-clause-equal_down_to : goal.returns-clause-equal_down_to
 returns-clause-equal_down_to c = limits.equal_down_to
+
+pub returns-clause-free : goal.returns-clause-free
+returns-clause-free c = limits.free
