@@ -32,7 +32,7 @@ column-lowered : (m : Model) (i k : ℕ) → column (without_row m i) k ≡ lowe
 unfolding without_entry
 column-lowered m i k = get_or-map (lowered i) m.columns k no_column
 
-row_less : (m : Model) (i : ℕ) → i < height m → HasRow m (without_row m i) i
+pub row_less : (m : Model) (i : ℕ) → i < height m → HasRow m (without_row m i) i
 row_less m i l =
     let w = without_row-means m i l in
     let e = w.height in

@@ -14,3 +14,4 @@ pub mod Halts
 pub mod Ends
 pub mod Narrow
 pub mod Kept
+pub mod FreeRow

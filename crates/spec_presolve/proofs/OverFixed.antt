@@ -10,9 +10,10 @@ use Rattle.spec_exact.proofs.Strict.{+ℚ_strict}
 use Rattle.spec_exact.proofs.Ruleset.{ring}
 use Rattle.spec_exact.proofs.Sums.{sum_below_same, sum_below-+ℚ, *ℚ-sum_below}
 use Rattle.spec_model.specs.declared.parts.Kind.{Kind}
-use Rattle.spec_model.specs.declared.parts.Kind.TheVariants.{L, G, E}
+use Rattle.spec_model.specs.declared.parts.Kind.TheVariants.{L, G, E, N}
+use Rattle.spec_model.specs.declared.parts.RowLimit.TheVariants.{Given, Sum}
 use Rattle.spec_model.specs.Model.{Model, Limits, width, height, bounds, limits, cost, coefficient, part}
-use Rattle.spec_model.specs.Model.{activity, cost_of, value_of, limits_by, from_to}
+use Rattle.spec_model.specs.Model.{activity, cost_of, value_of, limit_of, limits_by}
 use Rattle.spec_model.specs.Truth.{IsBetween, IsFeasible}
 use Rattle.spec_edit.specs.Meaning.{skipping}
 use Rattle.spec_check.specs.declared.certificate.Certificate.TheVariants.{Optimal, Infeasible, Clash, Unbounded}
@@ -40,6 +41,9 @@ later b t r = simp ring
 later_more : (b t r : ℚ) → (b -ℚ t) +ℚ r ≡ (b +ℚ r) -ℚ t
 later_more b t r = simp ring
 
+abbrev from_to : ℚ → ℚ → Limits
+from_to a b = record { lower = Some a; upper = Some b }
+
 two : (a b c d : ℚ) → a ≡ c → b ≡ d → from_to a b ≡ from_to c d
 two a b c d e f = ap₂ from_to e f
 
@@ -48,12 +52,19 @@ limits_moved L b t None = refl
 limits_moved L b t (Some r) = ap (λ a. from_to a (b -ℚ t)) (later b t (abs_ℚ r))
 limits_moved G b t None = refl
 limits_moved G b t (Some r) = ap (λ a. from_to (b -ℚ t) a) (later_more b t (abs_ℚ r))
+limits_moved N b t r = refl
 limits_moved E b t None = refl
 limits_moved E b t (Some r) = by (lt_ℚ r 0ℚ)
   where
     by : (c : Bool) →
-        cond c (from_to ((b -ℚ t) +ℚ r) (b -ℚ t)) (from_to (b -ℚ t) ((b -ℚ t) +ℚ r))
-        ≡ moved t (cond c (from_to (b +ℚ r) b) (from_to b (b +ℚ r)))
+        record {
+          lower = limit_of (cond c (Sum (b -ℚ t) r) (Given (b -ℚ t)));
+          upper = limit_of (cond c (Given (b -ℚ t)) (Sum (b -ℚ t) r));
+        }
+        ≡ moved t (record {
+          lower = limit_of (cond c (Sum b r) (Given b));
+          upper = limit_of (cond c (Given b) (Sum b r));
+        })
     by true = ap (λ a. from_to a (b -ℚ t)) (later_more b t r)
     by false = ap (λ a. from_to (b -ℚ t) a) (later_more b t r)
 

@@ -19,14 +19,16 @@
 mod presolved;
 mod reduction;
 
-ghost use Rattle.std.specs.Prelude.{All, ◌≡◌, ◌+◌, ℕ, List, Option, Some, Ok, length};
-ghost use Rattle.spec_exact.specs.Fraction.{ℚ};
-ghost use Rattle.spec_model.specs.Model.{Model, width, height};
+ghost use Rattle.std.specs.Prelude.{All, ◌≡◌, ◌+◌, ℕ, List, Option, Some, Ok, length, ◌<◌, ◌↔◌, true};
+ghost use Rattle.spec_exact.specs.Fraction.{ℚ, 0ℚ};
+ghost use Rattle.spec_model.specs.Model.{Model, width, height, row, part, is_free};
 ghost use Rattle.spec_exact.specs.Narrow.{widest};
 ghost use Rattle.spec_model.specs.Kept.{IsModel};
 ghost use Rattle.spec_check.specs.declared.certificate.Certificate.{Certificate};
 ghost use Rattle.spec_check.specs.declared.certificate.Known.{Known};
 ghost use Rattle.spec_check.specs.declared.solve_end.SolveEnd.TheVariants.{Ended};
+ghost use Rattle.spec_edit.specs.Changes.{without_row};
+ghost use Rattle.spec_check.specs.declared.certificate.Certificate.TheVariants as certificate;
 ghost use Rattle.spec_check.specs.Certificate.{IsFor, shown, Holds};
 ghost use Rattle.spec_check.specs.Run.{Agrees, check_run};
 ghost use Rattle.spec_check.specs.Checks.{Checks};
@@ -34,7 +36,7 @@ ghost use Rattle.spec_pivot.specs.declared.status.Status.{Status};
 ghost use Rattle.spec_presolve.specs.declared.reduction.Choice.TheVariants as choice;
 ghost use Rattle.spec_presolve.specs.Choose.{chosen};
 ghost use Rattle.spec_presolve.specs.Reduce.{Reductions, reduced};
-ghost use Rattle.spec_presolve.specs.Carry.{ExactCertificate, carried, halted, IsCarried, IsShown};
+ghost use Rattle.spec_presolve.specs.Carry.{ExactCertificate, carried, halted, IsCarried, IsShown, over_empty};
 ghost use Rattle.spec_presolve.specs.Presolved.{ExactPresolved, IsPresolved};
 
 pub use presolved::{Presolved, Way, Why};
@@ -52,6 +54,17 @@ pub fn certificates_are_carried_back()
     ensures accepted { (limit other : Option ℕ) (m : Model) (r : Reductions) (c back : ExactCertificate) →
         reduced limit m ≡ Ok r → carried limit r.steps c ≡ Ok back → IsFor r.last c → Checks r.last c →
         Agrees (check_run other m back) (Ok (shown r.last c)) }
+{}
+
+/// A certificate of a model without a free row is one of the model with the multiplier 0 for that row, and the other way
+/// round; no certificate that is accepted has another multiplier there.
+pub fn free_rows_take_no_multiplier()
+    ensures zero { (m : Model) (i : ℕ) → i < height m → is_free (row m i).kind ≡ true → (c : ExactCertificate) →
+        IsFor (without_row m i) c → Checks (without_row m i) c ↔ Checks m (over_empty i c) }
+    ensures optimal { (m : Model) (i : ℕ) → i < height m → is_free (row m i).kind ≡ true → (x y : List ℚ) →
+        Checks m (certificate.Optimal x y) → part y i ≡ 0ℚ }
+    ensures infeasible { (m : Model) (i : ℕ) → i < height m → is_free (row m i).kind ≡ true → (y : List ℚ) →
+        Checks m (certificate.Infeasible y) → part y i ≡ 0ℚ }
 {}
 
 /// Where reductions end because no point is feasible, the certificate of the end is accepted for the last model.
