@@ -9,7 +9,7 @@ use Rattle.spec_exact.specs.Narrow.{IsNarrow}
 use Rattle.spec_exact.specs.Run.{made}
 use Rattle.spec_exact.proofs.Stops.{length-made, get_or-made}
 use Rattle.spec_model.specs.Model.{Model, Name, ExactRow, ExactColumn, no_row, no_column, width, height, row, column, limits_of}
-use Rattle.spec_model.specs.Kept.{IsModel, IsKeptColumn, IsNarrowRow, IsNarrowColumn, IsBound}
+use Rattle.spec_model.specs.Kept.{IsModel, IsKeptColumn, IsNarrowRow, IsNarrowColumn, IsBound, FitsKind}
 use Rattle.spec_model.specs.Kept.{is_row_name, row_names, column_names}
 use Rattle.spec_iis.specs.declared.side.Side.{Side}
 use Rattle.spec_iis.specs.Only.{has_lower, has_upper, stays, with_sides, only_row, picked, rank, only_row_at}
@@ -31,6 +31,21 @@ name_of_only lower upper r = by lower upper (limits_of r).lower (limits_of r).up
     by false true (Some l) None = refl
     by false true (Some l) (Some u) = refl
     by false false l u = refl
+
+fit_of_only : (lower upper : Bool) (r : ExactRow) → FitsKind r.kind r.range →
+    FitsKind (only_row lower upper r).kind (only_row lower upper r).range
+unfolding only_row
+fit_of_only lower upper r h = by lower upper (limits_of r).lower (limits_of r).upper
+  where
+    by : (a b : Bool) (l u : Option ℚ) → FitsKind (with_sides a b r l u).kind (with_sides a b r l u).range
+    by true true l u = h
+    by true false None u = h
+    by true false (Some l) None = h
+    by true false (Some l) (Some u) = tt
+    by false true None u = h
+    by false true (Some l) None = h
+    by false true (Some l) (Some u) = tt
+    by false false l u = h
 
 listed_still : (P : ℚ → Type 0) (t : Bool) (o : Option ℚ) → IfSome o P → IfSome (if_listed t o) P
 listed_still P true o h = h
@@ -134,6 +149,8 @@ module _ (m : Model) (sides : List Side) (k : IsModel m) where
     rows = All-picked (stays sides) (only_row_at m sides) (λ (r : ExactRow). IsTrue (is_row_name r.name)) (height m)
         (λ i l e. subst (λ name. IsTrue (is_row_name name))
         (sym (name_of_only (has_lower sides true i) (has_upper sides true i) (row m i))) (k.rows i no_row l));
+    ranges = All-picked (stays sides) (only_row_at m sides) (λ (r : ExactRow). FitsKind r.kind r.range) (height m)
+        (λ i l e. fit_of_only (has_lower sides true i) (has_upper sides true i) (row m i) (k.ranges i no_row l));
     columns =
         subst (λ n. All (IsKeptColumn n) (made (width m) (only_column_at m sides)))
         (sym (length-picked (stays sides) (only_row_at m sides) (height m)))

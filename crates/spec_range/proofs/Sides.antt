@@ -6,8 +6,9 @@ use Rattle.std.proofs.lemmas.List.{length-set, get_or-set_same, get_or-set_other
 use Rattle.spec_exact.specs.Fraction.{ℚ, ◌+ℚ◌, ◌-ℚ◌, 0ℚ, abs_ℚ, lt_ℚ}
 use Rattle.spec_exact.proofs.Ruleset.{ring}
 use Rattle.spec_model.specs.declared.parts.Kind.{Kind}
-use Rattle.spec_model.specs.declared.parts.Kind.TheVariants.{L, G, E}
-use Rattle.spec_model.specs.Model.{Model, ExactRow, ExactColumn, Limits, no_row, width, height, row, limits, limits_by, from_to}
+use Rattle.spec_model.specs.declared.parts.Kind.TheVariants.{L, G, E, N}
+use Rattle.spec_model.specs.declared.parts.RowLimit.TheVariants.{Given, Sum}
+use Rattle.spec_model.specs.Model.{Model, ExactRow, ExactColumn, Limits, no_row, width, height, row, limits, limit_of, limits_by}
 use Rattle.spec_edit.specs.Changes.{with_rhs}
 use Rattle.spec_pivot.specs.declared.status.Status.{Status}
 use Rattle.spec_pivot.specs.declared.status.Status.TheVariants.{Basic, AtLower, AtUpper, AtZero}
@@ -52,11 +53,13 @@ limits_along L None b x = record { lower = refl; upper = ap Some (along b x) }
 limits_along L (Some r) b x = record { lower = ap Some (along_less b x (abs_ℚ r)); upper = ap Some (along b x) }
 limits_along G None b x = record { lower = ap Some (along b x); upper = refl }
 limits_along G (Some r) b x = record { lower = ap Some (along b x); upper = ap Some (along_more b x (abs_ℚ r)) }
+limits_along N range b x = record { lower = refl; upper = refl }
 limits_along E None b x = record { lower = ap Some (along b x); upper = ap Some (along b x) }
 limits_along E (Some r) b x = by (lt_ℚ r 0ℚ)
   where
-    by : (c : Bool) → IsShifted (x -ℚ b) (cond c (from_to (b +ℚ r) b) (from_to b (b +ℚ r)))
-        (cond c (from_to (x +ℚ r) x) (from_to x (x +ℚ r)))
+    by : (c : Bool) → IsShifted (x -ℚ b)
+        (record { lower = limit_of (cond c (Sum b r) (Given b)); upper = limit_of (cond c (Given b) (Sum b r)) })
+        (record { lower = limit_of (cond c (Sum x r) (Given x)); upper = limit_of (cond c (Given x) (Sum x r)) })
     by true = record { lower = ap Some (along_more b x r); upper = ap Some (along b x) }
     by false = record { lower = ap Some (along b x); upper = ap Some (along_more b x r) }
 

@@ -231,6 +231,7 @@ ample_refusal (fault.Taken name) = refl
 ample_refusal (fault.Limit which count) = refl
 ample_refusal fault.BadName = refl
 ample_refusal (fault.Repeated name) = refl
+ample_refusal (fault.FreeRow name) = refl
 
 ample_edit : (state : State) (r : OrFault Model) → is_memory (due_reply state (edit_due state r)) ≡ false
 ample_edit state (Ok m) = refl

@@ -6,7 +6,8 @@ use Rattle.std.proofs.lemmas.List.Elements.{All-nil, All-cons}
 use Rattle.spec_text.specs.Words.{same}
 use Rattle.spec_exact.specs.Fraction.{ℚ}
 use Rattle.spec_exact.specs.Narrow.{IsNarrow}
-use Rattle.spec_model.specs.Model.{Name}
+use Rattle.spec_model.specs.declared.parts.Kind.{Kind}
+use Rattle.spec_model.specs.Model.{Name, is_free}
 use Rattle.spec_edit.specs.Edited.{Pairs, IsKeptBound, IsKeptEdit}
 use Rattle.spec_mps.specs.declared.number.BoundValue.{BoundValue}
 use Rattle.spec_mps.specs.declared.number.BoundValue.TheVariants as value
@@ -19,8 +20,9 @@ use Rattle.spec_mps.proofs.NarrowNumbers.{number_narrow, bound_narrow}
 use Rattle.spec_server.specs.declared.command.EditWord.{EditWord}
 use Rattle.spec_server.specs.declared.command.EditWord.TheVariants.{AddRow, DelRow, AddCol, DelCol, SetCost, SetCoef}
 use Rattle.spec_server.specs.declared.command.EditWord.TheVariants.{SetRhs, SetRange, SetBound, Sense as SenseWord}
-use Rattle.spec_server.specs.EditCommand.{Reads, ◌>>=◌, as_read, number_in, kind_in, sense_in, range_in, lower_by}
-use Rattle.spec_server.specs.EditCommand.{lower_in, upper_by, upper_in, two_by_two, numbers_in, column_in, edit_by}
+use Rattle.spec_server.specs.declared.command.LineFault.TheVariants as fault
+use Rattle.spec_server.specs.EditCommand.{Reads, ◌>>=◌, as_read, number_in, kind_in, new_range_in, sense_in, range_in}
+use Rattle.spec_server.specs.EditCommand.{lower_by, lower_in, upper_by, upper_in, two_by_two, numbers_in, column_in, edit_by}
 
 -- what is read next, by what holds of the value that was read before
 then_kept : {A B : Type 0} (P : A → Type 0) (Q : B → Type 0) (read : Reads A) (next : A → Reads B) → IfOk read P →
@@ -44,6 +46,14 @@ number_kept text = by (number_of text) refl
     by (number.Is q) e = number_narrow text q e
     by number.Shape e = tt
     by number.Wide e = tt
+
+new_range_kept : (kind : Kind) (text : List ℕ) → IfOk (new_range_in kind text) IsNarrow
+unfolding new_range_in
+new_range_kept kind text = by (is_free kind)
+  where
+    by : (t : Bool) → IfOk (cond {A = Reads ℚ} t (Err fault.Word) (number_in text)) IsNarrow
+    by true = tt
+    by false = number_kept text
 
 abbrev IsKeptRange : Option ℚ → Type 0
 IsKeptRange range = IfSome range IsNarrow
@@ -118,7 +128,7 @@ edit_kept AddRow (name ∷ kind ∷ rhs ∷ []) =
 edit_kept AddRow (name ∷ kind ∷ rhs ∷ range ∷ []) =
     any_kept IsKeptEdit (kind_in kind) _ λ k.
     then_kept IsNarrow IsKeptEdit (number_in rhs) _ (number_kept rhs) λ b h.
-    then_kept IsNarrow IsKeptEdit (number_in range) _ (number_kept range) λ r g. (h, g)
+    then_kept IsNarrow IsKeptEdit (new_range_in k range) _ (new_range_kept k range) λ r g. (h, g)
 edit_kept DelRow (name ∷ []) = tt
 edit_kept AddCol (name ∷ cost ∷ pairs) = column_kept name cost (two_by_two pairs)
 edit_kept DelCol (name ∷ []) = tt

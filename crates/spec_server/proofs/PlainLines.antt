@@ -82,6 +82,7 @@ cost_kept name v h n =
       name = refl;
       objective = refl;
       rows = λ k d l. absurd (omega arith);
+      ranges = λ k d l. absurd (omega arith);
       columns = All-cons (IsKeptColumn 0) c []
           (record {
             name = h;

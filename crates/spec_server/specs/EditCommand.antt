@@ -3,10 +3,10 @@ use Rattle.std.specs.Prelude.{ℕ, Option, Some, None, option_map, Result, Ok, E
 use Rattle.spec_text.specs.Words.{same}
 use Rattle.spec_exact.specs.Fraction.{ℚ}
 use Rattle.spec_model.specs.declared.parts.Kind.{Kind}
-use Rattle.spec_model.specs.declared.parts.Kind.TheVariants.{L, G, E}
+use Rattle.spec_model.specs.declared.parts.Kind.TheVariants.{L, G, E, N}
 use Rattle.spec_model.specs.declared.parts.Sense.{Sense}
 use Rattle.spec_model.specs.declared.parts.Sense.TheVariants.{Min, Max}
-use Rattle.spec_model.specs.Model.{Name}
+use Rattle.spec_model.specs.Model.{Name, is_free}
 use Rattle.spec_edit.specs.declared.edit.Edit.TheVariants as edit
 use Rattle.spec_edit.specs.Edited.{ExactEdit, Pairs}
 use Rattle.spec_mps.specs.declared.number.NumFault.{NumFault}
@@ -49,13 +49,17 @@ keyword None = Err fault.Word
 keyword (Some x) = Ok x
 
 unfoldable pub kind_in : List ℕ → Reads Kind
-kind_in text = keyword (look_up text ((codes "L", L) ∷ (codes "G", G) ∷ (codes "E", E) ∷ []))
+kind_in text = keyword (look_up text ((codes "L", L) ∷ (codes "G", G) ∷ (codes "E", E) ∷ (codes "N", N) ∷ []))
 
 unfoldable pub sense_in : List ℕ → Reads Sense
 sense_in text = keyword (look_up text ((codes "MIN", Min) ∷ (codes "MAX", Max) ∷ []))
 
 unfoldable pub range_in : List ℕ → Reads (Option ℚ)
 range_in text = if same text (codes "NONE") then Ok None else (number_in text >>= λ v. Ok (Some v))
+
+-- the range of a new row, which a free one has none of
+unfoldable pub new_range_in : Kind → List ℕ → Reads ℚ
+new_range_in kind text = if is_free kind then Err fault.Word else number_in text
 
 -- a lower bound is no more than finite, and an upper one no less
 abbrev pub lower_by : BoundValue ℚ → Reads (Option ℚ)
@@ -97,7 +101,7 @@ column_in name cost (Some pairs) = number_in cost >>= λ c. numbers_in pairs >>=
 unfoldable pub edit_by : EditWord → List (List ℕ) → Reads ExactEdit
 edit_by AddRow (name ∷ kind ∷ rhs ∷ []) = kind_in kind >>= λ k. number_in rhs >>= λ b. Ok (edit.AddRow name k b None)
 edit_by AddRow (name ∷ kind ∷ rhs ∷ range ∷ []) =
-    kind_in kind >>= λ k. number_in rhs >>= λ b. number_in range >>= λ r. Ok (edit.AddRow name k b (Some r))
+    kind_in kind >>= λ k. number_in rhs >>= λ b. new_range_in k range >>= λ r. Ok (edit.AddRow name k b (Some r))
 edit_by DelRow (name ∷ []) = Ok (edit.DelRow name)
 edit_by AddCol (name ∷ cost ∷ pairs) = column_in name cost (two_by_two pairs)
 edit_by DelCol (name ∷ []) = Ok (edit.DelCol name)

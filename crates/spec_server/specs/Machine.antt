@@ -145,6 +145,7 @@ edit_refusal (edit.Taken name) = reply.Refused (refusal.Taken name)
 edit_refusal (edit.Limit which count) = reply.Refused (refusal.Limit which count)
 edit_refusal edit.BadName = reply.Refused refusal.BadName
 edit_refusal (edit.Repeated name) = reply.Refused (refusal.Repeated name)
+edit_refusal (edit.FreeRow name) = reply.Refused (refusal.FreeRow name)
 
 -- an edit that is done forgets the last answer, and a refused one forgets nothing
 abbrev pub edit_due : State → OrFault Model → Due

@@ -127,6 +127,7 @@ refusal_text (refusal.Repeated name) = codes "12 " ++ repeated_text name
 refusal_text (refusal.Misspelled fault) = codes "8 " ++ fault_text fault
 refusal_text (refusal.Unfit line) = codes "14 CERT " ++ decimal line
 refusal_text (refusal.FixedWide item) = codes "10 " ++ item_text item
+refusal_text (refusal.FreeRow name) = codes "16 FREEROW " ++ name
 
 -- each line ends in a line feed
 unfoldable pub count_of_lines : List ℕ → ℕ

@@ -82,4 +82,6 @@ pub enum Refusal<N, T> {
     Unfit(u32),
     /// Fixed form has no place for this name or number.
     FixedWide(T),
+    /// The row that is to have a range is free.
+    FreeRow(N),
 }

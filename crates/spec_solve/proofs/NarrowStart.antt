@@ -6,20 +6,23 @@ use Rattle.std.specs.Prelude.{All, nat_lt}
 use Rattle.std.specs.declared.cmp.Ordering.{Ordering}
 use Rattle.std.specs.declared.cmp.Ordering.TheVariants.{Less, Equal, Greater}
 use Rattle.std.proofs.lemmas.List.Elements.{All-nil, All-append, All-map, All-replicate}
-use Rattle.spec_exact.specs.Fraction.{ℚ, 0ℚ, 1ℚ, whole, abs_ℚ, lt_ℚ}
+use Rattle.spec_exact.specs.Fraction.{ℚ, 0ℚ, 1ℚ, whole, lt_ℚ}
 use Rattle.spec_exact.specs.Narrow.{IsNarrow}
 use Rattle.spec_model.specs.declared.parts.Sense.{Sense}
 use Rattle.spec_model.specs.declared.parts.Sense.TheVariants.{Min, Max}
 use Rattle.spec_model.specs.declared.parts.Kind.{Kind}
-use Rattle.spec_model.specs.declared.parts.Kind.TheVariants.{L, G, E}
-use Rattle.spec_model.specs.Model.{Model, ExactColumn, no_row, width, height, row, entry_of}
+use Rattle.spec_model.specs.declared.parts.Kind.TheVariants.{L, G, E, N}
+use Rattle.spec_model.specs.declared.parts.RowLimit.{RowLimit}
+use Rattle.spec_model.specs.declared.parts.RowLimit.TheVariants.{Absent, Given, Sum, Difference}
+use Rattle.spec_model.specs.Model.{Model, ExactRow, ExactColumn, no_row, width, height, row, entry_of}
+use Rattle.spec_model.specs.Model.{lower_by, upper_by, lower_of, upper_of, limit_run, lower_run, upper_run}
 use Rattle.spec_model.specs.Kept.{IsNarrowRow, IsNarrowColumn}
 use Rattle.spec_simplex.specs.declared.ends.FormFault.TheVariants as fault
 use Rattle.spec_simplex.specs.declared.ends.RowStart.{RowStart}
 use Rattle.spec_simplex.specs.declared.ends.RowStart.TheVariants.{Within, Below, Above}
 use Rattle.spec_exact.specs.Run.{Run, ◌>>=◌, refused_as, sum_run, difference_run, order_run, plus_product, less_product}
 use Rattle.spec_exact.specs.Run.{steps, list_run}
-use Rattle.spec_simplex.specs.Form.{Form, form_entry, form_lower, form_upper, equation_limits, limits_by, limits_run}
+use Rattle.spec_simplex.specs.Form.{Form, form_entry, form_lower, form_upper, limits_run}
 use Rattle.spec_simplex.specs.Form.{column_clash, least_cost, formed, form_of}
 use Rattle.spec_simplex.specs.Tableau.{Tableau, all_columns, entry_at, basic_at}
 use Rattle.spec_simplex.specs.Start.{first_status, first_value, row_sum, below_by, below_run, above_by, above_run}
@@ -27,6 +30,7 @@ use Rattle.spec_simplex.specs.Start.{within_or_above, row_start_by, row_start, l
 use Rattle.spec_simplex.specs.Start.{structural_entry, artificial_value, artificial_upper, start_at, by_column, one_at}
 use Rattle.spec_simplex.specs.Start.{start_entry, start_value, start_row, begun, cost_at, reduced_run, priced_run}
 use Rattle.spec_simplex.specs.Start.{with_reduced, first_cost, first_costs, start_of}
+use Rattle.spec_exact.proofs.Results.{ok_same}
 use Rattle.spec_exact.proofs.Stops.{All-made}
 use Rattle.spec_exact.proofs.Narrow.{neg_narrow}
 use Rattle.spec_path.proofs.Runs.{then_ok, refused_ok, steps_ok}
@@ -58,31 +62,53 @@ Pair = Option ℚ × Option ℚ
 abbrev NarrowPair : Pair → Type 0
 NarrowPair p = NarrowBound p.0 × NarrowBound p.1
 
-equation_narrow : (b r : ℚ) (p : Pair) → equation_limits (Some number_limit) b r ≡ Ok p → IsNarrow b → NarrowPair p
-equation_narrow b r p h n =
-    let o = then_ok (sum_run (Some number_limit) b r) (λ c. Ok (cond (lt_ℚ r 0ℚ) (Some c, Some b) (Some b, Some c))) p
-    h in
-    let e : cond (lt_ℚ r 0ℚ) (Some o.0, Some b) (Some b, Some o.0) ≡ p = cc in
-    subst NarrowPair e (by (lt_ℚ r 0ℚ) o.0 (sum_narrow b r o.0 o.1))
-  where
-    by : (t : Bool) (c : ℚ) → IsNarrow c → NarrowPair (cond t (Some c, Some b) (Some b, Some c))
-    by true c k = (k, n)
-    by false c k = (n, k)
+-- what takes no operation is narrow
+abbrev IsNarrowGiven : RowLimit ℚ → Type 0
+IsNarrowGiven (Given v) = IsNarrow v
+IsNarrowGiven other = Unit {0}
 
-limits_narrow : (kind : Kind) (b : ℚ) (range : Option ℚ) (p : Pair) →
-    limits_by (Some number_limit) kind b range ≡ Ok p → IsNarrow b → NarrowPair p
-limits_narrow L b None p h n = let e : ◌≡◌ {A = Pair} (None, Some b) p = cc in subst NarrowPair e (tt, n)
-limits_narrow L b (Some r) p h n =
-    let o = then_ok (difference_run (Some number_limit) b (abs_ℚ r)) (λ a. Ok (Some a, Some b)) p h in
-    let e : ◌≡◌ {A = Pair} (Some o.0, Some b) p = cc in
-    subst NarrowPair e (difference_narrow b (abs_ℚ r) o.0 o.1, n)
-limits_narrow G b None p h n = let e : ◌≡◌ {A = Pair} (Some b, None) p = cc in subst NarrowPair e (n, tt)
-limits_narrow G b (Some r) p h n =
-    let o = then_ok (sum_run (Some number_limit) b (abs_ℚ r)) (λ c. Ok (Some b, Some c)) p h in
-    let e : ◌≡◌ {A = Pair} (Some b, Some o.0) p = cc in
-    subst NarrowPair e (n, sum_narrow b (abs_ℚ r) o.0 o.1)
-limits_narrow E b None p h n = let e : ◌≡◌ {A = Pair} (Some b, Some b) p = cc in subst NarrowPair e (n, n)
-limits_narrow E b (Some r) p h n = equation_narrow b r p h n
+lower_given : (kind : Kind) (b : ℚ) (range : Option ℚ) → IsNarrow b → IsNarrowGiven (lower_by kind b range)
+lower_given L b None n = tt
+lower_given L b (Some r) n = tt
+lower_given G b range n = n
+lower_given N b range n = tt
+lower_given E b None n = n
+lower_given E b (Some r) n = by (lt_ℚ r 0ℚ)
+  where
+    by : (t : Bool) → IsNarrowGiven (cond t (Sum b r) (Given b))
+    by true = tt
+    by false = n
+
+upper_given : (kind : Kind) (b : ℚ) (range : Option ℚ) → IsNarrow b → IsNarrowGiven (upper_by kind b range)
+upper_given L b range n = n
+upper_given G b None n = tt
+upper_given G b (Some r) n = tt
+upper_given N b range n = tt
+upper_given E b None n = n
+upper_given E b (Some r) n = by (lt_ℚ r 0ℚ)
+  where
+    by : (t : Bool) → IsNarrowGiven (cond t (Given b) (Sum b r))
+    by true = n
+    by false = tt
+
+limit_narrow : (o : RowLimit ℚ) (l : Option ℚ) → limit_run (Some number_limit) o ≡ Ok l → IsNarrowGiven o → NarrowBound l
+limit_narrow Absent l h n = subst NarrowBound (ok_same None l h) tt
+limit_narrow (Given v) l h n = subst NarrowBound (ok_same (Some v) l h) n
+limit_narrow (Sum v w) l h n =
+    let o = then_ok (sum_run (Some number_limit) v w) (λ s. Ok (Some s)) l h in
+    subst NarrowBound (ok_same (Some o.0) l o.2) (sum_narrow v w o.0 o.1)
+limit_narrow (Difference v w) l h n =
+    let o = then_ok (difference_run (Some number_limit) v w) (λ d. Ok (Some d)) l h in
+    subst NarrowBound (ok_same (Some o.0) l o.2) (difference_narrow v w o.0 o.1)
+
+limits_narrow : (r : ExactRow) (p : Pair) → limits_run (Some number_limit) r ≡ Ok p → IsNarrow r.rhs → NarrowPair p
+limits_narrow r p h n =
+    let l = then_ok (lower_run (Some number_limit) r) (λ l. upper_run (Some number_limit) r >>= λ u. Ok (l, u)) p h in
+    let u = then_ok (upper_run (Some number_limit) r) (λ u. Ok (l.0, u)) p l.2 in
+    subst NarrowPair (ok_same (l.0, u.0) p u.2) (
+      limit_narrow (lower_of r) l.0 l.1 (lower_given r.kind r.rhs r.range n),
+      limit_narrow (upper_of r) u.0 u.1 (upper_given r.kind r.rhs r.range n),
+    )
 
 least_narrow : (sense : Sense) (c : ℚ) → IsNarrow c → IsNarrow (least_cost sense c)
 least_narrow Min c h = h
@@ -115,7 +141,7 @@ form_narrow m f h n =
     (formed_narrow m o.0 n
     (all_given NarrowPair (height m) (λ i. limits_run (Some number_limit) (row m i)) o.0
     (refused_ok fault.Past _ o.0 o.1)
-    (λ i q l g. limits_narrow (row m i).kind (row m i).rhs (row m i).range q g (n.rows i no_row l).rhs)))
+    (λ i q l g. limits_narrow (row m i) q g (n.rows i no_row l).rhs)))
 
 entry_narrow : (es : List (ℕ × ℚ)) (i : ℕ) → All (λ e. IsNarrow e.1) es → IsNarrow (entry_of es i)
 entry_narrow [] i h = zero_narrow

@@ -24,6 +24,7 @@ refused_edit held e (fault.Taken name) = refl
 refused_edit held e (fault.Limit which count) = refl
 refused_edit held e fault.BadName = refl
 refused_edit held e (fault.Repeated name) = refl
+refused_edit held e (fault.FreeRow name) = refl
 
 edited_then : (old new : State) (m : Model) (e : ExactEdit) (replied : ExactReply) (r : OrFault Model) →
     old.model ≡ Some m → edited m e ≡ r →

@@ -32,6 +32,7 @@ not_refused (fault.Taken name) h = cc
 not_refused (fault.Limit which count) h = cc
 not_refused fault.BadName h = cc
 not_refused (fault.Repeated name) h = cc
+not_refused (fault.FreeRow name) h = cc
 
 edit_made : (old new : State) (m : Model) (e : ExactEdit) (r : OrFault Model) → edited m e ≡ r →
     Does old (edit_due old r) reply.Done new → IsMade (Some m) e

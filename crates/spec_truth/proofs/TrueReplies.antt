@@ -65,6 +65,7 @@ refusal_sort (fault.Taken name) = refl
 refusal_sort (fault.Limit which count) = refl
 refusal_sort fault.BadName = refl
 refusal_sort (fault.Repeated name) = refl
+refusal_sort (fault.FreeRow name) = refl
 
 edit_sort : (state : State) (r : OrFault Model) → due_sort (edit_due state r) ≡ 0
 edit_sort state (Ok m) = refl
