@@ -11,7 +11,6 @@ use Rattle.spec_text.specs.Words.{same}
 use Rattle.spec_text.proofs.WordLemmas.{same_false}
 use Rattle.spec_model.specs.Model.{Name, ExactRow, ExactColumn}
 use Rattle.spec_mps.specs.declared.target.Target.TheVariants.{Objective}
-use Rattle.spec_mps.specs.declared.target.Place.TheVariants.{Kept, Dropped}
 use Rattle.spec_mps.specs.Reader.{State, is_objective, row_at, place_of, columns_with}
 use Rattle.spec_mps.specs.Sides.{changed_at}
 use Rattle.lp_model.proofs.NamePlaces.{place_named}
@@ -33,30 +32,19 @@ none_passes p xs h = λ k d l. by (p (get_or xs k d)) refl (list_any_at p xs k d
     by true e f = absurd (let g = f e in cc)
     by false e f = e
 
--- ---- the parts of a name that stands for nothing
+-- ---- a name that stands for nothing
 
-parts : (a b : Bool) (o : Option ℕ) → cond a (Some (Kept Objective)) (cond b (Some Dropped) (row_at o)) ≡ None →
-    (b ≡ false) × (o ≡ None)
-parts true b o h = absurd (cc)
-parts false true o h = absurd (cc)
-parts false false None h = (refl, refl)
-parts false false (Some i) h = absurd (cc)
+no_row_placed : (a : Bool) (o : Option ℕ) → cond a (Some Objective) (row_at o) ≡ None → o ≡ None
+no_row_placed true o h = absurd (cc)
+no_row_placed false None h = refl
+no_row_placed false (Some i) h = absurd (cc)
 
 pub rows_new : (s : State) (name : Name) → place_of s name ≡ None → All (λ (r : ExactRow). r.name ≢ name) s.rows
 unfolding place_of
 rows_new s name h =
     All-weaker (λ (r : ExactRow). same r.name name ≡ false) (λ r. r.name ≢ name) (λ r. same_false r.name name) s.rows
     (none_placed (λ (r : ExactRow). same r.name name) s.rows
-    (parts (is_objective s.objective name) (list_any (same name) s.dropped)
-    (position (λ r. same r.name name) s.rows) h).1)
-
-pub dropped_new : (s : State) (name : Name) → place_of s name ≡ None → All (λ x. x ≢ name) s.dropped
-unfolding place_of
-dropped_new s name h =
-    All-weaker (λ x. same name x ≡ false) (λ x. x ≢ name) (λ x e q. same_false name x e (sym q)) s.dropped
-    (none_passes (same name) s.dropped
-    (parts (is_objective s.objective name) (list_any (same name) s.dropped)
-    (position (λ r. same r.name name) s.rows) h).0)
+    (no_row_placed (is_objective s.objective name) (position (λ r. same r.name name) s.rows) h))
 
 -- ---- names beside what has them
 

@@ -1,20 +1,19 @@
 -- What is said once of the numbers of rows is what the definition says of those of each section.
-use Rattle.std.proofs.Common.{◌≡◌, ℕ, Some, Ok, Err, List, [], ◌∷◌, cond, refl, ap, ◌∙◌}
-use Rattle.spec_model.specs.Model.{Name}
+use Rattle.std.proofs.Common.{◌≡◌, ℕ, Bool, true, false, Some, None, Ok, Err, List, [], ◌∷◌, get_or, cond, refl, ap, ◌∙◌}
+use Rattle.spec_model.specs.Model.{Name, no_row, is_free}
 use Rattle.spec_mps.specs.declared.fault.Code.TheVariants as code
 use Rattle.spec_mps.specs.declared.style.Style.{Style}
 use Rattle.spec_mps.specs.declared.section.Section.TheVariants as section
 use Rattle.spec_mps.specs.Shapes.{shaped}
 use Rattle.spec_mps.specs.declared.target.Target.TheVariants.{Objective, Row}
-use Rattle.spec_mps.specs.declared.target.Place.{Place}
-use Rattle.spec_mps.specs.declared.target.Place.TheVariants.{Kept, Dropped}
+use Rattle.spec_mps.specs.declared.target.Target.{Target}
 use Rattle.spec_mps.specs.Fields.{Fields}
 use Rattle.spec_mps.specs.Checks.{Check, ◌>>=◌, need}
 use Rattle.spec_mps.specs.Reader.{State, place_of, number_in, enter, column_pair, column_pairs}
 use Rattle.spec_mps.specs.Sides.{SetAndPairs, put_side, side_pair, side_pairs, rhs_by, rhs_card, ranged_row}
-use Rattle.spec_mps.specs.Sides.{is_used, set_and_pairs, put_range, range_pair, range_pairs, ranges_by, ranges_card}
+use Rattle.spec_mps.specs.Sides.{is_used, set_and_pairs, new_range, put_range, range_pair, range_pairs, ranges_by, ranges_card}
 use Rattle.mps_read.specs.declared.numbers.Numbers.TheVariants.{Entries, Sides, Ranges}
-use Rattle.mps_read.specs.Numbers.{place_by, pair_by, pairs_by, set_by, set_card}
+use Rattle.mps_read.specs.Numbers.{put_if, place_by, pair_by, pairs_by, set_by, set_card}
 
 -- two checks in turn
 next : {A : Type 0} (a b : Check A) (f g : A → Check State) → a ≡ b → ((x : A) → f x ≡ g x) → (a >>= f) ≡ (b >>= g)
@@ -27,27 +26,30 @@ entry_is : (s : State) (name : Name) (text : List ℕ) → pair_by Entries s nam
 unfolding column_pair enter
 entry_is s name text = next (need (place_of s name) code.UnknownRow) _ _ _ refl by
   where
-    by : (p : Place) → place_by Entries s text p ≡ (number_in text >>= λ v. enter s p v)
-    by Dropped = refl
-    by (Kept t) = refl
+    by : (t : Target) → place_by Entries s text t ≡ (number_in text >>= λ v. enter s t v)
+    by t = refl
 
 side_is : (s : State) (name : Name) (text : List ℕ) → pair_by Sides s name text ≡ side_pair s name text
 unfolding side_pair put_side
 side_is s name text = next (need (place_of s name) code.UnknownRow) _ _ _ refl by
   where
-    by : (p : Place) → place_by Sides s text p ≡ (number_in text >>= λ v. put_side s p v)
-    by Dropped = refl
-    by (Kept Objective) = refl
-    by (Kept (Row i)) = refl
+    by : (t : Target) → place_by Sides s text t ≡ (number_in text >>= λ v. put_side s t v)
+    by Objective = refl
+    by (Row i) = refl
 
 range_is : (s : State) (name : Name) (text : List ℕ) → pair_by Ranges s name text ≡ range_pair s name text
-unfolding range_pair put_range
+unfolding range_pair put_range new_range
 range_is s name text = next (need (place_of s name) code.UnknownRow) _ _ _ refl by
   where
-    by : (p : Place) → place_by Ranges s text p ≡ (ranged_row p >>= λ row. number_in text >>= λ v. put_range s row v)
-    by Dropped = refl
-    by (Kept Objective) = refl
-    by (Kept (Row i)) = refl
+    row_by : (i : ℕ) (b : Bool) →
+        (number_in text >>= λ v. put_if Ranges s (cond b None (Some (Row i))) v)
+        ≡ (number_in text >>= λ v. cond b (Ok s) (new_range s i v))
+    row_by i true = refl
+    row_by i false = refl
+
+    by : (t : Target) → place_by Ranges s text t ≡ (ranged_row t >>= λ row. number_in text >>= λ v. put_range s row v)
+    by Objective = refl
+    by (Row i) = row_by i (is_free (get_or s.rows i no_row).kind)
 
 -- ---- in turn
 

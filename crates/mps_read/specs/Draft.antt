@@ -17,7 +17,6 @@ state_of d =
       name = name_of d.name;
       sense = d.sense;
       objective = d.objective;
-      dropped = d.dropped;
       rows = d.rows;
       offset = d.offset;
       columns = d.columns.whole;

@@ -1,15 +1,13 @@
 -- The numbers that cards give rows: those of a column, right sides, and ranges. Said once for all three.
-use Rattle.std.specs.Prelude.{ℕ, not, Option, Some, None, Ok, Err, List, [], ◌∷◌, option_map, if◌then◌else◌}
+use Rattle.std.specs.Prelude.{ℕ, not, Option, Some, None, Ok, Err, List, [], ◌∷◌, get_or, option_map, if◌then◌else◌}
 use Rattle.spec_exact.specs.Fraction.{ℚ}
-use Rattle.spec_model.specs.Model.{Name}
+use Rattle.spec_model.specs.Model.{Name, no_row, is_free}
 use Rattle.spec_mps.specs.declared.fault.Code.TheVariants as code
 use Rattle.spec_mps.specs.declared.style.Style.{Style}
 use Rattle.spec_mps.specs.declared.section.Section.{Section}
 use Rattle.spec_mps.specs.declared.section.Section.TheVariants as section
 use Rattle.spec_mps.specs.declared.target.Target.{Target}
 use Rattle.spec_mps.specs.declared.target.Target.TheVariants.{Objective, Row}
-use Rattle.spec_mps.specs.declared.target.Place.{Place}
-use Rattle.spec_mps.specs.declared.target.Place.TheVariants.{Kept, Dropped}
 use Rattle.spec_mps.specs.Fields.{Fields}
 use Rattle.spec_mps.specs.Checks.{Check, ◌>>=◌, must, need}
 use Rattle.spec_mps.specs.Shapes.{shaped}
@@ -23,15 +21,12 @@ section_of Entries = section.Columns
 section_of Sides = section.RightSides
 section_of Ranges = section.Ranges
 
--- what a number belongs to, `None` for a row that is dropped; the objective has no range
-abbrev pub target_of : Numbers → Place → Check (Option Target)
-target_of Entries Dropped = Ok None
-target_of Entries (Kept t) = Ok (Some t)
-target_of Sides Dropped = Ok None
-target_of Sides (Kept t) = Ok (Some t)
-target_of Ranges Dropped = Ok None
-target_of Ranges (Kept Objective) = Err code.RangeOnObjective
-target_of Ranges (Kept (Row i)) = Ok (Some (Row i))
+-- what a number belongs to: the objective has no range, and that of a free row is forgotten
+abbrev pub target_of : Numbers → State → Target → Check (Option Target)
+target_of Entries s t = Ok (Some t)
+target_of Sides s t = Ok (Some t)
+target_of Ranges s Objective = Err code.RangeOnObjective
+target_of Ranges s (Row i) = Ok (if is_free (get_or s.rows i no_row).kind then None else Some (Row i))
 
 abbrev pub with_range : State → Target → ℚ → State
 with_range s Objective v = s
@@ -52,10 +47,10 @@ abbrev pub put_if : Numbers → State → Option Target → ℚ → Check State
 put_if numbers s None v = Ok s
 put_if numbers s (Some t) v = put_by numbers s t v
 
--- a number beside a row's name that stands for this place
-abbrev pub place_by : Numbers → State → List ℕ → Place → Check State
-place_by numbers s text place = do
-  target ← target_of numbers place
+-- a number beside a row's name that stands for this target
+abbrev pub place_by : Numbers → State → List ℕ → Target → Check State
+place_by numbers s text t = do
+  target ← target_of numbers s t
   v ← number_in text
   put_if numbers s target v
 

@@ -8,9 +8,9 @@ use crate::row_list::Rows;
 use crate::targets::Targets;
 use lp_base::{Name, are_same};
 use lp_frac::{Frac, zero};
-use lp_model::{NameIndex, Sense};
+use lp_model::Sense;
 use lp_numtext::read;
-use spec_mps::{Code, Place, Section, Seen, Target};
+use spec_mps::{Code, Section, Seen, Target};
 use std::alloc::{AllocError, Global};
 use std::mem;
 
@@ -23,8 +23,6 @@ pub(crate) struct Draft {
     pub(crate) name: Option<Name>,
     pub(crate) sense: Option<Sense>,
     pub(crate) objective: Option<Name>,
-    /// The rows of type N after the objective.
-    pub(crate) dropped: NameIndex,
     pub(crate) rows: Rows,
     pub(crate) offset: Frac,
     pub(crate) columns: Columns,
@@ -54,7 +52,6 @@ impl Draft {
             name: None,
             sense: None,
             objective: None,
-            dropped: NameIndex::new(alloc),
             rows: Rows::new(alloc),
             offset: zero(),
             columns: Columns::new(alloc),
@@ -82,17 +79,14 @@ impl Draft {
 
     /// What a row's name stands for.
     #[tactic(auto, unfolding(spec_mps::specs::Reader::place_of))]
-    pub(crate) fn place_of(&self, name: &[u8]) -> Option<Place>
+    pub(crate) fn place_of(&self, name: &[u8]) -> Option<Target>
         ensures { result ≡ reader.place_of (state_of self.now) name.now }
     {
         if self.is_objective(name) {
-            return Some(Place::Kept(Target::Objective));
-        }
-        if self.dropped.has(name) {
-            return Some(Place::Dropped);
+            return Some(Target::Objective);
         }
         match self.rows.place_of(name) {
-            Some(row) => Some(Place::Kept(Target::Row(row))),
+            Some(row) => Some(Target::Row(row)),
             None => None,
         }
     }

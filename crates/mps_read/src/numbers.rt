@@ -11,7 +11,7 @@ use crate::draft::{Draft, number_in};
 use crate::fault::Fault;
 use lp_frac::{Frac, neg};
 use mps_card::Field;
-use spec_mps::{Code, Place, Section, Target};
+use spec_mps::{Code, Section, Target};
 use std::alloc::AllocError;
 
 /// What the numbers of a section are.
@@ -33,17 +33,6 @@ impl Numbers {
             Numbers::Ranges => Section::Ranges,
         }
     }
-
-    // What a number belongs to; none for a row that is dropped.
-    fn target_of(self, place: Place) -> Result<Option<Target>, Code>
-        ensures { result ≡ numbers.target_of self place }
-    {
-        match (self, place) {
-            (_, Place::Dropped) => Ok(None),
-            (Numbers::Ranges, Place::Kept(Target::Objective)) => Err(Code::RangeOnObjective),
-            (_, Place::Kept(target)) => Ok(Some(target)),
-        }
-    }
 }
 
 impl Draft {
@@ -60,13 +49,24 @@ impl Draft {
         Ok(())
     }
 
+    // What a number belongs to: the objective has no range, and that of a free row is forgotten.
+    fn target_of(&self, what: Numbers, target: Target) -> Result<Option<Target>, Code>
+        ensures { result ≡ numbers.target_of what (state_of self.now) target }
+    {
+        match (what, target) {
+            (Numbers::Ranges, Target::Objective) => Err(Code::RangeOnObjective),
+            (Numbers::Ranges, Target::Row(row)) if self.rows.is_free(row) => Ok(None),
+            _ => Ok(Some(target)),
+        }
+    }
+
     fn pair(&mut self, what: Numbers, name: &[u8], text: &[u8]) -> Result<(), Fault>
         ensures { GivesState (numbers.pair_by what (state_of self.old) name.now text.now) (state_of self.new) result }
     {
-        let Some(place) = self.place_of(name) else {
+        let Some(named) = self.place_of(name) else {
             return Err(Fault::Code(Code::UnknownRow));
         };
-        let target = what.target_of(place)?;
+        let target = self.target_of(what, named)?;
         let value = number_in(text)?;
         match target {
             None => Ok(()),

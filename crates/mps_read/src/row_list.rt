@@ -1,14 +1,15 @@
 // The rows that were read.
-ghost use Rattle.std.specs.Prelude.{◌≡◌, ◌≢◌, ◌<◌, [], ◌∷◌, ◌++◌, All, length, Some, None, IfOk, OnOk};
+ghost use Rattle.std.specs.Prelude.{◌≡◌, ◌≢◌, ◌<◌, [], ◌∷◌, ◌++◌, All, length, get_or, Some, None, IfOk, OnOk};
 ghost use Rattle.std.specs.List.{position};
 ghost use Rattle.spec_text.specs.Words.{same};
 ghost use Rattle.spec_model.specs.Kept.{row_limit};
+ghost use Rattle.spec_model.specs.Model.{no_row, is_free as has_no_limits};
 ghost use Rattle.spec_mps.specs.Reader.{new_row};
 ghost use Rattle.spec_mps.specs.Sides.{changed_at};
 
 use lp_base::Name;
 use lp_frac::{Frac, zero};
-use lp_model::{Kind, NameIndex, Row};
+use lp_model::{Kind, NameIndex, Row, is_free};
 use std::alloc::{AllocError, Global};
 use std::marker::Model;
 
@@ -80,6 +81,16 @@ impl Rows {
         match self.names.place_of(name) {
             Some(i) => Some(i as u32),
             None => None,
+        }
+    }
+
+    /// Whether the row at a place is free. Past the end there is none.
+    pub(crate) fn is_free(&self, at: u32) -> bool
+        ensures { result ≡ has_no_limits (get_or self.now at no_row).kind }
+    {
+        match self.items.get(at as usize) {
+            Some(row) => is_free(row.kind),
+            None => false,
         }
     }
 

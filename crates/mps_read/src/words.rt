@@ -4,7 +4,7 @@ ghost use Rattle.spec_mps.specs.Shapes as shapes;
 
 use lp_base::look_up;
 use lp_model::{Kind, Sense};
-use spec_mps::{BoundKind, Code, RowType, Section};
+use spec_mps::{BoundKind, Code, Section};
 
 const SECTIONS: [(&[u8], Section); 8] = [
     (b"NAME", Section::Name),
@@ -24,11 +24,11 @@ const SENSES: [(&[u8], Sense); 4] = [
     (b"MAXIMIZE", Sense::Max),
 ];
 
-const ROW_TYPES: [(&[u8], RowType); 4] = [
-    (b"N", RowType::Unlimited),
-    (b"L", RowType::Limited(Kind::L)),
-    (b"G", RowType::Limited(Kind::G)),
-    (b"E", RowType::Limited(Kind::E)),
+const ROW_TYPES: [(&[u8], Kind); 4] = [
+    (b"N", Kind::N),
+    (b"L", Kind::L),
+    (b"G", Kind::G),
+    (b"E", Kind::E),
 ];
 
 // The kinds for columns of whole numbers and semi-continuous columns are not read.
@@ -61,9 +61,9 @@ pub(crate) fn sense_of(word: &[u8]) -> Option<Sense>
     look_up(word, &SENSES)
 }
 
-/// The type of rows that a word says.
+/// The kind of rows that a word says.
 #[tactic(auto, unfolding(spec_mps::specs::Shapes::row_type_of))]
-pub(crate) fn row_type_of(word: &[u8]) -> Option<RowType>
+pub(crate) fn row_type_of(word: &[u8]) -> Option<Kind>
     ensures { result ≡ shapes.row_type_of word.now }
 {
     look_up(word, &ROW_TYPES)

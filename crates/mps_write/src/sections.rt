@@ -31,6 +31,7 @@ fn kind_word(kind: Kind) -> &'static [u8]
         Kind::L => b"L",
         Kind::G => b"G",
         Kind::E => b"E",
+        Kind::N => b"N",
     }
 }
 
