@@ -6,10 +6,9 @@ ghost use Rattle.spec_check.specs.Run as run;
 ghost use Rattle.lp_frac.specs.Narrow.{largest};
 
 use crate::certificate::{CheckStop, Known};
-use crate::limits::{lower_limit, upper_limit};
 use crate::steps::{need, part, plus_product};
 use lp_frac::{Frac, Fracs, cmp, is_negative, is_positive, zero};
-use lp_model::Model;
+use lp_model::{Model, lower_limit, upper_limit};
 
 // `d` times a limit that condition `n` asks for, onto `s`.
 fn weighed_at(n: u32, d: Frac, limit: Option<Frac>, s: Frac) -> Result<Frac, CheckStop>

@@ -14,7 +14,6 @@
 mod certificate;
 mod conditions;
 mod farkas;
-mod limits;
 mod multipliers;
 mod point;
 mod ray;

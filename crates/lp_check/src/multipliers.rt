@@ -6,11 +6,10 @@ ghost use Rattle.spec_check.specs.Run as run;
 ghost use Rattle.lp_frac.specs.Narrow.{largest};
 
 use crate::certificate::CheckStop;
-use crate::limits::{lower_limit, upper_limit};
 use crate::point::activity;
 use crate::steps::{less_product, need, part, stands_at};
 use lp_frac::{Frac, Fracs, is_negative, is_positive, neg};
-use lp_model::{Column, Model, Sense};
+use lp_model::{Column, Model, Sense, lower_limit, upper_limit};
 
 // The cost to be made least.
 pub(crate) fn signed(sense: Sense, cost: Frac) -> Frac

@@ -5,10 +5,9 @@ ghost use Rattle.spec_check.specs.Run as run;
 ghost use Rattle.lp_frac.specs.Narrow.{largest};
 
 use crate::certificate::CheckStop;
-use crate::limits::{lower_limit, upper_limit};
 use crate::steps::{at_least, at_most, part, plus_product};
 use lp_frac::{Frac, Fracs, add, zero};
-use lp_model::Model;
+use lp_model::{Model, lower_limit, upper_limit};
 
 // The value of column `j` is within the column's bounds.
 fn column_within(model: &Model, x: &Fracs, j: u32) -> Result<(), CheckStop>

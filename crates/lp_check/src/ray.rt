@@ -5,12 +5,11 @@ ghost use Rattle.spec_check.specs.Run as run;
 ghost use Rattle.lp_frac.specs.Narrow.{largest};
 
 use crate::certificate::CheckStop;
-use crate::limits::{lower_limit, upper_limit};
 use crate::multipliers::signed;
 use crate::point::{activity, cost};
 use crate::steps::{need, part};
 use lp_frac::{Frac, Fracs, is_negative, is_positive};
-use lp_model::Model;
+use lp_model::{Model, lower_limit, upper_limit};
 
 // `r` is not below 0, where a lower limit is there.
 fn not_below(limit: Option<Frac>, r: Frac) -> bool

@@ -1,5 +1,5 @@
 -- Steps of a run without a limit, from what each call gives.
-use Rattle.std.proofs.Common.{◌≡◌, ℕ, ◌<◌, [], ◌∷◌, List, Option, Some, None, Ok, Err, Bool, true, false, not, cond}
+use Rattle.std.proofs.Common.{◌≡◌, ℕ, [], ◌∷◌, List, Option, Some, None, Ok, Err, Bool, true, false, not}
 use Rattle.std.proofs.Common.{refl, sym, ap, ap₂, ◌∙◌, pos}
 use Rattle.std.specs.Prelude.{⊤, ok_or, int_lt, neg_ℤ, ℤ}
 use Rattle.std.proofs.Common.{arith}
@@ -10,54 +10,29 @@ use Rattle.spec_model.specs.Model.{bounds}
 use Rattle.std.specs.Ordering.{is_lt, is_gt, is_eq}
 use Rattle.std.specs.declared.cmp.Ordering.{Ordering}
 use Rattle.std.specs.declared.cmp.Ordering.TheVariants.{Less, Equal, Greater}
-use Rattle.spec_exact.specs.Fraction.{ℚ, 0ℚ, ◌+ℚ◌, ◌-ℚ◌, ◌*ℚ◌, neg_ℚ, abs_ℚ, lt_ℚ, eq_ℚ}
-use Rattle.spec_exact.specs.Limit.{add, sub, order, compare}
-use Rattle.spec_exact.specs.declared.past.Op.TheVariants.{Add, Sub, Cmp}
-use Rattle.spec_exact.specs.Run.{◌>>=◌}
+use Rattle.spec_exact.specs.Fraction.{ℚ, 0ℚ, ◌+ℚ◌, ◌-ℚ◌, ◌*ℚ◌, neg_ℚ, lt_ℚ, eq_ℚ}
+use Rattle.spec_exact.specs.Limit.{add, order}
+use Rattle.spec_exact.specs.declared.past.Op.TheVariants.{Add}
+use Rattle.spec_exact.specs.Run.{◌>>=◌, refused_as}
 use Rattle.spec_exact.proofs.Ring.{◌⊕◌, ◌⊖◌, ◌⊗◌, minus, lit, v0, v1, v2}
 use Rattle.spec_exact.proofs.Field.{by_ring_ℚ, +ℚ_zero, *ℚ_zero, *ℚ_comm}
 use Rattle.spec_exact.proofs.Ruleset.{zero-*ℚ}
 use Rattle.spec_exact.proofs.Compare.{order_equal}
 use Rattle.spec_exact.proofs.Same.{eq_if, eq_test}
-use Rattle.spec_model.specs.declared.parts.Kind.TheVariants.{L, G, E}
-use Rattle.spec_model.specs.Model.{Model, ExactRow, ExactColumn, width, height, column}
+use Rattle.spec_model.specs.declared.parts.RowLimit.{RowLimit}
+use Rattle.spec_model.specs.Model.{Model, ExactColumn, width, height, column, limit_of, limit_run}
+use Rattle.spec_model.proofs.RowLimits.{limit_all}
 use Rattle.spec_check.specs.declared.certificate.Certificate.TheVariants.{Optimal, Infeasible, Unbounded, Clash}
 use Rattle.spec_check.specs.declared.certificate.CheckStop.TheVariants as stop
 use Rattle.spec_check.specs.declared.certificate.Known.TheVariants as known
-use Rattle.spec_check.specs.Run.{Run, step, need, each, plus_product, less_product, some_run, lower_by_run, upper_by_run}
-use Rattle.spec_check.specs.Run.{lower_run, upper_run, at_least, at_most, stands_at, columns_run, rows_run}
+use Rattle.spec_check.specs.Run.{Run, step, need, each, plus_product, less_product}
+use Rattle.spec_check.specs.Run.{at_least, at_most, stands_at, columns_run, rows_run}
 use Rattle.spec_check.specs.Run.{column_tight_run, row_tight_run, value_run, check_run}
-use Rattle.spec_check.proofs.StepsComplete.{added, taken, ordered, plus_all, less_all}
+use Rattle.spec_check.proofs.StepsComplete.{added, ordered, plus_all, less_all}
 
 -- ---- limits
-some_of : (o : Run ℚ) (u v : ℚ) → o ≡ Ok u → v ≡ u → some_run o ≡ Ok (Some v)
-some_of o u v e f = ap some_run e ∙ ap (λ z. Ok (Some z)) (sym f)
-
-pub lower_L : (r : ExactRow) (g a v : ℚ) → r.kind ≡ L → r.range ≡ Some g → a ≡ abs_ℚ g → v ≡ r.rhs -ℚ a →
-    lower_run None r ≡ Ok (Some v)
-lower_L r g a v e f h i =
-    ap₂ (λ k o. lower_by_run None k r.rhs o) e f
-    ∙ some_of _ _ v (taken r.rhs (abs_ℚ g)) (i ∙ ap (λ z. r.rhs -ℚ z) h)
-
-pub lower_E : (r : ExactRow) (g v : ℚ) (t : Bool) → r.kind ≡ E → r.range ≡ Some g → t ≡ lt_ℚ g 0ℚ → t ≡ true →
-    v ≡ r.rhs +ℚ g → lower_run None r ≡ Ok (Some v)
-lower_E r g v t e f h i j =
-    ap₂ (λ k o. lower_by_run None k r.rhs o) e f
-    ∙ ap (λ s. cond s (some_run (step Add r.rhs g (add None r.rhs g))) (Ok (Some r.rhs))) (sym h ∙ i)
-    ∙ some_of _ _ v (added r.rhs g) j
-
-pub upper_G : (r : ExactRow) (g a v : ℚ) → r.kind ≡ G → r.range ≡ Some g → a ≡ abs_ℚ g → v ≡ r.rhs +ℚ a →
-    upper_run None r ≡ Ok (Some v)
-upper_G r g a v e f h i =
-    ap₂ (λ k o. upper_by_run None k r.rhs o) e f
-    ∙ some_of _ _ v (added r.rhs (abs_ℚ g)) (i ∙ ap (λ z. r.rhs +ℚ z) h)
-
-pub upper_E : (r : ExactRow) (g v : ℚ) (t : Bool) → r.kind ≡ E → r.range ≡ Some g → t ≡ lt_ℚ g 0ℚ → t ≡ false →
-    v ≡ r.rhs +ℚ g → upper_run None r ≡ Ok (Some v)
-upper_E r g v t e f h i j =
-    ap₂ (λ k o. upper_by_run None k r.rhs o) e f
-    ∙ ap (λ s. cond s (Ok (Some r.rhs)) (some_run (step Add r.rhs g (add None r.rhs g)))) (sym h ∙ i)
-    ∙ some_of _ _ v (added r.rhs g) j
+pub taken_is : (o : RowLimit ℚ) (l : Option ℚ) → l ≡ limit_of o → refused_as stop.Past (limit_run None o) ≡ Ok l
+taken_is o l h = ap (refused_as stop.Past) (limit_all o) ∙ ap Ok (sym h)
 
 -- ---- tests
 pub least_is : (l : Option ℚ) (k v : ℚ) (o : Ordering) (t : Bool) → l ≡ Some k → o ≡ order v k → t ≡ is_lt o →

@@ -1,10 +1,11 @@
 // The limits of a row and of a column, as numbers of any width.
 ghost use Rattle.std.specs.Prelude.{◌≡◌, Ok, None, IfOk};
 ghost use Rattle.spec_exact.specs.Fraction.{◌+ℚ◌, ◌-ℚ◌};
+ghost use Rattle.spec_model.specs.Model as model;
 ghost use Rattle.spec_check.specs.Run as run;
 
-use lp_frac::{Frac, abs, is_negative, neg};
-use lp_model::{Kind, Row};
+use lp_frac::{Frac, neg};
+use lp_model::{Row, RowLimit, lower_of, upper_of};
 use lp_ratio::Ratio;
 use std::alloc::{AllocError, Global};
 
@@ -35,38 +36,36 @@ fn difference(alloc: Global, v: Frac, w: Frac) -> Result<Ratio, AllocError>
     sum(alloc, v, neg(w))
 }
 
+// A limit of a row, if there is one.
+fn taken(alloc: Global, limit: RowLimit) -> Result<Option<Ratio>, AllocError>
+    ensures { IfOk result (λ l. l ≡ model.limit_of limit) }
+{
+    match limit {
+        RowLimit::Absent => Ok(None),
+        RowLimit::Given(v) => limit_of(alloc, Some(v)),
+        RowLimit::Sum(v, w) => {
+            let limit = sum(alloc, v, w)?;
+            Ok(Some(limit))
+        }
+        RowLimit::Difference(v, w) => {
+            let limit = difference(alloc, v, w)?;
+            Ok(Some(limit))
+        }
+    }
+}
+
 // The least that the row's sum may be, if there is one.
 pub(crate) fn lower_limit(alloc: Global, row: &Row) -> Result<Option<Ratio>, AllocError>
     ensures { IfOk result (λ l. run.lower_run None row.now ≡ Ok l) }
 {
-    match (row.kind, row.range) {
-        (Kind::L, None) => Ok(None),
-        (Kind::L, Some(range)) => {
-            let limit = difference(alloc, row.rhs, abs(range))?;
-            Ok(Some(limit))
-        }
-        (Kind::E, Some(range)) if is_negative(range) => {
-            let limit = sum(alloc, row.rhs, range)?;
-            Ok(Some(limit))
-        }
-        (Kind::G | Kind::E, _) => limit_of(alloc, Some(row.rhs)),
-    }
+    let limit = taken(alloc, lower_of(row))?;
+    Ok(limit)
 }
 
 // The most that the row's sum may be, if there is one.
 pub(crate) fn upper_limit(alloc: Global, row: &Row) -> Result<Option<Ratio>, AllocError>
     ensures { IfOk result (λ l. run.upper_run None row.now ≡ Ok l) }
 {
-    match (row.kind, row.range) {
-        (Kind::G, None) => Ok(None),
-        (Kind::G, Some(range)) => {
-            let limit = sum(alloc, row.rhs, abs(range))?;
-            Ok(Some(limit))
-        }
-        (Kind::E, Some(range)) if !is_negative(range) => {
-            let limit = sum(alloc, row.rhs, range)?;
-            Ok(Some(limit))
-        }
-        (Kind::L | Kind::E, _) => limit_of(alloc, Some(row.rhs)),
-    }
+    let limit = taken(alloc, upper_of(row))?;
+    Ok(limit)
 }

@@ -10,7 +10,7 @@ use crate::column::entries_of;
 use crate::edit::{ColumnBounds, Edit, EditError, EditFault, Pairs};
 use lp_base::{Name, are_same};
 use lp_frac::{Frac, neg, zero};
-use lp_model::{Column, Model, Row, is_name, is_row_name};
+use lp_model::{Column, Kind, Model, Row, is_free, is_name, is_row_name};
 use spec_edit::Which;
 use std::alloc::Global;
 
@@ -44,6 +44,13 @@ fn is_row_taken(model: &Model, name: &[u8]) -> bool
     are_same(model.objective().as_slice(), name) || model.row_of(name).is_some()
 }
 
+// Whether a free row is to have a range.
+fn is_ranged_free(kind: Kind, range: &Option<Frac>) -> bool
+    ensures { result ≡ edited.is_ranged_free kind range.now }
+{
+    range.is_some() && is_free(kind)
+}
+
 #[tactic(auto, unfolding(spec_edit::specs::Edited::new_row))]
 fn add_row(model: &mut Model, row: Row) -> Result<(), EditError>
     ensures { Leaves (edited.new_row model.old row) true model.old model.new result }
@@ -56,6 +63,9 @@ fn add_row(model: &mut Model, row: Row) -> Result<(), EditError>
     }
     if model.rows() >= MAX_ROWS {
         return Err(EditError::Fault(EditFault::Limit(Which::Rows, MAX_ROWS)));
+    }
+    if is_ranged_free(row.kind, &row.range) {
+        return Err(EditError::Fault(EditFault::FreeRow(row.name)));
     }
     model.push_row(row)?;
     Ok(())
@@ -140,11 +150,16 @@ fn set_right_side(model: &mut Model, name: Name, value: Frac) -> Result<(), Edit
     Ok(())
 }
 
+#[tactic(auto, unfolding(spec_edit::specs::Edited::with_new_range))]
 fn set_range(model: &mut Model, name: Name, range: Option<Frac>) -> Result<(), EditError>
-    ensures { Leaves (at_row model.old name (λ i. changes.with_range model.old i range))
-        false model.old model.new result }
+    ensures { Leaves (edited.with_new_range model.old name range) false model.old model.new result }
 {
-    let i = row_named(model, name)?;
+    let Some(i) = model.row_of(name.as_slice()) else {
+        return Err(EditError::Fault(EditFault::UnknownName(name)));
+    };
+    if is_ranged_free(model.row(i).kind, &range) {
+        return Err(EditError::Fault(EditFault::FreeRow(name)));
+    }
     model.set_range(i, range);
     Ok(())
 }

@@ -11,12 +11,17 @@ ghost use Rattle.lp_line.specs.declared.edits.EditStop.TheVariants.{Fault, NoMem
 use lp_base::{Bytes, Name, are_same, look_up};
 use lp_edit::{ColumnBounds, Edit, Pairs};
 use lp_frac::Frac;
-use lp_model::{Kind, Sense};
+use lp_model::{Kind, Sense, is_free};
 use lp_numtext::{BoundValue, NumFault, read_bound};
 use spec_server::{EditWord, LineFault};
 use std::alloc::{AllocError, Global};
 
-const KINDS: [(&[u8], Kind); 3] = [(b"L", Kind::L), (b"G", Kind::G), (b"E", Kind::E)];
+const KINDS: [(&[u8], Kind); 4] = [
+    (b"L", Kind::L),
+    (b"G", Kind::G),
+    (b"E", Kind::E),
+    (b"N", Kind::N),
+];
 
 const SENSES: [(&[u8], Sense); 2] = [(b"MIN", Sense::Min), (b"MAX", Sense::Max)];
 
@@ -139,30 +144,48 @@ fn pairs_in(alloc: Global, words: &[Bytes]) -> Result<Pairs, EditStop>
     Ok(pairs)
 }
 
-fn added_range(word: &Bytes) -> Result<Option<Frac>, LineFault>
-    ensures { result ≡ new_row.added_range word.now }
+// The range of a new row, which a free one has none of.
+#[tactic(auto, unfolding(spec_server::specs::EditCommand::new_range_in))]
+fn new_range_in(kind: Kind, word: &Bytes) -> Result<Frac, LineFault>
+    ensures { result ≡ edit_command.new_range_in kind word.now }
 {
-    Ok(Some(number_in(word)?))
+    if is_free(kind) {
+        return Err(LineFault::Word);
+    }
+    number_in(word)
 }
 
-// A new row, with its range as it was read: what is wrong with the words before it is told first.
-fn row_in(
-    alloc: Global,
-    name: &Bytes,
-    kind: &Bytes,
-    rhs: &Bytes,
-    range: Result<Option<Frac>, LineFault>,
-) -> Result<Edit, EditStop>
-    ensures { GivesWords (new_row.row_in name.now kind.now rhs.now range) result }
+// A new row without a range.
+fn plain_row(alloc: Global, name: &Bytes, kind: &Bytes, rhs: &Bytes) -> Result<Edit, EditStop>
+    ensures { GivesWords (new_row.plain_row name.now kind.now rhs.now) result }
 {
     let kind = kind_in(kind)?;
     let rhs = number_in(rhs)?;
-    let range = range?;
     Ok(Edit::AddRow {
         name: name_in(alloc, name)?,
         kind,
         rhs,
-        range,
+        range: None,
+    })
+}
+
+fn ranged_row(
+    alloc: Global,
+    name: &Bytes,
+    kind: &Bytes,
+    rhs: &Bytes,
+    range: &Bytes,
+) -> Result<Edit, EditStop>
+    ensures { GivesWords (new_row.ranged_row name.now kind.now rhs.now range.now) result }
+{
+    let kind = kind_in(kind)?;
+    let rhs = number_in(rhs)?;
+    let range = new_range_in(kind, range)?;
+    Ok(Edit::AddRow {
+        name: name_in(alloc, name)?,
+        kind,
+        rhs,
+        range: Some(range),
     })
 }
 
@@ -171,8 +194,8 @@ fn add_row(alloc: Global, words: &[Bytes]) -> Result<Edit, EditStop>
     ensures { GivesWords (edit_command.edit_by word.AddRow words.now) result }
 {
     match words {
-        [name, kind, rhs] => row_in(alloc, name, kind, rhs, Ok(None)),
-        [name, kind, rhs, range] => row_in(alloc, name, kind, rhs, added_range(range)),
+        [name, kind, rhs] => plain_row(alloc, name, kind, rhs),
+        [name, kind, rhs, range] => ranged_row(alloc, name, kind, rhs, range),
         _ => Err(EditStop::Fault(LineFault::Word)),
     }
 }

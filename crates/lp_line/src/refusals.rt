@@ -104,5 +104,6 @@ pub(crate) fn push_refusal(
         Refusal::Misspelled(fault) => push_fault(alloc, *fault, to),
         Refusal::Unfit(line) => push_numbered(alloc, b"14 CERT ", u64::from(*line), to),
         Refusal::FixedWide(item) => push_named(b"10 FIXEDWIDE ", item.as_slice(), to),
+        Refusal::FreeRow(name) => push_named(b"16 FREEROW ", name.as_slice(), to),
     }
 }

@@ -5,8 +5,8 @@ ghost use Rattle.spec_simplex.specs.Form as forms;
 ghost use Rattle.spec_presolve.specs.Choose as choose;
 ghost use Rattle.lp_frac.specs.Narrow.{largest};
 
-use lp_frac::{Frac, Past, abs, add, are_same, is_negative, sub, zero};
-use lp_model::{Kind, Model, Row};
+use lp_frac::{Frac, Past, are_same, zero};
+use lp_model::{Model, Row, lower_limit, upper_limit};
 
 pub(crate) type InRow = spec_presolve::InRow<Frac>;
 
@@ -39,28 +39,11 @@ pub(crate) fn in_row(model: &Model, i: u32) -> InRow
     found
 }
 
-// The least and the most that the sum of an equation with a range may be.
-fn around(rhs: Frac, range: Frac) -> Result<(Option<Frac>, Option<Frac>), Past>
-    ensures { result ≡ forms.equation_limits (Some largest) rhs range }
-{
-    let other = add(rhs, range)?;
-    if is_negative(range) {
-        Ok((Some(other), Some(rhs)))
-    } else {
-        Ok((Some(rhs), Some(other)))
-    }
-}
-
 // The least and the most that the row's sum may be.
 pub(crate) fn limits(row: &Row) -> Result<(Option<Frac>, Option<Frac>), Past>
     ensures { result ≡ forms.limits_run (Some largest) row.now }
 {
-    match (row.kind, row.range) {
-        (Kind::L, None) => Ok((None, Some(row.rhs))),
-        (Kind::L, Some(range)) => Ok((Some(sub(row.rhs, abs(range))?), Some(row.rhs))),
-        (Kind::G, None) => Ok((Some(row.rhs), None)),
-        (Kind::G, Some(range)) => Ok((Some(row.rhs), Some(add(row.rhs, abs(range))?))),
-        (Kind::E, None) => Ok((Some(row.rhs), Some(row.rhs))),
-        (Kind::E, Some(range)) => around(row.rhs, range),
-    }
+    let lower = lower_limit(row)?;
+    let upper = upper_limit(row)?;
+    Ok((lower, upper))
 }

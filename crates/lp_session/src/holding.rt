@@ -259,6 +259,7 @@ fn reply_unapplied(error: EditError) -> Reply
         }
         EditError::Fault(EditFault::BadName) => Reply::Refused(Refusal::BadName),
         EditError::Fault(EditFault::Repeated(name)) => Reply::Refused(Refusal::Repeated(name)),
+        EditError::Fault(EditFault::FreeRow(name)) => Reply::Refused(Refusal::FreeRow(name)),
         EditError::NoMemory => Reply::Memory,
     }
 }

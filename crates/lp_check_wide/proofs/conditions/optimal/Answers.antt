@@ -1,4 +1,3 @@
-use Rattle.std.proofs.Common.{sym, ap, ◌∙◌}
 use Rattle.lp_check_wide.proofs.Gives.{passes, fails, no_first, no_second, no_third, no_fourth, all_pass}
 use Rattle.lp_check_wide.proofs.conditions.optimal.Goals as goal
 

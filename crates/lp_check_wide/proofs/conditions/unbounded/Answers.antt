@@ -1,4 +1,3 @@
-use Rattle.std.proofs.Common.{sym, ap, ◌∙◌}
 use Rattle.lp_check_wide.proofs.Gives.{passes, fails, ray_first, ray_second, ray_third, ray_fourth, ray_fifth, ray_all}
 use Rattle.lp_check_wide.proofs.conditions.unbounded.Goals as goal
 

@@ -1,4 +1,3 @@
-use Rattle.std.proofs.Common.{sym, ap, ◌∙◌}
 use Rattle.spec_exact.proofs.Stops.{steps_stop}
 use Rattle.lp_check_wide.proofs.Gives.{missing}
 use Rattle.lp_check_wide.proofs.farkas.rows_ask.Goals as goal

@@ -1,4 +1,4 @@
-use Rattle.std.proofs.Common.{sym, ap, ◌∙◌}
+use Rattle.std.proofs.Common.{◌∙◌}
 use Rattle.lp_check_wide.proofs.Gives.{value_is}
 use Rattle.lp_check_wide.proofs.point.value.Goals as goal
 

@@ -1,4 +1,3 @@
-use Rattle.std.proofs.Common.{sym, ap, ◌∙◌}
 use Rattle.lp_check_wide.proofs.Gives.{better_above}
 use Rattle.lp_check_wide.proofs.ray.gets_better.Goals as goal
 

@@ -1,4 +1,3 @@
-use Rattle.std.proofs.Common.{sym, ap, ◌∙◌}
 use Rattle.spec_check.proofs.Stops.{each_stops}
 use Rattle.lp_check_wide.proofs.Gives.{fails}
 use Rattle.lp_check_wide.proofs.ray.rows_allow.Goals as goal

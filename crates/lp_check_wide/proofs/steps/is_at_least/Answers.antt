@@ -1,4 +1,3 @@
-use Rattle.std.proofs.Common.{sym, ap, ◌∙◌}
 use Rattle.lp_check_wide.proofs.Gives.{least_is}
 use Rattle.lp_check_wide.proofs.steps.is_at_least.Goals as goal
 

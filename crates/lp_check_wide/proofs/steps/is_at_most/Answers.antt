@@ -1,4 +1,3 @@
-use Rattle.std.proofs.Common.{sym, ap, ◌∙◌}
 use Rattle.lp_check_wide.proofs.Gives.{most_is}
 use Rattle.lp_check_wide.proofs.steps.is_at_most.Goals as goal
 

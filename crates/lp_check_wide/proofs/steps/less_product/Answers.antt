@@ -1,4 +1,3 @@
-use Rattle.std.proofs.Common.{sym, ap, ◌∙◌}
 use Rattle.lp_check_wide.proofs.Gives.{less_no_left, less_no_right, less_gives}
 use Rattle.lp_check_wide.proofs.steps.less_product.Goals as goal
 

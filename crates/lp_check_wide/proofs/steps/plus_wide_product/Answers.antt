@@ -1,4 +1,3 @@
-use Rattle.std.proofs.Common.{sym, ap, ◌∙◌}
 use Rattle.lp_check_wide.proofs.Gives.{plus_gives}
 use Rattle.lp_check_wide.proofs.steps.plus_wide_product.Goals as goal
 

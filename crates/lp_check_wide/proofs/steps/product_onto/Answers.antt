@@ -1,4 +1,3 @@
-use Rattle.std.proofs.Common.{sym, ap, ◌∙◌}
 use Rattle.lp_check_wide.proofs.Gives.{plus_no_left, plus_no_right, onto_gives}
 use Rattle.lp_check_wide.proofs.steps.product_onto.Goals as goal
 

@@ -1,4 +1,3 @@
-use Rattle.std.proofs.Common.{sym, ap, ◌∙◌}
 use Rattle.lp_check_wide.proofs.Gives.{stands_is}
 use Rattle.lp_check_wide.proofs.steps.stands_at.Goals as goal
 
