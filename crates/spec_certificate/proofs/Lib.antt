@@ -1,4 +1,5 @@
 pub mod TextSteps
+pub mod WideWords
 pub mod NamesKnown
 pub mod PartsPlaced
 pub mod ReadBack

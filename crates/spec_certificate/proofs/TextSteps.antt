@@ -6,11 +6,8 @@ use Rattle.spec_text.specs.declared.line.Line.{Line}
 use Rattle.spec_text.specs.declared.line.Line.TheVariants.{Text}
 use Rattle.spec_text.specs.Words.{words_of}
 use Rattle.spec_exact.specs.Fraction.{ℚ, 0ℚ, eq_ℚ}
-use Rattle.spec_exact.specs.Narrow.{IsNarrow}
 use Rattle.spec_model.specs.Model.{Name, part}
-use Rattle.spec_mps.specs.NumberWritten.{number_text, IsWord}
-use Rattle.spec_mps.proofs.RoundTrip.{read_written}
-use Rattle.spec_mps.proofs.WrittenNumbers.{number_word}
+use Rattle.spec_mps.specs.NumberWritten.{IsWord}
 use Rattle.spec_mps.proofs.WrittenWords.{parts_word, parts_word_then}
 use Rattle.spec_check.specs.declared.certificate.Letter.{Letter}
 use Rattle.spec_check.specs.declared.certificate.Letter.TheVariants.{X, Y, R}
@@ -18,8 +15,8 @@ use Rattle.spec_certificate.specs.declared.progress.Progress.TheVariants.{More, 
 use Rattle.spec_check.specs.Raw.{RawOf, ExactPart, ExactRaw}
 use Rattle.spec_certificate.specs.Text.{Reading, Refused, letter_of, takes, lettered, valued, part_by, with_part, is_end}
 use Rattle.spec_certificate.specs.Text.{words_step, step_by, settled, judge_by, LeadsBy, SpellsBy, RefusesBy}
-use Rattle.spec_certificate.specs.NarrowText.{narrow, value_in, step, Leads}
-use Rattle.spec_certificate.specs.TextWritten.{letter_text, part_text, part_lines, lines_below}
+use Rattle.spec_certificate.specs.TextWritten.{Writing, writing_of, letter_text, part_text_by, part_lines_by}
+use Rattle.spec_certificate.specs.TextWritten.{lines_below_by}
 
 -- ---- runs of lines
 
@@ -72,33 +69,11 @@ letter_known X = refl
 letter_known Y = refl
 letter_known R = refl
 
-part_words : (letter : Letter) (name : Name) (v : ℚ) → IsWord name → IsWord (number_text v) →
-    words_of (part_text letter name v) ≡ letter_text letter ∷ name ∷ number_text v ∷ []
-unfolding words_of
-part_words letter name v h k =
-    parts_word_then (letter_text letter) (name ++ 32 ∷ number_text v) (letter_word letter)
-    ∙ ap (λ ws. letter_text letter ∷ ws)
-    (parts_word_then name (number_text v) h ∙ ap (λ ws. name ∷ ws) (parts_word (number_text v) k))
-
 abbrev pub with_parts : ExactRaw → List ExactPart → ExactRaw
 with_parts raw parts = record raw { parts = raw.parts ++ parts }
 
 abbrev pub the_part : Letter → Name → ℚ → ExactPart
 the_part letter name v = record { letter = letter; name = name; value = v }
-
-known : (raw : ExactRaw) (letter : Letter) (name : Name) (v : ℚ) → takes raw.kind letter ≡ true → IsNarrow v →
-    lettered narrow raw.kind (letter_of (letter_text letter)) name (number_text v) ≡ Some (the_part letter name v)
-known raw letter name v t n =
-    ap (λ o. lettered narrow raw.kind o name (number_text v)) (letter_known letter)
-    ∙ ap (λ b. cond b (valued letter name (narrow (number_text v))) None) t
-    ∙ ap (λ r. valued letter name (value_in r)) (read_written v n.top n.bottom)
-
-pub part_step : (raw : ExactRaw) (letter : Letter) (name : Name) (v : ℚ) → takes raw.kind letter ≡ true → IsWord name →
-    IsNarrow v → step (Some raw) (Text (part_text letter name v)) ≡ More (with_parts raw (the_part letter name v ∷ []))
-unfolding step_by part_by is_end
-part_step raw letter name v t h n =
-    ap (words_step narrow (Some raw)) (part_words letter name v h (number_word v n.top n.bottom))
-    ∙ ap (with_part raw) (known raw letter name v t n)
 
 -- ---- the parts of the first n columns, or rows
 
@@ -109,30 +84,63 @@ abbrev pub parts_below : Letter → (ℕ → Name) → List ℚ → ℕ → List
 parts_below letter names values zero = []
 parts_below letter names values (suc n) = parts_below letter names values n ++ part_if letter (names n) (part values n)
 
-part_leads : (raw : ExactRaw) (letter : Letter) (name : Name) (v : ℚ) → takes raw.kind letter ≡ true → IsWord name →
-    IsNarrow v → Leads (Some raw) (map Text (part_lines letter name v)) (Some (with_parts raw (part_if letter name v)))
-part_leads raw letter name v t h n = by (eq_ℚ v 0ℚ)
-  where
-    by : (b : Bool) →
-        Leads (Some raw) (map Text (cond b [] (part_text letter name v ∷ [])))
-        (Some (with_parts raw (cond b [] (the_part letter name v ∷ []))))
-    by true = ap (λ ps. Some (record raw { parts = ps })) (sym (append-nil raw.parts))
-    by false = (with_parts raw (the_part letter name v ∷ []), part_step raw letter name v t h n, refl)
+-- ---- with numbers that are written and read so
 
-pub parts_lead : (raw : ExactRaw) (letter : Letter) (names : ℕ → Name) (values : List ℚ) (n : ℕ) →
-    takes raw.kind letter ≡ true → ((k : ℕ) → k < n → IsWord (names k)) → ((k : ℕ) → k < n → IsNarrow (part values k))
-    → Leads (Some raw) (map Text (lines_below letter names values n))
-    (Some (with_parts raw (parts_below letter names values n)))
-parts_lead raw letter names values zero t h k = ap (λ ps. Some (record raw { parts = ps })) (sym (append-nil raw.parts))
-parts_lead raw letter names values (suc n) t h k =
-    let before : List ExactPart = parts_below letter names values n in
-    let last : List ExactPart = part_if letter (names n) (part values n) in
-    let a = parts_lead raw letter names values n t (λ i p. h i (omega (arith, p))) (λ i p. k i (omega (arith, p))) in
-    let b =
-    part_leads (with_parts raw before) letter (names n) (part values n) t (h n (omega arith)) (k n (omega arith)) in
-    subst (λ ls. Leads (Some raw) ls (Some (with_parts raw (before ++ last))))
-    (sym (map-append Text (lines_below letter names values n) (part_lines letter (names n) (part values n))))
-    (subst (λ ps. Leads (Some raw)
-    (map Text (lines_below letter names values n) ++ map Text (part_lines letter (names n) (part values n)))
-    (Some (record raw { parts = ps }))) (append_assoc raw.parts before last)
-    (goes_on narrow (Some raw) (Some (with_parts raw before)) (Some (with_parts (with_parts raw before) last)) _ _ a b))
+-- the text of a number is a word that is read as the number
+pub record IsReadable (read : Reading ℚ) (text : ℚ → List ℕ) (v : ℚ) : Type 0 where
+  pub word : IsWord (text v)
+  pub back : read (text v) ≡ Some v
+
+module _ (read : Reading ℚ) (text : ℚ → List ℕ) where
+  abbrev write : Writing ℚ
+  write = writing_of text
+
+  part_words : (letter : Letter) (name : Name) (v : ℚ) → IsWord name → IsWord (text v) →
+      words_of (part_text_by write letter name v) ≡ letter_text letter ∷ name ∷ text v ∷ []
+  unfolding words_of
+  part_words letter name v h k =
+      parts_word_then (letter_text letter) (name ++ 32 ∷ text v) (letter_word letter)
+      ∙ ap (λ ws. letter_text letter ∷ ws)
+      (parts_word_then name (text v) h ∙ ap (λ ws. name ∷ ws) (parts_word (text v) k))
+
+  known : (raw : ExactRaw) (letter : Letter) (name : Name) (v : ℚ) → takes raw.kind letter ≡ true → IsReadable read text v →
+      lettered read raw.kind (letter_of (letter_text letter)) name (text v) ≡ Some (the_part letter name v)
+  known raw letter name v t n =
+      ap (λ o. lettered read raw.kind o name (text v)) (letter_known letter)
+      ∙ ap (λ b. cond b (valued letter name (read (text v))) None) t
+      ∙ ap (valued letter name) n.back
+
+  pub part_step : (raw : ExactRaw) (letter : Letter) (name : Name) (v : ℚ) → takes raw.kind letter ≡ true → IsWord name →
+      IsReadable read text v → step_by read (Some raw) (Text (part_text_by write letter name v)) ≡ More (with_parts raw (the_part letter name v ∷ []))
+  unfolding step_by part_by is_end
+  part_step raw letter name v t h n =
+      ap (words_step read (Some raw)) (part_words letter name v h n.word)
+      ∙ ap (with_part raw) (known raw letter name v t n)
+
+  part_leads : (raw : ExactRaw) (letter : Letter) (name : Name) (v : ℚ) → takes raw.kind letter ≡ true → IsWord name →
+      IsReadable read text v → LeadsBy read (Some raw) (map Text (part_lines_by write letter name v)) (Some (with_parts raw (part_if letter name v)))
+  part_leads raw letter name v t h n = by (eq_ℚ v 0ℚ)
+    where
+      by : (b : Bool) →
+          LeadsBy read (Some raw) (map Text (cond b [] (part_text_by write letter name v ∷ [])))
+          (Some (with_parts raw (cond b [] (the_part letter name v ∷ []))))
+      by true = ap (λ ps. Some (record raw { parts = ps })) (sym (append-nil raw.parts))
+      by false = (with_parts raw (the_part letter name v ∷ []), part_step raw letter name v t h n, refl)
+
+  pub parts_lead : (raw : ExactRaw) (letter : Letter) (names : ℕ → Name) (values : List ℚ) (n : ℕ) →
+      takes raw.kind letter ≡ true → ((k : ℕ) → k < n → IsWord (names k)) → ((k : ℕ) → k < n → IsReadable read text (part values k))
+      → LeadsBy read (Some raw) (map Text (lines_below_by write letter names values n))
+      (Some (with_parts raw (parts_below letter names values n)))
+  parts_lead raw letter names values zero t h k = ap (λ ps. Some (record raw { parts = ps })) (sym (append-nil raw.parts))
+  parts_lead raw letter names values (suc n) t h k =
+      let before : List ExactPart = parts_below letter names values n in
+      let last : List ExactPart = part_if letter (names n) (part values n) in
+      let a = parts_lead raw letter names values n t (λ i p. h i (omega (arith, p))) (λ i p. k i (omega (arith, p))) in
+      let b =
+      part_leads (with_parts raw before) letter (names n) (part values n) t (h n (omega arith)) (k n (omega arith)) in
+      subst (λ ls. LeadsBy read (Some raw) ls (Some (with_parts raw (before ++ last))))
+      (sym (map-append Text (lines_below_by write letter names values n) (part_lines_by write letter (names n) (part values n))))
+      (subst (λ ps. LeadsBy read (Some raw)
+      (map Text (lines_below_by write letter names values n) ++ map Text (part_lines_by write letter (names n) (part values n)))
+      (Some (record raw { parts = ps }))) (append_assoc raw.parts before last)
+      (goes_on read (Some raw) (Some (with_parts raw before)) (Some (with_parts (with_parts raw before) last)) _ _ a b))

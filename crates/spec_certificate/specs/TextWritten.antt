@@ -15,12 +15,16 @@ pub record Writing (F : Type 0) : Type 0 where
   pub is_none : F → Bool
   pub text : F → List ℕ
 
+-- fractions, by the text of each
+abbrev pub writing_of : (ℚ → List ℕ) → Writing ℚ
+writing_of text = record { none = 0ℚ; is_none = λ v. eq_ℚ v 0ℚ; text = text }
+
 -- as numbers of 127 bits, and as numbers of any width
 abbrev pub narrow_writing : Writing ℚ
-narrow_writing = record { none = 0ℚ; is_none = λ v. eq_ℚ v 0ℚ; text = number_text }
+narrow_writing = writing_of number_text
 
 abbrev pub wide_writing : Writing ℚ
-wide_writing = record { none = 0ℚ; is_none = λ v. eq_ℚ v 0ℚ; text = wide_text }
+wide_writing = writing_of wide_text
 
 abbrev pub letter_text : Letter → List ℕ
 letter_text X = codes "x"

@@ -27,7 +27,7 @@ ghost use Rattle.spec_certificate.specs.declared.progress.Progress.TheVariants.{
 ghost use Rattle.spec_certificate.specs.Text.{Reading, IsJudged, LeadsBy, SpellsBy, RefusesBy, step_by};
 ghost use Rattle.spec_certificate.specs.NarrowText.{Spells};
 ghost use Rattle.spec_certificate.specs.WideText.{wide};
-ghost use Rattle.spec_certificate.specs.TextRead.{IsReadBack};
+ghost use Rattle.spec_certificate.specs.TextRead.{IsReadBack, IsWidelyReadBack, AllNumbers, IsShortNumber};
 
 pub use progress::Progress;
 
@@ -40,6 +40,13 @@ pub fn certificate_texts_are_judged()
 pub fn written_certificates_are_read()
     ensures { (m : Model) (cert : Certificate (List ℚ)) → IsModel m →
         IsFor m cert → IsNarrowCertificate cert → IsReadBack m cert }
+{}
+
+/// The same of a certificate whose numbers may have any width, where the text of none of them has more bytes than a power
+/// of ten may have zeros.
+pub fn written_wide_certificates_are_read()
+    ensures { (m : Model) (cert : Certificate (List ℚ)) → IsModel m →
+        IsFor m cert → AllNumbers IsShortNumber cert → IsWidelyReadBack m cert }
 {}
 
 /// The steps of a text's lines, one by one, are the judgement of the text. After lines that lead on, a line leads
