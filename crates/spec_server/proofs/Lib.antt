@@ -20,3 +20,4 @@ pub mod CertificateLengths
 pub mod WrittenChecks
 pub mod Sessions
 pub mod WideChecks
+pub mod WideWritten

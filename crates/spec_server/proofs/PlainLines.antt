@@ -1,7 +1,7 @@
 -- The lines of a written certificate are short, and of spaces and printed bytes; and what the lines of a text of such
 -- lines are.
 use Rattle.std.proofs.Common.{◌≡◌, ◌≢◌, ℕ, zero, suc, ◌≤◌, ◌<◌, Bool, true, false, cond, None, List, [], ◌∷◌, ◌++◌}
-use Rattle.std.proofs.Common.{length, map, refl, ap, ◌∙◌, append_assoc, length-append, arith}
+use Rattle.std.proofs.Common.{length, get_or, map, refl, ap, ◌∙◌, append_assoc, length-append, arith}
 use Rattle.std.specs.Prelude.{codes, nat_le, All}
 use Rattle.std.specs.List.{flat_map, list_all}
 use Rattle.std.proofs.lemmas.Bool.{and_parts}
@@ -28,8 +28,10 @@ use Rattle.spec_check.specs.declared.certificate.Letter.TheVariants.{X, Y, R}
 use Rattle.spec_check.specs.declared.certificate.Certificate.{Certificate}
 use Rattle.spec_check.specs.declared.certificate.Certificate.TheVariants.{Optimal, Infeasible, Clash, Unbounded}
 use Rattle.spec_check.specs.Certificate.{IsFor, IsNarrowCertificate}
-use Rattle.spec_certificate.specs.TextWritten.{letter_text, part_text, part_lines, lines_below, column_lines, row_lines}
-use Rattle.spec_certificate.specs.TextWritten.{kind_text, all_part_lines, certificate_lines, certificate_lines_by}
+use Rattle.spec_certificate.specs.TextWritten.{Writing, writing_of, letter_text, part_text_by, part_lines_by}
+use Rattle.spec_certificate.specs.TextWritten.{lines_below_by, column_lines_by, row_lines_by, kind_text, all_part_lines_by}
+use Rattle.spec_certificate.specs.TextWritten.{certificate_lines, certificate_lines_by}
+use Rattle.spec_certificate.specs.TextRead.{AllNumbers}
 
 -- ---- lines one after the other
 
@@ -128,38 +130,51 @@ letter_short X = record { fits = omega arith; plain = refl }
 letter_short Y = record { fits = omega arith; plain = refl }
 letter_short R = record { fits = omega arith; plain = refl }
 
-words_plain : (a b c : List ℕ) → IsShort a → IsShort b → IsShort c → IsPlainLine (a ++ 32 ∷ (b ++ 32 ∷ c))
-words_plain a b c h k l =
+words_plain : (a b c : List ℕ) → IsShort a → IsShort b → length c ≤ 16000 → list_all is_plain c ≡ true →
+    IsPlainLine (a ++ 32 ∷ (b ++ 32 ∷ c))
+words_plain a b c h k fits plain =
     let p = length-append a (32 ∷ (b ++ 32 ∷ c)) in
     let q = length-append b (32 ∷ c) in
     let x = h.fits in
     let y = k.fits in
-    let z = l.fits in
     record {
-      short = omega arith;
-      plain = plain_both a (32 ∷ (b ++ 32 ∷ c)) h.plain
-          (plain_both b (32 ∷ c) k.plain l.plain);
+      short = omega (arith, p, q, x, y, fits);
+      plain = plain_both a (32 ∷ (b ++ 32 ∷ c)) h.plain (plain_both b (32 ∷ c) k.plain plain);
     }
 
-part_plain : (letter : Letter) (name : Name) (v : ℚ) → is_name name ≡ true → IsNarrow v →
-    All IsPlainLine (part_lines letter name v)
-part_plain letter name v h n = by (eq_ℚ v 0ℚ)
-  where
-    by : (t : Bool) → All IsPlainLine (cond t [] (part_text letter name v ∷ []))
-    by true = All-nil IsPlainLine
-    by false =
-        let s = both_short name v h n in
-        All-cons IsPlainLine (part_text letter name v) [] (words_plain (letter_text letter) name (number_text v)
-        (letter_short letter) s.short_name s.short_number) (All-nil IsPlainLine)
+name_short : (name : Name) → is_name name ≡ true → IsShort name
+name_short name h = (both_short name 0ℚ h zero_narrow).short_name
 
-below_plain : (letter : Letter) (names : ℕ → Name) (values : List ℚ) (n : ℕ) →
-    ((k : ℕ) → k < n → is_name (names k) ≡ true) → ((k : ℕ) → k < n → IsNarrow (part values k))
-    → All IsPlainLine (lines_below letter names values n)
-below_plain letter names values zero h k = All-nil IsPlainLine
-below_plain letter names values (suc n) h k =
-    All-append IsPlainLine (lines_below letter names values n) (part_lines letter (names n) (part values n))
-    (below_plain letter names values n (λ i p. h i (omega arith)) (λ i p. k i (omega arith)))
-    (part_plain letter (names n) (part values n) (h n (omega arith)) (k n (omega arith)))
+-- ---- with numbers of which the texts fit in a line
+
+-- behind a letter and a name
+pub record IsFitting (text : ℚ → List ℕ) (v : ℚ) : Type 0 where
+  pub fits : length (text v) ≤ 16000
+  pub plain : list_all is_plain (text v) ≡ true
+
+module _ (text : ℚ → List ℕ) where
+  abbrev write : Writing ℚ
+  write = writing_of text
+
+  part_plain : (letter : Letter) (name : Name) (v : ℚ) → is_name name ≡ true → IsFitting text v →
+      All IsPlainLine (part_lines_by write letter name v)
+  part_plain letter name v h n = by (eq_ℚ v 0ℚ)
+    where
+      by : (t : Bool) → All IsPlainLine (cond t [] (part_text_by write letter name v ∷ []))
+      by true = All-nil IsPlainLine
+      by false =
+          All-cons IsPlainLine (part_text_by write letter name v) []
+          (words_plain (letter_text letter) name (text v) (letter_short letter) (name_short name h) n.fits n.plain)
+          (All-nil IsPlainLine)
+
+  below_plain : (letter : Letter) (names : ℕ → Name) (values : List ℚ) (n : ℕ) →
+      ((k : ℕ) → k < n → is_name (names k) ≡ true) → ((k : ℕ) → k < n → IsFitting text (part values k))
+      → All IsPlainLine (lines_below_by write letter names values n)
+  below_plain letter names values zero h k = All-nil IsPlainLine
+  below_plain letter names values (suc n) h k =
+      All-append IsPlainLine (lines_below_by write letter names values n) (part_lines_by write letter (names n) (part values n))
+      (below_plain letter names values n (λ i p. h i (omega arith)) (λ i p. k i (omega arith)))
+      (part_plain letter (names n) (part values n) (h n (omega arith)) (k n (omega arith)))
 
 -- ---- a certificate
 
@@ -170,26 +185,6 @@ module _ (m : Model) (kept : IsModel m) where
   pub row_named : (i : ℕ) → i < height m → is_name (row m i).name ≡ true
   unfolding is_row_name
   row_named i l = (and_parts (is_name (row m i).name) _ (kept.rows i no_row l)).0
-
-  columns_plain : (letter : Letter) (xs : List ℚ) → length xs ≡ width m → All IsNarrow xs →
-      All IsPlainLine (column_lines m letter xs)
-  columns_plain letter xs e h =
-      below_plain letter (λ j. (column m j).name) xs (width m) column_named (λ k l. h k 0ℚ (omega (arith, l, e)))
-
-  rows_plain : (letter : Letter) (xs : List ℚ) → length xs ≡ height m → All IsNarrow xs →
-      All IsPlainLine (row_lines m letter xs)
-  rows_plain letter xs e h =
-      below_plain letter (λ i. (row m i).name) xs (height m) row_named (λ k l. h k 0ℚ (omega (arith, l, e)))
-
-  parts_plain : (cert : Certificate (List ℚ)) → IsFor m cert → IsNarrowCertificate cert →
-      All IsPlainLine (all_part_lines m cert)
-  parts_plain (Optimal x y) f n =
-      All-append IsPlainLine (column_lines m X x) (row_lines m Y y) (columns_plain X x f.0 n.0) (rows_plain Y y f.1 n.1)
-  parts_plain (Infeasible y) f n = rows_plain Y y f n
-  parts_plain (Unbounded x r) f n =
-      All-append IsPlainLine (column_lines m X x) (column_lines m R r) (columns_plain X x f.0 n.0)
-      (columns_plain R r f.1 n.1)
-  parts_plain (Clash j) f n = All-nil IsPlainLine
 
   clash_plain : (name : Name) → IsShort name → IsPlainLine (codes "CLASH" ++ 32 ∷ name)
   clash_plain name h =
@@ -202,12 +197,56 @@ module _ (m : Model) (kept : IsModel m) where
   kind_plain (Infeasible y) f = record { short = omega arith; plain = refl }
   kind_plain (Unbounded x r) f = record { short = omega arith; plain = refl }
   kind_plain (Clash j) f =
-      clash_plain (column m j).name (both_short (column m j).name 0ℚ (column_named j f) zero_narrow).short_name
+      clash_plain (column m j).name (name_short (column m j).name (column_named j f))
+
+  module _ (text : ℚ → List ℕ) where
+    abbrev written : Writing ℚ
+    written = writing_of text
+
+    columns_plain : (letter : Letter) (xs : List ℚ) → length xs ≡ width m → All (IsFitting text) xs →
+        All IsPlainLine (column_lines_by written m letter xs)
+    columns_plain letter xs e h =
+        below_plain text letter (λ j. (column m j).name) xs (width m) column_named (λ k l. h k 0ℚ (omega (arith, l, e)))
+
+    rows_plain : (letter : Letter) (xs : List ℚ) → length xs ≡ height m → All (IsFitting text) xs →
+        All IsPlainLine (row_lines_by written m letter xs)
+    rows_plain letter xs e h =
+        below_plain text letter (λ i. (row m i).name) xs (height m) row_named (λ k l. h k 0ℚ (omega (arith, l, e)))
+
+    parts_plain : (cert : Certificate (List ℚ)) → IsFor m cert → AllNumbers (IsFitting text) cert →
+        All IsPlainLine (all_part_lines_by written m cert)
+    parts_plain (Optimal x y) f n =
+        All-append IsPlainLine (column_lines_by written m X x) (row_lines_by written m Y y) (columns_plain X x f.0 n.0) (rows_plain Y y f.1 n.1)
+    parts_plain (Infeasible y) f n = rows_plain Y y f n
+    parts_plain (Unbounded x r) f n =
+        All-append IsPlainLine (column_lines_by written m X x) (column_lines_by written m R r) (columns_plain X x f.0 n.0)
+        (columns_plain R r f.1 n.1)
+    parts_plain (Clash j) f n = All-nil IsPlainLine
+
+    pub fitting_plain : (cert : Certificate (List ℚ)) → IsFor m cert → AllNumbers (IsFitting text) cert →
+        All IsPlainLine (certificate_lines_by written m cert)
+    unfolding certificate_lines_by
+    fitting_plain cert f n =
+        All-append IsPlainLine (kind_text m cert ∷ all_part_lines_by written m cert) (codes "END" ∷ [])
+        (All-cons IsPlainLine (kind_text m cert) (all_part_lines_by written m cert) (kind_plain cert f) (parts_plain cert f n))
+        (All-cons IsPlainLine (codes "END") [] (record { short = omega arith; plain = refl }) (All-nil IsPlainLine))
+
+  narrow_fitting : (v : ℚ) → IsNarrow v → IsFitting number_text v
+  unfolding is_name
+  narrow_fitting v n =
+      let s = (both_short (codes "X") v refl n).short_number in
+      let short = s.fits in
+      record { fits = omega (arith, short); plain = s.plain }
+
+  all_fitting : (xs : List ℚ) → All IsNarrow xs → All (IsFitting number_text) xs
+  all_fitting xs h = λ k d l. narrow_fitting (get_or xs k d) (h k d l)
+
+  numbers_fitting : (cert : Certificate (List ℚ)) → IsNarrowCertificate cert → AllNumbers (IsFitting number_text) cert
+  numbers_fitting (Optimal x y) n = (all_fitting x n.0, all_fitting y n.1)
+  numbers_fitting (Infeasible y) n = all_fitting y n
+  numbers_fitting (Clash j) n = tt
+  numbers_fitting (Unbounded x r) n = (all_fitting x n.0, all_fitting r n.1)
 
   pub certificate_plain : (cert : Certificate (List ℚ)) → IsFor m cert → IsNarrowCertificate cert →
       All IsPlainLine (certificate_lines m cert)
-  unfolding certificate_lines_by
-  certificate_plain cert f n =
-      All-append IsPlainLine (kind_text m cert ∷ all_part_lines m cert) (codes "END" ∷ [])
-      (All-cons IsPlainLine (kind_text m cert) (all_part_lines m cert) (kind_plain cert f) (parts_plain cert f n))
-      (All-cons IsPlainLine (codes "END") [] (record { short = omega arith; plain = refl }) (All-nil IsPlainLine))
+  certificate_plain cert f n = fitting_plain number_text cert f (numbers_fitting cert n)

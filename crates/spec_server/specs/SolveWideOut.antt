@@ -1,5 +1,5 @@
 -- What the command `solve` writes where the numbers of its answer may have any width. It reads what SolveOut has.
-use Rattle.std.specs.Prelude.{ℕ, ◌≡◌, Ok, Err, List, [], ◌∷◌, ◌++◌, codes}
+use Rattle.std.specs.Prelude.{ℕ, ◌≡◌, ◌≤◌, Ok, Err, List, [], ◌∷◌, ◌++◌, length, codes}
 use Rattle.spec_exact.specs.Fraction.{ℚ}
 use Rattle.spec_model.specs.Model.{Model}
 use Rattle.spec_wide_text.specs.WideWritten.{wide_text}
@@ -37,3 +37,7 @@ abbrev pub SolveWideOut : TextSaid → List ℕ → Type 0
 SolveWideOut (Ok m) written =
     (end : WideEnd) × IsWideSolved m opening_budget end × (written ≡ wide_end_lines m end)
 SolveWideOut (Err fault) written = SolveOut (Err fault) written
+
+-- its text fits in a line, behind a letter and a name
+abbrev pub FitsLine : ℚ → Type 0
+FitsLine v = length (wide_text v) ≤ 16000

@@ -31,7 +31,8 @@
 //! | `script_out` | what is written of the replies | specs/Output |
 #![tactic(auto)]
 
-ghost use Rattle.std.specs.Prelude.{◌≡◌, ◌⊎◌, ℕ, List, [], ◌++◌, map, Option, Some, None, IfSome};
+ghost use Rattle.std.specs.Prelude.{◌≡◌, ◌⊎◌, ℕ, List, [], ◌∷◌, ◌++◌, map, Option, Some, None, Ok, IfSome};
+ghost use Rattle.spec_text.specs.Lines.{ended_lines_of};
 ghost use Rattle.std.specs.List.{filter};
 ghost use Rattle.spec_text.specs.declared.line.Line.{Line};
 ghost use Rattle.spec_exact.specs.Fraction.{ℚ};
@@ -40,6 +41,7 @@ ghost use Rattle.spec_model.specs.Model.{Model};
 ghost use Rattle.spec_model.specs.Kept.{IsModel};
 ghost use Rattle.spec_mps.specs.declared.style.Style.{Style};
 ghost use Rattle.spec_mps.specs.declared.style.Style.TheVariants as form;
+ghost use Rattle.spec_mps.specs.Steps.{Spells};
 ghost use Rattle.spec_mps.specs.Written.{free, fixed, too_wide};
 ghost use Rattle.spec_check.specs.declared.certificate.Certificate.{Certificate};
 ghost use Rattle.spec_check.specs.declared.certificate.Known.{Known};
@@ -47,11 +49,14 @@ ghost use Rattle.spec_check.specs.declared.certificate.Verdict.{Verdict};
 ghost use Rattle.spec_check.specs.declared.certificate.Verdict.TheVariants as verdict;
 ghost use Rattle.spec_check.specs.Certificate.{Holds};
 ghost use Rattle.spec_check.specs.Raw.{ExactRaw};
-ghost use Rattle.spec_certificate.specs.TextWritten.{certificate_lines};
+ghost use Rattle.spec_certificate.specs.TextWritten.{certificate_lines, wide_certificate_lines};
+ghost use Rattle.spec_certificate.specs.TextRead.{AllNumbers};
 ghost use Rattle.spec_pivot.specs.declared.status.Status.{Status};
 ghost use Rattle.spec_check.specs.declared.solve_end.SolveEnd.TheVariants as outcome;
 ghost use Rattle.spec_cold.specs.Cold.{cold};
 ghost use Rattle.spec_solve.specs.Answers.{number_limit, MayAnswer};
+ghost use Rattle.spec_solve.specs.declared.wide_solved.WideSolved.TheVariants as wide;
+ghost use Rattle.spec_solve.specs.Wide.{IsWideSolved};
 ghost use Rattle.spec_server.specs.declared.answer.Answer.TheVariants as answer;
 ghost use Rattle.spec_server.specs.declared.asks.Ask.TheVariants as ask;
 ghost use Rattle.spec_server.specs.declared.asks.Asked.{Asked as asked_of};
@@ -70,6 +75,8 @@ ghost use Rattle.spec_server.specs.Output.{ended_lines};
 ghost use Rattle.spec_server.specs.Said.{IsSaidEarly};
 ghost use Rattle.spec_server.specs.CheckOut.{said};
 ghost use Rattle.spec_server.specs.CheckWideOut.{wide_said};
+ghost use Rattle.spec_server.specs.SolveOut.{text_said, SolveOut};
+ghost use Rattle.spec_server.specs.SolveWideOut.{SolveWideOut, FitsLine, wide_known_line};
 
 mod addressing;
 mod answer;
@@ -180,4 +187,24 @@ pub fn wide_checks_say_the_same()
     ensures { (style : Style) (lines : List (Line (List ℕ))) (v : Verdict ℚ) →
         said style lines ≡ Some (reply.Checked v) →
         (wide_said style lines ≡ Some (reply.Checked v)) ⊎ ((p : Past ℚ) × (v ≡ verdict.Past p)) }
+{}
+
+/// What a wide solve writes of a model is what `solve` writes of it, or begins with the line of an answer that is true of
+/// the model.
+pub fn wide_solves_write_true_answers()
+    ensures { (m : Model) (written : List ℕ) → SolveWideOut (Ok m) written →
+        SolveOut (Ok m) written ⊎ ((known : Known ℚ) × (behind : List ℕ)
+        × (written ≡ wide_known_line known ++ behind) × Holds m known) }
+{}
+
+/// Anyone can check an answer with numbers of any width: to the lines of a text that spells its model with those of its
+/// certificate behind them `check --wide` says yes, and that the same is known, whatever follows, as long as the text of
+/// no number has more than 16,000 bytes.
+pub fn wide_answers_check_against_the_text()
+    ensures { (style : Style) (front : List (Line (List ℕ))) (last : Line (List ℕ)) (m : Model) (budget : ℕ)
+        (known : Known ℚ) (cert : Certificate (List ℚ)) (more : List ℕ) →
+        text_said style front ≡ None → Spells style (front ++ last ∷ []) m →
+        IsWideSolved m budget (wide.Wide known cert) → AllNumbers FitsLine cert →
+        wide_said style ((front ++ last ∷ []) ++ ended_lines_of (ended_lines (wide_certificate_lines m cert) ++ more))
+        ≡ Some (reply.Checked (verdict.Yes known)) }
 {}
