@@ -15,3 +15,4 @@ pub mod Ends
 pub mod Narrow
 pub mod Kept
 pub mod FreeRow
+pub mod FreeRows

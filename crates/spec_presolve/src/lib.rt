@@ -7,6 +7,7 @@
 //! | `after`, `reduced` | the model after one reduction, and the models after each of all | specs/Reduce |
 //! | `halted` | the certificate of an end that shows that no point is feasible | specs/Carry |
 //! | `carried_over`, `carried` | a certificate carried back over one reduction, and over all | specs/Carry |
+//! | `without_free_rows`, `without_free_multipliers` | a model without its free rows, and a certificate without theirs | specs/FreeRows |
 //! | `IsCarried`, `IsShown` | that a certificate is accepted for a model, and shows the same, or that no point is feasible | specs/Carry |
 //! | `Presolved`, `Way`, `Why` | how a solve by the smaller model ends, and which model was solved | src/presolved |
 //! | `IsPresolved` | what it may end with, at the limit of the program and within a budget | specs/Presolved |
@@ -19,11 +20,13 @@
 mod presolved;
 mod reduction;
 
-ghost use Rattle.std.specs.Prelude.{All, ◌≡◌, ◌+◌, ℕ, List, Option, Some, Ok, length, ◌<◌, ◌↔◌, true};
+ghost use Rattle.std.specs.Prelude.{All, ◌≡◌, ◌+◌, ℕ, List, Option, Some, Ok, length, ◌<◌, ◌↔◌, true, not};
+ghost use Rattle.std.specs.List.{filter};
 ghost use Rattle.spec_exact.specs.Fraction.{ℚ, 0ℚ};
 ghost use Rattle.spec_model.specs.Model.{Model, width, height, row, part, is_free};
 ghost use Rattle.spec_exact.specs.Narrow.{widest};
 ghost use Rattle.spec_model.specs.Kept.{IsModel};
+ghost use Rattle.spec_model.specs.Truth.{IsOptimal, IsInfeasible, IsUnbounded};
 ghost use Rattle.spec_check.specs.declared.certificate.Certificate.{Certificate};
 ghost use Rattle.spec_check.specs.declared.certificate.Known.{Known};
 ghost use Rattle.spec_check.specs.declared.solve_end.SolveEnd.TheVariants.{Ended};
@@ -37,6 +40,7 @@ ghost use Rattle.spec_presolve.specs.declared.reduction.Choice.TheVariants as ch
 ghost use Rattle.spec_presolve.specs.Choose.{chosen};
 ghost use Rattle.spec_presolve.specs.Reduce.{Reductions, reduced};
 ghost use Rattle.spec_presolve.specs.Carry.{ExactCertificate, carried, halted, IsCarried, IsShown, over_empty};
+ghost use Rattle.spec_presolve.specs.FreeRows.{without_free_rows, without_free_multipliers, TakesNoFreeRow};
 ghost use Rattle.spec_presolve.specs.Presolved.{ExactPresolved, IsPresolved};
 
 pub use presolved::{Presolved, Way, Why};
@@ -65,6 +69,24 @@ pub fn free_rows_take_no_multiplier()
         Checks m (certificate.Optimal x y) → part y i ≡ 0ℚ }
     ensures infeasible { (m : Model) (i : ℕ) → i < height m → is_free (row m i).kind ≡ true → (y : List ℚ) →
         Checks m (certificate.Infeasible y) → part y i ≡ 0ℚ }
+{}
+
+/// All free rows of a model may go at once: the same is true of the model without them. A certificate of the one, less the
+/// multipliers of free rows, which are 0, is one of the other, and shows the same; and each certificate of the model without
+/// them comes from one of the model.
+pub fn free_rows_may_all_go()
+    ensures rows { (m : Model) → (without_free_rows m).rows ≡ filter (λ r. not (is_free r.kind)) m.rows }
+    ensures optimal { (m : Model) (v : ℚ) → IsOptimal m v ↔ IsOptimal (without_free_rows m) v }
+    ensures infeasible { (m : Model) → IsInfeasible m ↔ IsInfeasible (without_free_rows m) }
+    ensures unbounded { (m : Model) → IsUnbounded m ↔ IsUnbounded (without_free_rows m) }
+    ensures less { (m : Model) (c : ExactCertificate) → IsFor m c →
+        Checks m c ↔ (TakesNoFreeRow m c × Checks (without_free_rows m) (without_free_multipliers m c)) }
+    ensures fits { (m : Model) (c : ExactCertificate) → IsFor m c →
+        IsFor (without_free_rows m) (without_free_multipliers m c)
+        × (shown (without_free_rows m) (without_free_multipliers m c) ≡ shown m c) }
+    ensures more { (m : Model) (c : ExactCertificate) →
+        IsFor (without_free_rows m) c → Checks (without_free_rows m) c →
+        (whole : ExactCertificate) × IsFor m whole × Checks m whole × (without_free_multipliers m whole ≡ c) }
 {}
 
 /// Where reductions end because no point is feasible, the certificate of the end is accepted for the last model.

@@ -1,0 +1,36 @@
+-- A model without its free rows, and a certificate without its multipliers for them.
+use Rattle.std.specs.Prelude.{ℕ, zero, suc, ◌≡◌, ◌<◌, true, List, [], ◌∷◌, if◌then◌else◌}
+use Rattle.spec_exact.specs.Fraction.{ℚ, 0ℚ}
+use Rattle.spec_model.specs.Model.{Model, ExactRow, height, row, part, is_free}
+use Rattle.spec_edit.specs.Changes.{without_row}
+use Rattle.spec_check.specs.declared.certificate.Certificate.TheVariants.{Optimal, Infeasible, Clash, Unbounded}
+use Rattle.spec_presolve.specs.Carry.{ExactCertificate}
+
+-- of the first n rows each free one goes, the last first, so that those before it keep their numbers
+abbrev pub without_free_below : ℕ → Model → Model
+without_free_below zero m = m
+without_free_below (suc i) m = without_free_below i (if is_free (row m i).kind then without_row m i else m)
+
+unfoldable pub without_free_rows : Model → Model
+without_free_rows m = without_free_below (height m) m
+
+-- the multipliers of the other rows
+abbrev pub but_free : List ExactRow → List ℚ → List ℚ
+but_free (r ∷ rows) (v ∷ y) = if is_free r.kind then but_free rows y else v ∷ but_free rows y
+but_free rows y = []
+
+unfoldable pub without_free_multipliers : Model → ExactCertificate → ExactCertificate
+without_free_multipliers m (Optimal x y) = Optimal x (but_free m.rows y)
+without_free_multipliers m (Infeasible y) = Infeasible (but_free m.rows y)
+without_free_multipliers m (Clash j) = Clash j
+without_free_multipliers m (Unbounded x r) = Unbounded x r
+
+-- at each free row it is 0
+abbrev pub IsZeroAtFree : Model → List ℚ → Type 0
+IsZeroAtFree m y = (i : ℕ) → i < height m → is_free (row m i).kind ≡ true → part y i ≡ 0ℚ
+
+abbrev pub TakesNoFreeRow : Model → ExactCertificate → Type 0
+TakesNoFreeRow m (Optimal x y) = IsZeroAtFree m y
+TakesNoFreeRow m (Infeasible y) = IsZeroAtFree m y
+TakesNoFreeRow m (Clash j) = Unit {0}
+TakesNoFreeRow m (Unbounded x r) = Unit {0}
