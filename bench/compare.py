@@ -15,7 +15,6 @@ what the other answers. The time for a pivot and for a non-zero is that of the s
 session which loads the text alone, where it is at least 2 ms. With --write the table and its summary take the place of
 what stands between the two marks of PAGE.
 """
-import argparse
 import os
 import pathlib
 import statistics
@@ -24,8 +23,9 @@ import tempfile
 from dataclasses import dataclass, field
 from fractions import Fraction
 
+from options import read_options
 from page import write
-from solvers import LARGEST, MADE, PROGRAM, TOP, Esolver, Glpsol, GmpBland, least, made, models_of, run, session
+from solvers import LARGEST, MADE, TOP, Esolver, Glpsol, GmpBland, least, made, models_of, run, session
 
 BEGIN, END = "<!-- measured by bench/compare.py -->", "<!-- end -->"
 ANSWERS = ("OPTIMAL", "INFEASIBLE", "UNBOUNDED")
@@ -209,17 +209,8 @@ def starts(options, others):
 
 
 def main():
-    options = argparse.ArgumentParser(description=__doc__, formatter_class=argparse.RawDescriptionHelpFormatter)
-    options.add_argument("--program", default=PROGRAM)
-    options.add_argument("--before")
-    options.add_argument("--beside")
-    options.add_argument("--models")
-    options.add_argument("--only")
-    options.add_argument("--runs", type=int, default=3)
-    options.add_argument("--seconds", type=int, default=60)
-    options.add_argument("--write", type=pathlib.Path)
-    options = options.parse_args()
-    options.programs = {"lpd": options.program.split()} | ({"before": options.before.split()} if options.before else {})
+    options = read_options(__doc__, before="", beside="", models="", only="", runs=3, seconds=60)
+    options.programs = {"lpd": options.program} | ({"before": options.before.split()} if options.before else {})
     os.environ["LC_ALL"] = "C"
     others = [other for other in [GmpBland(), GmpBland("--plain"), Esolver(), Glpsol()] if other.is_there()]
     others = [other for other in others if not options.beside or other.name in options.beside.split(",")]

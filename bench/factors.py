@@ -14,7 +14,6 @@ of a pivot is that of the solve and its check, less that of a session which load
 flips, where it is at least 2 ms. With --write the table and its summary take the place of what stands between the two
 marks of PAGE.
 """
-import argparse
 import pathlib
 import random
 import sys
@@ -22,8 +21,9 @@ import tempfile
 from dataclasses import dataclass
 from fractions import Fraction
 
+from options import read_options
 from page import write
-from solvers import LARGEST, PROGRAM, Esolver, Model, least, models_of, session
+from solvers import LARGEST, Esolver, Model, least, models_of, session
 from workers import plan
 
 BEGIN, END = "<!-- measured by bench/factors.py -->", "<!-- end of the factors -->"
@@ -163,21 +163,8 @@ def summary(found):
                 yield f"- {kind}, {name}: {told}"
 
 
-def named(text):
-    name, _, program = text.rpartition("=")
-    return name or pathlib.Path(program.split()[0]).name, program.split()
-
-
 def main():
-    options = argparse.ArgumentParser(description=__doc__, formatter_class=argparse.RawDescriptionHelpFormatter)
-    options.add_argument("--program", dest="programs", type=named, nargs="+", default=[named(PROGRAM)])
-    options.add_argument("--models")
-    options.add_argument("--only")
-    options.add_argument("--runs", type=int, default=3)
-    options.add_argument("--seconds", type=int, default=60)
-    options.add_argument("--write", type=pathlib.Path)
-    options = options.parse_args()
-    options.programs = dict(options.programs)
+    options = read_options(__doc__, "programs", models="", only="", runs=3, seconds=60)
     models = [*map(dense, DENSE), *(sparse(*shape) for shape in SPARSE), *map(staircase, STAIRCASES)]
     if options.models:
         models = [*models_of(options.models)]

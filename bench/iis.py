@@ -15,16 +15,15 @@ that is a fault. STOPPED and PAST say that a number on the way passed 127 bits, 
 Times are of the processor, for the whole process, of one run each. One that takes more than N seconds (20) of them ends, and is counted
 as TIME. --jobs runs as many models at once (1). With --write the table takes the place of what stands between the two marks of PAGE.
 """
-import argparse
 import collections
-import pathlib
 import statistics
 import sys
 from concurrent.futures import ProcessPoolExecutor
 
+from options import read_options
 from page import ended, shown
 from planners import KINDS, made
-from solvers import PROGRAM, Model, limited, models_of
+from solvers import Model, limited, models_of
 
 from lpd.errors import LpdError
 from lpd.irreducible import read_iis, satisfies
@@ -179,17 +178,7 @@ def table(options, faults):
 
 
 def main():
-    options = argparse.ArgumentParser(description=__doc__, formatter_class=argparse.RawDescriptionHelpFormatter)
-    options.add_argument("folder", type=pathlib.Path)
-    options.add_argument("--program", default=PROGRAM)
-    options.add_argument("--each", type=int, default=25)
-    options.add_argument("--only")
-    options.add_argument("--seed", default="")
-    options.add_argument("--seconds", type=int, default=20)
-    options.add_argument("--jobs", type=int, default=1)
-    options.add_argument("--write", type=pathlib.Path)
-    options = options.parse_args()
-    options.program = options.program.split()
+    options = read_options(__doc__, "folder", each=25, only="", seed="", seconds=20, jobs=1)
     faults = []
     return ended(options.write, BEGIN, END, shown(table(options, faults)), faults)
 

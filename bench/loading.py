@@ -16,7 +16,6 @@ Instructions are callgrind's (valgrind), memory is the most that /usr/bin/time t
 the least of the texts that differ in their entries alone. With --write the table and these lines take the place of what
 stands between the two marks of PAGE.
 """
-import argparse
 import os
 import pathlib
 import random
@@ -29,8 +28,9 @@ import tempfile
 from concurrent.futures import ThreadPoolExecutor
 from dataclasses import dataclass
 
+from options import read_options
 from page import write
-from solvers import PROGRAM, least
+from solvers import least
 
 BEGIN, END = "<!-- measured by bench/loading.py -->", "<!-- end of the loading -->"
 COLUMNS, ROWS, LONGEST, MIB = 512, 256, 1 << 26, 1 << 20
@@ -225,15 +225,7 @@ def grown(loaded):
 
 
 def main():
-    options = argparse.ArgumentParser(description=__doc__, formatter_class=argparse.RawDescriptionHelpFormatter)
-    options.add_argument("--program", default=PROGRAM)
-    options.add_argument("--only")
-    options.add_argument("--runs", type=int, default=5)
-    options.add_argument("--seconds", type=int, default=60)
-    options.add_argument("--uncounted", action="store_true")
-    options.add_argument("--write", type=pathlib.Path)
-    options = options.parse_args()
-    options.program = options.program.split()
+    options = read_options(__doc__, only="", runs=5, seconds=60, uncounted=False)
     others = [it for it in OTHERS if it.is_there()]
     heads = ["Names", "Rows", "Entries", "Cards", "Bytes", "ms", "With `WRITE`, ms", "ns a card", "Instructions a card"]
     heads += ["MiB", "Times the text", *(f"{it.name}, ms" for it in others)]

@@ -10,13 +10,13 @@ parted by tabs, with which the answer is compared. A refusal is shown with its o
 pivots and flips that were made before it: the least budget that is not spent. It prints what is wrong, and with --write
 puts the table in place of what stands between the two marks of PAGE.
 """
-import argparse
 import pathlib
 import sys
 from fractions import Fraction
 
+from options import read_options
 from page import write
-from solvers import CHECKER, LARGEST, PROGRAM, run, session, texts_of
+from solvers import CHECKER, LARGEST, run, session, texts_of
 
 BEGIN, END = "<!-- measured by bench/models.py -->", "<!-- end of the models -->"
 
@@ -87,15 +87,8 @@ def optima(path):
 
 
 def main():
-    options = argparse.ArgumentParser(description=__doc__, formatter_class=argparse.RawDescriptionHelpFormatter)
-    options.add_argument("folder", type=pathlib.Path)
-    options.add_argument("--program", default=PROGRAM)
-    options.add_argument("--optima", type=pathlib.Path)
-    options.add_argument("--seconds", type=int, default=600)
-    options.add_argument("--write", type=pathlib.Path)
-    options = options.parse_args()
-    options.program = options.program.split()
-    expected = optima(options.optima) if options.optima else {}
+    options = read_options(__doc__, "folder", optima="", seconds=600)
+    expected = optima(pathlib.Path(options.optima)) if options.optima else {}
     faults = []
     lines = ["| Model | Rows | Columns | Answer | Pivots and flips |", "|---|---|---|---|---|"]
     for name, data in texts_of(options.folder):

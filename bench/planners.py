@@ -7,14 +7,13 @@
 The rows ask for at least something, or have room for at most something; the columns cost something. A kind has 15 x 25 to 60 x 90
 rows and columns, 3 or 8 entries a column, and whole numbers from 1 to 9 or two decimals from 0.10 to 99.99: 20 kinds, 200 models.
 --only takes the kinds of these sizes, as 15x25. Each model is solved by `PROGRAM solve`, by `PROGRAM solve --wide` for the names
-of --wide, and by esolver (Debian's qsopt-ex) where it is on the path. All that answer have to answer the same, and the checker in Python, which shares nothing with lpd, has to say
-yes to each certificate.
+of --wide, and by esolver (Debian's qsopt-ex) where it is on the path. All that answer have to answer the same, and the checker in
+Python, which shares nothing with lpd, has to say yes to each certificate.
 
 The table has for each kind how many of ten are answered, and the median and the largest time of all ten, answered or not. Times are
 of the processor, for the whole process, the least of N runs (1), in which the programs take turns. With --write the table takes the
 place of what stands between the two marks of PAGE.
 """
-import argparse
 import pathlib
 import random
 import statistics
@@ -22,9 +21,9 @@ import sys
 import tempfile
 from fractions import Fraction
 
-from factors import named
+from options import read_options
 from page import ended, shown
-from solvers import CHECKER, PROGRAM, Esolver, Model, least, run
+from solvers import CHECKER, Esolver, Model, least, run
 
 BEGIN, END = "<!-- measured by bench/planners.py -->", "<!-- end of the planners' models -->"
 ANSWERS = ("OPTIMAL", "INFEASIBLE", "UNBOUNDED")
@@ -65,7 +64,7 @@ def by_lpd(options, model, faults):
     told, times = {}, {}
     for _ in range(options.runs):
         for name, program in options.programs.items():
-            wide = ["--wide"] * (name in options.wide)
+            wide = ["--wide"] * (name in options.wide.split(","))
             said, spent = run([*program, "solve", *wide], model.data, options.seconds)
             told[name] = said or "TIME\n"
             times[name] = min(times.get(name, options.seconds), options.seconds if spent is None else spent)
@@ -126,16 +125,7 @@ def table(options, faults):
 
 
 def main():
-    options = argparse.ArgumentParser(description=__doc__, formatter_class=argparse.RawDescriptionHelpFormatter)
-    options.add_argument("--program", dest="programs", type=named, nargs="+", default=[named(PROGRAM)])
-    options.add_argument("--wide", type=lambda names: names.split(","), default=[])
-    options.add_argument("--only")
-    options.add_argument("--seed", default="")
-    options.add_argument("--runs", type=int, default=1)
-    options.add_argument("--seconds", type=int, default=60)
-    options.add_argument("--write", type=pathlib.Path)
-    options = options.parse_args()
-    options.programs = dict(options.programs)
+    options = read_options(__doc__, "programs", wide="", only="", seed="", runs=1, seconds=60)
     faults = []
     return ended(options.write, BEGIN, END, shown(table(options, faults)), faults)
 

@@ -12,13 +12,12 @@ original text. A text that is refused in both forms stands in the table with its
 Times are of the processor, for the whole process. A run that takes more than N seconds (20) of them ends, and its answer is TIME.
 --jobs runs as many models at once (1). With --write the table takes the place of what stands between the two marks of PAGE.
 """
-import argparse
-import pathlib
 import sys
 from concurrent.futures import ThreadPoolExecutor
 
+from options import read_options
 from page import ended, shown
-from solvers import CHECKER, PROGRAM, Model, limited, texts_of
+from solvers import CHECKER, Model, limited, texts_of
 
 BEGIN, END = "<!-- measured by bench/presolve.py -->", "<!-- end of the smaller models -->"
 ANSWERS = ("OPTIMAL", "INFEASIBLE", "UNBOUNDED")
@@ -122,14 +121,7 @@ def table(options, faults):
 
 
 def main():
-    options = argparse.ArgumentParser(description=__doc__, formatter_class=argparse.RawDescriptionHelpFormatter)
-    options.add_argument("folder", type=pathlib.Path)
-    options.add_argument("--program", default=PROGRAM)
-    options.add_argument("--seconds", type=int, default=20)
-    options.add_argument("--jobs", type=int, default=1)
-    options.add_argument("--write", type=pathlib.Path)
-    options = options.parse_args()
-    options.program = options.program.split()
+    options = read_options(__doc__, "folder", seconds=20, jobs=1)
     faults = []
     return ended(options.write, BEGIN, END, shown(table(options, faults)), faults)
 

@@ -12,14 +12,13 @@ The pivots are those that HOW says. The time of a solve is that of a run of the 
 solve, each the least of N runs (5), of the processor; it is left out below 2 ms. With --write the table takes the place
 of what stands between the two marks of PAGE.
 """
-import argparse
-import pathlib
 import sys
 from dataclasses import dataclass
 from fractions import Fraction
 
+from options import read_options
 from page import write
-from solvers import LARGEST, MADE, PROGRAM, TOP, least, made, models_of, run, script, shown
+from solvers import LARGEST, MADE, TOP, least, made, models_of, run, script, shown
 
 BEGIN, END = "<!-- measured by bench/warm.py -->", "<!-- end of the warm starts -->"
 ANSWERS = ("OPTIMAL", "INFEASIBLE", "UNBOUNDED")
@@ -152,15 +151,7 @@ def summary(all_solved):
 
 
 def main():
-    options = argparse.ArgumentParser(description=__doc__, formatter_class=argparse.RawDescriptionHelpFormatter)
-    options.add_argument("--program", default=PROGRAM)
-    options.add_argument("--models", type=pathlib.Path)
-    options.add_argument("--only")
-    options.add_argument("--runs", type=int, default=5)
-    options.add_argument("--seconds", type=int, default=60)
-    options.add_argument("--write", type=pathlib.Path)
-    options = options.parse_args()
-    options.program = options.program.split()
+    options = read_options(__doc__, models="", only="", runs=5, seconds=60)
     models = [*models_of(TOP / "examples/models"), *(made(*size) for size in MADE)]
     models += models_of(options.models) if options.models else []
     wanted = options.only.split(",") if options.only else [model.name for model in models]
