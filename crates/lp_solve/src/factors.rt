@@ -116,7 +116,7 @@ fn has_few_sparse_columns(form: &Form, entries: usize) -> bool {
     rows >= MANY_ROWS && cols <= rows && entries <= 11 * cols as usize / 4
 }
 
-// Whether the run over factors is likely the quicker one, by the size of the model alone (docs/PERFORMANCE.md).
+// Whether the run over factors is likely the quicker one, by the size of the model alone (docs/performance/factors.md).
 fn suits_factors(form: &Form) -> bool {
     let entries = entry_count(form);
     has_columns_beside(form, entries) || has_few_sparse_columns(form, entries)
@@ -126,7 +126,7 @@ fn suits_factors(form: &Form) -> bool {
 const TALL: u32 = 4;
 
 // Whether the tableaus are likely quicker than the rows of whole numbers, of which a step looks at each number: in a row
-// the basic columns are 0, one for each row of the model, and a tableau passes over them (docs/PERFORMANCE.md).
+// the basic columns are 0, one for each row of the model, and a tableau passes over them (docs/performance/rows.md).
 fn is_tall(form: &Form) -> bool {
     form.rows() / TALL >= form.cols()
 }
