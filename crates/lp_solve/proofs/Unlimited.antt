@@ -15,7 +15,7 @@ use Rattle.spec_factor.specs.Over.{OverEnd, answer_of, answer_in}
 use Rattle.spec_revised.proofs.OverCold.{form_without}
 use Rattle.spec_warm.specs.Solve.{SolveEnd}
 use Rattle.spec_solve.specs.Answers.{IsSolved}
-use Rattle.spec_solve.specs.Wide.{IsPast, IsUnlimited}
+use Rattle.spec_solve.specs.Wide.{IsPastFrom, IsUnlimited}
 use Rattle.lp_frac.specs.Narrow.{largest}
 use Rattle.lp_revised.specs.declared.cold_run.RunEnd.{RunEnd}
 use Rattle.lp_revised.specs.Runs.{over_end}
@@ -59,5 +59,5 @@ module _ (budget : ℕ) (m : Model) (f : Form) (formed : form_of (Some largest) 
 
 -- a solve that ends so
 pub is_past : (m : Model) (budget : ℕ) (solved : SolveEnd) (p : Past ℚ) → IsSolved m budget None solved →
-    solved.end ≡ outcome.Past p → IsPast m budget
+    solved.end ≡ outcome.Past p → IsPastFrom m budget None
 is_past m budget solved p s e = record { solved = solved; past = p; is_solved = s; is_past = e }

@@ -40,7 +40,7 @@ module _ (known : Known ℚ) (c : Certificate (List ℚ)) (left : List Status) (
   warm_checked d basis n (Err (check.Past p)) e = cc
   warm_checked d basis n (Err (check.No k)) e = cc
 
-  cold_left : (limit : Option ℕ) (budget : ℕ) (m : Model) (f : Form) → form_of limit m ≡ Ok f →
+  pub cold_left : (limit : Option ℕ) (budget : ℕ) (m : Model) (f : Form) → form_of limit m ≡ Ok f →
       cold limit budget m ≡ Ended known c (Some left) pivots → IsBasisOf f left
   unfolding cold
   cold_left limit budget m f p e =
@@ -54,7 +54,7 @@ module _ (known : Known ℚ) (c : Certificate (List ℚ)) (left : List Status) (
       by (Err (stop.Past v)) q z = cc
       by (Err stop.Spent) q z = cc
 
-  warm_left : (limit : Option ℕ) (budget : ℕ) (m : Model) (basis : List Status) (f : Form) → form_of limit m ≡ Ok f →
+  pub warm_left : (limit : Option ℕ) (budget : ℕ) (m : Model) (basis : List Status) (f : Form) → form_of limit m ≡ Ok f →
       IsBasisOf f basis → warm limit budget m basis ≡ outcome.Ended known c (Some left) pivots → IsBasisOf f left
   unfolding warm
   warm_left limit budget m basis f p fits e =

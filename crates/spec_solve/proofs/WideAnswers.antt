@@ -1,13 +1,26 @@
 -- What is answered with numbers of any width.
-use Rattle.std.proofs.Common.{◌≡◌, ℕ, List, None, Ok}
+use Rattle.std.proofs.Common.{◌≡◌, ◌⊎◌, inl, inr, ℕ, List, Option, Some, None, IfSome, Ok, refl, sym, ap, subst, ◌∙◌}
 use Rattle.spec_exact.specs.Fraction.{ℚ}
 use Rattle.spec_model.specs.Model.{Model}
 use Rattle.spec_check.specs.declared.certificate.Certificate.{Certificate}
 use Rattle.spec_check.specs.declared.certificate.Known.{Known}
 use Rattle.spec_check.specs.Certificate.{IsFor, Holds}
 use Rattle.spec_check.specs.Run.{check_run}
+use Rattle.spec_check.specs.declared.solve_end.SolveEnd.TheVariants as outcome
+use Rattle.spec_check.proofs.RunSound.{run_sound}
+use Rattle.spec_check.proofs.Sound.{checks_hold}
+use Rattle.spec_pivot.specs.declared.status.Status.{Status}
+use Rattle.spec_simplex.specs.Form.{Form, form_of}
+use Rattle.spec_simplex.specs.Eliminate.{IsBasisOf}
 use Rattle.spec_cold.proofs.Solved.{ended_is_true}
-use Rattle.spec_solve.specs.Wide.{IsUnlimited}
+use Rattle.spec_revised.proofs.OverCold.{form_without}
+use Rattle.spec_warm.specs.declared.ends.Route.{Route}
+use Rattle.spec_warm.specs.declared.ends.Route.TheVariants as found
+use Rattle.spec_warm.specs.declared.ends.Warm.TheVariants as start
+use Rattle.spec_solve.specs.Answers.{number_limit}
+use Rattle.spec_solve.specs.Wide.{ExactAnswer, IsUnlimited, IsWarmEnd, IsColdEnd, IsWideAnswer, IsWideSolved}
+use Rattle.spec_solve.specs.declared.wide_solved.WideSolved.TheVariants.{Wide}
+use Rattle.spec_solve.proofs.Left.{cold_left, warm_left}
 use Rattle.spec_solve.proofs.Solves.{cold_fits}
 
 pub unlimited_true : (m : Model) (budget : ℕ) (known : Known ℚ) (cert : Certificate (List ℚ)) →
@@ -15,3 +28,45 @@ pub unlimited_true : (m : Model) (budget : ℕ) (known : Known ℚ) (cert : Cert
 unlimited_true m budget known cert u =
     let t = ended_is_true None budget m known cert u.basis u.pivots u.ends in
     (t.0, cold_fits None budget m known cert u.basis u.pivots u.ends, t.1)
+
+-- ---- with a basis handed to it
+
+module _ (m : Model) (budget : ℕ) (a : ExactAnswer) where
+  pub answer_true : (handed : Option (List Status)) → IsWideAnswer m budget handed a →
+      Holds m a.known × IsFor m a.certificate × (check_run None m a.certificate ≡ Ok a.known)
+  answer_true handed h =
+      let sound = run_sound None m a.certificate a.known h.fits h.accepted in
+      (subst (Holds m) (sym sound.1) (checks_hold m a.certificate sound.0), h.fits, h.accepted)
+
+  -- with nothing handed the answer is the end of the cold solve
+  pub unhanded : IsWideAnswer m budget None a →
+      IsWideSolved m budget (Wide a.known a.certificate) × (a.route ≡ found.Cold)
+  unhanded h = by h.ends
+    where
+      by : IsWarmEnd m budget None a ⊎ IsColdEnd m budget h.past.solved.route a →
+          IsWideSolved m budget (Wide a.known a.certificate) × (a.route ≡ found.Cold)
+      by (inl e) = absurd e
+      by (inr e) = (
+        (h.past, record { basis = a.basis; pivots = a.pivots; ends = e.0 }),
+        e.1 ∙ h.past.is_solved.how_fits.0,
+      )
+
+  module _ (f : Form) (formed : form_of (Some number_limit) m ≡ Ok f) where
+    one_left : (left : List Status) → a.basis ≡ Some left → (handed : Option (List Status)) (route : Route) →
+        IfSome handed (IsBasisOf f) → IsWarmEnd m budget handed a ⊎ IsColdEnd m budget route a → IsBasisOf f left
+    one_left left is None route fits (inl e) = absurd e
+    one_left left is (Some basis) route fits (inl e) =
+        warm_left a.known a.certificate left a.pivots None budget m basis f (form_without (Some number_limit) m f formed)
+        fits (e.0 ∙ ap (λ o. start.Ended a.known a.certificate o a.pivots) is)
+    one_left left is handed route fits (inr e) =
+        cold_left a.known a.certificate left a.pivots None budget m f (form_without (Some number_limit) m f formed)
+        (e.0 ∙ ap (λ o. outcome.Ended a.known a.certificate o a.pivots) is)
+
+    -- the basis that it leaves is one of the form
+    pub answer_left : (handed : Option (List Status)) → IfSome handed (IsBasisOf f) → IsWideAnswer m budget handed a →
+        IfSome a.basis (IsBasisOf f)
+    answer_left handed fits h = by a.basis refl
+      where
+        by : (o : Option (List Status)) → a.basis ≡ o → IfSome o (IsBasisOf f)
+        by None is = tt
+        by (Some left) is = one_left left is handed h.past.solved.route fits h.ends

@@ -1,14 +1,23 @@
 -- What a solve may end with whose certificate may have numbers of any width.
-use Rattle.std.specs.Prelude.{◌≡◌, ℕ, List, Option, None}
+use Rattle.std.specs.Prelude.{◌≡◌, ◌⊎◌, ℕ, List, Option, Some, None, Ok}
 use Rattle.spec_exact.specs.Fraction.{ℚ}
 use Rattle.spec_exact.specs.declared.past.Past.{Past}
 use Rattle.spec_model.specs.Model.{Model}
 use Rattle.spec_check.specs.declared.certificate.Certificate.{Certificate}
 use Rattle.spec_check.specs.declared.certificate.Known.{Known}
 use Rattle.spec_check.specs.declared.solve_end.SolveEnd.TheVariants as outcome
+use Rattle.spec_check.specs.Certificate.{IsFor}
+use Rattle.spec_check.specs.Run.{check_run}
 use Rattle.spec_pivot.specs.declared.status.Status.{Status}
 use Rattle.spec_cold.specs.Cold.{cold}
+use Rattle.spec_warm.specs.declared.ends.Route.{Route}
+use Rattle.spec_warm.specs.declared.ends.Route.TheVariants as found
+use Rattle.spec_warm.specs.declared.ends.Warm.TheVariants as start
+use Rattle.spec_warm.specs.Warm.{warm}
 use Rattle.spec_warm.specs.Solve.{SolveEnd}
+use Rattle.spec_solve.specs.declared.wide_solved.WideAnswer.{WideAnswer}
+use Rattle.spec_solve.specs.declared.wide_solved.WideBased.{WideBased}
+use Rattle.spec_solve.specs.declared.wide_solved.WideBased.TheVariants as based
 use Rattle.spec_solve.specs.declared.wide_solved.WideSolved.{WideSolved}
 use Rattle.spec_solve.specs.declared.wide_solved.WideSolved.TheVariants.{Narrow, Wide}
 use Rattle.spec_solve.specs.Answers.{IsSolved}
@@ -16,11 +25,17 @@ use Rattle.spec_solve.specs.Answers.{IsSolved}
 abbrev pub WideEnd : Type 0
 WideEnd = WideSolved SolveEnd ℚ (List ℚ)
 
--- a solve may end with an operation that is past the limit
-pub record IsPast (m : Model) (budget : ℕ) : Type 0 where
+abbrev pub ExactAnswer : Type 0
+ExactAnswer = WideAnswer ℚ (List ℚ) (List Status)
+
+abbrev pub BasedEnd : Type 0
+BasedEnd = WideBased SolveEnd ℚ (List ℚ) (List Status)
+
+-- a solve with this handed to it may end with an operation that is past the limit
+pub record IsPastFrom (m : Model) (budget : ℕ) (handed : Option (List Status)) : Type 0 where
   pub solved : SolveEnd
   pub past : Past ℚ
-  pub is_solved : IsSolved m budget None solved
+  pub is_solved : IsSolved m budget handed solved
   pub is_past : solved.end ≡ outcome.Past past
 
 -- what the cold solve without a limit knows, and its certificate, to which the checker says yes there
@@ -32,4 +47,29 @@ pub record IsUnlimited (m : Model) (budget : ℕ) (known : Known ℚ) (certifica
 -- As a solve; or, only where a solve may end with an operation that is past the limit, as the cold solve without one.
 abbrev pub IsWideSolved : Model → ℕ → WideEnd → Type 0
 IsWideSolved m budget (Narrow solved) = IsSolved m budget None solved
-IsWideSolved m budget (Wide known certificate) = IsPast m budget × IsUnlimited m budget known certificate
+IsWideSolved m budget (Wide known certificate) = IsPastFrom m budget None × IsUnlimited m budget known certificate
+
+-- the end of the start from what is handed, without a limit
+abbrev pub IsWarmEnd : Model → ℕ → Option (List Status) → ExactAnswer → Type 0
+IsWarmEnd m budget None a = ⊥
+IsWarmEnd m budget (Some basis) a =
+    (warm None budget m basis ≡ start.Ended a.known a.certificate a.basis a.pivots) × (a.route ≡ found.Warm)
+
+-- the end of the cold solve without a limit, by this route
+abbrev pub IsColdEnd : Model → ℕ → Route → ExactAnswer → Type 0
+IsColdEnd m budget route a =
+    (cold None budget m ≡ outcome.Ended a.known a.certificate a.basis a.pivots) × (a.route ≡ route)
+
+-- An answer without a limit, where a solve may end with an operation that is past it. Something is known only by a
+-- certificate for the model, to which the checker says yes without a limit. It was found from the basis that is handed,
+-- or by the cold solve and then by the route of the solve that is past the limit.
+pub record IsWideAnswer (m : Model) (budget : ℕ) (handed : Option (List Status)) (a : ExactAnswer) : Type 0 where
+  pub past : IsPastFrom m budget handed
+  pub fits : IsFor m a.certificate
+  pub accepted : check_run None m a.certificate ≡ Ok a.known
+  pub ends : IsWarmEnd m budget handed a ⊎ IsColdEnd m budget past.solved.route a
+
+-- As a solve with this handed to it, or with such an answer.
+abbrev pub IsWideFrom : Model → ℕ → Option (List Status) → BasedEnd → Type 0
+IsWideFrom m budget handed (based.Narrow solved) = IsSolved m budget handed solved
+IsWideFrom m budget handed (based.Wide a) = IsWideAnswer m budget handed a

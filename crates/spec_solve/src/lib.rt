@@ -10,6 +10,7 @@
 //! | `HowFits`, `ColdFits`, `WarmFits` | how the end was found | specs/Answers |
 //! | `IsSolved` | all that holds of what a solve ends with, of which a basis may be handed | specs/Answers |
 //! | `WideSolved`, `IsWideSolved` | what a solve ends with whose certificate may have numbers of any width | src/wide_solved, specs/Wide |
+//! | `WideBased`, `WideAnswer`, `IsWideFrom` | the same of one to which a basis may be handed | src/wide_solved, specs/Wide |
 //! | `number_limit`, `enough_pivots` | the limit of the program, and so many pivots and flips as are enough | specs/Answers |
 //!
 //! All runs take a limit: `Some m` refuses numbers past m, `None` refuses nothing. The functions here have the laws as
@@ -41,10 +42,11 @@ ghost use Rattle.spec_warm.specs.Solve.{SolveEnd, HasBasis, solve};
 ghost use Rattle.spec_factor.specs.Over.{over_factors};
 ghost use Rattle.spec_solve.specs.Order.{GivesUp, MayEndCold, MayEnd, cold_over};
 ghost use Rattle.spec_solve.specs.Answers.{number_limit, MayAnswer, IsSolved};
+ghost use Rattle.spec_solve.specs.declared.wide_solved.WideBased.TheVariants as based;
 ghost use Rattle.spec_solve.specs.declared.wide_solved.WideSolved.TheVariants as wide;
-ghost use Rattle.spec_solve.specs.Wide.{IsWideSolved};
+ghost use Rattle.spec_solve.specs.Wide.{ExactAnswer, IsWideSolved, IsWideFrom};
 
-pub use wide_solved::WideSolved;
+pub use wide_solved::{WideAnswer, WideBased, WideSolved};
 
 /// The cold part of a solve ends as the cold solve without a limit, or with an operation that is refused.
 pub fn cold_parts_end_as_without_a_limit()
@@ -157,4 +159,31 @@ pub fn wide_solves_only_add_answers()
     ensures wide { (m : Model) (budget : ℕ) (known : Known ℚ) (cert : Certificate (List ℚ)) →
         IsWideSolved m budget (wide.Wide known cert) →
         (solved : SolveEnd) × (p : Past ℚ) × IsSolved m budget None solved × (solved.end ≡ outcome.Past p) }
+{}
+
+/// What is answered with numbers of any width by a solve to which a basis may be handed is true, and without a limit the
+/// checker accepts its certificate, which is one for the model.
+pub fn wide_answers_from_bases_are_true()
+    ensures { (m : Model) (budget : ℕ) (handed : Option (List Status)) (a : ExactAnswer) →
+        IsWideFrom m budget handed (based.Wide a) →
+        Holds m a.known × IsFor m a.certificate × (check_run None m a.certificate ≡ Ok a.known) }
+{}
+
+/// A wide solve with this handed to it that ends as a solve ends as one with this handed to it, and it ends otherwise only
+/// where such a solve may be refused an operation. Where nothing is handed, it ends as a wide solve.
+pub fn wide_solves_from_bases_only_add_answers()
+    ensures narrow { (m : Model) (budget : ℕ) (handed : Option (List Status)) (solved : SolveEnd) →
+        IsWideFrom m budget handed (based.Narrow solved) → IsSolved m budget handed solved }
+    ensures wide { (m : Model) (budget : ℕ) (handed : Option (List Status)) (a : ExactAnswer) →
+        IsWideFrom m budget handed (based.Wide a) →
+        (solved : SolveEnd) × (p : Past ℚ) × IsSolved m budget handed solved × (solved.end ≡ outcome.Past p) }
+    ensures nothing { (m : Model) (budget : ℕ) (a : ExactAnswer) → IsWideFrom m budget None (based.Wide a) →
+        IsWideSolved m budget (wide.Wide a.known a.certificate) × (a.route ≡ route.Cold) }
+{}
+
+/// The basis that such an answer leaves is one of the model's form, if the basis that was handed to the solve is.
+pub fn wide_solves_leave_bases_of_the_form()
+    ensures { (m : Model) (budget : ℕ) (f : Form) (handed : Option (List Status)) (a : ExactAnswer) →
+        form_of (Some number_limit) m ≡ Ok f → IfSome handed (IsBasisOf f) →
+        IsWideFrom m budget handed (based.Wide a) → IfSome a.basis (IsBasisOf f) }
 {}
