@@ -1,4 +1,4 @@
--- What a wide solve writes is true, and `check --wide` accepts its certificate.
+-- What a wide solve writes is true, from a basis too, and `check --wide` accepts its certificate.
 use Rattle.std.proofs.Common.{◌≡◌, ◌⊎◌, inl, inr, ℕ, ◌+◌, List, [], ◌∷◌, ◌++◌, map, get_or, Option, Some}
 use Rattle.std.proofs.Common.{None, Ok, Err, All, ap, ◌∙◌, append_assoc, arith}
 use Rattle.spec_text.specs.declared.line.Line.{Line}
@@ -17,9 +17,10 @@ use Rattle.spec_check.specs.declared.certificate.Certificate.{Certificate}
 use Rattle.spec_check.specs.declared.certificate.Certificate.TheVariants.{Optimal, Infeasible, Clash, Unbounded}
 use Rattle.spec_check.specs.declared.certificate.Known.{Known}
 use Rattle.spec_check.specs.declared.certificate.Verdict.TheVariants.{Yes}
-use Rattle.spec_check.specs.Certificate.{Holds}
-use Rattle.spec_check.specs.Run.{verdict_of}
+use Rattle.spec_check.specs.Certificate.{IsFor, Holds}
+use Rattle.spec_check.specs.Run.{check_run, verdict_of}
 use Rattle.spec_check.specs.Settle.{certificate_for}
+use Rattle.spec_simplex.specs.Form.{form_of}
 use Rattle.spec_certificate.specs.declared.progress.Progress.TheVariants as progress
 use Rattle.spec_certificate.specs.Text.{Spelled, step_by, judge_by, settled}
 use Rattle.spec_certificate.specs.NarrowText.{ExactRaw, Outcome}
@@ -28,9 +29,11 @@ use Rattle.spec_certificate.specs.TextWritten.{wide_certificate_lines}
 use Rattle.spec_certificate.specs.TextRead.{AllNumbers, IsShortNumber}
 use Rattle.spec_certificate.proofs.ReadBack.{wide_read_back}
 use Rattle.spec_certificate.proofs.WideWords.{wide_word}
+use Rattle.spec_solve.specs.Answers.{number_limit}
+use Rattle.spec_solve.specs.declared.wide_solved.WideBased.TheVariants as based_end
 use Rattle.spec_solve.specs.declared.wide_solved.WideSolved.TheVariants as wide_end
 use Rattle.spec_solve.specs.Wide.{IsWideSolved}
-use Rattle.spec_solve.proofs.WideAnswers.{unlimited_true}
+use Rattle.spec_solve.proofs.WideAnswers.{unlimited_true, answer_true}
 use Rattle.spec_server.specs.declared.asks.Reply.TheVariants as reply
 use Rattle.spec_server.specs.Machine.{opening_budget}
 use Rattle.spec_server.specs.Output.{ended_lines}
@@ -39,6 +42,8 @@ use Rattle.spec_server.specs.CheckOut.{InText, InCertificate, behind_text}
 use Rattle.spec_server.specs.CheckWideOut.{behind_wide, wide_verdict_on, wide_step, wide_said}
 use Rattle.spec_server.specs.SolveOut.{behind_line, text_step, SolveOut}
 use Rattle.spec_server.specs.SolveWideOut.{wide_known_line, wide_solved_lines, SolveWideOut, FitsLine}
+use Rattle.spec_server.specs.BasisOut.{Handed, BasisOut, route_line, final_text}
+use Rattle.spec_server.specs.BasisWideOut.{solved_of, wide_basis_lines, BasisWideOut}
 use Rattle.spec_server.proofs.PlainLines.{ended_lines_behind, IsFitting, fitting_plain}
 
 -- ---- an answer
@@ -50,6 +55,27 @@ unfolding wide_solved_lines
 out_true m written (wide_end.Narrow solved, is, lines) = inl (solved, is, lines)
 out_true m written (wide_end.Wide known cert, is, lines) =
     inr (known, ended_lines (wide_certificate_lines m cert), lines, (unlimited_true m opening_budget known cert is.1).0)
+
+-- and of one to which a basis was handed
+pub based_true : (handed : Handed) (written : List ℕ) → BasisWideOut (Ok handed) written →
+    BasisOut (Ok handed) written ⊎ ((known : Known ℚ) × (behind : List ℕ)
+    × (written ≡ wide_known_line known ++ behind) × Holds handed.model known)
+unfolding wide_basis_lines
+based_true handed written (based_end.Narrow solved, is, lines) = inl (solved, is, lines)
+based_true handed written (based_end.Wide a, is, lines) =
+    let m = handed.model in
+    let how : List ℕ = route_line (solved_of a) in
+    let certificate : List ℕ = ended_lines (wide_certificate_lines m a.certificate) in
+    let final : List ℕ = final_text m (form_of (Some number_limit) m) (solved_of a).end in
+    inr (
+      a.known,
+      how ++ (certificate ++ final),
+      lines ∙ regroup (wide_known_line a.known) how certificate final,
+      (answer_true m opening_budget a handed.basis is).0,
+    )
+  where
+    regroup : (a b c d : List ℕ) → ((a ++ b) ++ c) ++ d ≡ a ++ (b ++ (c ++ d))
+    regroup a b c d = append_assoc (a ++ b) c d ∙ append_assoc a b (c ++ d)
 
 -- ---- lines of a text, and of a certificate
 
@@ -134,25 +160,31 @@ numbers_short (Infeasible y) n = all_short y n
 numbers_short (Clash j) n = tt
 numbers_short (Unbounded x r) n = (all_short x n.0, all_short r n.1)
 
-pub wide_accepted : (style : Style) (front : List (Line (List ℕ))) (last : Line (List ℕ)) (m : Model) (budget : ℕ)
-    (known : Known ℚ) (cert : Certificate (List ℚ)) (more : List ℕ) →
-    said_by (text_step style) (record { state = start; lines = 0 }) front ≡ None →
-    text.Spells style (front ++ last ∷ []) m → IsWideSolved m budget (wide_end.Wide known cert) →
-    AllNumbers FitsLine cert →
-    wide_said style ((front ++ last ∷ []) ++ ended_lines_of (ended_lines (wide_certificate_lines m cert) ++ more))
-    ≡ Some (reply.Checked (Yes known))
-unfolding ended_lines
-wide_accepted style front last m budget known cert more undecided spells is fits =
-    let u = unlimited_true m budget known cert is.1 in
-    let kept : IsModel m = spelled_kept style (front ++ last ∷ []) m spells in
-    let r = wide_read_back m cert kept u.1 (numbers_short cert fits) in
-    let rest : List (Line (List ℕ)) = ended_lines_of more in
-    let lines : List (Line (List ℕ)) = map Text (wide_certificate_lines m cert) ++ rest in
-    ap (λ (ls : List (Line (List ℕ))). wide_said style ((front ++ last ∷ []) ++ ls))
-    (ended_lines_behind (λ line. line) (wide_certificate_lines m cert) more
-    (fitting_plain m kept wide_text cert u.1 (numbers_fitting cert fits)))
-    ∙ ap (wide_said style) (append_assoc front (last ∷ []) lines)
-    ∙ text_leads style start 0 front last lines m undecided spells
-    ∙ certificate_said m lines None 0 r.raw (r.spelled rest)
-    ∙ ap (λ settled. Some (wide_verdict_on m settled)) r.settled
-    ∙ ap (λ run. Some (reply.Checked (verdict_of run))) u.2
+-- `check --wide` says yes behind a text of the model to the lines of a certificate that is accepted
+module _ (style : Style) (front : List (Line (List ℕ))) (last : Line (List ℕ)) (m : Model) (known : Known ℚ)
+    (cert : Certificate (List ℚ)) (more : List ℕ) where
+  abbrev AcceptsBehind : Type 0
+  AcceptsBehind = said_by (text_step style) (record { state = start; lines = 0 }) front ≡ None →
+      text.Spells style (front ++ last ∷ []) m → AllNumbers FitsLine cert →
+      wide_said style ((front ++ last ∷ []) ++ ended_lines_of (ended_lines (wide_certificate_lines m cert) ++ more))
+      ≡ Some (reply.Checked (Yes known))
+
+  pub accepted_behind : IsFor m cert → check_run None m cert ≡ Ok known → AcceptsBehind
+  unfolding ended_lines
+  accepted_behind for accepted undecided spells fits =
+      let kept : IsModel m = spelled_kept style (front ++ last ∷ []) m spells in
+      let r = wide_read_back m cert kept for (numbers_short cert fits) in
+      let rest : List (Line (List ℕ)) = ended_lines_of more in
+      let lines : List (Line (List ℕ)) = map Text (wide_certificate_lines m cert) ++ rest in
+      ap (λ (ls : List (Line (List ℕ))). wide_said style ((front ++ last ∷ []) ++ ls))
+      (ended_lines_behind (λ line. line) (wide_certificate_lines m cert) more
+      (fitting_plain m kept wide_text cert for (numbers_fitting cert fits)))
+      ∙ ap (wide_said style) (append_assoc front (last ∷ []) lines)
+      ∙ text_leads style start 0 front last lines m undecided spells
+      ∙ certificate_said m lines None 0 r.raw (r.spelled rest)
+      ∙ ap (λ settled. Some (wide_verdict_on m settled)) r.settled
+      ∙ ap (λ run. Some (reply.Checked (verdict_of run))) accepted
+
+  pub wide_accepted : (budget : ℕ) → IsWideSolved m budget (wide_end.Wide known cert) → AcceptsBehind
+  wide_accepted budget is =
+      let u = unlimited_true m budget known cert is.1 in accepted_behind u.1 u.2

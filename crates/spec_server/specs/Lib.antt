@@ -15,4 +15,5 @@ pub mod CheckWideOut
 pub mod SolveOut
 pub mod SolveWideOut
 pub mod BasisOut
+pub mod BasisWideOut
 pub mod Halves

@@ -27,6 +27,7 @@
 //! | `text_said`, `SolveOut` | what the command `solve` reads, and what it writes of it | specs/SolveOut |
 //! | `SolveWideOut` | what it writes where the numbers of its answer may have any width | specs/SolveWideOut |
 //! | `basis_said`, `BasisOut` | what the command `basis` reads, and what it writes of it | specs/BasisOut |
+//! | `BasisWideOut` | what it writes where the numbers of its answer may have any width | specs/BasisWideOut |
 //! | `BasisFault` | why it has no model to solve | src/basis |
 //! | `script_out` | what is written of the replies | specs/Output |
 #![tactic(auto)]
@@ -55,8 +56,9 @@ ghost use Rattle.spec_pivot.specs.declared.status.Status.{Status};
 ghost use Rattle.spec_check.specs.declared.solve_end.SolveEnd.TheVariants as outcome;
 ghost use Rattle.spec_cold.specs.Cold.{cold};
 ghost use Rattle.spec_solve.specs.Answers.{number_limit, MayAnswer};
+ghost use Rattle.spec_solve.specs.declared.wide_solved.WideBased.TheVariants as based;
 ghost use Rattle.spec_solve.specs.declared.wide_solved.WideSolved.TheVariants as wide;
-ghost use Rattle.spec_solve.specs.Wide.{IsWideSolved};
+ghost use Rattle.spec_solve.specs.Wide.{ExactAnswer, IsWideSolved, IsWideFrom};
 ghost use Rattle.spec_server.specs.declared.answer.Answer.TheVariants as answer;
 ghost use Rattle.spec_server.specs.declared.asks.Ask.TheVariants as ask;
 ghost use Rattle.spec_server.specs.declared.asks.Asked.{Asked as asked_of};
@@ -77,6 +79,8 @@ ghost use Rattle.spec_server.specs.CheckOut.{said};
 ghost use Rattle.spec_server.specs.CheckWideOut.{wide_said};
 ghost use Rattle.spec_server.specs.SolveOut.{text_said, SolveOut};
 ghost use Rattle.spec_server.specs.SolveWideOut.{SolveWideOut, FitsLine, wide_known_line};
+ghost use Rattle.spec_server.specs.BasisOut.{Handed, BasisOut};
+ghost use Rattle.spec_server.specs.BasisWideOut.{BasisWideOut};
 
 mod addressing;
 mod answer;
@@ -197,14 +201,29 @@ pub fn wide_solves_write_true_answers()
         × (written ≡ wide_known_line known ++ behind) × Holds m known) }
 {}
 
+/// What a wide solve writes of a model and a basis is what `basis` writes of them, or begins with the line of an answer
+/// that is true of the model.
+pub fn wide_solves_from_bases_write_true_answers()
+    ensures { (handed : Handed) (written : List ℕ) → BasisWideOut (Ok handed) written →
+        BasisOut (Ok handed) written ⊎ ((known : Known ℚ) × (behind : List ℕ)
+        × (written ≡ wide_known_line known ++ behind) × Holds handed.model known) }
+{}
+
 /// Anyone can check an answer with numbers of any width: to the lines of a text that spells its model with those of its
 /// certificate behind them `check --wide` says yes, and that the same is known, whatever follows, as long as the text of
-/// no number has more than 16,000 bytes.
+/// no number has more than 16,000 bytes. It is so of an answer from a basis too.
 pub fn wide_answers_check_against_the_text()
-    ensures { (style : Style) (front : List (Line (List ℕ))) (last : Line (List ℕ)) (m : Model) (budget : ℕ)
+    ensures solve { (style : Style) (front : List (Line (List ℕ))) (last : Line (List ℕ)) (m : Model) (budget : ℕ)
         (known : Known ℚ) (cert : Certificate (List ℚ)) (more : List ℕ) →
         text_said style front ≡ None → Spells style (front ++ last ∷ []) m →
         IsWideSolved m budget (wide.Wide known cert) → AllNumbers FitsLine cert →
         wide_said style ((front ++ last ∷ []) ++ ended_lines_of (ended_lines (wide_certificate_lines m cert) ++ more))
         ≡ Some (reply.Checked (verdict.Yes known)) }
+    ensures basis { (style : Style) (front : List (Line (List ℕ))) (last : Line (List ℕ)) (m : Model) (budget : ℕ)
+        (handed : Option (List Status)) (a : ExactAnswer) (more : List ℕ) →
+        text_said style front ≡ None → Spells style (front ++ last ∷ []) m →
+        IsWideFrom m budget handed (based.Wide a) → AllNumbers FitsLine a.certificate →
+        wide_said style
+        ((front ++ last ∷ []) ++ ended_lines_of (ended_lines (wide_certificate_lines m a.certificate) ++ more))
+        ≡ Some (reply.Checked (verdict.Yes a.known)) }
 {}
