@@ -12,19 +12,15 @@ use Rattle.spec_mps.specs.Steps.{Spells}
 use Rattle.spec_wide_text.specs.WideText.{most_zeros, Is, wide_of}
 use Rattle.spec_wide_text.specs.WideWritten.{wide_text}
 use Rattle.spec_wide_text.proofs.ReadBack.{same_text, read_again}
-use Rattle.spec_check.specs.declared.certificate.Certificate.{Certificate}
 use Rattle.spec_check.specs.declared.certificate.Known.{Known}
 use Rattle.spec_check.specs.declared.certificate.Known.TheVariants as known
 use Rattle.spec_check.specs.Certificate.{Holds}
-use Rattle.spec_certificate.specs.TextWritten.{wide_certificate_lines}
-use Rattle.spec_solve.specs.declared.wide_solved.WideSolved.TheVariants.{Narrow, Wide}
-use Rattle.spec_solve.proofs.WideAnswers.{unlimited_true}
 use Rattle.spec_server.specs.declared.answer.Answer.{Answer}
 use Rattle.spec_server.specs.declared.answer.Answer.TheVariants as answer
-use Rattle.spec_server.specs.Machine.{opening_budget}
-use Rattle.spec_server.specs.Output.{answer_text, ended_lines}
-use Rattle.spec_server.specs.SolveOut.{TextSaid, text_said}
-use Rattle.spec_server.specs.SolveWideOut.{wide_known_text, wide_known_line, wide_solved_lines, SolveWideOut}
+use Rattle.spec_server.specs.Output.{answer_text}
+use Rattle.spec_server.specs.SolveOut.{TextSaid, text_said, SolveOut}
+use Rattle.spec_server.specs.SolveWideOut.{wide_known_text, wide_known_line, SolveWideOut}
+use Rattle.spec_server.proofs.WideWritten.{out_true}
 use Rattle.spec_truth.proofs.Shown.{IsShownBy, shown_holds, value_fits}
 use Rattle.spec_truth.proofs.TextLemmas.{spelled_said}
 use Rattle.spec_truth.proofs.AnswerLines.{HasNoFeed, same_line, first, apart, infeasible_line, unbounded_line}
@@ -39,10 +35,9 @@ record IsWideAnswered (m : Model) (written : List ℕ) : Type 0 where
   line : written ≡ wide_known_text what ++ 10 ∷ behind
   holds : Holds m what
 
-wide_begins : (m : Model) (what : Known ℚ) (cert : Certificate (List ℚ)) →
-    wide_solved_lines m what cert ≡ wide_known_text what ++ 10 ∷ ended_lines (wide_certificate_lines m cert)
-unfolding wide_solved_lines wide_known_line
-wide_begins m what cert = append_assoc (wide_known_text what) (10 ∷ []) (ended_lines (wide_certificate_lines m cert))
+wide_begins : (what : Known ℚ) (behind : List ℕ) → wide_known_line what ++ behind ≡ wide_known_text what ++ 10 ∷ behind
+unfolding wide_known_line
+wide_begins what behind = append_assoc (wide_known_text what) (10 ∷ []) behind
 
 abbrev IsRead : Model → List ℕ → Type 0
 IsRead m text =
@@ -89,14 +84,13 @@ abbrev IsEither : Model → List ℕ → Type 0
 IsEither m written = IsAnswered m written ⊎ IsWideAnswered m written
 
 out_either : (m : Model) (written : List ℕ) → SolveWideOut (Ok m) written → IsEither m written
-out_either m written (Narrow solved, h, e) = inl (out_answered m written (solved, h, e))
-out_either m written (Wide what cert, h, e) =
-    inr (record {
-      what = what;
-      behind = ended_lines (wide_certificate_lines m cert);
-      line = e ∙ wide_begins m what cert;
-      holds = (unlimited_true m opening_budget what cert h.1).0;
-    })
+out_either m written out = by (out_true m written out)
+  where
+    by : SolveOut (Ok m) written ⊎ ((what : Known ℚ) × (behind : List ℕ)
+        × (written ≡ wide_known_line what ++ behind) × Holds m what) → IsEither m written
+    by (inl narrow) = inl (out_answered m written narrow)
+    by (inr (what, behind, e, h)) =
+        inr (record { what = what; behind = behind; line = e ∙ wide_begins what behind; holds = h })
 
 either : (style : Style) (lines : List (Line (List ℕ))) (m : Model) (what : TextSaid) (written : List ℕ) →
     text_said style lines ≡ Some what → SolveWideOut what written → Spells style lines m → IsEither m written
