@@ -24,3 +24,4 @@ pub mod BoundsKept
 pub mod BoundsSaid
 pub mod RowLimits
 pub mod OneMeaning
+pub mod LaterFree

@@ -55,6 +55,16 @@ pub fn rows_cards_are_rows()
         map (λ r. (r.kind, r.name)) m.rows ≡ but_first_free (typed_rows (cards_in style section.Rows lines)) }
 {}
 
+/// The rows of type N are the objective and, in the order of their cards, the free rows of the model; those of the other
+/// types are its other rows. So a reader that drops each row of type N but the first has these others, as they stand.
+pub fn later_rows_of_type_n_are_free_rows()
+    ensures free { (style : Style) (lines : Lines) (m : Model) → Spells style lines m →
+        free_names (typed_rows (cards_in style section.Rows lines))
+        ≡ m.objective ∷ free_names (map (λ r. (r.kind, r.name)) m.rows) }
+    ensures limited { (style : Style) (lines : Lines) (m : Model) → Spells style lines m →
+        limited (typed_rows (cards_in style section.Rows lines)) ≡ limited (map (λ r. (r.kind, r.name)) m.rows) }
+{}
+
 /// Where the objective alone is of type N, the rows are those of the other types, and each of them has the range that
 /// RANGES gives it. So such a text means what it means to a reader that knows of no free rows.
 pub fn lone_objectives_leave_rows_with_limits()
