@@ -121,16 +121,23 @@ def side(sign: Fraction) -> str:
     return "lower" if sign > 0 else "upper"
 
 
+def has_limit(limits: Limits, sign: Fraction) -> bool:
+    """Whether there is the limit for a multiplier with this sign: a free row has none for any."""
+    return (limits.lower if sign > 0 else limits.upper) is not None
+
+
 def optimal(model: Model, x: Values, y: Values) -> Optimal:
     must_be_feasible(model, x)
     for name, column in model.columns.items():
         reduced, value = model.reduced_cost(y, name), x.get(name, ZERO)
-        why = f"column {name} has the reduced cost {shown(reduced)}, so it has to be at its {side(reduced)} bound, and is {shown(value)}"
-        need(is_tight(column.limits(), reduced, value), 3, why)
+        there = f", so it has to be at its {side(reduced)} bound, and is {shown(value)}"
+        why = there if has_limit(column.limits(), reduced) else f" and no {side(reduced)} bound"
+        need(is_tight(column.limits(), reduced, value), 3, f"column {name} has the reduced cost {shown(reduced)}{why}")
     for name, row in model.rows.items():
         multiplier, value = y.get(name, ZERO), model.activity(x, name)
-        why = f"row {name} has the multiplier {shown(multiplier)}, so its sum has to be at its {side(multiplier)} limit, and is {shown(value)}"
-        need(is_tight(row.limits(), multiplier, value), 4, why)
+        there = f", so its sum has to be at its {side(multiplier)} limit, and is {shown(value)}"
+        why = there if has_limit(row.limits(), multiplier) else f" and no {side(multiplier)} limit"
+        need(is_tight(row.limits(), multiplier, value), 4, f"row {name} has the multiplier {shown(multiplier)}{why}")
     return Optimal(model.cost(x) + model.offset)
 
 

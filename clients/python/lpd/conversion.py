@@ -10,7 +10,7 @@ from dataclasses import dataclass, field, replace
 from typing import Callable, Dict, Iterator, List, NamedTuple, Optional, Sequence, Set, Tuple
 
 from .errors import LpdError, TextFault
-from .model import FIELDS, GAPS, SECTIONS, SENSES, Fault, Model, Reader, is_name, lines_of, read_lines, words_of
+from .model import FIELDS, FREE, GAPS, SECTIONS, SENSES, Fault, Model, Reader, is_name, lines_of, read_lines, words_of
 from .names import Renamed, renamed
 from .number_text import NotANumber, parse
 
@@ -399,6 +399,7 @@ class Converter:
         self.put_objective()
         for section in SETS:
             self.fill_sets(section)
+        self.note_ranges()
         self.rename()
 
     def cards(self, section: str) -> Iterator[Card]:
@@ -419,7 +420,7 @@ class Converter:
         named = self.read.objective
         if named is None:
             return
-        rows = [card for card in self.cards("ROWS") if card.kind == "N"]
+        rows = [card for card in self.cards("ROWS") if card.kind == FREE]
         found = next((card for card in rows if card.name == named.name), None)
         if found is None:
             raise Unconvertible(named.line, f"OBJNAME names {named.name}, which is no row of type N")
@@ -489,6 +490,13 @@ class Converter:
             if card.set != used:
                 mine, others = (f"the set {name}" if name else "no set" for name in (card.set, used))
                 self.read.note(card.line, f"this card of {section} has {mine} and the first one {others}, so it is skipped")
+
+    def note_ranges(self) -> None:
+        """Notes the ranges of free rows, which count for nothing: those of type N behind the first, which is the objective."""
+        free = [card.name for card in self.cards("ROWS") if card.kind == FREE][1:]
+        for card in self.cards("RANGES"):
+            for row in [row for row, _ in card.pairs if row in free]:
+                self.read.note(card.line, f"row {row} is free, so its range counts for nothing")
 
     def rename(self) -> None:
         """Renames what is no name of the profile, everywhere."""

@@ -3,7 +3,7 @@ from __future__ import annotations
 
 from dataclasses import dataclass, field, replace
 from fractions import Fraction
-from typing import Callable, Dict, List, Optional, Tuple
+from typing import Callable, Dict, List, Optional, Sequence, Tuple
 
 from .errors import LpdError
 from .model import Column, Limits, Model
@@ -32,7 +32,8 @@ def nothing(name: str) -> bool:
 @dataclass(frozen=True)
 class Dialect:
     """What a program makes of a text. `offset_sign` is that of the objective's right side in the offset, 0 where it is ignored;
-    `arguments` are those that read a text in free form, and `maximize` is the one that maximizes where OBJSENSE is not read."""
+    `arguments` are those that read a text in free form, and `maximize` is the one that maximizes where OBJSENSE is not read.
+    With `drops_free_rows` it leaves rows of type N behind the objective out of its model."""
 
     name: str
     arguments: Tuple[str, ...] = ()
@@ -40,6 +41,7 @@ class Dialect:
     maximize: Optional[str] = None
     offset_sign: int = -1
     reads_quotients: bool = False
+    drops_free_rows: bool = False
     misreads: Callable[[str], bool] = with_dollar_before  # names that are read as something else
 
     def command(self, path: str, is_maximized: bool) -> List[str]:
@@ -50,11 +52,11 @@ PROFILE = Dialect("lpd", reads_quotients=True, misreads=nothing)
 DIALECTS = {
     dialect.name: dialect
     for dialect in (
-        Dialect("glpsol", ("--freemps",), maximize="--max", offset_sign=1),
-        Dialect("lp_solve", ("-fmps",), offset_sign=1, misreads=nothing),
-        Dialect("clp", free_mark=" FREE", maximize="-maximize", misreads=is_sign),
-        Dialect("cbc", free_mark=" FREE", maximize="-maximize", misreads=is_sign),
-        Dialect("esolver", offset_sign=0, reads_quotients=True),
+        Dialect("glpsol", ("--freemps",), maximize="--max", offset_sign=1, drops_free_rows=True),
+        Dialect("lp_solve", ("-fmps",), offset_sign=1, drops_free_rows=True, misreads=nothing),
+        Dialect("clp", free_mark=" FREE", maximize="-maximize", drops_free_rows=True, misreads=is_sign),
+        Dialect("cbc", free_mark=" FREE", maximize="-maximize", drops_free_rows=True, misreads=is_sign),
+        Dialect("esolver", offset_sign=0, reads_quotients=True, drops_free_rows=True),
         Dialect("highs"),  # as HiGHS is documented; it was never tried
     )
 }
@@ -155,6 +157,21 @@ def with_names(model: Model, rows: Dict[str, str], columns: Dict[str, str]) -> M
     )
 
 
+def without_free_rows(model: Model) -> Model:
+    """The model without the rows that limit nothing."""
+    rows = {name: row for name, row in model.rows.items() if not row.is_free()}
+
+    def entries(column: Column) -> Dict[str, Fraction]:
+        return {row: value for row, value in column.entries.items() if row in rows}
+
+    columns = {name: replace(column, entries=entries(column)) for name, column in model.columns.items()}
+    return replace(model, rows=rows, columns=columns)
+
+
+def first_few(names: Sequence[str]) -> str:
+    return f"{', '.join(names[:6])}{', ..' if len(names) > 6 else ''}"
+
+
 def written(model: Model, dialect: Dialect, rounds: bool = False, path: str = "MODEL") -> Written:
     """The model's text for a program. A number that the program cannot read exactly raises Inexact, unless it may be rounded."""
 
@@ -167,14 +184,16 @@ def written(model: Model, dialect: Dialect, rounds: bool = False, path: str = "M
     rows = renamed([model.objective, *model.rows], fits, proposed)
     columns = renamed(model.columns, fits, proposed)
     writer = Writer(with_names(model, rows, columns), dialect, rounds)
-    text, notes = writer.text(), []
+    text, notes, free = writer.text(), [], writer.model.free_rows()
     if model.sense < 0 and dialect.maximize:
         notes.append(f"the text does not say MAX, which {dialect.name} does not read there: run it with {dialect.maximize}")
     if model.offset and dialect.offset_sign == 0:
         notes.append(f"the offset {shown(model.offset)} is left out, since {dialect.name} ignores it: add it to the value")
     if model.offset and dialect.offset_sign > 0:
         notes.append(f"the objective's right side has the other sign, as {dialect.name} reads it")
+    if free and dialect.drops_free_rows:
+        notes.append(f"the text has the free rows {first_few(free)}, and {dialect.name} leaves them out of its model")
     if writer.rounded:
-        notes.append(f"rounded to {DIGITS} digits: {', '.join(writer.rounded[:6])}{', ..' if len(writer.rounded) > 6 else ''}")
+        notes.append(f"rounded to {DIGITS} digits: {first_few(writer.rounded)}")
     names = [Renamed("row", old, new) for old, new in rows.items()] + [Renamed("column", old, new) for old, new in columns.items()]
     return Written(text, dialect.command(path, model.sense < 0), notes, names)

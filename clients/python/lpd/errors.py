@@ -194,6 +194,15 @@ class CertificateFault(Refused):
         super().__init__(f"ERR 14 CERT {line}", f"line {line} of the certificate {what}{quoted(text)}")
 
 
+class FreeRow(Refused):
+    code = 16
+    hint = "A free row (type N) has no limits, and so no range: delete it, and add it once more with another type."
+
+    def __init__(self, reply: str, words: str, name: str) -> None:
+        self.name = name
+        super().__init__(reply, words)
+
+
 class BasisFault(Refused):
     """A file spells no basis of the model. `line` is its first wrong line, and `fault` the number of what is wrong."""
 
@@ -283,6 +292,8 @@ def refusal_of(words: Sequence[str], line: str, body: Sequence[str]) -> LpdError
         return named[code](reply, f"{what} {readable(last)!r}, in {readable(line)!r}", last)
     if code == "10":
         return TooWideForFixed(reply, f"{readable(last)!r} is too wide for fixed form", last)
+    if code == "16":
+        return FreeRow(reply, f"{readable(last)!r} is a free row, in {readable(line)!r}", last)
     plain: Dict[str, Type[Refused]] = {"1": BadCommand, "2": BadNumber, "3": NumberTooWide, "4": NoModel, "7": LimitReached, "9": NoAnswer}
     plain.update({"11": LineTooLong, "13": BadName})
     whats = {

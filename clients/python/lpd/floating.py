@@ -11,7 +11,7 @@ from pathlib import Path
 from typing import Callable, Dict, List, Optional, Tuple
 
 from .basis_file import read_bas
-from .dialects import DIALECTS, with_names, written
+from .dialects import DIALECTS, with_names, without_free_rows, written
 from .errors import LpdError
 from .exact import BASIC, LOWER, UPPER, Basis
 from .model import Model, Row
@@ -188,16 +188,17 @@ def renamed_back(claim: Claim, rows: Dict[str, str], columns: Dict[str, str], se
 
 
 def ask(name: str, model: Model, seconds: Optional[float] = None) -> Claim:
-    """What a solver says of the model, written with plain names and with numbers rounded where it reads no quotients. Without a
-    solver there is a rough basis of the package's own."""
+    """What a solver says of the model, written with plain names, without its free rows, and with numbers rounded where it reads no
+    quotients. Without a solver there is a rough basis of the package's own."""
     if name == NONE:
         return Claim("nothing", basis=rough_basis(model, seconds))
     solver = SOLVERS[name]
     if not shutil.which(name):
         raise SolverMissing(f"{name} is not on the path")
-    rows = {row: f"R{i}" for i, row in enumerate(model.rows)}
+    limiting = without_free_rows(model)
+    rows = {row: f"R{i}" for i, row in enumerate(limiting.rows)}
     columns = {column: f"C{j}" for j, column in enumerate(model.columns)}
-    plain = with_names(model, {**rows, model.objective: "OBJ"}, columns)
+    plain = with_names(limiting, {**rows, model.objective: "OBJ"}, columns)
     plain.name = "model"
     with tempfile.TemporaryDirectory() as place:
         folder = Path(place)

@@ -96,9 +96,24 @@ def mps_of(text: str) -> str:
             set_item((rows if words[0] == "i" else columns)[int(words[1])], words[2:], words[0] == "j" and head[1] == "mip")
         elif words[0] == "a":
             columns[int(words[2])].entries.append((int(words[1]), words[3]))
+    leave_out_copy(rows, columns)
     if any(row.name == rows[0].name for row in rows[1:]):
         rows[0].name = next(name for name in ("OBJ", *(f"OBJ{n}" for n in range(len(rows)))) if all(row.name != name for row in rows[1:]))
     return "".join(f"{line}\n" for line in mps_lines(head[2] == "max", rows, columns))
+
+
+def leave_out_copy(rows: List[Item], columns: Sequence[Item]) -> None:
+    """Takes out the row that has the objective once more, under its name and without limits, as glpsol has it of MathProg."""
+    at = next((n for n, row in enumerate(rows) if n and (row.name, row.kind) == (rows[0].name, "f")), None)
+    if at is None or any(numbers_in(column, 0) != numbers_in(column, at) for column in columns[1:]):
+        return
+    del rows[at]
+    for column in columns:
+        column.entries = [(row - (row > at), value) for row, value in column.entries if row != at]
+
+
+def numbers_in(column: Item, at: int) -> List[str]:
+    return [value for row, value in column.entries if row == at]
 
 
 def mps_lines(is_max: bool, rows: Sequence[Item], columns: Sequence[Item]) -> List[str]:

@@ -20,6 +20,7 @@ FIELDS = [(2, 3), (5, 12), (15, 22), (25, 36), (40, 47), (50, 61)]
 GAPS = [1, 4, 13, 14, 23, 24, 37, 38, 39, 48, 49, 62]
 Value = TypeVar("Value")
 ZERO = Fraction(0)
+FREE = "N"  # the type of the objective, and of a row without limits
 
 
 class Limits(NamedTuple):
@@ -31,12 +32,19 @@ class Limits(NamedTuple):
 
 @dataclass
 class Row:
+    """A row of type L, G, E or N. One of type N is free: it has no limits and no range, and its right side limits nothing."""
+
     kind: str
     rhs: Fraction = Fraction(0)
     range: Optional[Fraction] = None
 
+    def is_free(self) -> bool:
+        return self.kind == FREE
+
     def limits(self) -> Limits:
         b, r = self.rhs, self.range
+        if self.is_free():
+            return Limits(None, None)
         if self.kind == "L":
             return Limits(None if r is None else b - abs(r), b)
         if self.kind == "G":
@@ -64,6 +72,10 @@ class Model:
     rows: Dict[str, Row] = field(default_factory=dict)
     columns: Dict[str, Column] = field(default_factory=dict)
     skipped: List[int] = field(default_factory=list, compare=False)  # the lines of cards of other sets
+
+    def free_rows(self) -> List[str]:
+        """The names of the rows without limits."""
+        return [name for name, row in self.rows.items() if row.is_free()]
 
     def activity(self, values: Mapping[str, Fraction], row: str) -> Fraction:
         """The sum of a row at the values of columns, which are 0 if absent."""
@@ -139,7 +151,6 @@ class Reader:
         self.number: Callable[[str], Fraction] = lambda text: number(text, wide)
         self.bound: Callable[[str], Tuple[Optional[Fraction], int]] = lambda text: bound(text, wide)
         self.has_objective = self.has_sense = False
-        self.dropped: Set[str] = set()
         self.line = 0
         self.section: Optional[str] = None
         self.seen: List[str] = []
@@ -212,22 +223,19 @@ class Reader:
         return self.has_objective and name == self.model.objective
 
     def is_known(self, name: str) -> bool:
-        return self.is_objective(name) or name in self.model.rows or name in self.dropped
+        return self.is_objective(name) or name in self.model.rows
 
     def row_card(self, fields: Dict[int, str]) -> None:
         must(list(fields) == [1, 2], 3)
         kind, name = fields[1], fields[2]
-        must(kind in ("N", "L", "G", "E"), 4)
+        must(kind in (FREE, "L", "G", "E"), 4)
         must(is_name(name, of_row=True), 17)
         must(not self.is_known(name), 5)
-        if kind == "N" and not self.has_objective:
+        if kind == FREE and not self.has_objective:
             self.model.objective, self.has_objective = name, True
             return
-        must(len(self.model.rows) + len(self.dropped) < MOST_ROWS, 16)
-        if kind == "N":
-            self.dropped.add(name)
-        else:
-            self.model.rows[name] = Row(kind)
+        must(len(self.model.rows) < MOST_ROWS, 16)
+        self.model.rows[name] = Row(kind)
 
     def column_card(self, fields: Dict[int, str]) -> None:
         must(fields.get(3 if self.fixed else 2) != "'MARKER'", 12)
@@ -243,8 +251,6 @@ class Reader:
         for row, text in pairs(texts):
             must(self.is_known(row), 6)
             value = coded(self.number, text)
-            if row in self.dropped:
-                continue
             must(row not in self.given, 8)
             self.given.add(row)
             if self.is_objective(row):
@@ -270,7 +276,7 @@ class Reader:
             must(self.is_known(row), 6)
             must(self.section == "RHS" or not self.is_objective(row), 18)
             value = coded(self.number, text)
-            if row in self.dropped:
+            if self.section == "RANGES" and self.model.rows[row].is_free():
                 continue
             must(row not in self.given, 8)
             self.given.add(row)

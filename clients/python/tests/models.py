@@ -16,7 +16,7 @@ def has_program() -> bool:
 
 
 def some_model(dice: random.Random, rows: int = 5, columns: int = 6) -> Model:
-    """A model with bounds, ranges and an offset of every kind, whose numbers a float has exactly."""
+    """A model with rows, bounds, ranges and an offset of every kind, whose numbers a float has exactly."""
 
     def number() -> Fraction:
         return Fraction(dice.randint(-12, 12), dice.choice([1, 1, 2, 4]))
@@ -26,7 +26,8 @@ def some_model(dice: random.Random, rows: int = 5, columns: int = 6) -> Model:
 
     model = Model("made", dice.choice([1, -1]), "obj", number())
     for i in range(dice.randint(1, rows)):
-        model.rows[f"{dice.choice('r-$+')}{i}"] = Row(dice.choice("LGE"), number(), dice.choice([None, None, number()]))
+        kind = dice.choice("LLGGEEN")
+        model.rows[f"{dice.choice('r-$+')}{i}"] = Row(kind, number(), None if kind == "N" else dice.choice([None, None, number()]))
     for j in range(dice.randint(1, columns)):
         lower = dice.choice([Fraction(0), Fraction(0), None, number()])
         entries = {row: value for row in model.rows for value in [number()] if value and dice.random() < 0.7}

@@ -6,11 +6,29 @@ from fractions import Fraction
 from pathlib import Path
 
 import lpd
+from lpd.model import Limits
 from lpd.number_text import number, shown
 
 from .commands import Said, command
 
 EXAMPLES = Path(__file__).resolve().parents[3] / "examples"
+# The cheaper of two columns is taken, with a row whose sum is counted and limits nothing, and one that has no entries.
+FREE = """ROWS
+ N cost
+ N sum
+ G R1
+ N none
+COLUMNS
+ a sum 4
+ a cost 1 R1 1
+ b cost 2 R1 1
+RHS
+ R1 1 sum 7
+ cost -3
+RANGES
+ RNG sum 2
+ENDATA
+"""
 LEAST = "ROWS\n N cost\n G R1\nCOLUMNS\n a cost 1 R1 1\n b cost 2 R1 1\nRHS\n cost -3 R1 1\nENDATA\n"
 
 
@@ -44,6 +62,41 @@ class Checks(unittest.TestCase):
             with self.subTest(certificate):
                 verdict = lpd.check(LEAST, certificate)
                 self.assertEqual(f"{verdict}: {verdict.why}" if isinstance(verdict, lpd.Rejected) else str(verdict), expected)
+
+    def test_free_rows(self) -> None:
+        """A row without limits takes no multiplier but 0, and any sum of it will do."""
+        cases = {
+            "OPTIMAL\nx a 1\ny R1 1\ny sum 0\nEND\n": "YES OPTIMAL 4",
+            "OPTIMAL\nx a 1\ny R1 1\ny sum 1/2\nEND\n": "NO 3: column a has the reduced cost -2 and no upper bound",
+            "OPTIMAL\nx a 1\ny R1 1\ny none 1\nEND\n": "NO 4: row none has the multiplier 1 and no lower limit",
+            "INFEASIBLE\ny sum 1\nEND\n": "NO 1: row sum has the multiplier 1 and no lower limit",
+            "INFEASIBLE\ny none -1\nEND\n": "NO 1: row none has the multiplier -1 and no upper limit",
+            "UNBOUNDED\nx a 1\nr a 1\nEND\n": "NO 5: the ray changes the objective by 1, which is not better",
+        }
+        for certificate, expected in cases.items():
+            with self.subTest(certificate):
+                verdict = lpd.check(FREE, certificate)
+                self.assertEqual(f"{verdict}: {verdict.why}" if isinstance(verdict, lpd.Rejected) else str(verdict), expected)
+
+    def test_free_rows_are_read(self) -> None:
+        model = lpd.read_model(FREE)
+        self.assertEqual((list(model.rows), model.free_rows()), (["sum", "R1", "none"], ["sum", "none"]))
+        self.assertEqual((model.rows["sum"].rhs, model.rows["sum"].range, model.rows["sum"].limits()), (7, None, Limits(None, None)))
+        self.assertEqual((model.offset, model.columns["a"].entries), (3, {"sum": 4, "R1": 1}))
+        faults = {
+            FREE.replace(" a sum 4", " a sum 4 sum 4"): "ERR 8 MPS 7 M8",
+            FREE.replace(" a sum 4", " a sum 0 sum 4"): "ERR 8 MPS 7 M8",
+            FREE.replace("R1 1 sum 7", "sum 7 sum 7"): "ERR 8 MPS 11 M8",
+            FREE.replace("RNG sum 2", "RNG sum x"): "ERR 8 MPS 14 M9",
+            FREE.replace("RNG sum 2", "RNG cost 2"): "ERR 8 MPS 14 M18",
+            FREE.replace(" N none", " N sum"): "ERR 8 MPS 5 M5",
+            FREE.replace(" N none", "".join(f" N r{n}\n" for n in range(255))[:-1]): "ERR 8 MPS 259 M16",
+        }
+        for text, reply in faults.items():
+            with self.subTest(reply), self.assertRaises(lpd.TextFault) as raised:
+                lpd.read_model(text)
+            self.assertEqual(raised.exception.reply, reply)
+        self.assertEqual(lpd.read_model(FREE.replace("RNG sum 2", "RNG sum 2 sum 3")), model)
 
     def test_certificates_that_do_not_fit(self) -> None:
         cases = {

@@ -13,7 +13,7 @@ from typing import Dict, Optional
 import lpd
 from lpd.conversion import Converted, Options, Question, Unconvertible, convert
 from lpd.dialects import DIALECTS, PROFILE, Inexact, written
-from lpd.model import Model
+from lpd.model import Model, Row
 from lpd.names import Renamed
 
 from .commands import command, reported
@@ -82,11 +82,28 @@ class IntoTheProfile(unittest.TestCase):
 
     def test_objname(self) -> None:
         text = plain("ROWS\n N cost", "OBJNAME\n cost\nROWS\n N other\n N cost")
-        found = self.becomes_plain(text, "row cost is put first, since OBJNAME names it")
+        found = convert(text.encode())
         self.assertEqual(found.text, plain("ROWS\n N cost", "ROWS\n N cost\n N other"))
+        self.assertIn("line 5: row cost is put first, since OBJNAME names it", map(str, found.changes))
+        self.assertEqual((found.model.objective, found.model.free_rows()), ("cost", ["other"]))
         self.becomes_plain(plain("ROWS", "OBJNAME cost\nROWS"), "line 1: OBJNAME is taken out")
         with self.assertRaises(Unconvertible):
             convert(plain("ROWS", "OBJNAME need\nROWS").encode())
+
+    def test_free_rows_are_kept(self) -> None:
+        text = plain(" G need\n", " G need\n n other\n", plain("RHS need 4", "RHS need 4 other -3", plain(" y cost 2", " y other 7\n y cost 2")))
+        found = convert(text.encode())
+        self.assertEqual(found.text, text.replace(" n other", " N other"))
+        self.assertEqual(found.model.rows["other"], Row("N", Fraction(-3)))
+        self.assertEqual((found.model.columns["y"].entries["other"], list(found.model.rows)), (7, ["need", "other"]))
+        again = lpd.read_model(written(found.model, PROFILE).text)
+        self.assertEqual((again.rows, again.columns), (found.model.rows, found.model.columns))
+        ranged = convert(found.text.replace("BOUNDS\n", "RANGES\n RNG other 5 need 2\nBOUNDS\n").encode())
+        self.assertEqual(list(map(str, ranged.changes)), ["line 12: row other is free, so its range counts for nothing"])
+        self.assertEqual([row.range for row in ranged.model.rows.values()], [2, None])
+        with self.assertRaises(lpd.TextFault) as raised:
+            convert(text.replace("other 7", "other 7 other 8").encode())
+        self.assertEqual((raised.exception.line, raised.exception.fault), (7, 8))
 
     def test_lower_case(self) -> None:
         text = plain(" N cost\n G need", " n cost\n g need", plain(" UP", " up"))
@@ -228,6 +245,8 @@ class Dialects(unittest.TestCase):
         for turn in range(200):
             model = some_model(dice)
             text = dialect_of(written(model, PROFILE).text, dice)
+            if "\n N another" in text:
+                model.rows["another"] = Row("N")
             with self.subTest(turn):
                 found = convert(text.encode(), "free")
                 self.assertEqual(found.model, model)
@@ -318,7 +337,8 @@ class ForOthers(unittest.TestCase):
             found = re.search(self.VALUE[name], said)
         if found:
             value = float(Fraction(found[1])) + (float(model.offset) if name == "esolver" else 0)
-            return "OPTIMAL", value
+            # 1e30 is no bound to lp_solve, which now and then calls a point there an optimum.
+            return ("UNBOUNDED", None) if name == "lp_solve" and abs(value) > 1e29 else ("OPTIMAL", value)
         if re.search(self.OPEN.get(name, "status UNBOUNDED"), said):
             return "UNBOUNDED", None
         return ("INFEASIBLE" if re.search(self.NO.get(name, "status INFEASIBLE"), said) else said), None
@@ -367,6 +387,19 @@ class ForOthers(unittest.TestCase):
         out = written(model, DIALECTS["clp"], rounds=True)
         self.assertIn(" x cost 3.3333333333333331e-01\n", out.text)
         self.assertEqual(out.notes, ["rounded to 17 digits: 1/3"])
+
+    def test_free_rows(self) -> None:
+        """None of the programs refuses a text with them, and all leave them out of their models."""
+        model = lpd.read_model(plain(" G need\n", " N first\n G need\n N last\n", plain("RHS need 4", "RHS need 4 last 9", plain(" y cost 2", " y first 1 last 2\n y cost 2"))))
+        for name, dialect in DIALECTS.items():
+            out = written(model, dialect)
+            self.assertIn(" N cost\n N first\n G need\n N last\n", out.text)
+            told = [f"the text has the free rows first, last, and {name} leaves them out of its model"]
+            self.assertEqual(out.notes, told if name != "highs" else [])
+            if shutil.which(name):
+                with tempfile.TemporaryDirectory() as folder:
+                    self.assertEqual(self.said(name, model, Path(folder)), ("OPTIMAL", 5.0))
+        self.assertEqual(written(model, PROFILE).notes, [])
 
     def test_notes(self) -> None:
         text = plain("ROWS", "OBJSENSE MAX\nROWS", plain("RHS need 4", "RHS need 4 cost 2"))

@@ -75,6 +75,7 @@ class Replayed(unittest.TestCase):
             ("1 ERR 12 REPEATED R1", lpd.NameRepeated, "'R1'"),
             ("1 ERR 13 BADNAME", lpd.BadName, "no name"),
             ("1 ERR 14 CERT 2", lpd.CertificateFault, "line 2 of the certificate"),
+            ("1 ERR 16 FREEROW other", lpd.FreeRow, "'other' is a free row"),
             ("1 MEMORY", lpd.OutOfMemory, "out of memory"),
             ("1 ERR 99 NEW", lpd.Unexpected, "ERR 99 NEW"),
             ("1 FINE", lpd.Unexpected, "FINE"),
@@ -85,6 +86,17 @@ class Replayed(unittest.TestCase):
             self.assertIn(words, str(raised.exception))
             if isinstance(raised.exception, lpd.Refused):
                 self.assertEqual(f"1 {raised.exception.reply}", reply)
+
+    def test_a_free_row_takes_no_range(self) -> None:
+        session = self.session("1 OK", "1 ERR 16 FREEROW other", "1 OK", "1 ERR 1 WORD")
+        session.add_row("other", "N", 4)
+        with self.assertRaises(lpd.FreeRow) as raised:
+            session.set_range("other", 2)
+        self.assertEqual((raised.exception.name, raised.exception.reply), ("other", "ERR 16 FREEROW other"))
+        self.assertIn("has no limits, and so no range", str(raised.exception))
+        session.set_range("other", None)
+        with self.assertRaises(lpd.BadCommand):
+            session.add_row("spare", "N", 4, 5)
 
     def test_faults_of_texts_have_words(self) -> None:
         for fault in range(1, 20):
