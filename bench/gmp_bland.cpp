@@ -190,7 +190,7 @@ class Model {
         return *set == name;
     }
 
-    // Rows of type N besides the objective are dropped: they have a name and no place.
+    // Rows of type N besides the objective have a name and no place: they have no limits, so no step depends on them.
     void add_row(char kind, const std::string &name) {
         if (kind == 'N' && objective.empty()) {
             objective = name;

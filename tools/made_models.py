@@ -13,10 +13,15 @@ Number = Fraction
 
 @dataclass
 class Row:
+    """A row, which is a free one where it has no limits."""
+
     name: str
     entries: Dict[str, Number]
     lower: Optional[Number] = None
     upper: Optional[Number] = None
+
+    def is_free(self) -> bool:
+        return self.lower is None and self.upper is None
 
 
 @dataclass
@@ -68,9 +73,9 @@ class Maker:
             item.upper = value if at_upper or self.dice.random() < 0.3 else value + self.some()
 
     def bounded(self, rows):
-        """Each row needs a limit: that of a row without one is far away."""
+        """Gives some of the rows without a limit one that is far away."""
         for row in rows:
-            if row.lower is None and row.upper is None:
+            if row.is_free() and self.dice.random() < 0.5:
                 row.upper = Fraction(10**11)
 
     def multiplier(self) -> Number:
@@ -123,7 +128,7 @@ class Maker:
                 item.lower = item.lower if step(item) >= 0 else None
                 item.upper = item.upper if step(item) <= 0 else None
         for row in rows:
-            if row.lower is None and row.upper is None:
+            if row.is_free() and self.dice.random() < 0.5:
                 away = total(row.entries, r) >= 0
                 row.lower, row.upper = (total(row.entries, x), None) if away else (None, total(row.entries, x))
         for column in columns:
@@ -224,12 +229,9 @@ class Writer:
         self.card("N", "cost")
         for row, kind, _, _ in typed:
             self.card(kind, row.name)
-        free = self.dice.random() < 0.2
-        if free:
-            self.card("N", "other")
         self.section("COLUMNS")
         for column in columns:
-            pairs = [("cost", self.number(column.cost))] + ([("other", "1")] if free else [])
+            pairs = [("cost", self.number(column.cost))]
             pairs += [(row.name, self.number(row.entries[column.name])) for row in rows if column.name in row.entries]
             self.pairs(column.name, pairs)
         sections = [self.sides(typed, offset), self.ranges(typed), self.bounds(columns)]
@@ -241,7 +243,10 @@ class Writer:
         return "".join(f"{line}{ending}" for line in self.lines)
 
     def typed(self, row: Row):
-        """A row's type, right side and range."""
+        """A row's type, right side and range. Those of a free row count for nothing."""
+        if row.is_free():
+            size = Fraction(self.dice.randint(-9, 9))
+            return "N", size, self.dice.choice([None, None, size])
         if row.lower is None:
             return "L", row.upper, None
         if row.upper is None:

@@ -19,14 +19,14 @@ NUMBERS = ["0", "1", "-1", "2", "3", "5", "7", "10", "-4", "0.5", "-2.25", "1/3"
 WIDE = [str(2**127 - 1), str(-(2**127 - 1)), "1e38", "-1e38", "1/170141183460469231731687303715884105727", "0.000000000000000001"]
 WRONG = [str(2**127), "1e39", "1e-40", "1/0", "", "x", "1.", ".", "+", "1e", "--1", "0x10", "nan", "1e20", "-inf", "inf"]
 COMMANDS = """LOAD WRITE BUDGET SOLVE CERT HOW CHECK QUIT ADDROW DELROW ADDCOL DELCOL SETCOST SETCOEF SETRHS SETRANGE SETBOUND SENSE
-FREE FIXED MIN MAX NONE L G E 1 2 8 9 0 65 -1 01 1000000 1000001""".split()
+FREE FIXED MIN MAX NONE L G E N 1 2 8 9 0 65 -1 01 1000000 1000001""".split()
 WORDS = COMMANDS + made_models.WORDS + NUMBERS + WIDE + [word for word in WRONG if word]
 BYTES = bytes(range(256))
 SPECIAL = b"\0\t\n\r \x0b\x0c\x7f\x80\xa0\xff*#'-/.0e"
 ALPHABET = b"0123456789 \t\nLOADFREESOLVECERTHOWCHECKQUITWRITEROWSCOLUMNSRHSENDATAEND xyr.-/e#*\r"
 SEEDS = [path.read_bytes() for path in sorted((TOP / "examples").glob("*.lpd"))]
-# The rows and the columns of a text that made_models has made.
-ROW, COLUMN = re.compile(r"^[ \t]+[LGE][ \t]+(\S+)", re.M), re.compile(r"^[ \t]+([xcv$-]\d)[ \t]", re.M)
+# The rows and the columns of a text that made_models has made, whose objective is named cost.
+ROW, COLUMN = re.compile(r"^[ \t]+[LGEN][ \t]+(?!cost\s)(\S+)", re.M), re.compile(r"^[ \t]+([xcv$-]\d)[ \t]", re.M)
 SOLVE = re.compile(rb"^[ \t]*([1-9]|[1-5][0-9]|6[0-4])[ \t]+SOLVE[ \t]*(?:\r?\n|\Z)", re.M)
 
 
@@ -158,7 +158,7 @@ class Talk:
             lambda: f"SETBOUND {self.column()} {self.dice.choice(['0', '-inf', self.number()])} {self.dice.choice(['inf', self.number()])}",
             lambda: f"SETRANGE {self.row()} {self.dice.choice(['NONE', self.number()])}",
             lambda: f"SENSE {self.dice.choice(['MIN', 'MAX'])}",
-            lambda: f"ADDROW {self.new(self.rows)} {self.dice.choice('LGE')} {self.number()}{self.dice.choice(['', ' ' + self.number()])}",
+            lambda: f"ADDROW {self.new(self.rows)} {self.dice.choice('LLGGEEN')} {self.number()}{self.dice.choice(['', ' ' + self.number()])}",
             lambda: f"DELROW {self.row()}",
             lambda: f"ADDCOL {self.new(self.columns)} {self.number()} {self.row()} {self.number()}",
             lambda: f"DELCOL {self.column()}",

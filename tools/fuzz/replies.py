@@ -16,7 +16,7 @@ REPLIES = [
     rf"HOW {START} PIVOTS (?:\d+|-) {PUBLISHED}", rf"YES (?:{ANSWER})", r"NO [1-5]",
 ]
 # What stands behind the word of an error.
-BEHIND = {5: r" [^ \t]+", 6: r" [^ \t]+", 7: r" (?:ROWS 256|COLUMNS 512)", 8: r" \d+ M\d+", 10: r" [^ \t]+", 12: r" [^ \t]+", 14: r" \d+"}
+BEHIND = {5: r" [^ \t]+", 6: r" [^ \t]+", 7: r" (?:ROWS 256|COLUMNS 512)", 8: r" \d+ M\d+", 10: r" [^ \t]+", 12: r" [^ \t]+", 14: r" \d+", 16: r" [^ \t]+"}
 # Lines of the commands that read a text.
 OF_TEXTS = [
     ANSWER, PAST, r"SPENT \d+", rf"YES (?:{ANSWER})", r"NO [1-5]", r"WARM PIVOTS \d+",
