@@ -61,7 +61,7 @@ pub const OPTIONS: [(&str, &str, &str, &str); 5] = [
         "The text's form, free or fixed; else free",
     ),
     (
-        "Options of solve and check",
+        "Options of solve, check and basis",
         "wide",
         "",
         "Numbers of any width; else of up to 127 bits",

@@ -10,7 +10,7 @@ use Rattle.spec_program.specs.CommandLine.{row_count_of, column_count_of, Row, r
 use Rattle.spec_program.specs.CommandLine.{generate_with, generate_row, serve_row, asked_by, command_line_of}
 use Rattle.spec_program.specs.CommandLine.{served_at, address_of, range_row, by_width, wide_row}
 use Rattle.spec_program.specs.declared.command_line.CommandLine.TheVariants.{Run, Read, Generate, Serve}
-use Rattle.spec_program.specs.declared.command_line.TextCommand.TheVariants.{Solve, SolveWide, Check, CheckWide, Basis, Presolve, Iis}
+use Rattle.spec_program.specs.declared.command_line.TextCommand.TheVariants.{Solve, SolveWide, Check, CheckWide, Basis, BasisWide, Presolve, Iis}
 use Rattle.spec_program.proofs.Fitting.{none_is_not, row_of}
 
 -- ---- a word alone asks for no server
@@ -84,8 +84,9 @@ alone word command e =
         (λ given. reads (by_width Check CheckWide (look_up (codes "--wide") given.options))
         (form_given (look_up (codes "--form") given.options)) command) h
     by false false false true p i a g v h =
-        asked (text_row Basis) [] command
-        (λ given. reads Basis (form_given (look_up (codes "--form") given.options)) command) h
+        asked (wide_row Basis BasisWide) [] command
+        (λ given. reads (by_width Basis BasisWide (look_up (codes "--wide") given.options))
+        (form_given (look_up (codes "--form") given.options)) command) h
     by false false false false true i a g v h =
         asked (text_row Presolve) [] command
         (λ given. reads Presolve (form_given (look_up (codes "--form") given.options)) command) h

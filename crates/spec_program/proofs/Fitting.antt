@@ -18,7 +18,7 @@ use Rattle.spec_program.specs.CommandLine.{by_width, wide_row}
 use Rattle.spec_program.specs.CommandLine.{command_line_of}
 use Rattle.spec_program.specs.declared.command_line.CommandLine.TheVariants.{Run, Read, Generate, Serve}
 use Rattle.spec_program.specs.declared.command_line.Moved.{Moved}
-use Rattle.spec_program.specs.declared.command_line.TextCommand.TheVariants.{Solve, SolveWide, Check, CheckWide, Basis, Presolve, Iis, Range}
+use Rattle.spec_program.specs.declared.command_line.TextCommand.TheVariants.{Solve, SolveWide, Check, CheckWide, Basis, BasisWide, Presolve, Iis, Range}
 use Rattle.spec_program.specs.Fits.{IsWorkers, IsPlaces, IsLinks, Fits}
 
 -- ---- numbers
@@ -203,7 +203,7 @@ row_of r s c b p i a g v =
     cond r (Some run_row)
     (cond s (Some (wide_row Solve SolveWide))
     (cond c (Some (wide_row Check CheckWide))
-    (cond b (Some (text_row Basis))
+    (cond b (Some (wide_row Basis BasisWide))
     (cond p (Some (text_row Presolve))
     (cond i (Some (text_row Iis))
     (cond a (Some range_row) (cond g (Some generate_row) (cond v (Some serve_row) None))))))))
@@ -221,7 +221,7 @@ command-fits (word ∷ words) command e =
     by true s c b p i a g v h = run-fits words command h
     by false true c b p i a g v h = wide-fits Solve SolveWide words command h
     by false false true b p i a g v h = wide-fits Check CheckWide words command h
-    by false false false true p i a g v h = text-fits Basis words command h
+    by false false false true p i a g v h = wide-fits Basis BasisWide words command h
     by false false false false true i a g v h = text-fits Presolve words command h
     by false false false false false true a g v h = text-fits Iis words command h
     by false false false false false false true g v h = range-fits words command h

@@ -13,7 +13,7 @@ use Rattle.spec_program.specs.declared.command_line.CommandLine.TheVariants.{Run
 use Rattle.spec_program.specs.declared.command_line.Moved.{Moved}
 use Rattle.spec_program.specs.declared.command_line.Moved.TheVariants.{Cost, RightSide}
 use Rattle.spec_program.specs.declared.command_line.TextCommand.{TextCommand}
-use Rattle.spec_program.specs.declared.command_line.TextCommand.TheVariants.{Solve, SolveWide, Check, CheckWide, Basis, Presolve, Iis, Range}
+use Rattle.spec_program.specs.declared.command_line.TextCommand.TheVariants.{Solve, SolveWide, Check, CheckWide, Basis, BasisWide, Presolve, Iis, Range}
 use Rattle.spec_server.specs.Command.{number_to}
 
 abbrev pub Word : Type 0
@@ -242,7 +242,7 @@ commands =
     (codes "run", run_row)
     ∷ (codes "solve", wide_row Solve SolveWide)
     ∷ (codes "check", wide_row Check CheckWide)
-    ∷ (codes "basis", text_row Basis)
+    ∷ (codes "basis", wide_row Basis BasisWide)
     ∷ (codes "presolve", text_row Presolve)
     ∷ (codes "iis", text_row Iis)
     ∷ (codes "range", range_row)

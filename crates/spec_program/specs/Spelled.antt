@@ -4,7 +4,7 @@ use denote.Ref.{Bor}
 use Rattle.spec_program.specs.declared.command_line.CommandLine.{CommandLine}
 use Rattle.spec_program.specs.declared.command_line.CommandLine.TheVariants.{Run, Read, Generate, Serve}
 use Rattle.spec_program.specs.declared.command_line.TextCommand.{TextCommand}
-use Rattle.spec_program.specs.declared.command_line.TextCommand.TheVariants.{Solve, SolveWide, Check, CheckWide, Basis, Presolve, Iis, Range}
+use Rattle.spec_program.specs.declared.command_line.TextCommand.TheVariants.{Solve, SolveWide, Check, CheckWide, Basis, BasisWide, Presolve, Iis, Range}
 use Rattle.spec_program.specs.CommandLine.{ExactLine, ExactTextCommand}
 
 abbrev pub spelled_text : TextCommand (Bor (List ℕ)) → ExactTextCommand
@@ -13,6 +13,7 @@ spelled_text SolveWide = SolveWide
 spelled_text Check = Check
 spelled_text CheckWide = CheckWide
 spelled_text Basis = Basis
+spelled_text BasisWide = BasisWide
 spelled_text Presolve = Presolve
 spelled_text Iis = Iis
 spelled_text (Range moved name) = Range moved name.now

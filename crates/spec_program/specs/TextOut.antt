@@ -3,7 +3,7 @@
 use Rattle.std.specs.Prelude.{ℕ, Option, List}
 use Rattle.spec_text.specs.declared.line.Line.{Line}
 use Rattle.spec_mps.specs.declared.style.Style.{Style}
-use Rattle.spec_program.specs.declared.command_line.TextCommand.TheVariants.{Solve, SolveWide, Check, CheckWide, Basis, Presolve, Iis, Range}
+use Rattle.spec_program.specs.declared.command_line.TextCommand.TheVariants.{Solve, SolveWide, Check, CheckWide, Basis, BasisWide, Presolve, Iis, Range}
 use Rattle.spec_program.specs.CommandLine.{ExactTextCommand}
 use Rattle.spec_program.specs.PresolveOut.{PresolveOut, presolve_code}
 use Rattle.spec_program.specs.IisOut.{IisOut, iis_code}
@@ -14,6 +14,7 @@ use Rattle.spec_server.specs.CheckWideOut.{wide_said, WideCheckOut}
 use Rattle.spec_server.specs.SolveOut.{TextSaid, text_said, SolveOut, solve_code}
 use Rattle.spec_server.specs.SolveWideOut.{SolveWideOut}
 use Rattle.spec_server.specs.BasisOut.{BasisSaid, basis_said, BasisOut, basis_code}
+use Rattle.spec_server.specs.BasisWideOut.{BasisWideOut}
 
 -- what is said
 abbrev pub SaidBy : ExactTextCommand → Type 0
@@ -22,6 +23,7 @@ SaidBy SolveWide = TextSaid
 SaidBy Check = ExactReply
 SaidBy CheckWide = ExactReply
 SaidBy Basis = BasisSaid
+SaidBy BasisWide = BasisSaid
 SaidBy Presolve = TextSaid
 SaidBy Iis = TextSaid
 SaidBy (Range moved name) = TextSaid
@@ -33,6 +35,7 @@ said_of SolveWide style lines = text_said style lines
 said_of Check style lines = said style lines
 said_of CheckWide style lines = wide_said style lines
 said_of Basis style lines = basis_said style lines
+said_of BasisWide style lines = basis_said style lines
 said_of Presolve style lines = text_said style lines
 said_of Iis style lines = text_said style lines
 said_of (Range moved name) style lines = text_said style lines
@@ -44,6 +47,7 @@ MayWrite SolveWide what written = SolveWideOut what written
 MayWrite Check what written = CheckOut what written
 MayWrite CheckWide what written = WideCheckOut what written
 MayWrite Basis what written = BasisOut what written
+MayWrite BasisWide what written = BasisWideOut what written
 MayWrite Presolve what written = PresolveOut what written
 MayWrite Iis what written = IisOut what written
 MayWrite (Range moved name) what written = RangeOut moved name what written
@@ -55,6 +59,7 @@ code_of SolveWide what = solve_code what
 code_of Check what = check_code what
 code_of CheckWide what = check_code what
 code_of Basis what = basis_code what
+code_of BasisWide what = basis_code what
 code_of Presolve what = presolve_code what
 code_of Iis what = iis_code what
 code_of (Range moved name) what = range_code moved name what

@@ -23,6 +23,8 @@ pub enum TextCommand<N> {
     CheckWide,
     /// To solve the model from the basis of the file after the text.
     Basis,
+    /// The same, with a certificate whose numbers may have any width where the solve is refused an operation.
+    BasisWide,
     /// To solve the model by a smaller one.
     Presolve,
     /// To solve the model and, where it has no feasible point, to find limits that contradict each other.
