@@ -50,7 +50,7 @@ begins_spells style lines m behind t =
     ap (text.judge style start 1) (t.cut ∙ sym (append_assoc t.front (t.last ∷ []) behind))
     ∙ spelled_more style start 1 (t.front ++ t.last ∷ []) behind m t.spelled
 
-handed_spells : (style : Style) (lines : List (Line (List ℕ))) (handed : Handed) →
+pub handed_spells : (style : Style) (lines : List (Line (List ℕ))) (handed : Handed) →
     basis_said style lines ≡ Some (Ok handed) → text.Spells style lines handed.model
 handed_spells style lines handed is =
     let h = said_handed style lines handed is in begins_spells style lines handed.model h.behind h.text
@@ -73,7 +73,7 @@ basis_begins m solved =
     ∙ append_assoc (answer ++ 10 ∷ []) (route_line solved) (certificate ++ final)
     ∙ append_assoc answer (10 ∷ []) (route_line solved ++ (certificate ++ final))
 
-out_answered : (handed : Handed) (written : List ℕ) → BasisOut (Ok handed) written → IsAnswered handed.model written
+pub out_answered : (handed : Handed) (written : List ℕ) → BasisOut (Ok handed) written → IsAnswered handed.model written
 out_answered handed written out =
     record {
       answer = answer_of opening_budget out.0.end;
@@ -88,7 +88,7 @@ unfolding basis_fault_line check_line reply_text
 fault_first (fault.Text why) = refl
 fault_first (fault.File why) = refl
 
-no_fault : (why : BasisFault) (written : List ℕ) (letter : ℕ) → nat_eq 69 letter ≡ false →
+pub no_fault : (why : BasisFault) (written : List ℕ) (letter : ℕ) → nat_eq 69 letter ≡ false →
     written ≡ basis_fault_line why → first written ≡ letter → ⊥
 no_fault why written letter h is e = apart 69 letter h (sym (ap first is ∙ fault_first why) ∙ e)
 

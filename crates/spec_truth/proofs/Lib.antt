@@ -9,6 +9,7 @@ pub mod SolvedTexts
 pub mod WideTexts
 pub mod BasisLemmas
 pub mod BasisTexts
+pub mod WideBasisTexts
 pub mod AcceptedTexts
 pub mod GeneratedModels
 pub mod ReplyLines

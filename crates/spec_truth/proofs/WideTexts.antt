@@ -29,17 +29,24 @@ use Rattle.spec_truth.proofs.SolvedTexts.{IsAnswered, out_answered, same_said}
 
 -- ---- an answer with numbers of any width
 
-record IsWideAnswered (m : Model) (written : List ℕ) : Type 0 where
-  what : Known ℚ
-  behind : List ℕ
-  line : written ≡ wide_known_text what ++ 10 ∷ behind
-  holds : Holds m what
+pub record IsWideAnswered (m : Model) (written : List ℕ) : Type 0 where
+  pub what : Known ℚ
+  pub behind : List ℕ
+  pub line : written ≡ wide_known_text what ++ 10 ∷ behind
+  pub holds : Holds m what
 
-wide_begins : (what : Known ℚ) (behind : List ℕ) → wide_known_line what ++ behind ≡ wide_known_text what ++ 10 ∷ behind
+wide_answered : (m : Model) (what : Known ℚ) (behind written : List ℕ) → written ≡ wide_known_line what ++ behind →
+    Holds m what → IsWideAnswered m written
 unfolding wide_known_line
-wide_begins what behind = append_assoc (wide_known_text what) (10 ∷ []) behind
+wide_answered m what behind written e h =
+    record {
+      what = what;
+      behind = behind;
+      line = e ∙ append_assoc (wide_known_text what) (10 ∷ []) behind;
+      holds = h;
+    }
 
-abbrev IsRead : Model → List ℕ → Type 0
+abbrev pub IsRead : Model → List ℕ → Type 0
 IsRead m text =
     (v : ℚ) × (text ≡ wide_text v) × (length text ≤ most_zeros → wide_of text ≡ Is v) × IsOptimal m v
 
@@ -80,53 +87,65 @@ narrow_optimal m (answer.Spent budget) text x y s k e = absurd (apart 83 79 refl
 
 -- ---- either answer
 
-abbrev IsEither : Model → List ℕ → Type 0
+abbrev pub IsEither : Model → List ℕ → Type 0
 IsEither m written = IsAnswered m written ⊎ IsWideAnswered m written
 
-out_either : (m : Model) (written : List ℕ) → SolveWideOut (Ok m) written → IsEither m written
-out_either m written out = by (out_true m written out)
+-- an answer of 127 bits, or the line of a true answer with what is behind it
+pub either_of : (m : Model) (written : List ℕ) →
+    IsAnswered m written ⊎ ((known : Known ℚ) × (behind : List ℕ)
+    × (written ≡ wide_known_line known ++ behind) × Holds m known) → IsEither m written
+either_of m written (inl r) = inl r
+either_of m written (inr r) = inr (wide_answered m r.0 r.1 written r.2 r.3)
+
+module _ (m : Model) (written : List ℕ) where
+  pub either_optimal : (text behind : List ℕ) → IsEither m written → HasNoFeed text →
+      written ≡ codes "OPTIMAL " ++ text ++ 10 ∷ behind → IsRead m text
+  either_optimal text behind (inl r) no_feed e =
+      narrow_optimal m r.answer text r.behind behind r.shown no_feed (sym r.line ∙ e)
+  either_optimal text behind (inr r) no_feed e =
+      wide_optimal m r.what text r.behind behind r.holds no_feed (sym r.line ∙ e)
+
+  pub either_infeasible : (behind : List ℕ) → IsEither m written → written ≡ codes "INFEASIBLE" ++ 10 ∷ behind →
+      IsInfeasible m
+  either_infeasible behind (inl r) e = infeasible_line m r.answer r.behind behind r.shown (sym r.line ∙ e)
+  either_infeasible behind (inr r) e = wide_infeasible m r.what r.behind behind r.holds (sym r.line ∙ e)
+
+  pub either_unbounded : (behind : List ℕ) → IsEither m written → written ≡ codes "UNBOUNDED" ++ 10 ∷ behind →
+      IsUnbounded m
+  either_unbounded behind (inl r) e = unbounded_line m r.answer r.behind behind r.shown (sym r.line ∙ e)
+  either_unbounded behind (inr r) e = wide_unbounded m r.what r.behind behind r.holds (sym r.line ∙ e)
+
+-- ---- the laws
+
+by_either : (m : Model) (written : List ℕ) → SolveWideOut (Ok m) written → IsEither m written
+by_either m written out = by (out_true m written out)
   where
-    by : SolveOut (Ok m) written ⊎ ((what : Known ℚ) × (behind : List ℕ)
-        × (written ≡ wide_known_line what ++ behind) × Holds m what) → IsEither m written
-    by (inl narrow) = inl (out_answered m written narrow)
-    by (inr (what, behind, e, h)) =
-        inr (record { what = what; behind = behind; line = e ∙ wide_begins what behind; holds = h })
+    by : SolveOut (Ok m) written ⊎ ((known : Known ℚ) × (behind : List ℕ)
+        × (written ≡ wide_known_line known ++ behind) × Holds m known) → IsEither m written
+    by (inl narrow) = either_of m written (inl (out_answered m written narrow))
+    by (inr wide) = either_of m written (inr wide)
 
 either : (style : Style) (lines : List (Line (List ℕ))) (m : Model) (what : TextSaid) (written : List ℕ) →
     text_said style lines ≡ Some what → SolveWideOut what written → Spells style lines m → IsEither m written
 either style lines m what written is out spells =
     let same : what ≡ Ok m = same_said what (Ok m) (sym is ∙ spelled_said style lines m spells) in
-    out_either m written (subst (λ (w : TextSaid). SolveWideOut w written) same out)
-
--- ---- the laws
+    by_either m written (subst (λ (w : TextSaid). SolveWideOut w written) same out)
 
 pub optimal_begins : (style : Style) (lines : List (Line (List ℕ))) (m : Model) (what : TextSaid) (written : List ℕ) →
     text_said style lines ≡ Some what → SolveWideOut what written → Spells style lines m →
     (text behind : List ℕ) → HasNoFeed text → written ≡ codes "OPTIMAL " ++ text ++ 10 ∷ behind →
     (v : ℚ) × (text ≡ wide_text v) × (length text ≤ most_zeros → wide_of text ≡ Is v) × IsOptimal m v
-optimal_begins style lines m what written is out spells text behind no_feed e =
-    by (either style lines m what written is out spells)
-  where
-    by : IsEither m written → IsRead m text
-    by (inl r) = narrow_optimal m r.answer text r.behind behind r.shown no_feed (sym r.line ∙ e)
-    by (inr r) = wide_optimal m r.what text r.behind behind r.holds no_feed (sym r.line ∙ e)
+optimal_begins style lines m what written is out spells text behind =
+    either_optimal m written text behind (either style lines m what written is out spells)
 
 pub infeasible_begins : (style : Style) (lines : List (Line (List ℕ))) (m : Model) (what : TextSaid)
     (written : List ℕ) → text_said style lines ≡ Some what → SolveWideOut what written → Spells style lines m →
     (behind : List ℕ) → written ≡ codes "INFEASIBLE" ++ 10 ∷ behind → IsInfeasible m
-infeasible_begins style lines m what written is out spells behind e =
-    by (either style lines m what written is out spells)
-  where
-    by : IsEither m written → IsInfeasible m
-    by (inl r) = infeasible_line m r.answer r.behind behind r.shown (sym r.line ∙ e)
-    by (inr r) = wide_infeasible m r.what r.behind behind r.holds (sym r.line ∙ e)
+infeasible_begins style lines m what written is out spells behind =
+    either_infeasible m written behind (either style lines m what written is out spells)
 
 pub unbounded_begins : (style : Style) (lines : List (Line (List ℕ))) (m : Model) (what : TextSaid) (written : List ℕ) →
     text_said style lines ≡ Some what → SolveWideOut what written → Spells style lines m →
     (behind : List ℕ) → written ≡ codes "UNBOUNDED" ++ 10 ∷ behind → IsUnbounded m
-unbounded_begins style lines m what written is out spells behind e =
-    by (either style lines m what written is out spells)
-  where
-    by : IsEither m written → IsUnbounded m
-    by (inl r) = unbounded_line m r.answer r.behind behind r.shown (sym r.line ∙ e)
-    by (inr r) = wide_unbounded m r.what r.behind behind r.holds (sym r.line ∙ e)
+unbounded_begins style lines m what written is out spells behind =
+    either_unbounded m written behind (either style lines m what written is out spells)

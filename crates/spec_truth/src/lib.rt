@@ -59,6 +59,7 @@ ghost use Rattle.spec_server.specs.CheckWideOut.{wide_said, wide_check_line};
 ghost use Rattle.spec_server.specs.SolveOut.{TextSaid, text_said, SolveOut};
 ghost use Rattle.spec_server.specs.SolveWideOut.{SolveWideOut};
 ghost use Rattle.spec_server.specs.BasisOut.{Handed, BasisSaid, basis_said, BasisOut};
+ghost use Rattle.spec_server.specs.BasisWideOut.{BasisWideOut};
 ghost use Rattle.spec_program.specs.declared.command_line.Moved.{Moved};
 ghost use Rattle.spec_program.specs.GenOut.{entry_count, size_text, GenOut};
 ghost use Rattle.spec_program.specs.IisOut.{IisOut};
@@ -212,6 +213,25 @@ pub fn answers_from_bases_are_true()
         (m : Model) × Spells style lines m × IsInfeasible m }
     ensures unbounded { (style : Style) (lines : List (Line (List ℕ))) (what : BasisSaid) (written : List ℕ) →
         basis_said style lines ≡ Some what → BasisOut what written →
+        (behind : List ℕ) → written ≡ codes "UNBOUNDED" ++ 10 ∷ behind →
+        (m : Model) × Spells style lines m × IsUnbounded m }
+{}
+
+/// What `basis --wide` writes of a text and the basis file behind it is true of the model that the text spells, as its first
+/// line alone says it: behind `OPTIMAL` stands the text of the optimal value, and it is read as this value, however wide,
+/// where it is no longer than a power of ten may have zeros.
+pub fn answers_from_bases_are_true_at_any_width()
+    ensures optimal { (style : Style) (lines : List (Line (List ℕ))) (what : BasisSaid) (written : List ℕ) →
+        basis_said style lines ≡ Some what → BasisWideOut what written →
+        (text behind : List ℕ) → All (λ b. b ≢ 10) text → written ≡ codes "OPTIMAL " ++ text ++ 10 ∷ behind →
+        (v : ℚ) × (text ≡ wide_text v) × (length text ≤ most_zeros → wide_of text ≡ wide.Is v)
+        × ((m : Model) × Spells style lines m × IsOptimal m v) }
+    ensures infeasible { (style : Style) (lines : List (Line (List ℕ))) (what : BasisSaid) (written : List ℕ) →
+        basis_said style lines ≡ Some what → BasisWideOut what written →
+        (behind : List ℕ) → written ≡ codes "INFEASIBLE" ++ 10 ∷ behind →
+        (m : Model) × Spells style lines m × IsInfeasible m }
+    ensures unbounded { (style : Style) (lines : List (Line (List ℕ))) (what : BasisSaid) (written : List ℕ) →
+        basis_said style lines ≡ Some what → BasisWideOut what written →
         (behind : List ℕ) → written ≡ codes "UNBOUNDED" ++ 10 ∷ behind →
         (m : Model) × Spells style lines m × IsUnbounded m }
 {}
