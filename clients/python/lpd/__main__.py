@@ -22,6 +22,7 @@ from .dialects import Inexact
 from .exact import OutOfTime
 from .lp_format import Unreadable
 from .number_text import NotANumber
+from .objective import NoObjective
 from .plotting import NoPicture
 from .version import ShowVersion
 
@@ -73,7 +74,7 @@ def status_of_error(error: Exception) -> int:
     tell(f"lpd: {error}")
     if isinstance(error, OutOfTime):
         return 13
-    return 9 if isinstance(error, (Unconvertible, Inexact, Unreadable)) else 3
+    return 9 if isinstance(error, (Unconvertible, Inexact, NoObjective, Unreadable)) else 3
 
 
 def main(arguments: Optional[List[str]] = None) -> int:

@@ -186,6 +186,13 @@ class Session:
         """Sets both bounds; None is no bound."""
         self.edit("SETBOUND", column, "-inf" if lower is None else number_word(lower), "inf" if upper is None else number_word(upper))
 
+    def set_objective(self, row: str) -> None:
+        """Gives the objective the numbers of a free row, in place of its own: the row's coefficients as costs, and the negative of
+        its right side as the offset. The objective keeps its name, and the row stays."""
+        from .objective import edit
+
+        edit(self, read_model(self.write()), row)
+
     def set_sense(self, maximize: bool) -> None:
         self.edit("SENSE", "MAX" if maximize else "MIN")
 

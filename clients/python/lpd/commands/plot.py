@@ -20,7 +20,7 @@ def number_word(word: str) -> Fraction:
 
 def add(commands: "argparse._SubParsersAction[argparse.ArgumentParser]") -> None:
     plot = commands.add_parser("plot", help="draws a model of two columns, or the optimum over one number, as SVG")
-    plot.set_defaults(run=run, max=False, min=False, budget=None, presolve=False, wide=False)
+    plot.set_defaults(run=run, max=False, min=False, objective=None, budget=None, presolve=False, wide=False)
     plot.add_argument("model", help="a file of a model, as for solve")
     plot.add_argument("--form", choices=["free", "fixed"], help="the form of the text (free; with --convert or --relax the one that fits)")
     plot.add_argument("--convert", action="store_true", help="converts the text from other dialects first, as the command convert does")
@@ -43,7 +43,7 @@ def around(model: Model, words: argparse.Namespace) -> "tuple[Fraction, Fraction
 
 
 def run(words: argparse.Namespace) -> int:
-    _, model, _ = loaded(words)
+    model = loaded(words).model
     if words.rhs is None and words.cost is None:
         if words.low is not None or words.high is not None:
             raise NoPicture("--from and --to are of a number: name it by --rhs ROW or --cost COLUMN")

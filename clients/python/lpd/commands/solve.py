@@ -6,7 +6,7 @@ import json
 import sys
 from dataclasses import replace
 from fractions import Fraction
-from typing import Dict, List, Optional, Tuple
+from typing import Dict, List, NamedTuple, Optional
 
 from .. import errors
 from ..conversion import Question, convert
@@ -14,6 +14,7 @@ from ..dialects import PROFILE, written
 from ..floating import CHOICES
 from ..model import Model, read_model
 from ..number_text import rounded, shown
+from ..objective import Aim
 from ..page import write_page
 from ..ranging import COST, RHS, Ranges
 from ..reading import is_lp, read_model_file
@@ -24,6 +25,7 @@ from ..ways import SECONDS, Answered, Effort, answered
 from .common import add_options, add_presolve, as_text, budget, converted, csv_line, decimals, number_in, options_of, put_beside, seconds, skipped_words
 from .common import PYTHON_ALONE, status_of, table, tell, with_decimals
 from .conflicts import add_iis, found_limits, limits_in_json, print_list, print_sentences
+from .objectives import add_objective, asked_aim, objective_cells, objective_in_json, sentences
 from .range_tables import add_ranges, asked_ranges, csv_cells, draw, number_named, print_ranges, ranges_in_json
 
 SHOWN = ["all", "point", "rows", "prices", "answer"]
@@ -38,6 +40,7 @@ def add(commands: "argparse._SubParsersAction[argparse.ArgumentParser]") -> None
     sense = solve.add_mutually_exclusive_group()
     sense.add_argument("--max", action="store_true", help="maximizes, whatever the text says")
     sense.add_argument("--min", action="store_true", help="minimizes, whatever the text says")
+    add_objective(solve)
     own = solve.add_mutually_exclusive_group()
     own.add_argument("--budget", type=budget, metavar="N", help="makes at most N pivots and flips, up to 1000000 (10000)")
     add_presolve(own)
@@ -149,15 +152,17 @@ def as_json(found: Answered, model: Model, point: Optional[Report], show: str, p
     return json.dumps({**told, **more, "certificate": found.certificate, "lpd": version()}, indent=2)
 
 
-def as_csv(answer: Answer, point: Optional[Report], show: str, places: Optional[int], ranges: Optional[Ranges]) -> str:
-    """A line for the answer, one for each column (value, reduced cost), and one for each row (sum, price, slack); of ranges also the
-    cost, or the right side, and the ends of its range."""
+def as_csv(found: Answered, aim: Optional[Aim], point: Optional[Report], show: str, places: Optional[int], ranges: Optional[Ranges]) -> str:
+    """A line for the answer, one for an objective that is not solved for, one for each column (value, reduced cost), and one for each
+    row (sum, price, slack); of ranges also the cost, or the right side, and the ends of its range."""
+    answer = found.answer
 
     def cell(value: Optional[Fraction], shows: bool = True) -> str:
         return "" if value is None or not shows else shown(value) if places is None else rounded(value, places)
 
     lines = [["kind", "name", "value", "price", "slack"]]
     lines.append(["answer", str(answer).split(" ")[0], cell(answer.value if isinstance(answer, Optimal) else None), "", ""])
+    lines += [objective_cells(aim, found, places)] if aim else []
     is_whole = show != "prices"
     if point and show in ("all", "point", "prices"):
         lines += [["column", c.name, cell(c.value, is_whole), cell(c.reduced_cost), ""] for c in point.columns]
@@ -166,7 +171,8 @@ def as_csv(answer: Answer, point: Optional[Report], show: str, places: Optional[
     if ranges:
         lines[0] += ["now", "low", "high"]
         for line in lines[1:]:
-            line += csv_cells(ranges, COST if line[0] == "column" else RHS, line[1], places) if line[0] != "answer" else ["", "", ""]
+            what = {"column": COST, "row": RHS}.get(line[0])
+            line += csv_cells(ranges, what, line[1], places) if what else ["", "", ""]
     return "\n".join(csv_line(line) for line in lines)
 
 
@@ -181,8 +187,18 @@ def can_be_converted(words: argparse.Namespace, data: bytes) -> bool:
     return True
 
 
-def loaded(words: argparse.Namespace) -> Tuple[str, Model, bool]:
-    """The text in free form, its model, and whether the text is another than that of the file."""
+class Loaded(NamedTuple):
+    """A text in free form, its model, whether the text is another than that of the file, and the other objective that it was
+    given, if it was."""
+
+    text: str
+    model: Model
+    is_other: bool
+    aim: Optional[Aim]
+
+
+def loaded(words: argparse.Namespace) -> Loaded:
+    """What is to be solved."""
     data = read_model_file(words.model)
     if words.convert or words.relax:
         found = converted(words, data, replace(options_of(words), wide=True))
@@ -198,11 +214,13 @@ def loaded(words: argparse.Namespace) -> Tuple[str, Model, bool]:
         is_other = words.form == "fixed" or is_lp(words.model)
     if words.max or words.min:
         model, is_other = replace(model, sense=-1 if words.max else 1), True
-    return (written(model, PROFILE).text if is_other else text), model, is_other
+    text = written(model, PROFILE).text if is_other else text
+    aim = asked_aim(words, text, model)
+    return Loaded(text, model, is_other, None) if aim is None else Loaded(aim.text, aim.model, True, aim)
 
 
 def run(words: argparse.Namespace) -> int:
-    text, model, is_other = loaded(words)
+    text, model, is_other, aim = loaded(words)
     number = number_named(model, words.plot) if words.plot else None
     found = answered(text, model, effort_of(words))
     if words.output:
@@ -217,10 +235,10 @@ def run(words: argparse.Namespace) -> int:
         if words.csv and words.iis:
             tell("lpd: there is no list: --iis is for text and --json, and CSV has no cells for it")
         ranges = asked_ranges(words, text, found.answer)
-        is_json = as_json(found, model, point, words.show, words.decimals, more_in_json(words, text, found, ranges)) if words.json else ""
-        print(is_json or as_csv(found.answer, point, words.show, words.decimals, ranges))
+        is_json = as_json(found, model, point, words.show, words.decimals, more_in_json(words, text, found, ranges, aim)) if words.json else ""
+        print(is_json or as_csv(found, aim, point, words.show, words.decimals, ranges))
     else:
-        print_answer(words, found, model, point, skipped)
+        print_answer(words, found, model, point, skipped, aim)
         sys.stdout.flush()
         print_more(words, text, found)
         print(f"\nlpd {version()}")
@@ -229,9 +247,11 @@ def run(words: argparse.Namespace) -> int:
     return status_of(found.answer) if found.is_proved or not found.certificate else PYTHON_ALONE
 
 
-def more_in_json(words: argparse.Namespace, text: str, found: Answered, ranges: Optional[Ranges]) -> Dict[str, object]:
+def more_in_json(words: argparse.Namespace, text: str, found: Answered, ranges: Optional[Ranges], aim: Optional[Aim]) -> Dict[str, object]:
     """The members that are asked for by name: null where they are not known."""
     more: Dict[str, object] = {"ranges": ranges_in_json(ranges, words.decimals)} if words.ranges else {}
+    if aim:
+        more["objective"] = objective_in_json(aim, found, words.decimals)
     if words.iis:
         more["iis"] = limits_in_json(found_limits(words, text, found.answer), words.decimals)
     return more
@@ -250,10 +270,11 @@ def print_more(words: argparse.Namespace, text: str, found: Answered) -> None:
             print_list(limits, words.decimals)
 
 
-def print_answer(words: argparse.Namespace, found: Answered, model: Model, point: Optional[Report], skipped: str) -> None:
+def print_answer(words: argparse.Namespace, found: Answered, model: Model, point: Optional[Report], skipped: str, aim: Optional[Aim]) -> None:
     """The answer as people read it: first what was not read, and how the answer came where that was not lpd solve alone."""
     lines = [skipped] if skipped else []
     lines.append(shown_answer(found.answer, words.decimals))
+    lines += sentences(aim, found, words.decimals, bool(words.output)) if aim else []
     if not found.is_by_lpd and found.certificate:
         lines.append(found.told())
     print("\n".join(lines))
