@@ -82,6 +82,8 @@ FAULTS = [
     free(8, 9, " x r 1 r 1"), free(8, 10, " x r 0"), free(8, 13, " RHS r 4 r 4"),
     free(8, 15, " RNG r 1", " RNG r 1", at=16),
     free(8, 9, " x cost 0 cost 0"), free(8, 13, " RHS cost 1 cost 1"), fixed(8, 10, "    x         r         0"),
+    free(8, 11, " y other 1 other 2"), free(8, 13, " RHS other 1 other 2"),
+    fixed(8, 11, "    y         other     0              other     1"),
     free(9, 9, " x cost 1x"), free(9, 9, " x cost 1/0"), free(9, 9, " x cost ."), free(9, 9, " x cost 1e"),
     free(9, 9, " x cost inf"),
     free(9, 11, " y other one"), free(9, 17, " UP BND x infinit"), fixed(9, 9, "    x         cost      1 2"),
@@ -136,7 +138,8 @@ SECTIONS = """OBJSENSE; MAX|OBJSENSE;MAX|OBJSENSE;\tMAX  |OBJSENSE;    MAXIMIZE|
 OBJSENSE;;* c; MIN|OBJSENSE;OBJSENSE|OBJSENSE;NAME x; MAX|NAME a; MAX""".replace("\n", "|").split("|")
 SIDES = """RHS; r 4; RHS r 5|RHS; RHS r 4; r 5; B r 9|RHS; r 4 cost 2|RHS; r 4 cost 2 1 1|RHS; r|RHS; r other 1
 RHS; a r 4 other 5; a other 5 other 7|RANGES; R other 4; R other 5; Q zz zz|RANGES; R r 0|RANGES; cost 1|RHS; zz r x
-RHS; RHS r 4; RHS2 zz qq|RHS; zz r 4; r 5""".replace("\n", "|").split("|")
+RHS; RHS r 4; RHS2 zz qq|RHS; zz r 4; r 5
+RHS; other 9 r 4|RANGES; R other 4 other 5|RANGES; R other x""".replace("\n", "|").split("|")
 BOUNDS = """ UP x -1| UP x -1; UP x 1| LO x 0; UP x -1| MI x; UP x -1| UP x -1e-3; LO x -5| UP x -1e20| UP x 1e20
  LO x -1e20| LO x 100000000000000000000| LO x 99999999999999999999.9| UP x 1/1| UP x 200000000000000000000/2
  UP x 1e99999999999999999999| UP x -1e99999999999999999999| LO x 1e-99999| UP x INF| UP x +InFiNiTy| UP x -0| PL x
@@ -149,7 +152,7 @@ FIXED_ROWS = [" N  c", " N  c   d", " N c", " N  cost", " L", " L  q           q
 CERTIFICATES = """|OPTIMAL|OPTIMAL;END\r| OPTIMAL\t;\tEND ;|OPTIMAL x;END;|OPTIMAL;END x;|CLASH x;x x 1;END;|CLASH;END;
 OPTIMAL;y cost 1;END;|OPTIMAL;y other 1;END;|OPTIMAL;r x 1;END;|OPTIMAL;x x 1;x x 2;x q 1;END;|OPTIMAL;x x 1e;END;
 OPTIMAL;x x inf;END;|;OPTIMAL;END;|INFEASIBLE;x x 1;END;|OPTIMAL;x x 1;* c;END;|OPTIMAL;x x 1;;END;|optimal;END;
-UNBOUNDED;END;|CLASH q;END;|CLASH x y;END;
+UNBOUNDED;END;|CLASH q;END;|CLASH x y;END;|OPTIMAL;x x 3;y other -1;END;|INFEASIBLE;y other 1;y r -1;END;
 INFEASIBLE;END;|OPTIMAL;END;END;|OPTIMAL;x x 1 1;END;|OPTIMAL;x;END;|OPTIMAL;x q 1;x x 1e;END;
 UNBOUNDED;r x 1;x x -1;END;""".replace("\n", "|").split("|")
 FIXED_SMALL = """ROWS

@@ -70,10 +70,9 @@ class ModelReader {
     this.section = "";
     this.seen = new Set();
     this.model = { name: "", maximize: null, objective: null, offset: ZERO, rows: [], columns: [] };
-    /** By name: a row's place, or -1 for the objective and -2 for a dropped row. */
+    /** By name: a row's place, or -1 for the objective. */
     this.rows = new Map();
     this.columns = new Map();
-    this.rowsTaken = 0;
     /** Of each section with sets the set that is used. */
     this.sets = {};
     /** Of each section the rows that have a number there; of COLUMNS those of the last column. */
@@ -142,18 +141,18 @@ class ModelReader {
 
   takeRow(words) {
     const [type, name] = this.shaped(words, [1, 2], []);
-    wrongUnless(["N", "L", "G", "E"].includes(type), 4, type);
+    wrongUnless([FREE, "L", "G", "E"].includes(type), 4, type);
     wrongUnless(isName(name) && name !== MARKER, 17, name);
     wrongUnless(!this.rows.has(name), 5, name);
-    if (type === "N" && this.model.objective === null) {
+    const { rows } = this.model;
+    if (type === FREE && this.model.objective === null) {
       this.model.objective = name;
       this.rows.set(name, OBJECTIVE);
       return;
     }
-    wrongUnless(this.rowsTaken < MOST_ROWS, 16, name);
-    this.rowsTaken += 1;
-    this.rows.set(name, type === "N" ? DROPPED : this.model.rows.length);
-    if (type !== "N") this.model.rows.push({ name, type, side: ZERO, range: null, entries: [], line: this.line });
+    wrongUnless(rows.length < MOST_ROWS, 16, name);
+    this.rows.set(name, rows.length);
+    rows.push({ name, type, side: ZERO, range: null, entries: [], line: this.line });
   }
 
   takeColumn(words) {
@@ -209,7 +208,7 @@ class ModelReader {
       wrongUnless(row !== undefined, 6, words[at]);
       wrongUnless(row !== OBJECTIVE || this.section !== "RANGES", 18, words[at]);
       const { value } = this.numberOf(readNumber(words[at + 1]), words[at + 1]);
-      if (row === DROPPED) continue;
+      if (this.section === "RANGES" && this.model.rows[row].type === FREE) continue;
       const given = this.given[this.section];
       wrongUnless(!given.has(row), 8, words[at]);
       given.add(row);
@@ -274,7 +273,9 @@ class ModelReader {
   }
 }
 
-const OBJECTIVE = -1, DROPPED = -2;
+const OBJECTIVE = -1;
+/** The type of the objective, and of a row without limits. */
+const FREE = "N";
 
 /** The model that a text spells, with the place behind its ENDATA, or its fault. */
 function readModel(bytes, fixed, wide, progress = () => {}) {
@@ -296,6 +297,7 @@ function readModel(bytes, fixed, wide, progress = () => {}) {
 /** What a row's sum lies between; null is no limit. */
 function limitsOf(row) {
   const { type, side, range } = row;
+  if (type === FREE) return { lower: null, upper: null };
   if (range === null) return { lower: type === "L" ? null : side, upper: type === "G" ? null : side };
   const width = range.n < 0n ? negative(range) : range;
   if (type === "L") return { lower: minus(side, width), upper: side };

@@ -7,9 +7,11 @@ const BAR = { height: 24, name: 150, from: 160, to: 480, weight: 500, width: 740
 /** Where limits stand in a bar, from 0 to 1. */
 const LOWER_AT = 0.15, UPPER_AT = 0.85;
 
-/** Where a row's sum stands in its bar. On which side of a limit it is drawn is decided exactly. */
+/** Where a row's sum stands in its bar: in the middle of that of a free row. On which side of a limit it is drawn is decided
+ * exactly. */
 function placeOf(row) {
   const { lower, upper, sum } = row;
+  if (lower === null && upper === null) return (LOWER_AT + UPPER_AT) / 2;
   const value = near(sum);
   const range = lower !== null && upper !== null ? near(upper) - near(lower) : 0;
   const scale = range > 0 ? range : 1.5 * Math.max(Math.abs(value), Math.abs(near(lower ?? upper)), 1);
