@@ -23,7 +23,7 @@ sys.path.insert(0, str(TOP / "clients" / "python"))
 
 # The package of this repository.
 from lpd.conversion import convert  # noqa: E402
-from lpd.dialects import DIALECTS, written  # noqa: E402
+from lpd.dialects import DIALECTS, without_free_rows, written  # noqa: E402
 from lpd.model import Column, Model, Row  # noqa: E402
 from lpd.number_text import shown  # noqa: E402
 
@@ -56,6 +56,12 @@ def changed(old, new, text=PLAIN):
 def ranged(kind, value):
     """x is as small as a row with this range allows."""
     return f"NAME t{{free}}\nROWS\n N cost\n {kind} need\nCOLUMNS\n x cost 1 need 1\nRHS\n RHS need 4\nRANGES\n RNG need {value}\nENDATA\n"
+
+
+def with_free_row(old="BOUNDS", new="BOUNDS", number=" y other 1\n"):
+    """A second row of type N, with a number in the column y and a right side."""
+    text = changed(" y cost 2 need 1\n", f" y cost 2 need 1\n{number}", changed(" N cost\n", " N cost\n N other\n"))
+    return changed(old, new, changed("RHS need 4", "RHS need 4 other 3", text))
 
 
 LEFT_OUT = "    x         cost      1\n              need      1"
@@ -103,6 +109,10 @@ QUESTIONS = [
     ("`UP` with `inf`", changed("UP BND x 3", "UP BND x inf"), False, {"4": "yes"}),
     ("`UP` with 1e30", changed("UP BND x 3", "UP BND x 1e30"), False, {"4": "yes"}),
     ("two numbers of one row in a column", changed("y cost 2", "y cost 1 cost 1"), False, {"5": "the sum", "4": "one of them"}),
+    ("a second `N` row with a right side", with_free_row(), False, READS),
+    ("two numbers of such a row in a column", with_free_row(number=" y other 1 other 2\n"), False, READS),
+    ("two right sides of such a row", with_free_row("BOUNDS", " RHS other 4\nBOUNDS"), False, READS),
+    ("a range of such a row", with_free_row("BOUNDS", "RANGES\n RNG other 2\nBOUNDS"), False, READS),
     ("`BOUNDS` before `RHS`", BOUNDS_FIRST, False, READS),
     ("the upper bound of whole-number columns without bounds", WHOLE, False, {"4": "none", "7": "1"}),
 ]
@@ -224,8 +234,8 @@ COST = Fraction("0.12345678901234567")
 
 def model_to_write(maximize):
     columns = {"x": Column(COST, None, Fraction(-1), {"least": Fraction(1)}), "y": Column(Fraction(2), entries={"least": Fraction(1)})}
-    rows = {"least": Row("G", Fraction(-4), Fraction(3)), "same": Row("E", Fraction(1), Fraction(-2))}
-    columns["y"].entries["same"] = Fraction(1)
+    rows = {"least": Row("G", Fraction(-4), Fraction(3)), "same": Row("E", Fraction(1), Fraction(-2)), "other": Row("N")}
+    columns["y"].entries.update({"same": Fraction(1), "other": Fraction(3)})
     return Model("model", -1 if maximize else 1, "gain", Fraction(-10), rows, columns)
 
 
@@ -265,12 +275,14 @@ def what_is_written(reader, folder):
                 continue
         yield kept(before.offset, after.offset)
     yield "kept" if after.objective == before.objective else f"as {after.objective}"
-    limits = [[one.limits() for one in (*model.rows.values(), *model.columns.values())] for model in (before, after)]
+    limits = [[one.limits() for one in (*without_free_rows(model).rows.values(), *model.columns.values())] for model in (before, after)]
     yield "kept" if limits[0] == limits[1] else "others"
+    yield "kept" if after.free_rows() == before.free_rows() else "left out"
     yield digits(abs(after.columns["x"].cost))
 
 
-WRITTEN = ["the offset", "that the objective is maximized", "the offset where it is maximized", "the objective's name", "the limits of rows and columns", "numbers, in digits"]
+WRITTEN = ["the offset", "that the objective is maximized", "the offset where it is maximized", "the objective's name", "the limits of rows and columns"]
+WRITTEN += ["a second `N` row", "numbers, in digits"]
 
 # ---- tables
 
