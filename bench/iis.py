@@ -12,6 +12,9 @@ The client in Python judges each answer and shares nothing with the program: the
 each other in a model that has no others, and each point has to satisfy all of them but the one that it is for. Where it does not,
 that is a fault. STOPPED and PAST say that a number on the way passed 127 bits, after the answer and before it.
 
+The program does not write how many solves a search makes. So where it finds limits, bench/searching.py makes the search once more, of
+which each solve is a session of its own, and counts the solves and their pivots. It has to find the same limits.
+
 Times are of the processor, for the whole process, of one run each. One that takes more than N seconds (20) of them ends, and is counted
 as TIME. --jobs runs as many models at once (1). With --write the table takes the place of what stands between the two marks of PAGE.
 """
@@ -23,6 +26,7 @@ from concurrent.futures import ProcessPoolExecutor
 from options import read_options
 from page import ended, shown
 from planners import KINDS, made
+from searching import Search
 from solvers import Model, limited, models_of
 
 from lpd.errors import LpdError
@@ -33,7 +37,7 @@ BEGIN, END = "<!-- measured by bench/iis.py -->", "<!-- end of the subsets -->"
 SIZES = [(15, 25), (20, 30)]
 LARGEST = 1024
 WAYS = ("found", "STOPPED", "PAST", "TIME")
-Told = collections.namedtuple("Told", "way size of_rows spent solved faults")
+Told = collections.namedtuple("Told", "way size of_rows solves pivots spent solved faults", defaults=[[]])
 
 
 def asked(options, data, form, *words):
@@ -95,17 +99,22 @@ def told(options, model):
     solved = asked(options, model.data, model.form, "solve")[1]
     lines, spent = asked(options, model.data, model.form, "iis")
     if not lines:
-        return Told("TIME", 0, 0, spent, solved, [])
+        return Told("TIME", 0, 0, 0, 0, spent, solved)
     try:
         found = read_iis(model.plain, lines)
     except LpdError as error:
-        return Told("wrong", 0, 0, spent, solved, [f"{model.name}: {error}"])
+        return Told("wrong", 0, 0, 0, 0, spent, solved, [f"{model.name}: {error}"])
     met = [member.name for member in found.members if satisfies(model.plain, member.point, member.side)]
     faults = [f"{model.name}: a point satisfies all limits, with that of {name} too" for name in met]
     if found.answer != Infeasible() and not isinstance(found.answer, Past):
         faults.append(f"{model.name}: answers {found.answer}")
     way = "PAST" if isinstance(found.answer, Past) else "STOPPED" if found.stopped else "found"
-    return Told(way, len(found.members), sum(member.side.is_row for member in found.members), spent, solved, faults)
+    sides = [member.side for member in found.members]
+    search = Search(options.program, options.seconds, model.plain) if way == "found" else None
+    if search and search.kept != sides:
+        faults.append(f"{model.name}: the search by sessions finds {search.kept} in place of {sides}")
+    counts = (search.solves, search.pivots) if search else (0, 0)
+    return Told(way, len(sides), sum(side.is_row for side in sides), *counts, spent, solved, faults)
 
 
 def of_folder(options, model):
@@ -153,14 +162,16 @@ def cells(found):
         *(str(ways[way]) for way in WAYS),
         *middle_and_largest([one.size for one in ones]),
         *middle_and_largest([one.of_rows for one in ones]),
+        *middle_and_largest([one.solves for one in ones]),
+        *middle_and_largest([one.pivots for one in ones]),
         *milliseconds([one.spent for one in found]),
         *milliseconds([one.solved for one in found]),
     ]
 
 
 def table(options, faults):
-    heads = ["Models", "Number", *WAYS, "Limits, median", "largest", "of rows, median", "largest"]
-    heads += ["`iis`: median, ms", "largest, ms", "`solve`: median, ms", "largest, ms"]
+    heads = ["Models", "Number", *WAYS, "Limits, median", "largest", "of rows, median", "largest", "Solves, median", "largest"]
+    heads += ["Pivots, median", "largest", "`iis`: median, ms", "largest, ms", "`solve`: median, ms", "largest, ms"]
     yield row(heads)
     yield "|---" * len(heads) + "|"
     kinds = [kind for kind in KINDS if kind[:2] in SIZES and (not options.only or f"{kind[0]}x{kind[1]}" in options.only.split(","))]

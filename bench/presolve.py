@@ -9,6 +9,10 @@ as it is. Both answers have to be the same. A model that only `presolve` answers
 a fault, unless a limit of time was the reason. tools/check_certificate.py has to accept each certificate of `presolve` behind the
 original text. A text that is refused in both forms stands in the table with its fault.
 
+The program does not write pivots there. Those of `solve` are told by HOW of a session that is asked the same. For those of
+`presolve` bench/reducing.py makes the smaller model once more, and a session solves it: the size and the answer have to be those that
+`presolve` writes. Where a row or a column of the smaller model alone shows that there is no point it is not solved: 0 pivots.
+
 Times are of the processor, for the whole process. A run that takes more than N seconds (20) of them ends, and its answer is TIME.
 --jobs runs as many models at once (1). With --write the table takes the place of what stands between the two marks of PAGE.
 """
@@ -17,7 +21,10 @@ from concurrent.futures import ThreadPoolExecutor
 
 from options import read_options
 from page import ended, shown
-from solvers import CHECKER, Model, limited, texts_of
+from reducing import reduced
+from solvers import CHECKER, Model, limited, session, texts_of
+
+from lpd.dialects import PROFILE, written
 
 BEGIN, END = "<!-- measured by bench/presolve.py -->", "<!-- end of the smaller models -->"
 ANSWERS = ("OPTIMAL", "INFEASIBLE", "UNBOUNDED")
@@ -36,16 +43,26 @@ class Run:
         self.reduction, self.presolved = self.lines[:2] if len(self.lines) > 1 else ("TIME", "TIME")
         if self.is_read:
             answer, self.before = self.ask("solve")
-            self.solved, self.size = answer[0], self.counted()
+            self.model = Model(self.name, self.data, self.form)
+            self.solved, self.size = answer[0], size_of(self.model.plain)
             self.says = self.checked() if is_known(self.presolved) else ""
+            self.pivots = self.pivots_of(self.form, self.data)[1] if is_known(self.solved) else ""
+            self.small = self.by_small() if self.reduction.startswith("REDUCED") else ("", self.presolved, "")
 
     def ask(self, command):
         said, spent = limited([*self.options.program, command, "--form", self.form], self.data, self.options.seconds)
         return said.split("\n")[:-1] or ["TIME"], spent
 
-    def counted(self):
-        plain = Model(self.name, self.data, self.form).plain
-        return len(plain.rows), len(plain.columns)
+    def pivots_of(self, form, text):
+        """The answer of a session, and its pivots."""
+        lines = session(self.options.program, form, text, ["SOLVE", "HOW"], self.options.seconds)[0] or []
+        return (lines[1][2:], lines[2].split(" PIVOTS ")[1].split()[0]) if len(lines) == 3 else ("TIME", "")
+
+    def by_small(self):
+        """The size of the smaller model as it is made here, its answer and its pivots."""
+        small, ends = reduced(self.model.plain)
+        answer = ("INFEASIBLE", "0") if ends else self.pivots_of("free", written(small, PROFILE).text.encode("latin-1"))
+        return f"REDUCED {len(small.rows)} {len(small.columns)}", *answer
 
     def checked(self):
         text = self.data + "\n".join([*self.lines[2:], ""]).encode("latin-1")
@@ -65,14 +82,17 @@ class Run:
             yield f"{self.name}: solve says {self.solved}, and presolve {self.presolved}"
         if is_known(self.presolved) and self.says != f"YES {self.presolved}":
             yield f"{self.name}: the checker says {self.says} to the certificate of {self.presolved}"
+        if self.small[0] and self.small[:2] != (self.reduction, self.presolved):
+            yield f"{self.name}: presolve says {self.reduction}, {self.presolved}, and the smaller model made here {self.small}"
 
     def row(self):
         if not self.is_read:
-            return row([self.name, "", "", "", "", f"`{self.lines[0]}`", "", "", ""])
+            return row([self.name, *[""] * 6, f"`{self.lines[0]}`", "", "", ""])
         words = self.reduction.split()
         after = words[1:] if words[0] == "REDUCED" else [f"`{' '.join(words[:3])}`", ""]
         answer = f"`{' '.join(self.presolved.split()[:2])}`"
-        return row([self.name, *map(str, self.size), *after, answer, self.outcome(), milliseconds(self.before), milliseconds(self.after)])
+        front = [self.name, *map(str, self.size), self.pivots, *after, self.small[2], answer, self.outcome()]
+        return row([*front, milliseconds(self.before), milliseconds(self.after)])
 
     def is_smaller(self):
         words = self.reduction.split()
@@ -81,6 +101,10 @@ class Run:
 
 def is_known(answer):
     return answer.split()[0] in ANSWERS
+
+
+def size_of(plain):
+    return len(plain.rows), len(plain.columns)
 
 
 def milliseconds(seconds):
@@ -100,11 +124,14 @@ def total(runs):
     yield f"Of {len(read)} models that are read {', '.join(f'{number} {word}' for word, number in counts.items() if number)}. "
     yield f"{sum(run.is_smaller() for run in read)} have a smaller model that is answered. "
     before, after = (sum(spent) * 1e3 for spent in ([run.before for run in equal], [run.after for run in equal]))
-    yield f"The {len(equal)} that both answer take {before:,.0f} ms by `solve` and {after:,.0f} ms by `presolve`."
+    yield f"The {len(equal)} that both answer take {before:,.0f} ms by `solve` and {after:,.0f} ms by `presolve`, "
+    pivots, fewer = (sum(map(int, counts)) for counts in ([run.pivots for run in equal], [run.small[2] for run in equal]))
+    yield f"with {pivots:,} pivots and {fewer:,}."
 
 
 def table(options, faults):
-    heads = ["Model", "Rows", "Columns", "Rows after", "Columns after", "Answer", "Outcome", "`solve`, ms", "`presolve`, ms"]
+    heads = ["Model", "Rows", "Columns", "Pivots", "Rows after", "Columns after", "Pivots after", "Answer", "Outcome"]
+    heads += ["`solve`, ms", "`presolve`, ms"]
     yield row(heads)
     yield "|---" * len(heads) + "|"
     runs = []
