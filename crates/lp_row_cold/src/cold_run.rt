@@ -19,15 +19,20 @@ use lp_tableau::{Tableau, start_cold};
 use lp_wide::{Double, Words};
 use std::alloc::{AllocError, Global};
 
-type Words128 = Double<u64>;
+/// Words of 128 bits.
+pub type Words128 = Double<u64>;
 
-type Words256 = Double<Words128>;
+/// Words of 256 bits.
+pub type Words256 = Double<Words128>;
 
-type Words512 = Double<Words256>;
+/// Words of 512 bits.
+pub type Words512 = Double<Words256>;
 
-type Words1024 = Double<Words512>;
+/// Words of 1,024 bits.
+pub type Words1024 = Double<Words512>;
 
-type Words2048 = Double<Words1024>;
+/// Words of 2,048 bits.
+pub type Words2048 = Double<Words1024>;
 
 // The effort of a run whose certificate has numbers of 127 bits, some seconds of it: each number that is changed counts
 // for the square of its words.
@@ -118,8 +123,8 @@ fn at_width<T: Words, N: Listed>(
     }
 }
 
-// Both phases from where they stand, in the widest words, if the run goes that far.
-fn at_2048<N: Listed>(
+/// Both phases from where they stand, in the widest words, if the run goes that far.
+pub fn at_2048<N: Listed>(
     alloc: Global,
     form: &Form,
     budget: u64,
@@ -140,8 +145,8 @@ fn at_2048<N: Listed>(
     }
 }
 
-// The same from words of 1,024 bits on.
-fn from_1024<N: Listed>(
+/// The same from words of 1,024 bits on.
+pub fn from_1024<N: Listed>(
     alloc: Global,
     form: &Form,
     budget: u64,
@@ -164,8 +169,8 @@ fn from_1024<N: Listed>(
     }
 }
 
-// The same from words of 512 bits on.
-fn from_512<N: Listed>(
+/// The same from words of 512 bits on.
+pub fn from_512<N: Listed>(
     alloc: Global,
     form: &Form,
     budget: u64,
@@ -188,8 +193,8 @@ fn from_512<N: Listed>(
     }
 }
 
-// The same from words of 256 bits on.
-fn from_256<N: Listed>(
+/// The same from words of 256 bits on.
+pub fn from_256<N: Listed>(
     alloc: Global,
     form: &Form,
     budget: u64,
@@ -212,8 +217,8 @@ fn from_256<N: Listed>(
     }
 }
 
-// The same from words of 128 bits on.
-fn from_128<N: Listed>(
+/// The same from words of 128 bits on.
+pub fn from_128<N: Listed>(
     alloc: Global,
     form: &Form,
     budget: u64,
@@ -236,8 +241,8 @@ fn from_128<N: Listed>(
     }
 }
 
-// The same from words of 64 bits on.
-fn from_64<N: Listed>(
+/// Both phases from where they stand, in words of 64 bits and in wider ones where a number does not fit.
+pub fn from_64<N: Listed>(
     alloc: Global,
     form: &Form,
     budget: u64,

@@ -5,7 +5,9 @@
 //! | Item | What it is | Where |
 //! |---|---|---|
 //! | `cold`, `wide_cold`, `RowEnd` | the run of a form within a budget, with numbers of 127 bits or of any width in the certificate, and what it ends with | src/cold_run, src/phases |
-//! | `go_on`, `State`, `Phase` | both phases at one width, from where they stand | src/phases |
+//! | `State`, `Phase` | where a run stands | src/phases |
+//! | `from_64` .. `from_1024`, `at_2048` | both phases from where they stand, in words of that width and in wider ones | src/cold_run |
+//! | `go_on` | both phases at one width, from where they stand | src/phases |
 //! | `run` | steps at one width | src/steps |
 //!
 //! What the run ends with is the end of spec_simplex's `phases_run` without a limit. That it ends is not promised:
@@ -16,5 +18,6 @@ mod cold_run;
 mod phases;
 mod steps;
 
-pub use cold_run::{cold, wide_cold};
-pub use phases::RowEnd;
+pub use cold_run::{Words128, Words256, Words512, Words1024, Words2048};
+pub use cold_run::{at_2048, cold, from_64, from_128, from_256, from_512, from_1024, wide_cold};
+pub use phases::{Phase, RowEnd, State};

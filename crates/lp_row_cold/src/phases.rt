@@ -30,7 +30,7 @@ pub struct RowEnd<N> {
 
 /// Which phase a run is in.
 #[derive(Clone, Copy)]
-pub(crate) enum Phase {
+pub enum Phase {
     One,
     /// Phase one has ended, and phase two's costs are next.
     Between,
@@ -39,15 +39,15 @@ pub(crate) enum Phase {
 
 /// Where a run stands.
 #[derive(Drop)]
-pub(crate) struct State<T: Words> {
-    pub(crate) tab: RowTableau<T>,
-    pub(crate) phase: Phase,
+pub struct State<T: Words> {
+    pub tab: RowTableau<T>,
+    pub phase: Phase,
     /// How many pivots and flips were made.
-    pub(crate) used: u64,
+    pub used: u64,
     /// How many words may still be changed.
-    pub(crate) work: u64,
+    pub work: u64,
     /// Whether the run goes on in words of 2,048 bits.
-    pub(crate) is_far: bool,
+    pub is_far: bool,
 }
 
 /// How both phases at one width pause.

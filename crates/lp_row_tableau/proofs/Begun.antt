@@ -160,7 +160,7 @@ module _ {T : Type 0} (value : T → ℕ) (r : RowTableau T) (costs : Row T) (s 
           (sym b.rows);
       reduced = λ k l.
           stated_costs (without_artificials t) form reduced ok k (omega (arith, l))
-          ∙ sym (priced.less t reached shown k (omega (arith, l, columns)))
+          ∙ sym (priced.less t reached.tableau.tableau.units shown k (omega (arith, l, columns)))
           ∙ ap (λ (row : Row T). fraction_of value row k) (sym b.reduced);
       lower = bound_is r.lower.items s.lower.items t.lower w.all_lower reached.tableau.whole.all_lower b.lower
           shown.lower;

@@ -8,6 +8,7 @@ use Rattle.spec_exact.specs.Run.{less_product}
 use Rattle.spec_exact.proofs.Field.{*ℚ_zero, *ℚ_comm}
 use Rattle.spec_exact.proofs.Ruleset.{ring}
 use Rattle.spec_exact.proofs.Sums.{sum_below_none}
+use Rattle.spec_pivot.specs.Tableau.{IsUnit}
 use Rattle.spec_simplex.specs.Start.{cost_at, reduced_run, priced_run}
 use Rattle.spec_simplex.specs.Tableau.{Tableau, all_columns, entry_at, basic_at}
 use Rattle.spec_path.proofs.Lists.{by_lt}
@@ -15,7 +16,7 @@ use Rattle.spec_path.proofs.Runs.{less_ok, steps_ok, IsListOf, list_ok}
 use Rattle.lp_rows.specs.declared.fractions.Row.{Row}
 use Rattle.lp_rows.specs.Row.{fraction_at, AreNow}
 use Rattle.lp_row_tableau.specs.declared.tableau.RowTableau.{RowTableau}
-use Rattle.lp_row_tableau.specs.Shows.{IsRow, IsWhole, IsReached, Shows, row_at, height, width}
+use Rattle.lp_row_tableau.specs.Shows.{IsRow, IsWhole, Shows, row_at, height, width}
 use Rattle.lp_row_tableau.specs.Held.{IsRowOf}
 use Rattle.lp_row_tableau.specs.Second.{fraction_of, cost_in, IsLess, IsLessRows, IsPricedRow}
 use Rattle.lp_row_tableau.proofs.Asks.{row-at}
@@ -76,30 +77,30 @@ none_off value r i j b old w l is g e m =
 pub none_yet : {T : Type 0} (value : T → ℕ) (r : RowTableau T) (old : Row T) → IsRow value (width r) old →
     IsLessRows value r 0 old old
 none_yet value r old is =
-    record { row = is; less = λ t reached s cost begin past k l. begin k l ∙ whole (cost k) }
+    record { row = is; less = λ t units s cost begin past k l. begin k l ∙ whole (cost k) }
   where
     whole : (a : ℚ) → a ≡ a -ℚ 0ℚ
     whole a = simp ring
 
 -- of a basic column the rows of other positions have no entry
-no_entry : (t : Tableau) → IsReached t → (i r : ℕ) → i < t.rows → r < t.rows → i ≢ r → entry_at t r (basic_at t i) ≡ 0ℚ
-no_entry t reached i r l m n =
-    reached.tableau.tableau.units i r l m ∙ ap (λ c. cond c 1ℚ 0ℚ) (ne_eqb i r n)
+no_entry : (t : Tableau) → IsUnit t.rows (entry_at t) (basic_at t) → (i r : ℕ) → i < t.rows → r < t.rows → i ≢ r → entry_at t r (basic_at t i) ≡ 0ℚ
+no_entry t units i r l m n =
+    units i r l m ∙ ap (λ c. cond c 1ℚ 0ℚ) (ne_eqb i r n)
 
 -- the cost that a basic column had first
-first_cost : {T : Type 0} (value : T → ℕ) (r : RowTableau T) (i b : ℕ) (old mid : Row T) (t : Tableau) → IsReached t →
-    Shows value r t → i < height r → (cost : ℕ → ℚ) → ((k : ℕ) → width r ≤ k → cost k ≡ 0ℚ) → basic_at t i ≡ b →
+first_cost : {T : Type 0} (value : T → ℕ) (r : RowTableau T) (i b : ℕ) (old mid : Row T) (t : Tableau) →
+    IsUnit t.rows (entry_at t) (basic_at t) → Shows value r t → i < height r → (cost : ℕ → ℚ) → ((k : ℕ) → width r ≤ k → cost k ≡ 0ℚ) → basic_at t i ≡ b →
     ((k : ℕ) → k < width r →
     fraction_of value mid k ≡ cost k -ℚ sum_below i (λ j. cost (basic_at t j) *ℚ entry_at t j k)) →
     cost_in value (width r) mid b ≡ cost (basic_at t i)
-first_cost value r i b old mid t reached s l cost past e so_far =
+first_cost value r i b old mid t units s l cost past e so_far =
     by_lt b (width r)
     (λ h. cost_there value (width r) mid b h ∙ so_far b h
     ∙ ap (λ z. cost b -ℚ z)
     (sum_below_none i (λ j. cost (basic_at t j) *ℚ entry_at t j b)
     (λ j m. ap (λ z. cost (basic_at t j) *ℚ z)
     (ap (entry_at t j) (sym e)
-    ∙ no_entry t reached i j (omega (arith, l, s.rows)) (omega (arith, l, m, s.rows)) (λ q. apart i j m q))
+    ∙ no_entry t units i j (omega (arith, l, s.rows)) (omega (arith, l, m, s.rows)) (λ q. apart i j m q))
     ∙ *ℚ_zero (cost (basic_at t j))))
     ∙ less_nothing (cost b) ∙ ap cost (sym e))
     (λ h. cost_past value (width r) mid b h ∙ sym (ap cost e ∙ past b h))
@@ -115,12 +116,12 @@ pub one_more : {T : Type 0} (value : T → ℕ) (r : RowTableau T) (i : ℕ) (ol
 one_more value r i old mid new l so_far one =
     record {
       row = one.row;
-      less = λ t reached s cost begin past k below.
+      less = λ t units s cost begin past k below.
           one.less k below
-          ∙ ap₂ (λ u v. u -ℚ v) (so_far.less t reached s cost begin past k below)
+          ∙ ap₂ (λ u v. u -ℚ v) (so_far.less t units s cost begin past k below)
           (ap₂ (λ u v. u *ℚ v)
-          (first_cost value r i (get_or r.basic.items i 0) old mid t reached s l cost past
-          (sym (ap (λ (ks : List ℕ). get_or ks i 0) s.basic)) (so_far.less t reached s cost begin past))
+          (first_cost value r i (get_or r.basic.items i 0) old mid t units s l cost past
+          (sym (ap (λ (ks : List ℕ). get_or ks i 0) s.basic)) (so_far.less t units s cost begin past))
           (sym (s.entries i k (omega (arith, l, s.rows)) (omega (arith, below, s.rows, s.cols)))))
           ∙ more (cost k) (sum_below i (λ j. cost (basic_at t j) *ℚ entry_at t j k))
           (cost (basic_at t i) *ℚ entry_at t i k)
@@ -140,8 +141,8 @@ pub priced_row : {T : Type 0} (value : T → ℕ) (r : RowTableau T) (costs : Li
 priced_row value r costs last d old new len is less =
     record {
       is_row = less.row;
-      less = λ t reached s k below.
-          less.less t reached s (λ k. get_or costs k 0ℚ) (λ k l. is.entries k (omega (arith, l, len)))
+      less = λ t units s k below.
+          less.less t units s (λ k. get_or costs k 0ℚ) (λ k l. is.entries k (omega (arith, l, len)))
           (λ k l. get_or_past costs k 0ℚ (omega (arith, l, len))) k below
           ∙ ap (λ n. get_or costs k 0ℚ -ℚ sum_below n (λ i. get_or costs (basic_at t i) 0ℚ *ℚ entry_at t i k)) s.rows;
     }

@@ -2,13 +2,14 @@
 use Rattle.std.specs.Prelude.{◌≡◌, ℕ, ◌<◌, ◌≤◌, List, length, get_or, Option, Some, None, nat_lt, if◌then◌else◌}
 use Rattle.spec_exact.specs.Fraction.{ℚ, 0ℚ, ◌-ℚ◌, ◌*ℚ◌}
 use Rattle.spec_exact.specs.Sums.{sum_below}
+use Rattle.spec_pivot.specs.Tableau.{IsUnit}
 use Rattle.spec_simplex.specs.Tableau.{Tableau, entry_at, basic_at}
 use Rattle.lp_wide.specs.declared.signed.Signed.{Signed}
 use Rattle.lp_rows.specs.declared.fractions.Row.{Row}
 use Rattle.lp_rows.specs.Row.{fraction_at}
 use Rattle.lp_rows.specs.Ratio.{bound_of}
 use Rattle.lp_row_tableau.specs.declared.tableau.RowTableau.{RowTableau}
-use Rattle.lp_row_tableau.specs.Shows.{IsRow, IsReached, Shows, row_at, width}
+use Rattle.lp_row_tableau.specs.Shows.{IsRow, Shows, row_at, width}
 
 -- ---- costs
 abbrev pub fraction_of : {T : Type 0} → (T → ℕ) → Row T → ℕ → ℚ
@@ -30,7 +31,7 @@ pub record IsLess {T : Type 0} (value : T → ℕ) (r : RowTableau T) (i : ℕ) 
 -- rows have no entry.
 pub record IsLessRows {T : Type 0} (value : T → ℕ) (r : RowTableau T) (n : ℕ) (old new : Row T) : Type 0 where
   pub row : IsRow value (width r) new
-  pub less : (t : Tableau) → IsReached t → Shows value r t → (cost : ℕ → ℚ) →
+  pub less : (t : Tableau) → IsUnit t.rows (entry_at t) (basic_at t) → Shows value r t → (cost : ℕ → ℚ) →
       ((k : ℕ) → k < width r → fraction_of value old k ≡ cost k) → ((k : ℕ) → width r ≤ k → cost k ≡ 0ℚ) →
       (k : ℕ) → k < width r →
       fraction_of value new k ≡ cost k -ℚ sum_below n (λ i. cost (basic_at t i) *ℚ entry_at t i k)
@@ -38,7 +39,7 @@ pub record IsLessRows {T : Type 0} (value : T → ℕ) (r : RowTableau T) (n : �
 -- the reduced costs of some costs, in the structural and the logical columns
 pub record IsPricedRow {T : Type 0} (value : T → ℕ) (r : RowTableau T) (costs : List ℚ) (row : Row T) : Type 0 where
   pub is_row : IsRow value (width r) row
-  pub less : (t : Tableau) → IsReached t → Shows value r t → (k : ℕ) → k < width r →
+  pub less : (t : Tableau) → IsUnit t.rows (entry_at t) (basic_at t) → Shows value r t → (k : ℕ) → k < width r →
       fraction_of value row k ≡
       get_or costs k 0ℚ -ℚ sum_below t.rows (λ i. get_or costs (basic_at t i) 0ℚ *ℚ entry_at t i k)
 

@@ -66,8 +66,8 @@ fn denominator_of<T: Words>(list: &[Frac]) -> Option<T>
     if_positive(found)
 }
 
-// A common denominator of a number's reciprocal and some bounds.
-pub(crate) fn denominator_with<T: Words>(so_far: T, bounds: &[Option<Frac>]) -> Option<T>
+/// A common denominator of a number's reciprocal and some bounds. There is none where it is past the width.
+pub fn denominator_with<T: Words>(so_far: T, bounds: &[Option<Frac>]) -> Option<T>
     ensures { IfSome result (λ d. 0 < T.value d) }
 {
     let mut found = so_far;
@@ -134,8 +134,8 @@ fn bound_on<T: Words>(bound: Option<Frac>, denominator: T) -> Option<Option<Sign
     }
 }
 
-// The same of each bound.
-pub(crate) fn bounds_on<T: Words>(
+/// The bounds as whole numbers on a denominator. There are none where one is past the width.
+pub fn bounds_on<T: Words>(
     alloc: Global,
     bounds: &[Option<Frac>],
     denominator: T,
@@ -153,8 +153,9 @@ pub(crate) fn bounds_on<T: Words>(
     Ok(Some(numbers))
 }
 
-// The row of some fractions on a denominator of their own, and last a value on that times a further denominator.
-pub(crate) fn row_of<T: Words>(
+/// The row of some fractions on a denominator of their own, and last a value on that times a further denominator.
+/// There is none where a number is past the width.
+pub fn row_of<T: Words>(
     alloc: Global,
     list: &[Frac],
     last: Frac,

@@ -65,8 +65,8 @@ fn basics(alloc: Global, tab: &Tableau) -> Result<Vec<u32>, AllocError>
     listed!(alloc, i in 0..tab.rows() => tab.basic(i))
 }
 
-// Whether both bounds are there, and equal.
-fn is_fixed(lower: Option<Frac>, upper: Option<Frac>) -> bool
+/// Whether both bounds are there, and equal.
+pub fn is_fixed(lower: Option<Frac>, upper: Option<Frac>) -> bool
     ensures { result ≡ tableaus.is_fixed lower upper }
 {
     match (lower, upper) {

@@ -15,6 +15,8 @@
 //! | `wants_phase_one`, `is_stuck`, `phase_two` | what the phases ask, and the reduced costs of the second | src/phases |
 //! | `certificate`, `basis` | the certificate and the basis of an end | src/ends |
 //! | `effort_of` | how much a step changes | src/effort |
+//! | `row_of`, `bounds_on`, `denominator_with`, `is_fixed` | fractions and bounds as whole numbers, for rows that are made elsewhere | src/common, src/convert |
+//! | `turn_rows`, `move_all`, `stand`, `priced` | the parts of a step on rows, and the reduced costs of a form's costs | src/moves, src/pivot, src/second |
 //! | `Shows` | which tableau of exact fractions the rows are | specs/Shows |
 //! | `IsFlipped`, `IsPivoted` | a tableau of rows before and after a flip, and before and after a pivot | specs/Changes |
 #![tactic(auto)]
@@ -34,11 +36,14 @@ mod tableau;
 mod widen;
 
 pub use choice::{Step, next_step};
-pub use convert::from_tableau;
+pub use common::{bounds_on, denominator_with, row_of};
+pub use convert::{from_tableau, is_fixed};
 pub use effort::effort_of;
 pub use ends::{basis, certificate};
+pub use moves::{Turn, move_all, turn_rows};
 pub use phases::{is_stuck, phase_two, wants_phase_one};
-pub use pivot::make;
+pub use pivot::{make, stand};
 pub use room::is_roomy;
+pub use second::priced;
 pub use tableau::RowTableau;
 pub use widen::widened;

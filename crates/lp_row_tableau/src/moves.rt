@@ -65,7 +65,7 @@ fn move_last<T: Words>(row: &mut Row<T>, n: usize, j: usize, by: Signed<T>) -> b
 }
 
 /// Each value as column `j` moves by a number on the denominator of all bounds.
-pub(crate) fn move_all<T: Words>(rows: &mut [Row<T>], n: usize, j: usize, by: Signed<T>) -> bool
+pub fn move_all<T: Words>(rows: &mut [Row<T>], n: usize, j: usize, by: Signed<T>) -> bool
     requires rows { All (IsRow T.value n) rows.old }
     requires column { j < n }
     ensures { IsTrue result →
@@ -129,16 +129,16 @@ fn clear_all<T: Words>(rows: &mut [Row<T>], own: &Row<T>, n: usize, j: usize) ->
 /// The column of a pivot, and what both columns are worth on the denominator of all bounds: that which leaves
 /// afterwards, and that which enters before.
 #[derive(Clone, Copy)]
-pub(crate) struct Turn<T> {
-    pub(crate) place: usize,
-    pub(crate) col: usize,
-    pub(crate) leaves_at: Signed<T>,
-    pub(crate) enters_from: Signed<T>,
+pub struct Turn<T> {
+    pub place: usize,
+    pub col: usize,
+    pub leaves_at: Signed<T>,
+    pub enters_from: Signed<T>,
 }
 
 /// The rows and the reduced costs after a pivot. The costs stand in the place of row `place` meanwhile, so that each
 /// row of the list is cleared.
-pub(crate) fn turn_rows<T: Words>(
+pub fn turn_rows<T: Words>(
     rows: &mut [Row<T>],
     costs: &mut Row<T>,
     n: usize,

@@ -79,8 +79,8 @@ fn reduced<T: Words>(tab: &RowTableau<T>, costs: Row<T>) -> Option<Row<T>>
     }
 }
 
-// The reduced costs of the form's costs, if no number is past the width.
-pub(crate) fn priced<T: Words>(
+/// The reduced costs of the form's costs, if no number is past the width.
+pub fn priced<T: Words>(
     alloc: Global,
     tab: &RowTableau<T>,
     form: &Form,

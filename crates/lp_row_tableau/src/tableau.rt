@@ -14,22 +14,22 @@ use lp_wide::{Signed, Words};
 /// Artificial columns have no entries: none of them ever enters.
 #[derive(Drop)]
 pub struct RowTableau<T: Words> {
-    pub(crate) cols: u32,
-    pub(crate) rows: Vec<Row<T>>,
-    pub(crate) costs: Row<T>,
-    pub(crate) basic: Vec<u32>,
-    pub(crate) status: Vec<Status>,
-    pub(crate) lower: Vec<Option<Signed<T>>>,
-    pub(crate) upper: Vec<Option<Signed<T>>>,
+    pub cols: u32,
+    pub rows: Vec<Row<T>>,
+    pub costs: Row<T>,
+    pub basic: Vec<u32>,
+    pub status: Vec<Status>,
+    pub lower: Vec<Option<Signed<T>>>,
+    pub upper: Vec<Option<Signed<T>>>,
     /// Whether a structural or logical column has both bounds, and these are equal.
-    pub(crate) fixed: Vec<bool>,
+    pub fixed: Vec<bool>,
     /// That of all bounds.
-    pub(crate) denominator: T,
+    pub denominator: T,
 }
 
 impl<T: Words> RowTableau<T> {
-    // How many structural and logical columns there are.
-    pub(crate) fn width(&self) -> usize
+    /// How many structural and logical columns there are.
+    pub fn width(&self) -> usize
         requires rows { length self.now.rows.items ≤ row_limit }
         requires cols { self.now.cols ≤ column_limit }
         ensures { result ≡ width self.now }

@@ -9,6 +9,7 @@
 //! | `entering` | the column that enters, by a row of reduced costs | src/choice |
 //! | `toward` | a number as a column moves that rises or falls | src/ratio |
 //! | `goes`, `Gap`, `gap_for` | whether a basic column rises or falls; how far a basic column may go, and up to which bound | src/ratio |
+//! | `order` | the order of two products | src/ratio |
 //! | `Stopper`, `stopper_at`, `better` | what stops the entering column; that in one position; the first of two | src/ratio |
 //! | `RowFraction`, `zero`, `one`, `negated`, `directed` | a number of a row over a denominator | src/number |
 //! | `Listed` | numbers of lists that are made of those of rows: of 127 bits, or of any width | src/number, src/narrow, src/wide |
@@ -27,5 +28,5 @@ mod wide;
 pub use choice::entering;
 pub use fractions::{Row, clear, divide, reduce};
 pub use number::{Listed, RowFraction, directed, negated, one, zero};
-pub use ratio::{Gap, Stopper, better, gap_for, goes, stopper_at, toward};
+pub use ratio::{Gap, Stopper, better, gap_for, goes, order, stopper_at, toward};
 pub use row::eliminate;

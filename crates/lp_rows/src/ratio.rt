@@ -36,8 +36,8 @@ fn are_none<T: Words>(a: T, m: T, b: T, n: T) -> bool
     if a.is_zero() { b.is_zero() } else { false }
 }
 
-// How `a m` stands to `b n`.
-fn order<T: Words>(a: Signed<T>, m: T, b: Signed<T>, n: T) -> Ordering
+/// How `a m` stands to `b n`.
+pub fn order<T: Words>(a: Signed<T>, m: T, b: Signed<T>, n: T) -> Ordering
     requires first { 0 < T.value m }
     requires second { 0 < T.value n }
     ensures { result ≡ int_cmp (whole a.negative (T.value a.size) *ℤ pos (T.value m))
