@@ -18,6 +18,8 @@ mod cold_run;
 mod phases;
 mod steps;
 
-pub use cold_run::{Words128, Words256, Words512, Words1024, Words2048};
-pub use cold_run::{at_2048, cold, from_64, from_128, from_256, from_512, from_1024, wide_cold};
+pub use cold_run::{
+    Words128, Words256, Words512, Words1024, Words2048, at_2048, cold, from_64, from_128, from_256,
+    from_512, from_1024, wide_cold,
+};
 pub use phases::{Phase, RowEnd, State};

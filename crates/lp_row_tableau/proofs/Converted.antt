@@ -98,13 +98,13 @@ row_of_with value list last d own both row p e f w =
     }
 
 -- ---- rows of a tableau
-row_at-before : {T : Type 0} (value : T → ℕ) (d : ℕ) (rows : List (Row T)) (row : Row T) (i k : ℕ) → i < length rows →
+pub row_at-before : {T : Type 0} (value : T → ℕ) (d : ℕ) (rows : List (Row T)) (row : Row T) (i k : ℕ) → i < length rows →
     row_at value d (rows ++ row ∷ []) i k ≡ row_at value d rows i k
 row_at-before value d [] row i k h = absurd (omega arith)
 row_at-before value d (r ∷ rows) row zero k h = refl
 row_at-before value d (r ∷ rows) row (suc i) k h = row_at-before value d rows row i k (omega (arith, h))
 
-row_at-seam : {T : Type 0} (value : T → ℕ) (d : ℕ) (rows : List (Row T)) (row : Row T) (i k : ℕ) → i ≡ length rows →
+pub row_at-seam : {T : Type 0} (value : T → ℕ) (d : ℕ) (rows : List (Row T)) (row : Row T) (i k : ℕ) → i ≡ length rows →
     row_at value d (rows ++ row ∷ []) i k ≡ fraction_at value row.numbers.items (d * value row.denominator) k
 row_at-seam value d [] row zero k h = refl
 row_at-seam value d [] row (suc i) k h = absurd (omega (arith, h))

@@ -138,12 +138,7 @@ pub struct Turn<T> {
 
 /// The rows and the reduced costs after a pivot. The costs stand in the place of row `place` meanwhile, so that each
 /// row of the list is cleared.
-pub fn turn_rows<T: Words>(
-    rows: &mut [Row<T>],
-    costs: &mut Row<T>,
-    n: usize,
-    turn: Turn<T>,
-) -> bool
+pub fn turn_rows<T: Words>(rows: &mut [Row<T>], costs: &mut Row<T>, n: usize, turn: Turn<T>) -> bool
     requires rows { All (IsRow T.value n) rows.old }
     requires costs { IsRow T.value n costs.old }
     requires place { turn.place < length rows.old }

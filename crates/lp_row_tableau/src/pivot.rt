@@ -41,7 +41,11 @@ fn or_zero<T: Words>(bound: Option<Signed<T>>) -> Signed<T>
 }
 
 /// Where a column of this status stands, between these bounds; a basic one counts as at 0.
-pub fn stand<T: Words>(status: Status, lower: Option<Signed<T>>, upper: Option<Signed<T>>) -> Signed<T>
+pub fn stand<T: Words>(
+    status: Status,
+    lower: Option<Signed<T>>,
+    upper: Option<Signed<T>>,
+) -> Signed<T>
     ensures { (d : ℕ) → 0 < d → over (whole result.negative (T.value result.size)) d ≡
         tableaus.stand status (bound_of T.value d lower) (bound_of T.value d upper) }
 {

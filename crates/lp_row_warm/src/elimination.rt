@@ -1,12 +1,14 @@
 // Rows that are solved for columns, one after the other.
-ghost use Rattle.std.specs.Prelude.{◌≡◌, ◌<◌, ◌+◌, ℕ, pos, IfSome, IsTrue, Some, List, length};
+ghost use Rattle.std.specs.Prelude.{◌≡◌, ◌<◌, ◌+◌, ℕ, pos, IfSome, IsTrue, Some, List, length, slice_set, true};
+ghost use Rattle.spec_exact.specs.Fraction.{0ℚ, eq_ℚ};
 ghost use Rattle.spec_pivot.specs.declared.status.Status.{Status as statuses};
 ghost use Rattle.spec_pivot.specs.declared.status.Status.TheVariants.{Basic};
 ghost use Rattle.spec_simplex.specs.Form.{Form as forms};
 ghost use Rattle.spec_simplex.specs.Eliminate as stated;
 ghost use Rattle.lp_wide.specs.Whole.{whole};
 ghost use Rattle.lp_row_tableau.specs.Shows.{height, width};
-ghost use Rattle.lp_row_warm.specs.Rows.{IsSolvedBelow, IsEven, IfDone};
+ghost use Rattle.lp_row_tableau.specs.Moves.{number_in};
+ghost use Rattle.lp_row_warm.specs.Rows.{IsSolvedBelow, IsComplete, IfDone};
 
 use lp_form::{Status, is_basic};
 use lp_row_tableau::{RowTableau, Step, Turn, effort_of, turn_rows};
@@ -51,20 +53,33 @@ fn spend(work: &mut u64, takes: u64) -> bool {
 }
 
 impl<T: Words> Elimination<T> {
+    // Whether row `i` has no entry in column `j`.
+    fn has_none(&self, j: usize, i: usize) -> bool
+        requires complete { IsComplete T.value self.now }
+        requires column { j < width self.now.tab }
+        requires place { i < height self.now.tab }
+        ensures { result ≡ eq_ℚ (number_in T.value self.now.tab.rows.items i j) 0ℚ }
+    {
+        self.tab.rows[i].numbers[j].size.is_zero()
+    }
+
     // Whether position `i` has no column yet, and its entry in column `j` is not 0.
     fn is_open(&self, j: usize, i: usize) -> bool
-        requires even { IsEven T.value self.now }
+        requires complete { IsComplete T.value self.now }
         requires column { j < width self.now.tab }
         requires place { i < height self.now.tab }
         ensures { (f : forms) (basis : List statuses) (c : ℕ) → (s : IsSolvedBelow T.value f basis c self.now) →
             result ≡ stated.is_open s.now j i }
     {
-        !self.taken[i] && !self.tab.rows[i].numbers[j].size.is_zero()
+        if self.taken[i] {
+            return false;
+        }
+        !self.has_none(j, i)
     }
 
     // The least such position.
     fn open(&self, j: usize) -> Option<usize>
-        requires even { IsEven T.value self.now }
+        requires complete { IsComplete T.value self.now }
         requires column { j < width self.now.tab }
         ensures least { (f : forms) (basis : List statuses) (c : ℕ) → (s : IsSolvedBelow T.value f basis c self.now) →
             IfSome result (λ p. stated.open_below s.now j f.rows ≡ Some p) }
@@ -78,12 +93,24 @@ impl<T: Words> Elimination<T> {
         None
     }
 
+    // Position `p` has the basic column `j`.
+    fn mark(&mut self, p: usize, j: u32)
+        requires basic { p < length self.old.tab.basic.items }
+        requires taken { p < length self.old.taken.items }
+        ensures basic { self.new.tab.basic.items ≡ slice_set self.old.tab.basic.items p j }
+        ensures taken { self.new.taken.items ≡ slice_set self.old.taken.items p true }
+        ensures rest { self.new.tab ≡ record self.old.tab { basic = self.new.tab.basic } }
+    {
+        self.tab.basic[p] = j;
+        self.taken[p] = true;
+    }
+
     // Column `j` takes the position `p`: the rows change as in a pivot there, and their last numbers as the others.
     fn solve_at(&mut self, p: usize, j: usize) -> bool
-        requires even { IsEven T.value self.old }
+        requires complete { IsComplete T.value self.old }
         requires place { p < height self.old.tab }
         requires column { j < width self.old.tab }
-        ensures even { IsTrue result → IsEven T.value self.new }
+        ensures complete { IsTrue result → IsComplete T.value self.new }
         ensures size { IsTrue result → width self.new.tab ≡ width self.old.tab }
         ensures solved { IsTrue result → (f : forms) (basis : List statuses) → stated.basis_at basis j ≡ Basic →
             (s : IsSolvedBelow T.value f basis j self.old) → stated.open_below s.now j f.rows ≡ Some p →
@@ -99,16 +126,15 @@ impl<T: Words> Elimination<T> {
         if !turn_rows(&mut self.tab.rows, &mut self.tab.costs, n, turn) {
             return false;
         }
-        self.tab.basic[p] = j as u32;
-        self.taken[p] = true;
+        self.mark(p, j as u32);
         true
     }
 
     // Column `j` takes the least open position.
     fn solve(&mut self, j: usize, work: &mut u64) -> Progress
-        requires even { IsEven T.value self.old }
+        requires complete { IsComplete T.value self.old }
         requires column { j < width self.old.tab }
-        ensures even { IfDone result (IsEven T.value self.new) }
+        ensures complete { IfDone result (IsComplete T.value self.new) }
         ensures size { IfDone result (width self.new.tab ≡ width self.old.tab) }
         ensures solved { IfDone result ((f : forms) (basis : List statuses) → stated.basis_at basis j ≡ Basic →
             IsSolvedBelow T.value f basis j self.old → IsSolvedBelow T.value f basis (j + 1) self.new) }
@@ -133,10 +159,10 @@ impl<T: Words> Elimination<T> {
 
     // The same, where column `j` is basic.
     fn take(&mut self, basis: &[Status], j: usize, work: &mut u64) -> Progress
-        requires even { IsEven T.value self.old }
+        requires complete { IsComplete T.value self.old }
         requires all { length basis.now ≡ width self.old.tab }
         requires column { j < width self.old.tab }
-        ensures even { IfDone result (IsEven T.value self.new) }
+        ensures complete { IfDone result (IsComplete T.value self.new) }
         ensures size { IfDone result (width self.new.tab ≡ width self.old.tab) }
         ensures solved { IfDone result ((f : forms) →
             IsSolvedBelow T.value f basis.now j self.old → IsSolvedBelow T.value f basis.now (j + 1) self.new) }
@@ -150,9 +176,9 @@ impl<T: Words> Elimination<T> {
 
     /// Each basic column takes a position, in order: the least that has none and where its entry is not 0.
     pub(crate) fn run(&mut self, basis: &[Status], work: &mut u64) -> Progress
-        requires even { IsEven T.value self.old }
+        requires complete { IsComplete T.value self.old }
         requires all { length basis.now ≡ width self.old.tab }
-        ensures even { IfDone result (IsEven T.value self.new) }
+        ensures complete { IfDone result (IsComplete T.value self.new) }
         ensures size { IfDone result (width self.new.tab ≡ width self.old.tab) }
         ensures solved { IfDone result ((f : forms) → IsSolvedBelow T.value f basis.now 0 self.old →
             IsSolvedBelow T.value f basis.now (length basis.now) self.new) }
