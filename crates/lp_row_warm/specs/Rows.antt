@@ -1,5 +1,5 @@
 -- Rows of whole numbers for the equations of a form, as they are solved for the columns of a basis.
-use Rattle.std.specs.Prelude.{◌≡◌, ℕ, ◌+◌, ◌<◌, List, length, get_or, map, Option, None, Some, Ok, Bool, true, false}
+use Rattle.std.specs.Prelude.{◌≡◌, ℕ, ◌+◌, ◌<◌, List, length, get_or, map, None, Ok, false}
 use Rattle.std.specs.Prelude.{not, All, replicate, if◌then◌else◌}
 use Rattle.spec_exact.specs.Fraction.{ℚ, 0ℚ, ◌*ℚ◌, neg_ℚ}
 use Rattle.spec_exact.specs.Sums.{sum_below}
@@ -62,7 +62,7 @@ pub record IsSolvedBelow {T : Type 0} (value : T → ℕ) (f : Form) (basis : Li
   pub taken : (i : ℕ) → i < f.rows → get_or e.taken.items i false ≡ not (has_none (get_or now.basic i None))
 
 -- the rows are whole, and for each there is whether it has a column
-pub record IsEven {T : Type 0} (value : T → ℕ) (e : Elimination T) : Type 0 where
+pub record IsComplete {T : Type 0} (value : T → ℕ) (e : Elimination T) : Type 0 where
   pub whole : IsWhole value e.tab
   pub each : length e.taken.items ≡ length e.tab.rows.items
 

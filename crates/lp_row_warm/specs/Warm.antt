@@ -1,5 +1,5 @@
 -- What the run from a basis ends with, and where it begins.
-use Rattle.std.specs.Prelude.{◌≡◌, ℕ, List, Option, None, IfSome, Ok}
+use Rattle.std.specs.Prelude.{◌≡◌, ℕ, List, None, Ok}
 use Rattle.spec_exact.specs.Fraction.{ℚ}
 use Rattle.spec_pivot.specs.declared.status.Status.{Status}
 use Rattle.spec_simplex.specs.declared.ends.Fit.TheVariants as fit

@@ -1,10 +1,10 @@
 // The rows of the tableau that a form has for a basis.
-ghost use Rattle.std.specs.Prelude.{◌≡◌, ◌+◌, IfOk, IfSome, List, length};
+ghost use Rattle.std.specs.Prelude.{◌≡◌, ◌+◌, IfOk, IfSome, List, length, replicate, false};
 ghost use Rattle.spec_pivot.specs.declared.status.Status.{Status as statuses};
 ghost use Rattle.spec_simplex.specs.Eliminate.{IsBasisOf};
 ghost use Rattle.spec_path.specs.Begins.{IsProper};
 ghost use Rattle.lp_row_tableau.specs.Shows.{width};
-ghost use Rattle.lp_row_warm.specs.Rows.{IsEven, IsSolvedBelow, IfRows, HasSize, ShowsBasis, ShowsStart};
+ghost use Rattle.lp_row_warm.specs.Rows.{IsComplete, IsSolvedBelow, IfRows, HasSize, ShowsBasis, ShowsStart};
 
 use crate::elimination::{Elimination, Progress};
 use crate::equations::{place_values, unsolved};
@@ -23,6 +23,13 @@ pub(crate) enum Based<T: Words> {
     Stopped,
 }
 
+// No position has a column.
+fn none_taken(alloc: Global, form: &Form) -> Result<Vec<bool>, AllocError>
+    ensures { IfOk result (λ v. v.items ≡ replicate form.now.rows false) }
+{
+    Vec::from_elem(alloc, false, form.rows() as usize)
+}
+
 // The equations with the values of the columns that are not basic. No position has a column yet.
 fn begun<T: Words>(
     alloc: Global,
@@ -30,7 +37,7 @@ fn begun<T: Words>(
     basis: &[Status],
 ) -> Result<Option<Elimination<T>>, AllocError>
     requires { length basis.now ≡ form.now.cols + form.now.rows }
-    ensures even { IfOk result (λ o. IfSome o (IsEven T.value)) }
+    ensures complete { IfOk result (λ o. IfSome o (IsComplete T.value)) }
     ensures size { IfOk result (λ o. IfSome o (λ e. width e.tab ≡ form.now.cols + form.now.rows)) }
     ensures begun { IfOk result (λ o. IfSome o (IsSolvedBelow T.value form.now basis.now 0)) }
 {
@@ -40,7 +47,7 @@ fn begun<T: Words>(
     if !place_values(&mut tab) {
         return Ok(None);
     }
-    let taken = Vec::from_elem(alloc, false, form.rows() as usize)?;
+    let taken = none_taken(alloc, form)?;
     Ok(Some(Elimination { tab, taken }))
 }
 
@@ -55,6 +62,7 @@ fn solved<T: Words>(
     ensures whole { IfOk result (IfRows (HasSize T.value form.now)) }
     ensures shown { IsProper form.now → IfOk result (IfRows (ShowsBasis T.value form.now basis.now)) }
 {
+    let _ = form.rows();
     let Some(mut elimination) = begun::<T>(alloc, form, basis)? else {
         return Ok(Based::Narrow);
     };
@@ -80,6 +88,7 @@ fn with_costs<T: Words>(
     ensures shown { (basis : List statuses) → IsProper form.now → IsBasisOf form.now basis →
         ShowsBasis T.value form.now basis tab → IfOk result (IfRows (ShowsStart T.value form.now basis)) }
 {
+    let _ = form.rows();
     let mut tab = tab;
     match priced(alloc, &tab, form)? {
         Some(costs) => {

@@ -9,6 +9,7 @@ ghost use Rattle.spec_simplex.specs.Tableau as tableaus;
 ghost use Rattle.spec_simplex.specs.Tableau.{at_place};
 ghost use Rattle.spec_simplex.specs.Eliminate as elimination;
 ghost use Rattle.spec_pivot.specs.declared.status.Status.{Status as statuses};
+ghost use Rattle.lp_rows.specs.Row.{fraction_at};
 ghost use Rattle.lp_row_tableau.specs.Held.{IsRowOf};
 ghost use Rattle.lp_row_tableau.specs.Shows.{IsWhole, IsRow, width};
 ghost use Rattle.lp_row_tableau.specs.Moves.{number_at};
@@ -84,23 +85,40 @@ fn equations<T: Words>(
     Ok(Some(rows))
 }
 
+// `n` zeros.
+fn zeros<T: Words>(alloc: Global, n: usize) -> Result<Vec<Signed<T>>, AllocError>
+    ensures { IfOk result (λ v. (length v.items ≡ n) × ((d k : ℕ) → 0 < d → k < n → fraction_at T.value v.items d k ≡ 0ℚ)) }
+{
+    let mut numbers = Vec::new(alloc);
+    for _ in 0..n {
+        numbers.push(Signed {
+            negative: false,
+            size: T::zero(),
+        })?;
+    }
+    Ok(numbers)
+}
+
 // A row of `n` numbers and one more, all 0.
 fn zero_row<T: Words>(alloc: Global, n: usize) -> Result<Row<T>, AllocError>
     requires { n < 1024 }
     ensures row { IfOk result (IsRow T.value n) }
     ensures none { IfOk result (λ row. (k : ℕ) → k < n → number_at T.value row k ≡ 0ℚ) }
 {
-    let none = Signed {
-        negative: false,
-        size: T::zero(),
-    };
     Ok(Row {
-        numbers: Vec::from_elem(alloc, none, n + 1)?,
+        numbers: zeros(alloc, n + 1)?,
         denominator: T::one(),
     })
 }
 
-// ---- lists by columns
+// ---- lists by positions and columns
+
+// No position has a basic column: 0 stands for it.
+fn no_columns(alloc: Global, form: &Form) -> Result<Vec<u32>, AllocError>
+    ensures { IfOk result (λ v. v.items ≡ replicate form.now.rows 0) }
+{
+    Vec::from_elem(alloc, 0, form.rows() as usize)
+}
 
 fn statuses(alloc: Global, form: &Form, basis: &[Status]) -> Result<Vec<Status>, AllocError>
     ensures { IfOk result (λ v. v.items ≡ elimination.basis_status form.now basis.now) }
@@ -186,7 +204,7 @@ fn unsolved_on<T: Words>(
         cols: form.cols(),
         rows,
         costs: zero_row(alloc, (form.cols() + form.rows()) as usize)?,
-        basic: Vec::from_elem(alloc, 0, form.rows() as usize)?,
+        basic: no_columns(alloc, form)?,
         status: statuses(alloc, form, basis)?,
         lower,
         upper,

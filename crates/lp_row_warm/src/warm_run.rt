@@ -15,8 +15,10 @@ use crate::based::{Based, from_basis};
 use crate::fit::is_fit;
 use lp_form::{Form, Status};
 use lp_ratio::Ratio;
-use lp_row_cold::{Phase, RowEnd, State, Words128, Words256, Words512, Words1024, Words2048};
-use lp_row_cold::{at_2048, from_64, from_128, from_256, from_512, from_1024};
+use lp_row_cold::{
+    Phase, RowEnd, State, Words128, Words256, Words512, Words1024, Words2048, at_2048, from_64,
+    from_128, from_256, from_512, from_1024,
+};
 use lp_row_tableau::RowTableau;
 use lp_wide::Words;
 use std::alloc::{AllocError, Global};
@@ -55,7 +57,7 @@ fn if_fit<T: Words>(tab: RowTableau<T>, work: u64) -> Begun<T>
 }
 
 // The same from the basis.
-fn begun<T: Words>(
+fn begin<T: Words>(
     alloc: Global,
     form: &Form,
     basis: &[Status],
@@ -85,7 +87,7 @@ fn begun_2048(
     ensures { IsProper form.now → HasCosts form.now →
         IfOk result (λ o. IfSome o (EndsFromBasis budget form.now basis.now)) }
 {
-    match begun::<Words2048>(alloc, form, basis, work)? {
+    match begin::<Words2048>(alloc, form, basis, work)? {
         Begun::Ready(mut state) => {
             let end = at_2048(alloc, form, budget, &mut state);
             drop(state);
@@ -107,7 +109,7 @@ fn begun_1024(
     ensures { IsProper form.now → HasCosts form.now →
         IfOk result (λ o. IfSome o (EndsFromBasis budget form.now basis.now)) }
 {
-    match begun::<Words1024>(alloc, form, basis, work)? {
+    match begin::<Words1024>(alloc, form, basis, work)? {
         Begun::Ready(mut state) => {
             let end = from_1024(alloc, form, budget, &mut state);
             drop(state);
@@ -130,7 +132,7 @@ fn begun_512(
     ensures { IsProper form.now → HasCosts form.now →
         IfOk result (λ o. IfSome o (EndsFromBasis budget form.now basis.now)) }
 {
-    match begun::<Words512>(alloc, form, basis, work)? {
+    match begin::<Words512>(alloc, form, basis, work)? {
         Begun::Ready(mut state) => {
             let end = from_512(alloc, form, budget, &mut state);
             drop(state);
@@ -153,7 +155,7 @@ fn begun_256(
     ensures { IsProper form.now → HasCosts form.now →
         IfOk result (λ o. IfSome o (EndsFromBasis budget form.now basis.now)) }
 {
-    match begun::<Words256>(alloc, form, basis, work)? {
+    match begin::<Words256>(alloc, form, basis, work)? {
         Begun::Ready(mut state) => {
             let end = from_256(alloc, form, budget, &mut state);
             drop(state);
@@ -176,7 +178,7 @@ fn begun_128(
     ensures { IsProper form.now → HasCosts form.now →
         IfOk result (λ o. IfSome o (EndsFromBasis budget form.now basis.now)) }
 {
-    match begun::<Words128>(alloc, form, basis, work)? {
+    match begin::<Words128>(alloc, form, basis, work)? {
         Begun::Ready(mut state) => {
             let end = from_128(alloc, form, budget, &mut state);
             drop(state);
@@ -199,7 +201,7 @@ fn begun_64(
     ensures { IsProper form.now → HasCosts form.now →
         IfOk result (λ o. IfSome o (EndsFromBasis budget form.now basis.now)) }
 {
-    match begun::<u64>(alloc, form, basis, work)? {
+    match begin::<u64>(alloc, form, basis, work)? {
         Begun::Ready(mut state) => {
             let end = from_64(alloc, form, budget, &mut state);
             drop(state);
