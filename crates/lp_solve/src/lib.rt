@@ -13,6 +13,7 @@
 //! |---|---|---|
 //! | `solve`, `Solved` | the solve of a model, and how it ends | src/solving |
 //! | `solve_wide`, `WideSolved` | the same, and where it is refused an operation an answer with numbers of any width | src/wide |
+//! | `solve_wide_from`, `WideBased`, `WideAnswer` | the same from a basis of the form that is at hand | src/wide |
 //! | `solve_formed` | the same by the model's form | src/solving |
 //! | `cold_part` | the cold part: over factors, over whole tableaus and over rows | src/factors |
 //! | `over_rows` | the answer that the run over rows of whole numbers wins | src/rows |
@@ -36,4 +37,4 @@ mod wide;
 pub use cold::End;
 pub use solving::{Solved, solve, solve_formed};
 pub use spec_warm::{Fall, Route};
-pub use wide::{WideSolved, solve_wide};
+pub use wide::{WideAnswer, WideBased, WideSolved, solve_wide, solve_wide_from};

@@ -1,20 +1,26 @@
 // The solve of a model whose certificate may have numbers of any width.
-ghost use Rattle.std.specs.Prelude.{◌≡◌, ℕ, IfOk, IfSome, Ok, Some, None};
-ghost use Rattle.spec_simplex.specs.Form.{form_of};
+ghost use Rattle.std.specs.Prelude.{◌≡◌, ◌⊎◌, IfOk, IfSome, Ok, Some};
 ghost use Rattle.spec_check.specs.Certificate.{IsFor};
-ghost use Rattle.spec_check.specs.Run.{check_run};
-ghost use Rattle.spec_solve.specs.Wide.{IsUnlimited, IsWideSolved};
+ghost use Rattle.spec_simplex.specs.Eliminate.{IsBasisOf};
+ghost use Rattle.spec_simplex.specs.Form.{form_of};
+ghost use Rattle.spec_warm.specs.declared.ends.Route.TheVariants as routes;
+ghost use Rattle.spec_solve.specs.Answers.{number_limit};
+ghost use Rattle.spec_solve.specs.Wide.{IsWarmEnd, IsColdEnd, IsWideSolved, IsWideFrom};
 ghost use Rattle.lp_frac.specs.Narrow.{largest};
+ghost use Rattle.lp_solve.specs.Wide.{AcceptsEnd, IsCertified};
 
+use crate::basis::basis_of;
 use crate::cold::End;
-use crate::solving::{Solved, solve};
-use lp_check_wide::{Certificate, Known, Ratios, Verdict, check};
-use lp_form::Form;
+use crate::solving::{Solved, solve, solve_formed};
+use lp_check_wide::{Ratios, Verdict, check};
+use lp_form::{Basis, Form};
 use lp_frac::Stop;
 use lp_model::Model;
 use lp_ratio::Ratio;
 use lp_row_cold::{RowEnd, wide_cold};
+use lp_row_warm::wide_warm;
 use lp_standard::form;
+use spec_warm::Route;
 use std::alloc::{AllocError, Global};
 
 // The effort of a run without a limit on the numbers of its certificate, some minutes of it.
@@ -23,43 +29,44 @@ const WIDE_WORK: u64 = 64_000_000_000;
 /// How a wide solve ends.
 pub type WideSolved = spec_solve::WideSolved<Solved, Ratio, Ratios>;
 
-// What the checker without a limit says yes to.
-#[derive(Drop)]
-struct Accepted {
-    answer: Known,
-    certificate: Certificate,
-}
+/// An answer whose numbers may have any width.
+pub type WideAnswer = spec_solve::WideAnswer<Ratio, Ratios, Basis>;
 
-// The certificate, if the checker without a limit says yes to it.
-fn judged(
+/// How a wide solve ends to which a basis was handed.
+pub type WideBased = spec_solve::WideBased<Solved, Ratio, Ratios, Basis>;
+
+// What a run on this route ended with, if the checker without a limit says yes to its certificate.
+fn checked(
     alloc: Global,
     model: &Model,
-    certificate: Certificate,
-) -> Result<Option<Accepted>, AllocError>
-    requires { IsFor model.now certificate }
-    ensures { IfOk result (λ o. IfSome o (λ a. (a.certificate ≡ certificate) ×
-        (check_run None model.now certificate ≡ Ok a.answer))) }
+    form: &Form,
+    end: RowEnd<Ratio>,
+    route: Route,
+) -> Result<Option<WideAnswer>, AllocError>
+    requires fits { IsFor model.now end.certificate }
+    requires based { IfSome end.basis (λ basis. IsBasisOf form.now basis) }
+    ensures { IfOk result (λ o. IfSome o (AcceptsEnd model.now end route)) }
 {
+    let RowEnd {
+        certificate,
+        basis,
+        pivots,
+    } = end;
+    let basis = basis_of(form, basis);
     match check(alloc, model, &certificate)? {
-        Verdict::Yes(answer) => Ok(Some(Accepted {
-            answer,
+        Verdict::Yes(known) => Ok(Some(WideAnswer {
+            known,
             certificate,
+            basis,
+            pivots,
+            route,
         })),
         Verdict::No(_) => {
             drop(certificate);
+            drop(basis);
             Ok(None)
         }
     }
-}
-
-// What the run ended with, if the checker without a limit says yes to its certificate.
-fn checked(alloc: Global, model: &Model, end: RowEnd<Ratio>) -> Result<Option<Accepted>, AllocError>
-    requires { IsFor model.now end.certificate }
-    ensures { IfOk result (λ o. IfSome o (λ a. (a.certificate ≡ end.certificate) ×
-        (check_run None model.now end.certificate ≡ Ok a.answer))) }
-{
-    drop(end.basis);
-    judged(alloc, model, end.certificate)
 }
 
 // What the run over rows knows of a model, with numbers of any width.
@@ -68,28 +75,70 @@ fn unlimited(
     model: &Model,
     form: &Form,
     budget: u64,
-) -> Result<Option<Accepted>, AllocError>
+    route: Route,
+) -> Result<Option<WideAnswer>, AllocError>
     requires { form_of (Some largest) model.now ≡ Ok form.now }
-    ensures { IfOk result (λ o. IfSome o (λ a. IsUnlimited model.now budget a.answer a.certificate)) }
+    ensures { IfOk result (λ o. IfSome o (λ a. IsCertified model.now a × IsColdEnd model.now budget route a)) }
 {
     match wide_cold(alloc, form, budget, WIDE_WORK)? {
-        Some(end) => checked(alloc, model, end),
+        Some(end) => checked(alloc, model, form, end, route),
         None => Ok(None),
     }
 }
 
-// The same of a model that may have no form.
-fn beyond(alloc: Global, model: &Model, budget: u64) -> Result<Option<Accepted>, AllocError>
-    ensures { IfOk result (λ o. IfSome o (λ a. IsUnlimited model.now budget a.answer a.certificate)) }
+// What the run over rows from the basis knows of it.
+fn unlimited_from(
+    alloc: Global,
+    model: &Model,
+    form: &Form,
+    budget: u64,
+    basis: &Basis,
+) -> Result<Option<WideAnswer>, AllocError>
+    requires formed { form_of (Some largest) model.now ≡ Ok form.now }
+    requires fits { IsBasisOf form.now basis.now }
+    ensures { IfOk result
+        (λ o. IfSome o (λ a. IsCertified model.now a × IsWarmEnd model.now budget (Some basis.now) a)) }
+{
+    match wide_warm(alloc, form, basis.as_slice(), budget)? {
+        Some(end) => checked(alloc, model, form, end, Route::Warm),
+        None => Ok(None),
+    }
+}
+
+// What is known of a model that may have no form.
+fn beyond(alloc: Global, model: &Model, budget: u64) -> Result<Option<WideAnswer>, AllocError>
+    ensures { IfOk result
+        (λ o. IfSome o (λ a. IsCertified model.now a × IsColdEnd model.now budget routes.Cold a)) }
 {
     match form(alloc, model) {
         Ok(form) => {
-            let known = unlimited(alloc, model, &form, budget);
+            let known = unlimited(alloc, model, &form, budget, Route::Cold);
             drop(form);
             known
         }
         Err(Stop::Cause(_)) | Err(Stop::Past(_)) => Ok(None),
         Err(Stop::NoMemory) => Err(AllocError),
+    }
+}
+
+// What is known where a solve on this route is refused an operation: from the basis, and where that comes to no answer
+// from the start that each model has.
+fn beyond_from(
+    alloc: Global,
+    model: &Model,
+    form: &Form,
+    budget: u64,
+    basis: &Basis,
+    route: Route,
+) -> Result<Option<WideAnswer>, AllocError>
+    requires formed { form_of (Some largest) model.now ≡ Ok form.now }
+    requires fits { IsBasisOf form.now basis.now }
+    ensures { IfOk result (λ o. IfSome o (λ a. IsCertified model.now a
+        × (IsWarmEnd model.now budget (Some basis.now) a ⊎ IsColdEnd model.now budget route a))) }
+{
+    match unlimited_from(alloc, model, form, budget, basis)? {
+        Some(known) => Ok(Some(known)),
+        None => unlimited(alloc, model, form, budget, route),
     }
 }
 
@@ -105,13 +154,43 @@ pub fn solve_wide(alloc: Global, model: &Model, budget: u64) -> Result<WideSolve
         End::Ended { .. } | End::Spent => return Ok(WideSolved::Narrow(solved)),
     }
     match beyond(alloc, model, budget)? {
-        Some(known) => {
+        Some(found) => {
             drop(solved);
+            drop(found.basis);
             Ok(WideSolved::Wide {
-                answer: known.answer,
-                certificate: known.certificate,
+                answer: found.known,
+                certificate: found.certificate,
             })
         }
         None => Ok(WideSolved::Narrow(solved)),
+    }
+}
+
+/// Solves the model as `solve_formed` does from a basis of its form. Only where that is refused an operation, it goes on
+/// over rows of whole numbers: from the basis, and where that comes to no answer from the start that each model has. The
+/// certificate of either may have numbers of any width, and is checked. Where neither comes to an answer, the refusal
+/// stays.
+pub fn solve_wide_from(
+    alloc: Global,
+    model: &Model,
+    budget: u64,
+    form: &Form,
+    basis: &Basis,
+) -> Result<WideBased, AllocError>
+    requires formed { form_of (Some number_limit) model.now ≡ Ok form.now }
+    requires fits { IsBasisOf form.now basis.now }
+    ensures { IfOk result (IsWideFrom model.now budget (Some basis.now)) }
+{
+    let solved = solve_formed(alloc, model, budget, form, Some(basis))?;
+    match solved.end {
+        End::Past(_) => {}
+        End::Ended { .. } | End::Spent => return Ok(WideBased::Narrow(solved)),
+    }
+    match beyond_from(alloc, model, form, budget, basis, solved.route)? {
+        Some(found) => {
+            drop(solved);
+            Ok(WideBased::Wide(found))
+        }
+        None => Ok(WideBased::Narrow(solved)),
     }
 }
