@@ -267,7 +267,7 @@ command_words =
     (codes "run", command.Run)
     ∷ (codes "solve", command.ByWidth text.Solve text.SolveWide)
     ∷ (codes "check", command.ByWidth text.Check text.CheckWide)
-    ∷ (codes "basis", command.Read text.Basis)
+    ∷ (codes "basis", command.ByWidth text.Basis text.BasisWide)
     ∷ (codes "presolve", command.Read text.Presolve)
     ∷ (codes "iis", command.Read text.Iis)
     ∷ (codes "range", command.Range)

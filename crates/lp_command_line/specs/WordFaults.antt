@@ -122,7 +122,7 @@ faults =
     (codes "run", run_fault)
     ∷ (codes "solve", wide_fault)
     ∷ (codes "check", wide_fault)
-    ∷ (codes "basis", text_fault)
+    ∷ (codes "basis", wide_fault)
     ∷ (codes "presolve", text_fault)
     ∷ (codes "iis", text_fault)
     ∷ (codes "range", range_fault)

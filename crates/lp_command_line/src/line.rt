@@ -45,7 +45,13 @@ pub(crate) const COMMANDS: [(&[u8], Command); 9] = [
             wide: TextCommand::CheckWide,
         },
     ),
-    (b"basis", Command::Read(TextCommand::Basis)),
+    (
+        b"basis",
+        Command::ByWidth {
+            narrow: TextCommand::Basis,
+            wide: TextCommand::BasisWide,
+        },
+    ),
     (b"presolve", Command::Read(TextCommand::Presolve)),
     (b"iis", Command::Read(TextCommand::Iis)),
     (b"range", Command::Range),
