@@ -3,12 +3,12 @@ ghost use Rattle.std.specs.Prelude.{◌≡◌, None, IfOk, Ok, Some};
 ghost use Rattle.spec_simplex.specs.Form.{form_of};
 ghost use Rattle.spec_simplex.specs.Eliminate.{IsBasisOf};
 ghost use Rattle.spec_solve.specs.Answers.{number_limit, IsSolved};
-ghost use Rattle.spec_solve.specs.Wide.{IsWideSolved};
+ghost use Rattle.spec_solve.specs.Wide.{IsWideSolved, IsWideFrom};
 ghost use Rattle.lp_solve.specs.Fit.{LeavesBasis};
 
 use lp_form::{Basis, Form};
 use lp_model::Model;
-use lp_solve::{Solved, WideSolved, solve, solve_formed, solve_wide};
+use lp_solve::{Solved, WideBased, WideSolved, solve, solve_formed, solve_wide, solve_wide_from};
 use std::alloc::{AllocError, Global};
 
 /// The pivots and flips that a solve of a new session may make.
@@ -46,4 +46,19 @@ pub fn solved_from_basis(
     ensures basis { IfOk result (λ solved. LeavesBasis form.now solved.end) }
 {
     solve_formed(alloc, model, u64::from(budget), form, Some(basis))
+}
+
+/// The same, and where an operation is refused an answer with numbers of any width.
+pub fn wide_solved_from_basis(
+    alloc: Global,
+    model: &Model,
+    budget: u32,
+    form: &Form,
+    basis: &Basis,
+) -> Result<WideBased, AllocError>
+    requires formed { form_of (Some number_limit) model.now ≡ Ok form.now }
+    requires fits { IsBasisOf form.now basis.now }
+    ensures { IfOk result (λ solved. IsWideFrom model.now budget (Some basis.now) solved) }
+{
+    solve_wide_from(alloc, model, u64::from(budget), form, basis)
 }

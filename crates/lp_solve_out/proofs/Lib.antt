@@ -1,3 +1,4 @@
 -- Lemmas.
 pub mod Solving
 pub mod BasisPrints
+pub mod WideBasisPrints

@@ -66,8 +66,8 @@ fn print_from(alloc: Global, model: &Model, start: &Start, to: &mut Bytes) -> Re
     printed
 }
 
-// Writes what a solve ended with, and its basis.
-fn print_whole(
+/// Writes what a solve ended with, and its basis.
+pub(crate) fn print_whole(
     alloc: Global,
     model: &Model,
     form: &Form,
@@ -83,8 +83,8 @@ fn print_whole(
     print_final(alloc, model, form, &solved.end, to)
 }
 
-// A model without a form.
-fn print_formless(alloc: Global, model: &Model, to: &mut Bytes) -> Result<(), AllocError>
+/// The same of a model without a form.
+pub(crate) fn print_formless(alloc: Global, model: &Model, to: &mut Bytes) -> Result<(), AllocError>
     requires { IsStartOf model.now None }
     ensures { OnOk result (Prints (BasisOut (Ok (handed_of model.now None))) to.old to.new) }
 {

@@ -66,9 +66,9 @@ fn print_wide(
     print_wide_certificate(alloc, model, certificate, to)
 }
 
-// Writes the line of the answer.
+/// Writes the line of the answer.
 #[tactic(auto, unfolding(spec_server::specs::SolveWideOut::wide_known_line))]
-fn print_known(alloc: Global, answer: &Known, to: &mut Bytes) -> Result<(), AllocError>
+pub(crate) fn print_known(alloc: Global, answer: &Known, to: &mut Bytes) -> Result<(), AllocError>
     ensures { OnOk result (to.new ≡ to.old ++ wide_known_line answer.now) }
 {
     match answer {
@@ -90,8 +90,8 @@ fn print_optimal(alloc: Global, value: &Ratio, to: &mut Bytes) -> Result<(), All
     to.extend(line.as_slice())
 }
 
-// Writes the lines of the certificate.
-fn print_wide_certificate(
+/// Writes the lines of the certificate.
+pub(crate) fn print_wide_certificate(
     alloc: Global,
     model: &Model,
     certificate: &Certificate,
