@@ -1,5 +1,5 @@
 -- What `basis` writes of a model with a basis begins with the line of an answer that is shown of the model.
-use Rattle.std.proofs.Common.{◌≡◌, ℕ, ◌+◌, nat_eq, false, List, [], ◌∷◌, ◌++◌, Some, Ok, Err, refl, sym, ap}
+use Rattle.std.proofs.Common.{◌≡◌, ℕ, nat_eq, false, List, [], ◌∷◌, ◌++◌, Some, Ok, Err, refl, sym, ap}
 use Rattle.std.proofs.Common.{◌∙◌, append_assoc}
 use Rattle.std.specs.Prelude.{codes}
 use Rattle.spec_text.specs.declared.line.Line.{Line}
@@ -8,7 +8,7 @@ use Rattle.spec_model.specs.Model.{Model}
 use Rattle.spec_model.specs.Truth.{IsOptimal, IsInfeasible, IsUnbounded}
 use Rattle.spec_mps.specs.declared.style.Style.{Style}
 use Rattle.spec_mps.specs.NumberText.{Is, number_of}
-use Rattle.spec_mps.specs.Reader.{State, start}
+use Rattle.spec_mps.specs.Reader.{start}
 use Rattle.spec_mps.specs.Steps as text
 use Rattle.spec_warm.specs.Solve.{SolveEnd}
 use Rattle.spec_server.specs.declared.answer.Answer.{Answer}
@@ -23,32 +23,18 @@ use Rattle.spec_server.specs.BasisOut.{basis_fault_line, BasisOut}
 use Rattle.spec_truth.specs.SpelledBasis.{BeginsWithText, form_at_limit}
 use Rattle.spec_truth.specs.TrueAnswer.{IsTrueOf}
 use Rattle.spec_truth.proofs.Shown.{answer_shown, answer_holds}
+use Rattle.spec_truth.proofs.ReadLines.{spells_more}
 use Rattle.spec_truth.proofs.SolvedTexts.{IsAnswered}
 use Rattle.spec_truth.proofs.AnswerLines.{HasNoFeed, first, apart, optimal_line, infeasible_line, unbounded_line}
 use Rattle.spec_truth.proofs.BasisLemmas.{said_handed}
 
 -- ---- the text
 
--- what lines spell they spell with others behind them
-spelled_more : (style : Style) (s : State) (n : ℕ) (lines more : List (Line (List ℕ))) (m : Model) →
-    text.judge style s n lines ≡ text.Spelled m → text.judge style s n (lines ++ more) ≡ text.Spelled m
-spelled_more style s n [] more m e = cc
-spelled_more style s n (line ∷ lines) more m e =
-    by (text.step style s line) e (λ t. spelled_more style t (n + 1) lines more m)
-  where
-    by : (o : text.Outcome) → text.settled n (λ t. text.judge style t (n + 1) lines) o ≡ text.Spelled m →
-        ((t : State) → text.judge style t (n + 1) lines ≡ text.Spelled m →
-        text.judge style t (n + 1) (lines ++ more) ≡ text.Spelled m) →
-        text.settled n (λ t. text.judge style t (n + 1) (lines ++ more)) o ≡ text.Spelled m
-    by (Ok (text.More t)) h go = go t h
-    by (Ok (text.Done d)) h go = h
-    by (Err why) h go = cc
-
 begins_spells : (style : Style) (lines : List (Line (List ℕ))) (m : Model) (behind : List (Line (List ℕ))) →
     BeginsWithText style lines m behind → text.Spells style lines m
 begins_spells style lines m behind t =
     ap (text.judge style start 1) (t.cut ∙ sym (append_assoc t.front (t.last ∷ []) behind))
-    ∙ spelled_more style start 1 (t.front ++ t.last ∷ []) behind m t.spelled
+    ∙ spells_more style (t.front ++ t.last ∷ []) behind m t.spelled
 
 pub handed_spells : (style : Style) (lines : List (Line (List ℕ))) (handed : Handed) →
     basis_said style lines ≡ Some (Ok handed) → text.Spells style lines handed.model

@@ -62,7 +62,7 @@ memory_then held (ask.Plain command.Quit) = refl
 memory_then held (ask.Loaded m) = refl
 memory_then held asked = refl
 
-step_then : (places : ℕ) (old new : State) (asked : ExactAsk) (reads : List ExactRead) (replied : ExactReply) →
+pub step_then : (places : ℕ) (old new : State) (asked : ExactAsk) (reads : List ExactRead) (replied : ExactReply) →
     AloneStep places old asked reads replied new → new.model ≡ after_exchange old.model asked replied
 step_then places old new asked reads replied s = by (step_simply places old reads replied new asked s)
   where

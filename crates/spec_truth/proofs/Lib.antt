@@ -24,3 +24,17 @@ pub mod Agreement
 pub mod RangedTexts
 pub mod PresolvedTexts
 pub mod SidesTexts
+pub mod ReadLines
+pub mod TrueLines
+pub mod TrueTexts
+pub mod AskedEffects
+pub mod ToldReplies
+pub mod ToldModels
+pub mod ToldRuns
+pub mod TrueSeeds
+pub mod FirstAsks
+pub mod PlainWords
+pub mod PlainAsks
+pub mod PlainFaults
+pub mod PlainSettles
+pub mod PlainReplies

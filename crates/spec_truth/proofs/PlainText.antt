@@ -34,7 +34,7 @@ glyph_no_feed d = by (nat_lt d 10)
     by true e = omega (arith, e)
     by false e = omega (arith, e)
 
-either_no_feed : (t : Bool) (a b : List ℕ) → HasNoFeed a → HasNoFeed b → HasNoFeed (cond t a b)
+pub either_no_feed : (t : Bool) (a b : List ℕ) → HasNoFeed a → HasNoFeed b → HasNoFeed (cond t a b)
 either_no_feed true a b h k = h
 either_no_feed false a b h k = k
 

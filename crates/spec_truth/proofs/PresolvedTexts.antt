@@ -28,12 +28,12 @@ use Rattle.spec_truth.proofs.SolvedTexts.{solved_begins}
 
 -- ---- what is written
 
-record IsWayAndAnswer (m : Model) (written : List ℕ) : Type 0 where
-  way : Way ℚ
-  answer : Answer ℚ
-  behind : List ℕ
-  lines : written ≡ way_line way ++ (answer_text answer ++ 10 ∷ behind)
-  shown : IsShownBy m answer
+pub record IsWayAndAnswer (m : Model) (written : List ℕ) : Type 0 where
+  pub way : Way ℚ
+  pub answer : Answer ℚ
+  pub behind : List ℕ
+  pub lines : written ≡ way_line way ++ (answer_text answer ++ 10 ∷ behind)
+  pub shown : IsShownBy m answer
 
 pub presolved_begins : (m : Model) (p : ExactPresolved) →
     presolved_lines m p
@@ -41,7 +41,7 @@ pub presolved_begins : (m : Model) (p : ExactPresolved) →
 unfolding presolved_lines
 presolved_begins m p = ap (λ (bs : List ℕ). way_line p.way ++ bs) (solved_begins m p.end)
 
-out_answered : (m : Model) (written : List ℕ) → PresolveOut (Ok m) written → IsWayAndAnswer m written
+pub out_answered : (m : Model) (written : List ℕ) → PresolveOut (Ok m) written → IsWayAndAnswer m written
 out_answered m written out = record {
   way = out.0.way;
   answer = answer_of opening_budget out.0.end;

@@ -21,7 +21,7 @@ yes_to what = reply.Checked (verdict.Yes what)
 -- ---- by their first bytes
 
 -- it begins as OPTIMAL, INFEASIBLE or UNBOUNDED
-abbrev looks_known : List ℕ → Bool
+abbrev pub looks_known : List ℕ → Bool
 looks_known bytes = (first bytes == 73) || (first bytes == 85) || ((first bytes == 79) && (get_or bytes 1 0 == 80))
 
 not_so : {P : Type 0} → false ≡ true → P
@@ -45,10 +45,10 @@ known_reply reply.Memory h = not_so h
 known_reply (reply.Refused why) h = not_so h
 
 -- it begins as YES
-abbrev looks_yes : List ℕ → Bool
+abbrev pub looks_yes : List ℕ → Bool
 looks_yes bytes = first bytes == 89
 
-yes_reply : (is : ExactReply) → looks_yes (reply_text is) ≡ true → (what : Known ℚ) × (is ≡ yes_to what)
+pub yes_reply : (is : ExactReply) → looks_yes (reply_text is) ≡ true → (what : Known ℚ) × (is ≡ yes_to what)
 unfolding reply_text
 yes_reply (reply.Loaded rows columns) h = not_so h
 yes_reply (reply.Written text) h = not_so h
@@ -69,18 +69,18 @@ yes_reply (reply.Refused why) h = not_so h
 
 -- ---- what is known
 
-valued : (what : Known ℚ) (text : List ℕ) → known_text what ≡ codes "OPTIMAL " ++ text →
+pub valued : (what : Known ℚ) (text : List ℕ) → known_text what ≡ codes "OPTIMAL " ++ text →
     (v : ℚ) × (what ≡ known.Optimal v) × (number_text v ≡ text)
 valued (known.Optimal v) text e = (v, refl, cc)
 valued known.Infeasible text e = absurd (apart 73 79 refl (ap first e))
 valued known.Unbounded text e = absurd (apart 85 79 refl (ap first e))
 
-infeasible : (what : Known ℚ) → known_text what ≡ codes "INFEASIBLE" → what ≡ known.Infeasible
+pub infeasible : (what : Known ℚ) → known_text what ≡ codes "INFEASIBLE" → what ≡ known.Infeasible
 infeasible (known.Optimal v) e = absurd (apart 79 73 refl (ap first e))
 infeasible known.Infeasible e = refl
 infeasible known.Unbounded e = absurd (apart 85 73 refl (ap first e))
 
-unbounded : (what : Known ℚ) → known_text what ≡ codes "UNBOUNDED" → what ≡ known.Unbounded
+pub unbounded : (what : Known ℚ) → known_text what ≡ codes "UNBOUNDED" → what ≡ known.Unbounded
 unbounded (known.Optimal v) e = absurd (apart 79 85 refl (ap first e))
 unbounded known.Infeasible e = absurd (apart 73 85 refl (ap first e))
 unbounded known.Unbounded e = refl
@@ -110,11 +110,11 @@ unbounded_answer is e =
 
 -- ---- a yes to a certificate
 
-yes_text_is : (is : ExactReply) (what : Known ℚ) → is ≡ yes_to what → reply_text is ≡ codes "YES " ++ known_text what
+pub yes_text_is : (is : ExactReply) (what : Known ℚ) → is ≡ yes_to what → reply_text is ≡ codes "YES " ++ known_text what
 unfolding reply_text
 yes_text_is is what e = ap reply_text e
 
-behind_yes : (a b : List ℕ) → codes "YES " ++ a ≡ codes "YES " ++ b → a ≡ b
+pub behind_yes : (a b : List ℕ) → codes "YES " ++ a ≡ codes "YES " ++ b → a ≡ b
 behind_yes a b e = cc
 
 pub optimal_yes : (is : ExactReply) (text : List ℕ) → reply_text is ≡ codes "YES OPTIMAL " ++ text →

@@ -19,12 +19,12 @@ use Rattle.spec_truth.proofs.TrueReplies.{IsShownOfHeld, answer_is_shown, yes_is
 -- ---- the step of one exchange in a run
 
 -- a run of two lists is one of each
-record Splits (places : ℕ) (a c : State) (xs ys : List Exchange) : Type 0 where
-  middle : State
-  first : AloneRun places a xs middle
-  second : AloneRun places middle ys c
+pub record Splits (places : ℕ) (a c : State) (xs ys : List Exchange) : Type 0 where
+  pub middle : State
+  pub first : AloneRun places a xs middle
+  pub second : AloneRun places middle ys c
 
-split_run : (places : ℕ) (a c : State) (xs ys : List Exchange) → AloneRun places a (xs ++ ys) c →
+pub split_run : (places : ℕ) (a c : State) (xs ys : List Exchange) → AloneRun places a (xs ++ ys) c →
     Splits places a c xs ys
 split_run places a c [] ys run = record { middle = a; first = refl; second = run }
 split_run places a c (x ∷ xs) ys run =

@@ -25,7 +25,7 @@ unfolding wide_check_line
 line_of is text e = same_end (wide_reply_text is) text e
 
 -- it is a yes with a value, or its text is that of all replies
-valued_or_same : (is : ExactReply) →
+pub valued_or_same : (is : ExactReply) →
     ((v : ℚ) × (is ≡ yes_to (known.Optimal v))) ⊎ (wide_reply_text is ≡ reply_text is)
 valued_or_same (reply.Loaded rows columns) = inr refl
 valued_or_same (reply.Written text) = inr refl

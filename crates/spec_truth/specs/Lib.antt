@@ -7,3 +7,4 @@ pub mod AcceptedLines
 pub mod Agree
 pub mod SaidRange
 pub mod SaidSides
+pub mod TrueOutput

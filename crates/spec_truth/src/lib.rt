@@ -16,8 +16,9 @@
 //! | `RepliesAgree` | replies that two runs of one session may give to the same asks | specs/Agree |
 #![tactic(auto)]
 
-ghost use Rattle.std.specs.Prelude.{◌≡◌, ◌≢◌, ◌≤◌, ◌↔◌, ◌⊎◌, ℕ, Some, None, Ok, Err};
+ghost use Rattle.std.specs.Prelude.{◌≡◌, ◌≢◌, ◌≤◌, ◌↔◌, ◌⊎◌, ℕ, Option, Some, None, Ok, Err};
 ghost use Rattle.std.specs.Prelude.{List, [], ◌∷◌, ◌++◌, length, take, map, All, codes, decimal};
+ghost use Rattle.std.specs.List.{flat_map};
 ghost use Rattle.spec_text.specs.Lines.{lines_of, ended_lines_of, input_limit};
 ghost use Rattle.spec_text.specs.declared.line.Line.{Line};
 ghost use Rattle.spec_exact.specs.Fraction.{ℚ};
@@ -50,22 +51,26 @@ ghost use Rattle.spec_server.specs.declared.asks.Reply.TheVariants as reply;
 ghost use Rattle.spec_server.specs.declared.basis.BasisFault.TheVariants as basis_fault;
 ghost use Rattle.spec_server.specs.declared.command.Plain.TheVariants as command;
 ghost use Rattle.spec_server.specs.Machine.{ExactAsk, ExactReply, State, opening};
-ghost use Rattle.spec_server.specs.Exchanges.{Exchange, of_session, AloneRun, RunAlone};
+ghost use Rattle.spec_server.specs.Exchanges.{Exchange, asked_in, of_session, AloneRun, RunAlone};
 ghost use Rattle.spec_truth.specs.Agree.{HasMemory, RepliesAgree};
 ghost use Rattle.spec_server.specs.Script.{Between, asks_from, ended_asks_of, script_of};
-ghost use Rattle.spec_server.specs.Output.{reply_text};
+ghost use Rattle.spec_server.specs.Output.{reply_text, reply_lines};
 ghost use Rattle.spec_server.specs.CheckOut.{said, check_line};
 ghost use Rattle.spec_server.specs.CheckWideOut.{wide_said, wide_check_line};
 ghost use Rattle.spec_server.specs.SolveOut.{TextSaid, text_said, SolveOut};
 ghost use Rattle.spec_server.specs.SolveWideOut.{SolveWideOut};
 ghost use Rattle.spec_server.specs.BasisOut.{Handed, BasisSaid, basis_said, BasisOut};
 ghost use Rattle.spec_server.specs.BasisWideOut.{BasisWideOut};
+ghost use Rattle.spec_server.specs.Said.{IsSaid};
+ghost use Rattle.spec_program.specs.declared.command_line.CommandLine.TheVariants as lines;
 ghost use Rattle.spec_program.specs.declared.command_line.Moved.{Moved};
 ghost use Rattle.spec_program.specs.GenOut.{entry_count, size_text, GenOut};
 ghost use Rattle.spec_program.specs.IisOut.{IisOut};
 ghost use Rattle.spec_presolve.specs.declared.presolved.Way.{Way};
 ghost use Rattle.spec_program.specs.PresolveOut.{way_line, PresolveOut};
 ghost use Rattle.spec_program.specs.RangeOut.{place_by, RangeOut};
+ghost use Rattle.spec_program.specs.CommandLine.{ExactTextCommand};
+ghost use Rattle.spec_program.specs.TextOut.{SaidBy, said_of, MayWrite};
 ghost use Rattle.spec_truth.specs.AcceptedLines.{IsAccepted};
 ghost use Rattle.spec_truth.specs.Certified.{IsCertified, IsWidelyCertified};
 ghost use Rattle.spec_truth.specs.LoadedFrom.{IsLoadedFrom};
@@ -74,6 +79,7 @@ ghost use Rattle.spec_truth.specs.SaidRange.{SaysRange};
 ghost use Rattle.spec_truth.specs.SaidSides.{SaysSides};
 ghost use Rattle.spec_truth.specs.SpelledBasis.{BeginsWithText, AreHanded, HaveWrongFile};
 ghost use Rattle.spec_truth.specs.TrueAnswer.{Says, IsTrueOf, IsNarrowKnown};
+ghost use Rattle.spec_truth.specs.TrueOutput.{IsTrueOfText, AreTrueReplies, IsTrueOf as is_true_of};
 
 /// A session holds the model that its asks and replies say.
 pub fn sessions_hold_the_model_then()
@@ -434,4 +440,26 @@ pub fn runs_of_the_same_asks_agree()
     ensures { (places places' : ℕ) (xs ys : List Exchange) (last last' : State) →
         AloneRun places opening xs last → AloneRun places' opening ys last' →
         map (λ x. x.ask) xs ≡ map (λ y. y.ask) ys → HasMemory xs → HasMemory ys → RepliesAgree xs ys }
+{}
+
+/// What a command that reads a text may write of it is true of the model that the lines of the text spell.
+pub fn outputs_of_texts_are_true()
+    ensures { (command : ExactTextCommand) (style : Style) (after : Option (List ℕ)) (read written : List ℕ)
+        (what : SaidBy command) → IsSaid (said_of command style) after read what → MayWrite command what written →
+        IsTrueOfText command (Spells style (lines_of read)) written }
+{}
+
+/// What `gen` may write is true of the model that is made from the seed.
+pub fn outputs_of_seeds_are_true()
+    ensures { (seed rows columns : ℕ) (read written : List ℕ) → GenOut seed rows columns written →
+        is_true_of (lines.Generate seed rows columns) read written }
+{}
+
+/// In a run of sessions that are asked what lines ask first, what is written of the replies is true of the models that
+/// the sessions have then.
+pub fn outputs_of_sessions_are_true()
+    ensures { (places : ℕ) (addressing : Addressing) (read : List ℕ) (exchanges : List Exchange)
+        (later : List (asked_of ExactAsk)) → RunAlone places exchanges →
+        asks_from addressing Between (lines_of read) ≡ map asked_in exchanges ++ later →
+        AreTrueReplies addressing read (flat_map (λ x. reply_lines addressing x.session x.reply) exchanges) }
 {}
