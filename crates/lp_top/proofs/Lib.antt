@@ -1,2 +1,3 @@
 -- Lemmas.
 pub mod Telling
+pub mod Truth

@@ -21,6 +21,8 @@ ghost use Rattle.lp_link.specs.Listening.{listener_of};
 ghost use Rattle.lp_serve.specs.Serving.{SomeFailed};
 ghost use Rattle.lp_top.specs.Status.{code_of_fault};
 ghost use Rattle.lp_top.specs.Top.{Does, DoesOver, HasListeners, IsStatus};
+ghost use Rattle.lp_top.specs.TrueLinks.{AreTrueListeners};
+ghost use Rattle.spec_truth.specs.TrueOutput.{IsTrueOutput};
 
 use lp_base::{Sink, Source};
 use lp_command_line::command_line_of;
@@ -75,6 +77,14 @@ where
         (map (listener_of N.log N.accept_faults) nets.old.items)
         (map (listener_of N.log N.accept_faults) nets.new.items) result.code }
     ensures nets { vec_len nets.new ≡ vec_len nets.old }
+
+    // What was written is true: each answer of the model that a text spells, of the one that is made from a seed, or of
+    // the one that its session has then. So it is of what was written to links.
+    ensures truth { IsTrueOutput (command_line_of (map string_bytes words.now))
+        (streams (S.left src.old) (S.left src.new) (K.taken out.old) (K.taken out.new)) }
+    ensures truth_of_links { AreTrueListeners (command_line_of (map string_bytes words.now))
+        (map (listener_of N.log N.accept_faults) nets.old.items)
+        (map (listener_of N.log N.accept_faults) nets.new.items) }
 
     ensures codes { IsStatus (command_line_of (map string_bytes words.now)) result.code }
 
