@@ -1,16 +1,17 @@
 #!/usr/bin/env python3
-"""Counts the definitions that the contract of `lpd_top` rests on, and the crates above some of them.
+"""Counts the definitions that the contract of `lpd_top` rests on, those of its truth clause, and the crates above some of them.
 
     count_definitions.py              prints the numbers, each with what it is
     count_definitions.py --files      prints the files with these definitions, each behind those that it rests on: how many of
-                                      its lines count, for all commands, for `run` alone and for `solve` alone
+                                      its lines count, for all commands, for `run` alone, for `solve` alone, and for the truth
+                                      clause
     count_definitions.py --check      compares the numbers with those in docs/READING.md, with a line for each that is larger
                                       than the page says; the status is 1 where one is
 
 It reads the sources alone. From the clauses of `lpd_top` on, each name leads to what it names, by the `use` lines of the file
 that it stands in: to a definition in specs/, or to a type in src/ that definitions share with the code. A definition counts
 once, with all its lines but blank ones and those that hold a comment or an attribute alone. So `use` lines do not count, nor
-what no definition on the way names. For one command alone, the rows of definitions that are of another command are left out,
+what no definition on the way names. The truth clause is those clauses whose names begin with `truth`. For one command alone, the rows of definitions that are of another command are left out,
 with all that only they name; what stands in the table of commands is not told apart.
 
 Not counted are the definitions of the kit, the traits of the signature, and the types of the code that it names.
@@ -29,6 +30,8 @@ TOP = Path(__file__).resolve().parent.parent
 CRATES = TOP / "crates"
 PAGE = TOP / "docs" / "READING.md"
 CONTRACT = ("lp_top", "lpd_top")
+# The name of the clause that says that what is written is true, with which those of its further parts begin.
+TRUTH = "truth"
 # The types whose variants are the commands, and which of these one command is.
 COMMAND_LINES = ("spec_program", "command_line")
 COMMANDS = {"CommandLine", "TextCommand"}
@@ -283,21 +286,23 @@ def check_variants(variants: set[str]) -> None:
             raise NotFound(f"{'::'.join(COMMAND_LINES)} has no command {variant}")
 
 
-def contract() -> list[Target]:
-    """What the clauses of the top call name."""
+def contract(name: str) -> list[Target]:
+    """What those clauses of the top call name whose own names begin so."""
     crate, function = CONTRACT
     root = specs(CRATES / crate / "src" / "lib.rt")
     signature = re.search(rf"^pub fn {function}\b.*?^{{", root.text, re.M | re.S)
-    clauses = re.findall(r"\{ .*? \}$", signature[0], re.M | re.S) if signature else []
-    if not clauses:
-        raise NotFound(f"{root.path.relative_to(TOP)} has no contract of {function}")
-    return root.named_in("\n".join(clauses))
+    clauses = re.findall(r"(?:requires|ensures) (\w+) (\{ .*? \})$", signature[0], re.M | re.S) if signature else []
+    found = [text for clause, text in clauses if clause.startswith(name)]
+    if not found:
+        raise NotFound(f"{root.path.relative_to(TOP)} has no contract of {function} with a clause {name}")
+    return root.named_in("\n".join(found))
 
 
-def reached(variants: set[str] | None = None) -> dict[Definition, int]:
-    """What the contract rests on, with how many of its lines count: for all commands, or for the one of these variants."""
+def reached(variants: set[str] | None = None, clause: str = "") -> dict[Definition, int]:
+    """What the contract rests on, with how many of its lines count: for all commands, or for the one of these variants; by all
+    clauses, or by those whose names begin so."""
     found: dict[Definition, int] = {}
-    left = contract()
+    left = contract(clause)
     if variants:
         check_variants(variants)
     while left:
@@ -374,6 +379,9 @@ def numbers() -> dict[str, int]:
         "crates in which these lines stand": len({definition.file.crate for definition in whole}),
         "of these lines, those for `run` alone": sum(reached(ALONE["run"]).values()),
         "of these lines, those for `solve` alone": sum(reached(ALONE["solve"]).values()),
+        "lines that the truth clause rests on": sum(reached(clause=TRUTH).values()),
+        "of the lines of the truth clause, those for `run` alone": sum(reached(ALONE["run"], TRUTH).values()),
+        "of the lines of the truth clause, those for `solve` alone": sum(reached(ALONE["solve"], TRUTH).values()),
         "crates above `spec_mps`": len(above("spec_mps")),
         "crates that a change of `SolveOut`, what `solve` writes, proves anew": len(above(home_of("SolveOut", whole))) + 1,
         "crates in all": len(crates_below()),
@@ -399,8 +407,8 @@ def compare() -> int:
 
 def print_files() -> None:
     whole = reached()
-    counts = [by_file(whole), *(by_file(reached(variants)) for variants in ALONE.values())]
-    print(*(f"{command:>5}" for command in ["all", *ALONE]))
+    counts = [by_file(whole), *(by_file(reached(variants)) for variants in ALONE.values()), by_file(reached(clause=TRUTH))]
+    print(*(f"{command:>5}" for command in ["all", *ALONE, "truth"]))
     for file in in_order(whole):
         print(*(f"{lines.get(file, 0):5}" for lines in counts), file.path.relative_to(TOP))
 
