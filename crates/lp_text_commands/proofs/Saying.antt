@@ -8,7 +8,7 @@ use Rattle.spec_mps.specs.Reader.{start}
 use denote.Ref.{Bor}
 use Rattle.spec_program.specs.declared.command_line.Moved.{Moved}
 use Rattle.spec_program.specs.declared.command_line.TextCommand.{TextCommand}
-use Rattle.spec_program.specs.declared.command_line.TextCommand.TheVariants.{Solve, SolveWide, Check, CheckWide, Basis, Presolve, Iis, Range}
+use Rattle.spec_program.specs.declared.command_line.TextCommand.TheVariants.{Solve, SolveWide, Check, CheckWide, Basis, BasisWide, Presolve, Iis, Range}
 use Rattle.lp_text_commands.specs.declared.tasked.Task.TheVariants as task
 use Rattle.lp_text_commands.specs.Tasked.{TaskOut, task_code}
 use Rattle.spec_program.specs.RangeOut.{RangeOut, range_code}
@@ -28,6 +28,7 @@ use Rattle.lp_solve_out.specs.Prints.{Prints}
 use Rattle.lp_text_commands.specs.Hearing.{Agrees, Hears, HearsSo, SaysSo}
 use Rattle.lp_text_commands.specs.Writing.{WritesAll, WritesInPart, WritesSo}
 use Rattle.spec_server.specs.BasisOut.{BasisSaid, basis_said, BasisOut, basis_code}
+use Rattle.spec_server.specs.BasisWideOut.{BasisWideOut}
 use Rattle.lp_text_commands.specs.declared.basis.BasisStage.TheVariants as basis_stage
 use Rattle.lp_text_commands.specs.Basis.{BasisSays}
 use Rattle.lp_text_commands.specs.declared.check_wide.WideStage.TheVariants as wide_stage
@@ -156,6 +157,13 @@ module _ (style : Style) (reader : TextRead) (begun : reader ≡ record { style 
       ReadsText (spelled_text command) style s result
   basis_reads command asked s result h =
       reads_as command Basis style s result asked (h (basis_said style) basis_agrees)
+
+  pub wide_basis_reads : (command : Asked) → command ≡ BasisWide → (s : Streams) (result : Result ExitStatus Halt) →
+      ((said : List (Line (List ℕ)) → Option BasisSaid) → Agrees (BasisSays (basis_stage.Text reader)) said →
+      SaysSo said BasisWideOut basis_code s result) →
+      ReadsText (spelled_text command) style s result
+  wide_basis_reads command asked s result h =
+      reads_as command BasisWide style s result asked (h (basis_said style) basis_agrees)
 
   pub range_reads : (command : Asked) (moved : Moved) (name : Bor (List ℕ)) → command ≡ Range moved name →
       (s : Streams) (result : Result ExitStatus Halt) →

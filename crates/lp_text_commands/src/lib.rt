@@ -1,5 +1,5 @@
 //! The commands that read the text of a model from an input: to solve it, at 127 bits, at any width or by a smaller model,
-//! to check the certificate after it, to solve it from the basis of the file after it, to find limits that contradict each
+//! to check the certificate after it, to solve it from the basis of the file after it, at 127 bits or at any width, to find limits that contradict each
 //! other, and to range one of its numbers.
 //!
 //! | Item | What it is | Where |
@@ -9,10 +9,12 @@
 //! | `say`, `Output` | reads an input, and writes what is said of it, whatever says it | src/hearing |
 //! | `say_range`, `Ranged` | the same of a text of which a number is ranged | src/ranged |
 //! | `say_tasked`, `Task`, `Tasked` | the same of a text of whose model more is asked than a solve at 127 bits | src/tasked |
+//! | `say_wide_basis`, `WideBasis` | the same of a text and the basis file after it, where numbers may have any width | src/based |
 //! | `CheckStage`, `WideStage`, `BasisStage` | where the reading stands | src/check, src/check_wide, src/basis |
 //! | `ReadsText`, `TellsOfText` | what is read and written, by the answer and by the status | specs/TextCommands |
 #![tactic(auto)]
 
+mod based;
 mod basis;
 mod basis_file;
 mod check;

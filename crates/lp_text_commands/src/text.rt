@@ -5,6 +5,7 @@ ghost use Rattle.spec_server.specs.Streams.{streams};
 ghost use Rattle.spec_program.specs.Spelled.{spelled_text};
 ghost use Rattle.lp_text_commands.specs.TextCommands.{ReadsText};
 
+use crate::based::say_wide_basis;
 use crate::basis::BasisStage;
 use crate::check::CheckStage;
 use crate::check_wide::WideStage;
@@ -39,6 +40,7 @@ pub fn read_text<S: Source, K: Sink>(
         TextCommand::Check => say(alloc, CheckStage::Text(text), src, out),
         TextCommand::CheckWide => say(alloc, WideStage::Text(text), src, out),
         TextCommand::Basis => say(alloc, BasisStage::Text(text), src, out),
+        TextCommand::BasisWide => say_wide_basis(alloc, text, src, out),
         TextCommand::Presolve => say_tasked(alloc, text, Task::Presolve, src, out),
         TextCommand::Iis => say_tasked(alloc, text, Task::Search, src, out),
         TextCommand::Range { moved, name } => say_range(alloc, text, moved, name, src, out),

@@ -4,7 +4,7 @@ use Rattle.std.specs.Io.KnownBytes.{Consumes}
 use denote.Ref.{Bor}
 use Rattle.spec_text.specs.declared.line.Line.{Line}
 use Rattle.spec_program.specs.declared.command_line.CommandLine.{CommandLine}
-use Rattle.spec_program.specs.declared.command_line.TextCommand.TheVariants.{Solve, SolveWide, Check, CheckWide, Basis, Presolve, Iis, Range}
+use Rattle.spec_program.specs.declared.command_line.TextCommand.TheVariants.{Solve, SolveWide, Check, CheckWide, Basis, BasisWide, Presolve, Iis, Range}
 use Rattle.spec_program.specs.CommandLine.{ExactTextCommand}
 use Rattle.spec_program.specs.Spelled.{spelled}
 use Rattle.spec_program.specs.RangeOut.{place_by, place_code}
@@ -159,6 +159,8 @@ text_codes Check what = check_codes what
 text_codes CheckWide what = check_codes what
 text_codes Basis (Ok handed) = inl refl
 text_codes Basis (Err fault) = inr refl
+text_codes BasisWide (Ok handed) = inl refl
+text_codes BasisWide (Err fault) = inr refl
 text_codes Presolve (Ok m) = inl refl
 text_codes Presolve (Err fault) = inr refl
 text_codes Iis (Ok m) = inl refl

@@ -1,5 +1,5 @@
 -- From the start of a text on.
-use Rattle.lp_text_commands.proofs.Saying.{solve_reads, wide_solve_reads, check_reads, wide_reads, basis_reads, presolve_reads, iis_reads, range_reads}
+use Rattle.lp_text_commands.proofs.Saying.{solve_reads, wide_solve_reads, check_reads, wide_reads, basis_reads, wide_basis_reads, presolve_reads, iis_reads, range_reads}
 use Rattle.lp_text_commands.proofs.text.read_text.Goals as goal
 
 pub returns-in-Solve-clause-output : goal.returns-in-Solve-clause-output
@@ -25,6 +25,11 @@ pub returns-in-Basis-clause-output : goal.returns-in-Basis-clause-output
 returns-in-Basis-clause-output g c =
     basis_reads c.args.style c.new-text.result c.new-text.ensures c.args.command c.in-Basis.is _ _
     c.say-in-Basis.ensures.output
+
+pub returns-in-BasisWide-clause-output : goal.returns-in-BasisWide-clause-output
+returns-in-BasisWide-clause-output g c =
+    wide_basis_reads c.args.style c.new-text.result c.new-text.ensures c.args.command c.in-BasisWide.is _ _
+    c.say_wide_basis.ensures.output
 
 pub returns-in-Presolve-clause-output : goal.returns-in-Presolve-clause-output
 returns-in-Presolve-clause-output g c =

@@ -1,0 +1,19 @@
+-- What is written of what is said.
+use Rattle.std.proofs.lemmas.Result.{err_from_is_err_and}
+use Rattle.spec_server.specs.BasisOut.{basis_code}
+use Rattle.spec_server.specs.BasisWideOut.{BasisWideOut}
+use Rattle.lp_text_commands.proofs.Saying.{says_nothing, says}
+use Rattle.lp_text_commands.proofs.based.say_wide_basis.Goals as goal
+
+pub returns-in_err-said-clause-output : goal.returns-in_err-said-clause-output
+returns-in_err-said-clause-output g c = λ tells agrees.
+    let p = err_from_is_err_and c.from_residual.result c.from_residual.ensures.1 in
+    says_nothing tells BasisWideOut basis_code (g.S.Source.left c.args.src.now) (g.S.Source.left c.hear_input.new.src)
+    (g.K.Sink.taken c.args.out.now) c.in_err-said.field-0.0 (c.in_err-said.ensures.output tells agrees)
+    c.from_residual.result p.0 p.1 p.2
+
+pub returns-clause-output : goal.returns-clause-output
+returns-clause-output g c = λ tells agrees.
+    says tells BasisWideOut basis_code (g.S.Source.left c.args.src.now) (g.S.Source.left c.hear_input.new.src)
+    (g.K.Sink.taken c.args.out.now) c.in_ok-said.said (c.in_ok-said.ensures.output tells agrees) _ c.write_said.result
+    c.write_said.ensures.output
