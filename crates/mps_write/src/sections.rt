@@ -95,10 +95,15 @@ impl Writer {
         ensures { Adds self.now.style (map written.row_card model.now.rows) to.old to.new result }
     {
         for i in 0..model.rows() {
-            let row = model.row(i);
-            self.type_card(kind_word(row.kind), row.name.as_slice(), to)?;
+            self.row_card(model.row(i), to)?;
         }
         Ok(())
+    }
+
+    fn row_card(&self, row: &Row, to: &mut Bytes) -> Result<(), WriteFault>
+        ensures { Adds self.now.style (written.row_card row.now ∷ []) to.old to.new result }
+    {
+        self.type_card(kind_word(row.kind), row.name.as_slice(), to)
     }
 
     /// `COLUMNS`: each column's cost and its entries.
