@@ -1,41 +1,44 @@
-"""A floating point solver's answer, made exact: by `lpd basis` from its basis, or by exact steps in Python from there
-where that has no answer. The certificate is judged by the checkers."""
+"""A floating point solver's answer, made exact: by `lpd basis --wide` from its basis, or by exact steps in Python from there
+where that has no answer. The certificate is judged by the checkers.
+
+`lpd basis --wide` writes what `lpd basis` writes, and goes on where that ends past 127 bits: so it alone is asked. A program
+without it is asked for `lpd basis`, and once more with rows and columns in another order."""
 from __future__ import annotations
 
-from dataclasses import dataclass, field
+from dataclasses import dataclass, field, replace
 from fractions import Fraction
 from typing import List, Optional, Sequence, Tuple
 
 from .basis_file import basis_lines, reordered
 from .certificate import check_lines
 from .dialects import PROFILE, written
-from .errors import LpdError, ProgramEnded, TextFault
-from .exact import Basis, Simplex, Watch, certificate_lines
+from .errors import CommandMissing, LpdError, ProgramEnded, TextFault
+from .exact import Basis, OutOfTime, Simplex, Watch, certificate_lines
 from .floating import NONE, Claim, ask
 from .from_basis import FromBasis, solve_from
 from .judging import LPD_CHECK, PYTHON_ALONE, TOO_WIDE, NotCertified, judged
 from .model import Model, read_model
-from .once import BAD_WORDS
 from .replies import Accepted, Answer, Known, Optimal, Past, Spent
 
 PROGRAM, PYTHON = "lpd", "python"
 WAYS = (PROGRAM, PYTHON)
+BASIS, BASIS_WIDE = "lpd basis", "lpd basis --wide"
 NO_BASIS = "it gives no basis, so the steps begin where the sums of all rows are basic"
 
 
 class NotAnswered(LpdError):
-    """`lpd basis` has no answer: why, and, where it ended past 127 bits or its budget, that."""
+    """`lpd basis`, or `lpd basis --wide`, has no answer: why, and, where it ended past its numbers or its budget, that."""
 
-    def __init__(self, why: str, answer: Optional[Answer] = None) -> None:
-        self.answer = answer
-        super().__init__(f"lpd basis has no answer: {why}")
+    def __init__(self, why: str, answer: Optional[Answer] = None, command: str = BASIS) -> None:
+        self.why, self.answer = why, answer
+        super().__init__(f"{command} has no answer: {why}")
 
 
 @dataclass(frozen=True)
 class Exact:
     """What is exactly true, its certificate, and the steps to it from the solver's basis. `way` is what took them:
-    PROGRAM, whose `start` says whether it began there (WARM, FELL and why, or COLD), or PYTHON. The notes say what of
-    the basis was not handed on, and why the program has no answer."""
+    PROGRAM, by which `command` (BASIS_WIDE or BASIS), whose `start` says whether it began there (WARM, FELL and why, or
+    COLD), or PYTHON. The notes say what of the basis was not handed on, and why the program has no answer."""
 
     known: Known
     certificate: List[str]
@@ -43,6 +46,7 @@ class Exact:
     way: str
     start: str = ""
     notes: List[str] = field(default_factory=list)
+    command: str = ""
 
 
 @dataclass(frozen=True)
@@ -60,6 +64,7 @@ class Certified:
     way: str = PYTHON
     start: str = ""
     notes: List[str] = field(default_factory=list)
+    command: str = ""
 
     @property
     def narrow(self) -> bool:
@@ -94,50 +99,82 @@ def certified(model: Model, claim: Claim, watch: Optional[Watch] = None) -> Tupl
     return verdict.known, lines, simplex.steps
 
 
-def answered(text: str, basis: Sequence[str]) -> FromBasis:
-    """What `lpd basis` answers from a basis file. Where it has no answer NotAnswered says why."""
+def answered(text: str, basis: Sequence[str], command: str = BASIS, seconds: Optional[float] = None) -> FromBasis:
+    """What the command answers from a basis file. Where it has no answer NotAnswered says why, and CommandMissing that the program
+    has no such command."""
     try:
-        found = solve_from(text, basis)
+        found = solve_from(text, basis, wide=command == BASIS_WIDE, seconds=seconds)
     except TextFault as fault:
         if fault.fault != TOO_WIDE:
             raise
-        raise NotAnswered(f"line {fault.line} of the model has a number past 127 bits") from None
-    except ProgramEnded as ended:
-        if ended.status != BAD_WORDS:
-            raise
-        raise NotAnswered("this program has no command basis") from None
+        raise NotAnswered(f"line {fault.line} of the model has a number past 127 bits", command=command) from None
+    except CommandMissing:
+        raise
+    except (OutOfTime, ProgramEnded) as ended:
+        raise NotAnswered(str(ended), command=command) from None
     if isinstance(found.answer, (Past, Spent)):
         began = f" ({found.start})" if found.start.startswith("FELL") else ""
-        raise NotAnswered(f"it ends with {found.answer}{began}", found.answer)
+        raise NotAnswered(f"it ends with {found.answer}{began}", found.answer, command)
     return found
 
 
-def by_program(text: str, model: Model, basis: Basis, lines: Sequence[str], notes: List[str]) -> Exact:
-    """The answer of `lpd basis`, with a certificate that the checker in Python accepts. Where numbers pass 127 bits on the
-    way to the basis, it is asked once more with rows and columns in another order."""
+def exact_of(model: Model, found: FromBasis, command: str, notes: Sequence[str]) -> Exact:
+    """What the command answers, with a certificate that the checker in Python accepts."""
+    verdict = check_lines(model, found.certificate, wide=command == BASIS_WIDE)
+    if not isinstance(verdict, Accepted) or verdict.known != found.answer:
+        raise NotCertified(f"{command} answers {found.answer}, and the checker in Python says {verdict} to its certificate")
+    return Exact(verdict.known, found.certificate, found.pivots or 0, PROGRAM, found.start, list(notes), command)
+
+
+def by_narrow(text: str, model: Model, basis: Basis, lines: Sequence[str], seconds: Optional[float]) -> Exact:
+    """The answer of `lpd basis`. Where numbers pass 127 bits on the way to the basis, it is asked once more with rows and
+    columns in another order."""
     try:
-        found = answered(text, lines)
+        return exact_of(model, answered(text, lines, BASIS, seconds), BASIS, [])
     except NotAnswered as failed:
         if not isinstance(failed.answer, Past):
             raise
-        found = answered(written(reordered(model, basis), PROFILE).text, lines)
-        notes = [*notes, f"{failed}, and answers with the rows and columns in another order"]
-    verdict = check_lines(model, found.certificate)
-    if not isinstance(verdict, Accepted) or verdict.known != found.answer:
-        said = f"the checker in Python says {verdict} to its certificate"
-        raise NotCertified(f"lpd basis answers {found.answer}, and {said}")
-    return Exact(verdict.known, found.certificate, found.pivots or 0, PROGRAM, found.start, notes)
+        found = answered(written(reordered(model, basis), PROFILE).text, lines, BASIS, seconds)
+        return exact_of(model, found, BASIS, [f"{failed}, and answers with the rows and columns in another order"])
 
 
-def made_exact(text: str, model: Model, claim: Claim, way: Optional[str] = None, watch: Optional[Watch] = None) -> Exact:
-    """What is exactly true of the model of a text, from a solver's basis: by `lpd basis`, and where it has no answer by
-    exact steps in Python, which the watch may end, or only one of the two ways."""
+def by_program(text: str, model: Model, basis: Basis, lines: Sequence[str], wide: bool, seconds: Optional[float]) -> Exact:
+    """The answer of `lpd basis --wide`; that of `lpd basis` where the program has no such switch, or without `wide`."""
+    missing = ""
+    if wide:
+        try:
+            return exact_of(model, answered(text, lines, BASIS_WIDE, seconds), BASIS_WIDE, [])
+        except CommandMissing as switch:
+            missing = f", and {switch}"
+    try:
+        return by_narrow(text, model, basis, lines, seconds)
+    except CommandMissing as command:
+        raise NotAnswered(str(command)) from None
+    except NotAnswered as failed:
+        raise NotAnswered(f"{failed.why}{missing if isinstance(failed.answer, Past) else ''}", failed.answer) from None
+
+
+def made_exact(
+    text: str,
+    model: Model,
+    claim: Claim,
+    way: Optional[str] = None,
+    watch: Optional[Watch] = None,
+    wide: bool = True,
+) -> Exact:
+    """What is exactly true of the model of a text, from a solver's basis: by the program, with `wide` in numbers of any width, and
+    where that has no answer by exact steps in Python; or only one of the two ways. The program has half of the watch's seconds
+    where steps may follow, which the watch may end."""
     notes: List[str] = []
+    watch = watch or Watch()
     if way != PYTHON:
         basis = claim.basis or Basis()
         lines, notes = basis_lines(model, basis)
+        seconds = watch.left() if way == PROGRAM else watch.half().left()
         try:
-            return by_program(text, model, basis, lines, notes)
+            with watch.telling(BASIS_WIDE if wide else BASIS):
+                found = by_program(text, model, basis, lines, wide, seconds)
+            return replace(found, notes=[*notes, *found.notes])
         except NotAnswered as failed:
             if way == PROGRAM:
                 raise
@@ -148,8 +185,8 @@ def made_exact(text: str, model: Model, claim: Claim, way: Optional[str] = None,
 
 def certify(text: str, solver: str = "glpsol", seconds: Optional[float] = None, way: Optional[str] = None) -> Certified:
     """What is exactly true of the model that a text of the profile spells, whose numbers may have any width: by `lpd
-    basis` from the solver's basis, or else by exact steps in Python; `way` names the one that alone is taken. The solver may take
-    so many seconds, and the steps behind it as many: then they end with OutOfTime."""
+    basis --wide` from the solver's basis, or else by exact steps in Python; `way` names the one that alone is taken. The solver
+    may take so many seconds, and what comes behind it as many: then it ends with OutOfTime."""
     model = read_model(text, wide=True)
     claim = ask(solver, model, seconds)
     with Watch(seconds) as watch:
@@ -158,4 +195,5 @@ def certify(text: str, solver: str = "glpsol", seconds: Optional[float] = None, 
     if by.known not in (None, found.known):
         raise NotCertified(f"{by.judge} says {by.known}, and the checker in Python {found.known}")
     notes = ([] if claim.basis or solver == NONE else [NO_BASIS]) + found.notes
-    return Certified(found.known, found.certificate, claim, found.steps, by.judge, by.why, found.way, found.start, notes)
+    more = (by.judge, by.why, found.way, found.start, notes, found.command)
+    return Certified(found.known, found.certificate, claim, found.steps, *more)

@@ -1,4 +1,5 @@
-"""`lpd basis`: a solve that begins with a basis which it is handed, and the basis that it ends with."""
+"""`lpd basis`: a solve that begins with a basis which it is handed, and the basis that it ends with; with `--wide` it goes on
+where a number passes 127 bits, to a certificate whose numbers have any width."""
 from __future__ import annotations
 
 from dataclasses import dataclass
@@ -6,7 +7,7 @@ from typing import List, Optional, Sequence
 
 from .errors import Unexpected
 from .model import words_of
-from .once import answer_in, output_of, unexpected_of
+from .once import SWITCH, answer_in, output_of, unexpected_of
 from .replies import Answer
 from .session import FALLS, body_of, count_of
 
@@ -40,7 +41,15 @@ def read_answer(lines: Sequence[str]) -> FromBasis:
     return FromBasis(answer, " ".join(words[:-2]), pivots, list(lines[2:end]), list(lines[end:]))
 
 
-def solve_from(text: str, basis: Sequence[str], path: Optional[str] = None) -> FromBasis:
-    """The answer to a text of the profile in free form from the basis of a file, by its lines. A text or a file that is
-    refused raises what `errors` has for it, and a program without the command CommandMissing."""
-    return read_answer(output_of(["basis"], body_of(text, fixed=False), basis, path))
+def solve_from(
+    text: str,
+    basis: Sequence[str],
+    path: Optional[str] = None,
+    wide: bool = False,
+    seconds: Optional[float] = None,
+) -> FromBasis:
+    """The answer to a text of the profile in free form from the basis of a file, by its lines, and with `wide` by `lpd basis
+    --wide`, whose certificate `lpd check --wide` judges. A text or a file that is refused raises what `errors` has for it,
+    a program without the command, or its switch, CommandMissing, and one that is not done in as many seconds OutOfTime."""
+    words = ["basis", SWITCH] if wide else ["basis"]
+    return read_answer(output_of(words, body_of(text, fixed=False), basis, path, seconds))

@@ -15,6 +15,7 @@ REFUSED, BAD_WORDS = 9, 2
 # Words of each command with which it refuses a text that has no model.
 WORDS = {
     "basis": ["basis"],
+    "basis --wide": ["basis", "--wide"],
     "check --wide": ["check", "--wide"],
     "iis": ["iis"],
     "presolve": ["presolve"],

@@ -174,16 +174,18 @@ def way_of(found: Exact, solver: str) -> str:
     """What made the steps from where to the answer."""
     begin = "a basis of its own" if solver == NONE else f"{solver}'s basis"
     if found.way == PROGRAM:
-        return f"lpd basis from {begin}, in {found.steps} pivots"
+        gave_up = f", which it gave up ({found.start[5:]})" if found.start.startswith("FELL") else ""
+        return f"{found.command} from {begin}{gave_up}, in {found.steps} pivots"
     return f"exact steps in Python from {begin}, {found.steps} of them"
 
 
-def from_basis(text: str, model: Model, solver: str, watch: Watch) -> Answered:
-    """The answer from the basis of a solver, or from one of the package's own. OutOfTime says that the seconds were not enough."""
+def from_basis(text: str, model: Model, solver: str, wide: bool, watch: Watch) -> Answered:
+    """The answer from the basis of a solver, or from one of the package's own, with `wide` by `lpd basis --wide`. OutOfTime says that
+    the seconds were not enough."""
     claim = ask(solver, model, watch.left())
     if solver != NONE and claim.basis is None and not claim.parts:
         raise WayFailed(f"{solver} gives no basis, and says: {claim.said}")
-    found = made_exact(text, model, claim, watch=watch)
+    found = made_exact(text, model, claim, watch=watch, wide=wide)
     by = judged(text, found.certificate)
     if by.known not in (None, found.known):
         raise NotCertified(f"{by.judge} says {by.known}, and the checker in Python {found.known}")
@@ -241,7 +243,7 @@ def by_presolve_then(text: str, model: Model, effort: Effort, watch: Watch) -> A
 
 
 def from_another_basis(text: str, model: Model, effort: Effort, watch: Watch) -> Answered:
-    return from_basis(text, model, other_solver(effort.solver), watch)
+    return from_basis(text, model, other_solver(effort.solver), effort.wide, watch)
 
 
 def by_solve_wide_then(text: str, model: Model, effort: Effort, watch: Watch) -> Answered:
@@ -256,7 +258,7 @@ def by_solve_wide_then(text: str, model: Model, effort: Effort, watch: Watch) ->
 
 
 def from_own_basis(text: str, model: Model, effort: Effort, watch: Watch) -> Answered:
-    return from_basis(text, model, NONE, watch)
+    return from_basis(text, model, NONE, effort.wide, watch)
 
 
 def ways_after(first: Optional[Answered], effort: Effort) -> List[Way]:

@@ -4,7 +4,9 @@ from fractions import Fraction
 from typing import Optional
 
 import lpd
+from lpd.certifying import BASIS, BASIS_WIDE
 from lpd.model import Column, Model, Row
+from lpd.once import has_command
 from lpd.program import find_program
 
 
@@ -13,6 +15,11 @@ def has_program() -> bool:
         return bool(find_program())
     except lpd.ProgramMissing:
         return False
+
+
+def the_basis() -> str:
+    """The command that makes a basis exact: of the built program, which may be an older one."""
+    return BASIS_WIDE if has_command("basis --wide") else BASIS
 
 
 def some_model(dice: random.Random, rows: int = 5, columns: int = 6) -> Model:

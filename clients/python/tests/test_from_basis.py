@@ -10,14 +10,14 @@ from unittest import mock
 
 import lpd
 from lpd.basis_file import basis_lines, read_bas
-from lpd.certifying import PROGRAM, PYTHON, NotAnswered, NotCertified, made_exact
+from lpd.certifying import BASIS, BASIS_WIDE, PROGRAM, PYTHON, NotAnswered, NotCertified, made_exact
 from lpd.exact import BASIC, LOWER, UPPER, Basis
 from lpd.floating import SOLVERS, Claim, ask
 from lpd.from_basis import FromBasis, read_answer, solve_from
 from lpd.once import has_command
 
 from .commands import command
-from .models import has_program
+from .models import has_program, the_basis
 
 MODELS = Path(__file__).resolve().parents[3] / "examples" / "models"
 TEXT = """NAME a
@@ -126,17 +126,26 @@ class Answers(unittest.TestCase):
             with self.assertRaises(lpd.Unexpected):
                 read_answer(lines)
 
-    def answered(self, script: str) -> FromBasis:
-        """What a program replies that is this script."""
+    def answered(self, script: str, words: str = "basis", wide: bool = False, seconds: Optional[float] = None) -> FromBasis:
+        """What a program replies to these words that is this script."""
         with tempfile.TemporaryDirectory() as place:
             program = Path(place) / "lpd"
-            program.write_text(f'#!/bin/sh\n[ "$*" = basis ] || exit 2\n{script}\n')
+            program.write_text(f'#!/bin/sh\n[ "$*" = "{words}" ] || exit 2\n{script}\n')
             program.chmod(0o755)
-            return solve_from(TEXT, ["NAME", " XL q R1", "ENDATA"], str(program))
+            return solve_from(TEXT, ["NAME", " XL q R1", "ENDATA"], str(program), wide, seconds)
 
     def test_what_it_reads(self) -> None:
         found = self.answered("/bin/cat >&2; echo OPTIMAL 1; echo WARM PIVOTS 0")
         self.assertEqual(found.answer, lpd.Optimal(Fraction(1)))
+
+    def test_with_the_switch(self) -> None:
+        wide = f"OPTIMAL 1{'0' * 60}/3"
+        found = self.answered(f"/bin/cat >&2; echo {wide}; echo FELL PAST PIVOTS 2", "basis --wide", wide=True)
+        self.assertEqual((str(found.answer), found.start, found.pivots), (wide, "FELL PAST", 2))
+        with self.assertRaisesRegex(lpd.CommandMissing, "^this program has no command basis --wide$"):
+            self.answered("echo OPTIMAL 1; echo WARM PIVOTS 0", wide=True)
+        with self.assertRaisesRegex(lpd.OutOfTime, "^lpd basis --wide is not done in 0.1 seconds$"):
+            self.answered("exec /bin/sleep 60", "basis --wide", wide=True, seconds=0.1)
 
     def test_what_it_refuses(self) -> None:
         with self.assertRaisesRegex(lpd.BasisFault, "line 2 of the basis file: unknown column .fault 3.: ' ?XL q R1'"):
@@ -147,6 +156,10 @@ class Answers(unittest.TestCase):
             self.answered("echo lpd: bad command line >&2; exit 2")
 
 
+PAST = read_answer(["PAST MUL 2 3", "FELL PAST PIVOTS -"])
+NO_SWITCH = lpd.CommandMissing("basis --wide")
+
+
 class FirstWay(unittest.TestCase):
     def by(
         self,
@@ -154,60 +167,94 @@ class FirstWay(unittest.TestCase):
         way: Optional[str] = None,
         basis: Optional[Basis] = None,
         then: Optional[FromBasis] = None,
+        wide: Union[FromBasis, Exception] = NO_SWITCH,
+        takes_wide: bool = True,
     ) -> Steps:
-        """Which way led to the exact answer 1, the start, and the steps, where the program answers so, and then so."""
+        """Which way led to the exact answer 1, the start, and the steps, where `lpd basis` answers so, and then so, and `lpd basis
+        --wide`, if that is taken, so."""
         claim = Claim("OPTIMAL", basis=basis)
         self.texts: List[str] = []
+        self.asked: List[str] = []
 
-        def solve_from(text: str, lines: List[str]) -> FromBasis:
-            self.texts.append(text)
-            if isinstance(answer, Exception):
-                raise answer
-            return answer if len(self.texts) == 1 or then is None else then
+        def solve_from(text: str, lines: List[str], wide: bool, seconds: Optional[float]) -> FromBasis:
+            self.asked.append(BASIS_WIDE if wide else BASIS)
+            if not wide:
+                self.texts.append(text)
+            said = with_switch if wide else answer if len(self.texts) == 1 or then is None else then
+            if isinstance(said, Exception):
+                raise said
+            return said
 
+        with_switch = wide
         with mock.patch("lpd.certifying.solve_from", solve_from):
-            found = made_exact(TEXT, MODEL, claim, way)
+            found = made_exact(TEXT, MODEL, claim, way, wide=takes_wide)
         self.assertEqual(found.known, lpd.Optimal(Fraction(1)))
-        self.notes = found.notes
+        self.notes, self.command = found.notes, found.command
         return found.way, found.start, found.steps
 
     def test_by_the_program(self) -> None:
         self.assertEqual(self.by(read_answer(ANSWER)), (PROGRAM, "WARM", 0))
+        self.assertEqual((self.command, self.asked, self.notes), (BASIS, [BASIS_WIDE, BASIS], []))
         fell = read_answer([ANSWER[0], "FELL UNFIT PIVOTS 5", *ANSWER[2:]])
         self.assertEqual(self.by(fell, PROGRAM), (PROGRAM, "FELL UNFIT", 5))
 
+    def test_by_the_program_in_numbers_of_any_width(self) -> None:
+        for start in ("WARM", "FELL PAST"):
+            found = read_answer([ANSWER[0], f"{start} PIVOTS 2", *ANSWER[2:]])
+            self.assertEqual(self.by(PAST, wide=found), (PROGRAM, start, 2))
+            self.assertEqual((self.command, self.asked, self.notes), (BASIS_WIDE, [BASIS_WIDE], []))
+        self.assertEqual(self.by(read_answer(ANSWER), wide=PAST, takes_wide=False), (PROGRAM, "WARM", 0))
+        self.assertEqual((self.command, self.asked), (BASIS, [BASIS]))
+
     def test_by_python_where_the_program_has_no_answer(self) -> None:
-        past = read_answer(["PAST MUL 2 3", "FELL PAST PIVOTS -"])
-        self.assertEqual(self.by(past), (PYTHON, "", 1))
-        self.assertEqual(self.notes, ["lpd basis has no answer: it ends with PAST MUL 2 3 (FELL PAST)"])
+        ends = f"{BASIS} has no answer: it ends with PAST MUL 2 3 (FELL PAST)"
+        self.assertEqual(self.by(PAST), (PYTHON, "", 1))
+        self.assertEqual(self.notes, [f"{ends}, and {NO_SWITCH}"])
+        self.assertEqual(self.by(PAST, takes_wide=False), (PYTHON, "", 1))
+        self.assertEqual(self.notes, [ends])
         self.by(lpd.TextFault(3, 10))
-        self.assertEqual(self.notes, ["lpd basis has no answer: line 3 of the model has a number past 127 bits"])
-        self.by(lpd.ProgramEnded(2, "lpd: bad command line"))
-        self.assertEqual(self.notes, ["lpd basis has no answer: this program has no command basis"])
-        for answer in (past, lpd.TextFault(3, 10)):
+        self.assertEqual(self.notes, [f"{BASIS} has no answer: line 3 of the model has a number past 127 bits"])
+        self.by(lpd.CommandMissing("basis"))
+        self.assertEqual(self.notes, [f"{BASIS} has no answer: this program has no command basis"])
+        for answer in (PAST, lpd.TextFault(3, 10)):
             with self.assertRaises(NotAnswered):
                 self.by(answer, PROGRAM)
         with self.assertRaises(lpd.TextFault):
             self.by(lpd.TextFault(3, 9))
-        self.assertEqual(self.by(past, PYTHON), (PYTHON, "", 1))
-        self.assertEqual(self.notes, [])
+        self.assertEqual(self.by(PAST, PYTHON), (PYTHON, "", 1))
+        self.assertEqual((self.notes, self.asked), ([], []))
+
+    def test_by_python_where_the_wide_solve_has_no_answer(self) -> None:
+        """`lpd basis` is not asked then, since it would end past 127 bits, or take as long."""
+        ends = {
+            "it ends with PAST MUL 2 3 (FELL PAST)": PAST,
+            "lpd basis --wide is not done in 2 seconds": lpd.OutOfTime("lpd basis --wide is not done in 2 seconds"),
+            str(lpd.ProgramEnded(4, "lpd: out of memory")): lpd.ProgramEnded(4, "lpd: out of memory"),
+        }
+        for why, wide in ends.items():
+            self.assertEqual(self.by(read_answer(ANSWER), wide=wide), (PYTHON, "", 1))
+            self.assertEqual((self.notes, self.asked), ([f"{BASIS_WIDE} has no answer: {why}"], [BASIS_WIDE]))
+            with self.assertRaisesRegex(NotAnswered, f"^{BASIS_WIDE} has no answer: "):
+                self.by(read_answer(ANSWER), PROGRAM, wide=wide)
 
     def test_by_the_program_in_another_order(self) -> None:
-        past = read_answer(["PAST MUL 2 3", "FELL PAST PIVOTS -"])
         basis = Basis({"y": BASIC, "x": BASIC}, {"R1": LOWER, "R2": UPPER})
-        self.assertEqual(self.by(past, basis=basis, then=read_answer(ANSWER)), (PROGRAM, "WARM", 0))
+        self.assertEqual(self.by(PAST, basis=basis, then=read_answer(ANSWER)), (PROGRAM, "WARM", 0))
         self.assertEqual(len(self.notes), 1)
         self.assertEqual([list(lpd.read_model(text).columns) for text in self.texts], [["x", "y"], ["y", "x"]])
         self.assertEqual(lpd.read_model(self.texts[1]), lpd.read_model(TEXT))
 
     def test_a_certificate_that_the_checker_in_python_does_not_accept(self) -> None:
         for lines in (["OPTIMAL 2", *ANSWER[1:]], [*ANSWER[:3], "x x 2", "END"], ["INFEASIBLE", *ANSWER[1:]]):
-            with self.assertRaises(NotCertified):
+            with self.assertRaisesRegex(NotCertified, f"^{BASIS} answers"):
                 self.by(read_answer(lines))
+            with self.assertRaisesRegex(NotCertified, f"^{BASIS_WIDE} answers"):
+                self.by(PAST, wide=read_answer(lines))
 
     def test_what_is_left_out_of_the_basis_is_told(self) -> None:
-        self.by(read_answer(ANSWER), basis=Basis({"x": UPPER}))
-        self.assertEqual(self.notes, [OPEN])
+        for wide in (NO_SWITCH, read_answer(ANSWER)):
+            self.by(read_answer(ANSWER), basis=Basis({"x": UPPER}), wide=wide)
+            self.assertEqual(self.notes, [OPEN])
 
 
 @unittest.skipUnless(has_program() and has_command("basis"), "there is no program, or it has no command basis")
@@ -236,4 +283,4 @@ class WithTheProgram(unittest.TestCase):
             if shutil.which(solver):
                 said = command("certify", str(MODELS / "diet.mps"), "--with", solver, "--by", "lpd")
                 self.assertEqual((said.status, said.complaints), (0, ""))
-                self.assertIn("from there    0 pivots by lpd basis\n", said.output)
+                self.assertIn(f"from there    0 pivots by {the_basis()}: WARM\n", said.output)

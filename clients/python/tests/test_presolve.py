@@ -17,7 +17,7 @@ from lpd.presolving import Size, read_presolved
 from lpd.ways import BOTH, Effort, answered
 
 from .commands import command, reported
-from .models import has_program, some_model
+from .models import has_program, some_model, the_basis
 
 MODELS = Path(__file__).resolve().parents[3] / "examples" / "models"
 TEXT = """NAME m
@@ -73,7 +73,7 @@ class Ways(unittest.TestCase):
             with no_wide, mock.patch("lpd.ways.by_lpd", return_value=lpd.Answered(PAST, [], "lpd solve")):
                 said = command("solve", str(MODELS / "diet.mps"), "--with", "none", "--show", "answer")
         self.assertEqual((said.status, said.complaints), (0, "note: lpd solve ends with PAST ADD 1 2\nnote: this program has no command solve --wide\n"))
-        self.assertIn("This answer is by lpd basis from a basis of its own", said.output)
+        self.assertIn(f"This answer is by {the_basis()} from a basis of its own", said.output)
 
     def test_past_127_bits_presolve_comes_before_other_solvers(self) -> None:
         known = lpd.Presolved(lpd.Optimal(Fraction(2)), ["OPTIMAL", "x x 2", "y R1 1", "END"], Size(1, 2))

@@ -13,7 +13,7 @@ from unittest import mock
 
 import lpd
 
-from .models import has_program
+from .models import has_program, the_basis
 
 try:
     import pulp
@@ -126,7 +126,7 @@ class WithPulp(unittest.TestCase):
             problem = self.diet()
             self.assertEqual(problem.solve(LPD(msg=False, options=["--with", "none"])), pulp.LpStatusOptimal)
             self.assertEqual((self.milk.varValue, problem.exact.certified_with), (3.0, "none"))
-            self.assertTrue(problem.exact.way.startswith("lpd basis from a basis of its own"))
+            self.assertTrue(problem.exact.way.startswith(f"{the_basis()} from a basis of its own"))
             self.assertEqual(problem.solve(LPD(msg=False, options=["--only-lpd"])), pulp.LpStatusNotSolved)
             self.assertEqual((self.milk.varValue, problem.exact.answer), (None, past.answer))
 

@@ -1,17 +1,20 @@
 """Certificates whose numbers pass 127 bits: by whom they are accepted, with a program that has lpd check --wide and without; and
-models that lpd solve --wide answers."""
+models that lpd solve --wide answers, and lpd basis --wide from another solver's basis."""
+import contextlib
 import csv
 import io
 import json
 import os
+import random
 import tempfile
 import unittest
 from fractions import Fraction
 from pathlib import Path
-from typing import List
+from typing import Iterator, List
 from unittest import mock
 
 import lpd
+from lpd.certifying import BASIS_WIDE, certify
 from lpd.floating import Claim
 from lpd.once import has_command
 from lpd.ways import ALONE, BOTH, WIDE, Effort, answered
@@ -133,9 +136,11 @@ class SolveWide(unittest.TestCase):
     """Where lpd solve ends past 127 bits, and no other solver is there."""
 
     def setUp(self) -> None:
-        for patch in (mock.patch.dict(os.environ, {"PATH": ""}), mock.patch("lpd.ways.presolve", side_effect=lpd.CommandMissing("presolve"))):
-            patch.start()
-            self.addCleanup(patch.stop)
+        stack = contextlib.ExitStack()
+        self.addCleanup(stack.close)
+        stack.enter_context(mock.patch.dict(os.environ, {"PATH": ""}))
+        stack.enter_context(mock.patch("lpd.ways.presolve", side_effect=lpd.CommandMissing("presolve")))
+        stack.enter_context(program(DOES_NOT_KNOW, "basis --wide"))
 
     def solved(self, answer: str = OPTIMAL, certificate: List[str] = CERTIFICATE) -> "mock._patch[mock.MagicMock]":
         return mock.patch("lpd.ways.solve_wide", return_value=read_wide_solved([answer, *certificate]))
@@ -211,3 +216,99 @@ class SolveWide(unittest.TestCase):
             with mock.patch("lpd.ways.solve_wide") as asked:
                 self.assertEqual(problem.solve(LPD(msg=False, wide=False).copy()), pulp.LpStatusNotSolved)
                 asked.assert_not_called()
+
+
+@unittest.skipUnless(has_program(), "the program is not built")
+class BasisWide(unittest.TestCase):
+    """Where lpd basis ends past 127 bits from the basis of a solver, here of one that the package comes to by itself."""
+
+    def setUp(self) -> None:
+        missing = (mock.patch(f"lpd.ways.{name}", side_effect=lpd.CommandMissing(name)) for name in ("presolve", "solve_wide"))
+        for patch in missing:
+            patch.start()
+            self.addCleanup(patch.stop)
+
+    @contextlib.contextmanager
+    def answers(self, start: str = "WARM PIVOTS 0", certificate: List[str] = CERTIFICATE) -> Iterator[None]:
+        """A program that answers so from each basis."""
+        lines = "".join(f" '{line}'" for line in [OPTIMAL, start, *certificate, "NAME", "ENDATA"])
+        with program_with_wide(), program(f"/bin/cat >/dev/null; printf '%s\\n'{lines}", "basis --wide"):
+            yield
+
+    def test_certify(self) -> None:
+        began = {
+            "WARM PIVOTS 0": "0 pivots by lpd basis --wide: WARM",
+            "FELL PAST PIVOTS 2": "2 pivots by lpd basis --wide: FELL PAST, so it gave the basis up and began anew",
+        }
+        for start, words in began.items():
+            with self.answers(start):
+                said = command("certify", "-", "--with", "none", stdin=TEXT.encode())
+                told = json.loads(command("certify", "-", "--with", "none", "--by", "lpd", "--json", stdin=TEXT.encode()).output)
+            self.assertEqual((said.status, said.complaints), (0, ""))
+            self.assertIn(f"from there    {words}\n", said.output)
+            self.assertIn("certificate   accepted by lpd check --wide, and by the checker in Python", said.output)
+            wanted = (f"OPTIMAL {VALUE}", "lpd", BASIS_WIDE, start.partition(" PIVOTS")[0], CERTIFICATE)
+            self.assertEqual(tuple(told[name] for name in ("answer", "by", "command", "start", "certificate")), wanted)
+            with self.answers(start):
+                found = certify(TEXT, "none", way="python")
+            self.assertEqual((found.certificate, found.way, found.command), (CERTIFICATE, "python", ""))
+
+    def test_a_certificate_that_a_checker_does_not_accept(self) -> None:
+        for wrong in ([*CERTIFICATE[:4], "y b 2", "END"], ["INFEASIBLE", "y a 1", "END"]):
+            with self.answers(certificate=wrong):
+                self.assertEqual(command("certify", "-", "--with", "none", stdin=TEXT.encode()).status, 3)
+
+    def test_a_program_without_it(self) -> None:
+        with program_with_wide(), program(DOES_NOT_KNOW, "basis --wide"):
+            said = command("certify", "-", "--with", "none", stdin=TEXT.encode())
+            self.assertEqual(command("certify", "-", "--with", "none", "--by", "lpd", stdin=TEXT.encode()).status, 12)
+        self.assertRegex(said.output, "from there    [01] exact steps in Python\n")
+        self.assertRegex(said.complaints, "^none: lpd basis has no answer: it ends with PAST .* and this program has no command basis --wide\n$")
+
+    def test_solve_and_batch(self) -> None:
+        with self.answers(), tempfile.TemporaryDirectory() as folder:
+            told = json.loads(command("solve", "-", "--with", "none", "--json", stdin=TEXT.encode()).output)
+            (Path(folder) / "long.mps").write_text(TEXT)
+            (row,) = csv.DictReader(io.StringIO(command("batch", folder, "--with", "none", "--csv").output))
+        way = "lpd basis --wide from a basis of its own"
+        self.assertEqual((told["answer"], told["way"], told["accepted_by"]), (OPTIMAL, f"{way}, in 0 pivots", WIDE))
+        self.assertEqual((row["value"], row["way"], row["accepted by"], row["judge"]), (VALUE, way, "lpd check --wide", "lpd check --wide"))
+        with self.answers("FELL PAST PIVOTS 2"):
+            found = answered(TEXT, lpd.read_model(TEXT), Effort(solver="none"))
+        self.assertEqual(found.way, f"{way}, which it gave up (PAST), in 2 pivots")
+
+    def test_no_wide_answer_is_wanted(self) -> None:
+        with self.answers(), mock.patch("lpd.certifying.solve_from", wraps=lpd.solve_from) as asked:
+            found = answered(TEXT, lpd.read_model(TEXT), Effort(solver="none", wide=False))
+        self.assertEqual((str(found.answer)[:4], found.certificate), ("PAST", []))
+        self.assertEqual({call.kwargs["wide"] for call in asked.call_args_list}, {False})
+
+    @unittest.skipUnless(has_program() and has_command("basis --wide"), "the program has no command basis --wide")
+    def test_with_the_program(self) -> None:
+        found = lpd.solve_from(TEXT, ["NAME", " XL x a", " XL y b", "ENDATA"], wide=True)
+        self.assertEqual((str(found.answer), found.start, found.pivots, found.certificate), (OPTIMAL, "WARM", 0, CERTIFICATE))
+        self.assertEqual(lpd.solve_from(TEXT, found.basis, wide=True), found)
+        exact = certify(TEXT, "none")
+        self.assertEqual((str(exact.known), exact.way, exact.command, exact.judge), (OPTIMAL, "lpd", BASIS_WIDE, "lpd check --wide"))
+        for seed in range(3):
+            text = planned(random.Random(seed))
+            exact, other = certify(text, "none"), certify(text, "none", way="python")
+            self.assertEqual((exact.known, exact.way, exact.is_proved), (other.known, "lpd", True))
+
+
+def planned(dice: random.Random, rows: int = 12, columns: int = 16, entries: int = 4) -> str:
+    """A plan with two decimals, which some point meets, and whose certificate passes 127 bits or comes near."""
+
+    def number() -> str:
+        return f"{dice.randint(10, 9999) / 100:.2f}"
+
+    kinds, sums = [dice.choice("GL") for _ in range(rows)], [Fraction(0)] * rows
+    lines = ["ROWS", " N cost", *(f" {kind} r{i}" for i, kind in enumerate(kinds)), "COLUMNS"]
+    for j in range(columns):
+        lines.append(f" x{j} cost {number()}")
+        amount = dice.randint(0, 6)
+        for i in sorted(dice.sample(range(rows), entries)):
+            lines.append(f" x{j} r{i} {number()}")
+            sums[i] += amount * Fraction(lines[-1].split()[2])
+    sides = [f" RHS r{i} {float(total * Fraction(9 if kind == 'G' else 12, 10)):.2f}" for i, (kind, total) in enumerate(zip(kinds, sums))]
+    return "\n".join([*lines, "RHS", *sides, "ENDATA", ""])

@@ -21,7 +21,7 @@ def add(commands: "argparse._SubParsersAction[argparse.ArgumentParser]") -> None
     certifies.add_argument("model", help="a file of MPS text, or of the LP format (.lp) or GNU MathProg (.mod), each also with .gz, or - for standard input")
     certifies.add_argument("--with", dest="solver", choices=CHOICES, default="glpsol", help="the solver that is asked for a basis (glpsol), or none")
     certifies.add_argument("--seconds", type=seconds, metavar="N", help="how long the solver may take; then the exact steps begin at no basis of its own")
-    ways = "what makes its basis exact: lpd basis, or steps in Python (lpd, and python where that has no answer)"
+    ways = "what makes its basis exact: lpd basis --wide, or steps in Python (lpd, and python where that has no answer)"
     certifies.add_argument("--by", dest="way", choices=WAYS, help=ways)
     certifies.add_argument("--form", choices=["free", "fixed"], help="the form of the text (the one that fits)")
     add_options(certifies)
@@ -40,13 +40,13 @@ def steps_of(found: Certified) -> str:
     """The steps from the solver's basis, and what took them."""
     if found.way == PYTHON:
         return f"{found.steps} exact steps in Python"
-    began = f", which gave the basis up ({found.start[5:]}) and began anew" if found.start.startswith("FELL") else ""
-    return f"{found.steps} pivots by lpd basis{began}"
+    gave_up = ", so it gave the basis up and began anew" if found.start.startswith("FELL") else ""
+    return f"{found.steps} pivots by {found.command}: {found.start}{gave_up}"
 
 
 def as_json(found: Certified, solver: str, seconds: float) -> str:
     told: Dict[str, object] = {"answer": str(found.known), "solver": solver, "said": claim_of(found), "off": off_of(found)}
-    told.update({"steps": found.steps, "by": found.way, "start": found.start, "notes": found.notes})
+    told.update({"steps": found.steps, "by": found.way, "command": found.command, "start": found.start, "notes": found.notes})
     told.update({"judge": found.judge, "accepted_by_lpd_check": found.is_proved, "why": found.why, "seconds": round(seconds, 3)})
     return json.dumps({**told, "certificate": found.certificate}, indent=2)
 
