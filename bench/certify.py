@@ -1,10 +1,10 @@
 #!/usr/bin/env python3
 """Certifies the models of a folder by the bases of other solvers, and writes a table of who judged each certificate.
 
-    certify.py FOLDER [--program PROGRAM] [--with SOLVER,..] [--optima FILE] [--seconds N] [--write PAGE]
+    certify.py FOLDER [--program PROGRAM] [--with SOLVER,..] [--by WAY] [--optima FILE] [--seconds N] [--write PAGE]
 
-Each NAME.mps is converted into the profile, solved by lpd with the largest budget, and certified as the command `certify
---by python` of clients/python does, with each solver (glpsol and clp). FILE has a line 'NAME outcome optimum ..' for
+Each NAME.mps is converted into the profile, solved by lpd with the largest budget, and certified as the command `certify`
+of clients/python does, with each solver (glpsol and clp); WAY is one of its words for --by (lpd, python). FILE has a line 'NAME outcome optimum ..' for
 each model, its words parted by tabs, with which every answer is compared. Times are of the wall: of solve with both
 checks, and of each certificate with the other solver and with both checks in them. With --write the table takes the
 place of what stands between the two marks of PAGE.
@@ -22,7 +22,7 @@ TOP = pathlib.Path(__file__).resolve().parent.parent
 sys.path.insert(0, str(TOP / "clients" / "python"))
 
 from lpd.batching import Work, one_by_one  # noqa: E402  (the package of this repository)
-from lpd.certifying import PYTHON  # noqa: E402
+from lpd.certifying import BASIS, BASIS_WIDE, WAYS  # noqa: E402
 from lpd.judging import LPD_CHECK, LPD_CHECK_WIDE, PYTHON_ALONE  # noqa: E402
 from lpd.replies import Optimal  # noqa: E402
 from lpd.tables import off_of  # noqa: E402
@@ -32,6 +32,7 @@ BEGIN, END = "<!-- measured by bench/certify.py -->", "<!-- end of the certifica
 LARGEST = 1_000_000
 ANSWERS = ("OPTIMAL", "INFEASIBLE", "UNBOUNDED")
 JUDGES = {LPD_CHECK: "`lpd check`", LPD_CHECK_WIDE: "`lpd check --wide`", PYTHON_ALONE: "the checker in Python alone"}
+COMMANDS = {BASIS_WIDE: "by `lpd basis --wide`", BASIS: "by `lpd basis`", "": "by elimination in Python"}
 
 
 def row(cells):
@@ -68,7 +69,9 @@ def count(solver, results):
     said = f"With the bases of `{solver}` {len(found)} of {len(results)} models are certified: "
     said += " and ".join(f"{number} by {words}" for number, words in counts if number)
     said += f", each within {times[-1]:.1f} s, half of them within {times[len(times) // 2]:.2f} s;"
-    return f"{said} {sum(r.certified.steps > 0 for r in found)} need exact steps."
+    commands = [(sum(r.certified.command == command for r in found), words) for command, words in COMMANDS.items()]
+    said += " " + " and ".join(f"{number} {words}" for number, words in commands if number)
+    return f"{said}; {sum(r.certified.steps > 0 for r in found)} need steps from there."
 
 
 def after_convert(results):
@@ -79,7 +82,7 @@ def measure(options, faults):
     """The lines of the table, with the counts before it."""
     optima, by_solver = optima_of(options.optima), {}
     for solver in options.solvers:
-        work = Work(effort=Effort(LARGEST, only_lpd=True, seconds=options.seconds), certifier=solver, way=PYTHON)
+        work = Work(effort=Effort(LARGEST, only_lpd=True, seconds=options.seconds), certifier=solver, way=options.way)
         by_solver[solver] = list(one_by_one(sorted(pathlib.Path(options.folder).glob("*.mps")), work))
     first = by_solver[options.solvers[0]]
     answered = sum(result.answer in ANSWERS for result in first)
@@ -100,6 +103,7 @@ def main():
     parser.add_argument("folder")
     parser.add_argument("--program", default=os.environ.get("LPD", str(TOP / "crates/lpd/out/lpd")))
     parser.add_argument("--with", dest="solvers", type=lambda text: text.split(","), default=["glpsol", "clp"])
+    parser.add_argument("--by", dest="way", choices=WAYS)
     parser.add_argument("--optima", metavar="FILE")
     parser.add_argument("--seconds", type=float, default=60)
     parser.add_argument("--write", type=pathlib.Path, metavar="PAGE")

@@ -4,7 +4,7 @@ The first way is the program's own solve. Where it ends past 127 bits, or after 
 budget, a person still wants an answer. The other ways are, one after the other:
 
 1. past 127 bits `lpd presolve`, in whose smaller model numbers are often shorter;
-2. if another solver is there, its basis, made exact by `lpd basis` or by exact steps in Python;
+2. if another solver is there, its basis, made exact by `lpd basis --wide` or by exact steps in Python;
 3. past 127 bits `lpd solve --wide`, whose numbers have more of them;
 4. a basis that rough steps in Python come to, made exact likewise.
 
