@@ -1,6 +1,7 @@
 -- What is answered with numbers of any width.
 use Rattle.std.proofs.Common.{◌≡◌, ◌⊎◌, inl, inr, ℕ, List, Option, Some, None, IfSome, Ok, refl, sym, ap, subst, ◌∙◌}
 use Rattle.spec_exact.specs.Fraction.{ℚ}
+use Rattle.spec_exact.specs.declared.past.Past.{Past}
 use Rattle.spec_model.specs.Model.{Model}
 use Rattle.spec_check.specs.declared.certificate.Certificate.{Certificate}
 use Rattle.spec_check.specs.declared.certificate.Known.{Known}
@@ -17,8 +18,9 @@ use Rattle.spec_revised.proofs.OverCold.{form_without}
 use Rattle.spec_warm.specs.declared.ends.Route.{Route}
 use Rattle.spec_warm.specs.declared.ends.Route.TheVariants as found
 use Rattle.spec_warm.specs.declared.ends.Warm.TheVariants as start
-use Rattle.spec_solve.specs.Answers.{number_limit}
-use Rattle.spec_solve.specs.Wide.{ExactAnswer, IsUnlimited, IsWarmEnd, IsColdEnd, IsWideAnswer, IsWideSolved}
+use Rattle.spec_warm.specs.Solve.{SolveEnd}
+use Rattle.spec_solve.specs.Answers.{number_limit, IsSolved}
+use Rattle.spec_solve.specs.Wide.{ExactAnswer, IsUnlimited, IsWarmEnd, IsColdEnd, IsRunEnd, IsAtHanded, IsWideAnswer, IsWideSolved}
 use Rattle.spec_solve.specs.declared.wide_solved.WideSolved.TheVariants.{Wide}
 use Rattle.spec_solve.proofs.Left.{cold_left, warm_left}
 use Rattle.spec_solve.proofs.Solves.{cold_fits}
@@ -38,35 +40,62 @@ module _ (m : Model) (budget : ℕ) (a : ExactAnswer) where
       let sound = run_sound None m a.certificate a.known h.fits h.accepted in
       (subst (Holds m) (sym sound.1) (checks_hold m a.certificate sound.0), h.fits, h.accepted)
 
+  -- it is that of the basis that is handed, or a solve may be refused an operation
+  pub answer_refused : (handed : Option (List Status)) → IsWideAnswer m budget handed a →
+      IsAtHanded m budget handed a
+      ⊎ ((solved : SolveEnd) × (p : Past ℚ) × IsSolved m budget handed solved × (solved.end ≡ outcome.Past p))
+  answer_refused handed h = by h.found
+    where
+      by : IsAtHanded m budget handed a ⊎ IsRunEnd m budget handed a →
+          IsAtHanded m budget handed a
+          ⊎ ((solved : SolveEnd) × (p : Past ℚ) × IsSolved m budget handed solved × (solved.end ≡ outcome.Past p))
+      by (inl at) = inl at
+      by (inr run) = inr (run.past.solved, run.past.past, run.past.is_solved, run.past.is_past)
+
   -- with nothing handed the answer is the end of the cold solve
   pub unhanded : IsWideAnswer m budget None a →
       IsWideSolved m budget (Wide a.known a.certificate) × (a.route ≡ found.Cold)
-  unhanded h = by h.ends
+  unhanded h = by h.found
     where
-      by : IsWarmEnd m budget None a ⊎ IsColdEnd m budget h.past.solved.route a →
+      ended : (run : IsRunEnd m budget None a) →
+          IsWarmEnd m budget None a ⊎ IsColdEnd m budget run.past.solved.route a →
           IsWideSolved m budget (Wide a.known a.certificate) × (a.route ≡ found.Cold)
-      by (inl e) = absurd e
-      by (inr e) = (
-        (h.past, record { basis = a.basis; pivots = a.pivots; ends = e.0 }),
-        e.1 ∙ h.past.is_solved.how_fits.0,
+      ended run (inl e) = absurd e
+      ended run (inr e) = (
+        (run.past, record { basis = a.basis; pivots = a.pivots; ends = e.0 }),
+        e.1 ∙ run.past.is_solved.how_fits.0,
       )
 
+      by : IsAtHanded m budget None a ⊎ IsRunEnd m budget None a →
+          IsWideSolved m budget (Wide a.known a.certificate) × (a.route ≡ found.Cold)
+      by (inl at) = absurd at
+      by (inr run) = ended run run.ends
+
   module _ (f : Form) (formed : form_of (Some number_limit) m ≡ Ok f) where
-    one_left : (left : List Status) → a.basis ≡ Some left → (handed : Option (List Status)) (route : Route) →
+    run_left : (left : List Status) → a.basis ≡ Some left → (handed : Option (List Status)) (route : Route) →
         IfSome handed (IsBasisOf f) → IsWarmEnd m budget handed a ⊎ IsColdEnd m budget route a → IsBasisOf f left
-    one_left left is None route fits (inl e) = absurd e
-    one_left left is (Some basis) route fits (inl e) =
+    run_left left is None route fits (inl e) = absurd e
+    run_left left is (Some basis) route fits (inl e) =
         warm_left a.known a.certificate left a.pivots None budget m basis f (form_without (Some number_limit) m f formed)
         fits (e.0 ∙ ap (λ o. start.Ended a.known a.certificate o a.pivots) is)
-    one_left left is handed route fits (inr e) =
+    run_left left is handed route fits (inr e) =
         cold_left a.known a.certificate left a.pivots None budget m f (form_without (Some number_limit) m f formed)
         (e.0 ∙ ap (λ o. outcome.Ended a.known a.certificate o a.pivots) is)
+
+    at_left : (handed : Option (List Status)) → IfSome handed (IsBasisOf f) → IsAtHanded m budget handed a →
+        IfSome a.basis (IsBasisOf f)
+    at_left None fits at = absurd at
+    at_left (Some basis) fits at = subst (λ o. IfSome o (IsBasisOf f)) (sym at.basis) fits
 
     -- the basis that it leaves is one of the form
     pub answer_left : (handed : Option (List Status)) → IfSome handed (IsBasisOf f) → IsWideAnswer m budget handed a →
         IfSome a.basis (IsBasisOf f)
-    answer_left handed fits h = by a.basis refl
+    answer_left handed fits h = by h.found
       where
-        by : (o : Option (List Status)) → a.basis ≡ o → IfSome o (IsBasisOf f)
-        by None is = tt
-        by (Some left) is = one_left left is handed h.past.solved.route fits h.ends
+        of_run : (run : IsRunEnd m budget handed a) (o : Option (List Status)) → a.basis ≡ o → IfSome o (IsBasisOf f)
+        of_run run None is = tt
+        of_run run (Some left) is = run_left left is handed run.past.solved.route fits run.ends
+
+        by : IsAtHanded m budget handed a ⊎ IsRunEnd m budget handed a → IfSome a.basis (IsBasisOf f)
+        by (inl at) = at_left handed fits at
+        by (inr run) = of_run run a.basis refl

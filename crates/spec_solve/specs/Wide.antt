@@ -13,6 +13,7 @@ use Rattle.spec_cold.specs.Cold.{cold}
 use Rattle.spec_warm.specs.declared.ends.Route.{Route}
 use Rattle.spec_warm.specs.declared.ends.Route.TheVariants as found
 use Rattle.spec_warm.specs.declared.ends.Warm.TheVariants as start
+use Rattle.spec_simplex.specs.declared.ends.WarmStop.TheVariants as fall
 use Rattle.spec_warm.specs.Warm.{warm}
 use Rattle.spec_warm.specs.Solve.{SolveEnd}
 use Rattle.spec_solve.specs.declared.wide_solved.WideAnswer.{WideAnswer}
@@ -20,7 +21,8 @@ use Rattle.spec_solve.specs.declared.wide_solved.WideBased.{WideBased}
 use Rattle.spec_solve.specs.declared.wide_solved.WideBased.TheVariants as based
 use Rattle.spec_solve.specs.declared.wide_solved.WideSolved.{WideSolved}
 use Rattle.spec_solve.specs.declared.wide_solved.WideSolved.TheVariants.{Narrow, Wide}
-use Rattle.spec_solve.specs.Answers.{IsSolved}
+use Rattle.spec_solve.specs.Answers.{number_limit, IsSolved}
+use Rattle.spec_solve.specs.OfBasis.{IsOfBasis}
 
 abbrev pub WideEnd : Type 0
 WideEnd = WideSolved SolveEnd ℚ (List ℚ)
@@ -60,14 +62,36 @@ abbrev pub IsColdEnd : Model → ℕ → Route → ExactAnswer → Type 0
 IsColdEnd m budget route a =
     (cold None budget m ≡ outcome.Ended a.known a.certificate a.basis a.pivots) × (a.route ≡ route)
 
--- An answer without a limit, where a solve may end with an operation that is past it. Something is known only by a
--- certificate for the model, to which the checker says yes without a limit. It was found from the basis that is handed,
--- or by the cold solve and then by the route of the solve that is past the limit.
-pub record IsWideAnswer (m : Model) (budget : ℕ) (handed : Option (List Status)) (a : ExactAnswer) : Type 0 where
+-- the start from a basis is refused an operation that is past the limit
+pub record IsRefusedStart (m : Model) (budget : ℕ) (basis : List Status) : Type 0 where
+  pub past : Past ℚ
+  pub stops : warm (Some number_limit) budget m basis ≡ start.Stopped (fall.Past past)
+
+-- The answer is that of the basis that is handed, of which nothing was changed, where the start from it is refused an
+-- operation that is past the limit.
+pub record IsAtBasis (m : Model) (budget : ℕ) (handed : List Status) (a : ExactAnswer) : Type 0 where
+  pub refused : IsRefusedStart m budget handed
+  pub certificate : IsOfBasis m handed a.certificate
+  pub basis : a.basis ≡ Some handed
+  pub pivots : a.pivots ≡ 0
+  pub route : a.route ≡ found.Warm
+
+abbrev pub IsAtHanded : Model → ℕ → Option (List Status) → ExactAnswer → Type 0
+IsAtHanded m budget None a = ⊥
+IsAtHanded m budget (Some basis) a = IsAtBasis m budget basis a
+
+-- The answer is the end of a run without a limit, where a solve may end with an operation that is past it: of that from
+-- the basis that is handed, or of the cold solve, and then by the route of the solve that is past the limit.
+pub record IsRunEnd (m : Model) (budget : ℕ) (handed : Option (List Status)) (a : ExactAnswer) : Type 0 where
   pub past : IsPastFrom m budget handed
+  pub ends : IsWarmEnd m budget handed a ⊎ IsColdEnd m budget past.solved.route a
+
+-- An answer without a limit. Something is known only by a certificate for the model, to which the checker says yes without
+-- a limit. It is that of the basis that is handed, or the end of a run.
+pub record IsWideAnswer (m : Model) (budget : ℕ) (handed : Option (List Status)) (a : ExactAnswer) : Type 0 where
   pub fits : IsFor m a.certificate
   pub accepted : check_run None m a.certificate ≡ Ok a.known
-  pub ends : IsWarmEnd m budget handed a ⊎ IsColdEnd m budget past.solved.route a
+  pub found : IsAtHanded m budget handed a ⊎ IsRunEnd m budget handed a
 
 -- As a solve with this handed to it, or with such an answer.
 abbrev pub IsWideFrom : Model → ℕ → Option (List Status) → BasedEnd → Type 0

@@ -11,6 +11,7 @@
 //! | `IsSolved` | all that holds of what a solve ends with, of which a basis may be handed | specs/Answers |
 //! | `WideSolved`, `IsWideSolved` | what a solve ends with whose certificate may have numbers of any width | src/wide_solved, specs/Wide |
 //! | `WideBased`, `WideAnswer`, `IsWideFrom` | the same of one to which a basis may be handed | src/wide_solved, specs/Wide |
+//! | `IsOfBasis` | the certificate of a basis | specs/OfBasis |
 //! | `number_limit`, `enough_pivots` | the limit of the program, and so many pivots and flips as are enough | specs/Answers |
 //!
 //! All runs take a limit: `Some m` refuses numbers past m, `None` refuses nothing. The functions here have the laws as
@@ -44,7 +45,7 @@ ghost use Rattle.spec_solve.specs.Order.{GivesUp, MayEndCold, MayEnd, cold_over}
 ghost use Rattle.spec_solve.specs.Answers.{number_limit, MayAnswer, IsSolved};
 ghost use Rattle.spec_solve.specs.declared.wide_solved.WideBased.TheVariants as based;
 ghost use Rattle.spec_solve.specs.declared.wide_solved.WideSolved.TheVariants as wide;
-ghost use Rattle.spec_solve.specs.Wide.{ExactAnswer, IsWideSolved, IsWideFrom};
+ghost use Rattle.spec_solve.specs.Wide.{ExactAnswer, IsAtHanded, IsWideSolved, IsWideFrom};
 
 pub use wide_solved::{WideAnswer, WideBased, WideSolved};
 
@@ -169,14 +170,15 @@ pub fn wide_answers_from_bases_are_true()
         Holds m a.known × IsFor m a.certificate × (check_run None m a.certificate ≡ Ok a.known) }
 {}
 
-/// A wide solve with this handed to it that ends as a solve ends as one with this handed to it, and it ends otherwise only
-/// where such a solve may be refused an operation. Where nothing is handed, it ends as a wide solve.
+/// A wide solve with this handed to it that ends as a solve ends as one with this handed to it. It ends otherwise only with
+/// the answer of the basis that is handed, where the start from it is refused an operation, or where such a solve may be
+/// refused one. Where nothing is handed, it ends as a wide solve.
 pub fn wide_solves_from_bases_only_add_answers()
     ensures narrow { (m : Model) (budget : ℕ) (handed : Option (List Status)) (solved : SolveEnd) →
         IsWideFrom m budget handed (based.Narrow solved) → IsSolved m budget handed solved }
     ensures wide { (m : Model) (budget : ℕ) (handed : Option (List Status)) (a : ExactAnswer) →
-        IsWideFrom m budget handed (based.Wide a) →
-        (solved : SolveEnd) × (p : Past ℚ) × IsSolved m budget handed solved × (solved.end ≡ outcome.Past p) }
+        IsWideFrom m budget handed (based.Wide a) → IsAtHanded m budget handed a
+        ⊎ ((solved : SolveEnd) × (p : Past ℚ) × IsSolved m budget handed solved × (solved.end ≡ outcome.Past p)) }
     ensures nothing { (m : Model) (budget : ℕ) (a : ExactAnswer) → IsWideFrom m budget None (based.Wide a) →
         IsWideSolved m budget (wide.Wide a.known a.certificate) × (a.route ≡ route.Cold) }
 {}
