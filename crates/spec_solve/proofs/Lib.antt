@@ -9,3 +9,4 @@ pub mod Stated
 pub mod TrueAnswers
 pub mod Left
 pub mod WideAnswers
+pub mod AtBasis

@@ -11,7 +11,7 @@
 //! | `IsSolved` | all that holds of what a solve ends with, of which a basis may be handed | specs/Answers |
 //! | `WideSolved`, `IsWideSolved` | what a solve ends with whose certificate may have numbers of any width | src/wide_solved, specs/Wide |
 //! | `WideBased`, `WideAnswer`, `IsWideFrom` | the same of one to which a basis may be handed | src/wide_solved, specs/Wide |
-//! | `IsOfBasis` | the certificate of a basis | specs/OfBasis |
+//! | `IsOfBasis`, `StandsAt` | the certificate of a basis | specs/OfBasis |
 //! | `number_limit`, `enough_pivots` | the limit of the program, and so many pivots and flips as are enough | specs/Answers |
 //!
 //! All runs take a limit: `Some m` refuses numbers past m, `None` refuses nothing. The functions here have the laws as
@@ -25,10 +25,13 @@ mod wide_solved;
 ghost use Rattle.std.specs.Prelude.{◌≡◌, ◌⊎◌, ℕ, List, Option, Some, None, Ok, Err, IfSome};
 ghost use Rattle.spec_exact.specs.Fraction.{ℚ};
 ghost use Rattle.spec_exact.specs.declared.past.Past.{Past};
-ghost use Rattle.spec_model.specs.Model.{Model};
+ghost use Rattle.spec_model.specs.Model.{Model, value_of};
+ghost use Rattle.spec_model.specs.Truth.{IsOptimal};
 ghost use Rattle.spec_model.specs.Kept.{IsModel};
 ghost use Rattle.spec_check.specs.declared.certificate.Certificate.{Certificate};
+ghost use Rattle.spec_check.specs.declared.certificate.Certificate.TheVariants as certificate;
 ghost use Rattle.spec_check.specs.declared.certificate.Known.{Known};
+ghost use Rattle.spec_check.specs.declared.certificate.Known.TheVariants as known;
 ghost use Rattle.spec_check.specs.Certificate.{IsFor, IsNarrowCertificate, Holds};
 ghost use Rattle.spec_check.specs.Run.{check_run};
 ghost use Rattle.spec_pivot.specs.declared.status.Status.{Status};
@@ -43,9 +46,10 @@ ghost use Rattle.spec_warm.specs.Solve.{SolveEnd, HasBasis, solve};
 ghost use Rattle.spec_factor.specs.Over.{over_factors};
 ghost use Rattle.spec_solve.specs.Order.{GivesUp, MayEndCold, MayEnd, cold_over};
 ghost use Rattle.spec_solve.specs.Answers.{number_limit, MayAnswer, IsSolved};
+ghost use Rattle.spec_solve.specs.OfBasis.{StandsAt};
 ghost use Rattle.spec_solve.specs.declared.wide_solved.WideBased.TheVariants as based;
 ghost use Rattle.spec_solve.specs.declared.wide_solved.WideSolved.TheVariants as wide;
-ghost use Rattle.spec_solve.specs.Wide.{ExactAnswer, IsAtHanded, IsWideSolved, IsWideFrom};
+ghost use Rattle.spec_solve.specs.Wide.{ExactAnswer, IsAtBasis, IsAtHanded, IsWideSolved, IsWideFrom};
 
 pub use wide_solved::{WideAnswer, WideBased, WideSolved};
 
@@ -188,4 +192,18 @@ pub fn wide_solves_leave_bases_of_the_form()
     ensures { (m : Model) (budget : ℕ) (f : Form) (handed : Option (List Status)) (a : ExactAnswer) →
         form_of (Some number_limit) m ≡ Ok f → IfSome handed (IsBasisOf f) →
         IsWideFrom m budget handed (based.Wide a) → IfSome a.basis (IsBasisOf f) }
+{}
+
+/// What is known of a model does not depend on the basis that is handed, nor on the budget.
+pub fn wide_answers_agree()
+    ensures { (m : Model) (budget other : ℕ) (handed given : Option (List Status)) (a b : ExactAnswer) →
+        IsWideFrom m budget handed (based.Wide a) → IsWideFrom m other given (based.Wide b) → a.known ≡ b.known }
+{}
+
+/// The answer of a basis that is handed is an optimum at the point of its certificate, which stands at the basis.
+pub fn answers_of_bases_are_optimal()
+    ensures { (m : Model) (budget : ℕ) (basis : List Status) (a : ExactAnswer) →
+        IsWideFrom m budget (Some basis) (based.Wide a) → IsAtBasis m budget basis a →
+        (x : List ℚ) × (y : List ℚ) × (a.certificate ≡ certificate.Optimal x y) × StandsAt m basis x y
+        × (a.known ≡ known.Optimal (value_of m x)) × IsOptimal m (value_of m x) }
 {}

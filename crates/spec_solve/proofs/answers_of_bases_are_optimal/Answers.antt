@@ -1,0 +1,5 @@
+use Rattle.spec_solve.proofs.AtBasis.{at_optimum}
+use Rattle.spec_solve.proofs.answers_of_bases_are_optimal.Goals as goal
+
+pub returns : goal.returns
+returns c = λ m budget basis a h at. at_optimum m budget basis a h at.certificate
