@@ -3,7 +3,7 @@ ghost use Rattle.std.specs.Prelude.{◌≡◌, ◌≤◌, ◌++◌, ◌∷◌, [
 ghost use Rattle.lp_base.specs.Causes.{Rose};
 ghost use Rattle.spec_model.specs.Kept.{row_limit, column_limit};
 ghost use Rattle.spec_model.specs.Model.{height};
-ghost use Rattle.spec_program.specs.GenOut.{entry_count, generated_lines, size_text, GenOut, SolvedOut};
+ghost use Rattle.spec_commands.specs.GenOut.{entry_count, generated_lines, size_text, GenOut, SolvedOut};
 ghost use Rattle.spec_server.specs.Machine.{pivots_of_solved};
 ghost use Rattle.spec_server.specs.Output.{pivots_text};
 ghost use Rattle.lp_generate.specs.Generating.{Writes};
@@ -49,7 +49,7 @@ fn generated_text(alloc: Global, model: &Model) -> Result<Bytes, AllocError>
 }
 
 // The size of a model, and what a solve of it ended with.
-#[tactic(auto, unfolding(spec_program::specs::GenOut::generated_lines))]
+#[tactic(auto, unfolding(spec_commands::specs::GenOut::generated_lines))]
 fn ended_text(alloc: Global, model: &Model, end: &End) -> Result<Bytes, AllocError>
     ensures { IfOk result (λ text. text ≡ generated_lines model.now end.now) }
 {
@@ -60,7 +60,7 @@ fn ended_text(alloc: Global, model: &Model, end: &End) -> Result<Bytes, AllocErr
     Ok(text)
 }
 
-#[tactic(auto, unfolding(spec_program::specs::GenOut::size_text))]
+#[tactic(auto, unfolding(spec_commands::specs::GenOut::size_text))]
 fn print_size(alloc: Global, model: &Model, to: &mut Bytes) -> Result<(), AllocError>
     ensures { OnOk result (to.new ≡ to.old ++ size_text model.now) }
 {

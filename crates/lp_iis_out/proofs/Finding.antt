@@ -16,7 +16,7 @@ use Rattle.spec_iis.proofs.Listed.{listed_holds, among_both}
 use Rattle.spec_iis.proofs.Readings.{used_read}
 use Rattle.spec_server.specs.Machine.{opening_budget}
 use Rattle.spec_server.specs.Output.{ended_lines}
-use Rattle.spec_program.specs.IisOut.{IisOut, iis_lines}
+use Rattle.spec_commands.specs.IisOut.{IisOut, iis_lines}
 use Rattle.lp_frac.specs.Narrow.{largest}
 use Rattle.lp_solve_out.specs.Prints.{Prints}
 

@@ -8,7 +8,7 @@ ghost use Rattle.spec_iis.specs.Rule.{IsRead};
 ghost use Rattle.spec_iis.specs.Found.{IsFound, MayFind};
 ghost use Rattle.spec_server.specs.Machine.{opening_budget};
 ghost use Rattle.spec_server.specs.Output.{ended_lines};
-ghost use Rattle.spec_program.specs.IisOut.{IisOut, end_words, found_lines, iis_lines};
+ghost use Rattle.spec_commands.specs.IisOut.{IisOut, end_words, found_lines, iis_lines};
 ghost use Rattle.lp_frac.specs.Narrow.{largest};
 ghost use Rattle.lp_solve_out.specs.Prints.{Prints};
 

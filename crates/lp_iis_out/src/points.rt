@@ -4,7 +4,7 @@ ghost use Rattle.spec_model.specs.Model.{column, width};
 ghost use Rattle.spec_check.specs.declared.certificate.Letter.TheVariants as letter;
 ghost use Rattle.spec_certificate.specs.TextWritten as written;
 ghost use Rattle.spec_server.specs.Output.{ended_lines};
-ghost use Rattle.spec_program.specs.IisOut.{point_lines};
+ghost use Rattle.spec_commands.specs.IisOut.{point_lines};
 
 use lp_base::Bytes;
 use lp_check::part;

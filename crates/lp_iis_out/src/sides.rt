@@ -2,7 +2,7 @@
 ghost use Rattle.std.specs.Prelude.{◌≡◌, ◌++◌, ◌∷◌, [], All, OnOk, map};
 ghost use Rattle.spec_iis.specs.Sides.{IsSide};
 ghost use Rattle.spec_server.specs.Output.{ended_lines};
-ghost use Rattle.spec_program.specs.IisOut as iis;
+ghost use Rattle.spec_commands.specs.IisOut as iis;
 
 use lp_base::Bytes;
 use lp_iis::{Side, Sides};
@@ -33,7 +33,7 @@ fn name_of(model: &Model, side: Side) -> &[u8]
     }
 }
 
-#[tactic(auto, unfolding(spec_program::specs::IisOut::side_line))]
+#[tactic(auto, unfolding(spec_commands::specs::IisOut::side_line))]
 fn print_side(model: &Model, side: Side, to: &mut Bytes) -> Result<(), AllocError>
     requires { IsSide model.now side }
     ensures { OnOk result (to.new ≡ to.old ++ (iis.side_line model.now side ++ 10 ∷ [])) }

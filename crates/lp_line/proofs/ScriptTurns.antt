@@ -17,7 +17,7 @@ use Rattle.spec_server.specs.declared.asks.Asked.{Asked}
 use Rattle.spec_server.specs.Addressing.{addressed_in}
 use Rattle.spec_server.specs.Machine.{ExactAsk}
 use Rattle.spec_server.specs.Said.{Step, follow, said_by}
-use Rattle.spec_server.specs.SolveOut.{TextSaid, behind_line, text_step}
+use Rattle.spec_server.specs.TextSaid.{TextSaid, behind_line, text_step}
 use Rattle.spec_server.specs.Script.{Pending, Between, Text, Certificate, ends_text, ends_certificate, ask_of_verdict}
 use Rattle.spec_server.specs.Script.{ask_of_judgement}
 use Rattle.spec_server.specs.Script.{begun_by, asks_by, pending_after_line, asks_of_line}

@@ -11,7 +11,7 @@ use Rattle.spec_certificate.specs.declared.progress.Progress.TheVariants as prog
 use Rattle.spec_certificate.specs.Text.{step_by}
 use Rattle.spec_certificate.specs.NarrowText as certificate
 use Rattle.spec_server.specs.Said.{follow, said_by}
-use Rattle.spec_server.specs.SolveOut.{behind_line, text_step}
+use Rattle.spec_server.specs.TextSaid.{behind_line, text_step}
 use Rattle.mps_read.specs.Feeds as feeds
 use Rattle.mps_read.specs.TextRead.{TextRead}
 use Rattle.lp_certificate.specs.Feeds as certificate_feeds

@@ -11,7 +11,7 @@ use Rattle.spec_server.specs.declared.asks.Asked.{Asked}
 use Rattle.spec_server.specs.Machine.{ExactAsk}
 use Rattle.spec_server.specs.Command.{ExactCommand}
 use Rattle.spec_server.specs.Said.{Step, On, Says, said_by}
-use Rattle.spec_server.specs.SolveOut.{TextSaid, text_step}
+use Rattle.spec_server.specs.TextSaid.{TextSaid, text_step}
 use Rattle.spec_server.specs.Script.{Pending, Between, Text, Certificate, Ending, Ended, Cut, Over, ending_by, begun}
 use Rattle.spec_server.specs.Script.{asks_of_command, pending_after_line, asks_of_line}
 use Rattle.mps_read.specs.TextRead as text_reading

@@ -5,7 +5,7 @@ use Rattle.spec_exact.specs.Fraction.{ℚ}
 use Rattle.spec_certificate.specs.declared.progress.Progress.TheVariants as progress
 use Rattle.spec_certificate.specs.NarrowText as certificate
 use Rattle.spec_server.specs.Said.{Step, On, Says, said_by}
-use Rattle.spec_server.specs.SolveOut.{TextSaid, text_step}
+use Rattle.spec_server.specs.TextSaid.{TextSaid, text_step}
 use Rattle.mps_read.specs.TextRead as text
 use Rattle.lp_certificate.specs.CertificateRead.{CertificateRead}
 

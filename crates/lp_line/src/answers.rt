@@ -21,7 +21,7 @@ pub(crate) fn push_number(alloc: Global, number: u64, to: &mut Bytes) -> Result<
 }
 
 /// Writes a word and a number after what is there.
-pub(crate) fn push_numbered(
+pub fn push_numbered(
     alloc: Global,
     word: &[u8],
     number: u64,
@@ -98,7 +98,7 @@ pub(crate) fn push_answer(alloc: Global, answer: &Answer, to: &mut Bytes) -> Res
 }
 
 /// A space, and the word of why a warm start was given up.
-pub(crate) fn fall_suffix(fall: Fall) -> &'static [u8]
+pub fn fall_suffix(fall: Fall) -> &'static [u8]
     ensures { result.now ≡ codes " " ++ output.fall_text fall }
 {
     match fall {
@@ -149,11 +149,7 @@ fn push_publication(
 }
 
 /// Writes a space, the word PIVOTS and their number after what is there.
-pub(crate) fn push_pivots(
-    alloc: Global,
-    pivots: Option<u64>,
-    to: &mut Bytes,
-) -> Result<(), AllocError>
+pub fn push_pivots(alloc: Global, pivots: Option<u64>, to: &mut Bytes) -> Result<(), AllocError>
     ensures { OnOk result (to.new ≡ to.old ++ (codes " PIVOTS " ++ output.pivots_text pivots)) }
 {
     match pivots {

@@ -13,12 +13,11 @@
 //! | `print` | writes a session's reply | src/printing |
 //! | `print_said` | writes a reply without a session | src/printing |
 //! | `print_lines` | writes lines | src/printing |
-//! | `print_route`, `print_basis_fault` | writes how a solve from a basis went, and what is wrong with a basis file | src/bases |
+//! | `push_numbered`, `push_pivots`, `fall_suffix` | parts of lines that other commands write too | src/answers |
 #![tactic(auto)]
 
 mod answers;
 mod asks;
-mod bases;
 mod body;
 mod command;
 mod edits;
@@ -32,8 +31,8 @@ mod stages;
 mod taking;
 mod words;
 
+pub use answers::{fall_suffix, push_numbered, push_pivots};
 pub use asks::{Addressed, Answer, Ask, Asked, Command, Plain, Refusal, Reply};
-pub use bases::{print_basis_fault, print_route};
 pub use command::read;
 pub use halt::Halt;
 pub use hearing::{Heard, Stage, Step, hear};

@@ -1,7 +1,6 @@
 // Replies as they are written.
 ghost use Rattle.std.specs.Prelude.{◌≡◌, ◌++◌, ◌∷◌, [], OnOk, OnErr};
 ghost use Rattle.spec_text.specs.Lines.{IsPrefixOf};
-ghost use Rattle.spec_server.specs.CheckOut.{check_line};
 ghost use Rattle.spec_server.specs.Output as output;
 
 use crate::answers::{push_answer, push_found, push_number, push_numbered, push_verdict};
@@ -138,9 +137,9 @@ pub fn print(
 }
 
 /// Writes the line of what the commands `check` and `solve` say after what is there, all of it or none.
-#[tactic(auto, unfolding(spec_server::specs::CheckOut::check_line))]
+#[tactic(auto, unfolding(spec_server::specs::Output::check_line))]
 pub fn print_said(alloc: Global, reply: &Reply, to: &mut Bytes) -> Result<(), AllocError>
-    ensures ok { OnOk result (to.new ≡ to.old ++ check_line reply.now) }
+    ensures ok { OnOk result (to.new ≡ to.old ++ output.check_line reply.now) }
     ensures err { OnErr result (to.new ≡ to.old) }
 {
     let mut line = Bytes::new(alloc);

@@ -4,7 +4,7 @@ use Rattle.std.specs.Prelude.{OnOk}
 use Rattle.spec_model.specs.Model.{Model}
 use Rattle.spec_presolve.specs.Presolved.{ExactPresolved, IsPresolved}
 use Rattle.spec_server.specs.Machine.{opening_budget}
-use Rattle.spec_program.specs.PresolveOut.{PresolveOut, presolved_lines}
+use Rattle.spec_commands.specs.PresolveOut.{PresolveOut, presolved_lines}
 use Rattle.lp_solve_out.specs.Prints.{Prints}
 
 -- within the budget of a new session

@@ -2,7 +2,7 @@
 ghost use Rattle.std.specs.Prelude.{◌≡◌, ◌++◌, Ok, OnOk};
 ghost use Rattle.spec_model.specs.Kept.{IsModel};
 ghost use Rattle.spec_presolve.specs.declared.presolved.Way.TheVariants as ways;
-ghost use Rattle.spec_program.specs.PresolveOut as out;
+ghost use Rattle.spec_commands.specs.PresolveOut as out;
 ghost use Rattle.spec_server.specs.Machine.{opening_budget};
 ghost use Rattle.spec_solve.specs.Answers.{MayAnswer};
 ghost use Rattle.lp_solve_out.specs.Prints.{Prints};
@@ -26,7 +26,7 @@ pub fn print_presolved(alloc: Global, model: &Model, to: &mut Bytes) -> Result<(
     printed
 }
 
-#[tactic(auto, unfolding(spec_program::specs::PresolveOut::presolved_lines))]
+#[tactic(auto, unfolding(spec_commands::specs::PresolveOut::presolved_lines))]
 fn print_lines(
     alloc: Global,
     model: &Model,

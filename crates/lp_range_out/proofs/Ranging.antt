@@ -8,8 +8,8 @@ use Rattle.spec_warm.specs.Solve.{SolveEnd}
 use Rattle.spec_solve.specs.Answers.{IsSolved}
 use Rattle.spec_server.specs.Machine.{opening_budget}
 use Rattle.spec_program.specs.declared.command_line.Moved.{Moved}
-use Rattle.spec_program.specs.RangeOut.{RangedOut, range_lines}
-use Rattle.spec_program.proofs.Kept.{solved_keeps}
+use Rattle.spec_commands.specs.RangeOut.{RangedOut, range_lines}
+use Rattle.spec_commands.proofs.Kept.{solved_keeps}
 use Rattle.lp_solve_out.specs.Prints.{Prints}
 use Rattle.lp_range_out.specs.Ends.{KeepsAtEnd}
 

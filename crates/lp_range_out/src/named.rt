@@ -1,7 +1,7 @@
 // The column or the row whose number is ranged.
 ghost use Rattle.std.specs.Prelude.{◌≡◌, ◌<◌, ◌++◌, OnOk, IfSome};
-ghost use Rattle.spec_program.specs.RangeOut.{place_by};
-ghost use Rattle.spec_server.specs.CheckOut.{check_line};
+ghost use Rattle.spec_commands.specs.RangeOut.{place_by};
+ghost use Rattle.spec_server.specs.Output.{check_line};
 ghost use Rattle.spec_server.specs.declared.asks.Reply.TheVariants as replies;
 ghost use Rattle.spec_server.specs.declared.asks.Refusal.TheVariants as refusals;
 ghost use Rattle.lp_range_out.specs.Ends.{count_by};

@@ -3,8 +3,8 @@ ghost use Rattle.std.specs.Prelude.{◌≡◌, ◌<◌, ◌++◌, OnOk, IfOk, If
 ghost use Rattle.spec_simplex.specs.Form.{form_of};
 ghost use Rattle.spec_solve.specs.Answers.{number_limit};
 ghost use Rattle.spec_range.specs.Span.{Keeps};
-ghost use Rattle.spec_program.specs.RangeOut as ranges;
-ghost use Rattle.spec_server.specs.CheckOut.{check_line};
+ghost use Rattle.spec_commands.specs.RangeOut as ranges;
+ghost use Rattle.spec_server.specs.Output.{check_line};
 ghost use Rattle.spec_server.specs.declared.answer.Answer.TheVariants as answers;
 ghost use Rattle.spec_server.specs.declared.asks.Reply.TheVariants as replies;
 ghost use Rattle.lp_range.specs.Answer.{IsRefused};
@@ -45,7 +45,7 @@ pub fn print_ranged(
 }
 
 // Writes what a solve ended with, and the range.
-#[tactic(auto, unfolding(spec_program::specs::RangeOut::range_lines))]
+#[tactic(auto, unfolding(spec_commands::specs::RangeOut::range_lines))]
 fn print_solved(
     alloc: Global,
     model: &Model,
@@ -155,7 +155,7 @@ fn print_formed(
     }
 }
 
-#[tactic(auto, unfolding(spec_program::specs::RangeOut::range_line))]
+#[tactic(auto, unfolding(spec_commands::specs::RangeOut::range_line))]
 fn print_line(alloc: Global, range: Range, to: &mut Bytes) -> Result<(), AllocError>
     ensures { OnOk result (to.new ≡ to.old ++ ranges.range_line range) }
 {

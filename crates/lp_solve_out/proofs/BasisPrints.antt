@@ -10,12 +10,12 @@ use Rattle.spec_mps.specs.declared.fault.MpsFault.{MpsFault}
 use Rattle.spec_solve.specs.Answers.{IsSolved, number_limit}
 use Rattle.spec_server.specs.declared.asks.Reply.TheVariants as reply
 use Rattle.spec_server.specs.declared.asks.Refusal.TheVariants as refusal
-use Rattle.spec_server.specs.declared.basis.BasisFault.{BasisFault}
-use Rattle.spec_server.specs.declared.basis.BasisFault.TheVariants as fault
+use Rattle.spec_commands.specs.declared.basis.BasisFault.{BasisFault}
+use Rattle.spec_commands.specs.declared.basis.BasisFault.TheVariants as fault
 use Rattle.spec_server.specs.Machine.{opening_budget}
-use Rattle.spec_server.specs.CheckOut.{check_line}
-use Rattle.spec_server.specs.BasisOut.{Handed, BasisOut, basis_fault_line, basis_lines}
-use Rattle.spec_server.specs.BasisOut.{final_text}
+use Rattle.spec_server.specs.Output.{check_line}
+use Rattle.spec_commands.specs.BasisOut.{Handed, BasisOut, basis_fault_line, basis_lines}
+use Rattle.spec_commands.specs.BasisOut.{final_text}
 use Rattle.lp_solve_out.specs.Ends.{end_lines}
 use Rattle.lp_solve_out.specs.Prints.{Prints}
 

@@ -12,8 +12,8 @@ use Rattle.spec_server.specs.Machine.{opening_budget}
 use Rattle.spec_solve.specs.Wide.{WideEnd, IsWideSolved}
 use Rattle.spec_solve.specs.declared.wide_solved.WideSolved.TheVariants.{Wide}
 use Rattle.spec_solve.proofs.WideAnswers.{unlimited_true}
-use Rattle.spec_server.specs.SolveOut.{SolveOut, solved_lines}
-use Rattle.spec_server.specs.SolveWideOut.{SolveWideOut, wide_end_lines}
+use Rattle.spec_commands.specs.SolveOut.{SolveOut, solved_lines}
+use Rattle.spec_commands.specs.SolveWideOut.{SolveWideOut, wide_end_lines}
 use Rattle.lp_solve_out.specs.Prints.{Prints}
 
 -- the lines of an end are an output of the solve

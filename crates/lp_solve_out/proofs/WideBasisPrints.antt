@@ -19,8 +19,8 @@ use Rattle.spec_solve.specs.declared.wide_solved.WideBased.TheVariants.{Narrow, 
 use Rattle.spec_solve.proofs.Left.{solved_left}
 use Rattle.spec_solve.proofs.WideAnswers.{answer_left}
 use Rattle.spec_server.specs.Machine.{opening_budget}
-use Rattle.spec_server.specs.BasisOut.{Handed, BasisOut, basis_lines}
-use Rattle.spec_server.specs.BasisWideOut.{BasisWideOut, wide_basis_lines, based_end_lines}
+use Rattle.spec_commands.specs.BasisOut.{Handed, BasisOut, basis_lines}
+use Rattle.spec_commands.specs.BasisWideOut.{BasisWideOut, wide_basis_lines, based_end_lines}
 use Rattle.lp_solve.specs.Fit.{LeavesBasis}
 use Rattle.lp_solve_out.specs.Ends.{based_lines}
 use Rattle.lp_solve_out.specs.Prints.{Prints}

@@ -11,10 +11,10 @@ use Rattle.spec_solve.specs.declared.wide_solved.WideBased.TheVariants.{Narrow, 
 use Rattle.spec_server.specs.Machine.{opening_budget, answer_of, lines_of_solved}
 use Rattle.spec_server.specs.Output.{ended_lines}
 use Rattle.spec_server.specs.declared.asks.Reply.TheVariants as reply
-use Rattle.spec_server.specs.CheckOut.{check_line}
-use Rattle.spec_server.specs.SolveWideOut.{wide_known_line}
-use Rattle.spec_server.specs.BasisOut as reading
-use Rattle.spec_server.specs.BasisWideOut.{solved_of}
+use Rattle.spec_server.specs.Output.{check_line}
+use Rattle.spec_commands.specs.SolveWideOut.{wide_known_line}
+use Rattle.spec_commands.specs.BasisOut as reading
+use Rattle.spec_commands.specs.BasisWideOut.{solved_of}
 
 abbrev pub end_lines : Model → SolveEnd → List ℕ
 end_lines m solved =

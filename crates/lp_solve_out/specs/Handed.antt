@@ -6,7 +6,7 @@ use Rattle.spec_simplex.specs.declared.ends.FormFault.{FormFault}
 use Rattle.spec_simplex.specs.Form.{form_of}
 use Rattle.spec_simplex.specs.Eliminate.{IsBasisOf}
 use Rattle.spec_solve.specs.Answers.{number_limit}
-use Rattle.spec_server.specs.BasisOut as reading
+use Rattle.spec_commands.specs.BasisOut as reading
 use Rattle.lp_solve_out.specs.declared.basis_start.Start.{Start}
 
 abbrev pub handed_of : Model → Option Start → reading.Handed

@@ -3,8 +3,8 @@ ghost use Rattle.std.specs.Prelude.{◌≡◌, ◌++◌, OnOk, Ok, Some};
 ghost use Rattle.spec_simplex.specs.Form.{form_of};
 ghost use Rattle.spec_solve.specs.Answers.{number_limit, MayAnswer};
 ghost use Rattle.spec_server.specs.Machine.{opening_budget, pivots_of_solved};
-ghost use Rattle.spec_server.specs.BasisOut.{BasisOut, final_text};
-ghost use Rattle.spec_server.specs.CheckOut.{check_line};
+ghost use Rattle.spec_commands.specs.BasisOut.{BasisOut, final_text};
+ghost use Rattle.spec_server.specs.Output.{check_line};
 ghost use Rattle.spec_server.specs.declared.asks.Reply.TheVariants as replies;
 ghost use Rattle.spec_server.specs.declared.asks.Refusal.TheVariants as refusals;
 ghost use Rattle.lp_solve.specs.Fit.{LeavesBasis};
@@ -12,6 +12,7 @@ ghost use Rattle.lp_solve_out.specs.Ends.{end_lines};
 ghost use Rattle.lp_solve_out.specs.Handed.{handed_of, IsStartOf};
 ghost use Rattle.lp_solve_out.specs.Prints.{Prints};
 
+use crate::bases::{print_basis_fault, print_route};
 use crate::basis_start::{Handed, Start};
 use crate::solve::{print_answer, print_certificate};
 use lp_answer::{OPENING_BUDGET, solved_from_basis, solved_within};
@@ -19,11 +20,11 @@ use lp_bas::write;
 use lp_base::Bytes;
 use lp_check::Known;
 use lp_form::Form;
-use lp_line::{Refusal, Reply, print_basis_fault, print_route, print_said};
+use lp_line::{Refusal, Reply, print_said};
 use lp_model::Model;
 use lp_solve::{End, Solved};
+use spec_commands::BasisFault;
 use spec_mps::MpsFault;
-use spec_server::BasisFault;
 use std::alloc::{AllocError, Global};
 
 /// Writes what is wrong with a text or the basis file after it.

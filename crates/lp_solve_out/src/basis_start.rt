@@ -17,7 +17,7 @@ pub struct Handed {
 }
 
 impl std::marker::Model for Handed {
-    ghost use Rattle.spec_server.specs.BasisOut as reading;
+    ghost use Rattle.spec_commands.specs.BasisOut as reading;
     ghost use Rattle.lp_solve_out.specs.Handed.{handed_of, IsStartOf};
 
     ghost Value = { reading.Handed };

@@ -9,10 +9,12 @@
 //! | `Handed`, `Start` | a model, and the basis from which it is solved | src/basis_start |
 //! | `print_handed` | writes what a solve from the basis of a file ends with | src/basis_out |
 //! | `print_wide_handed` | the same of a wide solve | src/wide_basis |
+//! | `print_route`, `print_basis_fault` | writes how a solve from a basis went, and what is wrong with a basis file | src/bases |
 //! | `print_fault` | writes what is wrong with a text or a basis file | src/basis_out |
 //! | `Prints` | what is put after what was printed before | specs/Prints |
 #![tactic(auto)]
 
+mod bases;
 mod basis_out;
 mod basis_start;
 mod solve;

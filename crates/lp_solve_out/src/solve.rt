@@ -1,10 +1,10 @@
 // The solve of a model.
 ghost use Rattle.std.specs.Prelude.{◌≡◌, ◌++◌, ℕ, Ok, OnOk};
 ghost use Rattle.spec_solve.specs.Answers.{MayAnswer};
-ghost use Rattle.spec_server.specs.CheckOut.{check_line};
+ghost use Rattle.spec_server.specs.Output.{check_line};
 ghost use Rattle.spec_server.specs.Machine as machine;
 ghost use Rattle.spec_server.specs.Output.{ended_lines};
-ghost use Rattle.spec_server.specs.SolveOut.{SolveOut, solved_lines};
+ghost use Rattle.spec_commands.specs.SolveOut.{SolveOut, solved_lines};
 ghost use Rattle.spec_server.specs.declared.asks.Reply.TheVariants as replies;
 ghost use Rattle.lp_solve_out.specs.Prints.{Prints};
 
@@ -26,7 +26,7 @@ pub fn print_solved(alloc: Global, model: &Model, to: &mut Bytes) -> Result<(), 
 }
 
 /// Writes the answer that a solve within the budget of a new session ended with, and its certificate.
-#[tactic(auto, unfolding(spec_server::specs::SolveOut::solved_lines))]
+#[tactic(auto, unfolding(spec_commands::specs::SolveOut::solved_lines))]
 pub fn print_end(alloc: Global, model: &Model, end: &End, to: &mut Bytes) -> Result<(), AllocError>
     requires { MayAnswer model.now machine.opening_budget end.now }
     ensures { OnOk result (to.new ≡ to.old ++ solved_lines model.now end.now) }

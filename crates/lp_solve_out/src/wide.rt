@@ -6,7 +6,7 @@ ghost use Rattle.spec_certificate.specs.TextWritten.{wide_certificate_lines};
 ghost use Rattle.spec_solve.specs.Wide.{IsWideSolved};
 ghost use Rattle.spec_server.specs.Machine.{opening_budget};
 ghost use Rattle.spec_server.specs.Output.{ended_lines};
-ghost use Rattle.spec_server.specs.SolveWideOut.{SolveWideOut, wide_known_line, wide_end_lines, wide_solved_lines};
+ghost use Rattle.spec_commands.specs.SolveWideOut.{SolveWideOut, wide_known_line, wide_end_lines, wide_solved_lines};
 ghost use Rattle.lp_solve_out.specs.Prints.{Prints};
 
 use crate::solve::print_end;
@@ -51,7 +51,7 @@ fn print_wide_end(
 }
 
 // Writes an answer with numbers of any width, and its certificate.
-#[tactic(auto, unfolding(spec_server::specs::SolveWideOut::wide_solved_lines))]
+#[tactic(auto, unfolding(spec_commands::specs::SolveWideOut::wide_solved_lines))]
 fn print_wide(
     alloc: Global,
     model: &Model,
@@ -67,7 +67,7 @@ fn print_wide(
 }
 
 /// Writes the line of the answer.
-#[tactic(auto, unfolding(spec_server::specs::SolveWideOut::wide_known_line))]
+#[tactic(auto, unfolding(spec_commands::specs::SolveWideOut::wide_known_line))]
 pub(crate) fn print_known(alloc: Global, answer: &Known, to: &mut Bytes) -> Result<(), AllocError>
     ensures { OnOk result (to.new ≡ to.old ++ wide_known_line answer.now) }
 {
@@ -79,7 +79,7 @@ pub(crate) fn print_known(alloc: Global, answer: &Known, to: &mut Bytes) -> Resu
 }
 
 // Writes the line of an optimum.
-#[tactic(auto, unfolding(spec_server::specs::SolveWideOut::wide_known_line))]
+#[tactic(auto, unfolding(spec_commands::specs::SolveWideOut::wide_known_line))]
 fn print_optimal(alloc: Global, value: &Ratio, to: &mut Bytes) -> Result<(), AllocError>
     ensures { OnOk result (to.new ≡ to.old ++ wide_known_line (known.Optimal value.now)) }
 {

@@ -12,8 +12,8 @@ use Rattle.spec_simplex.specs.Form.{Form, form_of}
 use Rattle.spec_solve.specs.Answers.{number_limit}
 use Rattle.spec_bas.specs.Cards.{reading_of}
 use Rattle.spec_bas.specs.Steps as file
-use Rattle.spec_server.specs.BasisOut as reading
-use Rattle.spec_server.specs.BasisOut.{basis_step}
+use Rattle.spec_commands.specs.BasisOut as reading
+use Rattle.spec_commands.specs.BasisOut.{basis_step}
 use Rattle.spec_server.specs.Said as said
 use Rattle.lp_line.specs.declared.hearing.Step.{Step}
 use Rattle.lp_line.specs.Hearing.{Leads}

@@ -8,9 +8,9 @@ use Rattle.spec_mps.specs.Steps as text
 use Rattle.spec_certificate.specs.declared.progress.Progress.TheVariants as progress
 use Rattle.spec_certificate.specs.NarrowText as certificate
 use Rattle.spec_server.specs.Machine.{ExactReply}
-use Rattle.spec_server.specs.CheckOut as reading
-use Rattle.spec_server.specs.CheckOut.{check_step}
-use Rattle.spec_server.proofs.CheckLemmas.{end_says}
+use Rattle.spec_commands.specs.CheckOut as reading
+use Rattle.spec_commands.specs.CheckOut.{check_step}
+use Rattle.spec_commands.proofs.CheckLemmas.{end_says}
 use Rattle.lp_line.specs.declared.hearing.Step.{Step}
 use Rattle.lp_line.specs.Hearing.{Leads}
 use Rattle.lp_text_commands.specs.declared.check.CheckStage.{CheckStage}

@@ -7,8 +7,8 @@ use Rattle.spec_text.specs.Lines.{lines_of, ended_lines_of, input_limit}
 use Rattle.spec_text.proofs.LineLemmas.{lines_of_none}
 use Rattle.spec_text.specs.declared.line.Line.{Line}
 use Rattle.spec_text.specs.declared.line.Line.TheVariants as line
-use Rattle.spec_server.specs.Said.{IsSaid}
-use Rattle.spec_server.proofs.WrittenLengths.{take_behind}
+use Rattle.spec_commands.specs.InputSaid.{IsSaid}
+use Rattle.spec_commands.proofs.WrittenLengths.{take_behind}
 use Rattle.lp_base.specs.LinesState.{LinesState, at_start}
 use Rattle.lp_base.specs.NextLine.{IsOver}
 use Rattle.lp_base.specs.Taking.{Tells, TakesLines, StaysEnded}

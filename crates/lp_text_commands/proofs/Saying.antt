@@ -11,12 +11,13 @@ use Rattle.spec_program.specs.declared.command_line.TextCommand.{TextCommand}
 use Rattle.spec_program.specs.declared.command_line.TextCommand.TheVariants.{Solve, SolveWide, Check, CheckWide, Basis, BasisWide, Presolve, Iis, Range}
 use Rattle.lp_text_commands.specs.declared.tasked.Task.TheVariants as task
 use Rattle.lp_text_commands.specs.Tasked.{TaskOut, task_code}
-use Rattle.spec_program.specs.RangeOut.{RangeOut, range_code}
+use Rattle.spec_commands.specs.RangeOut.{RangeOut, range_code}
 use Rattle.spec_program.specs.Spelled.{spelled_text}
 use Rattle.spec_server.specs.Machine.{ExactReply}
-use Rattle.spec_server.specs.CheckOut.{said, CheckOut, check_code}
-use Rattle.spec_server.specs.CheckWideOut.{wide_said, WideCheckOut}
-use Rattle.spec_server.specs.SolveOut.{TextSaid, text_said, SolveOut, solve_code}
+use Rattle.spec_commands.specs.CheckOut.{said, CheckOut, check_code}
+use Rattle.spec_commands.specs.CheckWideOut.{wide_said, WideCheckOut}
+use Rattle.spec_server.specs.TextSaid.{TextSaid, text_said}
+use Rattle.spec_commands.specs.SolveOut.{SolveOut, solve_code}
 use Rattle.lp_base.specs.Beside.{Takes}
 use Rattle.mps_read.specs.TextRead.{TextRead}
 use Rattle.lp_line.specs.Stages.{TextSays}
@@ -27,8 +28,8 @@ use Rattle.lp_line.specs.declared.halt.Halt.TheVariants as halts
 use Rattle.lp_solve_out.specs.Prints.{Prints}
 use Rattle.lp_text_commands.specs.Hearing.{Agrees, Hears, HearsSo, SaysSo}
 use Rattle.lp_text_commands.specs.Writing.{WritesAll, WritesInPart, WritesSo}
-use Rattle.spec_server.specs.BasisOut.{BasisSaid, basis_said, BasisOut, basis_code}
-use Rattle.spec_server.specs.BasisWideOut.{BasisWideOut}
+use Rattle.spec_commands.specs.BasisOut.{BasisSaid, basis_said, BasisOut, basis_code}
+use Rattle.spec_commands.specs.BasisWideOut.{BasisWideOut}
 use Rattle.lp_text_commands.specs.declared.basis.BasisStage.TheVariants as basis_stage
 use Rattle.lp_text_commands.specs.Basis.{BasisSays}
 use Rattle.lp_text_commands.specs.declared.check_wide.WideStage.TheVariants as wide_stage

@@ -1,7 +1,7 @@
 -- Where the reading of `basis` stands, as the definitions have it.
 use Rattle.std.specs.Prelude.{ℕ, Option, List}
 use Rattle.spec_text.specs.declared.line.Line.{Line}
-use Rattle.spec_server.specs.BasisOut as reading
+use Rattle.spec_commands.specs.BasisOut as reading
 use Rattle.spec_server.specs.Said as said
 use Rattle.lp_line.specs.declared.hearing.Step.{Step}
 use Rattle.lp_text_commands.specs.declared.basis.BasisStage.{BasisStage}

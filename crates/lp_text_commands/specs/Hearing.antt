@@ -4,7 +4,7 @@ use Rattle.std.specs.Prelude.{Err}
 use Rattle.std.specs.Io.KnownBytes.{Consumes, Appends}
 use Rattle.spec_text.specs.Lines.{lines_of, input_limit}
 use Rattle.spec_text.specs.declared.line.Line.{Line}
-use Rattle.spec_server.specs.Said.{IsSaid, IsUndecided}
+use Rattle.spec_commands.specs.InputSaid.{IsSaid, IsUndecided}
 use Rattle.lp_base.specs.Beside.{Takes}
 use Rattle.lp_line.specs.declared.halt.Halt.{Halt}
 use Rattle.lp_line.specs.declared.halt.Halt.TheVariants as halts

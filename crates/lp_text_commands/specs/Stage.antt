@@ -2,7 +2,7 @@
 use Rattle.std.specs.Prelude.{ℕ, Option, List}
 use Rattle.spec_text.specs.declared.line.Line.{Line}
 use Rattle.spec_server.specs.Machine.{ExactReply}
-use Rattle.spec_server.specs.CheckOut as reading
+use Rattle.spec_commands.specs.CheckOut as reading
 use Rattle.spec_server.specs.Said as said
 use Rattle.lp_line.specs.declared.hearing.Step.{Step}
 use Rattle.lp_text_commands.specs.declared.check.CheckStage.{CheckStage}

@@ -1,10 +1,11 @@
 -- What is written of a text, of whose model more is asked than a solve at 127 bits.
 use Rattle.std.specs.Prelude.{ℕ, List, Ok, Err}
 use Rattle.spec_model.specs.Kept.{IsModel}
-use Rattle.spec_program.specs.IisOut.{IisOut}
-use Rattle.spec_program.specs.PresolveOut.{PresolveOut}
-use Rattle.spec_server.specs.SolveOut.{TextSaid, solve_code}
-use Rattle.spec_server.specs.SolveWideOut.{SolveWideOut}
+use Rattle.spec_commands.specs.IisOut.{IisOut}
+use Rattle.spec_commands.specs.PresolveOut.{PresolveOut}
+use Rattle.spec_server.specs.TextSaid.{TextSaid}
+use Rattle.spec_commands.specs.SolveOut.{solve_code}
+use Rattle.spec_commands.specs.SolveWideOut.{SolveWideOut}
 use Rattle.lp_text_commands.specs.declared.tasked.Task.{Task}
 use Rattle.lp_text_commands.specs.declared.tasked.Task.TheVariants.{SolveWide, Presolve, Search}
 

@@ -2,7 +2,7 @@
 use Rattle.std.specs.Prelude.{Result, ℕ}
 use Rattle.spec_mps.specs.declared.style.Style.{Style}
 use Rattle.spec_program.specs.CommandLine.{ExactTextCommand}
-use Rattle.spec_program.specs.TextOut.{said_of, MayWrite, code_of}
+use Rattle.spec_commands.specs.TextOut.{said_of, MayWrite, code_of}
 use Rattle.lp_line.specs.declared.halt.Halt.{Halt}
 use Rattle.lp_text_commands.specs.declared.exit_status.ExitStatus.{ExitStatus}
 use Rattle.lp_text_commands.specs.Hearing.{SaysSo, TellsOf}

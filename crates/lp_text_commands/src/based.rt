@@ -2,8 +2,8 @@
 ghost use Rattle.std.specs.Prelude.{◌≡◌, List, ℕ, IsErrOf, Option};
 ghost use Rattle.lp_base.specs.Causes.{Rose};
 ghost use Rattle.spec_text.specs.declared.line.Line.{Line as exact_line};
-ghost use Rattle.spec_server.specs.BasisOut.{BasisSaid as exact_said, basis_code};
-ghost use Rattle.spec_server.specs.BasisWideOut.{BasisWideOut};
+ghost use Rattle.spec_commands.specs.BasisOut.{BasisSaid as exact_said, basis_code};
+ghost use Rattle.spec_commands.specs.BasisWideOut.{BasisWideOut};
 ghost use Rattle.spec_server.specs.Streams.{streams};
 ghost use Rattle.lp_text_commands.specs.Basis.{BasisSays};
 ghost use Rattle.lp_text_commands.specs.Hearing.{Agrees, SaysSo};

@@ -2,7 +2,7 @@
 ghost use Rattle.std.specs.Prelude.{◌≡◌, ◌<◌, ◌-◌, ◌^◌, IfOk, Ok, Some, refl};
 ghost use Rattle.spec_simplex.specs.Form.{form_of};
 ghost use Rattle.spec_solve.specs.Answers.{number_limit};
-ghost use Rattle.spec_server.specs.BasisOut.{InText, InFile, begun_file, basis_step};
+ghost use Rattle.spec_commands.specs.BasisOut.{InText, InFile, begun_file, basis_step};
 ghost use Rattle.lp_text_commands.specs.Basis.{step_of, count_of, BasisSays};
 
 use crate::basis_file::FileStage;
@@ -15,7 +15,7 @@ use lp_model::Model;
 use lp_solve_out::{Handed, Start};
 use lp_standard::form;
 use mps_read::{Feed, Reader};
-use spec_server::BasisFault;
+use spec_commands::BasisFault;
 use std::alloc::{AllocError, Global};
 
 /// What the text and the file say: a model to solve, or what is wrong.
@@ -81,7 +81,7 @@ fn open_file(alloc: Global, model: Model, form: Form) -> Result<BasisStep, Alloc
 }
 
 // A line of the text.
-#[tactic(auto, unfolding(spec_server::specs::BasisOut::basis_step))]
+#[tactic(auto, unfolding(spec_commands::specs::BasisOut::basis_step))]
 fn text_line(alloc: Global, mut reader: Reader, line: &Line) -> Result<BasisStep, AllocError>
     requires { reader.lines < 2 ^ 32 - 1 }
     ensures { IfOk result (λ step. step_of step ≡ basis_step (InText reader.style reader.state reader.lines) line.now) }
@@ -97,7 +97,7 @@ fn text_line(alloc: Global, mut reader: Reader, line: &Line) -> Result<BasisStep
 }
 
 // A line of the file.
-#[tactic(auto, unfolding(spec_server::specs::BasisOut::basis_step))]
+#[tactic(auto, unfolding(spec_commands::specs::BasisOut::basis_step))]
 fn file_line(alloc: Global, file: FileStage, line: &Line) -> Result<BasisStep, AllocError>
     requires { file.lines < 2 ^ 32 - 1 }
     ensures { IfOk result

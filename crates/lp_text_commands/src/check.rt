@@ -1,7 +1,7 @@
 // The check of a certificate that follows the text of its model.
 ghost use Rattle.std.specs.Prelude.{◌≡◌, ◌<◌, ◌-◌, ◌^◌, IfOk, refl};
 ghost use Rattle.spec_check.specs.Settle.{certificate_for};
-ghost use Rattle.spec_server.specs.CheckOut.{InText, InCertificate, Says, check_step, check_code, CheckOut};
+ghost use Rattle.spec_commands.specs.CheckOut.{InText, InCertificate, Says, check_step, check_code, CheckOut};
 ghost use Rattle.spec_server.specs.Machine as machine;
 ghost use Rattle.lp_text_commands.specs.Stage.{step_of, count_of, CheckSays};
 
@@ -67,7 +67,7 @@ fn status_of(reply: &Reply) -> ExitStatus
 }
 
 // A line of the text.
-#[tactic(auto, unfolding(spec_server::specs::CheckOut::check_step))]
+#[tactic(auto, unfolding(spec_commands::specs::CheckOut::check_step))]
 fn text_line(alloc: Global, mut reader: Reader, line: &Line) -> Result<CheckStep, AllocError>
     requires { reader.lines < 2 ^ 32 - 1 }
     ensures { IfOk result (λ step. step_of step ≡ check_step (InText reader.style reader.state reader.lines) line.now) }
@@ -86,7 +86,7 @@ fn text_line(alloc: Global, mut reader: Reader, line: &Line) -> Result<CheckStep
 }
 
 // A line of the certificate.
-#[tactic(auto, unfolding(spec_server::specs::CheckOut::check_step))]
+#[tactic(auto, unfolding(spec_commands::specs::CheckOut::check_step))]
 fn certificate_line(
     alloc: Global,
     model: Model,

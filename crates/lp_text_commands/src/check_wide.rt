@@ -4,8 +4,8 @@ ghost use Rattle.spec_check.specs.declared.certificate.Known.TheVariants as know
 ghost use Rattle.spec_check.specs.declared.certificate.Verdict.TheVariants as verdict;
 ghost use Rattle.spec_check.specs.Settle.{certificate_for};
 ghost use Rattle.spec_server.specs.declared.asks.Reply.TheVariants as reply;
-ghost use Rattle.spec_server.specs.CheckOut.{InText, InCertificate, Says, check_code};
-ghost use Rattle.spec_server.specs.CheckWideOut.{wide_step, wide_verdict_on, wide_reply_text, wide_check_line, WideCheckOut};
+ghost use Rattle.spec_commands.specs.CheckOut.{InText, InCertificate, Says, check_code};
+ghost use Rattle.spec_commands.specs.CheckWideOut.{wide_step, wide_verdict_on, wide_reply_text, wide_check_line, WideCheckOut};
 ghost use Rattle.spec_server.specs.Output.{reply_text};
 ghost use Rattle.lp_text_commands.specs.WideSaid.{verdict_reply};
 ghost use Rattle.lp_text_commands.specs.WideStage.{wide_step_of, wide_count_of, WideSays};
@@ -102,7 +102,7 @@ impl Output for WideReply {
 }
 
 // The line of an optimal value.
-#[tactic(auto, unfolding(spec_server::specs::CheckWideOut::wide_check_line))]
+#[tactic(auto, unfolding(spec_commands::specs::CheckWideOut::wide_check_line))]
 fn print_optimal(alloc: Global, value: &Ratio, to: &mut Bytes) -> Result<(), AllocError>
     ensures { OnOk result (to.new ≡ to.old ++ wide_check_line (reply.Checked (verdict.Yes (known.Optimal value.now)))) }
 {
@@ -146,7 +146,7 @@ fn print_verdict(alloc: Global, verdict: Verdict, to: &mut Bytes) -> Result<Exit
 }
 
 // A line of the text.
-#[tactic(auto, unfolding(spec_server::specs::CheckWideOut::wide_step))]
+#[tactic(auto, unfolding(spec_commands::specs::CheckWideOut::wide_step))]
 fn text_line(alloc: Global, mut reader: Reader, line: &Line) -> Result<WideStep, AllocError>
     requires { reader.lines < 2 ^ 32 - 1 }
     ensures { IfOk result (λ step. wide_step_of step
@@ -168,7 +168,7 @@ fn text_line(alloc: Global, mut reader: Reader, line: &Line) -> Result<WideStep,
 }
 
 // A line of the certificate.
-#[tactic(auto, unfolding(spec_server::specs::CheckWideOut::wide_step))]
+#[tactic(auto, unfolding(spec_commands::specs::CheckWideOut::wide_step))]
 fn certificate_line(
     alloc: Global,
     model: Model,

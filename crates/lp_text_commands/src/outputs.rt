@@ -1,6 +1,6 @@
 // What is said of a text, and of a text and a basis file after it, as it is written.
-ghost use Rattle.spec_server.specs.SolveOut.{SolveOut, solve_code};
-ghost use Rattle.spec_server.specs.BasisOut.{BasisOut, basis_code};
+ghost use Rattle.spec_commands.specs.SolveOut.{SolveOut, solve_code};
+ghost use Rattle.spec_commands.specs.BasisOut.{BasisOut, basis_code};
 
 use crate::basis::BasisSaid;
 use crate::exit_status::ExitStatus;

@@ -2,8 +2,8 @@
 ghost use Rattle.std.specs.Prelude.{◌≡◌, List, ℕ, OnOk, IfOk, IsErrOf, Option, Ok};
 ghost use Rattle.lp_base.specs.Causes.{Rose};
 ghost use Rattle.spec_text.specs.declared.line.Line.{Line as exact_line};
-ghost use Rattle.spec_program.specs.RangeOut.{PlaceOut, RangeOut, place_code, range_code, place_by};
-ghost use Rattle.spec_server.specs.SolveOut.{TextSaid as exact_said};
+ghost use Rattle.spec_commands.specs.RangeOut.{PlaceOut, RangeOut, place_code, range_code, place_by};
+ghost use Rattle.spec_server.specs.TextSaid.{TextSaid as exact_said};
 ghost use Rattle.spec_server.specs.Streams.{streams};
 ghost use Rattle.lp_line.specs.Stages.{TextSays};
 ghost use Rattle.lp_solve_out.specs.Prints.{Prints};

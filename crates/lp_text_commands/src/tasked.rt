@@ -3,7 +3,7 @@ ghost use Rattle.std.specs.Prelude.{◌≡◌, Ok, OnOk, IsErrOf};
 ghost use Rattle.lp_base.specs.Causes.{Rose};
 ghost use Rattle.spec_model.specs.Kept.{IsModel};
 ghost use Rattle.spec_mps.specs.Reader.{start};
-ghost use Rattle.spec_server.specs.SolveOut.{text_said};
+ghost use Rattle.spec_server.specs.TextSaid.{text_said};
 ghost use Rattle.spec_server.specs.Streams.{streams};
 ghost use Rattle.lp_solve_out.specs.Prints.{Prints};
 ghost use Rattle.lp_text_commands.specs.Hearing.{SaysSo};

@@ -7,8 +7,8 @@ use Rattle.spec_program.specs.declared.command_line.CommandLine.{CommandLine}
 use Rattle.spec_program.specs.declared.command_line.TextCommand.TheVariants.{Solve, SolveWide, Check, CheckWide, Basis, BasisWide, Presolve, Iis, Range}
 use Rattle.spec_program.specs.CommandLine.{ExactTextCommand}
 use Rattle.spec_program.specs.Spelled.{spelled}
-use Rattle.spec_program.specs.RangeOut.{place_by, place_code}
-use Rattle.spec_program.specs.TextOut.{SaidBy, said_of, MayWrite, code_of}
+use Rattle.spec_commands.specs.RangeOut.{place_by, place_code}
+use Rattle.spec_commands.specs.TextOut.{SaidBy, said_of, MayWrite, code_of}
 use Rattle.spec_mps.specs.declared.style.Style.{Style}
 use Rattle.lp_line.specs.declared.halt.Halt.{Halt}
 use Rattle.lp_line.specs.declared.halt.Halt.TheVariants as halts
@@ -17,7 +17,7 @@ use Rattle.lp_text_commands.specs.Hearing.{Says, SaysSo, TellsOf}
 use Rattle.lp_script.specs.Run.{Moves, EndsSo}
 use Rattle.lp_text_commands.specs.Status.{code_behind}
 use Rattle.spec_server.specs.declared.asks.Reply.TheVariants as reply
-use Rattle.spec_server.specs.CheckOut.{check_code}
+use Rattle.spec_commands.specs.CheckOut.{check_code}
 use Rattle.spec_server.specs.Machine.{ExactReply}
 use Rattle.spec_server.specs.Streams.{Streams}
 use Rattle.lp_text_commands.specs.TextCommands.{ReadsText, TellsOfText}

@@ -17,8 +17,8 @@ use Rattle.spec_server.specs.Script.{script_of}
 use Rattle.spec_server.specs.Streams.{Streams}
 use Rattle.spec_program.specs.declared.command_line.CommandLine.TheVariants.{Run, Read, Generate, Serve}
 use Rattle.spec_program.specs.CommandLine.{ExactLine, ExactTextCommand}
-use Rattle.spec_program.specs.GenOut.{GenOut}
-use Rattle.spec_program.specs.TextOut.{said_of, MayWrite, code_of}
+use Rattle.spec_commands.specs.GenOut.{GenOut}
+use Rattle.spec_commands.specs.TextOut.{said_of, MayWrite, code_of}
 use Rattle.spec_truth.specs.TrueOutput.{IsNumber, IsTrueLine, IsTrueOf, AreTrueReplies, Tells, IsTrueOutput}
 use Rattle.spec_truth.proofs.FirstAsks.{AreFirst, ended_first, script_first}
 use Rattle.spec_truth.proofs.ToldRuns.{replies_true}

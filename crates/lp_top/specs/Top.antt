@@ -3,7 +3,7 @@ use Rattle.std.specs.Prelude.{ℕ, ◌≡◌, ◌⊎◌, List, [], Option, Some,
 use Rattle.std.specs.Io.KnownBytes.{Consumes, Appends}
 use Rattle.spec_program.specs.declared.command_line.CommandLine.TheVariants.{Run, Read, Generate, Serve}
 use Rattle.spec_program.specs.CommandLine.{ExactLine}
-use Rattle.spec_program.specs.GenOut.{GenOut}
+use Rattle.spec_commands.specs.GenOut.{GenOut}
 use Rattle.spec_server.specs.Script.{Ended, Cut}
 use Rattle.spec_server.specs.Script as script
 use Rattle.lp_generate.specs.Generating.{TellsOfWriting}

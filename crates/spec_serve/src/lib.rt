@@ -33,8 +33,8 @@ ghost use Rattle.spec_server.specs.Machine.{ExactAsk, ExactLastAnswer, AreKept, 
 ghost use Rattle.spec_server.specs.Exchanges.{Exchange, asked_in, AloneRun, RunAlone};
 ghost use Rattle.spec_server.specs.Streams.{Streams, streams};
 ghost use Rattle.spec_server.specs.Output.{ended_lines};
-ghost use Rattle.spec_server.specs.Said.{IsSaidEarly};
-ghost use Rattle.spec_server.specs.CheckOut.{said};
+ghost use Rattle.spec_commands.specs.InputSaid.{IsSaidEarly};
+ghost use Rattle.spec_commands.specs.CheckOut.{said};
 ghost use Rattle.spec_truth.specs.LoadedFrom.{IsLoadedFrom};
 ghost use Rattle.spec_serve.specs.declared.link_end.LinkEnd.{LinkEnd as link_end_of};
 ghost use Rattle.spec_serve.specs.Link.{ended_link_asks_of, link_asks_of, link_out, LinkMoves, ServesLink};

@@ -10,14 +10,5 @@ pub mod ScriptLemmas
 pub mod ScriptBytes
 pub mod ScriptKept
 pub mod Truth
-pub mod CheckLemmas
 pub mod ColdAnswers
-pub mod TextEnds
-pub mod WrittenEnds
-pub mod PlainLines
-pub mod WrittenLengths
-pub mod CertificateLengths
-pub mod WrittenChecks
 pub mod Sessions
-pub mod WideChecks
-pub mod WideWritten

@@ -1,35 +1,17 @@
--- What holds of a session whatever it was asked before: its model may be kept, and its last answer passes the check.
-use Rattle.std.proofs.Common.{◌≡◌, ℕ, List, [], ◌∷◌, ◌++◌, Option, Some, IfSome, map, sym, subst, ◌⊎◌, inl, inr}
+-- What holds of a session whatever it was asked before: its model may be kept, and its last answer is one that the
+-- model may have.
+use Rattle.std.proofs.Common.{ℕ, List, [], ◌∷◌, map, sym, subst, ◌⊎◌, inl, inr}
 use Rattle.std.proofs.lemmas.List.Elements.{All-head, All-tail}
-use Rattle.spec_exact.specs.Fraction.{ℚ}
-use Rattle.spec_model.specs.Model.{Model}
-use Rattle.spec_model.specs.Kept.{IsModel}
-use Rattle.spec_mps.specs.declared.style.Style.TheVariants.{Free}
-use Rattle.spec_mps.specs.Written.{free}
-use Rattle.spec_check.specs.declared.certificate.Certificate.{Certificate}
-use Rattle.spec_check.specs.declared.certificate.Known.{Known}
-use Rattle.spec_check.specs.declared.certificate.Verdict.TheVariants.{Yes}
-use Rattle.spec_check.specs.Certificate.{Holds}
-use Rattle.spec_certificate.specs.TextWritten.{certificate_lines}
-use Rattle.spec_pivot.specs.declared.status.Status.{Status}
-use Rattle.spec_check.specs.declared.solve_end.SolveEnd.TheVariants.{Ended}
-use Rattle.spec_solve.specs.Answers.{MayAnswer}
-use Rattle.spec_solve.proofs.TrueAnswers.{ended_true}
 use Rattle.spec_reads.specs.Reads.{ExactRead}
 use Rattle.spec_server.specs.declared.asks.Asked.{Asked}
-use Rattle.spec_server.specs.declared.asks.Reply.TheVariants as reply
 use Rattle.spec_server.specs.LastFits.{LastFits}
-use Rattle.spec_server.specs.Machine.{ExactAsk, ExactReply, ExactLastAnswer, IsKeptAsk, AreKept, State, opening, Due}
+use Rattle.spec_server.specs.Machine.{ExactAsk, ExactReply, IsKeptAsk, AreKept, State, Due}
 use Rattle.spec_server.specs.Machine.{Replies, Solves, due}
 use Rattle.spec_server.specs.Step.{AloneStep}
 use Rattle.spec_server.specs.Exchanges.{Exchange, asked_in, AloneRun}
-use Rattle.spec_server.specs.Output.{ended_lines}
-use Rattle.spec_server.specs.Said.{IsSaidEarly}
-use Rattle.spec_server.specs.CheckOut.{said}
 use Rattle.spec_server.proofs.Dues.{IsKeptState, due_next, after_kept}
 use Rattle.spec_server.proofs.LastFits.{step_fits}
 use Rattle.spec_server.proofs.Simply.{Does, WantsMemory, step_simply}
-use Rattle.spec_server.proofs.WrittenChecks.{free_checks}
 
 -- ---- steps
 
@@ -49,11 +31,11 @@ step_keeps places old new asked reads replied s may h = by (step_simply places o
 
 -- ---- runs
 
-record IsGood (state : State) : Type 0 where
-  kept : IsKeptState state
-  fits : LastFits state.model state.last
+pub record IsGood (state : State) : Type 0 where
+  pub kept : IsKeptState state
+  pub fits : LastFits state.model state.last
 
-run_good : (places : ℕ) (old new : State) (xs : List Exchange) → AreKept (map asked_in xs) →
+pub run_good : (places : ℕ) (old new : State) (xs : List Exchange) → AreKept (map asked_in xs) →
     AloneRun places old xs new →
     IsGood old → IsGood new
 run_good places old new [] may run good = subst IsGood (sym run) good
@@ -67,30 +49,3 @@ run_good places old new (x ∷ xs) may run good =
       kept = step_keeps places old run.0 x.ask x.reads x.reply run.1 first good.kept;
       fits = step_fits places old run.0 x.ask x.reads x.reply run.1 good.fits;
     })
-
--- ---- the last answer
-
--- what is known by the last answer is true, and the command `check` says so
-abbrev StandsUp : Model → Known ℚ → Certificate (List ℚ) → Type 0
-StandsUp m known cert =
-    Holds m known
-    × IsSaidEarly (said Free) (free m ++ ended_lines (certificate_lines m cert)) (reply.Checked (Yes known))
-
-answer_stands : (m : Model) (budget : ℕ) (known : Known ℚ) (cert : Certificate (List ℚ)) (basis : Option (List Status))
-    (pivots : ℕ) →
-    IsModel m → MayAnswer m budget (Ended known cert basis pivots) → StandsUp m known cert
-answer_stands m budget known cert basis pivots kept h =
-    (ended_true m budget known cert basis pivots h, free_checks m budget known cert basis pivots kept h)
-
-pub last_stands : (places : ℕ) (xs : List Exchange) (state : State) (m : Model) (last : ExactLastAnswer)
-    (known : Known ℚ) (cert : Certificate (List ℚ)) (basis : Option (List Status)) (pivots : ℕ) →
-    AreKept (map asked_in xs) → AloneRun places opening xs state → state.model ≡ Some m → state.last ≡ Some last →
-    last.solved ≡ Ended known cert basis pivots → StandsUp m known cert
-last_stands places xs state m last known cert basis pivots may run held is ended =
-    let good : IsGood state = run_good places opening state xs may run (record { kept = tt; fits = tt }) in
-    let fits =
-    subst (λ (model : Option Model). LastFits model (Some last)) held
-    (subst (λ (last : Option ExactLastAnswer). LastFits state.model last) is good.fits) in
-    answer_stands m fits.0 known cert basis pivots
-    (subst (λ (model : Option Model). IfSome model IsModel) held good.kept)
-    (subst (MayAnswer m fits.0) ended fits.1)

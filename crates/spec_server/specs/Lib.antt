@@ -10,10 +10,5 @@ pub mod EditCommand
 pub mod Script
 pub mod Streams
 pub mod Said
-pub mod CheckOut
-pub mod CheckWideOut
-pub mod SolveOut
-pub mod SolveWideOut
-pub mod BasisOut
-pub mod BasisWideOut
+pub mod TextSaid
 pub mod Halves

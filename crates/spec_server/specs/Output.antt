@@ -146,6 +146,10 @@ reply_text reply.Bye = codes "BYE"
 reply_text reply.Memory = codes "MEMORY"
 reply_text (reply.Refused why) = codes "ERR " ++ refusal_text why
 
+-- the line of a reply that no lines follow, as the commands that read a text write it
+unfoldable pub check_line : ExactReply → List ℕ
+check_line replied = reply_text replied ++ 10 ∷ []
+
 -- lines, each with a line feed after it
 unfoldable pub ended_lines : List (List ℕ) → List ℕ
 ended_lines lines = flat_map (λ line. line ++ 10 ∷ []) lines

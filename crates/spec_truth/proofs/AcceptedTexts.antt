@@ -32,13 +32,14 @@ use Rattle.spec_solve.specs.Answers.{MayAnswer}
 use Rattle.spec_server.specs.Machine.{opening_budget, answer_of, lines_of_solved, pivots_of_solved, verdict_on}
 use Rattle.spec_server.specs.Output.{reply_text, ended_lines, fall_text, pivots_text}
 use Rattle.spec_server.specs.Said.{follow, said_by}
-use Rattle.spec_server.specs.CheckOut.{InText, InCertificate, behind_text, check_step, said_from, said}
-use Rattle.spec_server.specs.SolveOut.{behind_line, text_step, SolveOut}
-use Rattle.spec_server.specs.BasisOut.{Handed, route_text, route_line, final_text, BasisOut}
-use Rattle.spec_server.proofs.PlainLines.{ended_lines_behind, certificate_plain}
-use Rattle.spec_server.proofs.WrittenChecks.{certificate_said}
+use Rattle.spec_commands.specs.CheckOut.{InText, InCertificate, behind_text, check_step, said_from, said}
+use Rattle.spec_server.specs.TextSaid.{behind_line, text_step}
+use Rattle.spec_commands.specs.SolveOut.{SolveOut}
+use Rattle.spec_commands.specs.BasisOut.{Handed, route_text, route_line, final_text, BasisOut}
+use Rattle.spec_commands.proofs.PlainLines.{ended_lines_behind, certificate_plain}
+use Rattle.spec_commands.proofs.WrittenChecks.{certificate_said}
 use Rattle.spec_presolve.specs.declared.presolved.Way.{Way}
-use Rattle.spec_program.specs.PresolveOut.{way_line, PresolveOut}
+use Rattle.spec_commands.specs.PresolveOut.{way_line, PresolveOut}
 use Rattle.spec_truth.specs.SpelledBasis.{BeginsWithText, form_at_limit, AreHanded}
 use Rattle.spec_truth.specs.AcceptedLines.{IsAccepted}
 use Rattle.spec_truth.proofs.AnswerLines.{HasNoFeed}

@@ -18,12 +18,12 @@ use Rattle.spec_bas.specs.Steps as file
 use Rattle.spec_bas.specs.Fits.{HasSizeOf}
 use Rattle.spec_bas.proofs.Files.{gives_spells, spells_gives}
 use Rattle.spec_bas.proofs.Sizes.{sized}
-use Rattle.spec_server.specs.declared.basis.BasisFault.TheVariants as fault
+use Rattle.spec_commands.specs.declared.basis.BasisFault.TheVariants as fault
 use Rattle.spec_solve.specs.Answers.{number_limit}
 use Rattle.spec_server.specs.Said.{follow, said_by}
-use Rattle.spec_server.specs.SolveOut.{TextSaid, behind_line, text_step}
-use Rattle.spec_server.specs.BasisOut.{Handed, InText, InFile, BasisSaid, begun_file, behind_text, behind_file, basis_step}
-use Rattle.spec_server.specs.BasisOut.{basis_said_from, basis_said}
+use Rattle.spec_server.specs.TextSaid.{TextSaid, behind_line, text_step}
+use Rattle.spec_commands.specs.BasisOut.{Handed, InText, InFile, BasisSaid, begun_file, behind_text, behind_file, basis_step}
+use Rattle.spec_commands.specs.BasisOut.{basis_said_from, basis_said}
 use Rattle.spec_truth.specs.SpelledBasis.{BeginsWithText, form_at_limit, IsFileOf, AreHanded, HaveWrongFile}
 use Rattle.spec_truth.proofs.TextLemmas.{said_refused, said_cut}
 

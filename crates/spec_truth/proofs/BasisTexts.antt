@@ -13,13 +13,13 @@ use Rattle.spec_mps.specs.Steps as text
 use Rattle.spec_warm.specs.Solve.{SolveEnd}
 use Rattle.spec_server.specs.declared.answer.Answer.{Answer}
 use Rattle.spec_server.specs.declared.asks.Reply.TheVariants as reply
-use Rattle.spec_server.specs.declared.basis.BasisFault.{BasisFault}
-use Rattle.spec_server.specs.declared.basis.BasisFault.TheVariants as fault
+use Rattle.spec_commands.specs.declared.basis.BasisFault.{BasisFault}
+use Rattle.spec_commands.specs.declared.basis.BasisFault.TheVariants as fault
 use Rattle.spec_server.specs.Machine.{opening_budget, answer_of, lines_of_solved}
 use Rattle.spec_server.specs.Output.{answer_text, reply_text, ended_lines}
-use Rattle.spec_server.specs.CheckOut.{check_line}
-use Rattle.spec_server.specs.BasisOut.{Handed, BasisSaid, basis_said, route_line, final_text, basis_lines}
-use Rattle.spec_server.specs.BasisOut.{basis_fault_line, BasisOut}
+use Rattle.spec_server.specs.Output.{check_line}
+use Rattle.spec_commands.specs.BasisOut.{Handed, BasisSaid, basis_said, route_line, final_text, basis_lines}
+use Rattle.spec_commands.specs.BasisOut.{basis_fault_line, BasisOut}
 use Rattle.spec_truth.specs.SpelledBasis.{BeginsWithText, form_at_limit}
 use Rattle.spec_truth.specs.TrueAnswer.{IsTrueOf}
 use Rattle.spec_truth.proofs.Shown.{answer_shown, answer_holds}

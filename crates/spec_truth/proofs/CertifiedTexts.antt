@@ -21,9 +21,9 @@ use Rattle.spec_server.specs.declared.asks.Refusal.{Refusal}
 use Rattle.spec_server.specs.declared.asks.Refusal.TheVariants as refusal
 use Rattle.spec_server.specs.Machine.{ExactReply, verdict_on}
 use Rattle.spec_server.specs.Said.{Step, On, Says, follow, said_by}
-use Rattle.spec_server.specs.CheckOut.{Stage, InText, InCertificate, behind_text, behind_certificate, check_step, said}
-use Rattle.spec_server.specs.CheckWideOut.{wide_verdict_on, behind_wide, wide_step, wide_said}
-use Rattle.spec_server.specs.SolveOut.{behind_line, text_step}
+use Rattle.spec_commands.specs.CheckOut.{Stage, InText, InCertificate, behind_text, behind_certificate, check_step, said}
+use Rattle.spec_commands.specs.CheckWideOut.{wide_verdict_on, behind_wide, wide_step, wide_said}
+use Rattle.spec_server.specs.TextSaid.{behind_line, text_step}
 use Rattle.spec_truth.specs.Certified.{IsCertifiedBy, IsCertified, IsWidelyCertified}
 use Rattle.spec_truth.proofs.ReplyLines.{yes_to}
 use Rattle.spec_truth.proofs.Shown.{IsShown, shown_holds, yes_shown, wide_yes_holds}

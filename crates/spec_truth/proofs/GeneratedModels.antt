@@ -15,8 +15,8 @@ use Rattle.spec_server.specs.declared.answer.Answer.{Answer}
 use Rattle.spec_server.specs.declared.asks.Reply.TheVariants as reply
 use Rattle.spec_server.specs.Machine.{opening_budget, answer_of, pivots_of_solved}
 use Rattle.spec_server.specs.Output.{answer_text, reply_text, pivots_text}
-use Rattle.spec_server.specs.CheckOut.{check_line}
-use Rattle.spec_program.specs.GenOut.{entry_count, size_text, generated_lines, SolvedOut, GenOut}
+use Rattle.spec_server.specs.Output.{check_line}
+use Rattle.spec_commands.specs.GenOut.{entry_count, size_text, generated_lines, SolvedOut, GenOut}
 use Rattle.spec_truth.specs.TrueAnswer.{IsTrueOf}
 use Rattle.spec_truth.proofs.Shown.{IsShownBy, answer_shown, answer_holds}
 use Rattle.spec_truth.proofs.AnswerLines.{HasNoFeed, same_rest, optimal_line, infeasible_line, unbounded_line}

@@ -16,8 +16,8 @@ use Rattle.spec_server.specs.declared.answer.Answer.{Answer}
 use Rattle.spec_server.specs.declared.asks.Reply.TheVariants as reply
 use Rattle.spec_server.specs.Machine.{opening_budget, answer_of, lines_of_solved}
 use Rattle.spec_server.specs.Output.{answer_text, reply_text, ended_lines}
-use Rattle.spec_server.specs.SolveOut.{TextSaid, text_said}
-use Rattle.spec_program.specs.PresolveOut.{way_line, presolved_lines, PresolveOut}
+use Rattle.spec_server.specs.TextSaid.{TextSaid, text_said}
+use Rattle.spec_commands.specs.PresolveOut.{way_line, presolved_lines, PresolveOut}
 use Rattle.spec_truth.specs.TrueAnswer.{IsTrueOf}
 use Rattle.spec_truth.proofs.Shown.{IsShownBy, answer_shown, answer_holds}
 use Rattle.spec_truth.proofs.TextLemmas.{spelled_said}

@@ -37,18 +37,18 @@ use Rattle.spec_range.proofs.CostRange.{cost_range_is}
 use Rattle.spec_range.proofs.SideRange.{side_range_is}
 use Rattle.spec_program.specs.declared.command_line.Moved.{Moved}
 use Rattle.spec_program.specs.declared.command_line.Moved.TheVariants.{Cost, RightSide}
-use Rattle.spec_program.specs.RangeOut.{place_by, range_of, end_text, range_line, ranged_text, based_text, range_text}
-use Rattle.spec_program.specs.RangeOut.{range_lines, RangedOut, PlaceOut, RangeOut}
-use Rattle.spec_program.proofs.Kept.{solved_keeps}
-use Rattle.spec_program.proofs.NarrowRanges.{NarrowRange, cost_range_narrow, side_range_narrow}
+use Rattle.spec_commands.specs.RangeOut.{place_by, range_of, end_text, range_line, ranged_text, based_text, range_text}
+use Rattle.spec_commands.specs.RangeOut.{range_lines, RangedOut, PlaceOut, RangeOut}
+use Rattle.spec_commands.proofs.Kept.{solved_keeps}
+use Rattle.spec_commands.proofs.NarrowRanges.{NarrowRange, cost_range_narrow, side_range_narrow}
 use Rattle.spec_server.specs.declared.answer.Answer.{Answer}
 use Rattle.spec_server.specs.declared.answer.Answer.TheVariants as answer
 use Rattle.spec_server.specs.declared.asks.Reply.TheVariants as reply
 use Rattle.spec_server.specs.declared.asks.Refusal.TheVariants as refusal
 use Rattle.spec_server.specs.Machine.{opening_budget, answer_of}
 use Rattle.spec_server.specs.Output.{answer_text, reply_text}
-use Rattle.spec_server.specs.CheckOut.{check_line}
-use Rattle.spec_server.specs.SolveOut.{TextSaid, text_said}
+use Rattle.spec_server.specs.Output.{check_line}
+use Rattle.spec_server.specs.TextSaid.{TextSaid, text_said}
 use Rattle.spec_truth.specs.SaidRange.{number_at, with_number, SaysEnd, SaysRange}
 use Rattle.spec_truth.specs.TrueAnswer.{IsTrueOf}
 use Rattle.spec_truth.proofs.Shown.{IsShown, answer_shown, answer_holds, shown_holds, value_fits}

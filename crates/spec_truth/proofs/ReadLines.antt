@@ -14,7 +14,7 @@ use Rattle.spec_model.specs.Model.{Model}
 use Rattle.spec_mps.specs.declared.style.Style.{Style}
 use Rattle.spec_mps.specs.Reader.{State, start}
 use Rattle.spec_mps.specs.Steps.{Outcome, More, Done, step, settled, judge, Spelled, Spells}
-use Rattle.spec_server.specs.Said.{IsSaid}
+use Rattle.spec_commands.specs.InputSaid.{IsSaid}
 
 abbrev pub Lines : Type 0
 Lines = List (Line (List ℕ))

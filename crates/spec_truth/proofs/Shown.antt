@@ -35,7 +35,7 @@ use Rattle.spec_server.specs.declared.answer.Answer.{Answer}
 use Rattle.spec_server.specs.declared.answer.Answer.TheVariants as answer
 use Rattle.spec_server.specs.declared.asks.Reply.TheVariants as reply
 use Rattle.spec_server.specs.Machine.{ExactReply, verdict_on, answer_of}
-use Rattle.spec_server.specs.CheckWideOut.{wide_verdict_on}
+use Rattle.spec_commands.specs.CheckWideOut.{wide_verdict_on}
 use Rattle.spec_truth.specs.TrueAnswer.{IsTrueOf}
 
 -- a certificate for the model, to which the checker says yes

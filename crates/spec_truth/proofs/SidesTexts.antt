@@ -24,15 +24,15 @@ use Rattle.spec_iis.specs.declared.outcome.Iis.TheVariants.{Found, Other, Stoppe
 use Rattle.spec_iis.specs.Sides.{IsSide}
 use Rattle.spec_iis.specs.Only.{only}
 use Rattle.spec_iis.specs.Found.{ExactIis, IsReached, IsElse, MayFind}
-use Rattle.spec_program.specs.IisOut.{kind_word, end_word, side_line, point_lines, found_lines, end_words, iis_lines}
-use Rattle.spec_program.specs.IisOut.{IisOut}
+use Rattle.spec_commands.specs.IisOut.{kind_word, end_word, side_line, point_lines, found_lines, end_words, iis_lines}
+use Rattle.spec_commands.specs.IisOut.{IisOut}
 use Rattle.spec_certificate.specs.TextWritten.{certificate_lines}
 use Rattle.spec_server.specs.declared.answer.Answer.{Answer}
 use Rattle.spec_server.specs.declared.answer.Answer.TheVariants as answer
 use Rattle.spec_server.specs.declared.asks.Reply.TheVariants as reply
 use Rattle.spec_server.specs.Machine.{opening_budget, answer_of}
 use Rattle.spec_server.specs.Output.{reply_text, ended_lines}
-use Rattle.spec_server.specs.SolveOut.{TextSaid, text_said}
+use Rattle.spec_server.specs.TextSaid.{TextSaid, text_said}
 use Rattle.spec_truth.specs.SaidSides.{SaysSides}
 use Rattle.spec_truth.specs.TrueAnswer.{IsTrueOf}
 use Rattle.spec_truth.proofs.Shown.{IsShown, answer_shown, answer_holds}

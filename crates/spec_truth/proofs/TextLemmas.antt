@@ -8,7 +8,7 @@ use Rattle.spec_mps.specs.declared.style.Style.{Style}
 use Rattle.spec_mps.specs.Reader.{State, start}
 use Rattle.spec_mps.specs.Steps as text
 use Rattle.spec_server.specs.Said.{follow, said_by}
-use Rattle.spec_server.specs.SolveOut.{TextSaid, behind_line, text_step, text_said}
+use Rattle.spec_server.specs.TextSaid.{TextSaid, behind_line, text_step, text_said}
 
 -- where more lines are needed, the text is cut off
 abbrev Agrees : Option TextSaid → text.Verdict → Type 0

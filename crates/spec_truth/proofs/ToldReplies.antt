@@ -36,7 +36,7 @@ use Rattle.spec_server.specs.Machine.{write_reply, lines_of_solved, cert_reply, 
 use Rattle.spec_server.specs.Machine.{edit_due, change_due, due}
 use Rattle.spec_server.specs.Output.{front_of, reply_text, count_of_lines, ended_lines, lines_behind, reply_lines}
 use Rattle.spec_server.specs.Step.{AloneStep}
-use Rattle.spec_server.proofs.PlainLines.{certificate_plain}
+use Rattle.spec_commands.proofs.PlainLines.{certificate_plain}
 use Rattle.spec_server.proofs.Simply.{Does, WantsMemory, step_simply}
 use Rattle.spec_truth.specs.TrueOutput.{HasNoFeed, Asking, Told, IsFramed}
 use Rattle.spec_truth.proofs.PlainReplies.{IsPlainReply, reply_no_feed}

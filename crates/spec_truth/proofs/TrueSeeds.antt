@@ -3,7 +3,7 @@ use Rattle.std.proofs.Common.{◌≡◌, ℕ, List, ◌∷◌, ◌++◌, refl, a
 use Rattle.std.specs.Prelude.{codes}
 use Rattle.spec_gen.specs.Generated.{generated}
 use Rattle.spec_program.specs.declared.command_line.CommandLine.TheVariants.{Generate}
-use Rattle.spec_program.specs.GenOut.{GenOut}
+use Rattle.spec_commands.specs.GenOut.{GenOut}
 use Rattle.spec_truth.specs.TrueOutput.{HasNoFeed, IsTrueOf}
 use Rattle.spec_truth.proofs.GeneratedModels.{optimal_follows, never_infeasible, never_unbounded}
 use Rattle.spec_truth.proofs.TrueLines.{tail_no_feed}

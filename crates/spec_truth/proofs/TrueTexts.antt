@@ -27,21 +27,23 @@ use Rattle.spec_program.specs.declared.command_line.Moved.{Moved}
 use Rattle.spec_program.specs.declared.command_line.TextCommand.TheVariants.{Solve, SolveWide, Check, CheckWide, Basis, BasisWide}
 use Rattle.spec_program.specs.declared.command_line.TextCommand.TheVariants.{Presolve, Iis, Range}
 use Rattle.spec_program.specs.CommandLine.{ExactTextCommand}
-use Rattle.spec_program.specs.IisOut.{IisOut}
-use Rattle.spec_program.specs.PresolveOut.{way_line, PresolveOut}
-use Rattle.spec_program.specs.RangeOut.{RangeOut}
-use Rattle.spec_program.specs.TextOut.{SaidBy, said_of, MayWrite}
+use Rattle.spec_commands.specs.IisOut.{IisOut}
+use Rattle.spec_commands.specs.PresolveOut.{way_line, PresolveOut}
+use Rattle.spec_commands.specs.RangeOut.{RangeOut}
+use Rattle.spec_commands.specs.TextOut.{SaidBy, said_of, MayWrite}
 use Rattle.spec_server.specs.declared.asks.Refusal.TheVariants as refusal
 use Rattle.spec_server.specs.declared.asks.Reply.TheVariants as reply
 use Rattle.spec_server.specs.Machine.{ExactReply}
 use Rattle.spec_server.specs.Output.{reply_text, known_text, answer_text, past_text, fault_text}
-use Rattle.spec_server.specs.Said.{IsSaid}
-use Rattle.spec_server.specs.CheckOut.{said, check_line}
-use Rattle.spec_server.specs.CheckWideOut.{wide_said, wide_reply_text, wide_check_line}
-use Rattle.spec_server.specs.SolveOut.{TextSaid, text_said, SolveOut}
-use Rattle.spec_server.specs.SolveWideOut.{wide_known_text, SolveWideOut}
-use Rattle.spec_server.specs.BasisOut.{BasisSaid, basis_said, BasisOut}
-use Rattle.spec_server.specs.BasisWideOut.{BasisWideOut}
+use Rattle.spec_commands.specs.InputSaid.{IsSaid}
+use Rattle.spec_commands.specs.CheckOut.{said}
+use Rattle.spec_server.specs.Output.{check_line}
+use Rattle.spec_commands.specs.CheckWideOut.{wide_said, wide_reply_text, wide_check_line}
+use Rattle.spec_server.specs.TextSaid.{TextSaid, text_said}
+use Rattle.spec_commands.specs.SolveOut.{SolveOut}
+use Rattle.spec_commands.specs.SolveWideOut.{wide_known_text, SolveWideOut}
+use Rattle.spec_commands.specs.BasisOut.{BasisSaid, basis_said, BasisOut}
+use Rattle.spec_commands.specs.BasisWideOut.{BasisWideOut}
 use Rattle.spec_truth.specs.Certified.{IsCertifiedBy}
 use Rattle.spec_truth.specs.SaidRange.{SaysRange}
 use Rattle.spec_truth.specs.SaidSides.{SaysSides}

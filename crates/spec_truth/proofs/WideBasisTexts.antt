@@ -11,10 +11,10 @@ use Rattle.spec_wide_text.specs.WideText.{most_zeros, Is, wide_of}
 use Rattle.spec_wide_text.specs.WideWritten.{wide_text}
 use Rattle.spec_check.specs.declared.certificate.Known.{Known}
 use Rattle.spec_check.specs.Certificate.{Holds}
-use Rattle.spec_server.specs.BasisOut.{Handed, BasisSaid, basis_said, BasisOut}
-use Rattle.spec_server.specs.BasisWideOut.{BasisWideOut}
-use Rattle.spec_server.specs.SolveWideOut.{wide_known_line}
-use Rattle.spec_server.proofs.WideWritten.{based_true}
+use Rattle.spec_commands.specs.BasisOut.{Handed, BasisSaid, basis_said, BasisOut}
+use Rattle.spec_commands.specs.BasisWideOut.{BasisWideOut}
+use Rattle.spec_commands.specs.SolveWideOut.{wide_known_line}
+use Rattle.spec_commands.proofs.WideWritten.{based_true}
 use Rattle.spec_truth.proofs.AnswerLines.{HasNoFeed, first}
 use Rattle.spec_truth.proofs.BasisTexts.{handed_spells, out_answered, no_fault}
 use Rattle.spec_truth.proofs.WideTexts.{IsEither, either_of, either_optimal, either_infeasible, either_unbounded}

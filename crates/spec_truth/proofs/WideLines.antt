@@ -13,7 +13,7 @@ use Rattle.spec_check.specs.declared.certificate.Verdict.TheVariants as verdict
 use Rattle.spec_server.specs.declared.asks.Reply.TheVariants as reply
 use Rattle.spec_server.specs.Machine.{ExactReply}
 use Rattle.spec_server.specs.Output.{reply_text}
-use Rattle.spec_server.specs.CheckWideOut.{wide_said, wide_reply_text, wide_check_line}
+use Rattle.spec_commands.specs.CheckWideOut.{wide_said, wide_reply_text, wide_check_line}
 use Rattle.spec_truth.specs.Certified.{IsWidelyCertified}
 use Rattle.spec_truth.proofs.YesLines.{same_end}
 use Rattle.spec_truth.proofs.ReplyLines.{yes_to, optimal_yes, infeasible_yes, unbounded_yes}

@@ -18,9 +18,10 @@ use Rattle.spec_check.specs.Certificate.{Holds}
 use Rattle.spec_server.specs.declared.answer.Answer.{Answer}
 use Rattle.spec_server.specs.declared.answer.Answer.TheVariants as answer
 use Rattle.spec_server.specs.Output.{answer_text}
-use Rattle.spec_server.specs.SolveOut.{TextSaid, text_said, SolveOut}
-use Rattle.spec_server.specs.SolveWideOut.{wide_known_text, wide_known_line, SolveWideOut}
-use Rattle.spec_server.proofs.WideWritten.{out_true}
+use Rattle.spec_server.specs.TextSaid.{TextSaid, text_said}
+use Rattle.spec_commands.specs.SolveOut.{SolveOut}
+use Rattle.spec_commands.specs.SolveWideOut.{wide_known_text, wide_known_line, SolveWideOut}
+use Rattle.spec_commands.proofs.WideWritten.{out_true}
 use Rattle.spec_truth.proofs.Shown.{IsShownBy, shown_holds, value_fits}
 use Rattle.spec_truth.proofs.TextLemmas.{spelled_said}
 use Rattle.spec_truth.proofs.AnswerLines.{HasNoFeed, same_line, first, apart, infeasible_line, unbounded_line}

@@ -9,7 +9,8 @@ use Rattle.spec_mps.specs.NumberText.{Is, number_of}
 use Rattle.spec_check.specs.declared.certificate.Known.TheVariants as known
 use Rattle.spec_server.specs.Machine.{ExactReply}
 use Rattle.spec_server.specs.Output.{reply_text}
-use Rattle.spec_server.specs.CheckOut.{said, check_line}
+use Rattle.spec_commands.specs.CheckOut.{said}
+use Rattle.spec_server.specs.Output.{check_line}
 use Rattle.spec_truth.specs.Certified.{IsCertified}
 use Rattle.spec_truth.proofs.Shown.{IsShown, value_fits}
 use Rattle.spec_truth.proofs.AnswerLines.{read_back}

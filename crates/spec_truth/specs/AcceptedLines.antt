@@ -8,7 +8,7 @@ use Rattle.spec_check.specs.declared.certificate.Verdict.TheVariants.{Yes}
 use Rattle.spec_server.specs.declared.answer.Answer.{Answer}
 use Rattle.spec_server.specs.declared.answer.Answer.TheVariants.{Known, Past, Spent}
 use Rattle.spec_server.specs.declared.asks.Reply.TheVariants as reply
-use Rattle.spec_server.specs.CheckOut.{said}
+use Rattle.spec_commands.specs.CheckOut.{said}
 
 -- To these lines of a text with those of the written bytes behind them `check` says yes, and that what the answer knows
 -- is known, whatever follows. PAST and SPENT have no certificate.

@@ -9,7 +9,7 @@ use Rattle.spec_check.specs.Raw.{ExactRaw}
 use Rattle.spec_certificate.specs.Text.{Reading, SpellsBy}
 use Rattle.spec_certificate.specs.NarrowText.{narrow}
 use Rattle.spec_certificate.specs.WideText.{wide}
-use Rattle.spec_server.specs.SolveOut.{text_said}
+use Rattle.spec_server.specs.TextSaid.{text_said}
 
 -- The lines up to the first one that ends the text of a model, the lines of a certificate after it, whose numbers are read
 -- so, and what is so of the model.

@@ -10,7 +10,7 @@ use Rattle.spec_range.specs.declared.range.Range.{Range}
 use Rattle.spec_range.specs.Span.{Keeps, IsRange}
 use Rattle.spec_program.specs.declared.command_line.Moved.{Moved}
 use Rattle.spec_program.specs.declared.command_line.Moved.TheVariants.{Cost, RightSide}
-use Rattle.spec_program.specs.RangeOut.{place_by}
+use Rattle.spec_commands.specs.RangeOut.{place_by}
 
 -- the cost of the column there, or the right side of the row there
 abbrev pub number_at : Moved → Model → ℕ → ℚ

@@ -5,7 +5,7 @@ use Rattle.spec_iis.specs.declared.side.Side.{Side}
 use Rattle.spec_iis.specs.Sides.{IsSide}
 use Rattle.spec_iis.specs.Irreducible.{IsIrreducible}
 use Rattle.spec_server.specs.Output.{ended_lines}
-use Rattle.spec_program.specs.IisOut.{side_line}
+use Rattle.spec_commands.specs.IisOut.{side_line}
 
 -- So many lines as the text says are those of sides that no point meets together, though each set of all but one is met.
 -- As many lines are those of no other sides of the model.

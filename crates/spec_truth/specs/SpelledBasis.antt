@@ -13,8 +13,8 @@ use Rattle.spec_bas.specs.declared.fault.BasCode.{BasCode}
 use Rattle.spec_bas.specs.Steps as file
 use Rattle.spec_bas.specs.Spelled.{SpellsBasis}
 use Rattle.spec_solve.specs.Answers.{number_limit}
-use Rattle.spec_server.specs.SolveOut.{text_said}
-use Rattle.spec_server.specs.BasisOut.{Handed}
+use Rattle.spec_server.specs.TextSaid.{text_said}
+use Rattle.spec_commands.specs.BasisOut.{Handed}
 
 -- the lines up to the first one that ends the text of a model, and those behind it
 pub record BeginsWithText (style : Style) (lines : List (Line (List ℕ))) (m : Model) (behind : List (Line (List ℕ))) :

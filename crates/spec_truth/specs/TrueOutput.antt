@@ -23,8 +23,8 @@ use Rattle.spec_program.specs.declared.command_line.Moved.{Moved}
 use Rattle.spec_program.specs.declared.command_line.TextCommand.TheVariants.{Solve, SolveWide, Check, CheckWide, Basis, BasisWide}
 use Rattle.spec_program.specs.declared.command_line.TextCommand.TheVariants.{Presolve, Iis, Range}
 use Rattle.spec_program.specs.CommandLine.{ExactLine, ExactTextCommand}
-use Rattle.spec_program.specs.IisOut.{side_line}
-use Rattle.spec_program.specs.RangeOut.{place_by}
+use Rattle.spec_commands.specs.IisOut.{side_line}
+use Rattle.spec_commands.specs.RangeOut.{place_by}
 use Rattle.spec_server.specs.declared.addressing.Addressing.{Addressing}
 use Rattle.spec_server.specs.declared.addressing.Addressing.TheVariants.{Numbered}
 use Rattle.spec_server.specs.declared.addressing.Addressed.{Addressed}

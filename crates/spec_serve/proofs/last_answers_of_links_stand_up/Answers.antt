@@ -1,4 +1,4 @@
-use Rattle.spec_server.proofs.Sessions.{last_stands}
+use Rattle.spec_commands.proofs.LastAnswers.{last_stands}
 use Rattle.spec_serve.proofs.KeptAsks.{served_front_kept}
 use Rattle.spec_serve.proofs.last_answers_of_links_stand_up.Goals as goal
 

@@ -1,7 +1,7 @@
 -- The loop over the points.
 use Rattle.std.proofs.Common.{◌≡◌, ◌++◌, take}
 use Rattle.spec_server.specs.Output.{ended_lines}
-use Rattle.spec_program.specs.IisOut.{point_lines}
+use Rattle.spec_commands.specs.IisOut.{point_lines}
 use Rattle.lp_iis_out.proofs.points.print_points.Given as goal
 
 -- the lines of those so far follow the first

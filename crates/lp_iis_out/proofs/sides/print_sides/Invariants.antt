@@ -1,7 +1,7 @@
 -- The loop over the sides.
 use Rattle.std.proofs.Common.{◌≡◌, ◌++◌, take, map}
 use Rattle.spec_server.specs.Output.{ended_lines}
-use Rattle.spec_program.specs.IisOut.{side_line}
+use Rattle.spec_commands.specs.IisOut.{side_line}
 use Rattle.lp_iis_out.proofs.sides.print_sides.Given as goal
 
 -- the lines of those so far follow the first

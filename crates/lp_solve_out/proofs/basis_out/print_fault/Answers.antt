@@ -1,6 +1,6 @@
 -- By where the fault is.
 use Rattle.std.proofs.Common.{ap}
-use Rattle.spec_server.specs.BasisOut.{basis_fault_line}
+use Rattle.spec_commands.specs.BasisOut.{basis_fault_line}
 use Rattle.lp_solve_out.proofs.BasisPrints.{prints_fault, line_of_text}
 use Rattle.lp_solve_out.proofs.basis_out.print_fault.Goals as goal
 

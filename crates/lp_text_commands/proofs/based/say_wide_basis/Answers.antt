@@ -1,7 +1,7 @@
 -- What is written of what is said.
 use Rattle.std.proofs.lemmas.Result.{err_from_is_err_and}
-use Rattle.spec_server.specs.BasisOut.{basis_code}
-use Rattle.spec_server.specs.BasisWideOut.{BasisWideOut}
+use Rattle.spec_commands.specs.BasisOut.{basis_code}
+use Rattle.spec_commands.specs.BasisWideOut.{BasisWideOut}
 use Rattle.lp_text_commands.proofs.Saying.{says_nothing, says}
 use Rattle.lp_text_commands.proofs.based.say_wide_basis.Goals as goal
 

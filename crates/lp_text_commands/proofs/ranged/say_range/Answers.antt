@@ -1,6 +1,6 @@
 -- What is written of what is said.
 use Rattle.std.proofs.lemmas.Result.{err_from_is_err_and}
-use Rattle.spec_program.specs.RangeOut.{RangeOut, range_code}
+use Rattle.spec_commands.specs.RangeOut.{RangeOut, range_code}
 use Rattle.lp_text_commands.proofs.Saying.{says_nothing, says}
 use Rattle.lp_text_commands.proofs.ranged.say_range.Goals as goal
 

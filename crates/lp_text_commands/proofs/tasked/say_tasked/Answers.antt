@@ -1,7 +1,7 @@
 -- The model may be kept, and what is written of what is said.
 use Rattle.std.proofs.Common.{subst}
 use Rattle.std.proofs.lemmas.Result.{err_from_is_err_and}
-use Rattle.spec_server.specs.SolveOut.{text_said}
+use Rattle.spec_server.specs.TextSaid.{text_said}
 use Rattle.lp_text_commands.specs.Tasked.{ExactTasked, TaskOut, task_code}
 use Rattle.lp_text_commands.specs.Writing.{WritesSo}
 use Rattle.lp_text_commands.proofs.Saying.{says_nothing, says}

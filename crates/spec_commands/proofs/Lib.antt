@@ -1,0 +1,13 @@
+-- Lemmas.
+pub mod CheckLemmas
+pub mod TextEnds
+pub mod WrittenEnds
+pub mod PlainLines
+pub mod WrittenLengths
+pub mod CertificateLengths
+pub mod WrittenChecks
+pub mod WideChecks
+pub mod WideWritten
+pub mod LastAnswers
+pub mod Kept
+pub mod NarrowRanges

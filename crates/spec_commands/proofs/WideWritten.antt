@@ -1,0 +1,191 @@
+-- What a wide solve writes is true, from a basis too, and `check --wide` accepts its certificate.
+use Rattle.std.proofs.Common.{◌≡◌, ◌⊎◌, inl, inr, ℕ, ◌+◌, List, [], ◌∷◌, ◌++◌, map, get_or, Option, Some}
+use Rattle.std.proofs.Common.{None, Ok, Err, All, ap, ◌∙◌, append_assoc, arith}
+use Rattle.spec_text.specs.declared.line.Line.{Line}
+use Rattle.spec_text.specs.declared.line.Line.TheVariants.{Text}
+use Rattle.spec_text.specs.Lines.{ended_lines_of}
+use Rattle.spec_exact.specs.Fraction.{ℚ}
+use Rattle.spec_model.specs.Model.{Model}
+use Rattle.spec_model.specs.Kept.{IsModel}
+use Rattle.spec_mps.specs.declared.style.Style.{Style}
+use Rattle.spec_mps.specs.Reader.{State, start}
+use Rattle.spec_mps.specs.Steps as text
+use Rattle.spec_mps.proofs.SpelledKept.{spelled_kept}
+use Rattle.spec_mps.proofs.WrittenWords.{plain_text}
+use Rattle.spec_wide_text.specs.WideWritten.{wide_text}
+use Rattle.spec_check.specs.declared.certificate.Certificate.{Certificate}
+use Rattle.spec_check.specs.declared.certificate.Certificate.TheVariants.{Optimal, Infeasible, Clash, Unbounded}
+use Rattle.spec_check.specs.declared.certificate.Known.{Known}
+use Rattle.spec_check.specs.declared.certificate.Verdict.TheVariants.{Yes}
+use Rattle.spec_check.specs.Certificate.{IsFor, Holds}
+use Rattle.spec_check.specs.Run.{check_run, verdict_of}
+use Rattle.spec_check.specs.Settle.{certificate_for}
+use Rattle.spec_simplex.specs.Form.{form_of}
+use Rattle.spec_certificate.specs.declared.progress.Progress.TheVariants as progress
+use Rattle.spec_certificate.specs.Text.{Spelled, step_by, judge_by, settled}
+use Rattle.spec_certificate.specs.NarrowText.{ExactRaw, Outcome}
+use Rattle.spec_certificate.specs.WideText.{wide}
+use Rattle.spec_certificate.specs.TextWritten.{wide_certificate_lines}
+use Rattle.spec_certificate.specs.TextRead.{AllNumbers, IsShortNumber}
+use Rattle.spec_certificate.proofs.ReadBack.{wide_read_back}
+use Rattle.spec_certificate.proofs.WideWords.{wide_word}
+use Rattle.spec_solve.specs.Answers.{number_limit}
+use Rattle.spec_solve.specs.declared.wide_solved.WideBased.TheVariants as based_end
+use Rattle.spec_solve.specs.declared.wide_solved.WideSolved.TheVariants as wide_end
+use Rattle.spec_solve.specs.Wide.{IsWideSolved}
+use Rattle.spec_solve.proofs.WideAnswers.{unlimited_true, answer_true}
+use Rattle.spec_server.specs.declared.asks.Reply.TheVariants as reply
+use Rattle.spec_server.specs.Machine.{opening_budget}
+use Rattle.spec_server.specs.Output.{ended_lines}
+use Rattle.spec_server.specs.Said.{follow, said_by}
+use Rattle.spec_commands.specs.CheckOut.{InText, InCertificate, behind_text}
+use Rattle.spec_commands.specs.CheckWideOut.{behind_wide, wide_verdict_on, wide_step, wide_said}
+use Rattle.spec_server.specs.TextSaid.{behind_line, text_step}
+use Rattle.spec_commands.specs.SolveOut.{SolveOut}
+use Rattle.spec_commands.specs.SolveWideOut.{wide_known_line, wide_solved_lines, SolveWideOut, FitsLine}
+use Rattle.spec_commands.specs.BasisOut.{Handed, BasisOut, route_line, final_text}
+use Rattle.spec_commands.specs.BasisWideOut.{solved_of, wide_basis_lines, BasisWideOut}
+use Rattle.spec_commands.proofs.PlainLines.{ended_lines_behind, IsFitting, fitting_plain}
+
+-- ---- an answer
+
+pub out_true : (m : Model) (written : List ℕ) → SolveWideOut (Ok m) written →
+    SolveOut (Ok m) written ⊎ ((known : Known ℚ) × (behind : List ℕ)
+    × (written ≡ wide_known_line known ++ behind) × Holds m known)
+unfolding wide_solved_lines
+out_true m written (wide_end.Narrow solved, is, lines) = inl (solved, is, lines)
+out_true m written (wide_end.Wide known cert, is, lines) =
+    inr (known, ended_lines (wide_certificate_lines m cert), lines, (unlimited_true m opening_budget known cert is.1).0)
+
+-- and of one to which a basis was handed
+pub based_true : (handed : Handed) (written : List ℕ) → BasisWideOut (Ok handed) written →
+    BasisOut (Ok handed) written ⊎ ((known : Known ℚ) × (behind : List ℕ)
+    × (written ≡ wide_known_line known ++ behind) × Holds handed.model known)
+unfolding wide_basis_lines
+based_true handed written (based_end.Narrow solved, is, lines) = inl (solved, is, lines)
+based_true handed written (based_end.Wide a, is, lines) =
+    let m = handed.model in
+    let how : List ℕ = route_line (solved_of a) in
+    let certificate : List ℕ = ended_lines (wide_certificate_lines m a.certificate) in
+    let final : List ℕ = final_text m (form_of (Some number_limit) m) (solved_of a).end in
+    inr (
+      a.known,
+      how ++ (certificate ++ final),
+      lines ∙ regroup (wide_known_line a.known) how certificate final,
+      (answer_true m opening_budget a handed.basis is).0,
+    )
+  where
+    regroup : (a b c d : List ℕ) → ((a ++ b) ++ c) ++ d ≡ a ++ (b ++ (c ++ d))
+    regroup a b c d = append_assoc (a ++ b) c d ∙ append_assoc a b (c ++ d)
+
+-- ---- lines of a text, and of a certificate
+
+-- after the text the certificate begins
+text_leads : (style : Style) (s : State) (n : ℕ) (front : List (Line (List ℕ))) (last : Line (List ℕ))
+    (behind : List (Line (List ℕ))) (m : Model) →
+    said_by (text_step style) (record { state = s; lines = n }) front ≡ None →
+    text.judge style s (n + 1) (front ++ last ∷ []) ≡ text.Spelled m →
+    said_by wide_step (InText style s n) (front ++ last ∷ behind) ≡ said_by wide_step (InCertificate m None 0) behind
+unfolding wide_step text_step
+text_leads style s n [] last behind m none spelled = by (text.step style s last) spelled
+  where
+    by : (o : text.Outcome) → text.settled (n + 1) (λ t. text.judge style t (n + 1 + 1) []) o ≡ text.Spelled m →
+        follow (behind_text style (n + 1) o) (λ stage. said_by wide_step stage behind)
+        ≡ said_by wide_step (InCertificate m None 0) behind
+    by (Ok (text.More t)) e = cc
+    by (Ok (text.Done d)) e =
+        let same : d ≡ m = cc in ap (λ d. said_by wide_step (InCertificate d None 0) behind) same
+    by (Err why) e = cc
+text_leads style s n (line ∷ front) last behind m none spelled =
+    by (text.step style s line) none spelled (λ t. text_leads style t (n + 1) front last behind m)
+  where
+    by : (o : text.Outcome) →
+        follow (behind_line (n + 1) o) (λ next. said_by (text_step style) next front) ≡ None →
+        text.settled (n + 1) (λ t. text.judge style t (n + 1 + 1) (front ++ last ∷ [])) o ≡ text.Spelled m →
+        ((t : State) → said_by (text_step style) (record { state = t; lines = n + 1 }) front ≡ None →
+        text.judge style t (n + 1 + 1) (front ++ last ∷ []) ≡ text.Spelled m →
+        said_by wide_step (InText style t (n + 1)) (front ++ last ∷ behind)
+        ≡ said_by wide_step (InCertificate m None 0) behind) →
+        follow (behind_text style (n + 1) o) (λ stage. said_by wide_step stage (front ++ last ∷ behind))
+        ≡ said_by wide_step (InCertificate m None 0) behind
+    by (Ok (text.More t)) h e go = go t h e
+    by (Ok (text.Done d)) h e go = cc
+    by (Err why) h e go = cc
+
+same_spelled : (a b : ExactRaw) → Spelled a ≡ Spelled b → a ≡ b
+same_spelled a b e = cc
+
+-- what is said of the certificate that lines spell
+certificate_said : (m : Model) (lines : List (Line (List ℕ))) (so_far : Option ExactRaw) (n : ℕ) (raw : ExactRaw) →
+    judge_by wide so_far (n + 1) lines ≡ Spelled raw →
+    said_by wide_step (InCertificate m so_far n) lines ≡ Some (wide_verdict_on m (certificate_for m raw))
+unfolding wide_step
+certificate_said m [] so_far n raw h = cc
+certificate_said m (l ∷ lines) so_far n raw h =
+    by (step_by wide so_far l) h (λ next. certificate_said m lines (Some next) (n + 1) raw)
+  where
+    by : (o : Outcome) →
+        settled (n + 1) (λ next. judge_by wide (Some next) (n + 1 + 1) lines) o ≡ Spelled raw →
+        ((next : ExactRaw) → judge_by wide (Some next) (n + 1 + 1) lines ≡ Spelled raw →
+        said_by wide_step (InCertificate m (Some next) (n + 1)) lines
+        ≡ Some (wide_verdict_on m (certificate_for m raw))) →
+        follow (behind_wide m (n + 1) o) (λ stage. said_by wide_step stage lines)
+        ≡ Some (wide_verdict_on m (certificate_for m raw))
+    by (progress.More next) e go = go next e
+    by (progress.Done other) e go = ap (λ raw. Some (wide_verdict_on m (certificate_for m raw))) (same_spelled other raw e)
+    by progress.Unfit e go = cc
+
+-- ---- the lines that are written
+
+wide_fitting : (v : ℚ) → FitsLine v → IsFitting wide_text v
+wide_fitting v fits = record { fits = fits; plain = plain_text (wide_text v) (wide_word v).printable }
+
+all_fitting : (xs : List ℚ) → All FitsLine xs → All (IsFitting wide_text) xs
+all_fitting xs h = λ k d l. wide_fitting (get_or xs k d) (h k d l)
+
+numbers_fitting : (cert : Certificate (List ℚ)) → AllNumbers FitsLine cert → AllNumbers (IsFitting wide_text) cert
+numbers_fitting (Optimal x y) n = (all_fitting x n.0, all_fitting y n.1)
+numbers_fitting (Infeasible y) n = all_fitting y n
+numbers_fitting (Clash j) n = tt
+numbers_fitting (Unbounded x r) n = (all_fitting x n.0, all_fitting r n.1)
+
+short_one : (v : ℚ) → FitsLine v → IsShortNumber v
+short_one v fits = omega (arith, fits)
+
+all_short : (xs : List ℚ) → All FitsLine xs → All IsShortNumber xs
+all_short xs h = λ k d l. short_one (get_or xs k d) (h k d l)
+
+numbers_short : (cert : Certificate (List ℚ)) → AllNumbers FitsLine cert → AllNumbers IsShortNumber cert
+numbers_short (Optimal x y) n = (all_short x n.0, all_short y n.1)
+numbers_short (Infeasible y) n = all_short y n
+numbers_short (Clash j) n = tt
+numbers_short (Unbounded x r) n = (all_short x n.0, all_short r n.1)
+
+-- `check --wide` says yes behind a text of the model to the lines of a certificate that is accepted
+module _ (style : Style) (front : List (Line (List ℕ))) (last : Line (List ℕ)) (m : Model) (known : Known ℚ)
+    (cert : Certificate (List ℚ)) (more : List ℕ) where
+  abbrev AcceptsBehind : Type 0
+  AcceptsBehind = said_by (text_step style) (record { state = start; lines = 0 }) front ≡ None →
+      text.Spells style (front ++ last ∷ []) m → AllNumbers FitsLine cert →
+      wide_said style ((front ++ last ∷ []) ++ ended_lines_of (ended_lines (wide_certificate_lines m cert) ++ more))
+      ≡ Some (reply.Checked (Yes known))
+
+  pub accepted_behind : IsFor m cert → check_run None m cert ≡ Ok known → AcceptsBehind
+  unfolding ended_lines
+  accepted_behind for accepted undecided spells fits =
+      let kept : IsModel m = spelled_kept style (front ++ last ∷ []) m spells in
+      let r = wide_read_back m cert kept for (numbers_short cert fits) in
+      let rest : List (Line (List ℕ)) = ended_lines_of more in
+      let lines : List (Line (List ℕ)) = map Text (wide_certificate_lines m cert) ++ rest in
+      ap (λ (ls : List (Line (List ℕ))). wide_said style ((front ++ last ∷ []) ++ ls))
+      (ended_lines_behind (λ line. line) (wide_certificate_lines m cert) more
+      (fitting_plain m kept wide_text cert for (numbers_fitting cert fits)))
+      ∙ ap (wide_said style) (append_assoc front (last ∷ []) lines)
+      ∙ text_leads style start 0 front last lines m undecided spells
+      ∙ certificate_said m lines None 0 r.raw (r.spelled rest)
+      ∙ ap (λ settled. Some (wide_verdict_on m settled)) r.settled
+      ∙ ap (λ run. Some (reply.Checked (verdict_of run))) accepted
+
+  pub wide_accepted : (budget : ℕ) → IsWideSolved m budget (wide_end.Wide known cert) → AcceptsBehind
+  wide_accepted budget is =
+      let u = unlimited_true m budget known cert is.1 in accepted_behind u.1 u.2

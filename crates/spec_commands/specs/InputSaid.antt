@@ -1,0 +1,24 @@
+-- What is said of the bytes that were read, by what lines say.
+use Rattle.std.specs.Prelude.{ℕ, ◌≡◌, ◌≤◌, ◌⊎◌, Option, Some, None, List, [], ◌∷◌, ◌++◌, length, take}
+use Rattle.std.specs.Io.KnownBytes.{IsAtEnd}
+use Rattle.spec_text.specs.declared.line.Line.{Line}
+use Rattle.spec_text.specs.declared.line.Line.TheVariants.{End}
+use Rattle.spec_text.specs.Lines.{lines_of, ended_lines_of, input_limit}
+
+-- whatever follows these bytes, by the lines that end as far as an input may be read
+abbrev pub IsSaidEarly : {R : Type 0} → (List (Line (List ℕ)) → Option R) → List ℕ → R → Type 0
+IsSaidEarly said read what = (more : List ℕ) → said (ended_lines_of (take input_limit (read ++ more))) ≡ Some what
+
+-- at the end of an input that is no longer than may be read
+pub record IsSaidAtEnd {R : Type 0} (said : List (Line (List ℕ)) → Option R) (after : Option (List ℕ)) (read : List ℕ)
+    (what : R) : Type 0 where
+  pub all : said (lines_of read ++ End ∷ []) ≡ Some what
+  pub within : length read ≤ input_limit
+  pub at_end : IsAtEnd after
+
+abbrev pub IsSaid : {R : Type 0} → (List (Line (List ℕ)) → Option R) → Option (List ℕ) → List ℕ → R → Type 0
+IsSaid said after read what = IsSaidEarly said read what ⊎ IsSaidAtEnd said after read what
+
+-- nothing is said by the lines that end among the bytes, as far as an input may be read
+abbrev pub IsUndecided : {R : Type 0} → (List (Line (List ℕ)) → Option R) → List ℕ → Type 0
+IsUndecided said read = said (ended_lines_of (take input_limit read)) ≡ None

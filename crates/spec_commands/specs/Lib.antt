@@ -1,0 +1,12 @@
+pub mod InputSaid
+pub mod CheckOut
+pub mod CheckWideOut
+pub mod SolveOut
+pub mod SolveWideOut
+pub mod BasisOut
+pub mod BasisWideOut
+pub mod PresolveOut
+pub mod IisOut
+pub mod RangeOut
+pub mod TextOut
+pub mod GenOut

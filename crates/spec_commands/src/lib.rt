@@ -1,0 +1,141 @@
+//! What each command on the text of a model writes, and `gen` of the model that it makes.
+//!
+//! | Item | What it is | Where |
+//! |---|---|---|
+//! | `said_of`, `MayWrite`, `code_of` | what a command that reads a text says of it, and writes, with its status | specs/TextOut |
+//! | `IsSaid` | what a step from line to line says of an input, by the bytes that were read | specs/InputSaid |
+//! | `said`, `CheckOut` | what the command `check` says of its input, and the line that it writes | specs/CheckOut |
+//! | `wide_said`, `wide_check_line` | the same, where the certificate's numbers may have any width | specs/CheckWideOut |
+//! | `SolveOut` | what the command `solve` writes of the text of a model | specs/SolveOut |
+//! | `SolveWideOut` | what it writes where the numbers of its answer may have any width | specs/SolveWideOut |
+//! | `basis_said`, `BasisOut` | what the command `basis` reads, and what it writes of it | specs/BasisOut |
+//! | `BasisWideOut` | what it writes where the numbers of its answer may have any width | specs/BasisWideOut |
+//! | `BasisFault` | why it has no model to solve | src/basis |
+//! | `RangeOut` | what the command `range` writes of a text | specs/RangeOut |
+//! | `PresolveOut` | what the command `presolve` writes of a text | specs/PresolveOut |
+//! | `IisOut` | what the command `iis` writes of a text | specs/IisOut |
+//! | `GenOut` | what the command `gen` writes of the model that it makes | specs/GenOut |
+#![tactic(auto)]
+
+ghost use Rattle.std.specs.Prelude.{◌≡◌, ◌⊎◌, ℕ, List, [], ◌∷◌, ◌++◌, map, Option, Some, None, Ok};
+ghost use Rattle.spec_text.specs.Lines.{ended_lines_of};
+ghost use Rattle.spec_text.specs.declared.line.Line.{Line};
+ghost use Rattle.spec_exact.specs.Fraction.{ℚ};
+ghost use Rattle.spec_exact.specs.declared.past.Past.{Past};
+ghost use Rattle.spec_model.specs.Model.{Model};
+ghost use Rattle.spec_model.specs.Kept.{IsModel};
+ghost use Rattle.spec_mps.specs.declared.style.Style.{Style};
+ghost use Rattle.spec_mps.specs.declared.style.Style.TheVariants as form;
+ghost use Rattle.spec_mps.specs.Steps.{Spells};
+ghost use Rattle.spec_mps.specs.Written.{free, fixed, too_wide};
+ghost use Rattle.spec_check.specs.declared.certificate.Certificate.{Certificate};
+ghost use Rattle.spec_check.specs.declared.certificate.Known.{Known};
+ghost use Rattle.spec_check.specs.declared.certificate.Verdict.{Verdict};
+ghost use Rattle.spec_check.specs.declared.certificate.Verdict.TheVariants as verdict;
+ghost use Rattle.spec_check.specs.Certificate.{Holds};
+ghost use Rattle.spec_certificate.specs.TextWritten.{certificate_lines, wide_certificate_lines};
+ghost use Rattle.spec_certificate.specs.TextRead.{AllNumbers};
+ghost use Rattle.spec_pivot.specs.declared.status.Status.{Status};
+ghost use Rattle.spec_check.specs.declared.solve_end.SolveEnd.TheVariants as outcome;
+ghost use Rattle.spec_solve.specs.Answers.{MayAnswer};
+ghost use Rattle.spec_solve.specs.declared.wide_solved.WideBased.TheVariants as based;
+ghost use Rattle.spec_solve.specs.declared.wide_solved.WideSolved.TheVariants as wide;
+ghost use Rattle.spec_solve.specs.Wide.{ExactAnswer, IsWideSolved, IsWideFrom};
+ghost use Rattle.spec_server.specs.declared.asks.Reply.TheVariants as reply;
+ghost use Rattle.spec_server.specs.Machine.{ExactLastAnswer, AreKept};
+ghost use Rattle.spec_server.specs.Machine.{State, opening};
+ghost use Rattle.spec_server.specs.Exchanges.{Exchange, asked_in, AloneRun};
+ghost use Rattle.spec_server.specs.Output.{ended_lines};
+ghost use Rattle.spec_commands.specs.InputSaid.{IsSaidEarly};
+ghost use Rattle.spec_commands.specs.CheckOut.{said};
+ghost use Rattle.spec_commands.specs.CheckWideOut.{wide_said};
+ghost use Rattle.spec_server.specs.TextSaid.{text_said};
+ghost use Rattle.spec_commands.specs.SolveOut.{SolveOut};
+ghost use Rattle.spec_commands.specs.SolveWideOut.{SolveWideOut, FitsLine, wide_known_line};
+ghost use Rattle.spec_commands.specs.BasisOut.{Handed, BasisOut};
+ghost use Rattle.spec_commands.specs.BasisWideOut.{BasisWideOut};
+ghost use Rattle.spec_warm.specs.Solve.{SolveEnd};
+ghost use Rattle.spec_solve.specs.Answers.{IsSolved};
+ghost use Rattle.spec_range.specs.Span.{Keeps};
+
+mod basis;
+
+pub use basis::BasisFault;
+
+/// Whatever a session was asked before, with models and edits that may be kept, as those of scripts and of links are: its
+/// last answer stands up. What is known by it is true of the model that the session holds, and to the text of this model
+/// with the lines of the answer's certificate after it the command `check` says yes, and that the same is known.
+pub fn last_answers_stand_up()
+    ensures { (places : ℕ) (xs : List Exchange) (state : State) (m : Model) (last : ExactLastAnswer)
+        (known : Known ℚ) (cert : Certificate (List ℚ)) (basis : Option (List Status)) (pivots : ℕ) →
+        AreKept (map asked_in xs) → AloneRun places opening xs state →
+        state.model ≡ Some m → state.last ≡ Some last → last.solved ≡ outcome.Ended known cert basis pivots →
+        Holds m known
+        × IsSaidEarly (said form.Free) (free m ++ ended_lines (certificate_lines m cert))
+        (reply.Checked (verdict.Yes known)) }
+{}
+
+/// Anyone can check an answer: to the text of its model with the lines of its certificate after it the command `check`
+/// says yes, and that the same is known, whatever follows. It is so in both forms, where fixed form has room for the
+/// model.
+pub fn answers_check_against_the_written_text()
+    ensures free { (m : Model) (budget : ℕ) (known : Known ℚ) (cert : Certificate (List ℚ))
+        (basis : Option (List Status)) (pivots : ℕ) →
+        IsModel m → MayAnswer m budget (outcome.Ended known cert basis pivots) →
+        IsSaidEarly (said form.Free) (free m ++ ended_lines (certificate_lines m cert))
+        (reply.Checked (verdict.Yes known)) }
+    ensures fixed { (m : Model) (budget : ℕ) (known : Known ℚ) (cert : Certificate (List ℚ))
+        (basis : Option (List Status)) (pivots : ℕ) →
+        IsModel m → too_wide m ≡ None → MayAnswer m budget (outcome.Ended known cert basis pivots) →
+        IsSaidEarly (said form.Fixed) (fixed m ++ ended_lines (certificate_lines m cert))
+        (reply.Checked (verdict.Yes known)) }
+{}
+
+/// What a check says of a certificate is said where numbers may have any width too, unless an operation is past 127 bits.
+pub fn wide_checks_say_the_same()
+    ensures { (style : Style) (lines : List (Line (List ℕ))) (v : Verdict ℚ) →
+        said style lines ≡ Some (reply.Checked v) →
+        (wide_said style lines ≡ Some (reply.Checked v)) ⊎ ((p : Past ℚ) × (v ≡ verdict.Past p)) }
+{}
+
+/// What a wide solve writes of a model is what `solve` writes of it, or begins with the line of an answer that is true of
+/// the model.
+pub fn wide_solves_write_true_answers()
+    ensures { (m : Model) (written : List ℕ) → SolveWideOut (Ok m) written →
+        SolveOut (Ok m) written ⊎ ((known : Known ℚ) × (behind : List ℕ)
+        × (written ≡ wide_known_line known ++ behind) × Holds m known) }
+{}
+
+/// What a wide solve writes of a model and a basis is what `basis` writes of them, or begins with the line of an answer
+/// that is true of the model.
+pub fn wide_solves_from_bases_write_true_answers()
+    ensures { (handed : Handed) (written : List ℕ) → BasisWideOut (Ok handed) written →
+        BasisOut (Ok handed) written ⊎ ((known : Known ℚ) × (behind : List ℕ)
+        × (written ≡ wide_known_line known ++ behind) × Holds handed.model known) }
+{}
+
+/// Anyone can check an answer with numbers of any width: to the lines of a text that spells its model with those of its
+/// certificate behind them `check --wide` says yes, and that the same is known, whatever follows, as long as the text of
+/// no number has more than 16,000 bytes. It is so of an answer from a basis too.
+pub fn wide_answers_check_against_the_text()
+    ensures solve { (style : Style) (front : List (Line (List ℕ))) (last : Line (List ℕ)) (m : Model) (budget : ℕ)
+        (known : Known ℚ) (cert : Certificate (List ℚ)) (more : List ℕ) →
+        text_said style front ≡ None → Spells style (front ++ last ∷ []) m →
+        IsWideSolved m budget (wide.Wide known cert) → AllNumbers FitsLine cert →
+        wide_said style ((front ++ last ∷ []) ++ ended_lines_of (ended_lines (wide_certificate_lines m cert) ++ more))
+        ≡ Some (reply.Checked (verdict.Yes known)) }
+    ensures basis { (style : Style) (front : List (Line (List ℕ))) (last : Line (List ℕ)) (m : Model) (budget : ℕ)
+        (handed : Option (List Status)) (a : ExactAnswer) (more : List ℕ) →
+        text_said style front ≡ None → Spells style (front ++ last ∷ []) m →
+        IsWideFrom m budget handed (based.Wide a) → AllNumbers FitsLine a.certificate →
+        wide_said style
+        ((front ++ last ∷ []) ++ ended_lines_of (ended_lines (wide_certificate_lines m a.certificate) ++ more))
+        ≡ Some (reply.Checked (verdict.Yes a.known)) }
+{}
+
+/// The basis that a solve leaves to which nothing was handed shows that its point is optimal.
+pub fn solved_bases_keep_models()
+    ensures { (m : Model) (budget : ℕ) (solved : SolveEnd) (known : Known ℚ) (cert : Certificate (List ℚ))
+        (left : List Status) (pivots : ℕ) →
+        IsSolved m budget None solved → solved.end ≡ outcome.Ended known cert (Some left) pivots → Keeps m left }
+{}

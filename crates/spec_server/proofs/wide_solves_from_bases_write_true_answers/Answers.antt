@@ -1,5 +1,0 @@
-use Rattle.spec_server.proofs.WideWritten.{based_true}
-use Rattle.spec_server.proofs.wide_solves_from_bases_write_true_answers.Goals as goal
-
-pub returns : goal.returns
-returns c = based_true

@@ -1,0 +1,31 @@
+-- What is said of the lines of a text: the model that it spells, or what is wrong with it.
+use Rattle.std.specs.Prelude.{ℕ, ◌+◌, Option, Result, Ok, Err, List}
+use Rattle.spec_text.specs.declared.line.Line.{Line}
+use Rattle.spec_model.specs.Model.{Model}
+use Rattle.spec_mps.specs.declared.fault.MpsFault.{MpsFault}
+use Rattle.spec_mps.specs.declared.style.Style.{Style}
+use Rattle.spec_mps.specs.Reader.{State, start}
+use Rattle.spec_mps.specs.Steps as text
+use Rattle.spec_server.specs.Said.{Step, On, Says, said_by}
+
+-- in the text of a model, and how many lines of it were read
+pub record TextStage : Type 0 where
+  pub state : State
+  pub lines : ℕ
+
+-- the model that a text spells, or its first wrong line and the fault
+abbrev pub TextSaid : Type 0
+TextSaid = Result Model MpsFault
+
+-- where line n leads
+abbrev pub behind_line : ℕ → text.Outcome → Step TextStage TextSaid
+behind_line n (Ok (text.More s)) = On (record { state = s; lines = n })
+behind_line n (Ok (text.Done m)) = Says (Ok m)
+behind_line n (Err code) = Says (Err (record { line = n; code = code }))
+
+unfoldable pub text_step : Style → TextStage → Line (List ℕ) → Step TextStage TextSaid
+text_step style stage line = behind_line (stage.lines + 1) (text.step style stage.state line)
+
+-- what lines say; nothing where more are needed
+abbrev pub text_said : Style → List (Line (List ℕ)) → Option TextSaid
+text_said style lines = said_by (text_step style) (record { state = start; lines = 0 }) lines
