@@ -19,11 +19,11 @@ use Rattle.spec_program.specs.declared.command_line.CommandLine.TheVariants.{Run
 use Rattle.spec_program.specs.CommandLine.{ExactLine, ExactTextCommand}
 use Rattle.spec_commands.specs.GenOut.{GenOut}
 use Rattle.spec_commands.specs.TextOut.{said_of, MayWrite, code_of}
-use Rattle.spec_truth.specs.TrueOutput.{IsNumber, IsTrueLine, IsTrueOf, AreTrueReplies, Tells, IsTrueOutput}
-use Rattle.spec_truth.proofs.FirstAsks.{AreFirst, ended_first, script_first}
-use Rattle.spec_truth.proofs.ToldRuns.{replies_true}
-use Rattle.spec_truth.proofs.TrueSeeds.{seed_true}
-use Rattle.spec_truth.proofs.TrueTexts.{said_true, none_true, no_seed_true}
+use Rattle.spec_text_truth.specs.TrueOutput.{IsNumber, IsTrueLine, IsTrueOf, AreTrueReplies, Tells, IsTrueOutput}
+use Rattle.spec_text_truth.proofs.FirstAsks.{AreFirst, ended_first, script_first}
+use Rattle.spec_text_truth.proofs.ToldRuns.{replies_true}
+use Rattle.spec_text_truth.proofs.TrueSeeds.{seed_true}
+use Rattle.spec_text_truth.proofs.TrueTexts.{said_true, none_true, no_seed_true}
 use Rattle.spec_serve.specs.Link.{is_quit, up_to_quit, link_asks_of, link_out, LinkMoves, HoldsOfAll}
 use Rattle.spec_serve.specs.Link as serving
 use Rattle.spec_serve.proofs.LinksAlone.{links_run}

@@ -5,7 +5,7 @@ use Rattle.spec_server.specs.declared.addressing.Addressing.TheVariants.{Alone}
 use Rattle.spec_server.specs.Streams.{Streams, streams}
 use Rattle.spec_program.specs.declared.command_line.CommandLine.TheVariants.{Serve}
 use Rattle.spec_program.specs.CommandLine.{ExactLine}
-use Rattle.spec_truth.specs.TrueOutput.{AreTrueReplies, Tells}
+use Rattle.spec_text_truth.specs.TrueOutput.{AreTrueReplies, Tells}
 use Rattle.lp_link.specs.LinkState.{LinkState}
 use Rattle.lp_link.specs.Listening.{LinkEvent, Given, Returned, Grows, ListenerState}
 use Rattle.lp_serve.specs.Serving.{no_listener}

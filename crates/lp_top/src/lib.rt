@@ -22,7 +22,7 @@ ghost use Rattle.lp_serve.specs.Serving.{SomeFailed};
 ghost use Rattle.lp_top.specs.Status.{code_of_fault};
 ghost use Rattle.lp_top.specs.Top.{Does, DoesOver, HasListeners, IsStatus};
 ghost use Rattle.lp_top.specs.TrueLinks.{AreTrueListeners};
-ghost use Rattle.spec_truth.specs.TrueOutput.{IsTrueOutput};
+ghost use Rattle.spec_text_truth.specs.TrueOutput.{IsTrueOutput};
 
 use lp_base::{Sink, Source};
 use lp_command_line::command_line_of;

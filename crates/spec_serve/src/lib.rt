@@ -11,30 +11,16 @@
 //! | `RunsOver` | the exchanges of many links, each a session of its own | specs/Links |
 #![tactic(auto)]
 
-ghost use Rattle.std.specs.Prelude.{◌≡◌, ◌≤◌, ◌<◌, ℕ, List, [], ◌∷◌, ◌++◌, length, take, map, Option, Some};
+ghost use Rattle.std.specs.Prelude.{◌≡◌, ◌≤◌, ◌<◌, ℕ, List, [], ◌∷◌, ◌++◌, length, take, map, Some};
 ghost use Rattle.std.specs.List.{filter};
 ghost use Rattle.spec_text.specs.Lines.{lines_of, ended_lines_of, input_limit};
-ghost use Rattle.spec_exact.specs.Fraction.{ℚ};
 ghost use Rattle.spec_model.specs.Model.{Model};
-ghost use Rattle.spec_mps.specs.declared.style.Style.TheVariants as form;
-ghost use Rattle.spec_mps.specs.Written.{free};
-ghost use Rattle.spec_check.specs.declared.certificate.Certificate.{Certificate};
-ghost use Rattle.spec_check.specs.declared.certificate.Known.{Known};
-ghost use Rattle.spec_check.specs.declared.certificate.Verdict.TheVariants as verdict;
-ghost use Rattle.spec_check.specs.declared.solve_end.SolveEnd.TheVariants as outcome;
-ghost use Rattle.spec_check.specs.Certificate.{Holds};
-ghost use Rattle.spec_certificate.specs.TextWritten.{certificate_lines};
-ghost use Rattle.spec_pivot.specs.declared.status.Status.{Status};
 ghost use Rattle.spec_server.specs.declared.addressing.Addressing.TheVariants.{Alone};
 ghost use Rattle.spec_server.specs.declared.asks.Ask.TheVariants as ask;
 ghost use Rattle.spec_server.specs.declared.asks.Asked.{Asked};
-ghost use Rattle.spec_server.specs.declared.asks.Reply.TheVariants as reply;
-ghost use Rattle.spec_server.specs.Machine.{ExactAsk, ExactLastAnswer, AreKept, State, opening, is_memory};
-ghost use Rattle.spec_server.specs.Exchanges.{Exchange, asked_in, AloneRun, RunAlone};
+ghost use Rattle.spec_server.specs.Machine.{ExactAsk, AreKept, is_memory};
+ghost use Rattle.spec_server.specs.Exchanges.{Exchange, asked_in, RunAlone};
 ghost use Rattle.spec_server.specs.Streams.{Streams, streams};
-ghost use Rattle.spec_server.specs.Output.{ended_lines};
-ghost use Rattle.spec_commands.specs.InputSaid.{IsSaidEarly};
-ghost use Rattle.spec_commands.specs.CheckOut.{said};
 ghost use Rattle.spec_truth.specs.LoadedFrom.{IsLoadedFrom};
 ghost use Rattle.spec_serve.specs.declared.link_end.LinkEnd.{LinkEnd as link_end_of};
 ghost use Rattle.spec_serve.specs.Link.{ended_link_asks_of, link_asks_of, link_out, LinkMoves, ServesLink};
@@ -87,18 +73,4 @@ pub fn models_of_links_are_spelled()
         (moves : LinkMoves places s (before ++ x ∷ behind)) → x.ask ≡ ask.Loaded m →
         input_limit < length moves.read →
         IsLoadedFrom Alone (ended_lines_of (take input_limit moves.read)) (map asked_in before) x.session m }
-{}
-
-/// Whatever a link asked before, the last answer of its session stands up, as `last_answers_stand_up` of `spec_server`
-/// has it: what is known by it is true of the model that the session holds, and to the text of this model with the
-/// lines of the answer's certificate after it the command `check` says yes, and that the same is known.
-pub fn last_answers_of_links_stand_up()
-    ensures { (places : ℕ) (s : Streams) (before behind : List Exchange) → LinkMoves places s (before ++ behind) →
-        (state : State) (m : Model) (last : ExactLastAnswer) (known : Known ℚ) (cert : Certificate (List ℚ))
-        (basis : Option (List Status)) (pivots : ℕ) →
-        AloneRun places opening before state → state.model ≡ Some m → state.last ≡ Some last →
-        last.solved ≡ outcome.Ended known cert basis pivots →
-        Holds m known
-        × IsSaidEarly (said form.Free) (free m ++ ended_lines (certificate_lines m cert))
-        (reply.Checked (verdict.Yes known)) }
 {}

@@ -1,7 +1,7 @@
 -- The lines of answers, and what a reader makes of them.
 use Rattle.std.proofs.Common.{◌≡◌, ◌≢◌, ◌≤◌, ℕ, true, false, List, [], ◌∷◌, ◌++◌, get_or, refl, sym, ◌∙◌, ap, nat_eq}
 use Rattle.std.proofs.Common.{eq-eqb, arith}
-use Rattle.std.specs.Prelude.{codes, nat_le}
+use Rattle.std.specs.Prelude.{All, codes, nat_le}
 use Rattle.std.specs.List.{list_all}
 use Rattle.std.proofs.lemmas.List.Elements.{All-nil, All-cons, All-head, All-tail}
 use borrow.Author.Tests.{leb-true}
@@ -19,10 +19,12 @@ use Rattle.spec_check.specs.declared.certificate.Known.TheVariants as known
 use Rattle.spec_server.specs.declared.answer.Answer.{Answer}
 use Rattle.spec_server.specs.declared.answer.Answer.TheVariants as answer
 use Rattle.spec_server.specs.Output.{answer_text}
-pub use Rattle.spec_truth.specs.TrueOutput.{HasNoFeed}
 use Rattle.spec_truth.proofs.Shown.{IsShownBy, shown_holds, value_fits}
 
 -- ---- lines end at their first line feed
+
+abbrev HasNoFeed : List ℕ → Type 0
+HasNoFeed line = All (λ b. b ≢ 10) line
 
 pub same_line : (a b x y : List ℕ) → HasNoFeed a → HasNoFeed b → a ++ 10 ∷ x ≡ b ++ 10 ∷ y → a ≡ b
 same_line [] [] x y h k e = refl

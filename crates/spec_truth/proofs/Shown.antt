@@ -1,6 +1,6 @@
 -- What the checker says yes to, at the limit of the server's numbers, is true, and an optimal value is of at most 127
 -- bits.
-use Rattle.std.proofs.Common.{◌≡◌, ℕ, List, Some, None, Ok, Err, refl, sym, ap, subst}
+use Rattle.std.proofs.Common.{◌≡◌, ℕ, List, Some, Ok, Err, refl, sym, ap, subst}
 use Rattle.spec_exact.specs.Fraction.{ℚ}
 use Rattle.spec_exact.specs.Limit.{add}
 use Rattle.spec_exact.specs.Answer.{told}
@@ -35,7 +35,6 @@ use Rattle.spec_server.specs.declared.answer.Answer.{Answer}
 use Rattle.spec_server.specs.declared.answer.Answer.TheVariants as answer
 use Rattle.spec_server.specs.declared.asks.Reply.TheVariants as reply
 use Rattle.spec_server.specs.Machine.{ExactReply, verdict_on, answer_of}
-use Rattle.spec_commands.specs.CheckWideOut.{wide_verdict_on}
 use Rattle.spec_truth.specs.TrueAnswer.{IsTrueOf}
 
 -- a certificate for the model, to which the checker says yes
@@ -84,12 +83,12 @@ value_fits m v s = optimal_narrow m s.cert v s.fits s.says
 
 -- ---- what says so
 
-said_yes : (run : Run (Known ℚ)) (what : Known ℚ) → verdict_of run ≡ verdict.Yes what → run ≡ Ok what
+pub said_yes : (run : Run (Known ℚ)) (what : Known ℚ) → verdict_of run ≡ verdict.Yes what → run ≡ Ok what
 said_yes (Ok other) what e = cc
 said_yes (Err (stop.No n)) what e = cc
 said_yes (Err (stop.Past p)) what e = cc
 
-checked : (a b : Verdict ℚ) → ◌≡◌ {A = ExactReply} (reply.Checked a) (reply.Checked b) → a ≡ b
+pub checked : (a b : Verdict ℚ) → ◌≡◌ {A = ExactReply} (reply.Checked a) (reply.Checked b) → a ≡ b
 checked a b e = cc
 
 -- a yes to a certificate that is put to the model
@@ -105,22 +104,6 @@ yes_shown m raw what h = by (certificate_for m raw) refl h
           fits = settled_fits m raw cert is;
           says = said_yes (check_run (Some number_limit) m cert) what (checked _ _ e);
         }
-    by (Err (settle.UnknownName name)) is e = cc
-    by (Err (settle.Repeated name)) is e = cc
-
--- the same without a limit
-pub wide_yes_holds : (m : Model) (raw : ExactRaw) (what : Known ℚ) →
-    wide_verdict_on m (certificate_for m raw) ≡ reply.Checked (verdict.Yes what) → Holds m what
-wide_yes_holds m raw what h = by (certificate_for m raw) refl h
-  where
-    by : (r : Settled (Certificate (List ℚ))) → certificate_for m raw ≡ r →
-        wide_verdict_on m r ≡ reply.Checked (verdict.Yes what) → Holds m what
-    by (Ok cert) is e =
-        let sound =
-        run_sound None m cert what (settled_fits m raw cert is)
-        (said_yes (check_run None m cert) what (checked _ _ e))
-        in
-        subst (Holds m) (sym sound.1) (checks_hold m cert sound.0)
     by (Err (settle.UnknownName name)) is e = cc
     by (Err (settle.Repeated name)) is e = cc
 

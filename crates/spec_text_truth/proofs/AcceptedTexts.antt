@@ -1,0 +1,208 @@
+-- To a text with the lines that `solve` and `basis` write of it behind it `check` says yes.
+use Rattle.std.proofs.Common.{◌≡◌, ℕ, ◌+◌, List, [], ◌∷◌, ◌++◌, map, Option, Some, None, Ok, Err, refl, ap, ◌∙◌}
+use Rattle.std.proofs.Common.{append_assoc}
+use Rattle.std.specs.Prelude.{codes}
+use Rattle.spec_text.specs.declared.line.Line.{Line}
+use Rattle.spec_text.specs.declared.line.Line.TheVariants.{Text}
+use Rattle.spec_text.specs.Lines.{ended_lines_of}
+use Rattle.spec_exact.specs.Fraction.{ℚ}
+use Rattle.spec_model.specs.Model.{Model}
+use Rattle.spec_model.specs.Kept.{IsModel}
+use Rattle.spec_mps.specs.declared.style.Style.{Style}
+use Rattle.spec_mps.specs.Reader.{State, start}
+use Rattle.spec_mps.specs.Steps as text
+use Rattle.spec_mps.proofs.SpelledKept.{spelled_kept}
+use Rattle.spec_pivot.specs.declared.status.Status.{Status}
+use Rattle.spec_check.specs.declared.certificate.Certificate.{Certificate}
+use Rattle.spec_check.specs.declared.certificate.Known.{Known}
+use Rattle.spec_check.specs.declared.certificate.Verdict.TheVariants.{Yes}
+use Rattle.spec_check.specs.declared.solve_end.SolveEnd.TheVariants.{Ended, Past, Spent}
+use Rattle.spec_check.specs.Run.{verdict_of}
+use Rattle.spec_certificate.specs.TextWritten.{certificate_lines}
+use Rattle.spec_certificate.proofs.ReadBack.{read_back}
+use Rattle.spec_cold.specs.Cold.{ExactSolveEnd}
+use Rattle.spec_warm.specs.declared.ends.Route.{Route}
+use Rattle.spec_warm.specs.declared.ends.Route.TheVariants as route
+use Rattle.spec_warm.specs.declared.ends.Fall.{Fall}
+use Rattle.spec_warm.specs.declared.ends.Fall.TheVariants as fall
+use Rattle.spec_warm.specs.Solve.{SolveEnd}
+use Rattle.spec_server.specs.declared.answer.Answer.{Answer}
+use Rattle.spec_server.specs.declared.asks.Reply.TheVariants as reply
+use Rattle.spec_solve.specs.Answers.{MayAnswer}
+use Rattle.spec_server.specs.Machine.{opening_budget, answer_of, lines_of_solved, pivots_of_solved, verdict_on}
+use Rattle.spec_server.specs.Output.{reply_text, ended_lines, fall_text, pivots_text}
+use Rattle.spec_server.specs.Said.{follow, said_by}
+use Rattle.spec_commands.specs.CheckOut.{InText, InCertificate, behind_text, check_step, said_from, said}
+use Rattle.spec_server.specs.TextSaid.{behind_line, text_step}
+use Rattle.spec_commands.specs.SolveOut.{SolveOut}
+use Rattle.spec_commands.specs.BasisOut.{Handed, route_text, route_line, final_text, BasisOut}
+use Rattle.spec_commands.proofs.PlainLines.{ended_lines_behind, certificate_plain}
+use Rattle.spec_commands.proofs.WrittenChecks.{certificate_said}
+use Rattle.spec_presolve.specs.declared.presolved.Way.{Way}
+use Rattle.spec_commands.specs.PresolveOut.{way_line, PresolveOut}
+use Rattle.spec_text_truth.specs.SpelledBasis.{BeginsWithText, form_at_limit, AreHanded}
+use Rattle.spec_text_truth.specs.AcceptedLines.{IsAccepted}
+use Rattle.spec_text_truth.specs.TrueOutput.{HasNoFeed}
+use Rattle.spec_text_truth.proofs.SolvedTexts.{solved_begins}
+use Rattle.spec_text_truth.proofs.PresolvedTexts.{presolved_begins}
+use Rattle.spec_text_truth.proofs.BasisTexts.{basis_begins}
+use Rattle.spec_text_truth.proofs.PlainText.{tested_no_feed, both_no_feed, decimal_no_feed}
+
+-- ---- a text that ends in its last line
+
+-- after it the certificate begins
+text_leads : (style : Style) (s : State) (n : ℕ) (front : List (Line (List ℕ))) (last : Line (List ℕ))
+    (behind : List (Line (List ℕ))) (m : Model) →
+    said_by (text_step style) (record { state = s; lines = n }) front ≡ None →
+    text.judge style s (n + 1) (front ++ last ∷ []) ≡ text.Spelled m →
+    said_from (InText style s n) (front ++ last ∷ behind) ≡ said_from (InCertificate m None 0) behind
+unfolding check_step text_step
+text_leads style s n [] last behind m none spelled = by (text.step style s last) spelled
+  where
+    by : (o : text.Outcome) → text.settled (n + 1) (λ t. text.judge style t (n + 1 + 1) []) o ≡ text.Spelled m →
+        follow (behind_text style (n + 1) o) (λ stage. said_from stage behind)
+        ≡ said_from (InCertificate m None 0) behind
+    by (Ok (text.More t)) e = cc
+    by (Ok (text.Done d)) e = let same : d ≡ m = cc in ap (λ d. said_from (InCertificate d None 0) behind) same
+    by (Err why) e = cc
+text_leads style s n (line ∷ front) last behind m none spelled =
+    by (text.step style s line) none spelled (λ t. text_leads style t (n + 1) front last behind m)
+  where
+    by : (o : text.Outcome) →
+        follow (behind_line (n + 1) o) (λ next. said_by (text_step style) next front) ≡ None →
+        text.settled (n + 1) (λ t. text.judge style t (n + 1 + 1) (front ++ last ∷ [])) o ≡ text.Spelled m →
+        ((t : State) → said_by (text_step style) (record { state = t; lines = n + 1 }) front ≡ None →
+        text.judge style t (n + 1 + 1) (front ++ last ∷ []) ≡ text.Spelled m →
+        said_from (InText style t (n + 1)) (front ++ last ∷ behind) ≡ said_from (InCertificate m None 0) behind) →
+        follow (behind_text style (n + 1) o) (λ stage. said_from stage (front ++ last ∷ behind))
+        ≡ said_from (InCertificate m None 0) behind
+    by (Ok (text.More t)) h e go = go t h e
+    by (Ok (text.Done d)) h e go = cc
+    by (Err why) h e go = cc
+
+-- ---- the certificate behind it
+
+module _ (style : Style) (lines : List (Line (List ℕ))) (m : Model) (after : List (Line (List ℕ)))
+    (begins : BeginsWithText style lines m after) where
+  -- the lines of the text
+  abbrev own : List (Line (List ℕ))
+  own = begins.front ++ begins.last ∷ []
+
+  kept : IsModel m
+  kept = spelled_kept style own m begins.spelled
+
+  known_accepted : (budget : ℕ) (what : Known ℚ) (cert : Certificate (List ℚ)) (basis : Option (List Status))
+      (pivots : ℕ) → MayAnswer m budget (Ended what cert basis pivots) → (more : List ℕ) →
+      said style (own ++ ended_lines_of (ended_lines (certificate_lines m cert) ++ more))
+      ≡ Some (reply.Checked (Yes what))
+  unfolding ended_lines
+  known_accepted budget what cert basis pivots h more =
+      let r = read_back m cert kept h.0 h.1 in
+      let rest : List (Line (List ℕ)) = ended_lines_of more in
+      ap (λ (ls : List (Line (List ℕ))). said style (own ++ ls))
+      (ended_lines_behind (λ line. line) (certificate_lines m cert) more (certificate_plain m kept cert h.0 h.1))
+      ∙ ap (said style) (append_assoc begins.front (begins.last ∷ []) (map Text (certificate_lines m cert) ++ rest))
+      ∙ text_leads style start 0 begins.front begins.last (map Text (certificate_lines m cert) ++ rest) m
+      begins.undecided begins.spelled
+      ∙ certificate_said m (map Text (certificate_lines m cert) ++ rest) None 0 r.raw (r.spelled rest)
+      ∙ ap (λ settled. Some (verdict_on m settled)) r.settled
+      ∙ ap (λ run. Some (reply.Checked (verdict_of run))) h.2
+
+  accepted : (budget : ℕ) (end : ExactSolveEnd) → MayAnswer m budget end →
+      IsAccepted style own (answer_of budget end) (ended_lines (lines_of_solved m end))
+  accepted budget (Ended what cert basis pivots) h = known_accepted budget what cert basis pivots h
+  accepted budget (Past p) h = tt
+  accepted budget Spent h = tt
+
+  -- also with other bytes behind them
+  accepted_before : (budget : ℕ) (end : ExactSolveEnd) (final : List ℕ) → MayAnswer m budget end →
+      IsAccepted style own (answer_of budget end) (ended_lines (lines_of_solved m end) ++ final)
+  accepted_before budget (Ended what cert basis pivots) final h = λ more.
+      ap (λ (bs : List ℕ). said style (own ++ ended_lines_of bs))
+      (append_assoc (ended_lines (certificate_lines m cert)) final more)
+      ∙ known_accepted budget what cert basis pivots h (final ++ more)
+  accepted_before budget (Past p) final h = tt
+  accepted_before budget Spent final h = tt
+
+  -- ---- what `solve` writes
+
+  pub solve_accepted : (written : List ℕ) → SolveOut (Ok m) written →
+      (a : Answer ℚ) × (behind : List ℕ) × (written ≡ reply_text (reply.Answered a) ++ 10 ∷ behind)
+      × IsAccepted style own a behind
+  unfolding reply_text
+  solve_accepted written out = (
+    answer_of opening_budget out.0.end,
+    ended_lines (lines_of_solved m out.0.end),
+    out.2 ∙ solved_begins m out.0.end,
+    accepted opening_budget out.0.end out.1.may_answer,
+  )
+
+  -- ---- what `presolve` writes
+
+  pub presolve_accepted : (written : List ℕ) → PresolveOut (Ok m) written →
+      (way : Way ℚ) × (a : Answer ℚ) × (behind : List ℕ)
+      × (written ≡ way_line way ++ (reply_text (reply.Answered a) ++ 10 ∷ behind)) × IsAccepted style own a behind
+  unfolding reply_text
+  presolve_accepted written out = (
+    out.0.way,
+    answer_of opening_budget out.0.end,
+    ended_lines (lines_of_solved m out.0.end),
+    out.2 ∙ presolved_begins m out.0,
+    accepted opening_budget out.0.end out.1.may_answer,
+  )
+
+-- ---- what `basis` writes
+
+-- the line of the route, without its line feed
+route_front : SolveEnd → List ℕ
+route_front solved = route_text solved.route ++ codes " PIVOTS " ++ pivots_text (pivots_of_solved solved.end)
+
+route_ends : (solved : SolveEnd) (rest : List ℕ) → route_line solved ++ rest ≡ route_front solved ++ 10 ∷ rest
+unfolding route_front
+route_ends solved rest =
+    append_assoc (route_text solved.route ++ codes " PIVOTS " ++ pivots_text (pivots_of_solved solved.end)) (10 ∷ [])
+    rest
+
+fall_no_feed : (why : Fall) → HasNoFeed (fall_text why)
+fall_no_feed fall.Singular = tested_no_feed (codes "SINGULAR") refl
+fall_no_feed fall.Unfit = tested_no_feed (codes "UNFIT") refl
+fall_no_feed fall.Past = tested_no_feed (codes "PAST") refl
+fall_no_feed fall.Spent = tested_no_feed (codes "SPENT") refl
+
+route_no_feed : (r : Route) → HasNoFeed (route_text r)
+route_no_feed route.Cold = tested_no_feed (codes "COLD") refl
+route_no_feed route.Warm = tested_no_feed (codes "WARM") refl
+route_no_feed (route.Fell why) =
+    both_no_feed (codes "FELL ") (fall_text why) (tested_no_feed (codes "FELL ") refl) (fall_no_feed why)
+
+pivots_no_feed : (pivots : Option ℕ) → HasNoFeed (pivots_text pivots)
+pivots_no_feed None = tested_no_feed (codes "-") refl
+pivots_no_feed (Some n) = decimal_no_feed n
+
+front_no_feed : (solved : SolveEnd) → HasNoFeed (route_front solved)
+unfolding route_front
+front_no_feed solved =
+    both_no_feed (route_text solved.route ++ codes " PIVOTS ") (pivots_text (pivots_of_solved solved.end))
+    (both_no_feed (route_text solved.route) (codes " PIVOTS ") (route_no_feed solved.route)
+    (tested_no_feed (codes " PIVOTS ") refl))
+    (pivots_no_feed (pivots_of_solved solved.end))
+
+pub basis_accepted : (style : Style) (lines : List (Line (List ℕ))) (handed : Handed) (written : List ℕ)
+    (h : AreHanded style lines handed) → BasisOut (Ok handed) written →
+    (a : Answer ℚ) × (how behind : List ℕ)
+    × (written ≡ reply_text (reply.Answered a) ++ 10 ∷ (how ++ 10 ∷ behind)) × HasNoFeed how
+    × IsAccepted style (h.text.front ++ h.text.last ∷ []) a behind
+unfolding reply_text
+basis_accepted style lines handed written h out =
+    let m : Model = handed.model in
+    let end : ExactSolveEnd = out.0.end in
+    let final : List ℕ = final_text m (form_at_limit m) end in (
+      answer_of opening_budget end,
+      route_front out.0,
+      ended_lines (lines_of_solved m end) ++ final,
+      out.2 ∙ basis_begins m out.0
+          ∙ ap (λ (bs : List ℕ). reply_text (reply.Answered (answer_of opening_budget end)) ++ 10 ∷ bs)
+          (route_ends out.0 (ended_lines (lines_of_solved m end) ++ final)),
+      front_no_feed out.0,
+      accepted_before style lines m h.behind h.text opening_budget end final out.1.may_answer,
+    )

@@ -1,0 +1,84 @@
+-- What lines ask of the models of sessions is what their asks do to them.
+use Rattle.std.proofs.Common.{◌≡◌, ℕ, Bool, true, false, cond, Option, Some, None, List, [], ◌∷◌, ◌++◌, map, refl, sym, ap, ◌∙◌}
+use Rattle.std.proofs.lemmas.List.{map-append}
+use Rattle.spec_text.specs.declared.line.Line.{Line}
+use Rattle.spec_edit.specs.Edited.{ExactEdit}
+use Rattle.spec_mps.specs.Reader.{start}
+use Rattle.spec_mps.specs.Steps.{Verdict, Spelled, Refused, judge}
+use Rattle.spec_certificate.specs.NarrowText as certificate
+use Rattle.spec_server.specs.declared.addressing.Addressed.{Addressed}
+use Rattle.spec_server.specs.declared.addressing.Addressing.{Addressing}
+use Rattle.spec_server.specs.declared.asks.Ask.TheVariants as ask
+use Rattle.spec_server.specs.declared.asks.Asked.{Asked}
+use Rattle.spec_server.specs.declared.command.Command.TheVariants as commands
+use Rattle.spec_server.specs.declared.command.Plain.TheVariants as command
+use Rattle.spec_server.specs.Addressing.{addressed_in}
+use Rattle.spec_server.specs.Command.{ExactCommand}
+use Rattle.spec_server.specs.Machine.{ExactAsk}
+use Rattle.spec_server.specs.Script.{Pending, Between, Text, Certificate, ends_text, ends_certificate, ask_of_verdict}
+use Rattle.spec_server.specs.Script.{ask_of_judgement, pending_after_line, asks_of_command, asks_by, asks_of_line, asks_from}
+use Rattle.spec_text_truth.specs.TrueOutput.{Effect, Loads, Edits, Drops, Keeps, Asking, effects_of, asked_by, effect_of_text}
+use Rattle.spec_text_truth.specs.TrueOutput.{asked_in_line, asked_from}
+
+-- what an ask does to its session's model
+abbrev pub effect_of : ExactAsk → Effect
+effect_of (ask.Plain (command.Change e)) = Edits e
+effect_of (ask.Plain command.Quit) = Drops
+effect_of (ask.Loaded m) = Loads m
+effect_of other = Keeps
+
+abbrev pub asking_of : Asked ExactAsk → Asking
+asking_of asked = record { session = asked.session; effect = effect_of asked.ask }
+
+abbrev with_session : ℕ → Effect → Asking
+with_session session effect = record { session = session; effect = effect }
+
+command_effects : (session : ℕ) (c : ExactCommand) →
+    map (with_session session) (effects_of c) ≡ map asking_of (asks_of_command session c)
+command_effects session (commands.Load form) = refl
+command_effects session commands.Check = refl
+command_effects session (commands.Plain (command.Write form)) = refl
+command_effects session (commands.Plain command.Solve) = refl
+command_effects session (commands.Plain command.Cert) = refl
+command_effects session (commands.Plain command.How) = refl
+command_effects session (commands.Plain (command.Budget n)) = refl
+command_effects session (commands.Plain (command.Change e)) = refl
+command_effects session (commands.Plain command.Quit) = refl
+command_effects session (commands.Bad fault) = refl
+
+by_effects : (o : Option (Addressed ExactEdit)) → asked_by o ≡ map asking_of (asks_by o)
+by_effects None = refl
+by_effects (Some addressed) = command_effects addressed.session addressed.command
+
+verdict_effect : (v : Verdict) → effect_of_text v ≡ effect_of (ask_of_verdict v)
+verdict_effect (Spelled m) = refl
+verdict_effect (Refused n fault) = refl
+
+judgement_effect : (j : certificate.Judgement) → Keeps ≡ effect_of (ask_of_judgement j)
+judgement_effect (certificate.Spelled raw) = refl
+judgement_effect (certificate.Refused n) = refl
+
+-- the last line of a body
+if_asked : (t : Bool) (session : ℕ) (effect : Effect) (asked : ExactAsk) → effect ≡ effect_of asked →
+    cond t (with_session session effect ∷ []) []
+    ≡ map asking_of (cond {A = List (Asked ExactAsk)} t (record { session = session; ask = asked } ∷ []) [])
+if_asked true session effect asked e = ap (λ (f : Effect). with_session session f ∷ []) e
+if_asked false session effect asked e = refl
+
+line_effects : (addressing : Addressing) (p : Pending) (next : Line (List ℕ)) →
+    asked_in_line addressing p next ≡ map asking_of (asks_of_line addressing p next)
+line_effects addressing Between next = by_effects (addressed_in addressing next)
+line_effects addressing (Text session form body) next =
+    if_asked (ends_text next) session _ _ (verdict_effect (judge form start 1 (body ++ next ∷ [])))
+line_effects addressing (Certificate session body) next =
+    if_asked (ends_certificate next) session Keeps _ (judgement_effect (certificate.judge None 1 (body ++ next ∷ [])))
+
+pub asked_from-is : (addressing : Addressing) (p : Pending) (lines : List (Line (List ℕ))) →
+    asked_from addressing p lines ≡ map asking_of (asks_from addressing p lines)
+asked_from-is addressing p [] = refl
+asked_from-is addressing p (next ∷ lines) =
+    let after : Pending = pending_after_line addressing p next in
+    ap (λ (first : List Asking). first ++ asked_from addressing after lines) (line_effects addressing p next)
+    ∙ ap (λ (rest : List Asking). map asking_of (asks_of_line addressing p next) ++ rest)
+    (asked_from-is addressing after lines)
+    ∙ sym (map-append asking_of (asks_of_line addressing p next) (asks_from addressing after lines))

@@ -1,0 +1,154 @@
+-- What `gen` writes: the line of a size and the line of an answer that is shown of the model.
+use Rattle.std.proofs.Common.{◌≡◌, ℕ, List, [], ◌∷◌, ◌++◌, refl, sym, ap, ◌∙◌, append_assoc}
+use Rattle.std.specs.Prelude.{codes, decimal, replicate}
+use Rattle.std.proofs.lemmas.List.FromFn.{length-map-range_with_len}
+use Rattle.spec_exact.specs.Fraction.{ℚ, 0ℚ}
+use Rattle.spec_model.specs.Model.{Model, width, height}
+use Rattle.spec_model.specs.Truth.{IsOptimal}
+use Rattle.spec_mps.specs.NumberText.{Is, number_of}
+use Rattle.spec_gen.specs.Draws.{after}
+use Rattle.spec_gen.specs.Generated.{at_column, generated_column, generated_columns, generated_row, generated_rows}
+use Rattle.spec_gen.specs.Generated.{generated}
+use Rattle.spec_gen.proofs.Feasible.{zero_feasible, bounded}
+use Rattle.spec_cold.specs.Cold.{ExactSolveEnd}
+use Rattle.spec_server.specs.declared.answer.Answer.{Answer}
+use Rattle.spec_server.specs.declared.asks.Reply.TheVariants as reply
+use Rattle.spec_server.specs.Machine.{opening_budget, answer_of, pivots_of_solved}
+use Rattle.spec_server.specs.Output.{check_line, answer_text, reply_text, pivots_text}
+use Rattle.spec_commands.specs.GenOut.{entry_count, size_text, generated_lines, SolvedOut, GenOut}
+use Rattle.spec_truth.specs.TrueAnswer.{IsTrueOf}
+use Rattle.spec_truth.proofs.Shown.{IsShownBy, answer_shown, answer_holds}
+use Rattle.spec_truth.proofs.AnswerLines.{same_rest, optimal_line, infeasible_line, unbounded_line}
+use Rattle.spec_text_truth.specs.TrueOutput.{HasNoFeed}
+use Rattle.spec_text_truth.proofs.PlainText.{tested_no_feed, both_no_feed, decimal_no_feed}
+
+-- ---- what is written
+
+-- the line of the size, without its line feed
+size_line : Model → List ℕ
+size_line m =
+    codes "MODEL " ++ decimal (height m) ++ codes " " ++ decimal (width m) ++ codes " " ++ decimal (entry_count m)
+
+size_ends : (m : Model) → size_text m ≡ size_line m ++ 10 ∷ []
+unfolding size_text size_line
+size_ends m = refl
+
+size_no_feed : (m : Model) → HasNoFeed (size_line m)
+unfolding size_line
+size_no_feed m =
+    let rows : List ℕ = decimal (height m) in
+    let columns : List ℕ = decimal (width m) in
+    let blank : HasNoFeed (codes " ") = tested_no_feed (codes " ") refl in
+    both_no_feed (codes "MODEL " ++ rows ++ codes " " ++ columns ++ codes " ") (decimal (entry_count m))
+    (both_no_feed (codes "MODEL " ++ rows ++ codes " " ++ columns) (codes " ")
+    (both_no_feed (codes "MODEL " ++ rows ++ codes " ") columns
+    (both_no_feed (codes "MODEL " ++ rows) (codes " ")
+    (both_no_feed (codes "MODEL ") rows (tested_no_feed (codes "MODEL ") refl) (decimal_no_feed (height m))) blank)
+    (decimal_no_feed (width m))) blank)
+    (decimal_no_feed (entry_count m))
+
+record IsSizeAndAnswer (m : Model) (written : List ℕ) : Type 0 where
+  answer : Answer ℚ
+  behind : List ℕ
+  lines : written ≡ size_text m ++ answer_text answer ++ 10 ∷ behind
+  shown : IsShownBy m answer
+
+-- behind the answer's line
+pivots_line : ExactSolveEnd → List ℕ
+pivots_line solved = codes "PIVOTS " ++ (pivots_text (pivots_of_solved solved) ++ 10 ∷ [])
+
+generated_begins : (m : Model) (solved : ExactSolveEnd) →
+    generated_lines m solved
+    ≡ size_text m ++ answer_text (answer_of opening_budget solved) ++ 10 ∷ pivots_line solved
+unfolding generated_lines check_line reply_text pivots_line
+generated_begins m solved =
+    let size : List ℕ = size_text m in
+    let answer : List ℕ = answer_text (answer_of opening_budget solved) in
+    let pivots : List ℕ = pivots_text (pivots_of_solved solved) in
+    let rest : List ℕ = codes "PIVOTS " ++ (pivots ++ 10 ∷ []) in
+    append_assoc ((size ++ (answer ++ 10 ∷ [])) ++ codes "PIVOTS ") pivots (10 ∷ [])
+    ∙ append_assoc (size ++ (answer ++ 10 ∷ [])) (codes "PIVOTS ") (pivots ++ 10 ∷ [])
+    ∙ ap (λ (bs : List ℕ). bs ++ rest) (sym (append_assoc size answer (10 ∷ [])))
+    ∙ append_assoc (size ++ answer) (10 ∷ []) rest
+
+out_answered : (m : Model) (written : List ℕ) → SolvedOut m written → IsSizeAndAnswer m written
+out_answered m written out = record {
+  answer = answer_of opening_budget out.0.end;
+  behind = pivots_line out.0.end;
+  lines = out.2 ∙ generated_begins m out.0.end;
+  shown = answer_shown m opening_budget out.0.end out.1.may_answer;
+}
+
+-- ---- the second line
+
+second_line : (m : Model) (written size rest : List ℕ) (r : IsSizeAndAnswer m written) → HasNoFeed size →
+    written ≡ size ++ 10 ∷ rest → answer_text r.answer ++ 10 ∷ r.behind ≡ rest
+second_line m written size rest r no_feed e =
+    let answer : List ℕ = answer_text r.answer in
+    let all : written ≡ size_line m ++ 10 ∷ (answer ++ 10 ∷ r.behind) =
+    r.lines
+    ∙ ap (λ (bs : List ℕ). bs ++ answer ++ 10 ∷ r.behind) (size_ends m)
+    ∙ append_assoc (size_line m ++ 10 ∷ []) answer (10 ∷ r.behind)
+    ∙ append_assoc (size_line m) (10 ∷ []) (answer ++ 10 ∷ r.behind) in
+    same_rest (size_line m) size (answer ++ 10 ∷ r.behind) rest (size_no_feed m) no_feed (sym all ∙ e)
+
+-- ---- the size
+
+width_is : (seed rows columns : ℕ) → width (generated seed rows columns) ≡ columns
+unfolding generated generated_columns
+width_is seed rows columns =
+    length-map-range_with_len (λ j. generated_column rows j (at_column rows seed j)) 0 columns
+
+height_is : (seed rows columns : ℕ) → height (generated seed rows columns) ≡ rows
+unfolding generated generated_rows
+height_is seed rows columns =
+    length-map-range_with_len (λ i. generated_row i (after i (at_column rows seed columns))) 0 rows
+
+pub size_is : (seed rows columns : ℕ) →
+    size_text (generated seed rows columns)
+    ≡ codes "MODEL " ++ decimal rows ++ codes " " ++ decimal columns ++ codes " "
+    ++ decimal (entry_count (generated seed rows columns)) ++ 10 ∷ []
+unfolding size_text
+size_is seed rows columns =
+    let m : Model = generated seed rows columns in
+    ap (λ (n : ℕ). codes "MODEL " ++ decimal n ++ codes " " ++ decimal (width m) ++ codes " "
+    ++ decimal (entry_count m) ++ 10 ∷ []) (height_is seed rows columns)
+    ∙ ap (λ (n : ℕ). codes "MODEL " ++ decimal rows ++ codes " " ++ decimal n ++ codes " "
+    ++ decimal (entry_count m) ++ 10 ∷ []) (width_is seed rows columns)
+
+-- ---- the answer
+
+pub answer_follows : (seed rows columns : ℕ) (written : List ℕ) → GenOut seed rows columns written →
+    (a : Answer ℚ) × (behind : List ℕ)
+    × (written ≡ size_text (generated seed rows columns) ++ reply_text (reply.Answered a) ++ 10 ∷ behind)
+    × IsTrueOf (generated seed rows columns) a
+unfolding reply_text
+answer_follows seed rows columns written out =
+    let m : Model = generated seed rows columns in
+    let r = out_answered m written out in
+    (r.answer, r.behind, r.lines, answer_holds m r.answer r.shown)
+
+module _ (seed rows columns : ℕ) (written : List ℕ) (out : GenOut seed rows columns written) (size : List ℕ)
+    (no_feed : HasNoFeed size) where
+  answered : IsSizeAndAnswer (generated seed rows columns) written
+  answered = out_answered (generated seed rows columns) written out
+
+  pub optimal_follows : (text behind : List ℕ) → HasNoFeed text →
+      written ≡ size ++ 10 ∷ (codes "OPTIMAL " ++ text ++ 10 ∷ behind) →
+      (v : ℚ) × (number_of text ≡ Is v) × IsOptimal (generated seed rows columns) v
+  optimal_follows text behind plain e =
+      optimal_line (generated seed rows columns) answered.answer text answered.behind behind answered.shown plain
+      (second_line (generated seed rows columns) written size (codes "OPTIMAL " ++ text ++ 10 ∷ behind) answered no_feed
+      e)
+
+  pub never_infeasible : (behind : List ℕ) → written ≡ size ++ 10 ∷ (codes "INFEASIBLE" ++ 10 ∷ behind) → ⊥
+  never_infeasible behind e =
+      infeasible_line (generated seed rows columns) answered.answer answered.behind behind answered.shown
+      (second_line (generated seed rows columns) written size (codes "INFEASIBLE" ++ 10 ∷ behind) answered no_feed e)
+      (replicate columns 0ℚ) (zero_feasible seed rows columns)
+
+  pub never_unbounded : (behind : List ℕ) → written ≡ size ++ 10 ∷ (codes "UNBOUNDED" ++ 10 ∷ behind) → ⊥
+  never_unbounded behind e =
+      bounded seed rows columns
+      (unbounded_line (generated seed rows columns) answered.answer answered.behind behind answered.shown
+      (second_line (generated seed rows columns) written size (codes "UNBOUNDED" ++ 10 ∷ behind) answered no_feed e))

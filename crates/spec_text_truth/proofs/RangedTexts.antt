@@ -1,0 +1,364 @@
+-- What `range` writes of a text that spells a model is true of the model.
+use Rattle.std.proofs.Common.{◌≡◌, ◌≢◌, ◌≤◌, ◌<◌, ℕ, Bool, true, false, cond, ltb, List, [], ◌∷◌, ◌++◌, length, Option}
+use Rattle.std.proofs.Common.{Some, None, Result, Ok, Err, refl, sym, ◌∙◌, ap, subst, append_assoc, arith}
+use Rattle.std.specs.Prelude.{All, codes, nat_le}
+use Rattle.std.specs.List.{list_all, position, position_or_len}
+use Rattle.std.proofs.lemmas.List.Elements.{All-nil, All-cons, All-head, All-tail}
+use borrow.Author.Tests.{leb-true, ltb-true}
+use Rattle.spec_text.specs.declared.line.Line.{Line}
+use Rattle.spec_exact.specs.Fraction.{ℚ}
+use Rattle.spec_exact.specs.declared.past.Past.{Past}
+use Rattle.spec_exact.specs.Narrow.{IsNarrow}
+use Rattle.spec_model.specs.Model.{Model, Name, width, height}
+use Rattle.spec_model.specs.Truth.{IsOptimal, IsInfeasible, IsUnbounded}
+use Rattle.spec_model.specs.Kept.{is_printable, row_place, column_place}
+use Rattle.spec_mps.specs.declared.style.Style.{Style}
+use Rattle.spec_mps.specs.NumberText.{Is, number_of}
+use Rattle.spec_mps.specs.NumberWritten.{number_text}
+use Rattle.spec_mps.specs.Steps.{Spells}
+use Rattle.spec_mps.proofs.SpelledKept.{spelled_kept}
+use Rattle.spec_mps.proofs.Steps.{both}
+use Rattle.spec_mps.proofs.WrittenNumbers.{number_word}
+use Rattle.spec_check.specs.declared.certificate.Known.TheVariants as known
+use Rattle.spec_check.specs.declared.solve_end.SolveEnd.TheVariants as outcome
+use Rattle.spec_pivot.specs.declared.status.Status.{Status}
+use Rattle.spec_simplex.specs.declared.ends.FormFault.{FormFault}
+use Rattle.spec_simplex.specs.declared.ends.StartStop.{StartStop}
+use Rattle.spec_simplex.specs.declared.ends.StartStop.TheVariants as stop
+use Rattle.spec_simplex.specs.Form.{Form, form_of}
+use Rattle.spec_cold.specs.Cold.{ExactSolveEnd}
+use Rattle.spec_warm.specs.Solve.{SolveEnd}
+use Rattle.spec_solve.specs.Answers.{IsSolved, MayAnswer, number_limit}
+use Rattle.spec_solve.proofs.NarrowStart.{IsNarrowModel}
+use Rattle.spec_solve.proofs.NarrowSteps.{NarrowBound}
+use Rattle.spec_range.specs.declared.range.Range.{Range}
+use Rattle.spec_range.specs.Span.{Keeps, IsRange}
+use Rattle.spec_range.proofs.CostRange.{cost_range_is}
+use Rattle.spec_range.proofs.SideRange.{side_range_is}
+use Rattle.spec_program.specs.declared.command_line.Moved.{Moved}
+use Rattle.spec_program.specs.declared.command_line.Moved.TheVariants.{Cost, RightSide}
+use Rattle.spec_commands.specs.RangeOut.{place_by, range_of, end_text, range_line, ranged_text, based_text, range_text}
+use Rattle.spec_commands.specs.RangeOut.{range_lines, RangedOut, PlaceOut, RangeOut}
+use Rattle.spec_commands.proofs.Kept.{solved_keeps}
+use Rattle.spec_commands.proofs.NarrowRanges.{NarrowRange, cost_range_narrow, side_range_narrow}
+use Rattle.spec_server.specs.declared.answer.Answer.{Answer}
+use Rattle.spec_server.specs.declared.answer.Answer.TheVariants as answer
+use Rattle.spec_server.specs.declared.asks.Reply.TheVariants as reply
+use Rattle.spec_server.specs.declared.asks.Refusal.TheVariants as refusal
+use Rattle.spec_server.specs.Machine.{opening_budget, answer_of}
+use Rattle.spec_server.specs.Output.{check_line, answer_text, reply_text}
+use Rattle.spec_server.specs.TextSaid.{TextSaid, text_said}
+use Rattle.spec_text_truth.specs.SaidRange.{number_at, with_number, SaysEnd, SaysRange}
+use Rattle.spec_truth.specs.TrueAnswer.{IsTrueOf}
+use Rattle.spec_truth.proofs.Shown.{IsShown, answer_shown, answer_holds, shown_holds, value_fits}
+use Rattle.spec_text_truth.proofs.SolvedTexts.{IsAnswered}
+use Rattle.spec_text_truth.proofs.TextLemmas.{spelled_said}
+use Rattle.spec_truth.proofs.AnswerLines.{read_back, first, apart, optimal_line, infeasible_line}
+use Rattle.spec_text_truth.specs.TrueOutput.{HasNoFeed}
+use Rattle.spec_truth.proofs.AnswerLines.{unbounded_line}
+
+-- ---- texts up to the first byte of a kind
+
+abbrev pub HasNo : ℕ → List ℕ → Type 0
+HasNo d text = All (λ b. b ≢ d) text
+
+pub cut_at : (d : ℕ) (a b x y : List ℕ) → HasNo d a → HasNo d b → a ++ d ∷ x ≡ b ++ d ∷ y → (a ≡ b) × (x ≡ y)
+cut_at d [] [] x y h k e = let rest : x ≡ y = cc in (refl, rest)
+cut_at d [] (c ∷ b) x y h k e = absurd (All-head (λ b. b ≢ d) c b k (let z : d ≡ c = cc in sym z))
+cut_at d (c ∷ a) [] x y h k e = absurd (All-head (λ b. b ≢ d) c a h (let z : c ≡ d = cc in z))
+cut_at d (c ∷ a) (f ∷ b) x y h k e =
+    let head : c ≡ f = cc in
+    let more : a ++ d ∷ x ≡ b ++ d ∷ y = cc in
+    let rest = cut_at d a b x y (All-tail (λ b. b ≢ d) c a h) (All-tail (λ b. b ≢ d) f b k) more in
+    let front : a ≡ b = rest.0 in
+    let whole : ◌≡◌ {A = List ℕ} (c ∷ a) (f ∷ b) = cc in
+    (whole, rest.1)
+
+pub printed_has_no : (d : ℕ) → d ≤ 32 → (w : List ℕ) → list_all is_printable w ≡ true → HasNo d w
+printed_has_no d l [] h = All-nil (λ b. b ≢ d)
+printed_has_no d l (b ∷ w) h =
+    let p = both (is_printable b) (list_all is_printable w) h in
+    let q = both (nat_le 33 b) (nat_le b 126) p.0 in
+    let low : 33 ≤ b = leb-true 33 b q.0 in
+    All-cons (λ x. x ≢ d) b w (λ e. omega (arith, e, low, l)) (printed_has_no d l w p.1)
+
+number_has_no : (d : ℕ) → d ≤ 32 → (v : ℚ) → IsNarrow v → HasNo d (number_text v)
+number_has_no d l v h = printed_has_no d l (number_text v) (number_word v h.top h.bottom).printable
+
+end_has_no : (d : ℕ) → d ≤ 32 → (end : Option ℚ) → NarrowBound end → HasNo d (end_text end)
+end_has_no d l None h = printed_has_no d l (codes "NONE") refl
+end_has_no d l (Some v) h = number_has_no d l v h
+
+-- ---- the texts of a range
+
+end_said : (end : Option ℚ) (text : List ℕ) → NarrowBound end → end_text end ≡ text → SaysEnd text end
+end_said None text h e = sym e
+end_said (Some v) text h e = ap number_of (sym e) ∙ read_back v h
+
+pub record SaysNumbers (r : Range ℚ) (low high slope : List ℕ) : Type 0 where
+  pub says_low : SaysEnd low r.ends.low
+  pub says_high : SaysEnd high r.ends.high
+  pub says_slope : number_of slope ≡ Is r.slope
+
+-- a line of a range, byte by byte
+abbrev pub line_with : List ℕ → List ℕ → List ℕ → List ℕ
+line_with low high slope = codes "RANGE " ++ low ++ codes " " ++ high ++ codes " SLOPE " ++ slope ++ 10 ∷ []
+
+-- what stands behind its word
+abbrev numbers_with : List ℕ → List ℕ → List ℕ → List ℕ
+numbers_with low high slope = low ++ codes " " ++ high ++ codes " SLOPE " ++ slope ++ 10 ∷ []
+
+grouped : (low high slope : List ℕ) →
+    numbers_with low high slope ≡ low ++ 32 ∷ (high ++ 32 ∷ (codes "SLOPE " ++ (slope ++ 10 ∷ [])))
+grouped low high slope =
+    append_assoc (low ++ codes " " ++ high ++ codes " SLOPE ") slope (10 ∷ [])
+    ∙ append_assoc (low ++ codes " " ++ high) (codes " SLOPE ") (slope ++ 10 ∷ [])
+    ∙ append_assoc (low ++ codes " ") high (codes " SLOPE " ++ (slope ++ 10 ∷ []))
+    ∙ append_assoc low (codes " ") (high ++ (codes " SLOPE " ++ (slope ++ 10 ∷ [])))
+
+behind_word : (x y : List ℕ) → codes "RANGE " ++ x ≡ codes "RANGE " ++ y → x ≡ y
+behind_word x y e = cc
+
+behind_slope : (x y : List ℕ) → codes "SLOPE " ++ x ≡ codes "SLOPE " ++ y → x ≡ y
+behind_slope x y e = cc
+
+line_said : (r : Range ℚ) (low high slope : List ℕ) → NarrowRange r → HasNo 32 low → HasNo 32 high → HasNo 10 slope →
+    range_line r ≡ line_with low high slope → SaysNumbers r low high slope
+unfolding range_line
+line_said r low high slope n in_low in_high in_slope e =
+    let numbers =
+    behind_word (numbers_with (end_text r.ends.low) (end_text r.ends.high) (number_text r.slope))
+    (numbers_with low high slope) e
+    in
+    let one =
+    cut_at 32 (end_text r.ends.low) low
+    (end_text r.ends.high ++ 32 ∷ (codes "SLOPE " ++ (number_text r.slope ++ 10 ∷ [])))
+    (high ++ 32 ∷ (codes "SLOPE " ++ (slope ++ 10 ∷ [])))
+    (end_has_no 32 (omega arith) r.ends.low n.ends.low) in_low
+    (sym (grouped (end_text r.ends.low) (end_text r.ends.high) (number_text r.slope)) ∙ numbers ∙ grouped low high slope)
+    in
+    let two =
+    cut_at 32 (end_text r.ends.high) high (codes "SLOPE " ++ (number_text r.slope ++ 10 ∷ []))
+    (codes "SLOPE " ++ (slope ++ 10 ∷ [])) (end_has_no 32 (omega arith) r.ends.high n.ends.high) in_high one.1
+    in
+    let three =
+    cut_at 10 (number_text r.slope) slope [] [] (number_has_no 10 (omega arith) r.slope n.slope) in_slope
+    (behind_slope (number_text r.slope ++ 10 ∷ []) (slope ++ 10 ∷ []) two.1)
+    in
+    record {
+      says_low = end_said r.ends.low low n.ends.low one.0;
+      says_high = end_said r.ends.high high n.ends.high two.0;
+      says_slope = ap number_of (sym three.0) ∙ read_back r.slope n.slope;
+    }
+
+-- the line of a refused operation begins with the letter P
+past_first : (p : Past ℚ) → first (check_line (reply.Answered (answer.Past p))) ≡ 80
+unfolding check_line reply_text
+past_first p = refl
+
+-- ---- where a name stands
+
+position_inside : {X : Type 0} (p : X → Bool) (xs : List X) (i : ℕ) → position p xs ≡ Some i → i < length xs
+position_inside p xs i e = by (ltb (position_or_len p xs) (length xs)) refl e
+  where
+    by : (t : Bool) → ltb (position_or_len p xs) (length xs) ≡ t → cond t (Some (position_or_len p xs)) None ≡ Some i →
+        i < length xs
+    by true q h =
+        let less : position_or_len p xs < length xs = ltb-true _ _ q in
+        let same : position_or_len p xs ≡ i = cc in
+        omega (arith, less, same)
+    by false q h = cc
+
+column_inside : (m : Model) (name : Name) (at : ℕ) → column_place m name ≡ Some at → at < width m
+unfolding column_place
+column_inside m name at e = position_inside _ m.columns at e
+
+row_inside : (m : Model) (name : Name) (at : ℕ) → row_place m name ≡ Some at → at < height m
+unfolding row_place
+row_inside m name at e = position_inside _ m.rows at e
+
+-- ---- the range
+
+-- what a range at the limit is: narrow, and the whole span
+range_is : (moved : Moved) (name : Name) (m : Model) (f : Form) (basis : List Status) (at : ℕ) (v : ℚ) (r : Range ℚ) →
+    IsNarrowModel m → place_by moved m name ≡ Some at → form_of (Some number_limit) m ≡ Ok f → Keeps m basis →
+    IsOptimal m v → range_of moved (Some number_limit) m f basis at ≡ Ok r →
+    NarrowRange r × IsRange (with_number moved m at) basis (number_at moved m at) v r
+range_is Cost name m f basis at v r n place is keeps optimal e =
+    let l = column_inside m name at place in (
+      cost_range_narrow m f basis at r n is l e,
+      cost_range_is (Some number_limit) m f basis at r v is l keeps optimal e,
+    )
+range_is RightSide name m f basis at v r n place is keeps optimal e = (
+  side_range_narrow m f basis at r n is e,
+  side_range_is (Some number_limit) m f basis at r v is (row_inside m name at place) keeps optimal e,
+)
+
+module _ (moved : Moved) (name : Name) (m : Model) (n : IsNarrowModel m) (at : ℕ) (place : place_by moved m name ≡ Some at)
+    (value low high slope : List ℕ) (no_feed : HasNo 10 value) (in_low : HasNo 32 low) (in_high : HasNo 32 high)
+    (in_slope : HasNo 10 slope) where
+  module _ (basis : List Status) (v : ℚ) (keeps : Keeps m basis) (optimal : IsOptimal m v)
+      (says : number_of value ≡ Is v) where
+    ranged_says : (f : Form) → form_of (Some number_limit) m ≡ Ok f → (o : Result (Range ℚ) (StartStop ℚ)) →
+        range_of moved (Some number_limit) m f basis at ≡ o → ranged_text o ≡ line_with low high slope →
+        SaysRange moved name m value low high slope
+    ranged_says f is (Ok r) q e =
+        let t = range_is moved name m f basis at v r n place is keeps optimal q in
+        let s = line_said r low high slope t.0 in_low in_high in_slope e in
+        record {
+          at = at;
+          named = place;
+          optimum = v;
+          says_value = says;
+          is_optimal = optimal;
+          basis = basis;
+          keeps = keeps;
+          range = r;
+          says_low = s.says_low;
+          says_high = s.says_high;
+          says_slope = s.says_slope;
+          is_range = t.1;
+        }
+    ranged_says f is (Err (stop.Past p)) q e = absurd (apart 80 82 refl (sym (past_first p) ∙ ap first e))
+    ranged_says f is (Err stop.Singular) q e = absurd (apart 0 82 refl (ap first e))
+
+    based_says : (o : Result Form (FormFault ℚ)) → form_of (Some number_limit) m ≡ o →
+        based_text moved m basis at o ≡ line_with low high slope → SaysRange moved name m value low high slope
+    based_says (Ok f) is e = ranged_says f is (range_of moved (Some number_limit) m f basis at) refl e
+    based_says (Err why) is e = absurd (apart 0 82 refl (ap first e))
+
+  abbrev shown_line : List ℕ
+  shown_line = codes "OPTIMAL " ++ value ++ 10 ∷ line_with low high slope
+
+  -- by the answer, what stands behind it, and the basis that is left
+  end_says : (solved : SolveEnd) → IsSolved m opening_budget None solved → (end : ExactSolveEnd) → solved.end ≡ end →
+      MayAnswer m opening_budget end →
+      answer_text (answer_of opening_budget end) ++ 10 ∷ range_text moved m at end ≡ shown_line →
+      SaysRange moved name m value low high slope
+  end_says solved is (outcome.Ended (known.Optimal v) cert (Some basis) pivots) q may e =
+      let shown : IsShown m (known.Optimal v) = answer_shown m opening_budget (outcome.Ended (known.Optimal v) cert (Some basis) pivots) may in
+      let narrow = value_fits m v shown in
+      let more : number_text v ++ 10 ∷ based_text moved m basis at (form_of (Some number_limit) m)
+      ≡ value ++ 10 ∷ line_with low high slope = cc in
+      let two = cut_at 10 (number_text v) value _ _ (number_has_no 10 (omega arith) v narrow) no_feed more in
+      based_says basis v (solved_keeps m opening_budget solved (known.Optimal v) cert basis pivots is q)
+      (shown_holds m (known.Optimal v) shown) (ap number_of (sym two.0) ∙ read_back v narrow)
+      (form_of (Some number_limit) m) refl two.1
+  end_says solved is (outcome.Ended (known.Optimal v) cert None pivots) q may e =
+      let shown : IsShown m (known.Optimal v) = answer_shown m opening_budget (outcome.Ended (known.Optimal v) cert None pivots) may in
+      let more : number_text v ++ 10 ∷ [] ≡ value ++ 10 ∷ line_with low high slope = cc in
+      let two = cut_at 10 (number_text v) value _ _ (number_has_no 10 (omega arith) v (value_fits m v shown)) no_feed more in
+      absurd (apart 0 82 refl (ap first two.1))
+  end_says solved is (outcome.Ended known.Infeasible cert basis pivots) q may e = absurd (apart 73 79 refl (ap first e))
+  end_says solved is (outcome.Ended known.Unbounded cert basis pivots) q may e = absurd (apart 85 79 refl (ap first e))
+  end_says solved is (outcome.Past p) q may e = absurd (apart 80 79 refl (ap first e))
+  end_says solved is outcome.Spent q may e = absurd (apart 83 79 refl (ap first e))
+
+-- ---- what is written
+
+range_begins : (moved : Moved) (m : Model) (at : ℕ) (solved : ExactSolveEnd) →
+    range_lines moved m at solved ≡ answer_text (answer_of opening_budget solved) ++ 10 ∷ range_text moved m at solved
+unfolding range_lines check_line reply_text
+range_begins moved m at solved =
+    append_assoc (answer_text (answer_of opening_budget solved)) (10 ∷ []) (range_text moved m at solved)
+
+out_answered : (moved : Moved) (m : Model) (at : ℕ) (written : List ℕ) → RangedOut moved m at written →
+    IsAnswered m written
+out_answered moved m at written out =
+    record {
+      answer = answer_of opening_budget out.0.end;
+      behind = range_text moved m at out.0.end;
+      line = out.2 ∙ range_begins moved m at out.0.end;
+      shown = answer_shown m opening_budget out.0.end out.1.may_answer;
+    }
+
+-- what is written of the model that a text spells, by where the name stands
+module _ (moved : Moved) (name : Name) (m : Model) (written : List ℕ) where
+  abbrev Out : Option ℕ → Type 0
+  Out place = PlaceOut moved name m place written
+
+  out_of : (style : Style) (lines : List (Line (List ℕ))) (what : TextSaid) → text_said style lines ≡ Some what →
+      RangeOut moved name what written → Spells style lines m → Out (place_by moved m name)
+  out_of style lines what is out spells =
+      let said : ◌≡◌ {A = Option TextSaid} (Some what) (Some (Ok m)) = sym is ∙ spelled_said style lines m spells in
+      let same : what ≡ Ok m = cc in
+      subst (λ (w : TextSaid). RangeOut moved name w written) same out
+
+  named_out : (at : ℕ) → place_by moved m name ≡ Some at → Out (place_by moved m name) → RangedOut moved m at written
+  named_out at e out = subst (λ (place : Option ℕ). Out place) e out
+
+  -- the line of a name that nothing has begins with the letter E
+  no_name_first : first (check_line (reply.Refused (refusal.Name name))) ≡ 69
+  unfolding check_line reply_text
+  no_name_first = refl
+
+  -- a line that begins with another letter is an answer's
+  answered_by : (letter : ℕ) → (69 ≡ letter → ⊥) → first written ≡ letter → (place : Option ℕ) → Out place →
+      (at : ℕ) × (place ≡ Some at) × RangedOut moved m at written
+  answered_by letter other e None out = absurd (other (sym no_name_first ∙ ap first (sym out) ∙ e))
+  answered_by letter other e (Some at) out = (at, refl, out)
+
+  -- an answer's line does not begin with it
+  named_by : written ≡ check_line (reply.Refused (refusal.Name name)) → (place : Option ℕ) → Out place → place ≡ None
+  named_by e None out = refl
+  named_by e (Some at) out =
+      let r = out_answered moved m at written out in
+      absurd (no_letter r.answer r.behind (sym (ap first r.line) ∙ ap first e ∙ no_name_first))
+    where
+      no_letter : (a : Answer ℚ) (behind : List ℕ) → first (answer_text a ++ 10 ∷ behind) ≡ 69 → ⊥
+      no_letter (answer.Known (known.Optimal v)) behind h = apart 79 69 refl h
+      no_letter (answer.Known known.Infeasible) behind h = apart 73 69 refl h
+      no_letter (answer.Known known.Unbounded) behind h = apart 85 69 refl h
+      no_letter (answer.Past p) behind h = apart 80 69 refl h
+      no_letter (answer.Spent budget) behind h = apart 83 69 refl h
+
+-- ---- the laws
+
+module _ (style : Style) (lines : List (Line (List ℕ))) (m : Model) (moved : Moved) (name : Name) (what : TextSaid)
+    (written : List ℕ) (is : text_said style lines ≡ Some what) (out : RangeOut moved name what written)
+    (spells : Spells style lines m) where
+  whole : PlaceOut moved name m (place_by moved m name) written
+  whole = out_of moved name m written style lines what is out spells
+
+  pub unknown_is : written ≡ check_line (reply.Refused (refusal.Name name)) → place_by moved m name ≡ None
+  unknown_is e = named_by moved name m written e (place_by moved m name) whole
+
+  pub ranged_answer : (at : ℕ) → place_by moved m name ≡ Some at →
+      (a : Answer ℚ) × (behind : List ℕ) × (written ≡ reply_text (reply.Answered a) ++ 10 ∷ behind) × IsTrueOf m a
+  unfolding reply_text
+  ranged_answer at e =
+      let r = out_answered moved m at written (named_out moved name m written at e whole) in
+      (r.answer, r.behind, r.line, answer_holds m r.answer r.shown)
+
+  -- the answer of a line that begins with this letter
+  answered : (letter : ℕ) → (69 ≡ letter → ⊥) → first written ≡ letter → IsAnswered m written
+  answered letter other e =
+      let p = answered_by moved name m written letter other e (place_by moved m name) whole in
+      out_answered moved m p.0 written p.2
+
+  pub ranged_optimal : (text behind : List ℕ) → HasNoFeed text → written ≡ codes "OPTIMAL " ++ text ++ 10 ∷ behind →
+      (v : ℚ) × (number_of text ≡ Is v) × IsOptimal m v
+  ranged_optimal text behind no_feed e =
+      let r = answered 79 (apart 69 79 refl) (ap first e) in
+      optimal_line m r.answer text r.behind behind r.shown no_feed (sym r.line ∙ e)
+
+  pub ranged_infeasible : (behind : List ℕ) → written ≡ codes "INFEASIBLE" ++ 10 ∷ behind → IsInfeasible m
+  ranged_infeasible behind e =
+      let r = answered 73 (apart 69 73 refl) (ap first e) in
+      infeasible_line m r.answer r.behind behind r.shown (sym r.line ∙ e)
+
+  pub ranged_unbounded : (behind : List ℕ) → written ≡ codes "UNBOUNDED" ++ 10 ∷ behind → IsUnbounded m
+  ranged_unbounded behind e =
+      let r = answered 85 (apart 69 85 refl) (ap first e) in
+      unbounded_line m r.answer r.behind behind r.shown (sym r.line ∙ e)
+
+  pub ranged_range : (value low high slope : List ℕ) → HasNo 10 value → HasNo 32 low → HasNo 32 high →
+      HasNo 10 slope → written ≡ codes "OPTIMAL " ++ value ++ 10 ∷ line_with low high slope →
+      SaysRange moved name m value low high slope
+  ranged_range value low high slope no_feed in_low in_high in_slope e =
+      let p = answered_by moved name m written 79 (apart 69 79 refl) (ap first e) (place_by moved m name) whole in
+      let kept = spelled_kept style lines m spells in
+      let o = p.2 in
+      end_says moved name m (record { rows = kept.narrow_rows; columns = kept.narrow_columns }) p.0 p.1 value low high
+      slope no_feed in_low in_high in_slope o.0 o.1 o.0.end refl o.1.may_answer
+      (sym (range_begins moved m p.0 o.0.end) ∙ sym o.2 ∙ e)

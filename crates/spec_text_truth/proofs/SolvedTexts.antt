@@ -1,0 +1,84 @@
+-- What `solve` writes of a text that spells a model begins with the line of an answer that is shown of the model.
+use Rattle.std.proofs.Common.{◌≡◌, ℕ, List, [], ◌∷◌, ◌++◌, Option, Some, Ok, sym, ◌∙◌, subst, append_assoc}
+use Rattle.std.specs.Prelude.{codes}
+use Rattle.spec_text.specs.declared.line.Line.{Line}
+use Rattle.spec_exact.specs.Fraction.{ℚ}
+use Rattle.spec_model.specs.Model.{Model}
+use Rattle.spec_model.specs.Truth.{IsOptimal, IsInfeasible, IsUnbounded}
+use Rattle.spec_mps.specs.declared.style.Style.{Style}
+use Rattle.spec_mps.specs.NumberText.{Is, number_of}
+use Rattle.spec_mps.specs.Steps.{Spells}
+use Rattle.spec_cold.specs.Cold.{ExactSolveEnd}
+use Rattle.spec_server.specs.declared.answer.Answer.{Answer}
+use Rattle.spec_server.specs.declared.asks.Reply.TheVariants as reply
+use Rattle.spec_server.specs.Machine.{opening_budget, answer_of, lines_of_solved}
+use Rattle.spec_server.specs.Output.{check_line, answer_text, reply_text, ended_lines}
+use Rattle.spec_server.specs.TextSaid.{TextSaid, text_said}
+use Rattle.spec_commands.specs.SolveOut.{solved_lines, SolveOut}
+use Rattle.spec_truth.specs.TrueAnswer.{IsTrueOf}
+use Rattle.spec_truth.proofs.Shown.{IsShownBy, answer_shown, answer_holds}
+use Rattle.spec_text_truth.proofs.TextLemmas.{spelled_said}
+use Rattle.spec_truth.proofs.AnswerLines.{optimal_line, infeasible_line, unbounded_line}
+use Rattle.spec_text_truth.specs.TrueOutput.{HasNoFeed}
+
+pub record IsAnswered (m : Model) (written : List ℕ) : Type 0 where
+  pub answer : Answer ℚ
+  pub behind : List ℕ
+  pub line : written ≡ answer_text answer ++ 10 ∷ behind
+  pub shown : IsShownBy m answer
+
+pub solved_begins : (m : Model) (solved : ExactSolveEnd) →
+    solved_lines m solved ≡ answer_text (answer_of opening_budget solved) ++ 10 ∷ ended_lines (lines_of_solved m solved)
+unfolding solved_lines check_line reply_text
+solved_begins m solved =
+    append_assoc (answer_text (answer_of opening_budget solved)) (10 ∷ []) (ended_lines (lines_of_solved m solved))
+
+pub out_answered : (m : Model) (written : List ℕ) → SolveOut (Ok m) written → IsAnswered m written
+out_answered m written out =
+    record {
+      answer = answer_of opening_budget out.0.end;
+      behind = ended_lines (lines_of_solved m out.0.end);
+      line = out.2 ∙ solved_begins m out.0.end;
+      shown = answer_shown m opening_budget out.0.end out.1.may_answer;
+    }
+
+pub same_said : (a b : TextSaid) → ◌≡◌ {A = Option TextSaid} (Some a) (Some b) → a ≡ b
+same_said a b e = cc
+
+answered : (style : Style) (lines : List (Line (List ℕ))) (m : Model) (what : TextSaid) (written : List ℕ) →
+    text_said style lines ≡ Some what → SolveOut what written → Spells style lines m → IsAnswered m written
+answered style lines m what written is out spells =
+    let same : what ≡ Ok m = same_said what (Ok m) (sym is ∙ spelled_said style lines m spells) in
+    out_answered m written (subst (λ (w : TextSaid). SolveOut w written) same out)
+
+-- ---- the answer
+
+pub answer_begins : (style : Style) (lines : List (Line (List ℕ))) (m : Model) (what : TextSaid) (written : List ℕ) →
+    text_said style lines ≡ Some what → SolveOut what written → Spells style lines m →
+    (a : Answer ℚ) × (behind : List ℕ) × (written ≡ reply_text (reply.Answered a) ++ 10 ∷ behind) × IsTrueOf m a
+unfolding reply_text
+answer_begins style lines m what written is out spells =
+    let r = answered style lines m what written is out spells in
+    (r.answer, r.behind, r.line, answer_holds m r.answer r.shown)
+
+pub optimal_begins : (style : Style) (lines : List (Line (List ℕ))) (m : Model) (what : TextSaid) (written : List ℕ) →
+    text_said style lines ≡ Some what → SolveOut what written → Spells style lines m →
+    (text behind : List ℕ) → HasNoFeed text → written ≡ codes "OPTIMAL " ++ text ++ 10 ∷ behind →
+    (v : ℚ) × (number_of text ≡ Is v) × IsOptimal m v
+optimal_begins style lines m what written is out spells text behind no_feed e =
+    let r = answered style lines m what written is out spells in
+    optimal_line m r.answer text r.behind behind r.shown no_feed (sym r.line ∙ e)
+
+pub infeasible_begins : (style : Style) (lines : List (Line (List ℕ))) (m : Model) (what : TextSaid)
+    (written : List ℕ) → text_said style lines ≡ Some what → SolveOut what written → Spells style lines m →
+    (behind : List ℕ) → written ≡ codes "INFEASIBLE" ++ 10 ∷ behind → IsInfeasible m
+infeasible_begins style lines m what written is out spells behind e =
+    let r = answered style lines m what written is out spells in
+    infeasible_line m r.answer r.behind behind r.shown (sym r.line ∙ e)
+
+pub unbounded_begins : (style : Style) (lines : List (Line (List ℕ))) (m : Model) (what : TextSaid) (written : List ℕ) →
+    text_said style lines ≡ Some what → SolveOut what written → Spells style lines m →
+    (behind : List ℕ) → written ≡ codes "UNBOUNDED" ++ 10 ∷ behind → IsUnbounded m
+unbounded_begins style lines m what written is out spells behind e =
+    let r = answered style lines m what written is out spells in
+    unbounded_line m r.answer r.behind behind r.shown (sym r.line ∙ e)

@@ -1,0 +1,272 @@
+-- What is written of a reply is its line and the lines behind it, as many as it says.
+use Rattle.std.proofs.Common.{◌≡◌, ◌≢◌, ℕ, suc, Bool, true, false, cond, nat_eq, List, [], ◌∷◌, ◌++◌, length, map}
+use Rattle.std.proofs.Common.{get_or, Option, Some, None, Ok, Err, refl, sym, ap, ◌∙◌, subst, ◌⊎◌, inl, inr, append_assoc}
+use Rattle.std.proofs.Common.{eqb-true}
+use Rattle.std.specs.Prelude.{All, IfSome, codes, decimal}
+use Rattle.std.specs.List.{filter, onto_first}
+use Rattle.std.proofs.lemmas.List.Elements.{All-nil, All-head, All-tail, All-map}
+use Rattle.std.proofs.lemmas.List.Folds.{flat_map-map}
+use Rattle.spec_exact.specs.Fraction.{ℚ}
+use Rattle.spec_model.specs.Model.{Model, Name}
+use Rattle.spec_model.specs.Kept.{IsModel}
+use Rattle.spec_edit.specs.declared.edit.EditFault.{EditFault}
+use Rattle.spec_edit.specs.declared.edit.EditFault.TheVariants as fault
+use Rattle.spec_edit.specs.Edited.{ExactEdit, OrFault, edited}
+use Rattle.spec_mps.specs.declared.style.Style.{Style}
+use Rattle.spec_mps.specs.declared.style.Style.TheVariants as style
+use Rattle.spec_mps.specs.Written.{cards_of, cards_text, line_text, free, fixed, too_wide}
+use Rattle.spec_mps.proofs.WrittenShort.{plain_line, cards_short}
+use Rattle.spec_mps.proofs.WrittenSteps.{IsPlainLine}
+use Rattle.spec_check.specs.declared.certificate.Certificate.{Certificate}
+use Rattle.spec_check.specs.declared.certificate.SettleFault.TheVariants as settle
+use Rattle.spec_check.specs.Raw.{ExactRaw}
+use Rattle.spec_check.specs.Settle.{Settled, certificate_for}
+use Rattle.spec_check.specs.declared.solve_end.SolveEnd.TheVariants as outcome
+use Rattle.spec_cold.specs.Cold.{ExactSolveEnd}
+use Rattle.spec_solve.specs.Answers.{MayAnswer}
+use Rattle.spec_certificate.specs.TextWritten.{certificate_lines}
+use Rattle.spec_reads.specs.Reads.{ExactRead}
+use Rattle.spec_server.specs.declared.addressing.Addressing.{Addressing}
+use Rattle.spec_server.specs.declared.asks.Ask.TheVariants as ask
+use Rattle.spec_server.specs.declared.asks.Reply.TheVariants as reply
+use Rattle.spec_server.specs.declared.command.Plain.TheVariants as command
+use Rattle.spec_server.specs.LastFits.{LastFits}
+use Rattle.spec_server.specs.Machine.{ExactAsk, ExactReply, ExactLastAnswer, State, verdict_on, check_reply, fixed_reply}
+use Rattle.spec_server.specs.Machine.{write_reply, lines_of_solved, cert_reply, how_reply, solve_due, edit_refusal}
+use Rattle.spec_server.specs.Machine.{edit_due, change_due, due}
+use Rattle.spec_server.specs.Output.{front_of, reply_text, count_of_lines, ended_lines, lines_behind, reply_lines}
+use Rattle.spec_server.specs.Step.{AloneStep}
+use Rattle.spec_commands.proofs.PlainLines.{certificate_plain}
+use Rattle.spec_server.proofs.Simply.{Does, WantsMemory, step_simply}
+use Rattle.spec_text_truth.specs.TrueOutput.{HasNoFeed, Asking, Told, IsFramed}
+use Rattle.spec_text_truth.proofs.PlainReplies.{IsPlainReply, reply_no_feed}
+use Rattle.spec_text_truth.proofs.PlainWords.{printed_no_feed}
+
+-- ---- lines that a line feed ends
+
+abbrev pub lines_in : List ℕ → List (List ℕ)
+lines_in [] = []
+lines_in (b ∷ bs) = cond (nat_eq b 10) ([] ∷ lines_in bs) (onto_first b (lines_in bs))
+
+not_feed : (b : ℕ) → b ≢ 10 → nat_eq b 10 ≡ false
+not_feed b h = by (nat_eq b 10) refl
+  where
+    by : (t : Bool) → nat_eq b 10 ≡ t → nat_eq b 10 ≡ false
+    by true e = absurd (h (eqb-true b 10 e))
+    by false e = e
+
+lines_in_line : (line more : List ℕ) → HasNoFeed line → lines_in (line ++ 10 ∷ more) ≡ line ∷ lines_in more
+lines_in_line [] more h = refl
+lines_in_line (b ∷ line) more h =
+    let rest : List (List ℕ) = lines_in (line ++ 10 ∷ more) in
+    ap (λ t. cond t ([] ∷ rest) (onto_first b rest)) (not_feed b (All-head (λ b. b ≢ 10) b line h))
+    ∙ ap (onto_first b) (lines_in_line line more (All-tail (λ b. b ≢ 10) b line h))
+
+pub lines_in_ended : (lines : List (List ℕ)) → All HasNoFeed lines → lines_in (ended_lines lines) ≡ lines
+unfolding ended_lines
+lines_in_ended [] h = refl
+lines_in_ended (line ∷ lines) h =
+    ap lines_in (append_assoc line (10 ∷ []) (ended_lines lines))
+    ∙ lines_in_line line (ended_lines lines) (All-head HasNoFeed line lines h)
+    ∙ ap (λ ls. line ∷ ls) (lines_in_ended lines (All-tail HasNoFeed line lines h))
+
+count_line : (line more : List ℕ) → HasNoFeed line → count_of_lines (line ++ 10 ∷ more) ≡ suc (count_of_lines more)
+unfolding count_of_lines
+count_line [] more h = refl
+count_line (b ∷ line) more h =
+    let rest : List ℕ = filter (λ b. nat_eq b 10) (line ++ 10 ∷ more) in
+    ap (λ (t : Bool). length (cond t (b ∷ rest) rest)) (not_feed b (All-head (λ b. b ≢ 10) b line h))
+    ∙ count_line line more (All-tail (λ b. b ≢ 10) b line h)
+
+count_ended : (lines : List (List ℕ)) → All HasNoFeed lines → count_of_lines (ended_lines lines) ≡ length lines
+unfolding ended_lines count_of_lines
+count_ended [] h = refl
+count_ended (line ∷ lines) h =
+    ap count_of_lines (append_assoc line (10 ∷ []) (ended_lines lines))
+    ∙ count_line line (ended_lines lines) (All-head HasNoFeed line lines h)
+    ∙ ap suc (count_ended lines (All-tail HasNoFeed line lines h))
+
+-- ---- the lines behind a reply
+
+abbrev pub behind_of : ExactReply → List (List ℕ)
+behind_of (reply.Written text) = lines_in text
+behind_of (reply.Certified lines) = lines
+behind_of other = []
+
+abbrev pub told_by : Asking → ExactReply → Told
+told_by asked replied = record { asked = asked; line = reply_text replied; behind = behind_of replied }
+
+-- the bytes are those of such lines
+pub record AreOfLines (bytes : List ℕ) : Type 0 where
+  pub lines : List (List ℕ)
+  pub is_of : bytes ≡ ended_lines lines
+  pub plain : All HasNoFeed lines
+
+-- a text, and a certificate, are of lines
+abbrev pub IsListed : ExactReply → Type 0
+IsListed (reply.Written text) = AreOfLines text
+IsListed (reply.Certified lines) = All HasNoFeed lines
+IsListed other = Unit {0}
+
+module _ (asked : Asking) where
+  text_framed : (text : List ℕ) → HasNoFeed (reply_text (reply.Written text)) → AreOfLines text →
+      IsFramed (told_by asked (reply.Written text))
+  unfolding reply_text
+  text_framed text one h =
+      let same : lines_in text ≡ h.lines = ap lines_in h.is_of ∙ lines_in_ended h.lines h.plain in
+      let count : count_of_lines text ≡ length (lines_in text) =
+      ap count_of_lines h.is_of ∙ count_ended h.lines h.plain ∙ sym (ap length same) in
+      record {
+        one = one;
+        each = subst (All HasNoFeed) (sym same) h.plain;
+        counted = inr (inl (ap (λ (n : ℕ). codes "TEXT " ++ decimal n) count));
+      }
+
+  certificate_framed : (lines : List (List ℕ)) → HasNoFeed (reply_text (reply.Certified lines)) → All HasNoFeed lines →
+      IsFramed (told_by asked (reply.Certified lines))
+  unfolding reply_text
+  certificate_framed lines one h = record { one = one; each = h; counted = inr (inr refl) }
+
+  alone_framed : (line : List ℕ) → HasNoFeed line → IsFramed (record { asked = asked; line = line; behind = [] })
+  alone_framed line one = record { one = one; each = All-nil HasNoFeed; counted = inl refl }
+
+  by_lines : (replied : ExactReply) → HasNoFeed (reply_text replied) → IsListed replied → IsFramed (told_by asked replied)
+  by_lines (reply.Written text) one h = text_framed text one h
+  by_lines (reply.Certified lines) one h = certificate_framed lines one h
+  by_lines (reply.Loaded rows columns) one h = alone_framed _ one
+  by_lines reply.Done one h = alone_framed _ one
+  by_lines (reply.Answered what) one h = alone_framed _ one
+  by_lines (reply.Found how pivots publication) one h = alone_framed _ one
+  by_lines (reply.Checked what) one h = alone_framed _ one
+  by_lines reply.Bye one h = alone_framed _ one
+  by_lines reply.Memory one h = alone_framed _ one
+  by_lines (reply.Refused why) one h = alone_framed _ one
+
+  pub reply_framed : (replied : ExactReply) → IsPlainReply replied → IsListed replied → IsFramed (told_by asked replied)
+  reply_framed replied plain h = by_lines replied (reply_no_feed replied plain) h
+
+behind_is : (replied : ExactReply) → IsListed replied → lines_behind replied ≡ ended_lines (behind_of replied)
+unfolding ended_lines
+behind_is (reply.Written text) h = h.is_of ∙ ap ended_lines (sym (ap lines_in h.is_of ∙ lines_in_ended h.lines h.plain))
+behind_is (reply.Certified lines) h = refl
+behind_is (reply.Loaded rows columns) h = refl
+behind_is reply.Done h = refl
+behind_is (reply.Answered what) h = refl
+behind_is (reply.Found how pivots publication) h = refl
+behind_is (reply.Checked what) h = refl
+behind_is reply.Bye h = refl
+behind_is reply.Memory h = refl
+behind_is (reply.Refused why) h = refl
+
+pub reply_lines_told : (addressing : Addressing) (session : ℕ) (replied : ExactReply) → IsListed replied →
+    reply_lines addressing session replied
+    ≡ front_of addressing session ++ reply_text replied ++ 10 ∷ ended_lines (behind_of replied)
+unfolding reply_lines
+reply_lines_told addressing session replied h =
+    ap (λ (behind : List ℕ). front_of addressing session ++ reply_text replied ++ 10 ∷ behind) (behind_is replied h)
+
+-- ---- lines of printed bytes
+
+plain_no_feed : (lines : List (List ℕ)) → All IsPlainLine lines → All HasNoFeed lines
+plain_no_feed lines h = λ i d l. printed_no_feed (get_or lines i d) (h i d l).plain
+
+-- the text of a model that may be kept
+cards_are_lines : (form : Style) (m : Model) → IsModel m → AreOfLines (cards_text form (cards_of m))
+unfolding ended_lines
+cards_are_lines form m kept = record {
+  lines = map (line_text form) (cards_of m);
+  is_of = sym (flat_map-map (λ (line : List ℕ). line ++ 10 ∷ []) (line_text form) (cards_of m));
+  plain = All-map HasNoFeed (line_text form) (cards_of m)
+      (λ i d l. printed_no_feed (line_text form (get_or (cards_of m) i d))
+      (plain_line form (get_or (cards_of m) i d) (cards_short m kept i d l)).plain);
+}
+
+-- ---- the replies of a session
+
+-- its model may be kept, and its last answer is one of the model
+pub record IsGood (state : State) : Type 0 where
+  pub kept : IfSome state.model IsModel
+  pub fits : LastFits state.model state.last
+
+write_listed : (held : Option Model) (form : Style) → IfSome held IsModel → IsListed (write_reply held form)
+unfolding free fixed
+write_listed None form kept = tt
+write_listed (Some m) style.Free kept = cards_are_lines style.Free m kept
+write_listed (Some m) style.Fixed kept = by (too_wide m)
+  where
+    by : (item : Option (List ℕ)) → IsListed (fixed_reply m item)
+    by None = cards_are_lines style.Fixed m kept
+    by (Some item) = tt
+
+solved_listed : (m : Model) (budget : ℕ) (end : ExactSolveEnd) → IsModel m → MayAnswer m budget end →
+    All HasNoFeed (lines_of_solved m end)
+solved_listed m budget (outcome.Ended known cert basis pivots) kept may =
+    plain_no_feed (certificate_lines m cert) (certificate_plain m kept cert may.0 may.1)
+solved_listed m budget (outcome.Past p) kept may = All-nil HasNoFeed
+solved_listed m budget outcome.Spent kept may = All-nil HasNoFeed
+
+cert_listed : (held : Option Model) (last : Option ExactLastAnswer) → IfSome held IsModel → LastFits held last →
+    IsListed (cert_reply held last)
+cert_listed None last kept fits = tt
+cert_listed (Some m) None kept fits = tt
+cert_listed (Some m) (Some last) kept fits = solved_listed m fits.0 last.solved kept fits.1
+
+how_listed : (last : Option ExactLastAnswer) → IsListed (how_reply last)
+how_listed None = tt
+how_listed (Some last) = tt
+
+verdict_listed : (m : Model) (r : Settled (Certificate (List ℚ))) → IsListed (verdict_on m r)
+verdict_listed m (Ok cert) = tt
+verdict_listed m (Err (settle.UnknownName name)) = tt
+verdict_listed m (Err (settle.Repeated name)) = tt
+
+check_listed : (held : Option Model) (raw : ExactRaw) → IsListed (check_reply held raw)
+check_listed None raw = tt
+check_listed (Some m) raw = verdict_listed m (certificate_for m raw)
+
+refusal_listed : (why : EditFault Name) → IsListed (edit_refusal why)
+refusal_listed (fault.UnknownName name) = tt
+refusal_listed (fault.Taken name) = tt
+refusal_listed (fault.Limit which count) = tt
+refusal_listed fault.BadName = tt
+refusal_listed (fault.Repeated name) = tt
+refusal_listed (fault.FreeRow name) = tt
+
+module _ (old new : State) (replied : ExactReply) where
+  as_stated : (stated : ExactReply) → replied ≡ stated → IsListed stated → IsListed replied
+  as_stated stated e h = subst IsListed (sym e) h
+
+  solve_listed : (held : Option Model) → Does old (solve_due old held) replied new → IsListed replied
+  solve_listed None d = as_stated _ d.0 tt
+  solve_listed (Some m) d = as_stated _ d.answer tt
+
+  edit_listed : (r : OrFault Model) → Does old (edit_due old r) replied new → IsListed replied
+  edit_listed (Ok m) d = as_stated _ d.0 tt
+  edit_listed (Err why) d = as_stated _ d.0 (refusal_listed why)
+
+  change_listed : (held : Option Model) (e : ExactEdit) → Does old (change_due old held e) replied new →
+      IsListed replied
+  change_listed None e d = as_stated _ d.0 tt
+  change_listed (Some m) e d = edit_listed (edited m e) d
+
+  due_listed : (asked : ExactAsk) → IsGood old → Does old (due old asked) replied new → IsListed replied
+  due_listed (ask.Plain (command.Write form)) good d = as_stated _ d.0 (write_listed old.model form good.kept)
+  due_listed (ask.Plain command.Solve) good d = solve_listed old.model d
+  due_listed (ask.Plain command.Cert) good d = as_stated _ d.0 (cert_listed old.model old.last good.kept good.fits)
+  due_listed (ask.Plain command.How) good d = as_stated _ d.0 (how_listed old.last)
+  due_listed (ask.Plain (command.Budget n)) good d = as_stated _ d.0 tt
+  due_listed (ask.Plain command.Quit) good d = as_stated _ d.0 tt
+  due_listed (ask.Plain (command.Change e)) good d = change_listed old.model e d
+  due_listed (ask.Loaded m) good d = as_stated _ d.0 tt
+  due_listed (ask.Misspelled why) good d = as_stated _ d.0 tt
+  due_listed (ask.Checked raw) good d = as_stated _ d.0 (check_listed old.model raw)
+  due_listed (ask.Unfit line) good d = as_stated _ d.0 tt
+  due_listed (ask.Bad why) good d = as_stated _ d.0 tt
+
+pub step_listed : (places : ℕ) (old new : State) (asked : ExactAsk) (reads : List ExactRead) (replied : ExactReply) →
+    AloneStep places old asked reads replied new → IsGood old → IsListed replied
+step_listed places old new asked reads replied s good = by (step_simply places old reads replied new asked s)
+  where
+    by : Does old (due old asked) replied new ⊎ WantsMemory old replied new → IsListed replied
+    by (inl d) = due_listed old new replied asked good d
+    by (inr w) = subst IsListed (sym w.memory) tt

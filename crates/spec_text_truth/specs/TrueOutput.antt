@@ -1,0 +1,246 @@
+-- That what the program writes is true, by its command line and by what it has read: each answer that stands there is so
+-- of the model that a text spells, of the one that is made from a seed, or of the one that a session has then.
+use Rattle.std.specs.Prelude.{ℕ, ◌≡◌, ◌≢◌, ◌<◌, ◌==◌, ◌⊎◌, Option, Some, None, List, [], ◌∷◌, ◌++◌, length, map, All}
+use Rattle.std.specs.Prelude.{codes, decimal, if◌then◌else◌}
+use Rattle.std.specs.List.{filter, flat_map, remove}
+use Rattle.std.specs.Io.KnownBytes.{Consumes, Appends}
+use Rattle.spec_text.specs.declared.line.Line.{Line}
+use Rattle.spec_text.specs.Lines.{lines_of, IsPrefixOf}
+use Rattle.spec_text.specs.Words.{same}
+use Rattle.spec_exact.specs.Fraction.{ℚ, ◌+ℚ◌, ◌-ℚ◌, ◌*ℚ◌}
+use Rattle.spec_model.specs.Model.{Model, Name, Limits}
+use Rattle.spec_model.specs.Truth.{IsBetween, IsOptimal, IsInfeasible, IsUnbounded}
+use Rattle.spec_edit.specs.Edited.{ExactEdit}
+use Rattle.spec_gen.specs.Generated.{generated}
+use Rattle.spec_mps.specs.NumberText.{Is, number_of}
+use Rattle.spec_mps.specs.Reader.{start}
+use Rattle.spec_mps.specs.Steps.{Verdict, Spelled, Refused, judge, Spells}
+use Rattle.spec_wide_text.specs.WideWritten.{wide_text}
+use Rattle.spec_iis.specs.declared.side.Side.{Side}
+use Rattle.spec_iis.specs.Sides.{IsSide, MeetsAll}
+use Rattle.spec_program.specs.declared.command_line.CommandLine.TheVariants.{Run, Read, Generate, Serve}
+use Rattle.spec_program.specs.declared.command_line.Moved.{Moved}
+use Rattle.spec_program.specs.declared.command_line.TextCommand.TheVariants.{Solve, SolveWide, Check, CheckWide, Basis, BasisWide}
+use Rattle.spec_program.specs.declared.command_line.TextCommand.TheVariants.{Presolve, Iis, Range}
+use Rattle.spec_program.specs.CommandLine.{ExactLine, ExactTextCommand}
+use Rattle.spec_commands.specs.IisOut.{side_line}
+use Rattle.spec_commands.specs.RangeOut.{place_by}
+use Rattle.spec_server.specs.declared.addressing.Addressing.{Addressing}
+use Rattle.spec_server.specs.declared.addressing.Addressing.TheVariants.{Numbered}
+use Rattle.spec_server.specs.declared.addressing.Addressed.{Addressed}
+use Rattle.spec_server.specs.declared.command.Command.TheVariants as commands
+use Rattle.spec_server.specs.declared.command.Plain.TheVariants as command
+use Rattle.spec_server.specs.Addressing.{addressed_in}
+use Rattle.spec_server.specs.Command.{ExactCommand}
+use Rattle.spec_server.specs.Output.{front_of, ended_lines}
+use Rattle.spec_server.specs.Script.{Pending, Between, Text, Certificate, pending_after_line, ends_text, ends_certificate}
+use Rattle.spec_server.specs.Streams.{Streams}
+use Rattle.spec_truth.specs.ModelThen.{after_edit}
+use Rattle.spec_text_truth.specs.SaidRange.{number_at, with_number, SaysEnd}
+
+-- ---- what a line says of a model
+
+-- a line of text, without the line feed that ends it
+abbrev pub HasNoFeed : List ℕ → Type 0
+HasNoFeed line = All (λ b. b ≢ 10) line
+
+-- the text of a number, as in the texts of models, or of any width
+abbrev pub IsNumber : List ℕ → ℚ → Type 0
+IsNumber text v = number_of text ≡ Is v
+
+abbrev pub IsWideNumber : List ℕ → ℚ → Type 0
+IsWideNumber text v = text ≡ wide_text v
+
+-- what the line says as an answer is so of the model that it is of, and there is one
+pub record IsTrueLine (IsOf : Model → Type 0) (IsText : List ℕ → ℚ → Type 0) (line : List ℕ) : Type 0 where
+  pub optimal : (text : List ℕ) → line ≡ codes "OPTIMAL " ++ text →
+      (m : Model) × IsOf m × ((v : ℚ) × IsText text v × IsOptimal m v)
+  pub infeasible : line ≡ codes "INFEASIBLE" → (m : Model) × IsOf m × IsInfeasible m
+  pub unbounded : line ≡ codes "UNBOUNDED" → (m : Model) × IsOf m × IsUnbounded m
+
+-- it is so of what stands behind the word YES
+abbrev pub BehindYes : (List ℕ → Type 0) → List ℕ → Type 0
+BehindYes IsTrue line = (rest : List ℕ) → line ≡ codes "YES " ++ rest → IsTrue rest
+
+-- it is so of the first line of an output, or of the second
+abbrev pub OfFirst : (List ℕ → Type 0) → List ℕ → Type 0
+OfFirst IsTrue output = (line behind : List ℕ) → HasNoFeed line → output ≡ line ++ 10 ∷ behind → IsTrue line
+
+abbrev pub OfSecond : (List ℕ → Type 0) → List ℕ → Type 0
+OfSecond IsTrue output = (line behind : List ℕ) → HasNoFeed line → output ≡ line ++ 10 ∷ behind → OfFirst IsTrue behind
+
+-- ---- the commands that read a text
+
+-- The number of the column or row with this name may be moved between these ends: with each number there in its place,
+-- the optimal value is that of the model and the slope times what the number has grown by.
+pub record IsTrueRange (moved : Moved) (name : Name) (m : Model) (value low high slope : List ℕ) : Type 0 where
+  pub at : ℕ
+  pub named : place_by moved m name ≡ Some at
+  pub optimum : ℚ
+  pub says_value : IsNumber value optimum
+  pub ends : Limits
+  pub says_low : SaysEnd low ends.lower
+  pub says_high : SaysEnd high ends.upper
+  pub growth : ℚ
+  pub says_slope : IsNumber slope growth
+  pub optimal : (t : ℚ) → IsBetween ends t →
+      IsOptimal (with_number moved m at t) (optimum +ℚ (t -ℚ number_at moved m at) *ℚ growth)
+
+abbrev pub SaysTrueRange : Moved → Name → (Model → Type 0) → List ℕ → Type 0
+SaysTrueRange moved name IsOf output =
+    (value low high slope : List ℕ) → HasNoFeed value → All (λ b. b ≢ 32) low → All (λ b. b ≢ 32) high →
+    HasNoFeed slope →
+    output ≡ codes "OPTIMAL " ++ value ++ 10 ∷ (codes "RANGE " ++ low ++ codes " " ++ high ++ codes " SLOPE " ++ slope ++ 10 ∷ []) →
+    (m : Model) × IsOf m × IsTrueRange moved name m value low high slope
+
+-- So many limits of rows and bounds of columns are listed. No point meets them all, though each set of all but one is met.
+pub record AreTrueSides (m : Model) (count behind : List ℕ) : Type 0 where
+  pub sides : List Side
+  pub more : List ℕ
+  pub counted : count ≡ decimal (length sides)
+  pub listed : behind ≡ ended_lines (map (side_line m) sides) ++ more
+  pub present : All (IsSide m) sides
+  pub contrary : (z : List ℚ) → ¬ (MeetsAll m sides z)
+  pub needed : (k : ℕ) → k < length sides → (z : List ℚ) × MeetsAll m (remove sides k) z
+
+abbrev pub SaysTrueSides : (Model → Type 0) → List ℕ → Type 0
+SaysTrueSides IsOf output =
+    (count behind : List ℕ) → HasNoFeed count →
+    output ≡ codes "INFEASIBLE" ++ 10 ∷ (codes "IIS " ++ count ++ 10 ∷ behind) →
+    (m : Model) × IsOf m × AreTrueSides m count behind
+
+-- what each of them writes of the model of its text
+abbrev pub IsTrueOfText : ExactTextCommand → (Model → Type 0) → List ℕ → Type 0
+IsTrueOfText Solve IsOf output = OfFirst (IsTrueLine IsOf IsNumber) output
+IsTrueOfText SolveWide IsOf output = OfFirst (IsTrueLine IsOf IsWideNumber) output
+IsTrueOfText Check IsOf output = OfFirst (BehindYes (IsTrueLine IsOf IsNumber)) output
+IsTrueOfText CheckWide IsOf output = OfFirst (BehindYes (IsTrueLine IsOf IsWideNumber)) output
+IsTrueOfText Basis IsOf output = OfFirst (IsTrueLine IsOf IsNumber) output
+IsTrueOfText BasisWide IsOf output = OfFirst (IsTrueLine IsOf IsWideNumber) output
+IsTrueOfText Presolve IsOf output = OfSecond (IsTrueLine IsOf IsNumber) output
+IsTrueOfText Iis IsOf output = OfFirst (IsTrueLine IsOf IsNumber) output × SaysTrueSides IsOf output
+IsTrueOfText (Range moved name) IsOf output =
+    OfFirst (IsTrueLine IsOf IsNumber) output × SaysTrueRange moved name IsOf output
+
+-- ---- what lines ask of sessions, as far as it changes their models
+
+-- an ask loads a model, edits the one that is there, drops it, or keeps it
+pub data Effect : Type 0 where
+  Loads : (model : Model) → Effect
+  Edits : (edit : ExactEdit) → Effect
+  Drops : Effect
+  Keeps : Effect
+
+pub record Asking : Type 0 where
+  pub session : ℕ
+  pub effect : Effect
+
+-- nothing is asked by a command before its body has ended
+abbrev pub effects_of : ExactCommand → List Effect
+effects_of (commands.Load form) = []
+effects_of commands.Check = []
+effects_of (commands.Plain (command.Change e)) = Edits e ∷ []
+effects_of (commands.Plain command.Quit) = Drops ∷ []
+effects_of other = Keeps ∷ []
+
+abbrev pub asked_by : Option (Addressed ExactEdit) → List Asking
+asked_by None = []
+asked_by (Some addressed) =
+    map (λ effect. record { session = addressed.session; effect = effect }) (effects_of addressed.command)
+
+abbrev pub effect_of_text : Verdict → Effect
+effect_of_text (Spelled m) = Loads m
+effect_of_text (Refused n fault) = Keeps
+
+-- what a line asks, if it completes an ask
+abbrev pub asked_in_line : Addressing → Pending → Line (List ℕ) → List Asking
+asked_in_line addressing Between next = asked_by (addressed_in addressing next)
+asked_in_line addressing (Text session form body) next =
+    if ends_text next
+    then record { session = session; effect = effect_of_text (judge form start 1 (body ++ next ∷ [])) } ∷ []
+    else []
+asked_in_line addressing (Certificate session body) next =
+    if ends_certificate next then record { session = session; effect = Keeps } ∷ [] else []
+
+abbrev pub asked_from : Addressing → Pending → List (Line (List ℕ)) → List Asking
+asked_from addressing pending [] = []
+asked_from addressing pending (next ∷ lines) =
+    asked_in_line addressing pending next ++ asked_from addressing (pending_after_line addressing pending next) lines
+
+-- ---- what is told of it
+
+-- an ask, and what was written of it: the line of the reply, and the lines behind that
+pub record Told : Type 0 where
+  pub asked : Asking
+  pub line : List ℕ
+  pub behind : List (List ℕ)
+
+-- It is one line. Behind it stand as many lines as it says, of the text of a model or of a certificate; or none.
+pub record IsFramed (x : Told) : Type 0 where
+  pub one : HasNoFeed x.line
+  pub each : All HasNoFeed x.behind
+  pub counted :
+      (x.behind ≡ [])
+      ⊎ (x.line ≡ codes "TEXT " ++ decimal (length x.behind))
+      ⊎ (x.line ≡ codes "CERT " ++ decimal (length x.behind))
+
+abbrev pub told_out : Addressing → List Told → List ℕ
+told_out addressing told =
+    flat_map (λ x. front_of addressing x.asked.session ++ x.line ++ 10 ∷ ended_lines x.behind) told
+
+-- the model of a session after an ask, by the one before it and the line of the reply
+abbrev pub after_line : Option Model → Effect → List ℕ → Option Model
+after_line held (Loads m) line = Some m
+after_line held (Edits e) line = if same line (codes "OK") then after_edit held e else held
+after_line held Drops line = None
+after_line held Keeps line = held
+
+abbrev pub after_lines : Option Model → List Told → Option Model
+after_lines held [] = held
+after_lines held (x ∷ told) = after_lines (after_line held x.asked.effect x.line) told
+
+-- none at first
+abbrev pub model_told : ℕ → List Told → Option Model
+model_told session told = after_lines None (filter (λ x. x.asked.session == session) told)
+
+-- a reply's line, of the model that the session has then
+abbrev pub IsTrueReply : List Told → Told → Type 0
+IsTrueReply before x =
+    let IsTrue = IsTrueLine (λ m. model_told x.asked.session before ≡ Some m) IsNumber in
+    IsTrue x.line × BehindYes IsTrue x.line
+
+-- The output is that of replies to the first asks of the lines that were read, and each reply is true of the model that its
+-- session has then.
+pub record AreTrueReplies (addressing : Addressing) (read output : List ℕ) : Type 0 where
+  pub told : List Told
+  pub later : List Asking
+  pub asked : asked_from addressing Between (lines_of read) ≡ map (λ x. x.asked) told ++ later
+  pub framed : All IsFramed told
+  pub replies : output ≡ told_out addressing told
+  pub are_true : (before behind : List Told) (x : Told) → told ≡ before ++ x ∷ behind → IsTrueReply before x
+
+-- ---- the whole
+
+-- Some bytes were read, and some were written, which are an output or the beginning of one; and the output is true by what
+-- was read.
+pub record Tells (IsTrue : List ℕ → List ℕ → Type 0) (s : Streams) : Type 0 where
+  pub read : List ℕ
+  pub written : List ℕ
+  pub output : List ℕ
+  pub consumed : Consumes s.left_before s.left_after read
+  pub appended : Appends s.taken_before s.taken_after written
+  pub front : IsPrefixOf written output
+  pub is_true : IsTrue read output
+
+-- a server writes its answers to links
+abbrev pub IsTrueOf : ExactLine → List ℕ → List ℕ → Type 0
+IsTrueOf (Run workers places) read output = AreTrueReplies Numbered read output
+IsTrueOf (Read command style) read output = IsTrueOfText command (Spells style (lines_of read)) output
+IsTrueOf (Generate seed rows columns) read output =
+    OfSecond (IsTrueLine (λ m. m ≡ generated seed rows columns) IsNumber) output
+IsTrueOf (Serve workers each places) read output = Unit {0}
+
+-- for words that are no command line nothing is written
+abbrev pub IsTrueOutput : Option ExactLine → Streams → Type 0
+IsTrueOutput None s = Appends s.taken_before s.taken_after []
+IsTrueOutput (Some command) s = Tells (IsTrueOf command) s

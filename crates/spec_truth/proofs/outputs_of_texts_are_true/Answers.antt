@@ -1,5 +1,0 @@
-use Rattle.spec_truth.proofs.TrueTexts.{said_true}
-use Rattle.spec_truth.proofs.outputs_of_texts_are_true.Goals as goal
-
-pub returns : goal.returns
-returns c = said_true

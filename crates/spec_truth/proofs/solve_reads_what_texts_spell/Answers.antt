@@ -1,9 +1,0 @@
-use Rattle.spec_truth.proofs.TextLemmas.{said_spelled, said_refused, said_cut, spelled_said}
-use Rattle.spec_truth.proofs.solve_reads_what_texts_spell.Goals as goal
-
-pub returns : goal.returns
-returns c = record {
-  spelled = λ style lines m. (said_spelled style lines m, spelled_said style lines m);
-  refused = said_refused;
-  cut = said_cut;
-}
