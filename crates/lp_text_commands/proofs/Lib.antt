@@ -1,4 +1,5 @@
 -- Lemmas.
+pub mod Ranging
 pub mod Heard
 pub mod LeadingOn
 pub mod CheckLines

@@ -12,6 +12,10 @@
 //! | `say_wide_basis`, `WideBasis` | the same of a text and the basis file after it, where numbers may have any width | src/based |
 //! | `CheckStage`, `WideStage`, `BasisStage` | where the reading stands | src/check, src/check_wide, src/basis |
 //! | `ReadsText`, `TellsOfText` | what is read and written, by the answer and by the status | specs/TextCommands |
+//! | `place_of` | the column or the row whose number is ranged, by its name | src/named |
+//! | `print_unknown` | writes that nothing has the name | src/named |
+//! | `print_ranged` | writes what a solve ends with, and the range | src/range_out |
+//! | `KeepsAtEnd` | the basis that an end leaves keeps the model | specs/Ends |
 #![tactic(auto)]
 
 mod based;
@@ -21,7 +25,9 @@ mod check;
 mod check_wide;
 mod exit_status;
 mod hearing;
+mod named;
 mod outputs;
+mod range_out;
 mod ranged;
 mod tasked;
 mod text;

@@ -4,7 +4,7 @@ ghost use Rattle.spec_commands.specs.RangeOut.{place_by};
 ghost use Rattle.spec_server.specs.Output.{check_line};
 ghost use Rattle.spec_server.specs.declared.asks.Reply.TheVariants as replies;
 ghost use Rattle.spec_server.specs.declared.asks.Refusal.TheVariants as refusals;
-ghost use Rattle.lp_range_out.specs.Ends.{count_by};
+ghost use Rattle.lp_text_commands.specs.RangeEnds.{count_by};
 
 use lp_base::{Bytes, Name};
 use lp_line::{Refusal, Reply, print_said};
@@ -13,7 +13,7 @@ use spec_program::Moved;
 use std::alloc::{AllocError, Global};
 
 /// Where the column, or the row, with this name stands.
-pub fn place_of(model: &Model, moved: Moved, name: &[u8]) -> Option<u32>
+pub(crate) fn place_of(model: &Model, moved: Moved, name: &[u8]) -> Option<u32>
     ensures value { result ≡ place_by moved model.now name.now }
     ensures inside { IfSome result (λ at. at < count_by moved model.now) }
 {
@@ -24,7 +24,7 @@ pub fn place_of(model: &Model, moved: Moved, name: &[u8]) -> Option<u32>
 }
 
 /// Writes that nothing has the name.
-pub fn print_unknown(alloc: Global, name: &[u8], to: &mut Bytes) -> Result<(), AllocError>
+pub(crate) fn print_unknown(alloc: Global, name: &[u8], to: &mut Bytes) -> Result<(), AllocError>
     ensures { OnOk result (to.new ≡ to.old ++ check_line (replies.Refused (refusals.Name name.now))) }
 {
     let name = Name::from_slice(alloc, name)?;

@@ -11,7 +11,7 @@ use Rattle.spec_program.specs.declared.command_line.Moved.{Moved}
 use Rattle.spec_commands.specs.RangeOut.{RangedOut, range_lines}
 use Rattle.spec_commands.proofs.Kept.{solved_keeps}
 use Rattle.lp_solve_out.specs.Prints.{Prints}
-use Rattle.lp_range_out.specs.Ends.{KeepsAtEnd}
+use Rattle.lp_text_commands.specs.RangeEnds.{KeepsAtEnd}
 
 -- the basis that a cold solve leaves keeps the model
 pub keeps_at_end : (m : Model) (budget : ℕ) (solved : SolveEnd) → IsSolved m budget None solved →

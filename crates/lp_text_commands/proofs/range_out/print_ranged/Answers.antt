@@ -1,6 +1,6 @@
 -- What a solve ends with, as it is printed with the range.
-use Rattle.lp_range_out.proofs.Ranging.{keeps_at_end, prints_ranged}
-use Rattle.lp_range_out.proofs.range_out.print_ranged.Goals as goal
+use Rattle.lp_text_commands.proofs.Ranging.{keeps_at_end, prints_ranged}
+use Rattle.lp_text_commands.proofs.range_out.print_ranged.Goals as goal
 
 pub print_solved-printed-requires-clause-keeps : goal.print_solved-printed-requires-clause-keeps
 print_solved-printed-requires-clause-keeps c =

@@ -9,7 +9,7 @@ ghost use Rattle.spec_server.specs.declared.answer.Answer.TheVariants as answers
 ghost use Rattle.spec_server.specs.declared.asks.Reply.TheVariants as replies;
 ghost use Rattle.lp_range.specs.Answer.{IsRefused};
 ghost use Rattle.lp_solve_out.specs.Prints.{Prints};
-ghost use Rattle.lp_range_out.specs.Ends.{count_by, KeepsAtEnd};
+ghost use Rattle.lp_text_commands.specs.RangeEnds.{count_by, KeepsAtEnd};
 
 use lp_answer::{OPENING_BUDGET, solved_within};
 use lp_base::Bytes;
@@ -28,7 +28,7 @@ use spec_server::Answer;
 use std::alloc::{AllocError, Global};
 
 /// Writes what a solve of the model ends with and, after an optimum, the range of this number of its column or row `at`.
-pub fn print_ranged(
+pub(crate) fn print_ranged(
     alloc: Global,
     model: &Model,
     moved: Moved,
