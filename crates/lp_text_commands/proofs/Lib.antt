@@ -1,4 +1,6 @@
 -- Lemmas.
+pub mod Lines
+pub mod Finding
 pub mod Ranging
 pub mod Heard
 pub mod LeadingOn

@@ -16,6 +16,7 @@
 //! | `print_unknown` | writes that nothing has the name | src/named |
 //! | `print_ranged` | writes what a solve ends with, and the range | src/range_out |
 //! | `KeepsAtEnd` | the basis that an end leaves keeps the model | specs/Ends |
+//! | `print_iis` | writes what a search of a model ends with | src/iis_out |
 #![tactic(auto)]
 
 mod based;
@@ -25,10 +26,13 @@ mod check;
 mod check_wide;
 mod exit_status;
 mod hearing;
+mod iis_out;
 mod named;
 mod outputs;
+mod points;
 mod range_out;
 mod ranged;
+mod sides;
 mod tasked;
 mod text;
 

@@ -12,7 +12,7 @@ ghost use Rattle.lp_text_commands.specs.Tasked.{MayBeKept, TaskOut, task_code};
 use crate::exit_status::ExitStatus;
 use crate::hearing::{Output, hear_input, write_said};
 use lp_base::{Bytes, Sink, Source};
-use lp_iis_out::print_iis;
+use crate::iis_out::print_iis;
 use lp_line::{Halt, Refusal, Reply, TextSaid};
 use lp_model::Model;
 use lp_presolve_out::print_presolved;

@@ -5,7 +5,7 @@ use Rattle.spec_check.specs.Certificate.{IsFor}
 use Rattle.spec_iis.specs.Only.{only}
 use Rattle.spec_iis.specs.Rule.{IsRead}
 use Rattle.lp_frac.specs.Narrow.{largest}
-use Rattle.lp_iis_out.proofs.iis_out.print_certificate.Goals as goal
+use Rattle.lp_text_commands.proofs.iis_out.print_certificate.Goals as goal
 
 pub only-requires-clause-read : goal.only-requires-clause-read
 only-requires-clause-read c =

@@ -1,7 +1,7 @@
 -- One column more.
 use Rattle.spec_model.specs.Model.{column}
-use Rattle.lp_iis_out.proofs.Lines.{ended_none, part_on}
-use Rattle.lp_iis_out.proofs.points.print_parts.Goals as goal
+use Rattle.lp_text_commands.proofs.Lines.{ended_none, part_on}
+use Rattle.lp_text_commands.proofs.points.print_parts.Goals as goal
 
 pub loop-j-init : goal.loop-j-init
 loop-j-init c = ended_none c.args.to.now

@@ -2,7 +2,7 @@
 use Rattle.std.proofs.Common.{◌≡◌, ◌++◌, take}
 use Rattle.spec_server.specs.Output.{ended_lines}
 use Rattle.spec_commands.specs.IisOut.{point_lines}
-use Rattle.lp_iis_out.proofs.points.print_points.Given as goal
+use Rattle.lp_text_commands.proofs.points.print_points.Given as goal
 
 -- the lines of those so far follow the first
 abbrev pub invariant-loop-k : goal.invariant-loop-k

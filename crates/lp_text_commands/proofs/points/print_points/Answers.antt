@@ -1,8 +1,8 @@
 -- One point more.
 use Rattle.std.proofs.Common.{◌≡◌, length}
 use Rattle.spec_model.specs.Model.{width}
-use Rattle.lp_iis_out.proofs.Lines.{ended_none, item_holds, one_on, points_more}
-use Rattle.lp_iis_out.proofs.points.print_points.Goals as goal
+use Rattle.lp_text_commands.proofs.Lines.{ended_none, item_holds, one_on, points_more}
+use Rattle.lp_text_commands.proofs.points.print_points.Goals as goal
 
 pub loop-k-init : goal.loop-k-init
 loop-k-init c = ended_none c.args.to.now

@@ -1,7 +1,7 @@
 -- One side more.
 use Rattle.spec_iis.specs.Sides.{IsSide}
-use Rattle.lp_iis_out.proofs.Lines.{ended_none, item_holds, one_on, sides_more}
-use Rattle.lp_iis_out.proofs.sides.print_sides.Goals as goal
+use Rattle.lp_text_commands.proofs.Lines.{ended_none, item_holds, one_on, sides_more}
+use Rattle.lp_text_commands.proofs.sides.print_sides.Goals as goal
 
 pub loop-i-init : goal.loop-i-init
 loop-i-init c = ended_none c.args.to.now

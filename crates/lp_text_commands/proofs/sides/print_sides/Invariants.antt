@@ -2,7 +2,7 @@
 use Rattle.std.proofs.Common.{◌≡◌, ◌++◌, take, map}
 use Rattle.spec_server.specs.Output.{ended_lines}
 use Rattle.spec_commands.specs.IisOut.{side_line}
-use Rattle.lp_iis_out.proofs.sides.print_sides.Given as goal
+use Rattle.lp_text_commands.proofs.sides.print_sides.Given as goal
 
 -- the lines of those so far follow the first
 abbrev pub invariant-loop-i : goal.invariant-loop-i

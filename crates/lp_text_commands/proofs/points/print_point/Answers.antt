@@ -1,7 +1,7 @@
 -- The parts behind the number.
 use Rattle.std.proofs.lemmas.Result.{on_ok_weaker}
-use Rattle.lp_iis_out.proofs.Lines.{one_on, ended_first}
-use Rattle.lp_iis_out.proofs.points.print_point.Goals as goal
+use Rattle.lp_text_commands.proofs.Lines.{one_on, ended_first}
+use Rattle.lp_text_commands.proofs.points.print_point.Goals as goal
 
 pub returns : goal.returns
 returns c =

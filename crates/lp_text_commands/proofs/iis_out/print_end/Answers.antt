@@ -1,8 +1,8 @@
 -- The line of an answer is that of a reply.
 use Rattle.std.proofs.Common.{◌++◌, ap, ◌∙◌}
 use Rattle.std.proofs.lemmas.Result.{on_ok_weaker}
-use Rattle.lp_iis_out.proofs.Lines.{answer_line}
-use Rattle.lp_iis_out.proofs.iis_out.print_end.Goals as goal
+use Rattle.lp_text_commands.proofs.Lines.{answer_line}
+use Rattle.lp_text_commands.proofs.iis_out.print_end.Goals as goal
 
 pub returns : goal.returns
 returns c =

@@ -3,9 +3,9 @@ use Rattle.std.proofs.Common.{[], ◌∷◌, ◌++◌, ap, sym, ◌∙◌}
 use Rattle.std.specs.Prelude.{codes, decimal}
 use Rattle.std.proofs.lemmas.Result.{on_ok_weaker}
 use Rattle.spec_server.specs.Machine.{opening_budget}
-use Rattle.lp_iis_out.proofs.Lines.{five_on, heading_text, whole}
-use Rattle.lp_iis_out.proofs.Finding.{found_read, points_fit}
-use Rattle.lp_iis_out.proofs.iis_out.print_found.Goals as goal
+use Rattle.lp_text_commands.proofs.Lines.{five_on, heading_text, whole}
+use Rattle.lp_text_commands.proofs.Finding.{found_read, points_fit}
+use Rattle.lp_text_commands.proofs.iis_out.print_found.Goals as goal
 
 pub print_sides-requires : goal.print_sides-requires
 print_sides-requires c = c.requires.found.irreducible.present

@@ -26,7 +26,7 @@ use lp_solve_out::print_answer;
 use std::alloc::{AllocError, Global};
 
 /// Writes what a search of the model ends with, within the budget of a new session for each solve.
-pub fn print_iis(alloc: Global, model: &Model, to: &mut Bytes) -> Result<(), AllocError>
+pub(crate) fn print_iis(alloc: Global, model: &Model, to: &mut Bytes) -> Result<(), AllocError>
     requires { IsModel model.now }
     ensures { OnOk result (Prints (IisOut (Ok model.now)) to.old to.new) }
 {

@@ -1,8 +1,8 @@
 -- What a search ends with, as it is printed.
 use Rattle.std.proofs.Common.{subst}
 use Rattle.spec_iis.specs.Found.{MayFind}
-use Rattle.lp_iis_out.proofs.Finding.{prints_iis}
-use Rattle.lp_iis_out.proofs.iis_out.print_iis.Goals as goal
+use Rattle.lp_text_commands.proofs.Finding.{prints_iis}
+use Rattle.lp_text_commands.proofs.iis_out.print_iis.Goals as goal
 
 pub returns : goal.returns
 returns c =

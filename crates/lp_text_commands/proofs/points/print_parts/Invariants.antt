@@ -4,7 +4,7 @@ use Rattle.spec_model.specs.Model.{column}
 use Rattle.spec_check.specs.declared.certificate.Letter.TheVariants.{X}
 use Rattle.spec_certificate.specs.TextWritten.{lines_below}
 use Rattle.spec_server.specs.Output.{ended_lines}
-use Rattle.lp_iis_out.proofs.points.print_parts.Given as goal
+use Rattle.lp_text_commands.proofs.points.print_parts.Given as goal
 
 -- the lines of the columns so far follow the first
 abbrev pub invariant-loop-j : goal.invariant-loop-j

@@ -1,3 +1,0 @@
--- Lemmas.
-pub mod Lines
-pub mod Finding
