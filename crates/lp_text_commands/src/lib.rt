@@ -17,6 +17,7 @@
 //! | `print_ranged` | writes what a solve ends with, and the range | src/range_out |
 //! | `KeepsAtEnd` | the basis that an end leaves keeps the model | specs/Ends |
 //! | `print_iis` | writes what a search of a model ends with | src/iis_out |
+//! | `print_presolved` | writes what a solve of a model by a smaller one ends with | src/presolve_out |
 #![tactic(auto)]
 
 mod based;
@@ -30,6 +31,7 @@ mod iis_out;
 mod named;
 mod outputs;
 mod points;
+mod presolve_out;
 mod range_out;
 mod ranged;
 mod sides;

@@ -15,7 +15,7 @@ use lp_base::{Bytes, Sink, Source};
 use crate::iis_out::print_iis;
 use lp_line::{Halt, Refusal, Reply, TextSaid};
 use lp_model::Model;
-use lp_presolve_out::print_presolved;
+use crate::presolve_out::print_presolved;
 use lp_solve_out::print_wide_solved;
 use mps_read::Reader;
 use std::alloc::{AllocError, Global};

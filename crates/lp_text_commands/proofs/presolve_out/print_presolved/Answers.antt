@@ -1,6 +1,6 @@
 -- What a solve by a smaller model ends with, as it is printed.
-use Rattle.lp_presolve_out.proofs.Presolving.{opening, prints_presolved}
-use Rattle.lp_presolve_out.proofs.presolve_out.print_presolved.Goals as goal
+use Rattle.lp_text_commands.proofs.Presolving.{opening, prints_presolved}
+use Rattle.lp_text_commands.proofs.presolve_out.print_presolved.Goals as goal
 
 pub print_lines-printed-requires : goal.print_lines-printed-requires
 print_lines-printed-requires c =

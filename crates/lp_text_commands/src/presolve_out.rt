@@ -16,7 +16,7 @@ use lp_solve_out::{print_answer, print_end};
 use std::alloc::{AllocError, Global};
 
 /// Writes which model a solve by a smaller one solved, and what it ends with.
-pub fn print_presolved(alloc: Global, model: &Model, to: &mut Bytes) -> Result<(), AllocError>
+pub(crate) fn print_presolved(alloc: Global, model: &Model, to: &mut Bytes) -> Result<(), AllocError>
     requires { IsModel model.now }
     ensures { OnOk result (Prints (out.PresolveOut (Ok model.now)) to.old to.new) }
 {
