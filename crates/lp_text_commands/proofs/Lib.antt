@@ -1,4 +1,5 @@
 -- Lemmas.
+pub mod Generating
 pub mod Presolving
 pub mod Lines
 pub mod Finding

@@ -1,3 +1,4 @@
+pub mod Generating
 pub mod RangeEnds
 pub mod Status
 pub mod Hearing

@@ -18,6 +18,8 @@
 //! | `KeepsAtEnd` | the basis that an end leaves keeps the model | specs/Ends |
 //! | `print_iis` | writes what a search of a model ends with | src/iis_out |
 //! | `print_presolved` | writes what a solve of a model by a smaller one ends with | src/presolve_out |
+//! | `generate` | makes the model, and writes its size and what a solve of it ends with | src/made |
+//! | `Writes`, `TellsOfWriting` | what it writes, by its answer and by its status | specs/Generating |
 #![tactic(auto)]
 
 mod based;
@@ -28,6 +30,7 @@ mod check_wide;
 mod exit_status;
 mod hearing;
 mod iis_out;
+mod made;
 mod named;
 mod outputs;
 mod points;
@@ -38,5 +41,6 @@ mod sides;
 mod tasked;
 mod text;
 
+pub use made::generate;
 pub use exit_status::ExitStatus;
 pub use text::read_text;

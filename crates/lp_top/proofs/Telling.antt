@@ -12,7 +12,7 @@ use Rattle.spec_commands.specs.TextOut.{SaidBy, said_of, MayWrite, code_of}
 use Rattle.spec_mps.specs.declared.style.Style.{Style}
 use Rattle.lp_line.specs.declared.halt.Halt.{Halt}
 use Rattle.lp_line.specs.declared.halt.Halt.TheVariants as halts
-use Rattle.lp_generate.specs.Generating.{Writes, WritesAll, TellsOfWriting}
+use Rattle.lp_text_commands.specs.Generating.{Writes, WritesAll, TellsOfWriting}
 use Rattle.lp_text_commands.specs.Hearing.{Says, SaysSo, TellsOf}
 use Rattle.lp_script.specs.Run.{Moves, EndsSo}
 use Rattle.lp_text_commands.specs.Status.{code_behind}

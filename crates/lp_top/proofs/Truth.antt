@@ -32,7 +32,7 @@ use Rattle.spec_serve.specs.Lines.{serve_out}
 use Rattle.lp_serve.specs.declared.fault.ServeFault.{ServeFault}
 use Rattle.lp_serve.specs.declared.fault.ServeFault.TheVariants as fault
 use Rattle.lp_serve.specs.Serving.{Served, ends_of, Listened, IsUnserved, Writes, no_listener}
-use Rattle.lp_generate.specs.Generating.{TellsOfWriting}
+use Rattle.lp_text_commands.specs.Generating.{TellsOfWriting}
 use Rattle.lp_script.specs.Run.{Moves, AreAsked}
 use Rattle.lp_text_commands.specs.Hearing.{Says, SaysInPart, WritesNothing}
 use Rattle.lp_text_commands.specs.TextCommands.{TellsOfText}

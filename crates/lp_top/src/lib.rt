@@ -27,7 +27,7 @@ ghost use Rattle.spec_text_truth.specs.TrueOutput.{IsTrueOutput};
 use lp_base::{Sink, Source};
 use lp_command_line::command_line_of;
 pub use lp_command_line::{Serving, plan};
-use lp_generate::generate;
+use lp_text_commands::generate;
 use lp_link::Listen;
 use lp_script::run_script;
 pub use lp_script::{Gate, NeverHolds};

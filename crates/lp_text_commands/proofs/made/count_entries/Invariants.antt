@@ -1,6 +1,6 @@
 -- The entries of the columns before this one.
 use Rattle.std.proofs.Common.{◌≡◌, ◌*◌, ◌≤◌, length, take, sum_by}
-use Rattle.lp_generate.proofs.made.count_entries.Given as goal
+use Rattle.lp_text_commands.proofs.made.count_entries.Given as goal
 
 abbrev pub invariant-loop-column : goal.invariant-loop-column
 invariant-loop-column l = record {

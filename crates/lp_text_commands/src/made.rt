@@ -6,7 +6,7 @@ ghost use Rattle.spec_model.specs.Model.{height};
 ghost use Rattle.spec_commands.specs.GenOut.{entry_count, generated_lines, size_text, GenOut, SolvedOut};
 ghost use Rattle.spec_server.specs.Machine.{pivots_of_solved};
 ghost use Rattle.spec_server.specs.Output.{pivots_text};
-ghost use Rattle.lp_generate.specs.Generating.{Writes};
+ghost use Rattle.lp_text_commands.specs.Generating.{Writes};
 
 use lp_answer::{OPENING_BUDGET, solved_within};
 use lp_base::{Bytes, Sink, send};

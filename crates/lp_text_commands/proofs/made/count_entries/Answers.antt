@@ -2,8 +2,8 @@
 use Rattle.std.proofs.Common.{◌<◌, arith, ap, length}
 use Rattle.std.proofs.lemmas.List.Sums.{sum_by_more}
 use Rattle.spec_model.specs.Model.{ExactColumn, height, no_column}
-use Rattle.lp_generate.proofs.Generating.{few_entries}
-use Rattle.lp_generate.proofs.made.count_entries.Goals as goal
+use Rattle.lp_text_commands.proofs.Generating.{few_entries}
+use Rattle.lp_text_commands.proofs.made.count_entries.Goals as goal
 
 pub loop-column-preserved : goal.loop-column-preserved
 loop-column-preserved c =
