@@ -18,7 +18,7 @@ use Rattle.spec_server.specs.Machine.{opening_budget}
 use Rattle.spec_server.specs.Output.{ended_lines}
 use Rattle.spec_commands.specs.IisOut.{IisOut, iis_lines}
 use Rattle.lp_frac.specs.Narrow.{largest}
-use Rattle.lp_solve_out.specs.Prints.{Prints}
+use Rattle.lp_text_commands.specs.Prints.{Prints}
 
 -- ---- the sides
 

@@ -17,8 +17,7 @@ use Rattle.spec_iis.specs.Only.{only}
 use Rattle.spec_cold.specs.Cold.{ExactSolveEnd}
 use Rattle.spec_server.specs.declared.asks.Reply.TheVariants as reply
 use Rattle.spec_server.specs.Machine.{opening_budget, answer_of}
-use Rattle.spec_server.specs.Output.{ended_lines, reply_text}
-use Rattle.spec_server.specs.Output.{check_line}
+use Rattle.spec_server.specs.Output.{check_line, ended_lines, reply_text}
 use Rattle.spec_commands.specs.IisOut.{side_line, point_lines, found_lines, end_words}
 
 -- ---- lines in a row

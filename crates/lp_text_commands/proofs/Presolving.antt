@@ -5,7 +5,7 @@ use Rattle.spec_model.specs.Model.{Model}
 use Rattle.spec_presolve.specs.Presolved.{ExactPresolved, IsPresolved}
 use Rattle.spec_server.specs.Machine.{opening_budget}
 use Rattle.spec_commands.specs.PresolveOut.{PresolveOut, presolved_lines}
-use Rattle.lp_solve_out.specs.Prints.{Prints}
+use Rattle.lp_text_commands.specs.Prints.{Prints}
 
 -- within the budget of a new session
 pub opening : (m : Model) (budget : ℕ) (p : ExactPresolved) → budget ≡ opening_budget → IsPresolved m budget p →

@@ -10,7 +10,7 @@ use Rattle.spec_server.specs.Machine.{opening_budget}
 use Rattle.spec_program.specs.declared.command_line.Moved.{Moved}
 use Rattle.spec_commands.specs.RangeOut.{RangedOut, range_lines}
 use Rattle.spec_commands.proofs.Kept.{solved_keeps}
-use Rattle.lp_solve_out.specs.Prints.{Prints}
+use Rattle.lp_text_commands.specs.Prints.{Prints}
 use Rattle.lp_text_commands.specs.RangeEnds.{KeepsAtEnd}
 
 -- the basis that a cold solve leaves keeps the model

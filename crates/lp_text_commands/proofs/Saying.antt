@@ -25,7 +25,7 @@ use Rattle.lp_text_commands.specs.declared.check.CheckStage.TheVariants as stage
 use Rattle.lp_text_commands.specs.declared.exit_status.ExitStatus.{ExitStatus}
 use Rattle.lp_line.specs.declared.halt.Halt.{Halt}
 use Rattle.lp_line.specs.declared.halt.Halt.TheVariants as halts
-use Rattle.lp_solve_out.specs.Prints.{Prints}
+use Rattle.lp_text_commands.specs.Prints.{Prints}
 use Rattle.lp_text_commands.specs.Hearing.{Agrees, Hears, HearsSo, SaysSo}
 use Rattle.lp_text_commands.specs.Writing.{WritesAll, WritesInPart, WritesSo}
 use Rattle.spec_commands.specs.BasisOut.{BasisSaid, basis_said, BasisOut, basis_code}

@@ -16,9 +16,8 @@ use Rattle.spec_certificate.specs.Text.{step_by}
 use Rattle.spec_certificate.specs.NarrowText as certificate
 use Rattle.spec_certificate.specs.WideText.{wide}
 use Rattle.spec_server.specs.Machine.{ExactReply}
-use Rattle.spec_server.specs.Output.{reply_text}
+use Rattle.spec_server.specs.Output.{check_line, reply_text}
 use Rattle.spec_commands.specs.CheckOut as reading
-use Rattle.spec_server.specs.Output.{check_line}
 use Rattle.spec_commands.specs.CheckWideOut.{behind_wide, wide_step, wide_reply_text, wide_check_line}
 use Rattle.lp_line.specs.declared.hearing.Step.{Step}
 use Rattle.lp_line.specs.Hearing.{Leads}

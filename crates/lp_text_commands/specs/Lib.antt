@@ -1,3 +1,6 @@
+pub mod Prints
+pub mod Ends
+pub mod Handed
 pub mod Generating
 pub mod RangeEnds
 pub mod Status

@@ -10,11 +10,12 @@ ghost use Rattle.lp_text_commands.specs.Hearing.{Agrees, SaysSo};
 ghost use Rattle.lp_text_commands.specs.declared.basis.BasisStage.TheVariants as stage;
 
 use crate::basis::{BasisSaid, BasisStage};
+use crate::basis_out::print_fault;
 use crate::exit_status::ExitStatus;
 use crate::hearing::{Output, hear_input, write_said};
+use crate::wide_basis::print_wide_handed;
 use lp_base::{Bytes, Sink, Source};
 use lp_line::Halt;
-use lp_solve_out::{print_fault, print_wide_handed};
 use mps_read::Reader;
 use std::alloc::{AllocError, Global};
 

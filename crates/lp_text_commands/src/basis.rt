@@ -6,13 +6,13 @@ ghost use Rattle.spec_commands.specs.BasisOut.{InText, InFile, begun_file, basis
 ghost use Rattle.lp_text_commands.specs.Basis.{step_of, count_of, BasisSays};
 
 use crate::basis_file::FileStage;
+use crate::basis_start::{Handed, Start};
 use lp_bas::{BasFeed, BasReader};
 use lp_base::Line;
 use lp_form::Form;
 use lp_frac::Stop;
 use lp_line::{Stage, Step};
 use lp_model::Model;
-use lp_solve_out::{Handed, Start};
 use lp_standard::form;
 use mps_read::{Feed, Reader};
 use spec_commands::BasisFault;

@@ -2,7 +2,7 @@
 ghost use Rattle.std.specs.Prelude.{◌≡◌, ℕ, List, Option, OnOk, IfOk, IsErrOf};
 ghost use Rattle.lp_base.specs.Causes.{Rose};
 ghost use Rattle.spec_text.specs.declared.line.Line.{Line as exact_line};
-ghost use Rattle.lp_solve_out.specs.Prints.{Prints};
+ghost use Rattle.lp_text_commands.specs.Prints.{Prints};
 ghost use Rattle.lp_text_commands.specs.Hearing.{Agrees, HearsSo, SaysSo};
 ghost use Rattle.lp_text_commands.specs.Writing.{WritesSo};
 ghost use Rattle.spec_server.specs.Streams.{streams};

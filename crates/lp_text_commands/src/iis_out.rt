@@ -10,10 +10,11 @@ ghost use Rattle.spec_server.specs.Machine.{opening_budget};
 ghost use Rattle.spec_server.specs.Output.{ended_lines};
 ghost use Rattle.spec_commands.specs.IisOut.{IisOut, end_words, found_lines, iis_lines};
 ghost use Rattle.lp_frac.specs.Narrow.{largest};
-ghost use Rattle.lp_solve_out.specs.Prints.{Prints};
+ghost use Rattle.lp_text_commands.specs.Prints.{Prints};
 
 use crate::points::print_points;
 use crate::sides::print_sides;
+use crate::solve::print_answer;
 use lp_answer::OPENING_BUDGET;
 use lp_base::Bytes;
 use lp_certificate::cert_text;
@@ -22,7 +23,6 @@ use lp_iis::{Iis, Points, Sides, find, only};
 use lp_line::print_lines;
 use lp_model::Model;
 use lp_solve::End;
-use lp_solve_out::print_answer;
 use std::alloc::{AllocError, Global};
 
 /// Writes what a search of the model ends with, within the budget of a new session for each solve.

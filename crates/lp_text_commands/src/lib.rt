@@ -1,6 +1,6 @@
-//! The commands that read the text of a model from an input: to solve it, at 127 bits, at any width or by a smaller model,
-//! to check the certificate after it, to solve it from the basis of the file after it, at 127 bits or at any width, to find limits that contradict each
-//! other, and to range one of its numbers.
+//! The commands on the texts of models: to solve a text's model, at 127 bits, at any width or by a smaller model, to check
+//! the certificate after the text, to solve from the basis of the file after it, at 127 bits or at any width, to find limits
+//! that contradict each other, and to range one of its numbers. And the command that makes a model from a seed, and solves it.
 //!
 //! | Item | What it is | Where |
 //! |---|---|---|
@@ -15,16 +15,29 @@
 //! | `place_of` | the column or the row whose number is ranged, by its name | src/named |
 //! | `print_unknown` | writes that nothing has the name | src/named |
 //! | `print_ranged` | writes what a solve ends with, and the range | src/range_out |
-//! | `KeepsAtEnd` | the basis that an end leaves keeps the model | specs/Ends |
+//! | `KeepsAtEnd` | the basis that an end leaves keeps the model | specs/RangeEnds |
 //! | `print_iis` | writes what a search of a model ends with | src/iis_out |
 //! | `print_presolved` | writes what a solve of a model by a smaller one ends with | src/presolve_out |
 //! | `generate` | makes the model, and writes its size and what a solve of it ends with | src/made |
 //! | `Writes`, `TellsOfWriting` | what it writes, by its answer and by its status | specs/Generating |
+//! | `print_solved` | writes what a solve of a model ends with | src/solve |
+//! | `print_wide_solved` | writes what a wide solve of a model ends with | src/wide |
+//! | `print_answer` | writes the line of the answer that a solve ended with | src/solve |
+//! | `print_end` | writes it, and the certificate behind it | src/solve |
+//! | `Handed`, `Start` | a model, and the basis from which it is solved | src/basis_start |
+//! | `print_handed` | writes what a solve from the basis of a file ends with | src/basis_out |
+//! | `print_wide_handed` | the same of a wide solve | src/wide_basis |
+//! | `print_route`, `print_basis_fault` | writes how a solve from a basis went, and what is wrong with a basis file | src/bases |
+//! | `print_fault` | writes what is wrong with a text or a basis file | src/basis_out |
+//! | `Prints` | what is put after what was printed before | specs/Prints |
 #![tactic(auto)]
 
 mod based;
+mod bases;
 mod basis;
 mod basis_file;
+mod basis_out;
+mod basis_start;
 mod check;
 mod check_wide;
 mod exit_status;
@@ -38,9 +51,12 @@ mod presolve_out;
 mod range_out;
 mod ranged;
 mod sides;
+mod solve;
 mod tasked;
 mod text;
+mod wide;
+mod wide_basis;
 
-pub use made::generate;
 pub use exit_status::ExitStatus;
+pub use made::generate;
 pub use text::read_text;

@@ -3,11 +3,12 @@ ghost use Rattle.spec_commands.specs.SolveOut.{SolveOut, solve_code};
 ghost use Rattle.spec_commands.specs.BasisOut.{BasisOut, basis_code};
 
 use crate::basis::BasisSaid;
+use crate::basis_out::{print_fault, print_handed};
 use crate::exit_status::ExitStatus;
 use crate::hearing::Output;
+use crate::solve::print_solved;
 use lp_base::Bytes;
 use lp_line::{Refusal, Reply, TextSaid};
-use lp_solve_out::{print_fault, print_handed, print_solved};
 use std::alloc::{AllocError, Global};
 
 impl Output for TextSaid {

@@ -5,18 +5,22 @@ ghost use Rattle.spec_presolve.specs.declared.presolved.Way.TheVariants as ways;
 ghost use Rattle.spec_commands.specs.PresolveOut as out;
 ghost use Rattle.spec_server.specs.Machine.{opening_budget};
 ghost use Rattle.spec_solve.specs.Answers.{MayAnswer};
-ghost use Rattle.lp_solve_out.specs.Prints.{Prints};
+ghost use Rattle.lp_text_commands.specs.Prints.{Prints};
 
+use crate::solve::{print_answer, print_end};
 use lp_answer::OPENING_BUDGET;
 use lp_base::Bytes;
 use lp_model::Model;
 use lp_presolve::{Presolved, Way, Why, presolve};
 use lp_solve::End;
-use lp_solve_out::{print_answer, print_end};
 use std::alloc::{AllocError, Global};
 
 /// Writes which model a solve by a smaller one solved, and what it ends with.
-pub(crate) fn print_presolved(alloc: Global, model: &Model, to: &mut Bytes) -> Result<(), AllocError>
+pub(crate) fn print_presolved(
+    alloc: Global,
+    model: &Model,
+    to: &mut Bytes,
+) -> Result<(), AllocError>
     requires { IsModel model.now }
     ensures { OnOk result (Prints (out.PresolveOut (Ok model.now)) to.old to.new) }
 {

@@ -6,16 +6,16 @@ ghost use Rattle.spec_commands.specs.RangeOut.{PlaceOut, RangeOut, place_code, r
 ghost use Rattle.spec_server.specs.TextSaid.{TextSaid as exact_said};
 ghost use Rattle.spec_server.specs.Streams.{streams};
 ghost use Rattle.lp_line.specs.Stages.{TextSays};
-ghost use Rattle.lp_solve_out.specs.Prints.{Prints};
+ghost use Rattle.lp_text_commands.specs.Prints.{Prints};
 ghost use Rattle.lp_text_commands.specs.Hearing.{Agrees, SaysSo};
 
 use crate::exit_status::ExitStatus;
 use crate::hearing::{Output, hear_input, write_said};
+use crate::named::{place_of, print_unknown};
+use crate::range_out::print_ranged;
 use lp_base::{Bytes, Sink, Source};
 use lp_line::{Halt, Refusal, Reply, TextSaid};
 use lp_model::Model;
-use crate::named::{place_of, print_unknown};
-use crate::range_out::print_ranged;
 use mps_read::Reader;
 use spec_program::Moved;
 use std::alloc::{AllocError, Global};

@@ -5,18 +5,18 @@ ghost use Rattle.spec_model.specs.Kept.{IsModel};
 ghost use Rattle.spec_mps.specs.Reader.{start};
 ghost use Rattle.spec_server.specs.TextSaid.{text_said};
 ghost use Rattle.spec_server.specs.Streams.{streams};
-ghost use Rattle.lp_solve_out.specs.Prints.{Prints};
+ghost use Rattle.lp_text_commands.specs.Prints.{Prints};
 ghost use Rattle.lp_text_commands.specs.Hearing.{SaysSo};
 ghost use Rattle.lp_text_commands.specs.Tasked.{MayBeKept, TaskOut, task_code};
 
 use crate::exit_status::ExitStatus;
 use crate::hearing::{Output, hear_input, write_said};
-use lp_base::{Bytes, Sink, Source};
 use crate::iis_out::print_iis;
+use crate::presolve_out::print_presolved;
+use crate::wide::print_wide_solved;
+use lp_base::{Bytes, Sink, Source};
 use lp_line::{Halt, Refusal, Reply, TextSaid};
 use lp_model::Model;
-use crate::presolve_out::print_presolved;
-use lp_solve_out::print_wide_solved;
 use mps_read::Reader;
 use std::alloc::{AllocError, Global};
 

@@ -7,8 +7,8 @@
 //! | `Serving`, `plan` | which listeners a command line needs | `lp_command_line` |
 //! | `Does`, `DoesOver` | what a command line reads and writes, and does over its listeners | specs/Top |
 //!
-//! specs/Top says of a script what `lp_script` does, of a text what `lp_text_commands`, of a generated model what
-//! `lp_generate`, and of a server what `lp_serve`, in the words of the server's definitions.
+//! specs/Top says of a script what `lp_script` does, of a text and of a generated model what `lp_text_commands`, and of a
+//! server what `lp_serve`, in the words of the server's definitions.
 #![tactic(auto)]
 
 ghost use Rattle.std.specs.Prelude.{◌≡◌, ◌↔◌, map, string_bytes, vec_len, Some, None};
@@ -27,13 +27,12 @@ ghost use Rattle.spec_text_truth.specs.TrueOutput.{IsTrueOutput};
 use lp_base::{Sink, Source};
 use lp_command_line::command_line_of;
 pub use lp_command_line::{Serving, plan};
-use lp_text_commands::generate;
 use lp_link::Listen;
 use lp_script::run_script;
 pub use lp_script::{Gate, NeverHolds};
 use lp_serve::{ServeFault, serve};
 pub use lp_text_commands::ExitStatus;
-use lp_text_commands::read_text;
+use lp_text_commands::{generate, read_text};
 use spec_program::CommandLine;
 use std::alloc::Global;
 use std::sync::Wait;

@@ -1,4 +1,0 @@
--- Lemmas.
-pub mod Solving
-pub mod BasisPrints
-pub mod WideBasisPrints

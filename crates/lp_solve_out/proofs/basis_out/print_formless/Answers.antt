@@ -1,8 +1,0 @@
--- What a solve ends with, where there is no form.
-use Rattle.lp_solve_out.proofs.BasisPrints.{prints_formless}
-use Rattle.lp_solve_out.proofs.basis_out.print_formless.Goals as goal
-
-pub returns : goal.returns
-returns c =
-    prints_formless c.args.model.now c.requires.0 c.in_ok-solved.solved c.args.to.now c.print_end-printed.new.to
-    c.print_end-printed.result c.requires.1 c.in_ok-solved.ensures c.print_end-printed.ensures

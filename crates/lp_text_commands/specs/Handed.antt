@@ -1,0 +1,18 @@
+-- The model that is to be solved, and from where.
+use Rattle.std.specs.Prelude.{◌≡◌, Option, Some, None, option_map, Ok, Err}
+use Rattle.spec_exact.specs.Fraction.{ℚ}
+use Rattle.spec_model.specs.Model.{Model}
+use Rattle.spec_simplex.specs.declared.ends.FormFault.{FormFault}
+use Rattle.spec_simplex.specs.Form.{form_of}
+use Rattle.spec_simplex.specs.Eliminate.{IsBasisOf}
+use Rattle.spec_solve.specs.Answers.{number_limit}
+use Rattle.spec_commands.specs.BasisOut as reading
+use Rattle.lp_text_commands.specs.declared.basis_start.Start.{Start}
+
+abbrev pub handed_of : Model → Option Start → reading.Handed
+handed_of m start = record { model = m; basis = option_map (λ (s : Start). s.basis) start }
+
+-- the form is that of the model, and the basis is one of it; or the model has no form
+abbrev pub IsStartOf : Model → Option Start → Type 0
+IsStartOf m None = (why : FormFault ℚ) × (form_of (Some number_limit) m ≡ Err why)
+IsStartOf m (Some s) = (form_of (Some number_limit) m ≡ Ok s.form) × IsBasisOf s.form s.basis

@@ -1,0 +1,64 @@
+// The solve of a model.
+ghost use Rattle.std.specs.Prelude.{◌≡◌, ◌++◌, ℕ, Ok, OnOk};
+ghost use Rattle.spec_solve.specs.Answers.{MayAnswer};
+ghost use Rattle.spec_server.specs.Machine as machine;
+ghost use Rattle.spec_server.specs.Output.{check_line, ended_lines};
+ghost use Rattle.spec_commands.specs.SolveOut.{SolveOut, solved_lines};
+ghost use Rattle.spec_server.specs.declared.asks.Reply.TheVariants as replies;
+ghost use Rattle.lp_text_commands.specs.Prints.{Prints};
+
+use lp_answer::{OPENING_BUDGET, answer_of, certificate_lines, solved_within};
+use lp_base::Bytes;
+use lp_line::{Reply, print_lines, print_said};
+use lp_model::Model;
+use lp_solve::End;
+use std::alloc::{AllocError, Global};
+
+/// Writes what a solve of the model ends with.
+pub(crate) fn print_solved(alloc: Global, model: &Model, to: &mut Bytes) -> Result<(), AllocError>
+    ensures { OnOk result (Prints (SolveOut (Ok model.now)) to.old to.new) }
+{
+    let solved = solved_within(alloc, model, OPENING_BUDGET)?;
+    let printed = print_end(alloc, model, &solved.end, to);
+    drop(solved);
+    printed
+}
+
+/// Writes the answer that a solve within the budget of a new session ended with, and its certificate.
+#[tactic(auto, unfolding(spec_commands::specs::SolveOut::solved_lines))]
+pub(crate) fn print_end(
+    alloc: Global,
+    model: &Model,
+    end: &End,
+    to: &mut Bytes,
+) -> Result<(), AllocError>
+    requires { MayAnswer model.now machine.opening_budget end.now }
+    ensures { OnOk result (to.new ≡ to.old ++ solved_lines model.now end.now) }
+{
+    print_answer(alloc, end, to)?;
+    print_certificate(alloc, model, end, to)
+}
+
+/// Writes the line of the answer that a solve within the budget of a new session ended with.
+pub(crate) fn print_answer(alloc: Global, end: &End, to: &mut Bytes) -> Result<(), AllocError>
+    ensures { OnOk result (to.new ≡ to.old ++ check_line (replies.Answered (machine.answer_of machine.opening_budget end.now))) }
+{
+    let reply = Reply::Answered(answer_of(OPENING_BUDGET, end));
+    let printed = print_said(alloc, &reply, to);
+    drop(reply);
+    printed
+}
+
+/// Writes the lines of the certificate of a solve, none where it knows nothing of the model.
+pub(crate) fn print_certificate(
+    alloc: Global,
+    model: &Model,
+    end: &End,
+    to: &mut Bytes,
+) -> Result<(), AllocError>
+    requires { (budget : ℕ) × MayAnswer model.now budget end.now }
+    ensures { OnOk result (to.new ≡ to.old ++ ended_lines (machine.lines_of_solved model.now end.now)) }
+{
+    let lines = certificate_lines(alloc, model, end)?;
+    print_lines(&lines, to)
+}
