@@ -6,6 +6,8 @@
 //! | `Certificate` | what is given to show something of one model | src/certificate |
 //! | `Ratios` | a certificate's list of numbers | src/certificate |
 //! | `Verdict`, `Known` | what a check says, and what a certificate shows | src/certificate |
+//! | `activity`, `reduced`, `part` | a row's sum, a column's reduced cost, and a number of a list | src/point, src/multipliers, src/steps |
+//! | `limit_of`, `lower_limit`, `upper_limit`, `stands_at` | limits, and whether a number stands at one | src/limits, src/steps |
 //!
 //! The model's numbers are narrow. Nothing is refused but for want of memory, so a verdict is never `Past`. That an
 //! accepted certificate is true, and a true one accepted, are laws of `spec_check` about what the contract names.
@@ -22,3 +24,7 @@ mod steps;
 
 pub use certificate::{Certificate, Known, Ratios, Verdict};
 pub use conditions::check;
+pub use limits::{limit_of, lower_limit, upper_limit};
+pub use multipliers::reduced;
+pub use point::activity;
+pub use steps::{part, stands_at};

@@ -9,8 +9,8 @@ use lp_model::{Row, RowLimit, lower_of, upper_of};
 use lp_ratio::Ratio;
 use std::alloc::{AllocError, Global};
 
-// A limit, if there is one.
-pub(crate) fn limit_of(alloc: Global, bound: Option<Frac>) -> Result<Option<Ratio>, AllocError>
+/// A column's bound, if there is one.
+pub fn limit_of(alloc: Global, bound: Option<Frac>) -> Result<Option<Ratio>, AllocError>
     ensures { IfOk result (λ l. l ≡ bound) }
 {
     match bound {
@@ -54,16 +54,16 @@ fn taken(alloc: Global, limit: RowLimit) -> Result<Option<Ratio>, AllocError>
     }
 }
 
-// The least that the row's sum may be, if there is one.
-pub(crate) fn lower_limit(alloc: Global, row: &Row) -> Result<Option<Ratio>, AllocError>
+/// The least that the row's sum may be, if there is one.
+pub fn lower_limit(alloc: Global, row: &Row) -> Result<Option<Ratio>, AllocError>
     ensures { IfOk result (λ l. run.lower_run None row.now ≡ Ok l) }
 {
     let limit = taken(alloc, lower_of(row))?;
     Ok(limit)
 }
 
-// The most that the row's sum may be, if there is one.
-pub(crate) fn upper_limit(alloc: Global, row: &Row) -> Result<Option<Ratio>, AllocError>
+/// The most that the row's sum may be, if there is one.
+pub fn upper_limit(alloc: Global, row: &Row) -> Result<Option<Ratio>, AllocError>
     ensures { IfOk result (λ l. run.upper_run None row.now ≡ Ok l) }
 {
     let limit = taken(alloc, upper_of(row))?;

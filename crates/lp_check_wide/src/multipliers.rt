@@ -23,8 +23,8 @@ fn signed(sense: Sense, cost: Frac) -> Frac
     }
 }
 
-// What is left of the cost of column `j` without the multipliers' part.
-fn reduced(alloc: Global, model: &Model, y: &Ratios, j: u32) -> Result<Ratio, AllocError>
+/// What is left of the cost of column `j`, which is to be made least, without the multipliers' part.
+pub fn reduced(alloc: Global, model: &Model, y: &Ratios, j: u32) -> Result<Ratio, AllocError>
     requires inside { j < width model.now }
     requires multipliers { length y.now ≡ height model.now }
     ensures { IfOk result (λ d. run.reduced_run None model.now y.now j ≡ Ok d) }

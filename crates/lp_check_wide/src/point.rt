@@ -39,13 +39,8 @@ pub(crate) fn columns_within(alloc: Global, model: &Model, x: &Ratios) -> Result
     Ok(true)
 }
 
-// The sum of row `i`.
-pub(crate) fn activity(
-    alloc: Global,
-    model: &Model,
-    x: &Ratios,
-    i: u32,
-) -> Result<Ratio, AllocError>
+/// The sum of row `i`.
+pub fn activity(alloc: Global, model: &Model, x: &Ratios, i: u32) -> Result<Ratio, AllocError>
     requires inside { i < height model.now }
     requires point { length x.now ≡ width model.now }
     ensures { IfOk result (λ s. run.activity_run None model.now x.now i ≡ Ok s) }

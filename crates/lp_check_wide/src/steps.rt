@@ -8,8 +8,8 @@ use lp_frac::{Frac, is_zero, neg};
 use lp_ratio::Ratio;
 use std::alloc::{AllocError, Global};
 
-// The number of a certificate's list at `k`, counted from 0.
-pub(crate) fn part(z: &Ratios, k: u32) -> &Ratio
+/// The number of a certificate's list at `k`, counted from 0.
+pub fn part(z: &Ratios, k: u32) -> &Ratio
     requires { k < length z.now }
     ensures { result.now ≡ part_of z.now k }
 {
@@ -105,8 +105,8 @@ pub(crate) fn is_at_most(alloc: Global, limit: Option<Ratio>, v: &Ratio) -> Resu
     }
 }
 
-// The limit is there, and `v` stands at it.
-pub(crate) fn stands_at(alloc: Global, limit: Option<Ratio>, v: &Ratio) -> Result<bool, AllocError>
+/// The limit is there, and `v` stands at it.
+pub fn stands_at(alloc: Global, limit: Option<Ratio>, v: &Ratio) -> Result<bool, AllocError>
     ensures { IfOk result (λ b. b ≡ run.stands_at limit v.now) }
 {
     match limit {
