@@ -1,6 +1,6 @@
 -- What a solve ends with may be answered.
 use Rattle.std.proofs.Common.{◌≡◌, ℕ, List, Option, Some, None, IfSome, Result, Ok, Err, IfOk, option_map}
-use Rattle.std.proofs.Common.{refl, sym, subst}
+use Rattle.std.proofs.Common.{refl, sym, subst, ◌∙◌}
 use Rattle.spec_exact.specs.Fraction.{ℚ}
 use Rattle.spec_model.specs.Model.{Model}
 use Rattle.spec_check.specs.declared.certificate.Certificate.{Certificate}
@@ -22,6 +22,7 @@ use Rattle.spec_solve.proofs.Solves.{HasFitEnd, cold_solved, is_solved}
 use Rattle.spec_solve.proofs.Left.{solved_left}
 use Rattle.lp_frac.specs.Narrow.{largest}
 use Rattle.lp_solve.specs.Fit.{IsFit, IsWarmFit, LeavesBasis}
+use Rattle.lp_solve.specs.Stopped.{IsAfterStop}
 use Rattle.lp_solve.proofs.WarmRuns.{ends_warm, falls}
 
 fit_end : (m : Model) (end : ExactSolveEnd) → IsFit m end → HasFitEnd m end
@@ -48,6 +49,19 @@ module _ (budget : ℕ) (m : Model) (f : Form) (basis : List Status) (formed : f
   fall_solved stop w end e h may fit =
       handed_solved (record { end = end; route = route.Fell (fall_of stop) })
       (falls (Some largest) budget m f basis formed stop w end e h may) fit
+
+  pub after_solved : {E : Type 0} (stop : WarmStop ℚ) (w : WarmResult) (r : Result SolveEnd E) →
+      w ≡ warm.Stopped stop → w ≡ after_form (Some largest) budget m basis (Ok f) →
+      IfOk r (IsAfterStop budget m f stop) → IfOk r (IsSolved m budget (Some basis))
+  after_solved stop w (Ok s) e h after = after basis fits (sym h ∙ e)
+  after_solved stop w (Err why) e h after = tt
+
+-- ---- where the start from a basis has stopped
+pub after_stop : (budget : ℕ) (m : Model) (f : Form) (stop : WarmStop ℚ) (end : ExactSolveEnd) →
+    form_of (Some largest) m ≡ Ok f → MayEndCold (Some largest) budget m end → IsFit m end →
+    IsAfterStop budget m f stop (record { end = end; route = route.Fell (fall_of stop) })
+after_stop budget m f stop end formed may fit = λ basis fits stops.
+    fall_solved budget m f basis formed fits stop (warm.Stopped stop) end refl (sym stops) may fit
 
 -- ---- where nothing is handed
 pub nothing_solved : {B : Type 0} (budget : ℕ) (m : Model) (view : B → List Status) (handed : Option B)

@@ -1,5 +1,5 @@
 -- What runs over rows know, with numbers of any width.
-use Rattle.std.proofs.Common.{◌≡◌, ◌⊎◌, ℕ, List, Option, Some, None, Result, Ok, Err, IfOk, IfSome, sym, ap, ◌∙◌, subst}
+use Rattle.std.proofs.Common.{◌≡◌, ◌⊎◌, inl, inr, ℕ, List, Option, Some, None, Result, Ok, Err, IfOk, IfSome, sym, ap, ◌∙◌, subst}
 use Rattle.spec_exact.specs.Fraction.{ℚ}
 use Rattle.spec_exact.specs.declared.past.Past.{Past}
 use Rattle.spec_model.specs.Model.{Model}
@@ -10,6 +10,8 @@ use Rattle.spec_check.specs.Certificate.{IsFor}
 use Rattle.spec_check.specs.Run.{check_run}
 use Rattle.spec_pivot.specs.declared.status.Status.{Status}
 use Rattle.spec_simplex.specs.declared.ends.RunStop.{RunStop}
+use Rattle.spec_simplex.specs.declared.ends.WarmStop.{WarmStop}
+use Rattle.spec_simplex.specs.declared.ends.WarmStop.TheVariants as fall
 use Rattle.spec_simplex.specs.Eliminate.{IsBasisOf}
 use Rattle.spec_simplex.specs.Form.{Form, form_of}
 use Rattle.spec_simplex.specs.Phases.{PhasesEnd, phases_run}
@@ -30,7 +32,7 @@ use Rattle.lp_frac.specs.Narrow.{largest}
 use Rattle.lp_revised.specs.Runs.{over_end}
 use Rattle.lp_row_cold.specs.declared.phases.RowEnd.{RowEnd}
 use Rattle.lp_row_warm.specs.Warm.{EndsFromBasis}
-use Rattle.lp_solve.specs.Wide.{AcceptsEnd, IsCertified}
+use Rattle.lp_solve.specs.Wide.{AcceptsEnd, IsCertified, IsCertifiedAt}
 use Rattle.lp_solve.proofs.FromRows.{run_end}
 use Rattle.lp_solve.proofs.Left.{warm_leaves}
 use Rattle.lp_solve.proofs.Solved.{cold_is}
@@ -140,8 +142,35 @@ pub is_answer : (m : Model) (budget : ℕ) (handed : Option (List Status)) (solv
     IsSolved m budget handed solved → solved.end ≡ outcome.Past p →
     IsCertified m a × (IsWarmEnd m budget handed a ⊎ IsColdEnd m budget solved.route a) → IsWideAnswer m budget handed a
 is_answer m budget handed solved p a s e h = record {
-  past = record { solved = solved; past = p; is_solved = s; is_past = e };
   fits = h.0.fits;
   accepted = h.0.accepted;
-  ends = h.1;
+  found = inr (record { past = record { solved = solved; past = p; is_solved = s; is_past = e }; ends = h.1 });
 }
+
+-- that of a basis, where the start from it is refused an operation
+pub at_handed : (m : Model) (budget : ℕ) (basis : List Status) (f : Form) (p : Past ℚ) (a : ExactAnswer) →
+    form_of (Some largest) m ≡ Ok f →
+    warms.after_form (Some largest) budget m basis (Ok f) ≡ start.Stopped (fall.Past p) → IsCertifiedAt m basis a →
+    IsWideAnswer m budget (Some basis) a
+unfolding warm
+at_handed m budget basis f p a formed stops h = record {
+  fits = h.certified.fits;
+  accepted = h.certified.accepted;
+  found = inl (record {
+    refused = record { past = p; stops = ap (warms.after_form (Some largest) budget m basis) formed ∙ stops };
+    certificate = h.certificate;
+    basis = h.basis;
+    pivots = h.pivots;
+    route = h.route;
+  });
+}
+
+pub at_handed_known : {E : Type 0} (m : Model) (budget : ℕ) (basis : List Status) (f : Form) (stop : WarmStop ℚ)
+    (p : Past ℚ) (result : Result (Option ExactAnswer) E) → form_of (Some largest) m ≡ Ok f →
+    warms.after_form (Some largest) budget m basis (Ok f) ≡ start.Stopped stop → stop ≡ fall.Past p →
+    IfOk result (λ o. IfSome o (IsCertifiedAt m basis)) →
+    IfOk result (λ o. IfSome o (IsWideAnswer m budget (Some basis)))
+at_handed_known m budget basis f stop p (Ok (Some a)) formed stops is h =
+    at_handed m budget basis f p a formed (stops ∙ ap start.Stopped is) h
+at_handed_known m budget basis f stop p (Ok None) formed stops is h = tt
+at_handed_known m budget basis f stop p (Err e) formed stops is h = tt

@@ -1,4 +1,5 @@
 pub mod Begun
 pub mod Ends
 pub mod Fit
+pub mod Stopped
 pub mod Wide

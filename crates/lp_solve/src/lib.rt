@@ -9,6 +9,9 @@
 //! gives up, the next one has the whole budget. Which comes first is a choice of speed alone. Of an answer over rows the
 //! checker says yes to the certificate, as of each other.
 //!
+//! A wide solve from a basis whose start is refused an operation asks first for the certificate of the basis as it is
+//! (lp_lift), which no run has to find, and has it checked without a limit.
+//!
 //! | Item | What it is | Where |
 //! |---|---|---|
 //! | `solve`, `Solved` | the solve of a model, and how it ends | src/solving |
@@ -22,6 +25,7 @@
 //! | `Ended` | how both phases of a cold solve ended | src/phases |
 //! | `certificate_at`, `basis_at` | the certificate and the basis of an end | src/certificate, src/basis |
 //! | `IsFit`, `LeavesBasis` | what holds of the certificate of an answer, and of its basis | specs/Fit |
+//! | `IsAfterStop` | how a solve ends where the start from the basis has stopped | specs/Stopped |
 #![tactic(auto)]
 
 mod basis;

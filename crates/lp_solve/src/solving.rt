@@ -7,10 +7,11 @@ ghost use Rattle.spec_warm.specs.Solve as solve;
 ghost use Rattle.spec_solve.specs.Answers.{number_limit, IsSolved};
 ghost use Rattle.lp_frac.specs.Narrow.{largest};
 ghost use Rattle.lp_solve.specs.Fit.{LeavesBasis};
+ghost use Rattle.lp_solve.specs.Stopped.{IsAfterStop};
 
 use crate::cold::{End, answered};
 use crate::factors::cold_part;
-use crate::warm::{Warm, from_basis};
+use crate::warm::{Warm, WarmStop, from_basis};
 use lp_check::Certificate;
 use lp_form::{Basis, Form};
 use lp_frac::{Frac, Fracs, Stop};
@@ -18,8 +19,6 @@ use lp_model::Model;
 use lp_standard::form;
 use spec_warm::{Fall, Route};
 use std::alloc::{AllocError, Global};
-
-type WarmStop = spec_simplex::WarmStop<Frac>;
 
 /// How a solve ends.
 pub type Solved = spec_warm::Solved<Frac, Fracs, Basis>;
@@ -34,6 +33,23 @@ fn fall(stop: WarmStop) -> Fall
         WarmStop::Past(_) => Fall::Past,
         WarmStop::Spent => Fall::Spent,
     }
+}
+
+// From the start that each model has, where the one from a basis has stopped so.
+pub(crate) fn cold_after(
+    alloc: Global,
+    budget: u64,
+    model: &Model,
+    form: &Form,
+    stop: WarmStop,
+) -> Result<Solved, AllocError>
+    requires { form_of (Some largest) model.now ≡ Ok form.now }
+    ensures { IfOk result (IsAfterStop budget model.now form.now stop) }
+{
+    Ok(Solved {
+        end: cold_part(alloc, budget, model, form)?,
+        route: Route::Fell(fall(stop)),
+    })
 }
 
 // From the basis, and where that stops from the start that each model has.
@@ -54,19 +70,23 @@ fn warm_first(
             certificate,
             basis,
             pivots,
-        } => Ok(Solved {
-            end: End::Ended {
-                answer,
-                certificate,
-                basis,
-                pivots,
-            },
-            route: Route::Warm,
-        }),
-        Warm::Stopped(stop) => Ok(Solved {
-            end: cold_part(alloc, budget, model, form)?,
-            route: Route::Fell(fall(stop)),
-        }),
+        } => Ok(warm(End::Ended {
+            answer,
+            certificate,
+            basis,
+            pivots,
+        })),
+        Warm::Stopped(stop) => cold_after(alloc, budget, model, form, stop),
+    }
+}
+
+// From a basis.
+pub(crate) fn warm(end: End) -> Solved
+    ensures { result ≡ record { end = end; route = route.Warm } }
+{
+    Solved {
+        end,
+        route: Route::Warm,
     }
 }
 

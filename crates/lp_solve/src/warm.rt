@@ -20,10 +20,11 @@ use lp_model::Model;
 use lp_tableau::{RunStop, Tableau, start_from};
 use std::alloc::{AllocError, Global};
 
-type WarmStop = spec_simplex::WarmStop<Frac>;
-
 /// How a warm start ends.
 pub(crate) type Warm = spec_warm::Warm<Frac, Fracs, Basis>;
+
+/// Why it stops without an answer.
+pub(crate) type WarmStop = spec_simplex::WarmStop<Frac>;
 
 // A stop of the run as one of the warm start.
 fn run_stop(stop: RunStop) -> WarmStop

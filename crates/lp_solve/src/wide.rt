@@ -5,16 +5,19 @@ ghost use Rattle.spec_simplex.specs.Eliminate.{IsBasisOf};
 ghost use Rattle.spec_simplex.specs.Form.{form_of};
 ghost use Rattle.spec_warm.specs.declared.ends.Route.TheVariants as routes;
 ghost use Rattle.spec_solve.specs.Answers.{number_limit};
-ghost use Rattle.spec_solve.specs.Wide.{IsWarmEnd, IsColdEnd, IsWideSolved, IsWideFrom};
+ghost use Rattle.spec_solve.specs.Wide.{IsWarmEnd, IsColdEnd, IsWideSolved, IsWideAnswer, IsWideFrom};
 ghost use Rattle.lp_frac.specs.Narrow.{largest};
-ghost use Rattle.lp_solve.specs.Wide.{AcceptsEnd, IsCertified};
+ghost use Rattle.lp_solve.specs.Stopped.{StopsFrom};
+ghost use Rattle.lp_solve.specs.Wide.{AcceptsEnd, IsCertified, IsCertifiedAt};
 
 use crate::basis::basis_of;
 use crate::cold::End;
-use crate::solving::{Solved, solve, solve_formed};
+use crate::solving::{Solved, cold_after, solve, warm};
+use crate::warm::{Warm, WarmStop, from_basis};
 use lp_check_wide::{Ratios, Verdict, check};
-use lp_form::{Basis, Form};
+use lp_form::{Basis, Form, StatusList};
 use lp_frac::Stop;
+use lp_lift::certificate_of_basis;
 use lp_model::Model;
 use lp_ratio::Ratio;
 use lp_row_cold::{RowEnd, wide_cold};
@@ -166,10 +169,104 @@ pub fn solve_wide(alloc: Global, model: &Model, budget: u64) -> Result<WideSolve
     }
 }
 
-/// Solves the model as `solve_formed` does from a basis of its form. Only where that is refused an operation, it goes on
-/// over rows of whole numbers: from the basis, and where that comes to no answer from the start that each model has. The
-/// certificate of either may have numbers of any width, and is checked. Where neither comes to an answer, the refusal
-/// stays.
+// The answer of the basis, of which nothing is changed.
+fn at_basis(
+    alloc: Global,
+    model: &Model,
+    form: &Form,
+    basis: &Basis,
+) -> Result<Option<WideAnswer>, AllocError>
+    requires formed { form_of (Some largest) model.now ≡ Ok form.now }
+    requires fits { IsBasisOf form.now basis.now }
+    ensures { IfOk result (λ o. IfSome o (IsCertifiedAt model.now basis.now)) }
+{
+    let statuses = StatusList::from_slice(alloc, basis.as_slice())?;
+    match certificate_of_basis(alloc, model, form, basis.as_slice())? {
+        Some(certificate) => {
+            let end = RowEnd {
+                certificate,
+                basis: Some(statuses),
+                pivots: 0,
+            };
+            checked(alloc, model, form, end, Route::Warm)
+        }
+        None => Ok(None),
+    }
+}
+
+// The same where the start from the basis has stopped with an operation that is past the limit.
+fn at_refused(
+    alloc: Global,
+    model: &Model,
+    form: &Form,
+    budget: u64,
+    basis: &Basis,
+    stop: &WarmStop,
+) -> Result<Option<WideAnswer>, AllocError>
+    requires formed { form_of (Some largest) model.now ≡ Ok form.now }
+    requires fits { IsBasisOf form.now basis.now }
+    requires stops { StopsFrom budget model.now form.now basis.now stop.now }
+    ensures { IfOk result (λ o. IfSome o (IsWideAnswer model.now budget (Some basis.now))) }
+{
+    match stop {
+        WarmStop::Past(_) => at_basis(alloc, model, form, basis),
+        WarmStop::Singular | WarmStop::Unfit | WarmStop::Spent => Ok(None),
+    }
+}
+
+// From the start that each model has, where the one from the basis has stopped so.
+fn wide_after(
+    alloc: Global,
+    model: &Model,
+    budget: u64,
+    form: &Form,
+    basis: &Basis,
+    stop: WarmStop,
+) -> Result<WideBased, AllocError>
+    requires formed { form_of (Some largest) model.now ≡ Ok form.now }
+    requires fits { IsBasisOf form.now basis.now }
+    requires stops { StopsFrom budget model.now form.now basis.now stop }
+    ensures { IfOk result (IsWideFrom model.now budget (Some basis.now)) }
+{
+    let solved = cold_after(alloc, budget, model, form, stop)?;
+    match solved.end {
+        End::Past(_) => {}
+        End::Ended { .. } | End::Spent => return Ok(WideBased::Narrow(solved)),
+    }
+    match beyond_from(alloc, model, form, budget, basis, solved.route)? {
+        Some(found) => {
+            drop(solved);
+            Ok(WideBased::Wide(found))
+        }
+        None => Ok(WideBased::Narrow(solved)),
+    }
+}
+
+// What is known where the start from the basis has stopped so.
+fn stopped(
+    alloc: Global,
+    model: &Model,
+    budget: u64,
+    form: &Form,
+    basis: &Basis,
+    stop: WarmStop,
+) -> Result<WideBased, AllocError>
+    requires formed { form_of (Some largest) model.now ≡ Ok form.now }
+    requires fits { IsBasisOf form.now basis.now }
+    requires stops { StopsFrom budget model.now form.now basis.now stop }
+    ensures { IfOk result (IsWideFrom model.now budget (Some basis.now)) }
+{
+    match at_refused(alloc, model, form, budget, basis, &stop)? {
+        Some(found) => Ok(WideBased::Wide(found)),
+        None => wide_after(alloc, model, budget, form, basis, stop),
+    }
+}
+
+/// Solves the model as `solve_formed` does from a basis of its form. Where the start from the basis is refused an
+/// operation, it comes first to the answer of the basis as it is, without a run. Only where there is none, and the start
+/// that each model has is refused an operation too, it goes on over rows of whole numbers: from the basis, and where that
+/// comes to no answer from the start that each model has. Each certificate may have numbers of any width, and is checked.
+/// Where nothing comes to an answer, the refusal stays.
 pub fn solve_wide_from(
     alloc: Global,
     model: &Model,
@@ -181,16 +278,18 @@ pub fn solve_wide_from(
     requires fits { IsBasisOf form.now basis.now }
     ensures { IfOk result (IsWideFrom model.now budget (Some basis.now)) }
 {
-    let solved = solve_formed(alloc, model, budget, form, Some(basis))?;
-    match solved.end {
-        End::Past(_) => {}
-        End::Ended { .. } | End::Spent => return Ok(WideBased::Narrow(solved)),
-    }
-    match beyond_from(alloc, model, form, budget, basis, solved.route)? {
-        Some(found) => {
-            drop(solved);
-            Ok(WideBased::Wide(found))
-        }
-        None => Ok(WideBased::Narrow(solved)),
+    match from_basis(alloc, budget, model, form, basis)? {
+        Warm::Ended {
+            answer,
+            certificate,
+            basis,
+            pivots,
+        } => Ok(WideBased::Narrow(warm(End::Ended {
+            answer,
+            certificate,
+            basis,
+            pivots,
+        }))),
+        Warm::Stopped(stop) => stopped(alloc, model, budget, form, basis, stop),
     }
 }
