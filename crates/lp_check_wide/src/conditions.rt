@@ -2,10 +2,11 @@
 ghost use Rattle.std.specs.Prelude.{◌≡◌, IfOk, length};
 ghost use Rattle.spec_model.specs.Model.{width, height};
 ghost use Rattle.lp_check_wide.specs.Said.{Says};
-ghost use Rattle.spec_check.specs.declared.certificate.Certificate.TheVariants.{Optimal, Unbounded};
+ghost use Rattle.spec_check.specs.declared.certificate.Certificate.TheVariants.{Optimal, Infeasible, Unbounded};
 ghost use Rattle.spec_check.specs.Certificate.{IsFor};
 
 use crate::certificate::{Certificate, Known, Ratios, Verdict};
+use crate::common::brought;
 use crate::farkas::{clash, infeasible};
 use crate::multipliers::{columns_tight, rows_tight};
 use crate::point::{columns_within, rows_within, value};
@@ -59,6 +60,45 @@ fn unbounded(alloc: Global, model: &Model, x: &Ratios, r: &Ratios) -> Result<Ver
     Ok(Verdict::Yes(Known::Unbounded))
 }
 
+// The same of lists that are over one denominator each.
+fn optimal_brought(
+    alloc: Global,
+    model: &Model,
+    x: &Ratios,
+    y: &Ratios,
+) -> Result<Verdict, AllocError>
+    requires point { length x.now ≡ width model.now }
+    requires multipliers { length y.now ≡ height model.now }
+    ensures { IfOk result (Says model.now (Optimal x.now y.now)) }
+{
+    let point = brought(alloc, model, x)?;
+    let multipliers = brought(alloc, model, y)?;
+    optimal(alloc, model, &point, &multipliers)
+}
+
+fn infeasible_brought(alloc: Global, model: &Model, y: &Ratios) -> Result<Verdict, AllocError>
+    requires { length y.now ≡ height model.now }
+    ensures { IfOk result (Says model.now (Infeasible y.now)) }
+{
+    let multipliers = brought(alloc, model, y)?;
+    infeasible(alloc, model, &multipliers)
+}
+
+fn unbounded_brought(
+    alloc: Global,
+    model: &Model,
+    x: &Ratios,
+    r: &Ratios,
+) -> Result<Verdict, AllocError>
+    requires point { length x.now ≡ width model.now }
+    requires ray { length r.now ≡ width model.now }
+    ensures { IfOk result (Says model.now (Unbounded x.now r.now)) }
+{
+    let point = brought(alloc, model, x)?;
+    let ray = brought(alloc, model, r)?;
+    unbounded(alloc, model, &point, &ray)
+}
+
 /// Whether the certificate shows something of the model: `Yes` with what it shows, or `No` with the number of the first
 /// condition that fails. The conditions are those of `lp_check`, without a limit on any number.
 pub fn check(alloc: Global, model: &Model, cert: &Certificate) -> Result<Verdict, AllocError>
@@ -66,9 +106,9 @@ pub fn check(alloc: Global, model: &Model, cert: &Certificate) -> Result<Verdict
     ensures { IfOk result (Says model.now cert.now) }
 {
     match cert {
-        Certificate::Optimal { x, y } => optimal(alloc, model, x, y),
-        Certificate::Infeasible { y } => infeasible(alloc, model, y),
+        Certificate::Optimal { x, y } => optimal_brought(alloc, model, x, y),
+        Certificate::Infeasible { y } => infeasible_brought(alloc, model, y),
         Certificate::Clash(j) => clash(alloc, model, *j),
-        Certificate::Unbounded { x, r } => unbounded(alloc, model, x, r),
+        Certificate::Unbounded { x, r } => unbounded_brought(alloc, model, x, r),
     }
 }

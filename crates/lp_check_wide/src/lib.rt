@@ -10,10 +10,13 @@
 //! | `limit_of`, `lower_limit`, `upper_limit`, `stands_at` | limits, and whether a number stands at one | src/limits, src/steps |
 //!
 //! The model's numbers are narrow. Nothing is refused but for want of memory, so a verdict is never `Past`. That an
-//! accepted certificate is true, and a true one accepted, are laws of `spec_check` about what the contract names.
+//! accepted certificate is true, and a true one accepted, are laws of `spec_check` about what the contract names. Before the
+//! conditions run, a list whose denominators are long and mostly parts of one is brought on that: its numbers stay the same, and
+//! their sums stay short.
 #![tactic(auto)]
 
 mod certificate;
+mod common;
 mod conditions;
 mod farkas;
 mod limits;
