@@ -15,8 +15,8 @@ links, the next one is started.
 - After the last round the server has as many descriptors as before the first, and hardly more memory than in the middle. (At
   first each worker's share grows to what the largest sessions take.)
 
-A client that gets no connection, or whose link is reset before its first reply, as the system does where its queue is full
-for long, is tried again, and counted. It tells of each round on standard error, prints two lines of counts for each server,
+A client that gets no connection, or whose link is reset and was none that the server had, as the system does where its queue is
+full for long, is tried again, and counted. It tells of each round on standard error, prints two lines of counts for each server,
 and has status 1 where something is wrong.
 """
 from __future__ import annotations
@@ -230,6 +230,9 @@ class Round:
         self.dice = random.Random(seed)
         self.counts: Counter[str] = Counter()
         self.good: Set[str] = set()
+        # The links that were made, by their names, and the good ones that were reset.
+        self.made: Counter[str] = Counter()
+        self.reset: Set[str] = set()
         self.wrong: List[str] = []
         self.checked: Dict[Tuple[bytes, bytes, bytes], bool] = {}
 
@@ -253,7 +256,9 @@ class Round:
         for _ in range(TRIES):
             local = (f"127.0.0.{dice.randint(2, 250)}", 0)
             try:
-                return Client(*await asyncio.open_connection(HOST, self.server.port, local_addr=local, limit=2**20))
+                client = Client(*await asyncio.open_connection(HOST, self.server.port, local_addr=local, limit=2**20))
+                self.made[client.name] += 1
+                return client
             except OSError as why:
                 self.counts[f"not connected, {errno.errorcode.get(why.errno or 0)}"] += 1
         raise Wrong(f"no connection in {TRIES} tries")
@@ -267,6 +272,7 @@ class Round:
                 got = await way(client, session)
             except ConnectionResetError:
                 self.counts["reset before a reply"] += 1
+                self.reset.add(client.name)
                 continue
             finally:
                 client.writer.transport.abort()
@@ -336,6 +342,8 @@ class Served:
         self.each, self.links = each, WORKERS * each
         self.counts: Counter[str] = Counter()
         self.good: Set[str] = set()
+        self.made: Counter[str] = Counter()
+        self.reset: Set[str] = set()
         self.wrong: List[str] = []
         self.sizes: List[Size] = []
         dice = random.Random(seed)
@@ -359,6 +367,8 @@ class Served:
         asyncio.run(one.run())
         self.counts += one.counts
         self.good |= one.good
+        self.made += one.made
+        self.reset |= one.reset
         self.wrong += one.wrong
         size = settled(server, descriptors)
         if size:
@@ -386,6 +396,9 @@ class Served:
         if status != 0 or len(lines) != self.links or not set(words) <= WORDS:
             self.wrong.append(f"the server ends with status {status}, {len(lines)} lines and the words {dict(words)}")
         self.wrong += [f"a good link ended with {ends.get(name)}" for name in self.good if "DONE" not in ends.get(name, set())]
+        # Where the system's queue was full for long, the server has never had the link.
+        had = [name for name in self.reset if name in ends and self.made[name] == 1]
+        self.wrong += [f"a good link was reset, and ended with {ends[name]}" for name in had]
         self.judge_size(before)
         rounds = len(self.sizes)
         first, middle, last = (self.sizes[0], self.sizes[rounds // 2], self.sizes[-1]) if rounds else (None, None, None)
