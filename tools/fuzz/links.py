@@ -1,23 +1,27 @@
 #!/usr/bin/env python3
 """Has lpd serve many clients at once over TCP, half of them bad, and checks what the good ones get and that the server stays small.
 
-    links.py PROGRAM [--seconds S] [--clients N] [--every S] [--each C] [--seed WORD]
+    links.py PROGRAM [--seconds S] [--clients N] [--every S] [--each C] [--seed WORD] [--stay]
 
 Round after round N clients (1,000) connect at once to 'PROGRAM serve' with 16 workers, until S seconds (30) are over; rounds
 begin at least --every seconds (0) after each other. Each worker serves C links (1,000); when a server has served all of its
 links, the next one is started.
+
+With --stay the N clients are there all the time, and not in rounds, before one server: a client that ends comes again at once. Its
+links are spread over the S seconds: a good client pauses between its commands, of which it has more, or behind the first of them,
+and a bad one stays as long in the midst of what it does.
 
 - Good clients ask a session of fuzz.py's makers, command by command, or all at once. Some send more behind their QUIT. Their
   replies are those of 'PROGRAM run' to the same session alone, but for the words of HOW, the lines of CERT, and answers in
   place of PAST or SPENT; each answer is accepted by the checker in Python. Then the link ends, without a reset, with DONE.
 - Bad ones are silent, are cut off, flood the server, send more than 2^26 bytes, reset their link in the midst of a reply,
   send a byte at a time, speak HTTP or TLS, or send bytes at random. Their links end by any word but MEMORY.
-- After the last round the server has as many descriptors as before the first, and hardly more memory than in the middle. (At
-  first each worker's share grows to what the largest sessions take.)
+- At the end the server has as many descriptors as at the start, never more than one for each worker besides, and hardly more
+  memory than in the middle. (At first each worker's share grows to what the largest sessions take.)
 
 A client that gets no connection, or whose link is reset and was none that the server had, as the system does where its queue is
-full for long, is tried again, and counted. It tells of each round on standard error, prints two lines of counts for each server,
-and has status 1 where something is wrong.
+full for long, is tried again, and counted. It tells of each round, or of each sixtieth of the time, on standard error, prints two
+lines of counts for each server, and has status 1 where something is wrong.
 """
 from __future__ import annotations
 
@@ -51,8 +55,11 @@ WORKERS = 16
 # How long a client waits for each reply, and how often it connects anew where the system makes no connection, or breaks it
 # off before the first reply.
 SECONDS, TRIES = 600.0, 8
-# How long a bad peer stays at most.
+# How long a bad peer of a round stays at most.
 STAYS = 0.5
+# Of clients that stay: how often one connects anew, since each of the others does so too; of how many made sessions one of theirs
+# is; and how often they are looked at.
+TRIES_OF_MANY, PARTS, LOOKS = 64, 5, 60
 # How many sessions the good clients of a server draw from: a tenth of its clients at once, and at least so many.
 SESSIONS = 20
 # How much memory a server may gain from the middle of its rounds to the last: of what it had, and in KiB.
@@ -77,11 +84,16 @@ class Session(NamedTuple):
     replies: List[Reply]
 
 
-def session_of(program: str, dice: random.Random) -> Session:
+def script_of(dice: random.Random, parts: int) -> bytes:
+    """Made sessions one behind the other, each up to the first QUIT, and then QUIT."""
+    made = (Makers(dice).session(alone=True) + b"1 QUIT\n" for _ in range(parts))
+    return probed(b"".join(one[: one.index(b"1 QUIT\n")] for one in made) + b"1 QUIT\n")
+
+
+def session_of(program: str, dice: random.Random, parts: int) -> Session:
     """A session that ends with QUIT, and not in a body that swallows it. None of its lines is too long by its number alone."""
     while True:
-        script = probed(Makers(dice).session(alone=True) + b"1 QUIT\n")
-        script = script[: script.index(b"1 QUIT\n") + len(b"1 QUIT\n")]
+        script = script_of(dice, parts)
         if any(len(line) > LONGEST >= len(OWN.sub(b"", line)) for line in script.split(b"\n")):
             continue
         done = subprocess.run([program, "run"], input=script, capture_output=True)
@@ -110,6 +122,10 @@ class Client:
             line += await asyncio.wait_for(self.reader.readline(), SECONDS)
         return line
 
+    async def ask(self, command: bytes) -> bytes:
+        await self.send(command)
+        return await self.reply()
+
     async def send(self, piece: bytes) -> None:
         self.writer.write(piece)
         await asyncio.wait_for(self.writer.drain(), SECONDS)
@@ -119,48 +135,60 @@ class Client:
         self.writer.transport.abort()
 
 
-# ---- good clients: each gives what it got
+# ---- good clients: each gives what it got, and has its worker for so many seconds more than it takes
 
 
-async def asks_in_turn(client: Client, session: Session) -> bytes:
+async def asks_in_turn(client: Client, session: Session, stays: float) -> bytes:
     got = b""
     for ask in session.asks:
-        await client.send(ask)
-        got += await client.reply()
+        got += await client.ask(ask)
+        await asyncio.sleep(stays / len(session.asks))
     return got + await client.rest()
 
 
-async def asks_at_once(client: Client, session: Session) -> bytes:
-    client.writer.write(b"".join(session.asks))
-    return await client.rest()
+async def asks_at_once(client: Client, session: Session, stays: float) -> bytes:
+    got, asks = await begun(client, session, stays)
+    client.writer.write(asks)
+    return got + await client.rest()
 
 
-async def asks_on_behind_its_quit(client: Client, session: Session) -> bytes:
+async def asks_on_behind_its_quit(client: Client, session: Session, stays: float) -> bytes:
     """More than the server reads at a time is sent behind QUIT, and nothing is read before."""
-    client.writer.write(b"".join(session.asks) + b"SOLVE\n" * 2_000)
+    got, asks = await begun(client, session, stays)
+    client.writer.write(asks + b"SOLVE\n" * 2_000)
     await asyncio.sleep(0.05)
-    return await client.rest()
+    return got + await client.rest()
 
 
-GOOD: List[Callable[[Client, Session], Awaitable[bytes]]] = [asks_in_turn, asks_at_once, asks_on_behind_its_quit]
+async def begun(client: Client, session: Session, stays: float) -> Tuple[bytes, bytes]:
+    """What came so far, and what is left to ask. A client that stays has a worker when its first command is answered."""
+    if not stays:
+        return b"", b"".join(session.asks)
+    got = await client.ask(session.asks[0])
+    await asyncio.sleep(stays)
+    return got, b"".join(session.asks[1:])
+
+
+GOOD: List[Callable[[Client, Session, float], Awaitable[bytes]]] = [asks_in_turn, asks_at_once, asks_on_behind_its_quit]
 
 # ---- bad ones
 
 
-async def is_silent(client: Client, session: Session, dice: random.Random) -> None:
-    await asyncio.sleep(dice.uniform(0, STAYS))
+async def is_silent(client: Client, session: Session, dice: random.Random, stays: float) -> None:
+    await asyncio.sleep(stays or dice.uniform(0, STAYS))
 
 
-async def is_cut_off(client: Client, session: Session, dice: random.Random) -> None:
+async def is_cut_off(client: Client, session: Session, dice: random.Random, stays: float) -> None:
     script = b"".join(session.asks)
     await client.send(script[: dice.randrange(len(script))])
+    await asyncio.sleep(stays)
 
 
-async def floods(client: Client, session: Session, dice: random.Random) -> None:
+async def floods(client: Client, session: Session, dice: random.Random, stays: float) -> None:
     """It asks and never reads, until nothing more is taken or it has had enough."""
     await client.send(session.asks[0])
     try:
-        async with asyncio.timeout(STAYS):
+        async with asyncio.timeout(STAYS + stays):
             for _ in range(100):
                 client.writer.write(b"WRITE FREE\n" * 2_000)
                 await client.writer.drain()
@@ -168,7 +196,7 @@ async def floods(client: Client, session: Session, dice: random.Random) -> None:
         client.reset()
 
 
-async def sends_too_much(client: Client, session: Session, dice: random.Random) -> None:
+async def sends_too_much(client: Client, session: Session, dice: random.Random, stays: float) -> None:
     """The reply to its first command comes, and then the end, though more was sent than is read."""
     asks = session.asks[0] + b"x" * 2**16
     sends = asyncio.create_task(sends_all(client, asks, MOST + 2**20))
@@ -185,45 +213,53 @@ async def sends_all(client: Client, first: bytes, size: int) -> None:
         await client.writer.drain()
 
 
-async def resets_in_a_reply(client: Client, session: Session, dice: random.Random) -> None:
+async def resets_in_a_reply(client: Client, session: Session, dice: random.Random, stays: float) -> None:
     client.writer.write(b"".join(session.asks))
     await asyncio.wait_for(client.reader.read(dice.randint(1, 40)), SECONDS)
+    await asyncio.sleep(stays)
     client.reset()
 
 
-async def is_slow(client: Client, session: Session, dice: random.Random) -> None:
+async def is_slow(client: Client, session: Session, dice: random.Random, stays: float) -> None:
     for byte in b"".join(session.asks)[: dice.randint(1, 100)]:
         await client.send(bytes([byte]))
-        await asyncio.sleep(STAYS / 100)
+        await asyncio.sleep((STAYS + stays) / 100)
 
 
-async def speaks(client: Client, text: bytes) -> None:
+async def speaks(client: Client, text: bytes, stays: float) -> None:
     """Each line that is answered has a line that docs/PROTOCOL.md knows."""
     client.writer.write(text)
     await client.writer.drain()
+    await asyncio.sleep(stays)
     client.writer.write_eof()
     replies_of(await client.rest(), numbered=False)
 
 
-async def speaks_http(client: Client, session: Session, dice: random.Random) -> None:
-    await speaks(client, HTTP)
+async def speaks_http(client: Client, session: Session, dice: random.Random, stays: float) -> None:
+    await speaks(client, HTTP, stays)
 
 
-async def speaks_tls(client: Client, session: Session, dice: random.Random) -> None:
-    await speaks(client, TLS)
+async def speaks_tls(client: Client, session: Session, dice: random.Random, stays: float) -> None:
+    await speaks(client, TLS, stays)
 
 
-async def speaks_bytes(client: Client, session: Session, dice: random.Random) -> None:
-    await speaks(client, re.sub(rb"(?m)^[1-9] ", b"", Makers(dice).made(dice.choice(["bytes", "lines"]))))
+async def speaks_bytes(client: Client, session: Session, dice: random.Random, stays: float) -> None:
+    text = re.sub(rb"(?m)^[1-9] ", b"", Makers(dice).made(dice.choice(["bytes", "lines"])))
+    await speaks(client, text, stays)
 
 
-BAD = [is_silent, is_cut_off, floods, resets_in_a_reply, is_slow, speaks_http, speaks_tls, speaks_bytes]
+Peer = Callable[[Client, Session, random.Random, float], Awaitable[None]]
+BAD: List[Peer] = [is_silent, is_cut_off, floods, resets_in_a_reply, is_slow, speaks_http, speaks_tls, speaks_bytes]
+# What these say first is answered by nothing that they wait for, so that they do not hear when a worker has their link.
+STRANGERS: List[Peer] = [is_silent, speaks_http, speaks_tls, speaks_bytes]
 
 # ---- rounds
 
 
 class Round:
     """Clients that connect at once: so many good ones, and as many bad ones."""
+
+    tries = TRIES
 
     def __init__(self, server: Server, sessions: List[Session], seed: str, clients: int) -> None:
         self.server, self.sessions, self.clients = server, sessions, clients
@@ -235,10 +271,16 @@ class Round:
         self.reset: Set[str] = set()
         self.wrong: List[str] = []
         self.checked: Dict[Tuple[bytes, bytes, bytes], bool] = {}
+        # The server's, while the clients are there.
+        self.sizes: List[Size] = []
 
     async def run(self) -> None:
         plans = [self.client(number, random.Random(self.dice.getrandbits(64))) for number in range(self.clients)]
         await asyncio.gather(*plans)
+
+    def stays(self, dice: random.Random) -> float:
+        """For how many seconds more than it takes a link is to have its worker."""
+        return 0.0
 
     async def client(self, number: int, dice: random.Random) -> None:
         session = dice.choice(self.sessions)
@@ -246,14 +288,15 @@ class Round:
             if number % 2 == 0:
                 await self.good_client(session, dice)
             else:
-                await self.bad_client(sends_too_much if number == 1 else BAD[number // 2 % len(BAD)], session, dice)
+                peer = sends_too_much if number % self.clients == 1 else BAD[number // 2 % len(BAD)]
+                await self.bad_client(peer, session, dice)
         except (Wrong, Untrue, Unknown, TimeoutError, OSError) as why:
             self.counts["wrong"] += 1
             self.wrong.append(f"{type(why).__name__}: {why}")
 
     async def connect(self, dice: random.Random) -> Client:
         """A link, once the system makes one: while the server's queue is full it gives up after two minutes."""
-        for _ in range(TRIES):
+        for _ in range(self.tries):
             local = (f"127.0.0.{dice.randint(2, 250)}", 0)
             try:
                 client = Client(*await asyncio.open_connection(HOST, self.server.port, local_addr=local, limit=2**20))
@@ -261,15 +304,15 @@ class Round:
                 return client
             except OSError as why:
                 self.counts[f"not connected, {errno.errorcode.get(why.errno or 0)}"] += 1
-        raise Wrong(f"no connection in {TRIES} tries")
+        raise Wrong(f"no connection in {self.tries} tries")
 
     async def good_client(self, session: Session, dice: random.Random) -> None:
         way = dice.choice(GOOD)
-        for _ in range(TRIES):
+        for _ in range(self.tries):
             client = await self.connect(dice)
             got = b""
             try:
-                got = await way(client, session)
+                got = await way(client, session, self.stays(dice))
             except ConnectionResetError:
                 self.counts["reset before a reply"] += 1
                 self.reset.add(client.name)
@@ -283,15 +326,18 @@ class Round:
                 return
         raise Wrong("a good client has no reply")
 
-    async def bad_client(self, peer: Callable[[Client, Session, random.Random], Awaitable[None]], session: Session, dice: random.Random) -> None:
+    async def bad_client(self, peer: Peer, session: Session, dice: random.Random) -> None:
         client = await self.connect(dice)
         try:
-            await peer(client, session, dice)
+            await self.misbehaves(peer, client, session, dice)
         except OSError:
             self.counts["bad, broken off"] += 1
         finally:
             client.writer.transport.abort()  # whatever it has not sent
         self.counts["bad"] += 1
+
+    async def misbehaves(self, peer: Peer, client: Client, session: Session, dice: random.Random) -> None:
+        await peer(client, session, dice, 0.0)
 
     def compare(self, session: Session, got: bytes, way: str) -> None:
         replies = replies_of(got, numbered=False)
@@ -305,6 +351,51 @@ class Round:
         for reply in replies:
             answers.take(reply)
         self.counts["answers"] += answers.checked
+
+
+class Crowd(Round):
+    """Clients that are there all the time. A link stays as long as has these many links last until the seconds are over."""
+
+    tries = TRIES_OF_MANY
+
+    def __init__(self, server: Server, sessions: List[Session], seed: str, clients: int, links: int, seconds: float) -> None:
+        super().__init__(server, sessions, seed, clients)
+        self.links, self.until, self.every = links, time.monotonic() + seconds, seconds / LOOKS
+        # How many links have ended, and how long a client waited for its worker, as far as was seen last.
+        self.ended, self.waited = 0, 0.0
+
+    async def run(self) -> None:
+        looks = asyncio.create_task(self.look())
+        await asyncio.gather(*(self.comes(number, random.Random(self.dice.getrandbits(64))) for number in range(self.clients)))
+        looks.cancel()
+
+    async def comes(self, number: int, dice: random.Random) -> None:
+        """Client after client, the first of which has this number."""
+        while time.monotonic() < self.until and self.ended < self.links:
+            await self.client(number, random.Random(dice.getrandbits(64)))
+            number += self.clients + 2
+
+    async def look(self) -> None:
+        while True:
+            await asyncio.sleep(self.every)
+            self.ended = self.server.said().count("\n") - 1
+            size = size_of(self.server)
+            self.sizes += [size] if size else []
+            print(f"{self.ended} links, {size}, {dict(self.counts)}", file=sys.stderr, flush=True)
+
+    def stays(self, dice: random.Random) -> float:
+        left = max(0.0, self.until - time.monotonic())
+        return dice.uniform(0, 2) * left * WORKERS / max(WORKERS, self.links - self.ended)
+
+    async def misbehaves(self, peer: Peer, client: Client, session: Session, dice: random.Random) -> None:
+        """It begins when a worker has the link. A stranger does not hear of that, and waits as long as the last client that did."""
+        stays, began = self.stays(dice), time.monotonic()
+        if stays and peer in STRANGERS:
+            stays += self.waited
+        elif stays:
+            await client.ask(session.asks[0])
+            self.waited = time.monotonic() - began
+        await peer(client, session, dice, stays)
 
 
 class Size(NamedTuple):
@@ -337,9 +428,11 @@ def settled(server: Server, descriptors: int) -> Optional[Size]:
 class Served:
     """One server, from its start to its end."""
 
-    def __init__(self, program: str, seed: str, clients: int, each: int, every: float, until: float) -> None:
-        self.program, self.seed, self.clients, self.every, self.until = program, seed, clients, every, until
-        self.each, self.links = each, WORKERS * each
+    def __init__(self, words: argparse.Namespace, seed: str, until: float) -> None:
+        self.words, self.seed, self.clients, self.until = words, seed, words.clients, until
+        # How many links it gives, and how many of them clients take that come again: the others are for the last that came.
+        self.links = WORKERS * words.each
+        self.taken = self.links - self.clients - self.clients // 2
         self.counts: Counter[str] = Counter()
         self.good: Set[str] = set()
         self.made: Counter[str] = Counter()
@@ -347,23 +440,35 @@ class Served:
         self.wrong: List[str] = []
         self.sizes: List[Size] = []
         dice = random.Random(seed)
-        self.sessions = [session_of(program, dice) for _ in range(max(SESSIONS, clients // 10))]
+        parts = PARTS if words.stay else 1
+        self.sessions = [session_of(words.program, dice, parts) for _ in range(max(SESSIONS, self.clients // 10))]
 
     def serve(self) -> None:
-        with Server([self.program], WORKERS, self.each) as server:
+        with Server([self.words.program], WORKERS, self.words.each) as server:
             before = size_of(server)
-            for number in range((self.links - self.clients // 2) // self.clients):
-                began = time.monotonic()
-                if number and began > self.until:
-                    break
-                self.round(server, number, before.descriptors if before else 0)
-                time.sleep(max(0.0, min(began + self.every, self.until) - time.monotonic()))
+            descriptors = before.descriptors if before else 0
+            if self.words.stay:
+                self.crowd(server, descriptors)
+            else:
+                self.rounds(server, descriptors)
             self.finish(server)
             self.judge(server, before)
 
-    def round(self, server: Server, number: int, descriptors: int) -> None:
+    def crowd(self, server: Server, descriptors: int) -> None:
+        one = Crowd(server, self.sessions, self.seed, self.clients, self.taken, self.words.seconds)
+        self.have("crowd", one, server, descriptors)
+
+    def rounds(self, server: Server, descriptors: int) -> None:
+        for number in range((self.links - self.clients // 2) // self.clients):
+            began = time.monotonic()
+            if number and began > self.until:
+                break
+            one = Round(server, self.sessions, f"{self.seed}:{number}", self.clients)
+            self.have(f"round {number + 1}", one, server, descriptors)
+            time.sleep(max(0.0, min(began + self.words.every, self.until) - time.monotonic()))
+
+    def have(self, name: str, one: Round, server: Server, descriptors: int) -> None:
         began = time.monotonic()
-        one = Round(server, self.sessions, f"{self.seed}:{number}", self.clients)
         asyncio.run(one.run())
         self.counts += one.counts
         self.good |= one.good
@@ -371,10 +476,9 @@ class Served:
         self.reset |= one.reset
         self.wrong += one.wrong
         size = settled(server, descriptors)
-        if size:
-            self.sizes.append(size)
+        self.sizes += [*one.sizes, *([size] if size else [])]
         took = time.monotonic() - began
-        print(f"round {number + 1}: {took:.1f} s, {size}, {dict(one.counts)}", file=sys.stderr, flush=True)
+        print(f"{name}: {took:.1f} s, {size}, {dict(one.counts)}", file=sys.stderr, flush=True)
 
     def finish(self, server: Server) -> None:
         """Links that only quit, until the server has served all of its own."""
@@ -400,10 +504,10 @@ class Served:
         had = [name for name in self.reset if name in ends and self.made[name] == 1]
         self.wrong += [f"a good link was reset, and ended with {ends[name]}" for name in had]
         self.judge_size(before)
-        rounds = len(self.sizes)
-        first, middle, last = (self.sizes[0], self.sizes[rounds // 2], self.sizes[-1]) if rounds else (None, None, None)
-        print(f"links {len(lines)}: {dict(words)}; clients in {rounds} rounds: {dict(self.counts)}; {len(self.wrong)} wrong")
-        print(f"  before {before}, after the first round {first}, in the middle {middle}, after the last {last}", flush=True)
+        sizes, what = len(self.sizes), "looks" if self.words.stay else "rounds"
+        first, middle, last = (self.sizes[0], self.sizes[sizes // 2], self.sizes[-1]) if sizes else (None, None, None)
+        print(f"links {len(lines)}: {dict(words)}; clients in {sizes} {what}: {dict(self.counts)}; {len(self.wrong)} wrong")
+        print(f"  before {before}, after the first of the {what} {first}, in the middle {middle}, after the last {last}", flush=True)
         for why, count in Counter(self.wrong).most_common(10):
             print(f"  {count} times: {why}")
 
@@ -411,10 +515,11 @@ class Served:
         if not before or not self.sizes:
             return
         middle, last = self.sizes[len(self.sizes) // 2], self.sizes[-1]
-        if last.descriptors != before.descriptors:
-            self.wrong.append(f"{last.descriptors} descriptors in place of {before.descriptors}")
+        most = max(size.descriptors for size in self.sizes)
+        if last.descriptors != before.descriptors or most > before.descriptors + WORKERS:
+            self.wrong.append(f"{last.descriptors} descriptors, {most} at most, in place of {before.descriptors}")
         if last.memory > middle.memory * (1 + GAIN) + GAIN_KIB:
-            self.wrong.append(f"{last.memory} KiB after the last round, and {middle.memory} KiB in the middle")
+            self.wrong.append(f"{last.memory} KiB at the end, and {middle.memory} KiB in the middle")
 
 
 def main() -> int:
@@ -425,13 +530,16 @@ def main() -> int:
     parser.add_argument("--each", metavar="C", type=int, default=1000)
     parser.add_argument("--every", metavar="S", type=float, default=0.0)
     parser.add_argument("--seed", metavar="WORD", default=datetime.datetime.now(datetime.timezone.utc).strftime("%Y-%m-%d"))
+    parser.add_argument("--stay", action="store_true")
     words = parser.parse_args()
+    if words.stay and WORKERS * words.each < 2 * words.clients:
+        parser.error("with --stay the workers need two links for each client, or more")
     hard = resource.getrlimit(resource.RLIMIT_NOFILE)[1]
     resource.setrlimit(resource.RLIMIT_NOFILE, (hard, hard))
     until, number, wrong = time.monotonic() + words.seconds, 0, 0
     print(f"seed {words.seed}", flush=True)
-    while number == 0 or time.monotonic() < until:
-        served = Served(words.program, f"{words.seed}:{number}", words.clients, words.each, words.every, until)
+    while number == 0 or (time.monotonic() < until and not words.stay):
+        served = Served(words, f"{words.seed}:{number}", until)
         served.serve()
         wrong += len(served.wrong)
         number += 1
