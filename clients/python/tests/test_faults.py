@@ -1,4 +1,5 @@
 """The faults of mutated texts: those that convert names, and those that the program does."""
+import functools
 import random
 import unittest
 from pathlib import Path
@@ -43,8 +44,9 @@ def mutated(dice: random.Random, text: str) -> str:
     return "\n".join(lines)
 
 
+@functools.lru_cache(maxsize=None)
 def by_convert(text: str, fixed: bool) -> "Tuple[bool, Found]":
-    """Whether convert says that the text is none of a linear program, and else its fault."""
+    """Whether convert says that the text is none of a linear program, and else its fault. Two tests ask it of the same texts."""
     try:
         lpd.convert(text.encode(), "fixed" if fixed else "free", lpd.Options(relax=True, no_set="own", no_bound="none"))
     except lpd.TextFault as fault:

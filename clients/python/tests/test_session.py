@@ -1,5 +1,6 @@
 """Each reply and each error of a session, against replies that are stored."""
 import os
+import sys
 import tempfile
 import unittest
 from fractions import Fraction
@@ -8,17 +9,30 @@ from pathlib import Path
 import lpd
 
 REPLAYING = str(Path(__file__).with_name("replaying.py"))
+# Begins this Python itself, and without what it would import by itself: a test may begin it thirty times.
+SCRIPT = f'#!/bin/sh\nexec "{sys.executable}" -S "{REPLAYING}"\n'
 TEXT = "ROWS\n N cost\n G R1\nCOLUMNS\n x cost 1 R1 1\nRHS\n R1 1\nENDATA\n"
 
 
 class Replayed(unittest.TestCase):
+    @classmethod
+    def setUpClass(cls) -> None:
+        cls.folder = tempfile.TemporaryDirectory()
+        cls.program = Path(cls.folder.name) / "lpd"
+        cls.program.write_text(SCRIPT)
+        cls.program.chmod(0o755)
+
+    @classmethod
+    def tearDownClass(cls) -> None:
+        cls.folder.cleanup()
+
     def session(self, *replies: str) -> lpd.Session:
         file = tempfile.NamedTemporaryFile("w", suffix=".replies", delete=False, encoding="latin-1")
         with file:
             file.write("".join(f"{reply}\n" for reply in replies))
         self.addCleanup(os.unlink, file.name)
         os.environ["REPLIES"] = file.name
-        program = lpd.Program(REPLAYING)
+        program = lpd.Program(str(self.program))
         self.addCleanup(program.close)
         return lpd.Session(program)
 
