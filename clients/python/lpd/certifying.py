@@ -1,8 +1,8 @@
 """A floating point solver's answer, made exact: by `lpd basis --wide` from its basis, or by exact steps in Python from there
 where that has no answer. The certificate is judged by the checkers.
 
-`lpd basis --wide` writes what `lpd basis` writes, and goes on where that ends past 127 bits: so it alone is asked. A program
-without it is asked for `lpd basis`, and once more with rows and columns in another order."""
+`lpd basis --wide` goes on where the start from a basis meets a number past 127 bits: so it alone is asked. A program without it
+is asked for `lpd basis`, and once more with rows and columns in another order."""
 from __future__ import annotations
 
 from dataclasses import dataclass, field, replace
