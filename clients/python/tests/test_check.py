@@ -7,7 +7,7 @@ from pathlib import Path
 
 import lpd
 from lpd.model import Limits
-from lpd.number_text import number, shown
+from lpd.number_text import TooWide, number, shown
 
 from .commands import Said, command
 
@@ -138,6 +138,14 @@ class Checks(unittest.TestCase):
         self.assertEqual(number("+.5e+2"), 50)
         self.assertEqual(number("1" * 5000, wide=True), int("1" * 4000) * 10**1000 + int("1" * 1000))
         self.assertEqual(shown(Fraction(10**9000)), "1" + "0" * 9000)
+
+    def test_far_powers_of_ten(self) -> None:
+        """The e of S 10^e counts, where S has no zeros at its end: the server takes it from -16,384 to 16,384."""
+        self.assertEqual(number("1e16384", wide=True), 10**16384)
+        self.assertEqual(number("10e-16385", wide=True), Fraction(1, 10**16384))
+        for text in ("1e16385", "10e16384", "1e-16385", "0.1e-16384"):
+            with self.assertRaises(TooWide):
+                number(text, wide=True)
 
 
 class TheCommand(unittest.TestCase):
