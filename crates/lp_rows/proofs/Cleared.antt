@@ -8,7 +8,7 @@ use Rattle.spec_exact.specs.Fraction.{over, neg_ℚ, ◌+ℚ◌, ◌-ℚ◌, ◌
 use Rattle.spec_exact.proofs.Ring.{◌⊕◌, ◌⊗◌, minus, lit, v0, v1, v2, v3}
 use Rattle.spec_exact.proofs.Whole.{by_ring}
 use Rattle.spec_exact.proofs.Field.{by_ring_ℚ, over-*, whole_over}
-use Rattle.lp_wide.specs.Bit.{below}
+use Rattle.lp_wide.specs.Below.{below}
 use Rattle.lp_wide.specs.Whole.{whole}
 use Rattle.lp_wide.specs.declared.signed.Signed.{Signed}
 use Rattle.lp_wide.proofs.Rows.{eliminated}

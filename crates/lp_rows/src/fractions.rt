@@ -4,8 +4,7 @@ ghost use Rattle.spec_exact.specs.Fraction.{0ℚ, inverse, ◌-ℚ◌, ◌*ℚ�
 ghost use Rattle.lp_rows.specs.Row.{fraction_at, AreNow};
 
 use crate::row::{eliminate, part, turn};
-use lp_wide::{Signed, Words, low_inverse, product, quotient, quotient_by, some_common};
-use std::cmp::Ordering;
+use lp_wide::{Divisor, Signed, Words, quotient, quotient_by, some_common};
 
 /// Whole numbers on a denominator, which is not 0. The last of them is the value of the row's basic column.
 #[derive(Drop)]
@@ -61,7 +60,7 @@ pub fn clear<T: Words>(row: &mut Row<T>, other: &Row<T>, j: usize) -> bool
 {
     let entry = row.numbers[j];
     match share_common(other.denominator, entry.size) {
-        Some(s) => match product(row.denominator, s.first) {
+        Some(s) => match row.denominator.product(s.first) {
             Some(denominator) => {
                 row.denominator = denominator;
                 let a = Signed {
@@ -112,7 +111,7 @@ fn divisor<T: Words>(numbers: &[Signed<T>], denominator: T) -> T {
     if is_one(found) {
         return found;
     }
-    let mut inverse = low_inverse(found);
+    let mut by = Divisor::new(found);
     for number in numbers {
         if number.size.is_zero() {
             continue;
@@ -120,16 +119,16 @@ fn divisor<T: Words>(numbers: &[Signed<T>], denominator: T) -> T {
         if is_one(found) {
             break;
         }
-        if quotient_by(number.size, found, inverse).is_none() {
+        if quotient_by(number.size, &by).is_none() {
             found = some_common(found, number.size);
-            inverse = low_inverse(found);
+            by = Divisor::new(found);
         }
     }
     found
 }
 
 fn is_one<T: Words>(n: T) -> bool {
-    n.compare(T::one()) == Ordering::Equal
+    n.is(T::one())
 }
 
 /// Takes out what a row's numbers have in common with its denominator. Where it is false the row is spent.
@@ -140,14 +139,14 @@ pub fn reduce<T: Words>(row: &mut Row<T>) -> bool
         (length row.old.numbers.items) row.new.numbers.items (T.value row.new.denominator) }
     ensures positive { IsTrue result → 0 < T.value row.new.denominator }
 {
-    let by = divisor(&row.numbers, row.denominator);
-    if is_one(by) {
+    let by = Divisor::new(divisor(&row.numbers, row.denominator));
+    if is_one(by.number) {
         return true;
     }
-    match quotient(row.denominator, by) {
+    match quotient_by(row.denominator, &by) {
         Some(denominator) => {
             row.denominator = denominator;
-            part(&mut row.numbers, by)
+            part(&mut row.numbers, &by)
         }
         None => false,
     }

@@ -9,7 +9,7 @@ ghost use Rattle.lp_rows.specs.Row.{turned_if};
 ghost use Rattle.lp_rows.specs.Ratio.{best_of, room_of, bound_of, gap_of, gap_by, stopped, IsGap};
 
 use crate::choice::sign;
-use lp_wide::{Signed, Words, cross_compare, minus, times};
+use lp_wide::{Signed, Words, minus, times};
 use spec_pivot::Status;
 use std::cmp::Ordering;
 
@@ -45,7 +45,7 @@ pub fn order<T: Words>(a: Signed<T>, m: T, b: Signed<T>, n: T) -> Ordering
 {
     if a.negative {
         if b.negative {
-            cross_compare(b.size, n, a.size, m)
+            b.size.cross_compare(n, a.size, m)
         } else if are_none(a.size, m, b.size, n) {
             Ordering::Equal
         } else {
@@ -58,7 +58,7 @@ pub fn order<T: Words>(a: Signed<T>, m: T, b: Signed<T>, n: T) -> Ordering
             Ordering::Greater
         }
     } else {
-        cross_compare(a.size, m, b.size, n)
+        a.size.cross_compare(m, b.size, n)
     }
 }
 

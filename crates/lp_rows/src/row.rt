@@ -3,14 +3,13 @@ ghost use Rattle.std.specs.Prelude.{◌≡◌, ◌<◌, ℕ, IsTrue, length, ◌
 ghost use Rattle.lp_wide.specs.Whole.{whole};
 ghost use Rattle.lp_rows.specs.Row.{at, turned_if};
 
-use lp_wide::{Signed, Words, less_products, low_inverse, quotient_by};
-use std::cmp::Ordering;
+use lp_wide::{Divisor, Signed, Words, less_products, quotient_by};
 
 // Whether a number with a sign is 1.
 fn is_unit<T: Words>(a: Signed<T>) -> bool
     ensures { IsTrue result → whole a.negative (T.value a.size) ≡ pos 1 }
 {
-    !a.negative && a.size.compare(T::one()) == Ordering::Equal
+    !a.negative && a.size.is(T::one())
 }
 
 // Whether both numbers are 0.
@@ -103,15 +102,14 @@ pub(crate) fn turn<T: Words>(row: &mut [Signed<T>], is_turned: bool)
 }
 
 /// Makes of each number what is times `by` the number. Where it is false there is none, and the row is spent.
-pub(crate) fn part<T: Words>(row: &mut [Signed<T>], by: T) -> bool
+pub(crate) fn part<T: Words>(row: &mut [Signed<T>], by: &Divisor<T>) -> bool
     ensures each { IsTrue result → (k : ℕ) → k < length row.old →
-        at T.value row.new k *ℤ pos (T.value by) ≡ at T.value row.old k }
+        at T.value row.new k *ℤ pos (T.value by.now.number) ≡ at T.value row.old k }
     ensures len { length row.new ≡ length row.old }
 {
-    let inverse = low_inverse(by);
     for k in 0..row.len() {
         let number = row[k];
-        match quotient_by(number.size, by, inverse) {
+        match quotient_by(number.size, by) {
             Some(size) => {
                 row[k] = Signed {
                     negative: number.negative,

@@ -5,7 +5,7 @@ ghost use Rattle.lp_rows.specs.Number.{fraction_of};
 use crate::fractions::share_common;
 use crate::number::{Listed, RowFraction};
 use lp_ratio::Ratio;
-use lp_wide::{Signed, Words};
+use lp_wide::{Signed, Words, natural};
 use std::alloc::{AllocError, Global};
 
 // The same fraction without what both numbers have in common, as far as that is found.
@@ -39,8 +39,8 @@ fn ratio<T: Words>(alloc: Global, v: RowFraction<T>) -> Result<Ratio, AllocError
         number,
         denominator,
     } = v;
-    let top = number.size.natural(alloc)?;
-    let bottom = denominator.natural(alloc)?;
+    let top = natural(alloc, number.size)?;
+    let bottom = natural(alloc, denominator)?;
     Ok(Ratio::quotient(alloc, number.negative, top, bottom))
 }
 

@@ -6,4 +6,4 @@ use Rattle.lp_rows.proofs.row.part.Given as goal
 
 abbrev pub invariant-loop-k : goal.invariant-loop-k
 invariant-loop-k g l =
-    AreSo g.T.Words.value l.k (λ k n. n *ℤ pos (g.T.Words.value l.by) ≡ at g.T.Words.value l.fn.row k) l.fn.row l.row
+    AreSo g.T.Words.value l.k (λ k n. n *ℤ pos (g.T.Words.value l.by.number) ≡ at g.T.Words.value l.fn.row k) l.fn.row l.row
