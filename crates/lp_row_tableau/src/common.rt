@@ -8,7 +8,7 @@ ghost use Rattle.lp_row_tableau.specs.Held.{whole_of, IsRowOf, IsRowWith};
 
 use lp_frac::{Frac, den, num};
 use lp_rows::Row;
-use lp_wide::{Signed, Words, from_number, from_whole, product, quotient, some_common, times};
+use lp_wide::{Signed, Words, from_number, from_whole, quotient, some_common, times};
 use std::alloc::{AllocError, Global};
 use std::cmp::Ordering;
 
@@ -18,7 +18,7 @@ fn common_multiple<T: Words>(a: T, b: T) -> Option<T> {
         return Some(a);
     }
     match quotient(a, some_common(a, b)) {
-        Some(share) => product(share, b),
+        Some(share) => share.product(b),
         None => None,
     }
 }
@@ -167,7 +167,7 @@ pub fn row_of<T: Words>(
     let Some(own) = denominator_of(list) else {
         return Ok(None);
     };
-    match product(denominator, own) {
+    match denominator.product(own) {
         Some(both) => row_on(alloc, list, last, own, both),
         None => Ok(None),
     }

@@ -15,7 +15,7 @@ fn has_entry<T: Words>(row: &Row<T>, j: usize) -> bool {
 // How many numbers of a row are not 0. Those of one word are changed about as quickly as they are counted, so a quarter
 // of them stands for the count.
 fn entry_count<T: Words>(row: &Row<T>) -> usize {
-    if T::count() == 1 {
+    if T::width() == 64 {
         return row.numbers.len() / 4;
     }
     let mut count: usize = 0;
@@ -46,6 +46,7 @@ pub fn effort_of<T: Words>(tab: &RowTableau<T>, step: Step) -> u64 {
         Step::Flip(col) => col,
         Step::Pivot { col, .. } => col,
     };
-    let each = T::count().saturating_mul(T::count());
+    let words = (T::width() / 64) as usize;
+    let each = words.saturating_mul(words);
     entries_changed(tab, col as usize).saturating_mul(each) as u64
 }

@@ -19,7 +19,7 @@ use lp_form::{Status, StatusList, is_basic};
 use lp_list::Items;
 use lp_rows::{Listed, Row, RowFraction, directed, negated, one, zero};
 use lp_tableau::PrimalEnd;
-use lp_wide::{Signed, Words, product};
+use lp_wide::{Signed, Words};
 use spec_check::Certificate;
 use std::alloc::{AllocError, Global};
 
@@ -54,7 +54,7 @@ fn last_number<T: Words>(row: &Row<T>, last: usize, denominator: T) -> Option<Ro
     ensures { IfSome result (λ v. fraction_of T.value v ≡
         fraction_at T.value row.now.numbers.items (T.value denominator * T.value row.now.denominator) last) }
 {
-    match product(denominator, row.denominator) {
+    match denominator.product(row.denominator) {
         Some(both) => Some(RowFraction {
             number: row.numbers[last],
             denominator: both,

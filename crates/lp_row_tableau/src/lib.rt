@@ -11,7 +11,7 @@
 //! | `make` | the flip or the pivot of a step, over src/moves: what it does to rows | src/pivot |
 //! | `is_roomy` | a guess whether a step will stay within the width | src/room |
 //! | `from_tableau` | the rows of a tableau of fractions | src/convert |
-//! | `widened` | the same rows in words of twice the width | src/widen |
+//! | `widened` | the same rows in words of another width | src/widen |
 //! | `wants_phase_one`, `is_stuck`, `phase_two` | what the phases ask, and the reduced costs of the second | src/phases |
 //! | `certificate`, `basis` | the certificate and the basis of an end | src/ends |
 //! | `effort_of` | how much a step changes | src/effort |
