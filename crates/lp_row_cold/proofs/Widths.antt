@@ -53,9 +53,9 @@ module _ {T : Type 0} (value : T → ℕ) (budget : ℕ) (f : Form) (whole : Res
         IsLeft value budget f whole s
     width_left l s h k = subst (LeavesAt of value budget f whole) h k
 
-  pub then_left : (mid : Result PhasesEnd (RunStop ℚ)) (s : State T) → whole ≡ mid → IsLeft value budget f mid s →
-      IsLeft value budget f whole s
-  then_left mid s e l = record { tableau = l.tableau; reached = l.reached; shown = l.shown; same = e ∙ l.same }
+  pub then_leaves : {N E : Type 0} (of : ℚ → N) (mid : Result PhasesEnd (RunStop ℚ)) (result : Result (Left T N) E) →
+      whole ≡ mid → IfOk result (LeavesAt of value budget f mid) → IfOk result (LeavesAt of value budget f whole)
+  then_leaves of mid result e k = subst (λ run. IfOk result (LeavesAt of value budget f run)) (sym e) k
 
 pub pause_ready : {N T : Type 0} (value : T → ℕ) (f : Form) (s : State T) (p : PhasesPause N) → p ≡ pause.Narrow →
     StaysReady value f s p → IsReady value f s

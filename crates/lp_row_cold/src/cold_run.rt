@@ -16,35 +16,12 @@ use lp_ratio::Ratio;
 use lp_row_tableau::{from_tableau, wants_phase_one, widened};
 use lp_rows::Listed;
 use lp_tableau::{Tableau, start_cold};
-use lp_wide::{Double, Words};
+use lp_wide::{Long, Quad, Words};
 use std::alloc::{AllocError, Global};
-
-/// Words of 128 bits.
-pub type Words128 = Double<u64>;
-
-/// Words of 256 bits.
-pub type Words256 = Double<Words128>;
-
-/// Words of 512 bits.
-pub type Words512 = Double<Words256>;
-
-/// Words of 1,024 bits.
-pub type Words1024 = Double<Words512>;
-
-/// Words of 2,048 bits.
-pub type Words2048 = Double<Words1024>;
 
 // The effort of a run whose certificate has numbers of 127 bits, some seconds of it: each number that is changed counts
 // for the square of its words.
 const WORK: u64 = 512_000_000;
-
-// How far a run goes before it gives up.
-#[derive(Clone, Copy)]
-struct Reach {
-    work: u64,
-    // Whether it goes on in words of 2,048 bits.
-    is_far: bool,
-}
 
 // What a width leaves.
 #[derive(Drop)]
@@ -56,11 +33,7 @@ pub(crate) enum Left<T: Words, N> {
 }
 
 // The state of the tableau that a form begins with. There is none where a number is past the width.
-fn begun<T: Words>(
-    alloc: Global,
-    tab: &Tableau,
-    reach: Reach,
-) -> Result<Option<State<T>>, AllocError>
+fn begun<T: Words>(alloc: Global, tab: &Tableau, work: u64) -> Result<Option<State<T>>, AllocError>
     ensures run { (budget : ℕ) (f : Forms) → IsReached tab.now →
         IfOk result (λ o. IfSome o (IsLeft T.value budget f (start_run budget f tab.now))) }
     ensures ready { (f : Forms) → f.rows ≡ tab.now.rows → f.cols ≡ tab.now.cols →
@@ -77,91 +50,106 @@ fn begun<T: Words>(
                 tab: rows,
                 phase,
                 used: 0,
-                work: reach.work,
-                is_far: reach.is_far,
+                work,
             }))
         }
         None => Ok(None),
     }
 }
 
-// The same state in wider words.
-fn wider<T: Words>(alloc: Global, state: &State<T>) -> Result<State<Double<T>>, AllocError>
+// The same state in wider words. There is none where a number is past their width.
+fn wider<T: Words, U: Words>(
+    alloc: Global,
+    state: &State<T>,
+) -> Result<Option<State<U>>, AllocError>
     requires { IsWhole T.value state.now.tab }
     ensures run { (budget : ℕ) (f : Forms) (t : tableaus.Tableau) → IsReached t → Shows T.value state.now.tab t →
-        IfOk result (IsLeft ⟦<Double<T> as Words>⟧.value budget f
-        (rest_run budget f state.now.phase state.now.used t)) }
-    ensures ready { (f : Forms) → IsReady T.value f state.now →
-        IfOk result (IsReady ⟦<Double<T> as Words>⟧.value f) }
+        IfOk result (λ o. IfSome o (IsLeft U.value budget f (rest_run budget f state.now.phase state.now.used t))) }
+    ensures ready { (f : Forms) → IsReady T.value f state.now → IfOk result (λ o. IfSome o (IsReady U.value f)) }
 {
-    Ok(State {
-        tab: widened(alloc, &state.tab)?,
-        phase: state.phase,
-        used: state.used,
-        work: state.work,
-        is_far: state.is_far,
-    })
+    match widened(alloc, &state.tab)? {
+        Some(tab) => Ok(Some(State {
+            tab,
+            phase: state.phase,
+            used: state.used,
+            work: state.work,
+        })),
+        None => Ok(None),
+    }
+}
+
+// What is left of a pause for wider words.
+fn left_in<T: Words, U: Words, N: Listed>(
+    alloc: Global,
+    state: &State<T>,
+) -> Result<Left<U, N>, AllocError>
+    requires { IsWhole T.value state.now.tab }
+    ensures run { (budget : ℕ) (f : Forms) (t : tableaus.Tableau) → IsReached t → Shows T.value state.now.tab t →
+        IfOk result (LeavesAt N.of U.value budget f (rest_run budget f state.now.phase state.now.used t)) }
+    ensures ready { (f : Forms) → IsReady T.value f state.now → IfOk result (LeavesReady N.fits U.value f) }
+{
+    match wider(alloc, state)? {
+        Some(state) => Ok(Left::Wider(state)),
+        None => Ok(Left::GaveUp),
+    }
 }
 
 // Both phases at a width that is not the last one.
-fn at_width<T: Words, N: Listed>(
+fn at_width<T: Words, U: Words, N: Listed>(
     alloc: Global,
     form: &Form,
     budget: u64,
     state: &mut State<T>,
-) -> Result<Left<Double<T>, N>, AllocError>
+) -> Result<Left<U, N>, AllocError>
     requires { IsReady T.value form.now state.old }
     ensures run { (t : tableaus.Tableau) → HasCosts form.now → IsReached t → Shows T.value state.old.tab t →
-        IfOk result (LeavesAt N.of ⟦<Double<T> as Words>⟧.value budget form.now
+        IfOk result (LeavesAt N.of U.value budget form.now
         (rest_run budget form.now state.old.phase state.old.used t)) }
-    ensures ready { IfOk result (LeavesReady N.fits ⟦<Double<T> as Words>⟧.value form.now) }
+    ensures ready { IfOk result (LeavesReady N.fits U.value form.now) }
 {
     match go_on(alloc, form, state, budget, true)? {
         PhasesPause::Ended(end) => Ok(Left::Ended(end)),
-        PhasesPause::Narrow => Ok(Left::Wider(wider(alloc, state)?)),
+        PhasesPause::Narrow => left_in(alloc, state),
         PhasesPause::GaveUp => Ok(Left::GaveUp),
     }
 }
 
-/// Both phases from where they stand, in the widest words, if the run goes that far.
-pub fn at_2048<N: Listed>(
+/// Both phases from where they stand, in the widest words.
+pub fn from_2048<N: Listed>(
     alloc: Global,
     form: &Form,
     budget: u64,
-    state: &mut State<Words2048>,
+    state: &mut State<Long<32>>,
 ) -> Result<Option<RowEnd<N>>, AllocError>
-    requires { IsReady ⟦<Double<Double<Double<Double<Double<u64>>>>> as Words>⟧.value form.now state.old }
+    requires { IsReady ⟦<Long<32> as Words>⟧.value form.now state.old }
     ensures run { (t : tableaus.Tableau) → HasCosts form.now → IsReached t →
-        Shows ⟦<Double<Double<Double<Double<Double<u64>>>>> as Words>⟧.value state.old.tab t →
+        Shows ⟦<Long<32> as Words>⟧.value state.old.tab t →
         IfOk result (EndsAs N.of (rest_run budget form.now state.old.phase state.old.used t)) }
     ensures fits { IfOk result (IsFitEnd N.fits) }
 {
-    if !state.is_far {
-        return Ok(None);
-    }
     match go_on(alloc, form, state, budget, false)? {
         PhasesPause::Ended(end) => Ok(Some(end)),
         PhasesPause::Narrow | PhasesPause::GaveUp => Ok(None),
     }
 }
 
-/// The same from words of 1,024 bits on.
+/// The same from words of up to 1,024 bits on.
 pub fn from_1024<N: Listed>(
     alloc: Global,
     form: &Form,
     budget: u64,
-    state: &mut State<Words1024>,
+    state: &mut State<Long<16>>,
 ) -> Result<Option<RowEnd<N>>, AllocError>
-    requires { IsReady ⟦<Double<Double<Double<Double<u64>>>> as Words>⟧.value form.now state.old }
+    requires { IsReady ⟦<Long<16> as Words>⟧.value form.now state.old }
     ensures run { (t : tableaus.Tableau) → HasCosts form.now → IsReached t →
-        Shows ⟦<Double<Double<Double<Double<u64>>>> as Words>⟧.value state.old.tab t →
+        Shows ⟦<Long<16> as Words>⟧.value state.old.tab t →
         IfOk result (EndsAs N.of (rest_run budget form.now state.old.phase state.old.used t)) }
     ensures fits { IfOk result (IsFitEnd N.fits) }
 {
     match at_width(alloc, form, budget, state)? {
         Left::Ended(end) => Ok(Some(end)),
         Left::Wider(mut state) => {
-            let end = at_2048(alloc, form, budget, &mut state);
+            let end = from_2048(alloc, form, budget, &mut state);
             drop(state);
             end
         }
@@ -169,16 +157,16 @@ pub fn from_1024<N: Listed>(
     }
 }
 
-/// The same from words of 512 bits on.
+/// The same from words of up to 512 bits on.
 pub fn from_512<N: Listed>(
     alloc: Global,
     form: &Form,
     budget: u64,
-    state: &mut State<Words512>,
+    state: &mut State<Long<8>>,
 ) -> Result<Option<RowEnd<N>>, AllocError>
-    requires { IsReady ⟦<Double<Double<Double<u64>>> as Words>⟧.value form.now state.old }
+    requires { IsReady ⟦<Long<8> as Words>⟧.value form.now state.old }
     ensures run { (t : tableaus.Tableau) → HasCosts form.now → IsReached t →
-        Shows ⟦<Double<Double<Double<u64>>> as Words>⟧.value state.old.tab t →
+        Shows ⟦<Long<8> as Words>⟧.value state.old.tab t →
         IfOk result (EndsAs N.of (rest_run budget form.now state.old.phase state.old.used t)) }
     ensures fits { IfOk result (IsFitEnd N.fits) }
 {
@@ -198,11 +186,11 @@ pub fn from_256<N: Listed>(
     alloc: Global,
     form: &Form,
     budget: u64,
-    state: &mut State<Words256>,
+    state: &mut State<Quad>,
 ) -> Result<Option<RowEnd<N>>, AllocError>
-    requires { IsReady ⟦<Double<Double<u64>> as Words>⟧.value form.now state.old }
+    requires { IsReady ⟦<Quad as Words>⟧.value form.now state.old }
     ensures run { (t : tableaus.Tableau) → HasCosts form.now → IsReached t →
-        Shows ⟦<Double<Double<u64>> as Words>⟧.value state.old.tab t →
+        Shows ⟦<Quad as Words>⟧.value state.old.tab t →
         IfOk result (EndsAs N.of (rest_run budget form.now state.old.phase state.old.used t)) }
     ensures fits { IfOk result (IsFitEnd N.fits) }
 {
@@ -222,11 +210,11 @@ pub fn from_128<N: Listed>(
     alloc: Global,
     form: &Form,
     budget: u64,
-    state: &mut State<Words128>,
+    state: &mut State<u128>,
 ) -> Result<Option<RowEnd<N>>, AllocError>
-    requires { IsReady ⟦<Double<u64> as Words>⟧.value form.now state.old }
+    requires { IsReady ⟦<u128 as Words>⟧.value form.now state.old }
     ensures run { (t : tableaus.Tableau) → HasCosts form.now → IsReached t →
-        Shows ⟦<Double<u64> as Words>⟧.value state.old.tab t →
+        Shows ⟦<u128 as Words>⟧.value state.old.tab t →
         IfOk result (EndsAs N.of (rest_run budget form.now state.old.phase state.old.used t)) }
     ensures fits { IfOk result (IsFitEnd N.fits) }
 {
@@ -271,7 +259,7 @@ fn begun_2048<N: Listed>(
     form: &Form,
     budget: u64,
     tab: &Tableau,
-    reach: Reach,
+    work: u64,
 ) -> Result<Option<RowEnd<N>>, AllocError>
     requires rows { form.now.rows ≡ tab.now.rows }
     requires cols { form.now.cols ≡ tab.now.cols }
@@ -279,9 +267,9 @@ fn begun_2048<N: Listed>(
         IfOk result (EndsAs N.of (start_run budget form.now tab.now)) }
     ensures fits { IfOk result (IsFitEnd N.fits) }
 {
-    match begun::<Words2048>(alloc, tab, reach)? {
+    match begun::<Long<32>>(alloc, tab, work)? {
         Some(mut state) => {
-            let end = at_2048(alloc, form, budget, &mut state);
+            let end = from_2048(alloc, form, budget, &mut state);
             drop(state);
             end
         }
@@ -295,7 +283,7 @@ fn begun_1024<N: Listed>(
     form: &Form,
     budget: u64,
     tab: &Tableau,
-    reach: Reach,
+    work: u64,
 ) -> Result<Option<RowEnd<N>>, AllocError>
     requires rows { form.now.rows ≡ tab.now.rows }
     requires cols { form.now.cols ≡ tab.now.cols }
@@ -303,13 +291,13 @@ fn begun_1024<N: Listed>(
         IfOk result (EndsAs N.of (start_run budget form.now tab.now)) }
     ensures fits { IfOk result (IsFitEnd N.fits) }
 {
-    match begun::<Words1024>(alloc, tab, reach)? {
+    match begun::<Long<16>>(alloc, tab, work)? {
         Some(mut state) => {
             let end = from_1024(alloc, form, budget, &mut state);
             drop(state);
             end
         }
-        None => begun_2048(alloc, form, budget, tab, reach),
+        None => begun_2048(alloc, form, budget, tab, work),
     }
 }
 
@@ -319,7 +307,7 @@ fn begun_512<N: Listed>(
     form: &Form,
     budget: u64,
     tab: &Tableau,
-    reach: Reach,
+    work: u64,
 ) -> Result<Option<RowEnd<N>>, AllocError>
     requires rows { form.now.rows ≡ tab.now.rows }
     requires cols { form.now.cols ≡ tab.now.cols }
@@ -327,13 +315,13 @@ fn begun_512<N: Listed>(
         IfOk result (EndsAs N.of (start_run budget form.now tab.now)) }
     ensures fits { IfOk result (IsFitEnd N.fits) }
 {
-    match begun::<Words512>(alloc, tab, reach)? {
+    match begun::<Long<8>>(alloc, tab, work)? {
         Some(mut state) => {
             let end = from_512(alloc, form, budget, &mut state);
             drop(state);
             end
         }
-        None => begun_1024(alloc, form, budget, tab, reach),
+        None => begun_1024(alloc, form, budget, tab, work),
     }
 }
 
@@ -343,7 +331,7 @@ fn begun_256<N: Listed>(
     form: &Form,
     budget: u64,
     tab: &Tableau,
-    reach: Reach,
+    work: u64,
 ) -> Result<Option<RowEnd<N>>, AllocError>
     requires rows { form.now.rows ≡ tab.now.rows }
     requires cols { form.now.cols ≡ tab.now.cols }
@@ -351,13 +339,13 @@ fn begun_256<N: Listed>(
         IfOk result (EndsAs N.of (start_run budget form.now tab.now)) }
     ensures fits { IfOk result (IsFitEnd N.fits) }
 {
-    match begun::<Words256>(alloc, tab, reach)? {
+    match begun::<Quad>(alloc, tab, work)? {
         Some(mut state) => {
             let end = from_256(alloc, form, budget, &mut state);
             drop(state);
             end
         }
-        None => begun_512(alloc, form, budget, tab, reach),
+        None => begun_512(alloc, form, budget, tab, work),
     }
 }
 
@@ -367,7 +355,7 @@ fn begun_128<N: Listed>(
     form: &Form,
     budget: u64,
     tab: &Tableau,
-    reach: Reach,
+    work: u64,
 ) -> Result<Option<RowEnd<N>>, AllocError>
     requires rows { form.now.rows ≡ tab.now.rows }
     requires cols { form.now.cols ≡ tab.now.cols }
@@ -375,13 +363,13 @@ fn begun_128<N: Listed>(
         IfOk result (EndsAs N.of (start_run budget form.now tab.now)) }
     ensures fits { IfOk result (IsFitEnd N.fits) }
 {
-    match begun::<Words128>(alloc, tab, reach)? {
+    match begun::<u128>(alloc, tab, work)? {
         Some(mut state) => {
             let end = from_128(alloc, form, budget, &mut state);
             drop(state);
             end
         }
-        None => begun_256(alloc, form, budget, tab, reach),
+        None => begun_256(alloc, form, budget, tab, work),
     }
 }
 
@@ -391,7 +379,7 @@ fn from_start<N: Listed>(
     form: &Form,
     budget: u64,
     tab: &Tableau,
-    reach: Reach,
+    work: u64,
 ) -> Result<Option<RowEnd<N>>, AllocError>
     requires rows { form.now.rows ≡ tab.now.rows }
     requires cols { form.now.cols ≡ tab.now.cols }
@@ -399,13 +387,13 @@ fn from_start<N: Listed>(
         IfOk result (EndsAs N.of (start_run budget form.now tab.now)) }
     ensures fits { IfOk result (IsFitEnd N.fits) }
 {
-    match begun::<u64>(alloc, tab, reach)? {
+    match begun::<u64>(alloc, tab, work)? {
         Some(mut state) => {
             let end = from_64(alloc, form, budget, &mut state);
             drop(state);
             end
         }
-        None => begun_128(alloc, form, budget, tab, reach),
+        None => begun_128(alloc, form, budget, tab, work),
     }
 }
 
@@ -414,7 +402,7 @@ fn cold_run<N: Listed>(
     alloc: Global,
     form: &Form,
     budget: u64,
-    reach: Reach,
+    work: u64,
 ) -> Result<Option<RowEnd<N>>, AllocError>
     ensures whole { (m : Model) → form_of (Some largest) m ≡ Ok form.now →
         IfOk result (EndsAs N.of (phases_run None budget form.now)) }
@@ -422,7 +410,7 @@ fn cold_run<N: Listed>(
 {
     match start_cold(alloc, form) {
         Ok(tab) => {
-            let end = from_start(alloc, form, budget, &tab, reach);
+            let end = from_start(alloc, form, budget, &tab, work);
             drop(tab);
             end
         }
@@ -435,7 +423,7 @@ fn cold_run<N: Listed>(
 /// phases, with the certificate of the end.
 ///
 /// For the form of a model it ends as the stated run with no limit on numbers, or has no end: where the start is past
-/// 127 bits, a number of a row past 1,024, or one of the certificate past 127, or where the budget is spent, or a bound
+/// 127 bits, a number of a row past 2,048, or one of the certificate past 127, or where the budget is spent, or a bound
 /// on the work. Which of these it is, is not said, and nothing is promised of when they come. Only want of memory is an
 /// error.
 pub fn cold(alloc: Global, form: &Form, budget: u64) -> Result<Option<RowEnd<Frac>>, AllocError>
@@ -443,15 +431,11 @@ pub fn cold(alloc: Global, form: &Form, budget: u64) -> Result<Option<RowEnd<Fra
         IfOk result (EndsAsStated (phases_run None budget form.now)) }
     ensures narrow { IfOk result IsNarrowEnd }
 {
-    let reach = Reach {
-        work: WORK,
-        is_far: false,
-    };
-    cold_run(alloc, form, budget, reach)
+    cold_run(alloc, form, budget, WORK)
 }
 
-/// The same run with a certificate whose numbers have any width, and with numbers of rows of up to 2,048 bits, within a
-/// bound on the work that the caller has: each number that is changed counts for the square of its words.
+/// The same run with a certificate whose numbers have any width, within a bound on the work that the caller has: each number
+/// that is changed counts for the square of its words.
 pub fn wide_cold(
     alloc: Global,
     form: &Form,
@@ -461,6 +445,5 @@ pub fn wide_cold(
     ensures { (m : Model) → form_of (Some largest) m ≡ Ok form.now →
         IfOk result (EndsAsStated (phases_run None budget form.now)) }
 {
-    let reach = Reach { work, is_far: true };
-    cold_run(alloc, form, budget, reach)
+    cold_run(alloc, form, budget, work)
 }

@@ -1,12 +1,11 @@
 //! The cold run over rows of whole numbers: both phases of the simplex method, in words of 64 bits, and where a number
-//! does not fit, on from there in words of 128, 256, 512 and 1,024; and in words of 2,048, where the numbers of the
-//! certificate may have any width.
+//! does not fit, on from there in words of 128 and 256, and then of up to 512, 1,024 and 2,048.
 //!
 //! | Item | What it is | Where |
 //! |---|---|---|
 //! | `cold`, `wide_cold`, `RowEnd` | the run of a form within a budget, with numbers of 127 bits or of any width in the certificate, and what it ends with | src/cold_run, src/phases |
 //! | `State`, `Phase` | where a run stands | src/phases |
-//! | `from_64` .. `from_1024`, `at_2048` | both phases from where they stand, in words of that width and in wider ones | src/cold_run |
+//! | `from_64`, `from_128`, `from_256`, `from_512`, `from_1024`, `from_2048` | both phases from where they stand, in words of that width and in wider ones | src/cold_run |
 //! | `go_on` | both phases at one width, from where they stand | src/phases |
 //! | `run` | steps at one width | src/steps |
 //!
@@ -18,8 +17,5 @@ mod cold_run;
 mod phases;
 mod steps;
 
-pub use cold_run::{
-    Words128, Words256, Words512, Words1024, Words2048, at_2048, cold, from_64, from_128, from_256,
-    from_512, from_1024, wide_cold,
-};
+pub use cold_run::{cold, from_64, from_128, from_256, from_512, from_1024, from_2048, wide_cold};
 pub use phases::{Phase, RowEnd, State};

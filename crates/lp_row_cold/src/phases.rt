@@ -46,8 +46,6 @@ pub struct State<T: Words> {
     pub used: u64,
     /// How many words may still be changed.
     pub work: u64,
-    /// Whether the run goes on in words of 2,048 bits.
-    pub is_far: bool,
 }
 
 /// How both phases at one width pause.

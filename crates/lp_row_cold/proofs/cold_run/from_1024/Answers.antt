@@ -9,4 +9,4 @@ returns-in-Ended-clause-run g c = λ t costs reached shown.
 pub returns-in-Wider-clause-run : goal.returns-in-Wider-clause-run
 returns-in-Wider-clause-run g c = λ t costs reached shown.
     let l = width_left _ _ _ _ g.N.Listed.of _ _ c.in-Wider.is (c.in_ok-end.ensures.run t costs reached shown) in
-    then_ends g.N.Listed.of _ _ c.at_2048-end.result l.same (c.at_2048-end.ensures.run l.tableau costs l.reached l.shown)
+    then_ends g.N.Listed.of _ _ c.from_2048-end.result l.same (c.from_2048-end.ensures.run l.tableau costs l.reached l.shown)

@@ -1,6 +1,6 @@
 -- An end.
 use Rattle.lp_row_cold.proofs.Widths.{pause_ended}
-use Rattle.lp_row_cold.proofs.cold_run.at_2048.Goals as goal
+use Rattle.lp_row_cold.proofs.cold_run.from_2048.Goals as goal
 
 pub returns-in-Ended-clause-run : goal.returns-in-Ended-clause-run
 returns-in-Ended-clause-run g c = λ t costs reached shown.
