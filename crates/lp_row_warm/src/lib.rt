@@ -1,6 +1,6 @@
 //! The run from a basis over rows of whole numbers: the form's equations are solved for the columns of the basis, in
-//! words of 64 bits, and where a number does not fit, anew in words of 128, 256, 512, 1,024 and 2,048; where the basis
-//! is fit for the primal method, phase two goes on from there.
+//! words of 64 bits, and where a number does not fit, anew in words of 128 and 256, and of up to 512, 1,024 and 2,048;
+//! where the basis is fit for the primal method, phase two goes on from there.
 //!
 //! | Item | What it is | Where |
 //! |---|---|---|

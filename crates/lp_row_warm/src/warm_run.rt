@@ -16,11 +16,10 @@ use crate::fit::is_fit;
 use lp_form::{Form, Status};
 use lp_ratio::Ratio;
 use lp_row_cold::{
-    Phase, RowEnd, State, Words128, Words256, Words512, Words1024, Words2048, at_2048, from_64,
-    from_128, from_256, from_512, from_1024,
+    Phase, RowEnd, State, from_64, from_128, from_256, from_512, from_1024, from_2048,
 };
 use lp_row_tableau::RowTableau;
-use lp_wide::Words;
+use lp_wide::{Long, Quad, Words};
 use std::alloc::{AllocError, Global};
 
 // The bound on the work, some minutes of it: each number that is changed counts for the square of its words.
@@ -49,7 +48,6 @@ fn if_fit<T: Words>(tab: RowTableau<T>, work: u64) -> Begun<T>
             phase: Phase::Two,
             used: 0,
             work,
-            is_far: true,
         })
     } else {
         Begun::Stopped
@@ -87,9 +85,9 @@ fn begun_2048(
     ensures { IsProper form.now → HasCosts form.now →
         IfOk result (λ o. IfSome o (EndsFromBasis budget form.now basis.now)) }
 {
-    match begin::<Words2048>(alloc, form, basis, work)? {
+    match begin::<Long<32>>(alloc, form, basis, work)? {
         Begun::Ready(mut state) => {
-            let end = at_2048(alloc, form, budget, &mut state);
+            let end = from_2048(alloc, form, budget, &mut state);
             drop(state);
             end
         }
@@ -109,7 +107,7 @@ fn begun_1024(
     ensures { IsProper form.now → HasCosts form.now →
         IfOk result (λ o. IfSome o (EndsFromBasis budget form.now basis.now)) }
 {
-    match begin::<Words1024>(alloc, form, basis, work)? {
+    match begin::<Long<16>>(alloc, form, basis, work)? {
         Begun::Ready(mut state) => {
             let end = from_1024(alloc, form, budget, &mut state);
             drop(state);
@@ -132,7 +130,7 @@ fn begun_512(
     ensures { IsProper form.now → HasCosts form.now →
         IfOk result (λ o. IfSome o (EndsFromBasis budget form.now basis.now)) }
 {
-    match begin::<Words512>(alloc, form, basis, work)? {
+    match begin::<Long<8>>(alloc, form, basis, work)? {
         Begun::Ready(mut state) => {
             let end = from_512(alloc, form, budget, &mut state);
             drop(state);
@@ -155,7 +153,7 @@ fn begun_256(
     ensures { IsProper form.now → HasCosts form.now →
         IfOk result (λ o. IfSome o (EndsFromBasis budget form.now basis.now)) }
 {
-    match begin::<Words256>(alloc, form, basis, work)? {
+    match begin::<Quad>(alloc, form, basis, work)? {
         Begun::Ready(mut state) => {
             let end = from_256(alloc, form, budget, &mut state);
             drop(state);
@@ -178,7 +176,7 @@ fn begun_128(
     ensures { IsProper form.now → HasCosts form.now →
         IfOk result (λ o. IfSome o (EndsFromBasis budget form.now basis.now)) }
 {
-    match begin::<Words128>(alloc, form, basis, work)? {
+    match begin::<u128>(alloc, form, basis, work)? {
         Begun::Ready(mut state) => {
             let end = from_128(alloc, form, budget, &mut state);
             drop(state);
