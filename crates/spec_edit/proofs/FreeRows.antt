@@ -1,6 +1,5 @@
 -- What is true of a model, without one of its free rows.
 use Rattle.std.proofs.Common.{◌≡◌, ◌↔◌, ℕ, ◌+◌, ◌-◌, ◌<◌, ◌≤◌, List, Option, true, refl, sym, ap, ◌∙◌, subst, arith, ⊎_elim}
-use Rattle.std.specs.Prelude.{ℤ}
 use Rattle.std.proofs.lemmas.Bool.{cases_lt}
 use Rattle.std.proofs.lemmas.List.{length-map}
 use borrow.Author.Tests.{lt-ltb, le-ltb}
@@ -9,8 +8,8 @@ use Rattle.spec_exact.specs.Sums.{sum_below}
 use Rattle.spec_exact.proofs.Sums.{sum_below_same}
 use Rattle.spec_model.specs.declared.parts.Kind.{Kind}
 use Rattle.spec_model.specs.declared.parts.Kind.TheVariants.{L, G, E, N}
-use Rattle.spec_model.specs.Model.{Model, ExactRow, ExactColumn, is_free, limits_by, limits_of, bounds_of, width, height}
-use Rattle.spec_model.specs.Model.{row, bounds, limits, cost, coefficient, part, activity, cost_of, value_of}
+use Rattle.spec_model.specs.Model.{Model, ExactColumn, is_free, limits_by, limits_of, bounds_of, width, height}
+use Rattle.spec_model.specs.Model.{row, bounds, limits, cost, coefficient, part, activity, value_of}
 use Rattle.spec_model.specs.Truth.{IsBetween, IsFeasible, IsBetter, IsOptimal, IsInfeasible, IsUnbounded}
 use Rattle.spec_edit.specs.Changes.{without_row}
 use Rattle.spec_edit.specs.Meaning.{skipping}
