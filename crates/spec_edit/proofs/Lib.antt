@@ -10,3 +10,4 @@ pub mod Coefficients
 pub mod Meanings
 pub mod PairsGiven
 pub mod FreeRows
+pub mod FreeRanges

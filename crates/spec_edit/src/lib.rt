@@ -14,12 +14,14 @@
 
 mod edit;
 
-ghost use Rattle.std.specs.Prelude.{◌≡◌, ◌<◌, ◌↔◌, ℕ, true, false, Ok, List};
+ghost use Rattle.std.specs.Prelude.{◌≡◌, ◌<◌, ◌↔◌, ℕ, true, false, Some, None, Ok, Err, List};
 ghost use Rattle.spec_exact.specs.Fraction.{ℚ, 0ℚ};
-ghost use Rattle.spec_model.specs.Kept.{IsModel};
+ghost use Rattle.spec_model.specs.Kept.{IsModel, row_place};
 ghost use Rattle.spec_model.specs.Model.{Model, Name, ExactRow, width, height, row, coefficient};
 ghost use Rattle.spec_model.specs.Model.{is_free, value_of};
 ghost use Rattle.spec_model.specs.Truth.{IsFeasible, IsOptimal, IsInfeasible, IsUnbounded};
+ghost use Rattle.spec_edit.specs.declared.edit.Edit.TheVariants as edit;
+ghost use Rattle.spec_edit.specs.declared.edit.EditFault.TheVariants as fault;
 ghost use Rattle.spec_edit.specs.Changes.{with_row, without_row};
 ghost use Rattle.spec_edit.specs.Edited.{ExactEdit, IsKeptEdit, Pairs, edited, new_column};
 ghost use Rattle.spec_edit.specs.Meaning.{IsWithCoefficient, IsWithoutRow, IsWithoutColumn};
@@ -46,6 +48,14 @@ pub fn changes_have_their_meaning()
 pub fn new_columns_have_their_pairs()
     ensures { (m n : Model) (name : Name) (cost : ℚ) (pairs : Pairs) →
         IsModel m → new_column m name cost pairs ≡ Ok n → IsWithPairs m n pairs }
+{}
+
+/// A range of a free row is refused, and to take its range away changes nothing: it has none.
+pub fn free_rows_have_no_range()
+    ensures refused { (m : Model) (name : Name) (i : ℕ) (v : ℚ) → row_place m name ≡ Some i →
+        is_free (row m i).kind ≡ true → edited m (edit.SetRange name (Some v)) ≡ Err (fault.FreeRow name) }
+    ensures unchanged { (m : Model) (name : Name) (i : ℕ) → IsModel m → row_place m name ≡ Some i →
+        is_free (row m i).kind ≡ true → edited m (edit.SetRange name None) ≡ Ok m }
 {}
 
 /// A model has the same feasible points with the same values, and so the same truths, without a free row.
