@@ -31,7 +31,7 @@ use Rattle.lp_row_tableau.specs.Moves.{number_at}
 use Rattle.lp_row_tableau.proofs.Lasts.{over_none}
 use Rattle.lp_row_tableau.proofs.Converted.{row_at-before, row_at-seam}
 use Rattle.lp_row_tableau.proofs.Numbers.{row_at-one}
-use Rattle.lp_row_warm.specs.Rows.{AreRowsAt, IsUnsolved}
+use Rattle.lp_row_warm.specs.Rows.{AreRowsAt, AreZeros, IsUnsolved}
 
 -- ---- one entry
 abbrev one : ℕ → ℕ → ℚ
@@ -109,13 +109,6 @@ rows_more value d i n x equations entry rows now row so_far is same e =
     })
 
 -- ---- a list of zeros
-pub record AreZeros {T : Type 0} (value : T → ℕ) (n : ℕ) (xs : List (Signed T)) : Type 0 where
-  pub len : length xs ≡ n
-  pub each : (d k : ℕ) → 0 < d → k < n → fraction_at value xs d k ≡ 0ℚ
-
-pub no_zeros : {T : Type 0} (value : T → ℕ) (xs : List (Signed T)) → xs ≡ [] → AreZeros value 0 xs
-no_zeros value xs e = record { len = ap length e; each = λ d k p h. absurd (let y : ⊥ = omega (arith, h) in y) }
-
 at-append : {T : Type 0} (value : T → ℕ) (xs : List (Signed T)) (x : Signed T) (k : ℕ) → k < length xs →
     at value (xs ++ x ∷ []) k ≡ at value xs k
 at-append value [] x k h = absurd (omega arith)

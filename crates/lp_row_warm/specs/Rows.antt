@@ -11,7 +11,9 @@ use Rattle.spec_simplex.specs.Tableau.{Tableau, at_place, is_basic, is_fixed}
 use Rattle.spec_simplex.specs.Eliminate as stated
 use Rattle.spec_simplex.specs.Eliminate.{basis_at, basis_status, basis_lower, basis_upper, basis_value}
 use Rattle.spec_simplex.specs.Eliminate.{has_none, or_first, solved_run, unsolved, start_from}
+use Rattle.lp_wide.specs.declared.signed.Signed.{Signed}
 use Rattle.lp_rows.specs.declared.fractions.Row.{Row}
+use Rattle.lp_rows.specs.Row.{fraction_at}
 use Rattle.lp_rows.specs.Ratio.{bound_of}
 use Rattle.lp_row_tableau.specs.declared.tableau.RowTableau.{RowTableau}
 use Rattle.lp_row_tableau.specs.Shows.{IsRow, IsWhole, Shows, height, row_at}
@@ -30,6 +32,11 @@ pub record AreRowsAt {T : Type 0} (value : T → ℕ) (d h n placed : ℕ) (x : 
   pub each : All (IsRow value n) rows
   pub entries : (i k : ℕ) → i < h → k < n → number_in value rows i k ≡ equations i k
   pub values : (i : ℕ) → i < h → row_at value d rows i n ≡ neg_ℚ (sum_below placed (λ k. equations i k *ℚ x k))
+
+-- n numbers, each 0 on every denominator
+pub record AreZeros {T : Type 0} (value : T → ℕ) (n : ℕ) (numbers : List (Signed T)) : Type 0 where
+  pub len : length numbers ≡ n
+  pub each : (d k : ℕ) → 0 < d → k < n → fraction_at value numbers d k ≡ 0ℚ
 
 -- what rows of whole numbers hold for a form and a basis, but for the rows themselves and their basic columns; no
 -- column has a cost

@@ -9,11 +9,10 @@ ghost use Rattle.spec_simplex.specs.Tableau as tableaus;
 ghost use Rattle.spec_simplex.specs.Tableau.{at_place};
 ghost use Rattle.spec_simplex.specs.Eliminate as elimination;
 ghost use Rattle.spec_pivot.specs.declared.status.Status.{Status as statuses};
-ghost use Rattle.lp_rows.specs.Row.{fraction_at};
 ghost use Rattle.lp_row_tableau.specs.Held.{IsRowOf};
 ghost use Rattle.lp_row_tableau.specs.Shows.{IsWhole, IsRow, width};
 ghost use Rattle.lp_row_tableau.specs.Moves.{number_at};
-ghost use Rattle.lp_row_warm.specs.Rows.{AreRowsAt, IsUnsolved};
+ghost use Rattle.lp_row_warm.specs.Rows.{AreRowsAt, AreZeros, IsUnsolved};
 
 use lp_form::{Form, Status};
 use lp_frac::{Frac, neg, one, zero};
@@ -87,7 +86,7 @@ fn equations<T: Words>(
 
 // `n` zeros.
 fn zeros<T: Words>(alloc: Global, n: usize) -> Result<Vec<Signed<T>>, AllocError>
-    ensures { IfOk result (λ v. (length v.items ≡ n) × ((d k : ℕ) → 0 < d → k < n → fraction_at T.value v.items d k ≡ 0ℚ)) }
+    ensures { IfOk result (λ v. AreZeros T.value n v.items) }
 {
     let mut numbers = Vec::new(alloc);
     for _ in 0..n {

@@ -14,7 +14,7 @@ pub loop-i-preserved : goal.loop-i-preserved
 loop-i-preserved g c = λ basis.
     let f = c.args.form.now in
     rows_more g.T.Words.value (g.T.Words.value c.args.denominator) c.loop-i.i (f.cols + f.rows) (basis_value f basis)
-    (at_place (unsolved f).rows) (start_entry f (Within 0ℚ) c.loop-i.i) c.loop-i.rows.items _ c.in-Some.row
+    (at_place (unsolved f).rows) (start_entry f (Within 0ℚ) c.loop-i.i) c.loop-i.rows.items c.push.new.self.items c.in-Some.row
     (c.loop-i.invariant basis) (some_is _ c.in_ok-row.field-0 c.in-Some.row c.in-Some.is c.in_ok-row.ensures)
     (λ k l. sym (unsolved_at f c.loop-i.i k (omega (arith, c.loop-i-test.true, c.rows-i-end.ensures.value)) l))
     c.in_ok-push-in-Some.ensures.items

@@ -1,5 +1,5 @@
 -- The zeros so far.
-use Rattle.lp_row_warm.proofs.Unsolved.{AreZeros}
+use Rattle.lp_row_warm.specs.Rows.{AreZeros}
 use Rattle.lp_row_warm.proofs.equations.zeros.Given as goal
 
 abbrev pub invariant-loop : goal.invariant-loop
