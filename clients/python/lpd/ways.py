@@ -3,8 +3,8 @@
 The first way is the program's own solve. Where it ends past 127 bits, or after the pivots that it makes where nobody sets a
 budget, a person still wants an answer. The other ways are, one after the other:
 
-1. past 127 bits `lpd presolve`, in whose smaller model numbers are often shorter;
-2. if another solver is there, its basis, made exact by `lpd basis --wide` or by exact steps in Python;
+1. if another solver is there, its basis, made exact by `lpd basis --wide` or by exact steps in Python;
+2. past 127 bits `lpd presolve`, in whose smaller model numbers are often shorter;
 3. past 127 bits `lpd solve --wide`, whose numbers have more of them;
 4. a basis that rough steps in Python come to, made exact likewise.
 
@@ -265,10 +265,10 @@ def ways_after(first: Optional[Answered], effort: Effort) -> List[Way]:
     """The ways that are left, in their order, where the program ended so, or refused a text with such numbers."""
     past = first.way.partition(",")[0] if first is not None and isinstance(first.answer, Past) else None
     ways: List[Way] = []
-    if past in (SOLVE, SOLVE_WIDE):
-        ways.append(by_presolve_then)
     if other_solver(effort.solver) != NONE:
         ways.append(from_another_basis)
+    if past in (SOLVE, SOLVE_WIDE):
+        ways.append(by_presolve_then)
     if past in (SOLVE, PRESOLVE) and effort.wide and not effort.wide_first:
         ways.append(by_solve_wide_then)
     return [*ways, from_own_basis]

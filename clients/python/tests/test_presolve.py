@@ -7,11 +7,14 @@ import random
 import unittest
 from fractions import Fraction
 from pathlib import Path
+from typing import Optional
 from unittest import mock
 
 import lpd
 from lpd.certificate import check_lines
 from lpd.dialects import PROFILE, written
+from lpd.exact import BASIC, LOWER, Basis
+from lpd.floating import Claim
 from lpd.once import has_command
 from lpd.presolving import Size, read_presolved
 from lpd.ways import BOTH, Effort, answered
@@ -37,6 +40,7 @@ RHS
 ENDATA
 """
 PAST = lpd.Past("ADD", Fraction(1), Fraction(2))
+KNOWN = lpd.Presolved(lpd.Optimal(Fraction(2)), ["OPTIMAL", "x x 2", "y R1 1", "END"], Size(1, 2))
 BY_PRESOLVE = "lpd presolve, which left 1 of 2 rows and 2 of 2 columns"
 
 
@@ -65,6 +69,15 @@ class Written(unittest.TestCase):
 class Ways(unittest.TestCase):
     """What is done with what the program answers, or where it does not know the command."""
 
+    def past(self) -> "mock._patch[mock.MagicMock]":
+        """A program whose own solve ends past 127 bits."""
+        return mock.patch("lpd.ways.by_lpd", return_value=lpd.Answered(PAST, [], "lpd solve"))
+
+    def other(self, name: str, claim: Optional[Claim] = None, error: Optional[lpd.LpdError] = None) -> "mock._patch[mock.MagicMock]":
+        """Another solver that is there, and what it says, or the error that it ends with; or none."""
+        ask = mock.Mock(return_value=claim, side_effect=error)
+        return mock.patch.multiple("lpd.ways", other_solver=mock.Mock(return_value=name), ask=ask)
+
     def test_a_program_without_the_command(self) -> None:
         with mock.patch("lpd.ways.presolve", side_effect=lpd.CommandMissing("presolve")):
             said = command("solve", str(MODELS / "diet.mps"), "--presolve", "--show", "answer")
@@ -75,15 +88,35 @@ class Ways(unittest.TestCase):
         self.assertEqual((said.status, said.complaints), (0, "note: lpd solve ends with PAST ADD 1 2\nnote: this program has no command solve --wide\n"))
         self.assertIn(f"This answer is by {the_basis()} from a basis of its own", said.output)
 
-    def test_past_127_bits_presolve_comes_before_other_solvers(self) -> None:
-        known = lpd.Presolved(lpd.Optimal(Fraction(2)), ["OPTIMAL", "x x 2", "y R1 1", "END"], Size(1, 2))
-        with mock.patch("lpd.ways.by_lpd", return_value=lpd.Answered(PAST, [], "lpd solve")), mock.patch("lpd.ways.presolve", return_value=known):
+    def test_another_solvers_basis_comes_before_it(self) -> None:
+        """Whose basis is optimal as it is: x and the sum of R2 are basic."""
+        claim = Claim("OPTIMAL", Fraction(2), Basis({"x": BASIC, "y": LOWER}, {"R1": LOWER, "R2": BASIC}))
+        with self.past(), self.other("glpsol", claim), mock.patch("lpd.ways.presolve") as asked:
             found = answered(TEXT, lpd.read_model(TEXT))
-            self.assertEqual((found.answer, found.way, found.accepted_by, found.reduced), (known.answer, BY_PRESOLVE, BOTH, Size(1, 2)))
-            self.assertEqual(found.notes, ["lpd solve ends with PAST ADD 1 2"])
-            self.assertEqual(answered(TEXT, lpd.read_model(TEXT), Effort(only_lpd=True)).answer, PAST)
-        with mock.patch("lpd.ways.by_lpd", return_value=lpd.Answered(lpd.Spent(10000), [], "lpd solve")), mock.patch("lpd.ways.presolve") as asked:
-            self.assertEqual(answered(TEXT, lpd.read_model(TEXT), Effort(solver="none")).answer, known.answer)
+        asked.assert_not_called()
+        self.assertEqual((found.answer, found.accepted_by, found.solver, found.reduced), (KNOWN.answer, BOTH, "glpsol", None))
+        self.assertEqual((found.way, found.notes), (f"{the_basis()} from glpsol's basis, in 0 pivots", ["lpd solve ends with PAST ADD 1 2"]))
+
+    def test_it_comes_where_no_basis_leads_to_an_answer(self) -> None:
+        """Where no other solver is on the path, or the one that is there gives none or is too slow for the seconds."""
+        ways = [
+            (self.other("none"), []),
+            (self.other("glpsol", Claim("nothing")), ["glpsol gives no basis, and says: nothing"]),
+            (self.other("glpsol", error=lpd.OutOfTime("late")), ["late"]),
+        ]
+        for way, notes in ways:
+            with self.past(), way, mock.patch("lpd.ways.presolve", return_value=KNOWN), self.subTest(notes):
+                found = answered(TEXT, lpd.read_model(TEXT))
+                self.assertEqual((found.answer, found.way, found.accepted_by, found.reduced), (KNOWN.answer, BY_PRESOLVE, BOTH, Size(1, 2)))
+                self.assertEqual((found.notes, found.solver), (["lpd solve ends with PAST ADD 1 2", *notes], None))
+
+    def test_where_it_is_not_asked(self) -> None:
+        """Where the program alone is wanted, and behind a budget that is spent."""
+        with mock.patch("lpd.ways.presolve", return_value=KNOWN) as asked:
+            with self.past():
+                self.assertEqual(answered(TEXT, lpd.read_model(TEXT), Effort(only_lpd=True)).answer, PAST)
+            with mock.patch("lpd.ways.by_lpd", return_value=lpd.Answered(lpd.Spent(10000), [], "lpd solve")):
+                self.assertEqual(answered(TEXT, lpd.read_model(TEXT), Effort(solver="none")).answer, KNOWN.answer)
             asked.assert_not_called()
 
     def test_a_certificate_that_a_checker_does_not_accept(self) -> None:
