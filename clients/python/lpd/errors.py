@@ -1,9 +1,10 @@
 """What goes wrong, as exceptions that say in words what was expected, what stood there, and what to do."""
 from __future__ import annotations
 
+from fractions import Fraction
 from typing import Dict, NamedTuple, Optional, Sequence, Type
 
-from .number_text import NotANumber, parse
+from .number_text import NotANumber, Number, parse
 
 
 def readable(text: str) -> str:
@@ -132,6 +133,8 @@ class TextFault(Refused):
     def __init__(self, line: int, fault: int, text: Optional[str] = None) -> None:
         self.line, self.fault, self.text = line, fault, text
         what, self.hint = FAULTS[fault]
+        if fault == TOO_WIDE and any(is_far(word) for word in (text or "").split()):
+            what, self.hint = FAR
         super().__init__(f"ERR 8 MPS {line} M{fault}", f"line {line} of the model's text: {what} (fault {fault}){quoted(text)}")
 
 
@@ -164,18 +167,23 @@ class BadName(Refused):
     hint = "A name is 1 to 64 bytes from ! to ~, and no row is named 'MARKER'."
 
 
-def is_too_wide(word: str) -> bool:
-    """Whether a word is a number that does not fit 127 bits."""
+def number_in(word: str) -> Number:
+    """The number that a word is, or else 0."""
     try:
-        found = parse(word)
+        return parse(word)
     except NotANumber:
-        return False
-    return found.is_cut or not found.is_narrow
+        return Number(Fraction(0), True)
+
+
+def is_far(word: str) -> bool:
+    """Whether a word is a number with an exponent that is read nowhere, at any width."""
+    return number_in(word).is_cut
 
 
 class CertificateFault(Refused):
     """A text spells no certificate. `line` is the first that does not fit, and `is_wide` says whether that is for a number past
-    127 bits alone, which lpd check --wide takes, and the checker in Python with wide=True (--wide)."""
+    127 bits alone, which lpd check --wide takes, and the checker in Python with wide=True (--wide). A number whose exponent is
+    past 16,384 neither takes."""
 
     code = 14
     hint = (
@@ -186,9 +194,12 @@ class CertificateFault(Refused):
     def __init__(self, line: int, text: Optional[str] = None) -> None:
         self.line, self.text = line, text
         words = (text or "").split()
-        self.is_wide = len(words) == 3 and words[0] in ("x", "y", "r") and is_too_wide(words[2])
+        found = number_in(words[2]) if len(words) == 3 and words[0] in ("x", "y", "r") else number_in("")
+        self.is_wide = not found.is_narrow and not found.is_cut
         what = "does not fit"
-        if self.is_wide:
+        if found.is_cut:
+            what, self.hint = "has a number whose exponent is past 16384", EXPONENTS.capitalize()
+        elif self.is_wide:
             what = "has a number past 127 bits"
             self.hint = "Numbers of any width are for lpd check --wide, and for the checker in Python with --wide (wide=True)."
         super().__init__(f"ERR 14 CERT {line}", f"line {line} of the certificate {what}{quoted(text)}")
@@ -219,6 +230,12 @@ class FaultWords(NamedTuple):
     hint: str
 
 
+TOO_WIDE = 10
+EXPONENTS = "with --wide too, a decimal without the zeros at its end has an exponent from -16384 to 16384."
+FAR = FaultWords(
+    "this number does not fit 127 bits, and its exponent is past 16384",
+    f"Numerator and denominator are at most 2^127 - 1; {EXPONENTS}",
+)
 ORDER = "Sections come as NAME, OBJSENSE, ROWS, COLUMNS, RHS, RANGES, BOUNDS, ENDATA, each at most once."
 ADJACENT = "The cards of a column are adjacent."
 FAULTS: Dict[int, FaultWords] = {
@@ -231,7 +248,7 @@ FAULTS: Dict[int, FaultWords] = {
     7: FaultWords("this column is there already", ADJACENT),
     8: FaultWords("this row has a number here already", "A column has one number for each row, and a set one right side and one range."),
     9: FaultWords("not a number", "Numbers are decimals as -1.5e3 or quotients as 2/3."),
-    10: FaultWords("this number does not fit 127 bits", "Numerator and denominator are at most 2^127 - 1."),
+    TOO_WIDE: FaultWords("this number does not fit 127 bits", "Numerator and denominator are at most 2^127 - 1."),
     11: FaultWords("unknown kind of a bound, or an infinite value that it does not take", "Kinds are UP, LO, FX, FR, MI and PL."),
     12: FaultWords("integer columns", "lpd solves linear programs: take the markers and the kinds BV, LI and UI out to solve the relaxation."),
     13: FaultWords("semi-continuous columns", "lpd solves linear programs: give the column a plain bound."),

@@ -195,6 +195,17 @@ class TheCommand(unittest.TestCase):
         self.assertNotIn("The first line is", said.complaints)
         self.assertEqual(self.said("--wide", certificate=f"OPTIMAL\nx a 1\ny R1 {10**40}\nEND\n").status, 1)
 
+    def test_an_exponent_that_is_read_at_no_width(self) -> None:
+        for words in ((), ("--wide",)):
+            said = self.said(*words, certificate="OPTIMAL\nx a 1e20000\ny R1 1\nEND\n")
+            self.assertEqual(said.status, 9)
+            self.assertIn("line 2 of the certificate has a number whose exponent is past 16384: 'x a 1e20000'", said.complaints)
+            self.assertIn("With --wide too, a decimal", said.complaints)
+            self.assertNotIn("lpd check --wide", said.complaints)
+            said = self.said(*words, text=LEAST.replace(" b cost 2", " b cost 2e-20000"))
+            self.assertEqual(said.status, 9)
+            self.assertIn("this number does not fit 127 bits, and its exponent is past 16384 (fault 10)", said.complaints)
+
     def test_utf8_in_errors(self) -> None:
         said = self.said(text=LEAST.replace(" b cost 2", " é_ü cost two"))
         self.assertIn("' é_ü cost two R1 1'".replace("' ", "'"), said.complaints)
