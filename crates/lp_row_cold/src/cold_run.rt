@@ -19,10 +19,6 @@ use lp_tableau::{Tableau, start_cold};
 use lp_wide::{Long, Quad, Words};
 use std::alloc::{AllocError, Global};
 
-// The effort of a run whose certificate has numbers of 127 bits, some seconds of it: each number that is changed counts
-// for the square of its words.
-const WORK: u64 = 512_000_000;
-
 // What a width leaves.
 #[derive(Drop)]
 pub(crate) enum Left<T: Words, N> {
@@ -419,23 +415,28 @@ fn cold_run<N: Listed>(
     }
 }
 
-/// The cold run over rows of whole numbers, within a budget of pivots and flips: from the form's start through both
-/// phases, with the certificate of the end.
+/// The cold run over rows of whole numbers, within a budget of pivots and flips and a bound on the work that the caller
+/// has: from the form's start through both phases, with the certificate of the end. Each number that is changed counts for
+/// the square of its words.
 ///
 /// For the form of a model it ends as the stated run with no limit on numbers, or has no end: where the start is past
-/// 127 bits, a number of a row past 2,048, or one of the certificate past 127, or where the budget is spent, or a bound
+/// 127 bits, a number of a row past 2,048, or one of the certificate past 127, or where the budget is spent, or the bound
 /// on the work. Which of these it is, is not said, and nothing is promised of when they come. Only want of memory is an
 /// error.
-pub fn cold(alloc: Global, form: &Form, budget: u64) -> Result<Option<RowEnd<Frac>>, AllocError>
+pub fn cold(
+    alloc: Global,
+    form: &Form,
+    budget: u64,
+    work: u64,
+) -> Result<Option<RowEnd<Frac>>, AllocError>
     ensures whole { (m : Model) → form_of (Some largest) m ≡ Ok form.now →
         IfOk result (EndsAsStated (phases_run None budget form.now)) }
     ensures narrow { IfOk result IsNarrowEnd }
 {
-    cold_run(alloc, form, budget, WORK)
+    cold_run(alloc, form, budget, work)
 }
 
-/// The same run with a certificate whose numbers have any width, within a bound on the work that the caller has: each number
-/// that is changed counts for the square of its words.
+/// The same run with a certificate whose numbers have any width.
 pub fn wide_cold(
     alloc: Global,
     form: &Form,

@@ -158,6 +158,7 @@ fn stated_part(alloc: Global, budget: u64, model: &Model, form: &Form) -> Result
 fn or_rows(
     alloc: Global,
     budget: u64,
+    work: u64,
     model: &Model,
     form: &Form,
     refused: End,
@@ -168,7 +169,7 @@ fn or_rows(
     ensures answer { IfOk result (order.MayEndCold (Some largest) budget model.now) }
     ensures narrow { IfOk result (IsFit model.now) }
 {
-    match over_rows(alloc, budget, model, form)? {
+    match over_rows(alloc, budget, work, model, form)? {
         Some(end) => {
             drop(refused);
             Ok(end)
@@ -178,7 +179,13 @@ fn or_rows(
 }
 
 // The stated runs first.
-fn stated_first(alloc: Global, budget: u64, model: &Model, form: &Form) -> Result<End, AllocError>
+fn stated_first(
+    alloc: Global,
+    budget: u64,
+    work: u64,
+    model: &Model,
+    form: &Form,
+) -> Result<End, AllocError>
     requires { form_of (Some largest) model.now ≡ Ok form.now }
     ensures answer { IfOk result (order.MayEndCold (Some largest) budget model.now) }
     ensures narrow { IfOk result (IsFit model.now) }
@@ -186,17 +193,23 @@ fn stated_first(alloc: Global, budget: u64, model: &Model, form: &Form) -> Resul
     let end = stated_part(alloc, budget, model, form)?;
     match end {
         End::Ended { .. } => Ok(end),
-        End::Past(_) | End::Spent => or_rows(alloc, budget, model, form, end),
+        End::Past(_) | End::Spent => or_rows(alloc, budget, work, model, form, end),
     }
 }
 
 // The run over rows of whole numbers first.
-fn rows_first(alloc: Global, budget: u64, model: &Model, form: &Form) -> Result<End, AllocError>
+fn rows_first(
+    alloc: Global,
+    budget: u64,
+    work: u64,
+    model: &Model,
+    form: &Form,
+) -> Result<End, AllocError>
     requires { form_of (Some largest) model.now ≡ Ok form.now }
     ensures answer { IfOk result (order.MayEndCold (Some largest) budget model.now) }
     ensures narrow { IfOk result (IsFit model.now) }
 {
-    match over_rows(alloc, budget, model, form)? {
+    match over_rows(alloc, budget, work, model, form)? {
         Some(end) => Ok(end),
         None => stated_part(alloc, budget, model, form),
     }
@@ -205,10 +218,11 @@ fn rows_first(alloc: Global, budget: u64, model: &Model, form: &Form) -> Result<
 /// The cold part of a solve, of which each run has the whole budget: an answer of the cold solve without a limit, to
 /// which the checker says yes at 127 bits, by a stated run or over rows of whole numbers; or without one what the
 /// tableaus are refused, where the run over factors gives up too. Rows come first, or last where a stated run is likely
-/// the quicker one: a choice of speed alone.
+/// the quicker one: a choice of speed alone. They give up where their effort passes `work`.
 pub(crate) fn cold_part(
     alloc: Global,
     budget: u64,
+    work: u64,
     model: &Model,
     form: &Form,
 ) -> Result<End, AllocError>
@@ -217,8 +231,8 @@ pub(crate) fn cold_part(
     ensures narrow { IfOk result (IsFit model.now) }
 {
     if suits_factors(form) || is_tall(form) {
-        stated_first(alloc, budget, model, form)
+        stated_first(alloc, budget, work, model, form)
     } else {
-        rows_first(alloc, budget, model, form)
+        rows_first(alloc, budget, work, model, form)
     }
 }

@@ -16,6 +16,10 @@ use lp_model::Model;
 use lp_row_cold::RowEnd;
 use std::alloc::{AllocError, Global};
 
+/// The effort of a run whose certificate has numbers of 127 bits, some seconds of it: each number that is changed counts
+/// for the square of its words.
+pub(crate) const WORK: u64 = 512_000_000;
+
 // What the run ended with, where the checker says yes to its certificate.
 fn checked(model: &Model, form: &Form, end: RowEnd<Frac>) -> Option<End>
     requires fits { IsFor model.now end.certificate }
@@ -34,10 +38,11 @@ fn checked(model: &Model, form: &Form, end: RowEnd<Frac>) -> Option<End>
 }
 
 /// The answer that the run over rows of whole numbers wins, if it ends, and the checker says yes to its certificate at
-/// 127 bits.
+/// 127 bits. It gives up where its effort passes `work`.
 pub(crate) fn over_rows(
     alloc: Global,
     budget: u64,
+    work: u64,
     model: &Model,
     form: &Form,
 ) -> Result<Option<End>, AllocError>
@@ -45,7 +50,7 @@ pub(crate) fn over_rows(
     ensures answer { IfOk result (λ o. IfSome o (order.MayEndCold (Some largest) budget model.now)) }
     ensures narrow { IfOk result (λ o. IfSome o (IsFit model.now)) }
 {
-    match lp_row_cold::cold(alloc, form, budget)? {
+    match lp_row_cold::cold(alloc, form, budget, work)? {
         Some(end) => Ok(checked(model, form, end)),
         None => Ok(None),
     }

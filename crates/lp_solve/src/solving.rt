@@ -11,6 +11,7 @@ ghost use Rattle.lp_solve.specs.Stopped.{IsAfterStop};
 
 use crate::cold::{End, answered};
 use crate::factors::cold_part;
+use crate::rows::WORK;
 use crate::warm::{Warm, WarmStop, from_basis};
 use lp_check::Certificate;
 use lp_form::{Basis, Form};
@@ -47,7 +48,7 @@ pub(crate) fn cold_after(
     ensures { IfOk result (IsAfterStop budget model.now form.now stop) }
 {
     Ok(Solved {
-        end: cold_part(alloc, budget, model, form)?,
+        end: cold_part(alloc, budget, WORK, model, form)?,
         route: Route::Fell(fall(stop)),
     })
 }
@@ -115,7 +116,7 @@ pub fn solve_formed(
 {
     match handed {
         Some(basis) => warm_first(alloc, budget, model, form, basis),
-        None => Ok(cold(cold_part(alloc, budget, model, form)?)),
+        None => Ok(cold(cold_part(alloc, budget, WORK, model, form)?)),
     }
 }
 
