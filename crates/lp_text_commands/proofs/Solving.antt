@@ -11,7 +11,7 @@ use Rattle.spec_solve.specs.Answers.{IsSolved}
 use Rattle.spec_server.specs.Machine.{opening_budget}
 use Rattle.spec_solve.specs.Wide.{WideEnd, IsWideSolved}
 use Rattle.spec_solve.specs.declared.wide_solved.WideSolved.TheVariants.{Wide}
-use Rattle.spec_solve.proofs.WideAnswers.{unlimited_true}
+use Rattle.spec_solve.proofs.WideAnswers.{wide_true}
 use Rattle.spec_commands.specs.SolveOut.{SolveOut, solved_lines}
 use Rattle.spec_commands.specs.SolveWideOut.{SolveWideOut, wide_end_lines}
 use Rattle.lp_text_commands.specs.Prints.{Prints}
@@ -36,4 +36,4 @@ prints_wide m end before after (Err why) is lines = tt
 pub wide_fits : (m : Model) (end : WideEnd) (known : Known ℚ) (certificate : Certificate (List ℚ)) →
     end ≡ Wide known certificate → IsWideSolved m opening_budget end → IsFor m certificate
 wide_fits m end known certificate e h =
-    (unlimited_true m opening_budget known certificate (subst (IsWideSolved m opening_budget) e h).1).1
+    (wide_true m opening_budget known certificate (subst (IsWideSolved m opening_budget) e h).1).1

@@ -33,7 +33,7 @@ use Rattle.spec_solve.specs.Answers.{number_limit}
 use Rattle.spec_solve.specs.declared.wide_solved.WideBased.TheVariants as based_end
 use Rattle.spec_solve.specs.declared.wide_solved.WideSolved.TheVariants as wide_end
 use Rattle.spec_solve.specs.Wide.{IsWideSolved}
-use Rattle.spec_solve.proofs.WideAnswers.{unlimited_true, answer_true}
+use Rattle.spec_solve.proofs.WideAnswers.{wide_true, answer_true}
 use Rattle.spec_server.specs.declared.asks.Reply.TheVariants as reply
 use Rattle.spec_server.specs.Machine.{opening_budget}
 use Rattle.spec_server.specs.Output.{ended_lines}
@@ -55,7 +55,7 @@ pub out_true : (m : Model) (written : List ℕ) → SolveWideOut (Ok m) written 
 unfolding wide_solved_lines
 out_true m written (wide_end.Narrow solved, is, lines) = inl (solved, is, lines)
 out_true m written (wide_end.Wide known cert, is, lines) =
-    inr (known, ended_lines (wide_certificate_lines m cert), lines, (unlimited_true m opening_budget known cert is.1).0)
+    inr (known, ended_lines (wide_certificate_lines m cert), lines, (wide_true m opening_budget known cert is.1).0)
 
 -- and of one to which a basis was handed
 pub based_true : (handed : Handed) (written : List ℕ) → BasisWideOut (Ok handed) written →
@@ -188,4 +188,4 @@ module _ (style : Style) (front : List (Line (List ℕ))) (last : Line (List ℕ
 
   pub wide_accepted : (budget : ℕ) → IsWideSolved m budget (wide_end.Wide known cert) → AcceptsBehind
   wide_accepted budget is =
-      let u = unlimited_true m budget known cert is.1 in accepted_behind u.1 u.2
+      let u = wide_true m budget known cert is.1 in accepted_behind u.1 u.2

@@ -20,25 +20,34 @@ use Rattle.spec_warm.specs.declared.ends.Route.TheVariants as found
 use Rattle.spec_warm.specs.declared.ends.Warm.TheVariants as start
 use Rattle.spec_warm.specs.Solve.{SolveEnd}
 use Rattle.spec_solve.specs.Answers.{number_limit, IsSolved}
-use Rattle.spec_solve.specs.Wide.{ExactAnswer, IsUnlimited, IsWarmEnd, IsColdEnd, IsRunEnd, IsAtHanded, IsWideAnswer, IsWideSolved}
+use Rattle.spec_solve.specs.Wide.{ExactAnswer, IsUnlimited, IsOfSomeBasis, IsWarmEnd, IsColdEnd, IsRunEnd, IsAtHanded}
+use Rattle.spec_solve.specs.Wide.{IsWideAnswer, IsWideSolved}
 use Rattle.spec_solve.specs.declared.wide_solved.WideSolved.TheVariants.{Wide}
 use Rattle.spec_solve.proofs.Left.{cold_left, warm_left}
 use Rattle.spec_solve.proofs.Solves.{cold_fits}
 
-pub unlimited_true : (m : Model) (budget : ℕ) (known : Known ℚ) (cert : Certificate (List ℚ)) →
-    IsUnlimited m budget known cert → Holds m known × IsFor m cert × (check_run None m cert ≡ Ok known)
-unlimited_true m budget known cert u =
+-- what the checker says yes to is true
+pub accepted_true : (m : Model) (known : Known ℚ) (cert : Certificate (List ℚ)) →
+    IsFor m cert → check_run None m cert ≡ Ok known → Holds m known
+accepted_true m known cert fits accepted =
+    let sound = run_sound None m cert known fits accepted in
+    subst (Holds m) (sym sound.1) (checks_hold m cert sound.0)
+
+-- the end of a cold solve without a limit, or the answer of a basis
+pub wide_true : (m : Model) (budget : ℕ) (known : Known ℚ) (cert : Certificate (List ℚ)) →
+    IsUnlimited m budget known cert ⊎ IsOfSomeBasis m known cert →
+    Holds m known × IsFor m cert × (check_run None m cert ≡ Ok known)
+wide_true m budget known cert (inl u) =
     let t = ended_is_true None budget m known cert u.basis u.pivots u.ends in
     (t.0, cold_fits None budget m known cert u.basis u.pivots u.ends, t.1)
+wide_true m budget known cert (inr b) = (accepted_true m known cert b.fits b.accepted, b.fits, b.accepted)
 
 -- ---- with a basis handed to it
 
 module _ (m : Model) (budget : ℕ) (a : ExactAnswer) where
   pub answer_true : (handed : Option (List Status)) → IsWideAnswer m budget handed a →
       Holds m a.known × IsFor m a.certificate × (check_run None m a.certificate ≡ Ok a.known)
-  answer_true handed h =
-      let sound = run_sound None m a.certificate a.known h.fits h.accepted in
-      (subst (Holds m) (sym sound.1) (checks_hold m a.certificate sound.0), h.fits, h.accepted)
+  answer_true handed h = (accepted_true m a.known a.certificate h.fits h.accepted, h.fits, h.accepted)
 
   -- it is that of the basis that is handed, or a solve may be refused an operation
   pub answer_refused : (handed : Option (List Status)) → IsWideAnswer m budget handed a →
@@ -62,7 +71,7 @@ module _ (m : Model) (budget : ℕ) (a : ExactAnswer) where
           IsWideSolved m budget (Wide a.known a.certificate) × (a.route ≡ found.Cold)
       ended run (inl e) = absurd e
       ended run (inr e) = (
-        (run.past, record { basis = a.basis; pivots = a.pivots; ends = e.0 }),
+        (run.past, inl (record { basis = a.basis; pivots = a.pivots; ends = e.0 })),
         e.1 ∙ run.past.is_solved.how_fits.0,
       )
 

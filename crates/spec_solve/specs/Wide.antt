@@ -9,6 +9,8 @@ use Rattle.spec_check.specs.declared.solve_end.SolveEnd.TheVariants as outcome
 use Rattle.spec_check.specs.Certificate.{IsFor}
 use Rattle.spec_check.specs.Run.{check_run}
 use Rattle.spec_pivot.specs.declared.status.Status.{Status}
+use Rattle.spec_simplex.specs.Eliminate.{IsBasisOf}
+use Rattle.spec_simplex.specs.Form.{Form, form_of}
 use Rattle.spec_cold.specs.Cold.{cold}
 use Rattle.spec_warm.specs.declared.ends.Route.{Route}
 use Rattle.spec_warm.specs.declared.ends.Route.TheVariants as found
@@ -46,10 +48,22 @@ pub record IsUnlimited (m : Model) (budget : ℕ) (known : Known ℚ) (certifica
   pub pivots : ℕ
   pub ends : cold None budget m ≡ outcome.Ended known certificate basis pivots
 
--- As a solve; or, only where a solve may end with an operation that is past the limit, as the cold solve without one.
+-- The certificate is that of a basis of the model's form, and the checker says yes to it without a limit.
+pub record IsOfSomeBasis (m : Model) (known : Known ℚ) (certificate : Certificate (List ℚ)) : Type 0 where
+  pub form : Form
+  pub formed : form_of (Some number_limit) m ≡ Ok form
+  pub basis : List Status
+  pub fits_form : IsBasisOf form basis
+  pub stands : IsOfBasis m basis certificate
+  pub fits : IsFor m certificate
+  pub accepted : check_run None m certificate ≡ Ok known
+
+-- As a solve; or, only where a solve may end with an operation that is past the limit, as the cold solve without one, or
+-- with the answer of a basis.
 abbrev pub IsWideSolved : Model → ℕ → WideEnd → Type 0
 IsWideSolved m budget (Narrow solved) = IsSolved m budget None solved
-IsWideSolved m budget (Wide known certificate) = IsPastFrom m budget None × IsUnlimited m budget known certificate
+IsWideSolved m budget (Wide known certificate) =
+    IsPastFrom m budget None × (IsUnlimited m budget known certificate ⊎ IsOfSomeBasis m known certificate)
 
 -- the end of the start from what is handed, without a limit
 abbrev pub IsWarmEnd : Model → ℕ → Option (List Status) → ExactAnswer → Type 0

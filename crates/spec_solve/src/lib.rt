@@ -11,6 +11,7 @@
 //! | `IsSolved` | all that holds of what a solve ends with, of which a basis may be handed | specs/Answers |
 //! | `WideSolved`, `IsWideSolved` | what a solve ends with whose certificate may have numbers of any width | src/wide_solved, specs/Wide |
 //! | `WideBased`, `WideAnswer`, `IsWideFrom` | the same of one to which a basis may be handed | src/wide_solved, specs/Wide |
+//! | `IsOfSomeBasis` | the answer of any basis of the model's form, to whose certificate the checker says yes | specs/Wide |
 //! | `IsOfBasis`, `StandsAt` | the certificate of a basis | specs/OfBasis |
 //! | `number_limit`, `enough_pivots` | the limit of the program, and so many pivots and flips as are enough | specs/Answers |
 //!
@@ -49,7 +50,7 @@ ghost use Rattle.spec_solve.specs.Answers.{number_limit, MayAnswer, IsSolved};
 ghost use Rattle.spec_solve.specs.OfBasis.{StandsAt};
 ghost use Rattle.spec_solve.specs.declared.wide_solved.WideBased.TheVariants as based;
 ghost use Rattle.spec_solve.specs.declared.wide_solved.WideSolved.TheVariants as wide;
-ghost use Rattle.spec_solve.specs.Wide.{ExactAnswer, IsAtBasis, IsAtHanded, IsWideSolved, IsWideFrom};
+ghost use Rattle.spec_solve.specs.Wide.{ExactAnswer, IsAtBasis, IsAtHanded, IsOfSomeBasis, IsWideSolved, IsWideFrom};
 
 pub use wide_solved::{WideAnswer, WideBased, WideSolved};
 
@@ -198,6 +199,21 @@ pub fn wide_solves_leave_bases_of_the_form()
 pub fn wide_answers_agree()
     ensures { (m : Model) (budget other : ℕ) (handed given : Option (List Status)) (a b : ExactAnswer) →
         IsWideFrom m budget handed (based.Wide a) → IsWideFrom m other given (based.Wide b) → a.known ≡ b.known }
+{}
+
+/// What is known of a model by two wide solves with nothing handed is the same, within each budget, and whether it is known
+/// as the end of the cold solve without a limit or as the answer of a basis.
+pub fn wide_solves_agree()
+    ensures { (m : Model) (budget other : ℕ) (known given : Known ℚ) (c d : Certificate (List ℚ)) →
+        IsWideSolved m budget (wide.Wide known c) → IsWideSolved m other (wide.Wide given d) → known ≡ given }
+{}
+
+/// The answer of some basis of the model's form is an optimum at the point of its certificate, which stands at the basis.
+pub fn answers_of_some_basis_are_optimal()
+    ensures { (m : Model) (answer : Known ℚ) (cert : Certificate (List ℚ)) → IsOfSomeBasis m answer cert →
+        (f : Form) × (basis : List Status) × (form_of (Some number_limit) m ≡ Ok f) × IsBasisOf f basis
+        × (x : List ℚ) × (y : List ℚ) × (cert ≡ certificate.Optimal x y) × StandsAt m basis x y
+        × (answer ≡ known.Optimal (value_of m x)) × IsOptimal m (value_of m x) }
 {}
 
 /// The answer of a basis that is handed is an optimum at the point of its certificate, which stands at the basis.
