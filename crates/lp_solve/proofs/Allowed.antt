@@ -64,12 +64,18 @@ after_stop budget m f stop end formed may fit = λ basis fits stops.
     fall_solved budget m f basis formed fits stop (warm.Stopped stop) end refl (sym stops) may fit
 
 -- ---- where nothing is handed
+pub unhanded_solved : (budget : ℕ) (m : Model) (end : ExactSolveEnd) (s : SolveEnd) →
+    s ≡ record { end = end; route = route.Cold } → MayEndCold (Some largest) budget m end → IsFit m end →
+    IsSolved m budget None s
+unhanded_solved budget m end s is may fit =
+    subst (IsSolved m budget None) (sym is) (cold_solved m budget end may (fit_end m end fit))
+
 pub nothing_solved : {B : Type 0} (budget : ℕ) (m : Model) (view : B → List Status) (handed : Option B)
     (end : ExactSolveEnd) (s : SolveEnd) → handed ≡ None → s ≡ record { end = end; route = route.Cold } →
     MayEndCold (Some largest) budget m end → IsFit m end → IsSolved m budget (option_map view handed) s
 nothing_solved budget m view handed end s e is may fit =
     subst (λ handed. IsSolved m budget (option_map view handed) s) (sym e)
-    (subst (IsSolved m budget None) (sym is) (cold_solved m budget end may (fit_end m end fit)))
+    (unhanded_solved budget m end s is may fit)
 
 -- ---- the basis that is left
 handed_fits : {B : Type 0} (view : B → List Status) (f : Form) (handed : Option B) →

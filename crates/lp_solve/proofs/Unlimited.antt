@@ -27,7 +27,7 @@ use Rattle.spec_warm.specs.Warm as warms
 use Rattle.spec_warm.specs.Warm.{warm, warm_certificate}
 use Rattle.spec_warm.proofs.TrueEnds.{run_accepted}
 use Rattle.spec_solve.specs.Answers.{IsSolved}
-use Rattle.spec_solve.specs.Wide.{ExactAnswer, IsPastFrom, IsUnlimited, IsWarmEnd, IsColdEnd, IsWideAnswer}
+use Rattle.spec_solve.specs.Wide.{ExactAnswer, IsPastFrom, IsWarmEnd, IsColdEnd, IsWideAnswer}
 use Rattle.lp_frac.specs.Narrow.{largest}
 use Rattle.lp_revised.specs.Runs.{over_end}
 use Rattle.lp_row_cold.specs.declared.phases.RowEnd.{RowEnd}
@@ -131,12 +131,7 @@ pub is_past : (m : Model) (budget : ℕ) (handed : Option (List Status)) (solved
     IsSolved m budget handed solved → solved.end ≡ outcome.Past p → IsPastFrom m budget handed
 is_past m budget handed solved p s e = record { solved = solved; past = p; is_solved = s; is_past = e }
 
--- an answer of the cold run
-pub is_unlimited : (m : Model) (budget : ℕ) (a : ExactAnswer) (route : Route) →
-    IsCertified m a × IsColdEnd m budget route a → IsUnlimited m budget a.known a.certificate
-is_unlimited m budget a route h = record { basis = a.basis; pivots = a.pivots; ends = h.1.0 }
-
--- and of either run
+-- an answer of either run
 pub is_answer : (m : Model) (budget : ℕ) (handed : Option (List Status)) (solved : SolveEnd) (p : Past ℚ)
     (a : ExactAnswer) →
     IsSolved m budget handed solved → solved.end ≡ outcome.Past p →

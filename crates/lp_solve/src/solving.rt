@@ -1,5 +1,5 @@
 // The solve of a model, of which a basis may be handed.
-ghost use Rattle.std.specs.Prelude.{◌≡◌, IfOk, IfSome, Ok, Some, option_map};
+ghost use Rattle.std.specs.Prelude.{◌≡◌, IfOk, IfSome, Ok, Some, None, option_map};
 ghost use Rattle.spec_simplex.specs.Eliminate.{IsBasisOf};
 ghost use Rattle.spec_simplex.specs.Form.{form_of};
 ghost use Rattle.spec_warm.specs.declared.ends.Route.TheVariants as route;
@@ -92,13 +92,27 @@ pub(crate) fn warm(end: End) -> Solved
 }
 
 // From the start that each model has.
-fn cold(end: End) -> Solved
+pub(crate) fn cold(end: End) -> Solved
     ensures { result ≡ record { end = end; route = route.Cold } }
 {
     Solved {
         end,
         route: Route::Cold,
     }
+}
+
+/// From the start that each model has, with `work` as the bound on the effort over rows.
+pub(crate) fn cold_within(
+    alloc: Global,
+    model: &Model,
+    budget: u64,
+    work: u64,
+    form: &Form,
+) -> Result<Solved, AllocError>
+    requires { form_of (Some largest) model.now ≡ Ok form.now }
+    ensures { IfOk result (IsSolved model.now budget None) }
+{
+    Ok(cold(cold_part(alloc, budget, work, model, form)?))
 }
 
 /// The same solve of a model whose form is at hand. The basis of an optimum is one of this form.
@@ -116,7 +130,7 @@ pub fn solve_formed(
 {
     match handed {
         Some(basis) => warm_first(alloc, budget, model, form, basis),
-        None => Ok(cold(cold_part(alloc, budget, WORK, model, form)?)),
+        None => cold_within(alloc, model, budget, WORK, form),
     }
 }
 

@@ -1,18 +1,20 @@
 // The solve of a model whose certificate may have numbers of any width.
-ghost use Rattle.std.specs.Prelude.{◌≡◌, ◌⊎◌, IfOk, IfSome, Ok, Some};
+ghost use Rattle.std.specs.Prelude.{◌≡◌, ◌⊎◌, IfOk, IfSome, Ok, Some, None};
 ghost use Rattle.spec_check.specs.Certificate.{IsFor};
 ghost use Rattle.spec_simplex.specs.Eliminate.{IsBasisOf};
 ghost use Rattle.spec_simplex.specs.Form.{form_of};
-ghost use Rattle.spec_warm.specs.declared.ends.Route.TheVariants as routes;
-ghost use Rattle.spec_solve.specs.Answers.{number_limit};
-ghost use Rattle.spec_solve.specs.Wide.{IsWarmEnd, IsColdEnd, IsWideSolved, IsWideAnswer, IsWideFrom};
+ghost use Rattle.spec_solve.specs.Answers.{number_limit, IsSolved};
+ghost use Rattle.spec_solve.specs.declared.wide_solved.WideSolved.TheVariants as wides;
+ghost use Rattle.spec_solve.specs.Wide.{IsPastFrom, IsOfSomeBasis, IsWarmEnd, IsColdEnd, IsWideSolved, IsWideAnswer};
+ghost use Rattle.spec_solve.specs.Wide.{IsWideFrom};
 ghost use Rattle.lp_frac.specs.Narrow.{largest};
 ghost use Rattle.lp_solve.specs.Stopped.{StopsFrom};
 ghost use Rattle.lp_solve.specs.Wide.{AcceptsEnd, IsCertified, IsCertifiedAt};
 
 use crate::basis::basis_of;
 use crate::cold::End;
-use crate::solving::{Solved, cold_after, solve, warm};
+use crate::rows::{WORK, over_rows};
+use crate::solving::{Solved, cold, cold_after, cold_within, solve, warm};
 use crate::warm::{Warm, WarmStop, from_basis};
 use lp_check_wide::{Ratios, Verdict, check};
 use lp_form::{Basis, Form, StatusList};
@@ -20,11 +22,15 @@ use lp_frac::Stop;
 use lp_lift::certificate_of_basis;
 use lp_model::Model;
 use lp_ratio::Ratio;
+use lp_rough::rough_basis;
 use lp_row_cold::{RowEnd, wide_cold};
 use lp_row_warm::wide_warm;
 use lp_standard::form;
 use spec_warm::Route;
 use std::alloc::{AllocError, Global};
+
+// The effort over rows of a wide solve before it asks for a basis, some hundredths of a second of it.
+const FIRST_WORK: u64 = 1_000_000;
 
 // The effort of a run without a limit on the numbers of its certificate, some minutes of it.
 const WIDE_WORK: u64 = 64_000_000_000;
@@ -108,22 +114,6 @@ fn unlimited_from(
     }
 }
 
-// What is known of a model that may have no form.
-fn beyond(alloc: Global, model: &Model, budget: u64) -> Result<Option<WideAnswer>, AllocError>
-    ensures { IfOk result
-        (λ o. IfSome o (λ a. IsCertified model.now a × IsColdEnd model.now budget routes.Cold a)) }
-{
-    match form(alloc, model) {
-        Ok(form) => {
-            let known = unlimited(alloc, model, &form, budget, Route::Cold);
-            drop(form);
-            known
-        }
-        Err(Stop::Cause(_)) | Err(Stop::Past(_)) => Ok(None),
-        Err(Stop::NoMemory) => Err(AllocError),
-    }
-}
-
 // What is known where a solve on this route is refused an operation: from the basis, and where that comes to no answer
 // from the start that each model has.
 fn beyond_from(
@@ -142,30 +132,6 @@ fn beyond_from(
     match unlimited_from(alloc, model, form, budget, basis)? {
         Some(known) => Ok(Some(known)),
         None => unlimited(alloc, model, form, budget, route),
-    }
-}
-
-/// Solves the model as `solve` does from the start that each model has. Only where that is refused an operation, it goes
-/// on over rows of whole numbers, with a certificate whose numbers may have any width, and has this one checked. Where
-/// this comes to no answer either, the refusal stays.
-pub fn solve_wide(alloc: Global, model: &Model, budget: u64) -> Result<WideSolved, AllocError>
-    ensures { IfOk result (IsWideSolved model.now budget) }
-{
-    let solved = solve(alloc, model, budget, None)?;
-    match solved.end {
-        End::Past(_) => {}
-        End::Ended { .. } | End::Spent => return Ok(WideSolved::Narrow(solved)),
-    }
-    match beyond(alloc, model, budget)? {
-        Some(found) => {
-            drop(solved);
-            drop(found.basis);
-            Ok(WideSolved::Wide {
-                answer: found.known,
-                certificate: found.certificate,
-            })
-        }
-        None => Ok(WideSolved::Narrow(solved)),
     }
 }
 
@@ -191,6 +157,107 @@ fn at_basis(
             checked(alloc, model, form, end, Route::Warm)
         }
         None => Ok(None),
+    }
+}
+
+// The answer of the basis at which a run in floating point stops, if the checker without a limit says yes to it.
+fn at_rough_basis(
+    alloc: Global,
+    model: &Model,
+    form: &Form,
+) -> Result<Option<WideAnswer>, AllocError>
+    requires { form_of (Some largest) model.now ≡ Ok form.now }
+    ensures { IfOk result (λ o. IfSome o (λ a. IsOfSomeBasis model.now a.known a.certificate)) }
+{
+    match rough_basis(alloc, form, None)? {
+        Some(statuses) => {
+            let basis = Basis::from_vec(statuses.into_vec(), form.rows());
+            let found = at_basis(alloc, model, form, &basis);
+            drop(basis);
+            found
+        }
+        None => Ok(None),
+    }
+}
+
+// How a wide solve ends that comes to this answer.
+fn wide(found: WideAnswer) -> WideSolved
+    ensures { result ≡ wides.Wide found.known found.certificate }
+{
+    drop(found.basis);
+    WideSolved::Wide {
+        answer: found.known,
+        certificate: found.certificate,
+    }
+}
+
+// Over rows with the whole work of a solve, where all else has ended so, and then without a limit.
+fn over_rows_in_full(
+    alloc: Global,
+    model: &Model,
+    budget: u64,
+    form: &Form,
+    refused: Solved,
+) -> Result<WideSolved, AllocError>
+    requires formed { form_of (Some largest) model.now ≡ Ok form.now }
+    requires solved { IsSolved model.now budget None refused }
+    requires past { IsPastFrom model.now budget None }
+    ensures { IfOk result (IsWideSolved model.now budget) }
+{
+    if let Some(end) = over_rows(alloc, budget, WORK, model, form)? {
+        drop(refused);
+        return Ok(WideSolved::Narrow(cold(end)));
+    }
+    match unlimited(alloc, model, form, budget, Route::Cold)? {
+        Some(found) => {
+            drop(refused);
+            Ok(wide(found))
+        }
+        None => Ok(WideSolved::Narrow(refused)),
+    }
+}
+
+// How a wide solve ends of a model whose form is at hand.
+fn solve_wide_formed(
+    alloc: Global,
+    model: &Model,
+    budget: u64,
+    form: &Form,
+) -> Result<WideSolved, AllocError>
+    requires { form_of (Some largest) model.now ≡ Ok form.now }
+    ensures { IfOk result (IsWideSolved model.now budget) }
+{
+    let solved = cold_within(alloc, model, budget, FIRST_WORK, form)?;
+    match solved.end {
+        End::Past(_) => {}
+        End::Ended { .. } | End::Spent => return Ok(WideSolved::Narrow(solved)),
+    }
+    match at_rough_basis(alloc, model, form)? {
+        Some(found) => {
+            drop(solved);
+            Ok(wide(found))
+        }
+        None => over_rows_in_full(alloc, model, budget, form, solved),
+    }
+}
+
+/// Solves the model as `solve` does from the start that each model has, but with less work over rows of whole numbers.
+/// Only where that is refused an operation, it asks for the answer of the basis at which a run in floating point stops.
+/// Where there is none, it goes on over rows with all their work, and then over rows without a limit. Each certificate
+/// past 127 bits may have numbers of any width, and is checked. Where nothing comes to an answer, the refusal stays.
+pub fn solve_wide(alloc: Global, model: &Model, budget: u64) -> Result<WideSolved, AllocError>
+    ensures { IfOk result (IsWideSolved model.now budget) }
+{
+    match form(alloc, model) {
+        Ok(form) => {
+            let solved = solve_wide_formed(alloc, model, budget, &form);
+            drop(form);
+            solved
+        }
+        Err(Stop::Cause(_)) | Err(Stop::Past(_)) => {
+            Ok(WideSolved::Narrow(solve(alloc, model, budget, None)?))
+        }
+        Err(Stop::NoMemory) => Err(AllocError),
     }
 }
 

@@ -1,7 +1,7 @@
 -- From the basis that is handed; and where nothing is, the solve is cold.
 use Rattle.std.proofs.Common.{IfOk, option_map, sym, subst}
 use Rattle.spec_solve.specs.Answers.{IsSolved}
-use Rattle.lp_solve.proofs.Allowed.{nothing_solved, solve_leaves, solves_leave}
+use Rattle.lp_solve.proofs.Allowed.{solves_leave}
 use Rattle.lp_solve.proofs.solving.solve_formed.Goals as goal
 
 pub returns-in-Some-clause-solved : goal.returns-in-Some-clause-solved
@@ -18,14 +18,16 @@ returns-in-Some-clause-basis c =
     (IsSolved c.args.model.now c.args.budget (option_map (λ basis. basis.now) handed)))
     (sym c.in-Some.is) c.warm_first.ensures)
 
-pub returns-in_ok-cold_part-in-None-clause-solved : goal.returns-in_ok-cold_part-in-None-clause-solved
-returns-in_ok-cold_part-in-None-clause-solved c =
-    nothing_solved c.args.budget c.args.model.now _ c.args.handed _ _ c.in-None.is c.cold.ensures
-    c.in_ok-cold_part-in-None.ensures.answer c.in_ok-cold_part-in-None.ensures.narrow
+pub returns-in-None-clause-solved : goal.returns-in-None-clause-solved
+returns-in-None-clause-solved c =
+    subst (λ handed. IfOk c.cold_within.result
+    (IsSolved c.args.model.now c.args.budget (option_map (λ basis. basis.now) handed)))
+    (sym c.in-None.is) c.cold_within.ensures
 
-pub returns-in_ok-cold_part-in-None-clause-basis : goal.returns-in_ok-cold_part-in-None-clause-basis
-returns-in_ok-cold_part-in-None-clause-basis c =
-    solve_leaves c.args.budget c.args.model.now c.args.form.now _ c.args.handed c.requires.formed c.requires.fits
-    c.cold.result
-    (nothing_solved c.args.budget c.args.model.now _ c.args.handed _ _ c.in-None.is c.cold.ensures
-    c.in_ok-cold_part-in-None.ensures.answer c.in_ok-cold_part-in-None.ensures.narrow)
+pub returns-in-None-clause-basis : goal.returns-in-None-clause-basis
+returns-in-None-clause-basis c =
+    solves_leave c.args.budget c.args.model.now c.args.form.now _ c.args.handed c.requires.formed c.requires.fits
+    c.cold_within.result
+    (subst (λ handed. IfOk c.cold_within.result
+    (IsSolved c.args.model.now c.args.budget (option_map (λ basis. basis.now) handed)))
+    (sym c.in-None.is) c.cold_within.ensures)
