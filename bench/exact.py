@@ -1,7 +1,8 @@
 #!/usr/bin/env python3
 """Makes the bases of a solver in floating point exact by `lpd basis --wide`: of the 200 models of planners.py, or of a folder's.
 
-    exact.py [--folder FOLDER] [--program PROGRAM] [--solver SOLVER] [--seed WORD] [--runs N] [--seconds N] [--write PAGE]
+    exact.py [--folder FOLDER] [--program PROGRAM] [--solver SOLVER] [--only WORD,..] [--seed WORD] [--runs N] [--seconds N]
+             [--write PAGE]
 
 SOLVER (glpsol) is asked for a basis, as the command `certify` of clients/python asks it. The model and the basis go to `lpd basis
 --wide`, and its certificate to `lpd check --wide` and to the checker in Python, which both have to say yes to it and to the value.
@@ -21,8 +22,8 @@ from fractions import Fraction
 
 from options import read_options
 from page import ended, shown
-from planners import EACH, KINDS, made, row
-from solvers import CHECKER, Esolver, Model, least, run, texts_of
+from planners import EACH, chosen, made, row
+from solvers import CHECKER, Esolver, Model, least, limited, run, texts_of
 
 from lpd.basis_file import basis_lines  # the package of this repository, to which solvers.py has the way
 from lpd.conversion import convert
@@ -45,6 +46,15 @@ def bits_of(certificate):
     return max((max(abs(n.numerator), n.denominator).bit_length() for n in numbers), default=0)
 
 
+def checked(options, model, answer, certificate, faults):
+    """The time of `lpd check --wide`, which has to say yes to the certificate and to the answer, as has the checker in Python."""
+    text = model.data + "".join(f"{line}\n" for line in certificate).encode()
+    verdict, spent = least(options.runs, lambda: limited([*options.program, "check", "--wide"], text, options.seconds))
+    second = limited([*CHECKER, "--wide"], text, options.seconds)[0]
+    faults += [f"{model.name}: {one or 'nothing'} to {answer}" for one in (verdict, second) if one != f"YES {answer}\n"]
+    return spent
+
+
 def measured(options, model, faults):
     """The answer, how it was found, the bits of its certificate, and the times of the solver, of the basis and of the check."""
     began = children()
@@ -58,21 +68,19 @@ def measured(options, model, faults):
         faults.append(f"{model.name}: {answer}")
         return None, how, 0, (solver, basis or options.seconds, 0)
     certificate = rest[: rest.index("END") + 1]
-    checked = model.data + "".join(f"{line}\n" for line in certificate).encode()
-    verdict, check = least(options.runs, lambda: run([*options.program, "check", "--wide"], checked, options.seconds))
-    second = run([*CHECKER, "--wide"], checked, options.seconds)[0]
-    faults += [f"{model.name}: {one} to {answer}" for one in (verdict, second) if one != f"YES {answer}\n"]
+    check = checked(options, model, answer, certificate, faults)
     return answer, how, bits_of(certificate[1:-1]), (solver, basis, check)
 
 
 def by_esolver(options, model, answer, faults):
-    """The time of esolver, which has to say the same."""
+    """The time of esolver, which has to say the same where both answer."""
     with tempfile.TemporaryDirectory() as place:
         (pathlib.Path(place) / "model.mps").write_text(model.text())
         found, spent = least(options.runs, lambda: Esolver().solve(pathlib.Path(place), options.seconds))
-    word, *value = (answer or "NOTHING").split()
-    if found[0] in ANSWERS and (found[0], *map(model.value, found[1:])) != (word, *map(Fraction, value)):
-        faults.append(f"{model.name}: esolver says {found}, and lpd {answer}")
+    if answer and found[0] in ANSWERS:
+        word, *value = answer.split()
+        if (found[0], *map(model.value, found[1:])) != (word, *map(Fraction, value)):
+            faults.append(f"{model.name}: esolver says {found}, and lpd {answer}")
     return spent or options.seconds
 
 
@@ -96,7 +104,7 @@ def line_of(options, models, faults):
 def kinds_of(options):
     """For each kind its words and its models; of a folder each model is a kind."""
     if not options.folder:
-        for rows, columns, entries, numbers in KINDS:
+        for rows, columns, entries, numbers in chosen(options.only):
             kind = (rows, columns, entries, numbers)
             yield [f"{rows} x {columns}", str(entries), numbers], [made(kind, options.seed, at) for at in range(EACH)]
         return
@@ -121,7 +129,7 @@ def table(options, faults):
 
 
 def main():
-    options = read_options(__doc__, folder="", solver="glpsol", seed="", runs=1, seconds=60)
+    options = read_options(__doc__, folder="", solver="glpsol", only="", seed="", runs=1, seconds=60)
     faults = []
     return ended(options.write, *(FOLDER_MARKS if options.folder else (BEGIN, END)), shown(table(options, faults)), faults)
 

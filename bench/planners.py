@@ -32,6 +32,11 @@ KINDS = [(rows, columns, entries, numbers) for rows, columns in SIZES for entrie
 EACH = 10
 
 
+def chosen(only):
+    """The kinds of these sizes, parted by commas; all where none is named."""
+    return [kind for kind in KINDS if not only or f"{kind[0]}x{kind[1]}" in only.split(",")]
+
+
 def made(kind, seed, at):
     """A model of a kind, the same for a seed everywhere."""
     rows, columns, entries, numbers = kind
@@ -105,7 +110,7 @@ def table(options, faults):
     yield row(["Rows x columns", "Entries a column", "Numbers", *heads])
     yield "|---" * (3 + len(heads)) + "|"
     answered = dict.fromkeys(names, 0)
-    kinds = [kind for kind in KINDS if not options.only or f"{kind[0]}x{kind[1]}" in options.only.split(",")]
+    kinds = chosen(options.only)
     for kind in kinds:
         found = {name: [] for name in names}
         for at in range(EACH):
