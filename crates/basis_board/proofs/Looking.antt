@@ -10,44 +10,14 @@ use Rattle.std.specs.Cmp.Lexicographic.{pointwise}
 use Rattle.std.proofs.lemmas.List.{get_or_append_left, get_or_push, take_more_set, length-take, take_all, take-set-le}
 use Rattle.basis_board.specs.declared.seats.View.{View}
 use Rattle.spec_shape.specs.Words.{IsWellFormed}
-use Rattle.basis_board.specs.Board.{Each, seeing, reading, head_words, met}
-use Rattle.basis_board.specs.Rule.{Saw, HasAt, WordRead, Learned}
-use Rattle.basis_board.specs.Calls.{Meets, AgreesWith, PassesBy, undone, other, Finds, IsReading, IsReadingRest}
-use Rattle.basis_board.proofs.Totals.{each_map}
-
-pub meets : (v w u : View) (n : ℕ) → Learned (met v w) n u → Meets v w u
-meets v w u n h =
-    subst (λ (x : View). Meets v w x) (sym h.view) (record {
-      view = refl;
-      whole = λ all. (n, h.tells.whole all, h.tells);
-    })
+use Rattle.basis_board.specs.Board.{Each, seeing, reading, head_words}
+use Rattle.basis_board.specs.Rule.{HasAt, WordRead}
+use Rattle.basis_board.specs.Calls.{AgreesWith, PassesBy, other, IsReading, IsReadingRest}
 
 pub each_both : {X : Type 0} (P Q R : X → Type 0) → ((x : X) → P x → Q x → R x) → (xs : List X) → Each P xs →
     Each Q xs → Each R xs
 each_both P Q R both [] p q = tt
 each_both P Q R both (x ∷ xs) p q = (both x p.0 q.0, each_both P Q R both xs p.1 q.1)
-
-saw_at : (k i n : ℕ) (v w : View) → i ≡ 50 * k + 50 → Saw (i / 50 - 1) v n w → Saw k v n w
-saw_at k i n v w is h = let e : i / 50 - 1 ≡ k = omega arith in subst (λ (z : ℕ). Saw z v n w) e h
-
-pub undone_at : (shape : List ℕ) (k i n : ℕ) (v w : View) → i ≡ 50 * k + 50 → n ≡ 0 → Saw (i / 50 - 1) v n w →
-    PassesBy shape k v w
-undone_at shape k i n v w is z h =
-    let g = saw_at k i n v w is h in
-    undone (each_map (λ p. p.0 ≡ k → n ≡ 1) (λ p. p.0 ≢ k) (λ p f e. (let one = f e in omega arith)) v.seen g.known)
-    (g.not_done z)
-
-pub reads_none : (k i n : ℕ) (words : List ℕ) (v w : View) → i ≡ 50 * k + 50 → (n ≡ 0 → ⊥) → length words ≡ 49 →
-    Saw (i / 50 - 1) v n w → Consistent w → IsReading k 0 words v w
-reads_none k i n words v w is one long h cons =
-    let g = saw_at k i n v w is h in
-    let b = g.bit in
-    record {
-      long = long;
-      view = g.yes (omega arith);
-      consistent = cons;
-      agrees = each_map (λ p. p.0 ≡ k → n ≡ 1) (AgreesWith k []) (λ p f e j l m. absurd (omega arith)) v.seen g.known;
-    }
 
 pub reads_on : (k i n m : ℕ) (words : List ℕ) (v u w : View) → i < 49 → m ≡ 50 * k + 1 + i → IsReading k i words v u →
     WordRead ((m - 1) / 50) ((m - 1) % 50) u n w → Consistent w → IsReading k (i + 1) (set words i n) v w
@@ -101,19 +71,6 @@ pub other_at : (shape : List ℕ) (k : ℕ) (words : List ℕ) (v w : View) → 
     take 25 words ≢ shape → PassesBy shape k v w
 other_at shape k words v w h apart =
     let long = h.long in other (take 25 words) (omega (arith, length-take 25 words)) apart h.agrees h.view
-
-pub finds : (shape : List ℕ) (k : ℕ) (words : List ℕ) (v w : View) → IsReadingRest shape k 49 words v w →
-    Finds shape k words v w
-finds shape k words v w h =
-    let r = h.read in
-    let long = r.long in
-    let all : take 49 words ≡ words = take_all 49 words (omega arith) in
-    record {
-      view = r.view ∙ ap (seeing v k) all;
-      shape_is = h.shape_is;
-      formed = h.formed refl;
-      agrees = subst (λ (l : List ℕ). Each (AgreesWith k l) v.seen) all r.agrees;
-    }
 
 -- what a test of two slices by != tells
 pub differ : (xs ys : List ℕ) (r : Bool) → r ≡ not (pointwise eqb xs ys) → r ≡ true → xs ≢ ys

@@ -1,10 +1,10 @@
 -- What a publish comes to.
-use Rattle.std.proofs.Common.{◌≢◌, ℕ, ◌<◌, ◌≤◌, ap, ◌∙◌, subst, arith}
+use Rattle.std.proofs.Common.{◌≢◌, ℕ, ◌<◌, ap, ◌∙◌, subst, arith}
 use Rattle.basis_board.specs.declared.seats.View.{View}
 use Rattle.basis_board.specs.declared.seats.Read.TheVariants.{Lost}
 use Rattle.basis_board.specs.Board.{noted}
 use Rattle.basis_board.specs.Rule.{OwnsBelow, CountTells, Counted, Claimed}
-use Rattle.basis_board.specs.Calls.{IsFull, IsRaced}
+use Rattle.basis_board.specs.Calls.{IsRaced}
 
 -- a whole view cannot own the places below two numbers
 two_bounds : (v : View) (n e : ℕ) → n < e → OwnsBelow v n → OwnsBelow v e → ⊥
@@ -27,6 +27,3 @@ raced v v1 w n e h g apart =
       tells_then = then;
       not_whole = λ all. two_bounds v n e lost.1 (h.tells.whole all) (then.whole all);
     }
-
-pub full : (v v1 : View) (n : ℕ) → Counted v n v1 → v.places ≤ n → IsFull v n v1
-full v v1 n h most = let a = h.tells.within in record { view = h.view; all = omega arith; tells = h.tells }
