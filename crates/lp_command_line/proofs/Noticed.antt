@@ -1,5 +1,5 @@
 -- Words that ask for a notice are no command line.
-use Rattle.std.proofs.Common.{◌≡◌, ℕ, Bool, true, false, cond, ◌<◌, ◌≤◌, arith, List, [], ◌∷◌, length, map, get_or}
+use Rattle.std.proofs.Common.{◌≡◌, Bool, true, false, cond, List, [], ◌∷◌}
 use Rattle.std.proofs.Common.{Option, Some, None, refl, sym, ap, ◌∙◌}
 use Rattle.std.specs.Prelude.{codes, option_map, option_and_then, IsSome}
 use Rattle.spec_text.specs.Words.{same}
@@ -11,7 +11,7 @@ use Rattle.lp_command_line.specs.declared.notices.Notice.TheVariants.{Usage, Ver
 use Rattle.lp_command_line.specs.declared.line.Command.{Command}
 use Rattle.lp_command_line.specs.declared.line.Command.TheVariants as command
 use Rattle.spec_program.specs.Spelled.{spelled_text}
-use Rattle.lp_command_line.specs.Notices.{named, notice_of}
+use Rattle.lp_command_line.specs.Notices.{notice_of}
 use Rattle.lp_command_line.proofs.Asking.{run-refused, text-refused, wide-refused, no-address, command_words, row_of, asks-command}
 
 none_is_not : {A : Type 0} (a : A) → ◌≡◌ {A = Option A} None (Some a) → ⊥
@@ -75,37 +75,3 @@ pub no-command-by : (words : List Word) (found : Option Notice) → found ≡ no
     command_line_of words ≡ None
 no-command-by words None is some = absurd (let z : false ≡ true = some in cc)
 no-command-by words (Some notice) is some = no-command words notice (sym is)
-
--- ---- by how many words there are
-
-module _ {X : Type 0} (f : X → List ℕ) where
-  pub no-words-ask : (words : List X) → length words < 1 → None ≡ notice_of (map f words)
-  unfolding notice_of
-  no-words-ask [] few = refl
-  no-words-ask (u ∷ words) few = absurd (omega (arith, few))
-
-  pub one-word-asks : (words : List X) (x : X) (word : List ℕ) → 1 ≤ length words → length words < 2 →
-      x ≡ get_or words 0 x → word ≡ f x → named word ≡ notice_of (map f words)
-  unfolding notice_of
-  one-word-asks [] x word enough few is_x is_word = absurd (omega (arith, enough))
-  one-word-asks (u ∷ []) x word enough few is_x is_word = ap named (is_word ∙ ap f is_x)
-  one-word-asks (u ∷ v ∷ words) x word enough few is_x is_word = absurd (omega (arith, few))
-
-  pub two-words-ask : (words : List X) (x : X) (option : List ℕ) (known test : Bool) → 2 ≤ length words →
-      length words < 3 → x ≡ get_or words 1 x → option ≡ f x → known ≡ same option (codes "--help") → known ≡ test →
-      cond test (Some Usage) None ≡ notice_of (map f words)
-  unfolding notice_of
-  two-words-ask [] x option known test enough few is_x is_option is_known is = absurd (omega (arith, enough))
-  two-words-ask (u ∷ []) x option known test enough few is_x is_option is_known is = absurd (omega (arith, enough))
-  two-words-ask (u ∷ v ∷ []) x option known test enough few is_x is_option is_known is =
-      ap (λ t. cond t (Some Usage) None) (sym is ∙ is_known)
-      ∙ ap (λ (o : List ℕ). cond (same o (codes "--help")) (Some Usage) None) (is_option ∙ ap f is_x)
-  two-words-ask (u ∷ v ∷ w ∷ words) x option known test enough few is_x is_option is_known is =
-      absurd (omega (arith, few))
-
-  pub many-words-ask : (words : List X) → 3 ≤ length words → None ≡ notice_of (map f words)
-  unfolding notice_of
-  many-words-ask [] many = absurd (omega (arith, many))
-  many-words-ask (u ∷ []) many = absurd (omega (arith, many))
-  many-words-ask (u ∷ v ∷ []) many = absurd (omega (arith, many))
-  many-words-ask (u ∷ v ∷ w ∷ words) many = refl

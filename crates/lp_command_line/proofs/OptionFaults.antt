@@ -1,5 +1,5 @@
 -- The fault of options, option by option.
-use Rattle.std.proofs.Common.{◌≡◌, ℕ, Bool, true, false, cond, ◌<◌, ◌≤◌, arith, List, [], ◌∷◌, length, map, get_or}
+use Rattle.std.proofs.Common.{◌≡◌, ℕ, Bool, true, false, cond, ◌≤◌, arith, List, [], ◌∷◌, length, map, get_or}
 use Rattle.std.proofs.Common.{Option, Some, None, refl, sym, ap, ◌∙◌}
 use Rattle.std.specs.Prelude.{is_some}
 use Rattle.std.specs.Option.{option_or}
@@ -25,12 +25,6 @@ told-either a b x y is_x is_y = told-or a b ∙ ap (λ t. option_or t (told b)) 
 pub told-by : (r a b : Option (WordFault (Bor (List ℕ)))) (x y : Option Fault) → r ≡ option_or a b → told a ≡ x →
     told b ≡ y → told r ≡ option_or x y
 told-by r a b x y is is_x is_y = ap told is ∙ told-either a b x y is_x is_y
-
--- no word is left
-pub none-left : {X : Type 0} (names switches : OptionNames) (f : X → List ℕ) (rest : List X) → length rest < 1 →
-    None ≡ option_fault names switches (map f rest)
-none-left names switches f [] h = refl
-none-left names switches f (x ∷ rest) h = absurd (omega (arith, h))
 
 -- one word is left
 pub one-left : {X : Type 0} (names : List (Bor (List ℕ))) (switches : OptionNames) (f : X → List ℕ) (rest : List X)

@@ -1,9 +1,7 @@
 -- The fault of words by their first ones.
-use Rattle.std.proofs.Common.{◌≡◌, ℕ, ◌<◌, ◌≤◌, ◌-◌, arith, List, [], ◌∷◌, length, map, take, drop, get_or, Some}
-use Rattle.std.proofs.Common.{refl, sym, ap, ◌∙◌}
+use Rattle.std.proofs.Common.{◌≡◌, ℕ, ◌≤◌, ◌-◌, arith, List, [], ◌∷◌, length, map, take, drop, get_or}
+use Rattle.std.proofs.Common.{sym, ap, ◌∙◌}
 use Rattle.std.proofs.Math.Seq.{take-length}
-use Rattle.lp_command_line.specs.declared.fault.WordFault.TheVariants.{NoWord}
-use Rattle.lp_command_line.specs.WordFaults.{word_fault}
 
 module _ {X : Type 0} (f : X → List ℕ) where
   -- the first three texts, and the words behind them
@@ -20,8 +18,3 @@ module _ {X : Type 0} (f : X → List ℕ) where
       ∙ ap (λ t. a ∷ b ∷ t ∷ map f words) (ap f (sym is_z) ∙ sym is_c)
       ∙ ap (λ ws. a ∷ b ∷ c ∷ map f ws) (sym (take-length words))
       ∙ ap (λ n. a ∷ b ∷ c ∷ map f (take n words)) behind
-
-  pub no-words-fault : (words : List X) → length words < 1 → Some NoWord ≡ word_fault (map f words)
-  unfolding word_fault
-  no-words-fault [] few = refl
-  no-words-fault (u ∷ words) few = absurd (omega (arith, few))
