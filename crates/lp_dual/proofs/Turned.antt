@@ -100,9 +100,6 @@ module _ (limit : Option ℕ) (budget : ℕ) (first : Tableau) where
 
   module _ (k : ℕ) (r : Reached) (v : Flipping limit budget first k r)
       (l : k < all_columns first) (e : needs_flip_at r.tableau k ≡ true) where
-    pub can_flip : CanFlip r.tableau k
-    can_flip = v.late k (omega arith) (omega (arith, l, v.columns)) e
-
     flip_late : (values : List ℚ) (to : Status) → to ≢ Basic → (q : Reached) →
         q.tableau ≡ flipped r.tableau k to values → flip_next limit budget k r ≡ Ok q →
         Flipping limit budget first (k + 1) q
