@@ -6,7 +6,6 @@ use Rattle.std.proofs.lemmas.Option.{get_or_from_slice_get}
 use Rattle.std.specs.Prelude.{IsTrue, ◌↔◌}
 use Rattle.spec_exact.specs.Fraction.{ℚ, 0ℚ, eq_ℚ}
 use Rattle.spec_exact.proofs.Same.{eq_test, eq_if}
-use Rattle.std.proofs.lemmas.List.{length-replicate}
 use Rattle.spec_pivot.specs.declared.status.Status.{Status}
 use Rattle.spec_exact.specs.Run.{◌>>=◌, steps}
 use Rattle.spec_exact.proofs.Stops.{steps_more, steps_stop}
@@ -75,9 +74,6 @@ pub record ChosenTo (f : Form) (basis : List Status) (n : ℕ) (s : Chosen) : Ty
 module _ (f : Form) (basis : List Status) where
   abbrev at : ℕ → Chosen → Result Chosen (NoFactors ℚ)
   at k s = cond (is_basic (basis_at basis k)) (choose_run (Some largest) f k s) (Ok s)
-
-  pub none_yet : (s : Chosen) → s ≡ none_chosen f → ChosenTo f basis 0 s
-  none_yet s e = subst (ChosenTo f basis 0) (sym e) (record { done = refl; all = length-replicate f.rows None })
 
   pub status_read : (k : ℕ) (s : Status) → slice_get basis k ≡ Some s → basis_at basis k ≡ s
   status_read k s e = get_or_from_slice_get basis k s _ e

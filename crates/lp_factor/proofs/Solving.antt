@@ -9,9 +9,6 @@ use Rattle.spec_exact.specs.Run.{Run, ◌>>=◌}
 use Rattle.lp_frac.specs.Narrow.{largest}
 use Rattle.spec_factor.specs.Factors.{Pair, forward_run, ftran_run, backward_run, btran_run}
 
-no_pair : Pair
-no_pair = record { place = 0; column = [] }
-
 -- ---- ftran
 ftran-append : (m : ℕ) (es fs : List Pair) (v w : List ℚ) → ftran_run (Some largest) m es v ≡ Ok w →
     ftran_run (Some largest) m (es ++ fs) v ≡ ftran_run (Some largest) m fs w
