@@ -27,18 +27,6 @@ module _ {A : Type 0} (p : ℕ → Bool) (f : ℕ → A) where
       step : picked p f (suc k) ≡ picked p f k
       step = rw e refl
 
-pub rank_more : (p : ℕ → Bool) (k n : ℕ) → n ≡ rank p k → p k ≡ true → n + 1 ≡ rank p (k + 1)
-rank_more p k n h e = ap (λ i. i + 1) h ∙ sym (ap (rank p) (next_is k) ∙ step)
-  where
-    step : rank p (suc k) ≡ rank p k + 1
-    step = rw e refl
-
-pub rank_same : (p : ℕ → Bool) (k n : ℕ) → n ≡ rank p k → p k ≡ false → n ≡ rank p (k + 1)
-rank_same p k n h e = h ∙ sym (ap (rank p) (next_is k) ∙ step)
-  where
-    step : rank p (suc k) ≡ rank p k
-    step = rw e refl
-
 pub gathered_more : {A : Type 0} (f : ℕ → List A) (k : ℕ) (first before after more : List A) →
     before ≡ first ++ gathered f k → after ≡ before ++ more → more ≡ f k → after ≡ first ++ gathered f (k + 1)
 gathered_more f k first before after more h e is =
@@ -100,14 +88,6 @@ module _ (r : ExactRow) where
       by None u h = refl
       by (Some l) None h = refl
       by (Some l) (Some u) h = absurd (let z : Some u ≡ None = h in cc)
-
-  pub both_copy : r ≡ only_row true true r
-  unfolding only_row
-  both_copy = refl
-
-  pub none_copy : r ≡ only_row false false r
-  unfolding only_row
-  none_copy = refl
 
 -- ---- entries
 module _ (p : ℕ → Bool) where
