@@ -13,9 +13,6 @@ use Rattle.lp_model.specs.Place.{IsPlace}
 abbrev Entries : Type 0
 Entries = List (ℕ × ℚ)
 
-row_at : Entries → ℕ → ℕ
-row_at es k = (get_or es k (0, 0ℚ)).0
-
 abbrev AreAscending : Entries → Type 0
 AreAscending = AllPairs (λ d e. d.0 < e.0)
 
