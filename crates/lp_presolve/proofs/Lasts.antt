@@ -1,10 +1,5 @@
 -- The certificate of the last model, and what is carried back.
-use Rattle.std.proofs.Common.{◌≡◌, ℕ, Option, Some, None, Ok, List, refl, sym, ap, subst}
-use Rattle.std.proofs.lemmas.List.Elements.{All-weaker}
-use Rattle.std.specs.Prelude.{All}
-use Rattle.spec_exact.specs.Fraction.{ℚ}
-use Rattle.spec_exact.specs.Laws.{IsWithin}
-use Rattle.spec_exact.specs.Narrow.{IsNarrow, widest}
+use Rattle.std.proofs.Common.{◌≡◌, ℕ, Option, Some, None, Ok, refl, sym, ap, subst}
 use Rattle.spec_exact.proofs.Results.{ok_same}
 use Rattle.spec_model.specs.Model.{Model}
 use Rattle.spec_check.specs.declared.solve_end.SolveEnd.TheVariants.{Ended, Past, Spent}
@@ -45,8 +40,3 @@ last_fits m budget r c pivots run is = by (halted r.last r.halt) refl is
         subst (Fits r.last) (ap (λ (x : ExactCertificate × ℕ). x.0) (sym z)) (record { fits = s.fits; checks = s.checks })
     by None e (solved, is, same) =
         ended_fits r.last budget solved.end c pivots is.may_answer (sym same)
-
--- numbers within the limit of the program are of at most 127 bits
-pub all_narrow : (xs : List ℚ) → All (IsWithin widest) xs → All IsNarrow xs
-all_narrow xs h =
-    All-weaker (IsWithin widest) IsNarrow (λ v w. record { top = w.num_fits; bottom = w.den_fits }) xs h

@@ -1,5 +1,5 @@
 -- What is found by the last model, and why nothing is.
-use Rattle.std.proofs.Common.{◌≡◌, ◌≢◌, ℕ, ◌+◌, ◌<◌, ◌≤◌, ◌^◌, Some, None, Result, Ok, Err, List, [], ◌++◌, length}
+use Rattle.std.proofs.Common.{◌≡◌, ◌≢◌, ℕ, ◌+◌, ◌<◌, ◌≤◌, ◌^◌, Some, None, Result, Ok, Err, List, length}
 use Rattle.std.proofs.Common.{inl, inr}
 use Rattle.std.proofs.Common.{refl, sym, ap, ◌∙◌, subst, arith}
 use Rattle.std.proofs.lemmas.List.{length-map}
@@ -20,7 +20,7 @@ use Rattle.spec_solve.specs.Answers.{number_limit, MayAnswer}
 use Rattle.spec_presolve.specs.declared.presolved.Why.TheVariants as why
 use Rattle.spec_presolve.specs.declared.presolved.Way.TheVariants.{Reduced}
 use Rattle.spec_presolve.specs.declared.reduction.Halt.{Halt}
-use Rattle.spec_presolve.specs.Reduce.{Reductions, reduced, reduced_within}
+use Rattle.spec_presolve.specs.Reduce.{Reductions, reduced}
 use Rattle.spec_presolve.specs.Carry.{ExactCertificate, halted, carried, IsCarried}
 use Rattle.spec_presolve.specs.Presolved.{ExactWhy, ExactPresolved, IsLast, IsPlain, ByCheck, ByCarried, ByReductions}
 use Rattle.spec_presolve.specs.Presolved.{IsPresolved}
@@ -31,9 +31,8 @@ use Rattle.lp_frac.specs.declared.stop.Stop.TheVariants as stop
 use Rattle.lp_frac.specs.Narrow.{largest}
 use Rattle.lp_reduction.specs.declared.step.Step.{Step}
 use Rattle.lp_reduction.specs.Clash.{clash_of}
-use Rattle.lp_reduction.specs.Kept.{all_kept}
-use Rattle.lp_reduction.specs.Tells.{Tells, LeadsTo, StopsAt}
-use Rattle.lp_presolve.specs.Tries.{LastTells, Accepts, Led, Falls, Tries}
+use Rattle.lp_reduction.specs.Tells.{Tells}
+use Rattle.lp_presolve.specs.Tries.{Accepts, Led, Falls, Tries}
 use Rattle.lp_presolve.proofs.Lasts.{Fits, last_fits}
 
 -- ---- the model as it is
@@ -47,39 +46,9 @@ falls m budget w f p (way, (solved, is, end)) =
     }
 
 -- ---- the reductions
-
-pub led : (m first last : Model) (before now : List Step) (n : ℕ) (halt : Halt) → n ≡ width m + height m → first ≡ m →
-    before ≡ [] → LeadsTo (reduced_within (Some largest) n first) last before now halt → Led m last now halt
-led m first last before now n halt e f g (steps, h, k) =
-    record {
-      steps = steps;
-      run = sym (ap (λ n. reduced_within (Some number_limit) n m) e) ∙ sym (ap (reduced_within (Some number_limit) n) f) ∙ h;
-      are_kept = k ∙ ap (λ xs. xs ++ all_kept steps) g;
-    }
-
-pub not_reduced : {C : Type 0} (m first : Model) (budget n : ℕ) (e : Stop C) → n ≡ width m + height m → first ≡ m →
-    StopsAt (reduced_within (Some largest) n first) e → Tries m budget (Err e)
-not_reduced m first budget n (stop.Cause c) e f h = absurd h
-not_reduced m first budget n (stop.Past q) e f h =
-    let run : reduced (Some number_limit) m ≡ Err q =
-    sym (ap (λ n. reduced_within (Some number_limit) n m) e) ∙ sym (ap (reduced_within (Some number_limit) n) f) ∙ h in
-    falls m budget (why.Past q) (λ p plain. subst (λ r. ByReductions m budget r p) (sym run) plain)
-not_reduced m first budget n stop.NoMemory e f h = tt
-
 module _ (m last : Model) (budget : ℕ) (now : List Step) (halt : Halt) (l : Led m last now halt) where
   abbrev all : Reductions
   all = record { steps = l.steps; last = last; halt = halt }
-
-  -- ---- the last model
-
-  pub not_solved : {C : Type 0} (e : Stop C) → LastTells last budget (halted last halt) (Err e) → Tries m budget (Err e)
-  not_solved (stop.Cause c) is =
-      falls m budget why.Spent
-      (λ p plain. subst (λ r. ByReductions m budget r p) (sym l.run) (Err why.Spent, is, plain))
-  not_solved (stop.Past q) is =
-      falls m budget (why.Past q)
-      (λ p plain. subst (λ r. ByReductions m budget r p) (sym l.run) (Err (why.Past q), is, plain))
-  not_solved stop.NoMemory is = tt
 
   -- ---- its certificate
 
