@@ -1,7 +1,6 @@
 -- What a step does, part by part, and that it may be done.
-use Rattle.std.proofs.Common.{◌≡◌, ℕ, Option, Some, None, Ok, Err, refl, subst, ap, ◌∙◌}
+use Rattle.std.proofs.Common.{◌≡◌, ℕ, Option, Some, None, Ok, refl, subst, ap, ◌∙◌}
 use Rattle.spec_exact.specs.Fraction.{ℚ}
-use Rattle.spec_exact.specs.declared.past.Past.{Past}
 use Rattle.spec_simplex.specs.declared.ends.Entering.{Entering}
 use Rattle.spec_simplex.specs.declared.ends.Best.{Best}
 use Rattle.spec_simplex.specs.declared.ends.PrimalEnd.TheVariants.{Optimal}
@@ -15,17 +14,10 @@ use Rattle.lp_primal.proofs.Ratios.{StopsBy, IsBest, best_is, then_ok}
 
 module _ (limit : Option ℕ) (t : Tableau) where
   -- ---- the parts
-  pub none_enters : entering t ≡ None → choice_run limit t ≡ Ok (End Optimal)
-  unfolding choice_run
-  none_enters h = ap (choice_of limit t) h
-
   module _ (e : Entering) (h : entering t ≡ Some e) where
     from_best : choice_run limit t ≡ (best_run limit t e >>= λ best. Ok (choice_by e best))
     unfolding choice_run
     from_best = ap (choice_of limit t) h
-
-    pub refused : (p : Past ℚ) → best_run limit t e ≡ Err p → choice_run limit t ≡ Err p
-    refused p g = from_best ∙ ap (λ o. o >>= λ best. Ok (choice_by e best)) g
 
     pub chosen_is : (best : Option (Best ℚ)) → best_run limit t e ≡ Ok best → choice_run limit t ≡ Ok (choice_by e best)
     chosen_is best g = from_best ∙ ap (λ o. o >>= λ best. Ok (choice_by e best)) g

@@ -15,9 +15,6 @@ stays t n (suc d) e h =
     (let z : n + suc d ≡ suc (n + d) = omega arith in ap (entering_below t) z)
     ∙ ap (λ o. or_enters o (n + d) (way_at t (n + d))) (stays t n d e h)
 
-pub none_more : (t : Tableau) (k : ℕ) → entering_below t k ≡ None → way_at t k ≡ None → entering_below t (k + 1) ≡ None
-none_more t k h g = (let z : k + 1 ≡ suc k = omega arith in ap (entering_below t) z) ∙ ap₂ (λ o w. or_enters o k w) h g
-
 pub enters_at : (t : Tableau) (k n : ℕ) (up : Bool) → entering_below t k ≡ None → k < n → way_at t k ≡ Some up →
     entering_below t n ≡ Some (record { col = k; up = up })
 enters_at t k n up h l g =
