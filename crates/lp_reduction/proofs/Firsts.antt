@@ -1,19 +1,14 @@
 -- What is found first, by a loop.
-use Rattle.std.proofs.Common.{◌≡◌, ℕ, zero, suc, ◌+◌, ◌<◌, ◌≤◌, Bool, true, false, cond, Option, Some, None, Ok, Err, ap, ◌∙◌, subst, arith}
+use Rattle.std.proofs.Common.{◌≡◌, ℕ, zero, suc, ◌<◌, ◌≤◌, Bool, true, false, cond, Option, Some, None, Ok, Err, ap, ◌∙◌, subst, arith}
 use Rattle.std.proofs.Common.{⊎_elim}
 use Rattle.std.proofs.lemmas.Bool.{cases_eq}
 use Rattle.spec_exact.specs.Fraction.{ℚ, 0ℚ, eq_ℚ}
 use Rattle.spec_exact.specs.declared.past.Past.{Past}
 use Rattle.spec_exact.specs.Run.{Run, ◌>>=◌}
-use Rattle.spec_exact.proofs.Stops.{steps_more, steps_stop}
+use Rattle.spec_exact.proofs.Stops.{steps_stop}
 use Rattle.spec_model.specs.Model.{Model, coefficient}
 use Rattle.spec_presolve.specs.declared.reduction.InRow.TheVariants.{More}
 use Rattle.spec_presolve.specs.Choose.{unless, first, in_row_below, one_more}
-
--- nothing so far, and nothing at k
-pub first_more : {A : Type 0} (k : ℕ) (f : ℕ → Run (Option A)) → first k f ≡ Ok None → f k ≡ Ok None →
-    first (k + 1) f ≡ Ok None
-first_more {A} k f h e = steps_more k (λ k found. unless found (f k)) None None None h e
 
 -- nothing so far, and the run at k is refused
 pub first_stops : {A : Type 0} (k n : ℕ) (f : ℕ → Run (Option A)) (p : Past ℚ) → k < n → first k f ≡ Ok None →

@@ -53,25 +53,11 @@ pub record Reached (m : Model) (before : List Step) (k : ℕ) (n : Model) (now :
   pub now_is : now ≡ before ++ all_kept done
   pub leads : (rest : ℕ) → reduced_within (Some largest) (k + rest) m ≡ all_behind done (reduced_within (Some largest) rest n)
 
-none_behind : (o : Run Reductions) → o ≡ all_behind [] o
-none_behind (Ok r) = refl
-none_behind (Err p) = refl
-
 two_behind : (a b : List (ExactReduction × Model)) (o : Run Reductions) →
     all_behind a (all_behind b o) ≡ all_behind (a ++ b) o
 two_behind a b (Ok r) =
     ap (λ steps. as_run (record r { steps = steps })) (sym (append_assoc a b r.steps))
 two_behind a b (Err p) = refl
-
-pub reached_none : (m : Model) (before : List Step) → IsModel m → Reached m before 0 m before
-reached_none m before h = record {
-  kept_is = h;
-  done = [];
-  now_is = sym (append-nil before);
-  leads = λ rest.
-      (let z : 0 + rest ≡ rest = omega arith in ap (λ k. reduced_within (Some largest) k m) z)
-      ∙ none_behind (reduced_within (Some largest) rest m);
-}
 
 one_more : (n x : Model) (r : ExactReduction) (k : ℕ) → chosen (Some largest) n ≡ Ok (Reduce r) →
     after (Some largest) n r ≡ Ok x →

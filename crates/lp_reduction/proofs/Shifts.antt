@@ -1,11 +1,10 @@
 -- The right sides, moved one after the other.
-use Rattle.std.proofs.Common.{◌≡◌, ℕ, ◌+◌, ◌<◌, ◌≤◌, List, length, get_or, Some, Ok, Err, refl, sym, ap, ap₂, ◌∙◌, arith}
-use Rattle.std.proofs.lemmas.List.{get_or-set_other, length-set}
+use Rattle.std.proofs.Common.{◌≡◌, ℕ, ◌<◌, ◌≤◌, List, length, get_or, Some, Ok, Err, refl, sym, ap, ap₂, ◌∙◌, arith}
 use Rattle.spec_exact.specs.Fraction.{ℚ}
 use Rattle.spec_exact.specs.declared.past.Past.{Past}
 use Rattle.spec_exact.specs.Run.{Run, ◌>>=◌, less_product, plus_product, steps}
-use Rattle.spec_exact.proofs.Stops.{steps_more, steps_stop}
-use Rattle.spec_model.specs.Model.{Model, ExactRow, ExactColumn, no_row, no_column, height, row, column, cost, coefficient, entry_of}
+use Rattle.spec_exact.proofs.Stops.{steps_stop}
+use Rattle.spec_model.specs.Model.{Model, ExactRow, ExactColumn, no_column, height, row, column, cost, coefficient, entry_of}
 use Rattle.spec_edit.specs.Changes.{with_rhs, with_offset, without_column}
 use Rattle.spec_presolve.specs.declared.reduction.Reduction.TheVariants.{Fixed}
 use Rattle.spec_presolve.specs.Reduce.{shifted, after}
@@ -35,23 +34,6 @@ pub term_is : (m x : Model) (j i : ℕ) (v a : ℚ) (r : ExactRow) (o t : Run �
 term_is m x j i v a r o t h e f g k =
     sym (term_same m x j i v h)
     ∙ ap₂ (λ a (r : ExactRow). less_product (Some largest) a v r.rhs) (sym e) (sym f) ∙ sym g ∙ k
-
-pub shift_run : (m x y : Model) (j i : ℕ) (v b : ℚ) → steps i (move m j v) m ≡ Ok x → term m j v i ≡ Ok b →
-    y ≡ with_rhs x i b → steps (i + 1) (move m j v) m ≡ Ok y
-shift_run m x y j i v b h e g =
-    steps_more i (move m j v) m x y h (ap (λ t. t >>= λ b. Ok (with_rhs x i b)) e ∙ ap Ok (sym g))
-
-pub shift_behind : (m x y : Model) (i : ℕ) (b : ℚ) → Behind m i x → y ≡ with_rhs x i b → Behind m (i + 1) y
-shift_behind m x y i b h g =
-    record {
-      columns_are = ap (λ (n : Model). n.columns) g ∙ h.columns_are;
-      height_is = ap (λ (n : Model). length n.rows) g ∙ length-set x.rows i new ∙ h.height_is;
-      rest = λ r p. ap (λ (n : Model). row n r) g
-          ∙ get_or-set_other x.rows i r new no_row (λ q. absurd (omega (arith, p, q))) ∙ h.rest r (omega (arith, p));
-    }
-  where
-    new : ExactRow
-    new = record (row x i) { rhs = b }
 
 pub shift_stops : (m x : Model) (j i : ℕ) (v : ℚ) (p : Past ℚ) → i < height m → steps i (move m j v) m ≡ Ok x →
     term m j v i ≡ Err p → shifted (Some largest) m j v ≡ Err p
