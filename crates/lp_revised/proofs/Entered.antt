@@ -16,10 +16,6 @@ module _ (f : Form) (costs y : List ℚ) (t : Tableau) where
   abbrev pub priced_at : ℕ → Option Entering → Run (Option Entering)
   priced_at k e = or_priced (Some largest) f costs y t k e
 
-  pub none_more : (k : ℕ) → steps k priced_at None ≡ Ok None → way_run (Some largest) f costs y t k ≡ Ok None →
-      steps (k + 1) priced_at None ≡ Ok None
-  none_more k h g = steps_more k priced_at None None None h (ap (λ o. o >>= λ way. Ok (or_enters None k way)) g)
-
   pub way_refused : (k : ℕ) (p : Past ℚ) → steps k priced_at None ≡ Ok None → k < all_columns t →
       way_run (Some largest) f costs y t k ≡ Err p → entering_run (Some largest) f costs y t ≡ Err p
   unfolding entering_run

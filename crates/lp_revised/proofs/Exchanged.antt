@@ -1,17 +1,16 @@
 -- A pivot's exchange, part by part.
-use Rattle.std.proofs.Common.{◌≡◌, ℕ, suc, ◌+◌, List, [], Some, Ok, sym, ap, ◌∙◌, arith}
+use Rattle.std.proofs.Common.{◌≡◌, ℕ, suc, List, [], Some, Ok, sym, ap, ◌∙◌}
 use Rattle.spec_exact.specs.Fraction.{ℚ}
 use Rattle.spec_pivot.specs.declared.status.Status.{Status}
 use Rattle.spec_simplex.specs.declared.ends.RowStart.{RowStart}
 use Rattle.spec_simplex.specs.Form.{Form}
 use Rattle.spec_exact.specs.Run.{Run, ◌>>=◌}
-use Rattle.spec_simplex.specs.Tableau.{Tableau}
 use Rattle.spec_simplex.specs.Step.{shifted_run, exchanged, turned}
 use Rattle.spec_factor.specs.Factors.{Factors, with_pair, column_of, ftran_run, replace_run}
-use Rattle.spec_factor.specs.Revised.{Revised, bare_of, seen, exchange_run}
+use Rattle.spec_factor.specs.Revised.{Revised, seen, exchange_run}
 use Rattle.std.specs.Prelude.{slice_set}
 use Rattle.lp_frac.specs.Narrow.{largest}
-use Rattle.lp_revised.specs.Moved.{WithValues, moves_by, exchanged_by}
+use Rattle.lp_revised.specs.Moved.{moves_by, exchanged_by}
 use Rattle.lp_revised.proofs.Flipped.{moves_are}
 
 module _ (starts : List (RowStart ℚ)) (s : Revised) (z : List ℚ) (p j : ℕ) (theta : ℚ) (to : Status) where
@@ -29,37 +28,6 @@ module _ (starts : List (RowStart ℚ)) (s : Revised) (z : List ℚ) (p j : ℕ)
 
   abbrev whole : Run Revised
   whole = exchanged_by starts s z p j theta to
-
-  module _ (u : Revised) (m : moves_by starts s.bare z theta (Some p) s.bare.rows ≡ Ok u.bare.value) where
-    pub exchanges : (v w x : Revised) → s.bare ≡ bare_of s.bare → WithValues s u →
-        shifted_run (Some largest) u.bare.value j theta ≡ Ok v.bare.value → WithValues u v
-        → w ≡ record { bare = v.bare; pairs = with_pair v.pairs p z; replaced = v.replaced + 1 } → x ≡ record w
-        { bare = exchanged w.bare p j to } → whole ≡ Ok x
-    exchanges v w x b f h g r is =
-        let values : List ℚ = v.bare.value in
-        ap (λ o. o >>= after_moves) m ∙ ap (λ o. o >>= λ shifted. Ok (new_state shifted)) h
-        ∙ ap (λ n. Ok (record {
-          bare = exchanged (turned s.bare values [] []) p j to;
-          pairs = with_pair s.pairs p z;
-          replaced = n;
-        })) (let z : suc s.replaced ≡ s.replaced + 1 = omega arith in z)
-        ∙ ap (λ (t : Tableau). Ok
-        (record {
-          bare = exchanged (record t { value = values }) p j to;
-          pairs = with_pair s.pairs p z;
-          replaced =
-              s.replaced + 1;
-        })) (sym b)
-        ∙ ap (λ (y : Revised). Ok
-        (record {
-          bare = exchanged (record y.bare { value = values }) p j to;
-          pairs = with_pair y.pairs p z;
-          replaced =
-              y.replaced + 1;
-        })) (sym f)
-        ∙ ap (λ (y : Revised). Ok
-        (record { bare = exchanged y.bare p j to; pairs = with_pair y.pairs p z; replaced = y.replaced + 1 })) (sym g)
-        ∙ ap (λ (y : Revised). Ok (record y { bare = exchanged y.bare p j to })) (sym r) ∙ ap Ok (sym is)
 
   abbrev new_factors : List ℚ → Factors
   new_factors v = record { pairs = with_pair s.pairs p v; basic = slice_set s.bare.basic p j }

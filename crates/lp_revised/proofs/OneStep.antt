@@ -1,8 +1,7 @@
 -- A run of steps over factors by its first step.
-use Rattle.std.proofs.Common.{◌≡◌, ◌≢◌, ℕ, zero, suc, ◌+◌, ◌-◌, ◌<◌, List, Option, get_or, Some, None, Result, Ok, Err}
+use Rattle.std.proofs.Common.{◌≡◌, ℕ, zero, suc, ◌+◌, ◌-◌, ◌<◌, List, Option, Some, None, Result, Ok, Err}
 use Rattle.std.proofs.Common.{refl, sym, ap, ◌∙◌, subst, arith}
-use Rattle.spec_exact.specs.Fraction.{ℚ, 0ℚ}
-use Rattle.spec_pivot.specs.declared.status.Status.{Status}
+use Rattle.spec_exact.specs.Fraction.{ℚ}
 use Rattle.spec_simplex.specs.declared.ends.RowStart.{RowStart}
 use Rattle.spec_simplex.specs.declared.ends.PrimalEnd.{PrimalEnd}
 use Rattle.spec_simplex.specs.declared.ends.PrimalEnd.TheVariants.{Optimal, Unbounded}
@@ -125,19 +124,3 @@ module _ (f : Form) (starts : List (RowStart ℚ)) (costs : List ℚ) where
         from (budget - used) used s ≡ from (budget - (used + 1)) (used + 1) u
     step_done budget used u n l g =
         one_step budget used n l ∙ ap (λ o. o >>= λ u. from (budget - (used + 1)) (used + 1) u) g
-
--- ---- what is done with a column that enters
-module _ (f : Form) (starts : List (RowStart ℚ)) (s : Revised) (c : Column) (choice : Choice ℚ)
-    (can : CanDo f s (Some c) choice) where
-  may_do : (p j : ℕ) (theta : ℚ) (to : Status) → choice ≡ Pivot p j theta to →
-      (j ≡ c.number) × (p < s.bare.rows) × (get_or c.solved p 0ℚ ≢ 0ℚ)
-  may_do p j theta to e = by (subst (CanDo f s (Some c)) e can)
-    where
-      by : CanDo f s (Some c) (Pivot p j theta to) → (j ≡ c.number) × (p < s.bare.rows) × (get_or c.solved p 0ℚ ≢ 0ℚ)
-      by (solved, m) = m
-
-  pub place_inside : (p j : ℕ) (theta : ℚ) (to : Status) → choice ≡ Pivot p j theta to → p < s.bare.rows
-  place_inside p j theta to e = (may_do p j theta to e).1
-
-  pub entry_not_zero : (p j : ℕ) (theta : ℚ) (to : Status) → choice ≡ Pivot p j theta to → get_or c.solved p 0ℚ ≢ 0ℚ
-  entry_not_zero p j theta to e = (may_do p j theta to e).2

@@ -1,23 +1,22 @@
 -- Both phases over factors, part by part.
 use Rattle.std.proofs.Common.{◌≡◌, ℕ, ◌-◌, List, Option, Some, None, Result, Ok, true, false, cond, sym, ap, ◌∙◌, subst}
-use Rattle.std.proofs.Common.{Bool, ap₂, arith}
+use Rattle.std.proofs.Common.{Bool, ap₂}
 use Rattle.spec_exact.specs.Fraction.{ℚ}
 use Rattle.spec_check.specs.declared.certificate.Certificate.{Certificate}
 use Rattle.spec_check.specs.declared.certificate.Certificate.TheVariants as certificate
 use Rattle.spec_pivot.specs.declared.status.Status.{Status}
 use Rattle.spec_simplex.specs.declared.ends.RowStart.{RowStart}
-use Rattle.spec_simplex.specs.declared.ends.PrimalEnd.TheVariants.{Optimal}
 use Rattle.spec_simplex.specs.declared.ends.RunStop.{RunStop}
 use Rattle.spec_simplex.specs.declared.ends.RunStop.TheVariants as cause
 use Rattle.spec_simplex.specs.Form.{Form}
 use Rattle.spec_simplex.specs.Tableau.{Tableau}
 use Rattle.spec_exact.specs.Run.{◌>>=◌, refused_as, list_run}
-use Rattle.spec_simplex.specs.Start.{row_start, begun, first_costs}
-use Rattle.spec_simplex.specs.Phases.{wants_phase_one, is_stuck}
+use Rattle.spec_simplex.specs.Start.{row_start, begun}
+use Rattle.spec_simplex.specs.Phases.{is_stuck}
 use Rattle.spec_cold.specs.Cold.{basis_at}
 use Rattle.spec_factor.specs.Revised.{Revised, bare_of, refactor_run}
 use Rattle.spec_factor.specs.Over.{RevisedEnded, OverEnd, over_from, over_one, over_two, over_phases, over_run}
-use Rattle.spec_factor.specs.Over.{over_certificate, second_state, stuck_answer, end_answer, nothing_seen, negatives}
+use Rattle.spec_factor.specs.Over.{over_certificate, second_state, stuck_answer, end_answer, negatives}
 use Rattle.lp_frac.specs.Narrow.{largest}
 use Rattle.lp_revised.specs.declared.cold_run.RunEnd.{RunEnd}
 use Rattle.lp_revised.specs.declared.steps.StepsEnd.{StepsEnd}
@@ -29,25 +28,6 @@ use Rattle.lp_revised.specs.Runs.{second_run, after_one_run, begun_run}
 use Rattle.lp_revised.proofs.Renewed.{stops_after}
 
 module _ (budget : ℕ) (f : Form) (starts : List (RowStart ℚ)) (s : Revised) where
-  -- ---- phase one
-  first_is : (costs : List ℚ) (used : ℕ) → wants_phase_one s.bare ≡ true → costs ≡ first_costs f starts → used ≡ 0 →
-      over_from (Some largest) f starts costs (budget - used) used s ≡ over_one (Some largest) budget f starts s
-  first_is costs used w c u =
-      ap (λ costs. over_from (Some largest) f starts costs (budget - used) used s) c
-      ∙ ap (λ used. over_from (Some largest) f starts (first_costs f starts) (budget - used) used s) u
-      ∙ (let z : budget - 0 ≡ budget = omega arith in ap
-      (λ left. over_from (Some largest) f starts (first_costs f starts) left 0 s) z)
-      ∙ sym (ap (λ b. cond b (over_from (Some largest) f starts (first_costs f starts) budget 0 s)
-      (Ok (record { end = Optimal; state = s; selection = nothing_seen s; used = 0 }))) w)
-
-  pub first_skipped : (used : ℕ) → wants_phase_one s.bare ≡ false → used ≡ 0 →
-      over_one (Some largest) budget f starts s ≡ Ok
-      (record { end = Optimal; state = s; selection = nothing_seen s; used = used })
-  first_skipped used w z =
-      ap (λ b. cond b (over_from (Some largest) f starts (first_costs f starts) budget 0 s)
-      (Ok (record { end = Optimal; state = s; selection = nothing_seen s; used = 0 }))) w
-      ∙ ap (λ k. Ok (record { end = Optimal; state = s; selection = nothing_seen s; used = k })) (sym z)
-
   -- ---- both
   pub first_stops : (e : Stop Spent) → StopsRevised (over_one (Some largest) budget f starts s) e →
       StopsRevised (over_phases (Some largest) budget f starts s) e
