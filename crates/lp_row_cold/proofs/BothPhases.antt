@@ -116,15 +116,6 @@ module _ {N T : Type 0} (of : ℚ → N) (value : T → ℕ) (budget : ℕ) (f :
         subst (λ whole. IfOk result (PausesWith of value budget f whole s)) (sym (between_is g.0 free g.1))
         (k g.0 (second_reached f t g.0 r free few g.1) g.1)
 
-    pub between_left : (s : State T) → s.phase ≡ phase.Between → s.used ≡ used → IsReached t → Shows value s.tab t →
-        IsLeft value budget f (rest_run budget f phase.Between used t) s
-    between_left s p e r h = record {
-      tableau = t;
-      reached = r;
-      shown = h;
-      same = ap₂ (λ p used. rest_run budget f p used t) (sym p) (sym e);
-    }
-
 -- the form's costs are those of structural and logical columns
 pub few_costs : {T : Type 0} (value : T → ℕ) (f : Form) (r : RowTableau T) (t : Tableau) → Shows value r t →
     f.rows ≡ height r → f.cols ≡ r.cols → length f.cost ≡ f.cols + f.rows → length f.cost ≤ t.cols + t.rows + t.rows

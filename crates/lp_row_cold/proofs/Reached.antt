@@ -17,7 +17,7 @@ use Rattle.spec_path.specs.Tables.{IsTableauOf, IsWithinBounds, StepsTo}
 use Rattle.spec_path.specs.Begins.{IsProper, Begins}
 use Rattle.spec_path.proofs.Begun.{start_begins}
 use Rattle.spec_path.proofs.LimitPhases.{two_agrees}
-use Rattle.spec_path.proofs.LimitStart.{choice_agrees, flip_agrees, pivot_agrees, start_agrees}
+use Rattle.spec_path.proofs.LimitStart.{flip_agrees, pivot_agrees, start_agrees}
 use Rattle.spec_path.proofs.PhaseTwo.{second_phase}
 use Rattle.spec_path.proofs.Steps.{choice_is_meant}
 use Rattle.lp_row_tableau.specs.Shows.{IsReached}
@@ -26,9 +26,6 @@ use Rattle.lp_row_tableau.specs.Shows.{IsReached}
 given : {A : Type 0} (o : Run A) → ((p : Past ℚ) → o ≢ Err p) → (a : A) × (o ≡ Ok a)
 given (Ok a) n = (a, refl)
 given (Err p) n = absurd (n p refl)
-
-pub choice_given : (t : Tableau) → (c : Choice ℚ) × (choice_run None t ≡ Ok c)
-choice_given t = given (choice_run None t) (choice_agrees None t).exact
 
 pub done_given : (t : Tableau) (c : Choice ℚ) → (u : Tableau) × (done_run None t c ≡ Ok u)
 done_given t (End end) = (t, refl)
