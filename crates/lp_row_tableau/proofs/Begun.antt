@@ -1,7 +1,6 @@
 -- The rows at the beginning of the second phase show the stated tableau there.
 use Rattle.std.proofs.Common.{◌≡◌, ◌≢◌, ℕ, zero, suc, ◌+◌, ◌<◌, ◌≤◌, pos, List, [], ◌∷◌, length, get_or, set, Option}
 use Rattle.std.proofs.Common.{Some, None, Ok, false, refl, sym, ap, ap₂, subst, ◌∙◌, arith}
-use Rattle.std.specs.Prelude.{All}
 use Rattle.std.proofs.lemmas.List.{length-set, get_or-set_same, get_or-set_other}
 use Rattle.spec_exact.specs.Fraction.{ℚ, 0ℚ, over}
 use Rattle.spec_exact.proofs.Ring.{◌⊗◌, lit, v0}
@@ -21,15 +20,11 @@ use Rattle.lp_wide.specs.declared.signed.Signed.{Signed}
 use Rattle.lp_rows.specs.declared.fractions.Row.{Row}
 use Rattle.lp_rows.specs.Ratio.{bound_of}
 use Rattle.lp_row_tableau.specs.declared.tableau.RowTableau.{RowTableau}
-use Rattle.lp_row_tableau.specs.Shows.{IsRow, IsWhole, IsReached, Shows, row_at, height, width, all_width}
+use Rattle.lp_row_tableau.specs.Shows.{IsWhole, IsReached, Shows, row_at, height, width, all_width}
 use Rattle.lp_row_tableau.specs.Second.{fraction_of, IsPricedRow, AreZeroed, IsBegun}
 use Rattle.lp_row_tableau.proofs.Taken.{stated_costs}
 
 -- ---- a list of bounds
-pub zeroed_none : {T : Type 0} (value : T → ℕ) (n : ℕ) (old : List (Option (Signed T))) → AreZeroed value n n old old
-zeroed_none value n old =
-    record { len = refl; before = λ k l. refl; zero = λ k l m d p. absurd (let z : ⊥ = omega (arith, l, m) in z) }
-
 zero_is : {T : Type 0} (value : T → ℕ) (x : T) (d : ℕ) → value x ≡ 0 → 0 < d →
     bound_of value d (Some (record { negative = false; size = x })) ≡ Some 0ℚ
 zero_is value x d e p =
@@ -86,29 +81,6 @@ module _ {T : Type 0} (value : T → ℕ) (r : RowTableau T) (costs : Row T) (s 
 
   same_width : width s ≡ width r
   same_width = ap₂ (λ a b. a + b) b.cols same_height
-
-  same_all : all_width s ≡ all_width r
-  same_all = ap₂ (λ a b. a + b) same_width same_height
-
-  pub begun_rows : height s ≡ height r
-  begun_rows = same_height
-
-  pub begun_whole : IsRow value (width r) costs → IsWhole value s
-  begun_whole is = record {
-    few_rows = omega (arith, same_height, w.few_rows);
-    few_columns = omega (arith, b.cols, w.few_columns);
-    each_row = subst (λ n. All (IsRow value n) s.rows.items) (sym same_width)
-        (subst (λ (rows : _). All (IsRow value (width r)) rows.items) (sym b.rows) w.each_row);
-    costs = subst (λ n. IsRow value n s.costs) (sym same_width) (subst (IsRow value (width r)) (sym b.reduced) is);
-    all_basic = ap (λ (ks : _). length ks.items) b.basic ∙ w.all_basic ∙ sym same_height;
-    in_range = subst (λ n. All (λ k. k < n) s.basic.items) (sym same_all)
-        (subst (λ (ks : _). All (λ k. k < all_width r) ks.items) (sym b.basic) w.in_range);
-    all_statuses = ap (λ (ss : _). length ss.items) b.status ∙ w.all_statuses ∙ sym same_all;
-    all_lower = b.lower.len ∙ w.all_lower ∙ sym same_all;
-    all_upper = b.upper.len ∙ w.all_upper ∙ sym same_all;
-    all_fixed = ap (λ (bs : _). length bs.items) b.fixed ∙ w.all_fixed ∙ sym same_width;
-    positive = subst (λ d. 0 < value d) (sym b.denominator) w.positive;
-  }
 
   module _ (t : Tableau) (reached : IsReached t) (shown : Shows value r t) where
     columns : width r ≡ form_columns t

@@ -86,17 +86,6 @@ row_with value list xs now x last own both e h n =
           ∙ get_or-append_seam (fractions value xs both) (over (whole_of value x) both) [] 0ℚ ∙ h;
     })
 
-pub row_of_with : {T : Type 0} (value : T → ℕ) (list : List ℚ) (last : ℚ) (d own both : ℕ) (row : Row T) → 0 < own →
-    value row.denominator ≡ own → both ≡ d * own → IsRowWith value list last own both row.numbers.items →
-    IsRowOf value list last d row
-row_of_with value list last d own both row p e f w =
-    record {
-      is_row = record { numbers = w.len; positive = subst (λ n. 0 < n) (sym e) p };
-      entries = λ k l. ap (λ n. fraction_at value row.numbers.items n k) e ∙ w.entries k l;
-      value_last =
-          ap (λ n. fraction_at value row.numbers.items n (length list)) (ap (λ n. d * n) e ∙ sym f) ∙ w.value_last;
-    }
-
 -- ---- rows of a tableau
 pub row_at-before : {T : Type 0} (value : T → ℕ) (d : ℕ) (rows : List (Row T)) (row : Row T) (i k : ℕ) → i < length rows →
     row_at value d (rows ++ row ∷ []) i k ≡ row_at value d rows i k

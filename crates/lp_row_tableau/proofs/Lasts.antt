@@ -16,12 +16,12 @@ use Rattle.spec_pivot.proofs.Pivot.{by_eq, pivoted_at, pivoted_off}
 use Rattle.lp_wide.specs.Whole.{whole}
 use Rattle.lp_wide.specs.declared.signed.Signed.{Signed}
 use Rattle.lp_rows.specs.declared.fractions.Row.{Row}
-use Rattle.lp_rows.specs.Row.{at, AreNow}
+use Rattle.lp_rows.specs.Row.{at}
 use Rattle.lp_rows.proofs.Done.{item-at, at-set_same, at-set_other}
 use Rattle.lp_rows.proofs.Cleared.{fraction-at, over_neg}
 use Rattle.lp_rows.proofs.Gaps.{together}
 use Rattle.lp_row_tableau.specs.Shows.{IsRow}
-use Rattle.lp_row_tableau.specs.Moves.{number_at, number_in, IsLess, IsScaled, IsCleared, AreCleared, AreMoved}
+use Rattle.lp_row_tableau.specs.Moves.{number_at, number_in, IsLess, IsScaled, IsCleared, AreCleared}
 use Rattle.lp_row_tableau.specs.Moves.{AreTurned, step_to}
 use Rattle.lp_row_tableau.proofs.Numbers.{number_in-get, number_in-set, number_in-other}
 
@@ -97,27 +97,6 @@ module _ {T : Type 0} (value : T → ℕ) where
       (sym (item-at value old.numbers.items j x (omega (arith, h, r.numbers)) e))
       ∙ sym (number-at old j n r (omega (arith, h))))) l
 
-  -- ---- a row over its entry
-  pub scaled_is : (n j : ℕ) (v : ℚ) (old less over_entry new : Row T) → j < n → IsLess value n v old less →
-      AreNow value (λ k. number_at value less k *ℚ inverse (number_at value less j)) (length less.numbers.items)
-      over_entry.numbers.items (value over_entry.denominator) →
-      AreNow value (number_at value over_entry) (length over_entry.numbers.items) new.numbers.items
-      (value new.denominator) →
-      0 < value new.denominator → IsScaled value n j v old new
-  scaled_is n j v old less over_entry new h l d e p =
-      let wide : length over_entry.numbers.items ≡ n + 1 = d.len ∙ l.row.numbers in
-      record {
-        row = record { numbers = e.len ∙ wide; positive = p };
-        others = λ k i.
-            e.each k (omega (arith, i, wide))
-            ∙ d.each k (omega (arith, i, l.row.numbers))
-            ∙ ap₂ (λ a b. a *ℚ inverse b) (l.others k i) (l.others j h);
-        last =
-            e.each n (omega (arith, wide))
-            ∙ d.each n (omega (arith, l.row.numbers))
-            ∙ ap₂ (λ a b. a *ℚ inverse b) l.last (l.others j h);
-      }
-
   -- ---- a row without as much of another
   pub clear_already : (n j : ℕ) (own row : Row T) (x : Signed T) → IsRow value n row → j < n →
       x ≡ get_or row.numbers.items j x → value x.size ≡ 0 → IsCleared value n j own row row
@@ -140,32 +119,12 @@ module _ {T : Type 0} (value : T → ℕ) where
           (item-at value row.numbers.items j x (omega (arith, h, r.numbers)) e ∙ no_whole x.negative (value x.size) z)
           ∙ over_none (value row.denominator) r.positive
 
-  pub cleared_is : (n j : ℕ) (own old less new : Row T) → IsRow value n old →
-      AreNow value (λ k. number_at value old k -ℚ number_at value old j *ℚ number_at value own k)
-      (length old.numbers.items) less.numbers.items (value less.denominator) →
-      AreNow value (number_at value less) (length less.numbers.items) new.numbers.items (value new.denominator) →
-      0 < value new.denominator → IsCleared value n j own old new
-  cleared_is n j own old less new r d e p =
-      let wide : length less.numbers.items ≡ n + 1 = d.len ∙ r.numbers in
-      record {
-        row = record { numbers = e.len ∙ wide; positive = p };
-        each = λ k i. e.each k (omega (arith, i, wide)) ∙ d.each k (omega (arith, i, r.numbers));
-      }
-
   -- ---- many rows: the numbers of the first `done` of them are those of f
   pub record AreSoFar (n done : ℕ) (f : ℕ → ℕ → ℚ) (old new : List (Row T)) : Type 0 where
     pub len : length new ≡ length old
     pub rows : All (IsRow value n) new
     pub each : (i k : ℕ) → i < done → i < length old → k < n + 1 → number_in value new i k ≡ f i k
     pub rest : (i k : ℕ) → done ≤ i → number_in value new i k ≡ number_in value old i k
-
-  pub none_so_far : (n : ℕ) (f : ℕ → ℕ → ℚ) (old : List (Row T)) → All (IsRow value n) old → AreSoFar n 0 f old old
-  none_so_far n f old a = record {
-    len = refl;
-    rows = a;
-    each = λ i k h. absurd (omega (arith, h));
-    rest = λ i k h. refl;
-  }
 
   one_more : (n done : ℕ) (f : ℕ → ℕ → ℚ) (old new : List (Row T)) (row : Row T) → AreSoFar n done f old new →
       done < length new → IsRow value n row → ((k : ℕ) → k < n + 1 → number_at value row k ≡ f done k) →
@@ -200,11 +159,6 @@ module _ {T : Type 0} (value : T → ℕ) where
       (λ k l. d.each k l
       ∙ ap₂ (λ x y. x -ℚ y *ℚ number_at value own k) (was n done f old new z a h k) (was n done f old new z a h j))
 
-  pub all_cleared : (n j done : ℕ) (own : Row T) (old new : List (Row T)) →
-      AreSoFar n done (cleared_at j own old) old new → length old ≤ done → AreCleared value n j own old new
-  all_cleared n j done own old new a h =
-      record { len = a.len; rows = a.rows; each = λ i k l o. a.each i k (omega (arith, l, h)) l o }
-
   -- moving
   abbrev pub moved_at : ℕ → ℕ → ℚ → List (Row T) → ℕ → ℕ → ℚ
   moved_at n j v old i k =
@@ -222,18 +176,6 @@ module _ {T : Type 0} (value : T → ℕ) where
       ∙ ap₂ (λ x y. x -ℚ y *ℚ v) (was n done f old new z a h n) (was n done f old new z a h j)
       ∙ sym (rw (eq-eqb k n s) refl))
       (λ o. d.others k (omega (arith, l, o)) ∙ was n done f old new z a h k ∙ sym (rw (ne_eqb k n o) refl)))
-
-  pub all_moved : (n j done : ℕ) (v : ℚ) (old new : List (Row T)) →
-      AreSoFar n done (moved_at n j v old) old new → length old ≤ done → AreMoved value n j v old new
-  all_moved n j done v old new a h =
-      record {
-        len = a.len;
-        rows = a.rows;
-        others = λ i k l o.
-            a.each i k (omega (arith, l, h)) l (omega (arith, o))
-            ∙ rw (ne_eqb k n (λ s. absurd (omega (arith, o, s)))) refl;
-        last = λ i l. a.each i n (omega (arith, l, h)) l (omega arith) ∙ rw (eq-eqb n n refl) refl;
-      }
 
   -- ---- a pivot: `scaled` is row p over its entry, and the costs stand in its place while rows are cleared
   module _ (n p j : ℕ) (v w : ℚ) (old : List (Row T)) (cost : Row T) (rows_is : All (IsRow value n) old)
