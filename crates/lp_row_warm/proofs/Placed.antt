@@ -68,9 +68,6 @@ module _ {T : Type 0} (value : T → ℕ) (d h n : ℕ) (x : ℕ → ℚ) (equat
     abbrev left : ℕ → ℚ
     left i = sum_below n (λ k. equations i k *ℚ x k)
 
-    p_old : p < length old
-    p_old = omega (arith, p_in, a.len)
-
     own_last : (i : ℕ) → i < h → number_in value old i n *ℚ unit ≡ neg_ℚ (left i)
     own_last i l =
         sym (row_at-on value old d n i n positive a.each (omega (arith, l, a.len)) (omega arith)) ∙ a.values i l

@@ -1,10 +1,10 @@
 -- The equations of a form as rows.
-use Rattle.std.proofs.Common.{◌≡◌, ◌≢◌, ℕ, zero, suc, map, Option, Some, ◌+◌, ◌-◌, ◌*◌, ◌<◌, ◌≤◌, List, [], ◌∷◌, ◌++◌, length, cond, get_or}
-use Rattle.std.proofs.Common.{replicate, pos, All, refl, sym, ap, subst, ◌∙◌, arith, eq-eqb, ne_eqb}
+use Rattle.std.proofs.Common.{◌≡◌, ℕ, zero, suc, map, Option, Some, ◌+◌, ◌*◌, ◌<◌, List, [], ◌∷◌, ◌++◌, length, get_or}
+use Rattle.std.proofs.Common.{replicate, pos, All, refl, sym, ap, subst, ◌∙◌, arith}
 use Rattle.std.proofs.lemmas.List.{length-append, length-replicate, length-map, get_or-replicate}
 use Rattle.std.proofs.Math.Seq.{get_or-append_seam}
 use Rattle.std.proofs.lemmas.List.Elements.{All-push}
-use Rattle.spec_exact.specs.Fraction.{ℚ, 0ℚ, 1ℚ, neg_ℚ, over}
+use Rattle.spec_exact.specs.Fraction.{ℚ, 0ℚ, 1ℚ, over}
 use Rattle.spec_exact.specs.Run.{made}
 use Rattle.spec_exact.proofs.Ruleset.{neg-zero}
 use Rattle.spec_exact.proofs.Stops.{length-made, get_or-made}
@@ -12,11 +12,10 @@ use Rattle.spec_pivot.proofs.Pivot.{by_eq}
 use Rattle.spec_pivot.specs.declared.status.Status.{Status}
 use Rattle.spec_pivot.specs.declared.status.Status.TheVariants.{AtLower}
 use Rattle.spec_simplex.specs.declared.ends.RowStart.TheVariants.{Within}
-use Rattle.spec_simplex.specs.Form.{Form, IsForm, form_entry, form_lower, form_upper}
+use Rattle.spec_simplex.specs.Form.{Form, IsForm, form_lower, form_upper}
 use Rattle.spec_simplex.specs.Start.{one_at, start_entry}
 use Rattle.spec_simplex.specs.Tableau.{at_place, is_fixed}
 use Rattle.spec_simplex.specs.Eliminate.{equation, unsolved, basis_status, basis_lower, basis_upper, basis_value}
-use Rattle.spec_path.proofs.Columns.{structural_at, logical_at}
 use Rattle.lp_wide.specs.Whole.{whole}
 use Rattle.lp_wide.specs.declared.signed.Signed.{Signed}
 use Rattle.lp_rows.specs.declared.fractions.Row.{Row}
@@ -37,28 +36,6 @@ use Rattle.lp_row_warm.specs.Rows.{AreRowsAt, AreZeros, IsUnsolved}
 abbrev one : ℕ → ℕ → ℚ
 one i r = one_at i r 1ℚ
 
-pub entry_structural : (f : Form) (i k : ℕ) → k < f.cols →
-    neg_ℚ (form_entry f i k) ≡ start_entry f (Within 0ℚ) i k
-entry_structural f i k h = sym (structural_at f (neg_ℚ (form_entry f i k)) (one i) (one i) k h)
-
-entry_logical : (f : Form) (i k : ℕ) → f.cols ≤ k → k < f.cols + f.rows →
-    start_entry f (Within 0ℚ) i k ≡ one i (k - f.cols)
-entry_logical f i k h l =
-    let e : f.cols + (k - f.cols) ≡ k = omega (arith, h) in
-    subst (λ n. start_entry f (Within 0ℚ) i n ≡ one i (k - f.cols)) e
-    (logical_at f (neg_ℚ (form_entry f i (f.cols + (k - f.cols)))) (one i) (one i) (k - f.cols) (omega (arith, h, l)))
-
-pub entry_own : (f : Form) (i k : ℕ) → f.cols ≤ k → k < f.cols + f.rows → f.cols + i ≡ k →
-    1ℚ ≡ start_entry f (Within 0ℚ) i k
-entry_own f i k h l e =
-    sym (entry_logical f i k h l ∙ ap (λ b. cond b 1ℚ 0ℚ) (eq-eqb i (k - f.cols) (omega (arith, e))))
-
-pub entry_other : (f : Form) (i k : ℕ) → f.cols ≤ k → k < f.cols + f.rows → f.cols + i ≢ k →
-    0ℚ ≡ start_entry f (Within 0ℚ) i k
-entry_other f i k h l n =
-    sym (entry_logical f i k h l
-    ∙ ap (λ b. cond b 1ℚ 0ℚ) (ne_eqb i (k - f.cols) (λ e. n (omega (arith, e, h)))))
-
 -- ---- rows
 -- an entry of the stated equations
 pub unsolved_at : (f : Form) (i k : ℕ) → i < f.rows → k < f.cols + f.rows →
@@ -66,15 +43,6 @@ pub unsolved_at : (f : Form) (i k : ℕ) → i < f.rows → k < f.cols + f.rows 
 unsolved_at f i k h l =
     ap (λ (row : List ℚ). get_or row k 0ℚ) (get_or-made f.rows (equation f) i [] h)
     ∙ get_or-made (f.cols + f.rows + f.rows) (start_entry f (Within 0ℚ) i) k 0ℚ (omega (arith, l))
-
-pub no_rows : {T : Type 0} (value : T → ℕ) (d n : ℕ) (x : ℕ → ℚ) (equations : ℕ → ℕ → ℚ) →
-    AreRowsAt value d 0 n 0 x equations []
-no_rows value d n x equations = record {
-  len = refl;
-  each = λ i z h. absurd (let y : ⊥ = omega (arith, h) in y);
-  entries = λ i k h. absurd (let y : ⊥ = omega (arith, h) in y);
-  values = λ i h. absurd (let y : ⊥ = omega (arith, h) in y);
-}
 
 -- one row more
 pub rows_more : {T : Type 0} (value : T → ℕ) (d i n : ℕ) (x : ℕ → ℚ) (equations : ℕ → ℕ → ℚ) (entry : ℕ → ℚ)
