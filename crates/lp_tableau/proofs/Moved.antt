@@ -1,6 +1,6 @@
 -- The basic columns that move with one that is not basic.
 use Rattle.std.proofs.Common.{◌≡◌, ℕ, ◌<◌, ◌≤◌, List, Option, Ok, Err}
-use Rattle.std.proofs.Common.{true, false, cond, sym, subst, ap, ◌∙◌, arith}
+use Rattle.std.proofs.Common.{false, cond, sym, subst, ap, ◌∙◌, arith}
 use Rattle.spec_exact.specs.Fraction.{ℚ}
 use Rattle.spec_exact.specs.declared.past.Past.{Past}
 use Rattle.spec_exact.specs.Run.{Run, steps}
@@ -20,9 +20,6 @@ module _ (limit : Option ℕ) (t : Tableau) (j : ℕ) (theta : ℚ) (but : Optio
   at_same : (u : Tableau) (i : ℕ) → MovedFrom t u →
       moved_at limit u j theta i u.value ≡ moved_at limit t j theta i u.value
   at_same u i e = ap (λ w. moved_at limit w j theta i u.value) e
-
-  pub not_moved : (i : ℕ) (values : List ℚ) → is_place but i ≡ true → move_at limit t j theta but i values ≡ Ok values
-  not_moved i values b = ap (λ b. cond b (Ok values) (moved_at limit t j theta i values)) b
 
   pub move_refused : (u : Tableau) (i : ℕ) (p : Past ℚ) → steps i (move_at limit t j theta but) t.value ≡ Ok u.value →
       MovedFrom t u → i < t.rows → is_place but i ≡ false → moved_at limit u j theta i u.value ≡ Err p →
