@@ -56,13 +56,6 @@ module _ {X : Type 0} (f : X → Name) where
       subst (λ ns. All (λ x. x ≢ own) ns) (sym e)
       (subst (λ n. All (λ x. x ≢ n) (map f xs)) (sym g) (All-map (λ x. x ≢ name) f xs h))
 
-  -- one more goes last
-  pub names_more : (xs new : List X) (names more : List Name) (x : X) (own : Name) → names ≡ map f xs → own ≡ f x →
-      new ≡ xs ++ x ∷ [] → more ≡ names ++ own ∷ [] → more ≡ map f new
-  names_more xs new names more x own e g k m =
-      m ∙ ap (λ ns. ns ++ own ∷ []) e ∙ ap (λ n. map f xs ++ n ∷ []) g
-      ∙ sym (map-append f xs (x ∷ [])) ∙ sym (ap (map f) k)
-
 -- ---- rows and columns that are changed in place
 
 -- a change that keeps each name leaves the names
