@@ -1,6 +1,6 @@
 -- Signs of entries and of reduced costs, and what a ratio is.
 use Rattle.std.proofs.Common.{◌≡◌, sym, ap, ap₂, ◌∙◌, subst, subst₂}
-use Rattle.spec_exact.specs.Fraction.{ℚ, ◌+ℚ◌, ◌*ℚ◌, neg_ℚ, 0ℚ, 1ℚ, ◌≤ℚ◌, ◌<ℚ◌, abs_ℚ, inverse}
+use Rattle.spec_exact.specs.Fraction.{ℚ, ◌+ℚ◌, ◌*ℚ◌, neg_ℚ, 0ℚ, ◌≤ℚ◌, ◌<ℚ◌, abs_ℚ, inverse}
 use Rattle.spec_exact.proofs.Field.{+ℚ_zero, *ℚ_assoc, *ℚ_comm, *ℚ_one, *ℚ_zero, *ℚ_inverse}
 use Rattle.spec_exact.proofs.Order.{≤ℚ_refl, ≤ℚ_antisym, <ℚ-le, *ℚ_mono, *ℚ-nonneg}
 use Rattle.spec_exact.proofs.Ruleset.{ring, zero-*ℚ, neg-neg, neg-zero}
@@ -15,13 +15,6 @@ use Rattle.spec_pivot.specs.Simplex.{sign}
 use Rattle.spec_dual.specs.Dual.{Suits, Helps}
 
 -- ---- the sign of a way
-pub sign_square : (way : Way) → sign way *ℚ sign way ≡ 1ℚ
-sign_square Up = *ℚ_one 1ℚ
-sign_square Down = minus
-  where
-    minus : neg_ℚ 1ℚ *ℚ neg_ℚ 1ℚ ≡ 1ℚ
-    minus = simp ring
-
 up_is : (e : ℚ) → sign Up *ℚ e ≡ e
 up_is e = simp ring
 
