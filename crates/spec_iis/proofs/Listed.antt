@@ -91,10 +91,6 @@ pub among_left : (xs ys : List Side) → Among xs (xs ++ ys)
 among_left xs ys =
     All-weaker (λ s. is_listed xs s ≡ true) (λ s. is_listed (xs ++ ys) s ≡ true) (listed_left xs ys) xs (all_listed xs)
 
-pub among_right : (xs ys : List Side) → Among ys (xs ++ ys)
-among_right xs ys =
-    All-weaker (λ s. is_listed ys s ≡ true) (λ s. is_listed (xs ++ ys) s ≡ true) (listed_right xs ys) ys (all_listed ys)
-
 -- without the one between
 pub among_both : (xs : List Side) (x : Side) (ys : List Side) → Among (xs ++ ys) (xs ++ x ∷ ys)
 among_both xs x ys =

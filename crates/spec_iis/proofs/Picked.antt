@@ -14,9 +14,6 @@ module _ (p : ℕ → Bool) where
   pub rank_pass : (k : ℕ) → p k ≡ true → rank p (suc k) ≡ rank p k + 1
   rank_pass k h = rw h refl
 
-  pub rank_fail : (k : ℕ) → p k ≡ false → rank p (suc k) ≡ rank p k
-  rank_fail k h = rw h refl
-
   rank_up : (k d : ℕ) → rank p k ≤ rank p (k + d)
   rank_up k zero = let e : k + 0 ≡ k = omega arith in rw e (omega arith)
   rank_up k (suc d) =

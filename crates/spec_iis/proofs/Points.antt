@@ -90,11 +90,6 @@ module _ (m : Model) (sides : List Side) where
         (side_there (record { row = true; at = i; upper = true })) h
 
 -- ---- the points
-
--- within both limits, in two halves
-lower_half : (l : Limits) (v : ℚ) → IsBetween l v → IsWithin false l.lower v
-lower_half l v b = b.lower
-
 -- what is within an end that is chosen is within the end
 within_chosen : (upper : Bool) (a b : Bool) (l : Limits) (v : ℚ) → (if_listed_of upper a b ≡ true) →
     IsBetween (chosen a b l) v → IsWithin upper (end_of upper l) v
