@@ -12,7 +12,7 @@ use Rattle.spec_mps.specs.declared.style.Style.TheVariants.{Fixed}
 use Rattle.spec_mps.specs.Cards.{is_skipped, begins_with_blank, begins_with_star}
 use Rattle.spec_mps.specs.Fields.{Fields, Is, field_of, in_columns, column_fields, fixed_fields, misplaced_from}
 use Rattle.spec_mps.specs.Fields.{is_beside}
-use Rattle.spec_mps.specs.Written.{Data, field_at, first_column, with_fields, line_text}
+use Rattle.spec_mps.specs.Written.{Data, field_at, line_text}
 use Rattle.spec_mps.specs.NumberWritten.{IsWord}
 use Rattle.spec_mps.proofs.Steps.{both, negated}
 use Rattle.spec_mps.proofs.WrittenWords.{is_plain, plain_text, stripped_plain, no_blank}
@@ -25,16 +25,6 @@ pub within : (first last : ℕ) (line more : List ℕ) → last ≤ length line 
     in_columns first last (line ++ more) ≡ in_columns first last line
 unfolding in_columns
 within first last line more h = rw (take-append-le last line more h) refl
-
-pub within_fields : (first last : ℕ) (line : List ℕ) (fs : Fields) → last ≤ length line →
-    in_columns first last (with_fields Fixed line fs) ≡ in_columns first last line
-within_fields first last line [] h = refl
-within_fields first last line (f ∷ fs) h =
-    let n : ℕ = first_column f.number - 1 - length line in
-    let a = length-append line (blanks n) in
-    let b = length-append (line ++ blanks n) f.text in
-    within_fields first last ((line ++ blanks n) ++ f.text) fs (omega arith)
-    ∙ within first last (line ++ blanks n) f.text (omega arith) ∙ within first last line (blanks n) h
 
 -- a text with blanks after it, in its columns
 pub cell_read : (front w : List ℕ) (n first last size : ℕ) → IsPrinted w →
