@@ -44,9 +44,6 @@ later_more b t r = simp ring
 abbrev from_to : ℚ → ℚ → Limits
 from_to a b = record { lower = Some a; upper = Some b }
 
-two : (a b c d : ℚ) → a ≡ c → b ≡ d → from_to a b ≡ from_to c d
-two a b c d e f = ap₂ from_to e f
-
 pub limits_moved : (k : Kind) (b t : ℚ) (r : Option ℚ) → limits_by k (b -ℚ t) r ≡ moved t (limits_by k b r)
 limits_moved L b t None = refl
 limits_moved L b t (Some r) = ap (λ a. from_to a (b -ℚ t)) (later b t (abs_ℚ r))
@@ -70,9 +67,6 @@ limits_moved E b t (Some r) = by (lt_ℚ r 0ℚ)
 
 again : (b t : ℚ) → (b -ℚ t) +ℚ t ≡ b
 again b t = simp ring
-
-forth : (b t : ℚ) → (b +ℚ t) -ℚ t ≡ b
-forth b t = simp ring
 
 least_moved : (t v : ℚ) (o : Option ℚ) → IfSome (lessened t o) (λ k. k ≤ℚ v) → IfSome o (λ k. k ≤ℚ (v +ℚ t))
 least_moved t v None h = tt

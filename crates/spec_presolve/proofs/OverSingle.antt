@@ -35,9 +35,6 @@ pub record SingleStep (m n : Model) (i j : ℕ) (a : ℚ) (lower upper : Option 
   pub tightens : Tightens (scaled a (limits m i)) (bounds m j) lower upper
   pub ordered : Ordered (limits m i)
 
-times_none : (v : ℚ) → v *ℚ 0ℚ ≡ 0ℚ
-times_none v = simp ring
-
 plus_nothing : (s v : ℚ) → s +ℚ v *ℚ 0ℚ ≡ s
 plus_nothing s v = simp ring
 
