@@ -11,7 +11,6 @@ use Rattle.spec_exact.specs.declared.past.Past.{Past}
 use Rattle.spec_model.specs.Model.{Model}
 use Rattle.spec_mps.specs.NumberText.{number_of}
 use Rattle.spec_mps.specs.NumberWritten.{number_text, size_text, places, placed, pointed, last_digits, quotient_text}
-use Rattle.spec_wide_text.proofs.ReadBack.{same_text}
 use Rattle.spec_check.specs.declared.certificate.Known.{Known}
 use Rattle.spec_check.specs.declared.certificate.Known.TheVariants as known
 use Rattle.spec_check.specs.Certificate.{Holds}
@@ -183,15 +182,3 @@ module _ (IsOf : Model → Type 0) where
       infeasible = λ e. absurd (apart 85 73 refl (ap first (same ∙ e)));
       unbounded = λ e. (m, is_of, h);
     }
-
-    -- a narrow number is written as it is with numbers of any width
-    narrow_known_is : (what : Known ℚ) → IsShown m what → wide_known_text what ≡ known_text what
-    narrow_known_is (known.Optimal v) s = ap (λ t. codes "OPTIMAL " ++ t) (same_text v (value_fits m v s))
-    narrow_known_is known.Infeasible s = refl
-    narrow_known_is known.Unbounded s = refl
-
-    pub wide_answer_true : (a : Answer ℚ) → IsShownBy m a → IsTrueLine IsOf IsWideNumber (answer_text a)
-    wide_answer_true (answer.Known what) s =
-        wide_known_true what (known_text what) (shown_holds m what s) (narrow_known_is what s)
-    wide_answer_true (answer.Past p) s = other_true IsWideNumber (past_text p) refl
-    wide_answer_true (answer.Spent budget) s = other_true IsWideNumber (codes "SPENT " ++ decimal budget) refl
