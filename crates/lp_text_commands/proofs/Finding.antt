@@ -4,16 +4,15 @@ use Rattle.std.proofs.Common.{append-nil, ap, subst, ⊎_elim}
 use Rattle.std.proofs.lemmas.List.{append_assoc, get_or_default}
 use Rattle.std.specs.Prelude.{OnOk}
 use Rattle.spec_exact.specs.Fraction.{ℚ}
-use Rattle.spec_exact.proofs.Stops.{length-made}
 use Rattle.spec_model.specs.Model.{Model, width}
 use Rattle.spec_check.specs.declared.certificate.Certificate.{Certificate}
 use Rattle.spec_iis.specs.declared.side.Side.{Side}
-use Rattle.spec_iis.specs.Only.{only, only_column_at}
 use Rattle.spec_iis.specs.Rule.{IsRead, Reaches, used}
 use Rattle.spec_iis.specs.Irreducible.{ArePointsWithout}
 use Rattle.spec_iis.specs.Found.{ExactIis, IsFound, MayFind}
 use Rattle.spec_iis.proofs.Listed.{listed_holds, among_both}
 use Rattle.spec_iis.proofs.Readings.{used_read}
+use Rattle.spec_iis.proofs.Points.{width-only}
 use Rattle.spec_server.specs.Machine.{opening_budget}
 use Rattle.spec_server.specs.Output.{ended_lines}
 use Rattle.spec_commands.specs.IisOut.{IisOut, iis_lines}
@@ -42,17 +41,12 @@ found_read m budget sides cert points f =
     (used_read (Some largest) m r.certificate r.ends.may_answer.2) r.reached
 
 -- ---- the points
-
-width_alone : (m : Model) (sides : List Side) → width (only m sides) ≡ width m
-unfolding only
-width_alone m sides = length-made (width m) (only_column_at m sides)
-
 -- a part for each column
 pub points_fit : (m : Model) (sides : List Side) (points : List (List ℚ)) → ArePointsWithout m sides points →
     All (λ z. length z ≡ width m) points
 points_fit m sides points w = λ k d l.
     let inside : k < length sides = subst (λ n. k < n) w.one_each l in
-    ap length (get_or_default points k d [] l) ∙ (w.feasible k inside).one_each ∙ width_alone m _
+    ap length (get_or_default points k d [] l) ∙ (w.feasible k inside).one_each ∙ width-only m _
 
 -- ---- the output
 
