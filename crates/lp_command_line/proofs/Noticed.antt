@@ -2,6 +2,7 @@
 use Rattle.std.proofs.Common.{◌≡◌, Bool, true, false, cond, List, [], ◌∷◌}
 use Rattle.std.proofs.Common.{Option, Some, None, refl, sym, ap, ◌∙◌}
 use Rattle.std.specs.Prelude.{codes, option_map, option_and_then, IsSome}
+use Rattle.std.proofs.lemmas.Option.{none-some}
 use Rattle.spec_text.specs.Words.{same}
 use Rattle.spec_text.proofs.WordLemmas.{same_true}
 use Rattle.spec_mps.specs.Shapes.{look_up}
@@ -13,9 +14,6 @@ use Rattle.lp_command_line.specs.declared.line.Command.TheVariants as command
 use Rattle.spec_program.specs.Spelled.{spelled_text}
 use Rattle.lp_command_line.specs.Notices.{notice_of}
 use Rattle.lp_command_line.proofs.Asking.{run-refused, text-refused, wide-refused, no-address, command_words, row_of, asks-command}
-
-none_is_not : {A : Type 0} (a : A) → ◌≡◌ {A = Option A} None (Some a) → ⊥
-none_is_not a e = cc
 
 alone : (word name : Word) → command_line_of (name ∷ []) ≡ None → same word name ≡ true → command_line_of (word ∷ []) ≡ None
 alone word name none e = ap (λ w. command_line_of (w ∷ [])) (same_true word name e) ∙ none
@@ -54,22 +52,22 @@ usage_behind word =
 
 pub no-command : (words : List Word) (notice : Notice) → notice_of words ≡ Some notice → command_line_of words ≡ None
 unfolding notice_of
-no-command [] notice e = absurd (none_is_not notice e)
+no-command [] notice e = absurd (none-some notice e)
 no-command (word ∷ []) notice e = by (same word (codes "--help")) (same word (codes "--version")) refl refl e
   where
     by : (h v : Bool) → same word (codes "--help") ≡ h → same word (codes "--version") ≡ v →
         cond h (Some Usage) (cond v (Some Version) None) ≡ Some notice → command_line_of (word ∷ []) ≡ None
     by true v is_help is_version e = alone word (codes "--help") usage_alone is_help
     by false true is_help is_version e = alone word (codes "--version") version_alone is_version
-    by false false is_help is_version e = absurd (none_is_not notice e)
+    by false false is_help is_version e = absurd (none-some notice e)
 no-command (word ∷ option ∷ []) notice e = by (same option (codes "--help")) refl e
   where
     by : (h : Bool) → same option (codes "--help") ≡ h → cond h (Some Usage) None ≡ Some notice →
         command_line_of (word ∷ option ∷ []) ≡ None
     by true is_help e =
         ap (λ o. command_line_of (word ∷ o ∷ [])) (same_true option (codes "--help") is_help) ∙ usage_behind word
-    by false is_help e = absurd (none_is_not notice e)
-no-command (word ∷ option ∷ more ∷ words) notice e = absurd (none_is_not notice e)
+    by false is_help e = absurd (none-some notice e)
+no-command (word ∷ option ∷ more ∷ words) notice e = absurd (none-some notice e)
 
 pub no-command-by : (words : List Word) (found : Option Notice) → found ≡ notice_of words → IsSome found →
     command_line_of words ≡ None

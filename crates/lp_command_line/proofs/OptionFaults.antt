@@ -4,6 +4,7 @@ use Rattle.std.proofs.Common.{Option, Some, None, refl, sym, ap, ◌∙◌}
 use Rattle.std.specs.Prelude.{is_some}
 use Rattle.std.specs.Option.{option_or}
 use Rattle.std.specs.List.{list_any}
+use Rattle.std.proofs.lemmas.Option.{none-some}
 use denote.Ref.{Bor}
 use Rattle.spec_text.specs.Words.{same}
 use Rattle.spec_program.specs.CommandLine.{OptionNames}
@@ -11,7 +12,7 @@ use Rattle.lp_command_line.specs.Words.{Cut, first_in, bytes_of, value_in}
 use Rattle.lp_command_line.specs.declared.fault.WordFault.{WordFault}
 use Rattle.lp_command_line.specs.declared.fault.WordFault.TheVariants.{NoOption, Twice, NoValue}
 use Rattle.lp_command_line.specs.WordFaults.{Fault, told, lone_fault, behind_option, option_fault}
-use Rattle.lp_command_line.proofs.OptionLemmas.{none_is_not, any-bytes, first-lone, first-more, no-more, lone-none}
+use Rattle.lp_command_line.proofs.OptionLemmas.{any-bytes, first-lone, first-more, no-more, lone-none}
 
 -- a fault or another, as they are told
 pub told-or : (a b : Option (WordFault (Bor (List ℕ)))) → told (option_or a b) ≡ option_or (told a) (told b)
@@ -57,7 +58,7 @@ module _ (names : List (Bor (List ℕ))) (switches : OptionNames) (all rest : Li
   fault-cut : (words : List (List ℕ)) (c : Cut) → first_in switches words ≡ Some c →
       option_fault (bytes_of names) switches words ≡ fault_by c
   unfolding first_in
-  fault-cut [] c e = absurd (none_is_not c e)
+  fault-cut [] c e = absurd (none-some c e)
   fault-cut (option ∷ []) c e =
       first-lone switches fault_by option c e (Some (lone_fault (bytes_of names) option))
   fault-cut (option ∷ value ∷ words) c e = first-more switches fault_by option value words c e

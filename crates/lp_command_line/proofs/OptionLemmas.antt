@@ -3,15 +3,13 @@ use Rattle.std.proofs.Common.{◌≡◌, ℕ, ◌&&◌, ◌||◌, Bool, true, fa
 use Rattle.std.proofs.Common.{List, [], ◌∷◌, length, map, Option, Some, None, refl, sym, ap, ◌∙◌}
 use Rattle.std.specs.Prelude.{option_copied, is_some, option_map, option_and_then}
 use Rattle.std.specs.List.{list_all, list_any}
+use Rattle.std.proofs.lemmas.Option.{none-some}
 use denote.Ref.{Bor}
 use Rattle.spec_text.specs.Words.{same}
 use Rattle.spec_mps.specs.Shapes.{look_up}
 use Rattle.spec_program.specs.CommandLine.{Options, OptionNames, in_pairs, is_one_of, are_distinct, are_options_of}
 use Rattle.spec_program.specs.CommandLine.{options_in}
 use Rattle.lp_command_line.specs.Words.{Cut, first_in, value_in, is_new_option, are_in, bytes_of}
-
-pub none_is_not : {A : Type 0} (a : A) → ◌≡◌ {A = Option A} None (Some a) → ⊥
-none_is_not a e = cc
 
 -- ---- the first option
 
@@ -65,7 +63,7 @@ module _ (switches : OptionNames) where
         by : (s : Bool) → cond s (Some (record { option = option; value = []; behind = [] })) None ≡ Some c →
             cond s (said (record { option = option; value = []; behind = [] })) none ≡ said c
         by true h = let is : ◌≡◌ {A = Cut} (record { option = option; value = []; behind = [] }) c = cc in ap said is
-        by false h = absurd (none_is_not c h)
+        by false h = absurd (none-some c h)
 
     pub first-more : (option value : List ℕ) (words : List (List ℕ)) (c : Cut) →
         first_in switches (option ∷ value ∷ words) ≡ Some c →
@@ -93,15 +91,15 @@ module _ (switches : OptionNames) where
       by : (s : Bool) →
           cond {A = Option Cut} s (Some (record { option = option; value = []; behind = value ∷ words }))
           (Some (record { option = option; value = value; behind = words })) ≡ None → B
-      by true h = absurd (none_is_not _ (sym h))
-      by false h = absurd (none_is_not _ (sym h))
+      by true h = absurd (none-some _ (sym h))
+      by false h = absurd (none-some _ (sym h))
 
   pub lone-none : (option : List ℕ) → first_in switches (option ∷ []) ≡ None → is_one_of option switches ≡ false
   unfolding first_in
   lone-none option e = by (is_one_of option switches) e
     where
       by : (s : Bool) → cond {A = Option Cut} s (Some (record { option = option; value = []; behind = [] })) None ≡ None → s ≡ false
-      by true h = absurd (none_is_not _ (sym h))
+      by true h = absurd (none-some _ (sym h))
       by false h = refl
 
 -- ---- the value of an option
@@ -114,7 +112,7 @@ module _ (switches : OptionNames) (name : List ℕ) where
   pub value-cut : (words : List (List ℕ)) (c : Cut) → first_in switches words ≡ Some c →
       value_in switches name words ≡ value_by c
   unfolding first_in
-  value-cut [] c e = absurd (none_is_not c e)
+  value-cut [] c e = absurd (none-some c e)
   value-cut (option ∷ []) c e = first-lone switches value_by option c e None
   value-cut (option ∷ value ∷ words) c e = first-more switches value_by option value words c e
 
@@ -146,7 +144,7 @@ module _ (switches : OptionNames) (name option value : List ℕ) (words : List (
       by : (p : Option Options) → in_pairs switches words ≡ p →
           option_map (λ pairs. (option, value) ∷ pairs) p ≡ Some options →
           cond (same name option) (Some value) (value_in switches name words) ≡ look_up name options
-      by None q h = absurd (none_is_not options h)
+      by None q h = absurd (none-some options h)
       by (Some pairs) q h =
           let is : ◌≡◌ {A = Options} ((option, value) ∷ pairs) options = cc in
           ap (λ o. cond (same name option) (Some value) o) (rest pairs q) ∙ ap (look_up name) is
@@ -160,7 +158,7 @@ value-look_up switches name (option ∷ []) options e = by (is_one_of option swi
     by : (s : Bool) → cond s (Some ((option, []) ∷ [])) None ≡ Some options →
         cond s (cond (same name option) (Some []) None) None ≡ look_up name options
     by true h = let is : ◌≡◌ {A = Options} ((option, []) ∷ []) options = cc in ap (look_up name) is
-    by false h = absurd (none_is_not options h)
+    by false h = absurd (none-some options h)
 value-look_up switches name (option ∷ value ∷ words) options e =
     by (is_one_of option switches) e
     (pushed switches name option [] (value ∷ words) (value-look_up switches name (value ∷ words)))
@@ -325,7 +323,7 @@ module _ (names : List (Bor (List ℕ))) (switches : OptionNames) (all rest : Li
   are-cut : (words : List (List ℕ)) (c : Cut) → first_in switches words ≡ Some c →
       are_in (bytes_of names) switches words ≡ are_by c
   unfolding first_in
-  are-cut [] c e = absurd (none_is_not c e)
+  are-cut [] c e = absurd (none-some c e)
   are-cut (option ∷ []) c e = first-lone switches are_by option c e false
   are-cut (option ∷ value ∷ words) c e = first-more switches are_by option value words c e
 
