@@ -1,13 +1,10 @@
 -- Lines one after the other.
-use Rattle.std.proofs.Common.{◌≡◌, ℕ, suc, ◌+◌, List, [], ◌∷◌, ◌++◌, take, Some, arith, ap, ◌∙◌, append-nil}
+use Rattle.std.proofs.Common.{◌≡◌, ℕ, ◌+◌, List, [], ◌∷◌, ◌++◌, take, Some, ap, ◌∙◌, append-nil, add-one}
 use Rattle.std.specs.List.{flat_map, slice_get}
 use Rattle.std.proofs.Math.Seq.{take-suc}
 use Rattle.std.proofs.lemmas.Grind.{flat_map-append}
 use Rattle.std.proofs.lemmas.Option.{slice_get_within, get_or_from_slice_get}
 use Rattle.spec_server.specs.Output.{ended_lines}
-
-one_more : (at : ℕ) → at + 1 ≡ suc at
-one_more at = omega arith
 
 -- a line more
 pub ended_lines_more : (lines : List (List ℕ)) (at : ℕ) (line : List ℕ) → slice_get lines at ≡ Some line →
@@ -15,7 +12,7 @@ pub ended_lines_more : (lines : List (List ℕ)) (at : ℕ) (line : List ℕ) �
 unfolding ended_lines
 ended_lines_more lines at line e =
     let ended : List ℕ → List ℕ = λ l. l ++ 10 ∷ [] in
-    ap (λ k. flat_map ended (take k lines)) (one_more at)
+    ap (λ k. flat_map ended (take k lines)) (add-one at)
     ∙ ap (flat_map ended)
     (take-suc lines at [] (slice_get_within lines at line e)
     ∙ ap (λ l. take at lines ++ l ∷ []) (get_or_from_slice_get lines at line [] e))

@@ -1,11 +1,12 @@
 -- Numbers in digits.
-use Rattle.std.proofs.Common.{◌≡◌, ℕ, suc, ◌+◌, ◌-◌, ◌*◌, ◌≤◌, ◌<◌, List, [], ◌∷◌, length, drop, get_or, Some, None}
+use Rattle.std.proofs.Common.{◌≡◌, ℕ, suc, ◌+◌, ◌-◌, ◌*◌, ◌<◌, List, length, drop, get_or, Some, None}
 use Rattle.std.proofs.Common.{Bool, true, false, ◌&&◌, not, cond, nat_le, nat_lt, arith, ap, ◌∙◌, refl}
 use Rattle.std.proofs.Math.Seq.{drop-cons}
 use Rattle.std.proofs.lemmas.Bool.{lt-leb}
 use Rattle.std.specs.List.{list_all}
 use Rattle.spec_mps.specs.NumberText.{spelled_from}
 use Rattle.spec_server.specs.Command.{is_digit, begins_with_zero, number_to}
+use Rattle.lp_numtext.proofs.DigitSteps.{grows}
 
 -- the last of five tests fails
 last_fails : (s t u v w : Bool) (n : ℕ) → w ≡ false → None ≡ cond (s && t && u && v && w) (Some n) None
@@ -15,11 +16,6 @@ last_fails true true true false false n e = refl
 last_fails true true false v false n e = refl
 last_fails true false u v false n e = refl
 last_fails false t u v false n e = refl
-
--- more digits make no number less
-spelled_no_less : (n : ℕ) (digits : List ℕ) → n ≤ spelled_from n digits
-spelled_no_less n [] = omega arith
-spelled_no_less n (b ∷ bs) = omega (arith, spelled_no_less (n * 10 + (b - 48)) bs)
 
 -- the digits up to this one spell more than the last number
 pub too_large : (last digits : ℕ) (text : List ℕ) (at number : ℕ) →
@@ -31,4 +27,4 @@ too_large last digits text at number spelled h past =
     last_fails (nat_lt 0 (length text)) (nat_le (length text) digits) (list_all is_digit text)
     (not (begins_with_zero text)) _ (spelled_from 0 text)
     (lt-leb (spelled_from 0 text) last
-    (omega (arith, more, spelled_no_less (number * 10 + (get_or text at 0 - 48)) (drop (suc at) text))))
+    (omega (arith, more, grows (number * 10 + (get_or text at 0 - 48)) (drop (suc at) text))))
