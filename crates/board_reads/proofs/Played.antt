@@ -1,8 +1,8 @@
 -- What workers read, each by a pass of its own, places answer in one order.
 use Rattle.std.proofs.Common.{◌≡◌, ℕ, zero, suc, ◌+◌, ◌<◌, ◌≤◌, ◌%◌, List, [], ◌∷◌, ◌++◌, length, map, get_or}
 use Rattle.std.proofs.Common.{reverse, nat_eq, eqb, cond, Bool, true, false, refl, sym, ap, ◌∙◌, subst, ⊎_elim}
-use Rattle.std.proofs.Common.{◌⊎◌, inl, inr, arith}
-use Rattle.std.specs.List.{filter, flat_map, AllByRecursion, Contains}
+use Rattle.std.proofs.Common.{inl, inr, arith}
+use Rattle.std.specs.List.{flat_map, AllByRecursion, Contains}
 use Rattle.std.proofs.lemmas.List.{map-append, reverse-append, reverse-reverse}
 use Rattle.std.proofs.lemmas.List.Elements.{Contains-append_left, Contains-append_right}
 use Rattle.spec_reads.specs.declared.read.Read.TheVariants as read
@@ -11,7 +11,7 @@ use Rattle.spec_reads.specs.Places.{Logged}
 use Rattle.spec_reads.specs.Orders.{AreBacked, HaveOneOrder, log_of_worker}
 use Rattle.basis_board.specs.declared.seats.Read.{Read}
 use Rattle.basis_board.specs.declared.seats.Read.TheVariants.{Count, Open, See, Claim, Lost, Done}
-use Rattle.basis_board.specs.Board.{Each, Has, total, one_if, count}
+use Rattle.basis_board.specs.Board.{Each, Has, one_if, count}
 use Rattle.basis_board.specs.Known.{Known, notes_of}
 use Rattle.basis_board.specs.Moments.{Moment, Note, notes, numbered, ComeAfter, WereTrue, IsTrueOf, IsOneLog}
 use Rattle.basis_board.proofs.Totals.{has_left, has_right}
@@ -19,6 +19,7 @@ use Rattle.board_reads.specs.PassReads.{exact_read, reads_of}
 use Rattle.board_reads.specs.Played.{of_read, Supposes, AreFounded, IsOfWorker, IsLogOf}
 use Rattle.board_reads.proofs.Merging.{Mark, logged_of, marked, Ascends, sum_of, Merged, part, merged, holds_of_all}
 use Rattle.board_reads.proofs.Replaying.{IsFounded, replayed}
+use Rattle.board_reads.proofs.Pushing.{all_push}
 
 -- ---- lists
 
@@ -30,11 +31,6 @@ map_reverse f [] = refl
 map_reverse f (x ∷ xs) =
     ap (map f) (reverse_first x xs) ∙ map-append f (reverse xs) (x ∷ [])
     ∙ ap (λ ys. ys ++ f x ∷ []) (map_reverse f xs) ∙ sym (reverse_first (f x) (map f xs))
-
-all_push : {X : Type 0} (P : X → Type 0) (xs : List X) (x : X) → AllByRecursion P xs → P x →
-    AllByRecursion P (xs ++ x ∷ [])
-all_push P [] x h p = (p, tt)
-all_push P (y ∷ xs) x h p = (h.0, all_push P xs x h.1 p)
 
 all_reverse : {X : Type 0} (P : X → Type 0) (xs : List X) → AllByRecursion P xs → AllByRecursion P (reverse xs)
 all_reverse P [] h = tt

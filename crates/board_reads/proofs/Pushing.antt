@@ -14,7 +14,7 @@ abbrev pub in_turn : List Read → List ExactRead
 in_turn reads = map exact_read (reverse reads)
 
 module _ {X : Type 0} where
-  all_push : (P : X → Type 0) (xs : List X) (x : X) → AllByRecursion P xs → P x → AllByRecursion P (xs ++ x ∷ [])
+  pub all_push : (P : X → Type 0) (xs : List X) (x : X) → AllByRecursion P xs → P x → AllByRecursion P (xs ++ x ∷ [])
   all_push P [] x h p = (p, tt)
   all_push P (y ∷ xs) x h p = (h.0, all_push P xs x h.1 p)
 

@@ -1,10 +1,10 @@
 -- The reads of a pass are looks and puts.
 use Rattle.std.proofs.Common.{◌≡◌, ◌≢◌, ℕ, zero, suc, ◌+◌, Bool, true, false, List, [], ◌∷◌, ◌++◌, length, map, Some}
-use Rattle.std.proofs.Common.{None, refl, sym, ap, ◌∙◌, subst, nat_eq, eqb-true, arith}
-use Rattle.std.specs.Prelude.{reverse, ◌&&◌}
-use Rattle.std.proofs.lemmas.Bool.{eq-eqb}
+use Rattle.std.proofs.Common.{None, refl, sym, ap, ◌∙◌, subst, arith}
+use Rattle.std.specs.Prelude.{reverse}
 use Rattle.std.proofs.lemmas.List.{append_assoc, append-nil, map-append, reverse-append, take_all}
 use Rattle.spec_text.specs.Words.{same}
+use Rattle.spec_text.proofs.WordLemmas.{same_true, same-refl}
 use Rattle.spec_reads.specs.declared.read.Read.TheVariants as read
 use Rattle.spec_reads.specs.Reads.{ExactRead, Looked, shape_words, front, has_shape, SeenBy, SeesDown}
 use Rattle.basis_board.specs.declared.seats.View.{View}
@@ -24,29 +24,13 @@ pub reads_more : (more old : List Read) →
     map exact_read (reverse (more ++ old)) ≡ map exact_read (reverse old) ++ map exact_read (reverse more)
 reads_more more old = ap (map exact_read) (reverse-append more old) ∙ map-append exact_read (reverse old) (reverse more)
 
-heads_too : (x y : ℕ) (xs ys : List ℕ) (t : Bool) → nat_eq x y ≡ t → t && same xs ys ≡ true →
-    (same xs ys ≡ true → xs ≡ ys) → x ∷ xs ≡ y ∷ ys
-heads_too x y xs ys true h f more = let e : x ≡ y = eqb-true x y h in let d : xs ≡ ys = more f in
-    ap (λ z. z ∷ xs) e ∙ ap (λ zs. y ∷ zs) d
-heads_too x y xs ys false h f more = absurd (let z : false ≡ true = f in cc)
-
-same_is : (xs ys : List ℕ) → same xs ys ≡ true → xs ≡ ys
-same_is [] [] e = refl
-same_is [] (y ∷ ys) e = cc
-same_is (x ∷ xs) [] e = cc
-same_is (x ∷ xs) (y ∷ ys) e = heads_too x y xs ys (nat_eq x y) refl e (same_is xs ys)
-
-is_same : (xs : List ℕ) → same xs xs ≡ true
-is_same [] = refl
-is_same (x ∷ xs) = ap (λ t. t && same xs xs) (eq-eqb x x refl) ∙ is_same xs
-
 -- ---- looks
 
 other_shape : (shape words : List ℕ) → length words ≡ shape_words → words ≢ shape → has_shape shape words ≡ false
 other_shape shape words size other = by (has_shape shape words) refl
   where
     by : (t : Bool) → has_shape shape words ≡ t → t ≡ false
-    by true e = absurd (other (sym (take_all shape_words words (omega arith)) ∙ same_is (front words) shape e))
+    by true e = absurd (other (sym (take_all shape_words words (omega arith)) ∙ same_true (front words) shape e))
     by false e = refl
 
 -- a place that is passed over
@@ -102,7 +86,7 @@ looks_read shape v w (NoneReady c) d = record {
 }
 looks_read shape v w (Found k words) f =
     let size : length words ≡ 49 = f.finds.formed.all in
-    let shaped : has_shape shape words ≡ true = ap (λ ws. same ws shape) f.finds.shape_is ∙ is_same shape in
+    let shaped : has_shape shape words ≡ true = ap (λ ws. same ws shape) f.finds.shape_is ∙ same-refl shape in
     let one : suc k ≡ k + 1 = omega arith in
     let last : SeesDown shape (suc k) (read.Seen k words ∷ []) (Some (record { place = k; words = words })) = (
       refl,
