@@ -1,6 +1,6 @@
 -- Parts of the model with some sides alone, one more at a time.
 use Rattle.std.proofs.Common.{◌≡◌, ℕ, suc, ◌+◌, Bool, true, false, cond, List, [], ◌∷◌, ◌++◌, map, take}
-use Rattle.std.proofs.Common.{Option, Some, None, refl, sym, ap, ◌∙◌, arith}
+use Rattle.std.proofs.Common.{Option, Some, None, refl, sym, ap, ◌∙◌, add-one}
 use Rattle.std.specs.Prelude.{is_some}
 use Rattle.std.specs.List.{filter}
 use Rattle.std.proofs.lemmas.List.{append_assoc}
@@ -11,18 +11,15 @@ use Rattle.spec_iis.specs.Only.{picked, rank, single, with_sides, only_row, only
 use Rattle.spec_iis.specs.Rule.{gathered}
 use Rattle.lp_iis.specs.Reading.{place_by, entry_by}
 
-next_is : (k : ℕ) → k + 1 ≡ suc k
-next_is k = omega arith
-
 module _ {A : Type 0} (p : ℕ → Bool) (f : ℕ → A) where
   pub picked_more : (k : ℕ) (xs : List A) → xs ≡ picked p f k → p k ≡ true → xs ++ f k ∷ [] ≡ picked p f (k + 1)
-  picked_more k xs h e = ap (λ ys. ys ++ f k ∷ []) h ∙ sym (ap (picked p f) (next_is k) ∙ step)
+  picked_more k xs h e = ap (λ ys. ys ++ f k ∷ []) h ∙ sym (ap (picked p f) (add-one k) ∙ step)
     where
       step : picked p f (suc k) ≡ picked p f k ++ f k ∷ []
       step = rw e refl
 
   pub picked_same : (k : ℕ) (xs : List A) → xs ≡ picked p f k → p k ≡ false → xs ≡ picked p f (k + 1)
-  picked_same k xs h e = h ∙ sym (ap (picked p f) (next_is k) ∙ step)
+  picked_same k xs h e = h ∙ sym (ap (picked p f) (add-one k) ∙ step)
     where
       step : picked p f (suc k) ≡ picked p f k
       step = rw e refl
@@ -31,7 +28,7 @@ pub gathered_more : {A : Type 0} (f : ℕ → List A) (k : ℕ) (first before af
     before ≡ first ++ gathered f k → after ≡ before ++ more → more ≡ f k → after ≡ first ++ gathered f (k + 1)
 gathered_more f k first before after more h e is =
     e ∙ ap (λ xs. xs ++ more) h ∙ ap (λ ys. (first ++ gathered f k) ++ ys) is ∙ append_assoc first (gathered f k) (f k)
-    ∙ ap (λ i. first ++ gathered f i) (sym (next_is k))
+    ∙ ap (λ i. first ++ gathered f i) (sym (add-one k))
 
 -- ---- rows
 module _ (r : ExactRow) where
