@@ -10,9 +10,9 @@ use Rattle.spec_exact.specs.declared.past.Past.{Past}
 use Rattle.spec_exact.specs.declared.past.Op.{Op}
 use Rattle.spec_exact.specs.declared.past.Op.TheVariants.{Sub, Div}
 use Rattle.spec_exact.proofs.Limit.{sub_gives, div_exact}
-use Rattle.spec_exact.proofs.Order.{lt_if, lt_test, not_lt_test, <ℚ-le}
+use Rattle.spec_exact.proofs.Order.{lt_if, not_lt_test, <ℚ-le}
 use Rattle.spec_exact.proofs.Ruleset.{ring, neg-neg, neg-zero, neg-*ℚ, *ℚ-neg}
-use Rattle.spec_exact.proofs.Strict.{<ℚ_irrefl, neg_strict}
+use Rattle.spec_exact.proofs.Strict.{<ℚ_irrefl}
 use Rattle.spec_pivot.specs.declared.status.Status.{Status}
 use Rattle.spec_pivot.specs.declared.status.Status.TheVariants.{AtLower, AtUpper}
 use Rattle.spec_simplex.specs.declared.ends.Entering.{Entering}
@@ -23,6 +23,7 @@ use Rattle.spec_simplex.specs.Step.{directed, other_bound, range_run, rise_run, 
 use Rattle.spec_simplex.specs.Step.{better_by, better_run, with_gap, best_with, best_run, NamesBound}
 use Rattle.spec_exact.proofs.Stops.{steps_stop}
 use Rattle.spec_exact.proofs.Signs.{negative_test}
+use Rattle.spec_exact.proofs.Sizes.{abs_below, turned_down, turned_back}
 
 -- ---- results of operations
 pub then_ok : {A B E : Type 0} (o : Result A E) (next : A → Result B E) (b : B) → (o >>= next) ≡ Ok b →
@@ -44,21 +45,10 @@ quotient_ok limit v w x n h = div_exact limit v w x n (told_ok Div v w (div limi
 abs_above : (x : ℚ) → 0ℚ <ℚ x → abs_ℚ x ≡ x
 abs_above x h = ap (λ b. cond b (neg_ℚ x) x) (negative_test x ∙ not_lt_test x 0ℚ (<ℚ-le 0ℚ x h))
 
-abs_below : (x : ℚ) → x <ℚ 0ℚ → abs_ℚ x ≡ neg_ℚ x
-abs_below x h = ap (λ b. cond b (neg_ℚ x) x) (negative_test x ∙ lt_test x 0ℚ h)
-
-turned_up : (x : ℚ) → neg_ℚ x <ℚ 0ℚ → 0ℚ <ℚ x
-turned_up x h =
-    subst (λ a. 0ℚ <ℚ a) (neg-neg x) (subst (λ a. a <ℚ neg_ℚ (neg_ℚ x)) neg-zero (neg_strict (neg_ℚ x) 0ℚ h))
-
-turned_down : (x : ℚ) → 0ℚ <ℚ neg_ℚ x → x <ℚ 0ℚ
-turned_down x h =
-    subst (λ a. a <ℚ 0ℚ) (neg-neg x) (subst (λ a. neg_ℚ (neg_ℚ x) <ℚ a) neg-zero (neg_strict 0ℚ (neg_ℚ x) h))
-
 -- of an entry, by the way of the column
 abs_falling : (up : Bool) (a : ℚ) → directed up a <ℚ 0ℚ → abs_ℚ a ≡ neg_ℚ (directed up a)
 abs_falling true a h = abs_below a h
-abs_falling false a h = abs_above a (turned_up a h) ∙ sym (neg-neg a)
+abs_falling false a h = abs_above a (turned_back a h) ∙ sym (neg-neg a)
 
 abs_rising : (up : Bool) (a : ℚ) → 0ℚ <ℚ directed up a → abs_ℚ a ≡ directed up a
 abs_rising true a h = abs_above a h
