@@ -79,9 +79,6 @@ module _ {T : Type 0} (value : T → ℕ) (r : RowTableau T) (costs : Row T) (s 
   same_height : height s ≡ height r
   same_height = ap (λ (rows : _). length rows.items) b.rows
 
-  same_width : width s ≡ width r
-  same_width = ap₂ (λ a b. a + b) b.cols same_height
-
   module _ (t : Tableau) (reached : IsReached t) (shown : Shows value r t) where
     columns : width r ≡ form_columns t
     columns = ap₂ (λ a b. a + b) shown.cols shown.rows

@@ -27,10 +27,10 @@ use Rattle.lp_row_tableau.proofs.Chosen.{FlipsTo}
 use Rattle.lp_row_tableau.proofs.Kept.{stood, lower_same, upper_same, fixed_same}
 use Rattle.lp_row_tableau.proofs.Numbers.{row_at-one, row_at-on}
 
-along : (v a s r : ℚ) → v +ℚ r *ℚ neg_ℚ (s *ℚ a) ≡ v -ℚ a *ℚ (s *ℚ r)
+pub along : (v a s r : ℚ) → v +ℚ r *ℚ neg_ℚ (s *ℚ a) ≡ v -ℚ a *ℚ (s *ℚ r)
 along v a s r = simp ring
 
-less_on : (n a k c : ℚ) → (n -ℚ a *ℚ k) *ℚ c ≡ n *ℚ c -ℚ a *ℚ (k *ℚ c)
+pub less_on : (n a k c : ℚ) → (n -ℚ a *ℚ k) *ℚ c ≡ n *ℚ c -ℚ a *ℚ (k *ℚ c)
 less_on n a k c = simp ring
 
 module _ {T : Type 0} (value : T → ℕ) (r s : RowTableau T) (t u : Tableau) (f : Matrix) (cost : ℕ → ℚ) (b : Bounds)

@@ -24,6 +24,7 @@ use Rattle.lp_row_tableau.specs.Shows.{IsRow}
 use Rattle.lp_row_tableau.specs.Moves.{number_at, number_in, IsLess, IsScaled, IsCleared, AreCleared}
 use Rattle.lp_row_tableau.specs.Moves.{AreTurned, step_to}
 use Rattle.lp_row_tableau.proofs.Numbers.{number_in-get, number_in-set, number_in-other}
+use Rattle.lp_row_tableau.proofs.Taken.{nothing_off}
 
 pub over_none : (e : ℕ) → 0 < e → over (pos 0) e ≡ 0ℚ
 over_none e p =
@@ -37,9 +38,6 @@ over-whole n e p =
 
 over-product : (n m : ℤ) (e : ℕ) → 0 < e → over (n *ℤ m) e ≡ over n e *ℚ over m 1
 over-product n m e p = ap (over (n *ℤ m)) (sym (mul-one e)) ∙ sym (over-* n m e 1 p (omega arith))
-
-none_off : (a b : ℚ) → a ≡ a -ℚ 0ℚ *ℚ b
-none_off a b = simp ring
 
 module _ {T : Type 0} (value : T → ℕ) where
   number-at : (row : Row T) (k n : ℕ) → IsRow value n row → k < n + 1 →
@@ -104,7 +102,7 @@ module _ {T : Type 0} (value : T → ℕ) where
       record {
         row = r;
         each = λ k i.
-            none_off (number_at value row k) (number_at value own k)
+            nothing_off (number_at value row k) (number_at value own k)
             ∙ ap (λ a. number_at value row k -ℚ a *ℚ number_at value own k) (sym none);
       }
     where

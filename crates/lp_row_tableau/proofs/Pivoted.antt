@@ -4,9 +4,9 @@ use Rattle.std.proofs.Common.{cond, nat_eq, nat_le}
 use Rattle.std.proofs.Common.{refl, sym, ap, ap₂, ◌∙◌, subst, arith, pos, eq-eqb, ne_eqb}
 use Rattle.std.proofs.lemmas.Bool.{le-leb, lt-leb}
 use Rattle.std.proofs.lemmas.List.{length-set, ext_get_or}
-use Rattle.spec_exact.specs.Fraction.{ℚ, 0ℚ, over, ◌+ℚ◌, ◌-ℚ◌, ◌*ℚ◌, neg_ℚ, inverse}
+use Rattle.spec_exact.specs.Fraction.{ℚ, 0ℚ, over, ◌+ℚ◌, ◌-ℚ◌, ◌*ℚ◌, inverse}
 use Rattle.spec_exact.proofs.Field.{*ℚ_inverse, *ℚ_one}
-use Rattle.spec_exact.proofs.Ruleset.{ring}
+use Rattle.spec_exact.proofs.Ruleset.{ring, +ℚ-*ℚ}
 use Rattle.spec_pivot.specs.declared.status.Status.{Status}
 use Rattle.spec_pivot.specs.declared.status.Status.TheVariants.{Basic}
 use Rattle.spec_pivot.specs.Tableau.{Matrix, pivot_row, pivoted, entered}
@@ -29,6 +29,7 @@ use Rattle.lp_row_tableau.specs.Changes.{lower_in, upper_in, status_in, basic_in
 use Rattle.lp_row_tableau.proofs.Chosen.{PivotsTo}
 use Rattle.lp_row_tableau.proofs.Kept.{stood, lower_same, upper_same, fixed_same}
 use Rattle.lp_row_tableau.proofs.Numbers.{row_at-one, row_at-on}
+use Rattle.lp_row_tableau.proofs.Flipped.{along, less_on}
 
 -- how far the column moves: n c is the value of the column that leaves, and v c that where it lands
 moves_by : (n v a c x y theta : ℚ) → n *ℚ c ≡ x → v *ℚ c ≡ y → y ≡ x -ℚ a *ℚ theta → a ≢ 0ℚ →
@@ -46,17 +47,8 @@ moves_by n v a c x y theta e h l d =
     second : (x a theta i : ℚ) → (x -ℚ (x -ℚ a *ℚ theta)) *ℚ i ≡ theta *ℚ (a *ℚ i)
     second x a theta i = simp ring
 
-along : (v a s r : ℚ) → v +ℚ r *ℚ neg_ℚ (s *ℚ a) ≡ v -ℚ a *ℚ (s *ℚ r)
-along v a s r = simp ring
-
 onward : (v s r : ℚ) → v +ℚ r *ℚ s ≡ s *ℚ r +ℚ v
 onward v s r = simp ring
-
-less_on : (n a k c : ℚ) → (n -ℚ a *ℚ k) *ℚ c ≡ n *ℚ c -ℚ a *ℚ (k *ℚ c)
-less_on n a k c = simp ring
-
-sum_on : (k w c : ℚ) → (k +ℚ w) *ℚ c ≡ k *ℚ c +ℚ w *ℚ c
-sum_on k w c = simp ring
 
 module _ {T : Type 0} (value : T → ℕ) (r s : RowTableau T) (t u : Tableau) (f : Matrix) (cost : ℕ → ℚ) (b : Bounds)
     (g : IsTableau t.rows (all_columns t) f cost b (table_of t)) (tw : tables.IsWhole t) (keeps : KeepsBounds b t)
@@ -165,7 +157,7 @@ module _ {T : Type 0} (value : T → ℕ) (r s : RowTableau T) (t u : Tableau) (
       ∙ onward (value_at t j) (sign x.way) x.ratio
       ∙ ap (λ a. a +ℚ value_at t j) (sym x.same)
       ∙ ap₂ (λ k w. k +ℚ w) (sym step_is) (sym enters_is)
-      ∙ sym (sum_on step d.enters_from c)
+      ∙ sym (+ℚ-*ℚ step d.enters_from c)
       ∙ ap (λ a. a *ℚ c) (sym d.rows.own)
 
   other_value : (i : ℕ) → i < t.rows → i ≢ p → value_at u (basic_at u i) ≡ M i W *ℚ c

@@ -1,7 +1,7 @@
 -- What is read of the rows for a certificate.
-use Rattle.std.proofs.Common.{◌≡◌, ◌≢◌, ℕ, suc, ◌+◌, ◌*◌, ◌<◌, List, [], ◌∷◌, ◌++◌, length, get_or, Option, Some, Bool}
+use Rattle.std.proofs.Common.{◌≡◌, ◌≢◌, ℕ, ◌+◌, ◌*◌, ◌<◌, List, [], ◌∷◌, ◌++◌, length, get_or, Option, Some, Bool}
 use Rattle.std.proofs.Common.{Result, cond, All}
-use Rattle.std.proofs.Common.{eq-eqb, ne_eqb, sym, ap, ap₂, subst, ◌∙◌, arith}
+use Rattle.std.proofs.Common.{eq-eqb, ne_eqb, sym, ap, ap₂, subst, ◌∙◌, arith, add-one}
 use Rattle.std.specs.Prelude.{IfSome, IfOk}
 use Rattle.std.proofs.lemmas.List.{get_or_default}
 use Rattle.std.proofs.lemmas.List.Elements.{All-nil, All-cons, All-append}
@@ -55,9 +55,6 @@ entry_is value r t i j row s l m g =
     ∙ sym (s.entries i j (omega (arith, l, s.rows)) (omega (arith, m, s.rows, s.cols)))
 
 -- ---- how a column moves
-next_is : (i : ℕ) → i + 1 ≡ suc i
-next_is i = omega arith
-
 basic_is : {T : Type 0} (value : T → ℕ) (r : RowTableau T) (t : Tableau) (i b : ℕ) → Shows value r t →
     IsWhole value r → i < height r → b ≡ get_or r.basic.items i b → basic_at t i ≡ b
 basic_is value r t i b s w l g =
@@ -69,7 +66,7 @@ pub moved_here : {T : Type 0} (value : T → ℕ) (r : RowTableau T) (t : Tablea
     v ≡ neg_ℚ (directed up (entry_at t i j)) → v ≡ moves_below t j up k (i + 1)
 moved_here value r t i j k b up v s w l g e is =
     is
-    ∙ sym (ap (moves_below t j up k) (next_is i)
+    ∙ sym (ap (moves_below t j up k) (add-one i)
     ∙ ap (λ c. cond c (neg_ℚ (directed up (entry_at t i j))) (moves_below t j up k i))
     (eq-eqb (basic_at t i) k (basic_is value r t i b s w l g ∙ e)))
 
@@ -78,7 +75,7 @@ pub moved_elsewhere : {T : Type 0} (value : T → ℕ) (r : RowTableau T) (t : T
     v ≡ moves_below t j up k i → v ≡ moves_below t j up k (i + 1)
 moved_elsewhere value r t i j k b up v s w l g n is =
     is
-    ∙ sym (ap (moves_below t j up k) (next_is i)
+    ∙ sym (ap (moves_below t j up k) (add-one i)
     ∙ ap (λ c. cond c (neg_ℚ (directed up (entry_at t i j))) (moves_below t j up k i))
     (ne_eqb (basic_at t i) k (λ e. n (sym (basic_is value r t i b s w l g) ∙ e))))
 
@@ -98,7 +95,7 @@ module _ {N : Type 0} (old new : List N) (v : N) (pushed : new ≡ old ++ v ∷ 
       new ≡ made (k + 1) f
   one_more f k o is before h =
       pushed ∙ ap₂ (λ xs x. xs ++ x ∷ []) before (some_is (λ n. n ≡ f k) o v is h)
-      ∙ sym (ap (λ n. made n f) (next_is k))
+      ∙ sym (ap (λ n. made n f) (add-one k))
 
   pub all_more : (P : N → Type 0) (o : Option N) → o ≡ Some v → All P old → IfSome o P → All P new
   all_more P o is before h =

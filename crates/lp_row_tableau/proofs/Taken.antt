@@ -21,7 +21,7 @@ use Rattle.lp_row_tableau.specs.Held.{IsRowOf}
 use Rattle.lp_row_tableau.specs.Second.{fraction_of, cost_in, IsLess, IsLessRows, IsPricedRow}
 use Rattle.lp_row_tableau.proofs.Asks.{row-at}
 
-nothing_off : (a b : ℚ) → a ≡ a -ℚ 0ℚ *ℚ b
+pub nothing_off : (a b : ℚ) → a ≡ a -ℚ 0ℚ *ℚ b
 nothing_off a b = simp (*ℚ_comm 0ℚ b, *ℚ_zero b, ring)
 
 cost_there : {T : Type 0} (value : T → ℕ) (n : ℕ) (row : Row T) (k : ℕ) → k < n →
