@@ -7,7 +7,7 @@ use Rattle.std.proofs.Math.Seq.{take-length}
 use Rattle.std.specs.Prelude.{All}
 use Rattle.std.proofs.lemmas.Bool.{cases_eq, eq-eqb, le-ltb, lt-ltb}
 use Rattle.std.proofs.lemmas.List.{get_or-map, length-append, length-drop, length-map}
-use Rattle.std.proofs.lemmas.List.{length-replicate, get_or-replicate, take-append-le, drop-append-le}
+use Rattle.std.proofs.lemmas.List.{length-replicate, get_or-replicate, take-append-le, drop-append-le, append-nil}
 use Rattle.spec_exact.specs.Fraction.{ℚ, 0ℚ, 1ℚ}
 use Rattle.spec_exact.proofs.Ruleset.{neg-neg, neg-zero}
 use Rattle.spec_exact.specs.declared.past.Past.{Past}
@@ -134,12 +134,8 @@ equations_are f starts e =
     (λ i l. ap (λ s. made (width_of f) (start_entry f s i))
     (ap (λ xs. start_at xs i) e ∙ get_or-replicate f.rows i (Within 0ℚ) (Within 0ℚ) l))
 
-append_none : (xs : List ℚ) → xs ++ [] ≡ xs
-append_none [] = refl
-append_none (x ∷ xs) = ap (λ ys. x ∷ ys) (append_none xs)
-
 made_parts : (n m : ℕ) (f : ℕ → ℚ) → made (n + m) f ≡ made n f ++ made m (λ r. f (n + r))
-made_parts n zero f = (let z : n + 0 ≡ n = omega arith in ap (λ k. made k f) z) ∙ sym (append_none (made n f))
+made_parts n zero f = (let z : n + 0 ≡ n = omega arith in ap (λ k. made k f) z) ∙ sym (append-nil (made n f))
 made_parts n (suc m) f =
     (let z : n + suc m ≡ suc (n + m) = omega arith in ap (λ k. made k f) z)
     ∙ ap (λ xs. xs ++ f (n + m) ∷ []) (made_parts n m f)

@@ -6,7 +6,7 @@ use Rattle.std.specs.Prelude.{⊤, All}
 use Rattle.std.proofs.Math.ListN.{set, get_or-append}
 use Rattle.std.proofs.Math.Seq.{get_or-append_seam}
 use Rattle.std.proofs.lemmas.Bool.{cases_eq}
-use Rattle.std.proofs.lemmas.List.{get_or-append_right, length-append}
+use Rattle.std.proofs.lemmas.List.{get_or-append_right, length-append, append-nil}
 use Rattle.std.proofs.lemmas.List.Elements.{All-cons, All-head, All-tail, All-nil}
 use Rattle.spec_exact.specs.Fraction.{ℚ, 0ℚ}
 use Rattle.spec_exact.specs.declared.past.Past.{Past}
@@ -53,14 +53,10 @@ list_err n (suc d) f e h =
     (let z : n + suc d ≡ suc (n + d) = omega arith in ap (λ k. list_run k f) z)
     ∙ ap (λ o. o >>= λ xs. f (n + d) >>= λ x. Ok (xs ++ x ∷ [])) (list_err n d f e h)
 
-append_none : (xs : List ℚ) → xs ++ [] ≡ xs
-append_none [] = refl
-append_none (x ∷ xs) = ap (λ ys. x ∷ ys) (append_none xs)
-
 list_onto : (n m : ℕ) (f : ℕ → Run ℚ) (g : ℕ → ℚ) (row : List ℚ) → list_run n f ≡ Ok row →
     ((r : ℕ) → r < m → f (n + r) ≡ Ok (g r)) → list_run (n + m) f ≡ Ok (row ++ made m g)
 list_onto n zero f g row e h =
-    (let z : n + 0 ≡ n = omega arith in ap (λ k. list_run k f) z) ∙ e ∙ ap Ok (sym (append_none row))
+    (let z : n + 0 ≡ n = omega arith in ap (λ k. list_run k f) z) ∙ e ∙ ap Ok (sym (append-nil row))
 list_onto n (suc m) f g row e h =
     (let z : n + suc m ≡ (n + m) + 1 = omega arith in ap (λ k. list_run k f) z)
     ∙ list_more (n + m) f (row ++ made m g) (g m)
