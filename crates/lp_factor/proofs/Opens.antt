@@ -1,7 +1,7 @@
 -- The place that a column finds.
 use Rattle.std.proofs.Common.{◌≡◌, ◌≢◌, ℕ, zero, suc, ◌+◌, ◌-◌, ◌<◌, List, length, get_or}
 use Rattle.std.proofs.Common.{slice_get, Option, Some, None, is_none, Result, Ok, Err, Bool, true}
-use Rattle.std.proofs.Common.{false, not, ◌&&◌, cond, refl, sym, ap, ap₂, ◌∙◌, subst, arith}
+use Rattle.std.proofs.Common.{false, not, ◌&&◌, cond, refl, sym, ap, ap₂, ◌∙◌, subst, arith, add-one}
 use Rattle.std.proofs.lemmas.Option.{get_or_from_slice_get}
 use Rattle.std.specs.Prelude.{IsTrue, ◌↔◌}
 use Rattle.spec_exact.specs.Fraction.{ℚ, 0ℚ, eq_ℚ}
@@ -25,12 +25,9 @@ use Rattle.spec_factor.specs.Factors.{choose_run, none_chosen, choose_all, facto
 abbrev pub Columns : Type 0
 Columns = List (Option ℕ)
 
-step_is : (i : ℕ) → i + 1 ≡ suc i
-step_is i = omega arith
-
 pub open_next : (columns : Columns) (v : List ℚ) (i : ℕ) → open_place columns v i ≡ None → is_open columns v i ≡ false →
     open_place columns v (i + 1) ≡ None
-open_next columns v i h e = ap (open_place columns v) (step_is i) ∙ ap₂ (λ o c. or_open o i c) h e
+open_next columns v i h e = ap (open_place columns v) (add-one i) ∙ ap₂ (λ o c. or_open o i c) h e
 
 stays : (columns : Columns) (v : List ℚ) (i p n : ℕ) → open_place columns v i ≡ Some p →
     open_place columns v (i + n) ≡ Some p
