@@ -14,12 +14,10 @@ use Rattle.spec_text.proofs.WordLemmas.{same_false}
 use Rattle.spec_model.specs.Model.{Name, ExactColumn, no_column}
 use Rattle.spec_mps.specs.Bounds.{BoundCard, SetsUpper, SetsLower, SetsBoth, bounded, is_negative}
 use Rattle.spec_mps.specs.Reader.{columns_with}
-use Rattle.lp_model.proofs.NamePlaces.{place_named, pointwise_is, pointwise_turned}
+use Rattle.spec_mps.proofs.Names.{none_pass}
+use Rattle.lp_model.proofs.NamePlaces.{place_named, same_turned}
 use Rattle.mps_read.specs.Named.{ColumnsRead, AreColumns}
-use Rattle.mps_read.proofs.NewNames.{name_of, none_passes, names_new}
-
-pub turned : (a b : Name) → same a b ≡ same b a
-turned a b = sym (pointwise_is a b) ∙ pointwise_turned a b
+use Rattle.mps_read.proofs.NewNames.{name_of, names_new}
 
 -- a card of BOUNDS leaves the name
 pub bounded_name : (lowered : Bool) (card : BoundCard) (c : ExactColumn) → (bounded lowered card c).name ≡ c.name
@@ -46,7 +44,7 @@ module _ (columns : ColumnsRead) (names : List Name) (kept : AreColumns columns 
   has_named =
       ap (list_any (same name)) kept.named
       ∙ sym (any_named (λ (c : ExactColumn). same c.name name) (same name) name_of
-      (λ c. turned c.name name) (columns_with columns.whole columns.current))
+      (λ c. same_turned c.name name) (columns_with columns.whole columns.current))
 
   -- the name of a new column is none of the names
   pub begin_new : (old : ColumnsRead) → columns ≡ old → old.current ≡ None →
@@ -59,7 +57,7 @@ module _ (columns : ColumnsRead) (names : List Name) (kept : AreColumns columns 
       (kept.named ∙ ap (λ c. map name_of (columns_with columns.whole c)) current) refl
       (All-weaker (λ (c : ExactColumn). same c.name name ≡ false)
       (λ c. c.name ≢ name) (λ c. same_false c.name name) columns.whole
-      (none_passes (λ (c : ExactColumn). same c.name name) columns.whole whole))
+      (none_pass (λ (c : ExactColumn). same c.name name) columns.whole whole))
 
 -- ---- a place in a list with one more at its end
 

@@ -1,36 +1,18 @@
 -- Names that stand for nothing yet.
-use Rattle.std.proofs.Common.{◌≡◌, ◌≢◌, ℕ, zero, suc, ◌<◌, ◌≤◌, Bool, true, false, cond, ltb, Option, Some, None, List}
-use Rattle.std.proofs.Common.{[], ◌∷◌, ◌++◌, length, map, take, drop, get_or, All, refl, sym, ap, ◌∙◌, subst, arith}
-use borrow.Author.Tests.{ltb-false}
-use Rattle.std.specs.List.{list_any, position, position_or_len}
+use Rattle.std.proofs.Common.{◌≡◌, ◌≢◌, ℕ, zero, suc, ◌≤◌, Bool, true, false, cond, Option, Some, None, List}
+use Rattle.std.proofs.Common.{[], ◌∷◌, ◌++◌, length, map, take, drop, All, refl, sym, ap, ◌∙◌, subst, arith}
+use Rattle.std.specs.List.{position}
 use Rattle.std.proofs.lemmas.List.{map-append, append-nil, drop_all, take_all}
 use Rattle.std.proofs.lemmas.List.Elements.{All-map, All-weaker}
-use Rattle.std.proofs.lemmas.List.Folds.{list_any_at}
-use Rattle.std.proofs.lemmas.List.Sums.{fails_before_first}
 use Rattle.spec_text.specs.Words.{same}
 use Rattle.spec_text.proofs.WordLemmas.{same_false}
 use Rattle.spec_model.specs.Model.{Name, ExactRow, ExactColumn}
 use Rattle.spec_mps.specs.declared.target.Target.TheVariants.{Objective}
 use Rattle.spec_mps.specs.Reader.{State, is_objective, row_at, place_of, columns_with}
 use Rattle.spec_mps.specs.Sides.{changed_at}
+use Rattle.spec_mps.proofs.Names.{nowhere}
 use Rattle.lp_model.proofs.NamePlaces.{place_named}
 use Rattle.mps_read.specs.Named.{AreRows}
-
--- what has no place does not pass
-none_placed : {X : Type 0} (p : X → Bool) (xs : List X) → position p xs ≡ None → All (λ x. p x ≡ false) xs
-none_placed p xs h = λ k d l. fails_before_first p xs k d (by (ltb (position_or_len p xs) (length xs)) refl h k l)
-  where
-    by : (t : Bool) → ltb (position_or_len p xs) (length xs) ≡ t → cond t (Some (position_or_len p xs)) None ≡ None →
-        (k : ℕ) → k < length xs → k < position_or_len p xs
-    by true e f k l = absurd (cc)
-    by false e f k l = let g : length xs ≤ position_or_len p xs = ltb-false _ _ e in omega arith
-
-pub none_passes : {X : Type 0} (p : X → Bool) (xs : List X) → list_any p xs ≡ false → All (λ x. p x ≡ false) xs
-none_passes p xs h = λ k d l. by (p (get_or xs k d)) refl (list_any_at p xs k d l)
-  where
-    by : (t : Bool) → {u : Bool} → u ≡ t → (u ≡ true → list_any p xs ≡ true) → u ≡ false
-    by true e f = absurd (let g = f e in cc)
-    by false e f = e
 
 -- ---- a name that stands for nothing
 
@@ -43,7 +25,7 @@ pub rows_new : (s : State) (name : Name) → place_of s name ≡ None → All (�
 unfolding place_of
 rows_new s name h =
     All-weaker (λ (r : ExactRow). same r.name name ≡ false) (λ r. r.name ≢ name) (λ r. same_false r.name name) s.rows
-    (none_placed (λ (r : ExactRow). same r.name name) s.rows
+    (nowhere (λ (r : ExactRow). same r.name name) s.rows
     (no_row_placed (is_objective s.objective name) (position (λ r. same r.name name) s.rows) h))
 
 -- ---- names beside what has them
