@@ -6,6 +6,7 @@ use borrow.Author.Tests.{lt-ltb, le-ltb}
 use Rattle.std.specs.List.{filter, insert, remove}
 use Rattle.std.proofs.lemmas.List.{take-append-drop, take-set, drop-set, map-append}
 use Rattle.std.proofs.lemmas.List.Elements.{All-nil, All-cons, All-head, All-tail, All-weaker, filter-append}
+use Rattle.std.proofs.lemmas.List.Folds.{map_fixed}
 use Rattle.spec_exact.specs.Fraction.{ℚ, 0ℚ, eq_ℚ}
 use Rattle.spec_exact.proofs.Same.{eq_test, eq_if}
 use Rattle.spec_edit.specs.Changes.{entry_if, with_entry, renumbered, without_entry}
@@ -34,10 +35,6 @@ map-same : {X Y : Type 0} (f g : X → Y) (xs : List X) → All (λ x. f x ≡ g
 map-same f g [] h = refl
 map-same f g (x ∷ xs) h =
     ap₂ ◌∷◌ (All-head (λ x. f x ≡ g x) x xs h) (map-same f g xs (All-tail (λ x. f x ≡ g x) x xs h))
-
-map-id : {X : Type 0} (f : X → X) (xs : List X) → All (λ x. f x ≡ x) xs → map f xs ≡ xs
-map-id f [] h = refl
-map-id f (x ∷ xs) h = ap₂ ◌∷◌ (All-head (λ x. f x ≡ x) x xs h) (map-id f xs (All-tail (λ x. f x ≡ x) x xs h))
 
 -- what a filter leaves of three parts
 three : {X : Type 0} (p : X → Bool) (xs ys zs us vs ws : List X) → filter p xs ≡ us → filter p ys ≡ vs →
@@ -85,7 +82,7 @@ module _ (i : ℕ) (front own back : Entries) (own_row : All (λ e. e.0 ≡ i) o
   without_entry-parts =
       ap (map (λ e. (renumbered i e.0, e.1))) others ∙ map-append (λ e. (renumbered i e.0, e.1)) front back
       ∙ ap₂ ◌++◌
-      (map-id (λ e. (renumbered i e.0, e.1)) front (All-weaker (λ e. e.0 < i)
+      (map_fixed (λ e. (renumbered i e.0, e.1)) front (All-weaker (λ e. e.0 < i)
       (λ e. (renumbered i e.0, e.1) ≡ e) (λ e l. rw (le-ltb i e.0 (omega arith)) refl) front split.before))
       (map-same (λ e. (renumbered i e.0, e.1)) lower back (All-weaker (λ e. i < e.0)
       (λ e. (renumbered i e.0, e.1) ≡ lower e) (λ e l. rw (lt-ltb i e.0 l) refl) back split.behind))
