@@ -6,7 +6,7 @@ use Rattle.std.specs.Io.KnownBytes.{Consumes, IsAtEnd, Keeps}
 use Rattle.std.specs.List.{Contains}
 use Rattle.std.specs.Str.Lines.{strip_carriage_return}
 use Rattle.std.proofs.KnownBytes.{Consumes-trans, Consumes-kept}
-use Rattle.std.proofs.lemmas.Bool.{cases_lt}
+use Rattle.std.proofs.lemmas.Bool.{cases_lt, false_from_ne_true}
 use Rattle.std.proofs.lemmas.List.Elements.{All-append, All-same, All-contains, Contains-append_left}
 use Rattle.spec_text.specs.Lines.{line_of}
 use Rattle.spec_text.specs.declared.line.Line.{Line}
@@ -123,10 +123,6 @@ pub none_left : (xs : List ℕ) → length xs ≤ 0 → xs ≡ []
 none_left [] h = refl
 none_left (x ∷ xs) h = absurd (omega arith)
 
-not_true : (b : Bool) → (b ≡ true → ⊥) → b ≡ false
-not_true true h = absurd (h refl)
-not_true false h = refl
-
 pub state_is : (r : LinesState) (ahead : List ℕ) (given : ℕ) (ended : Bool) → r.ahead ≡ ahead → r.given ≡ given →
     r.ended ≡ ended → r ≡ record { ahead = ahead; given = given; ended = ended }
 state_is r ahead given ended a g e =
@@ -184,7 +180,7 @@ gives_last {before} {mid} after {old} {cur} {new} {part} s more moved ahead give
     let taken = Consumes-trans before mid after s.bytes more s.moved moved in
     ⊎_elim
     (λ long.
-    let live = not_true old.ended (λ e. omega (arith, (idle e).0, s.kept.len)) in
+    let live = false_from_ne_true old.ended (λ e. omega (arith, (idle e).0, s.kept.len)) in
     let line_is = some s.raw s.kept long in
     record {
       bytes = bytes;
