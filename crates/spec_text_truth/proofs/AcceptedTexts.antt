@@ -23,8 +23,6 @@ use Rattle.spec_certificate.proofs.ReadBack.{read_back}
 use Rattle.spec_cold.specs.Cold.{ExactSolveEnd}
 use Rattle.spec_warm.specs.declared.ends.Route.{Route}
 use Rattle.spec_warm.specs.declared.ends.Route.TheVariants as route
-use Rattle.spec_warm.specs.declared.ends.Fall.{Fall}
-use Rattle.spec_warm.specs.declared.ends.Fall.TheVariants as fall
 use Rattle.spec_warm.specs.Solve.{SolveEnd}
 use Rattle.spec_server.specs.declared.answer.Answer.{Answer}
 use Rattle.spec_server.specs.declared.asks.Reply.TheVariants as reply
@@ -46,7 +44,8 @@ use Rattle.spec_text_truth.specs.TrueOutput.{HasNoFeed}
 use Rattle.spec_text_truth.proofs.SolvedTexts.{solved_begins}
 use Rattle.spec_text_truth.proofs.PresolvedTexts.{presolved_begins}
 use Rattle.spec_text_truth.proofs.BasisTexts.{basis_begins}
-use Rattle.spec_text_truth.proofs.PlainText.{tested_no_feed, both_no_feed, decimal_no_feed}
+use Rattle.spec_text_truth.proofs.PlainText.{tested_no_feed, both_no_feed}
+use Rattle.spec_text_truth.proofs.PlainReplies.{fall_no_feed, pivots_no_feed}
 
 -- ---- a text that ends in its last line
 
@@ -163,21 +162,11 @@ route_ends solved rest =
     append_assoc (route_text solved.route ++ codes " PIVOTS " ++ pivots_text (pivots_of_solved solved.end)) (10 ∷ [])
     rest
 
-fall_no_feed : (why : Fall) → HasNoFeed (fall_text why)
-fall_no_feed fall.Singular = tested_no_feed (codes "SINGULAR") refl
-fall_no_feed fall.Unfit = tested_no_feed (codes "UNFIT") refl
-fall_no_feed fall.Past = tested_no_feed (codes "PAST") refl
-fall_no_feed fall.Spent = tested_no_feed (codes "SPENT") refl
-
 route_no_feed : (r : Route) → HasNoFeed (route_text r)
 route_no_feed route.Cold = tested_no_feed (codes "COLD") refl
 route_no_feed route.Warm = tested_no_feed (codes "WARM") refl
 route_no_feed (route.Fell why) =
     both_no_feed (codes "FELL ") (fall_text why) (tested_no_feed (codes "FELL ") refl) (fall_no_feed why)
-
-pivots_no_feed : (pivots : Option ℕ) → HasNoFeed (pivots_text pivots)
-pivots_no_feed None = tested_no_feed (codes "-") refl
-pivots_no_feed (Some n) = decimal_no_feed n
 
 front_no_feed : (solved : SolveEnd) → HasNoFeed (route_front solved)
 unfolding route_front

@@ -128,7 +128,7 @@ verdict_no_feed (verdict.No n) =
     both_no_feed (codes "NO ") (decimal n) (tested_no_feed (codes "NO ") refl) (decimal_no_feed n)
 verdict_no_feed (verdict.Past p) = past_no_feed p
 
-fall_no_feed : (why : Fall) → HasNoFeed (fall_text why)
+pub fall_no_feed : (why : Fall) → HasNoFeed (fall_text why)
 fall_no_feed fall.Singular = tested_no_feed (codes "SINGULAR") refl
 fall_no_feed fall.Unfit = tested_no_feed (codes "UNFIT") refl
 fall_no_feed fall.Past = tested_no_feed (codes "PAST") refl
@@ -144,7 +144,7 @@ how_no_feed (Fell k why) =
     (both_no_feed (codes "FELL ") (decimal k) (tested_no_feed (codes "FELL ") refl) (decimal_no_feed k)) blank_no_feed)
     (fall_no_feed why)
 
-pivots_no_feed : (pivots : Option ℕ) → HasNoFeed (pivots_text pivots)
+pub pivots_no_feed : (pivots : Option ℕ) → HasNoFeed (pivots_text pivots)
 pivots_no_feed None = tested_no_feed (codes "-") refl
 pivots_no_feed (Some n) = decimal_no_feed n
 

@@ -1,23 +1,24 @@
 -- What `range` writes of a text that spells a model is true of the model.
-use Rattle.std.proofs.Common.{◌≡◌, ◌≢◌, ◌≤◌, ◌<◌, ℕ, Bool, true, false, cond, ltb, List, [], ◌∷◌, ◌++◌, length, Option}
+use Rattle.std.proofs.Common.{◌≡◌, ◌≢◌, ◌≤◌, ℕ, true, List, [], ◌∷◌, ◌++◌, Option}
 use Rattle.std.proofs.Common.{Some, None, Result, Ok, Err, refl, sym, ◌∙◌, ap, subst, append_assoc, arith}
 use Rattle.std.specs.Prelude.{All, codes, nat_le}
-use Rattle.std.specs.List.{list_all, position, position_or_len}
+use Rattle.std.specs.List.{list_all}
 use Rattle.std.proofs.lemmas.List.Elements.{All-nil, All-cons, All-head, All-tail}
-use borrow.Author.Tests.{leb-true, ltb-true}
+use Rattle.std.proofs.lemmas.Bool.{and_parts}
+use borrow.Author.Tests.{leb-true}
 use Rattle.spec_text.specs.declared.line.Line.{Line}
 use Rattle.spec_exact.specs.Fraction.{ℚ}
 use Rattle.spec_exact.specs.declared.past.Past.{Past}
 use Rattle.spec_exact.specs.Narrow.{IsNarrow}
-use Rattle.spec_model.specs.Model.{Model, Name, width, height}
+use Rattle.spec_model.specs.Model.{Model, Name}
 use Rattle.spec_model.specs.Truth.{IsOptimal, IsInfeasible, IsUnbounded}
-use Rattle.spec_model.specs.Kept.{is_printable, row_place, column_place}
+use Rattle.spec_model.specs.Kept.{is_printable}
+use Rattle.spec_model.proofs.NamePlaces.{column_inside, row_inside}
 use Rattle.spec_mps.specs.declared.style.Style.{Style}
 use Rattle.spec_mps.specs.NumberText.{Is, number_of}
 use Rattle.spec_mps.specs.NumberWritten.{number_text}
 use Rattle.spec_mps.specs.Steps.{Spells}
 use Rattle.spec_mps.proofs.SpelledKept.{spelled_kept}
-use Rattle.spec_mps.proofs.Steps.{both}
 use Rattle.spec_mps.proofs.WrittenNumbers.{number_word}
 use Rattle.spec_check.specs.declared.certificate.Known.TheVariants as known
 use Rattle.spec_check.specs.declared.solve_end.SolveEnd.TheVariants as outcome
@@ -77,8 +78,8 @@ cut_at d (c ∷ a) (f ∷ b) x y h k e =
 pub printed_has_no : (d : ℕ) → d ≤ 32 → (w : List ℕ) → list_all is_printable w ≡ true → HasNo d w
 printed_has_no d l [] h = All-nil (λ b. b ≢ d)
 printed_has_no d l (b ∷ w) h =
-    let p = both (is_printable b) (list_all is_printable w) h in
-    let q = both (nat_le 33 b) (nat_le b 126) p.0 in
+    let p = and_parts (is_printable b) (list_all is_printable w) h in
+    let q = and_parts (nat_le 33 b) (nat_le b 126) p.0 in
     let low : 33 ≤ b = leb-true 33 b q.0 in
     All-cons (λ x. x ≢ d) b w (λ e. omega (arith, e, low, l)) (printed_has_no d l w p.1)
 
@@ -155,27 +156,6 @@ line_said r low high slope n in_low in_high in_slope e =
 past_first : (p : Past ℚ) → first (check_line (reply.Answered (answer.Past p))) ≡ 80
 unfolding check_line reply_text
 past_first p = refl
-
--- ---- where a name stands
-
-position_inside : {X : Type 0} (p : X → Bool) (xs : List X) (i : ℕ) → position p xs ≡ Some i → i < length xs
-position_inside p xs i e = by (ltb (position_or_len p xs) (length xs)) refl e
-  where
-    by : (t : Bool) → ltb (position_or_len p xs) (length xs) ≡ t → cond t (Some (position_or_len p xs)) None ≡ Some i →
-        i < length xs
-    by true q h =
-        let less : position_or_len p xs < length xs = ltb-true _ _ q in
-        let same : position_or_len p xs ≡ i = cc in
-        omega (arith, less, same)
-    by false q h = cc
-
-column_inside : (m : Model) (name : Name) (at : ℕ) → column_place m name ≡ Some at → at < width m
-unfolding column_place
-column_inside m name at e = position_inside _ m.columns at e
-
-row_inside : (m : Model) (name : Name) (at : ℕ) → row_place m name ≡ Some at → at < height m
-unfolding row_place
-row_inside m name at e = position_inside _ m.rows at e
 
 -- ---- the range
 

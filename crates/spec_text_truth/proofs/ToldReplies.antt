@@ -37,6 +37,7 @@ use Rattle.spec_server.specs.Machine.{edit_due, change_due, due}
 use Rattle.spec_server.specs.Output.{front_of, reply_text, count_of_lines, ended_lines, lines_behind, reply_lines}
 use Rattle.spec_server.specs.Step.{AloneStep}
 use Rattle.spec_commands.proofs.PlainLines.{certificate_plain}
+use Rattle.spec_server.proofs.Sessions.{IsGood}
 use Rattle.spec_server.proofs.Simply.{Does, WantsMemory, step_simply}
 use Rattle.spec_text_truth.specs.TrueOutput.{HasNoFeed, Asking, Told, IsFramed}
 use Rattle.spec_text_truth.proofs.PlainReplies.{IsPlainReply, reply_no_feed}
@@ -182,11 +183,6 @@ cards_are_lines form m kept = record {
 }
 
 -- ---- the replies of a session
-
--- its model may be kept, and its last answer is one of the model
-pub record IsGood (state : State) : Type 0 where
-  pub kept : IfSome state.model IsModel
-  pub fits : LastFits state.model state.last
 
 write_listed : (held : Option Model) (form : Style) → IfSome held IsModel → IsListed (write_reply held form)
 unfolding free fixed

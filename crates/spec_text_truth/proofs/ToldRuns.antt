@@ -19,10 +19,9 @@ use Rattle.spec_server.specs.Output.{reply_text, reply_lines}
 use Rattle.spec_server.specs.Script.{Between, asks_from}
 use Rattle.spec_server.specs.Step.{AloneStep}
 use Rattle.spec_server.specs.Exchanges.{Exchange, asked_in, AloneRun, of_session, RunAlone}
-use Rattle.spec_server.proofs.LastFits.{step_fits}
 use Rattle.spec_server.proofs.RunLemmas.{of_session-append}
 use Rattle.spec_server.proofs.ScriptKept.{lines_kept}
-use Rattle.spec_server.proofs.Sessions.{step_keeps}
+use Rattle.spec_server.proofs.Sessions.{IsGood, run_good}
 use Rattle.spec_truth.specs.ModelThen.{model_then}
 use Rattle.spec_text_truth.specs.TrueOutput.{IsNumber, IsTrueLine, BehindYes, Asking, Told, IsFramed, told_out}
 use Rattle.spec_text_truth.specs.TrueOutput.{model_told, IsTrueReply, AreTrueReplies}
@@ -36,25 +35,10 @@ use Rattle.spec_text_truth.proofs.AskedEffects.{asking_of, asked_from-is}
 use Rattle.spec_text_truth.proofs.PlainAsks.{IsPlainAsk, ArePlainAsks, asks_plain}
 use Rattle.spec_text_truth.proofs.PlainReplies.{IsPlainReply, step_plain}
 use Rattle.spec_text_truth.proofs.PlainWords.{lines_plain}
-use Rattle.spec_text_truth.proofs.ToldReplies.{IsListed, IsGood, reply_framed, reply_lines_told, step_listed}
+use Rattle.spec_text_truth.proofs.ToldReplies.{IsListed, reply_framed, reply_lines_told, step_listed}
 use Rattle.spec_text_truth.proofs.ToldModels.{told_of, told_then}
 
 -- ---- a session before an exchange
-
-run_good : (places : ℕ) (old new : State) (xs : List Exchange) → AreKept (map asked_in xs) →
-    AloneRun places old xs new → IsGood old → IsGood new
-run_good places old new [] may run good = subst IsGood (sym run) good
-run_good places old new (x ∷ xs) may run good =
-    let first : IsKeptAsk x.ask =
-    All-head (λ (a : Asked ExactAsk). IsKeptAsk a.ask) (asked_in x) (map asked_in xs) may in
-    let more : AreKept (map asked_in xs) =
-    All-tail (λ (a : Asked ExactAsk). IsKeptAsk a.ask) (asked_in x) (map asked_in xs) may in
-    run_good places run.0 new xs more run.2
-    (record {
-      kept = step_keeps places old run.0 x.ask x.reads x.reply run.1 first good.kept;
-      fits = step_fits places old run.0 x.ask x.reads x.reply run.1 good.fits;
-    })
-
 front_kept : (before behind : List Exchange) → AreKept (map asked_in (before ++ behind)) → AreKept (map asked_in before)
 front_kept [] behind may = All-nil (λ (a : Asked ExactAsk). IsKeptAsk a.ask)
 front_kept (x ∷ before) behind may =
