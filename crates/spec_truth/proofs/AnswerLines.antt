@@ -4,6 +4,7 @@ use Rattle.std.proofs.Common.{eq-eqb, arith}
 use Rattle.std.specs.Prelude.{All, codes, nat_le}
 use Rattle.std.specs.List.{list_all}
 use Rattle.std.proofs.lemmas.List.Elements.{All-nil, All-cons, All-head, All-tail}
+use Rattle.std.proofs.lemmas.Bool.{and_parts}
 use borrow.Author.Tests.{leb-true}
 use Rattle.spec_exact.specs.Fraction.{ℚ}
 use Rattle.spec_exact.specs.Narrow.{IsNarrow}
@@ -12,7 +13,6 @@ use Rattle.spec_model.specs.Truth.{IsOptimal, IsInfeasible, IsUnbounded}
 use Rattle.spec_model.specs.Kept.{is_printable}
 use Rattle.spec_mps.specs.NumberText.{Is, number_of}
 use Rattle.spec_mps.specs.NumberWritten.{number_text}
-use Rattle.spec_mps.proofs.Steps.{both}
 use Rattle.spec_mps.proofs.RoundTrip.{read_written}
 use Rattle.spec_mps.proofs.WrittenNumbers.{number_word}
 use Rattle.spec_check.specs.declared.certificate.Known.TheVariants as known
@@ -48,8 +48,8 @@ same_rest (d ∷ a) (c ∷ b) x y h k e =
 printed_no_feed : (w : List ℕ) → list_all is_printable w ≡ true → HasNoFeed w
 printed_no_feed [] h = All-nil (λ b. b ≢ 10)
 printed_no_feed (b ∷ w) h =
-    let p = both (is_printable b) (list_all is_printable w) h in
-    let q = both (nat_le 33 b) (nat_le b 126) p.0 in
+    let p = and_parts (is_printable b) (list_all is_printable w) h in
+    let q = and_parts (nat_le 33 b) (nat_le b 126) p.0 in
     let low : 33 ≤ b = leb-true 33 b q.0 in
     All-cons (λ x. x ≢ 10) b w (λ e. omega arith) (printed_no_feed w p.1)
 
