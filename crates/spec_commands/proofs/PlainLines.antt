@@ -21,7 +21,7 @@ use Rattle.spec_mps.specs.NumberWritten.{number_text}
 use Rattle.spec_mps.specs.Written.{cards_of, rows_cards, columns_cards, section_card}
 use Rattle.spec_mps.proofs.NarrowNumbers.{zero_narrow}
 use Rattle.spec_mps.proofs.WrittenSteps.{IsPlainLine}
-use Rattle.spec_mps.proofs.WrittenShort.{IsShort, cards_short}
+use Rattle.spec_mps.proofs.WrittenShort.{IsShort, cards_short, name_short}
 use Rattle.spec_mps.proofs.WrittenWords.{is_plain, stripped_plain}
 use Rattle.spec_check.specs.declared.certificate.Letter.{Letter}
 use Rattle.spec_check.specs.declared.certificate.Letter.TheVariants.{X, Y, R}
@@ -141,9 +141,6 @@ words_plain a b c h k fits plain =
       short = omega (arith, p, q, x, y, fits);
       plain = plain_both a (32 ∷ (b ++ 32 ∷ c)) h.plain (plain_both b (32 ∷ c) k.plain plain);
     }
-
-name_short : (name : Name) → is_name name ≡ true → IsShort name
-name_short name h = (both_short name 0ℚ h zero_narrow).short_name
 
 -- ---- with numbers of which the texts fit in a line
 
