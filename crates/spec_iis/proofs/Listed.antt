@@ -4,6 +4,7 @@ use Rattle.std.proofs.Common.{refl, sym, ◌∙◌, subst, eq-eqb, ◌&&◌, ◌
 use borrow.Author.Tests.{eqb-true}
 use Rattle.std.specs.List.{list_any, filter}
 use Rattle.std.proofs.lemmas.List.Elements.{All-nil, All-cons, All-head, All-tail, All-weaker, All-append, All-filter}
+use Rattle.std.proofs.lemmas.Bool.{or_right, and_parts}
 use Rattle.spec_iis.specs.declared.side.Side.{Side}
 use Rattle.spec_iis.specs.Sides.{same_way, same_side, is_listed, Among}
 
@@ -17,23 +18,15 @@ same_way_refl : (a : Bool) → same_way a a ≡ true
 same_way_refl true = refl
 same_way_refl false = refl
 
-and_left : (a b : Bool) → a && b ≡ true → a ≡ true
-and_left true b h = refl
-and_left false b h = h
-
-and_right : (a b : Bool) → a && b ≡ true → b ≡ true
-and_right true b h = h
-and_right false b h = absurd (let g : false ≡ true = h in cc)
-
 abbrev side : Bool → ℕ → Bool → Side
 side r i u = record { row = r; at = i; upper = u }
 
 pub same_side_is : (s t : Side) → same_side s t ≡ true → s ≡ t
 same_side_is s t h =
-    let a : s.row ≡ t.row = same_way_is s.row t.row (and_left _ _ h) in
-    let rest : eqb s.at t.at && same_way s.upper t.upper ≡ true = and_right (same_way s.row t.row) _ h in
-    let b : s.at ≡ t.at = eqb-true s.at t.at (and_left _ _ rest) in
-    let c : s.upper ≡ t.upper = same_way_is s.upper t.upper (and_right (eqb s.at t.at) _ rest) in
+    let a : s.row ≡ t.row = same_way_is s.row t.row (and_parts _ _ h).0 in
+    let rest : eqb s.at t.at && same_way s.upper t.upper ≡ true = (and_parts (same_way s.row t.row) _ h).1 in
+    let b : s.at ≡ t.at = eqb-true s.at t.at (and_parts _ _ rest).0 in
+    let c : s.upper ≡ t.upper = same_way_is s.upper t.upper (and_parts (eqb s.at t.at) _ rest).1 in
     joined s.row t.row s.at t.at s.upper t.upper a b c
   where
     joined : (r q : Bool) (i j : ℕ) (u v : Bool) → r ≡ q → i ≡ j → u ≡ v → side r i u ≡ side q j v
@@ -43,10 +36,6 @@ pub same_side_refl : (s : Side) → same_side s s ≡ true
 same_side_refl s = rw (same_way_refl s.row, eq-eqb s.at s.at refl, same_way_refl s.upper) refl
 
 -- ---- listed
-or_true : (a b : Bool) → b ≡ true → a || b ≡ true
-or_true true b h = refl
-or_true false b h = h
-
 pub listed_holds : (P : Side → Type 0) (sides : List Side) (s : Side) → All P sides → is_listed sides s ≡ true → P s
 unfolding is_listed
 listed_holds P [] s h e = absurd (let g : false ≡ true = e in cc)
@@ -63,7 +52,7 @@ listed_first s sides = rw (same_side_refl s) refl
 
 pub listed_more : (t : Side) (sides : List Side) (s : Side) → is_listed sides s ≡ true → is_listed (t ∷ sides) s ≡ true
 unfolding is_listed
-listed_more t sides s h = or_true (same_side s t) (list_any (same_side s) sides) h
+listed_more t sides s h = or_right (same_side s t) (list_any (same_side s) sides) h
 
 pub all_listed : (sides : List Side) → All (λ s. is_listed sides s ≡ true) sides
 all_listed [] = All-nil (λ s. is_listed [] s ≡ true)

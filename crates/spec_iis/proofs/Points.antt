@@ -1,6 +1,7 @@
 -- The points of some sides alone.
 use Rattle.std.proofs.Common.{◌≡◌, ℕ, ◌<◌, Bool, true, false, cond, List, All}
 use Rattle.std.proofs.Common.{get_or, Option, Some, None, IfSome, refl, sym, ap, ap₂, ◌∙◌, subst, ◌||◌}
+use Rattle.std.proofs.lemmas.Bool.{or_right}
 use Rattle.spec_exact.specs.Fraction.{ℚ, ◌*ℚ◌, ◌≤ℚ◌}
 use Rattle.spec_exact.specs.Sums.{sum_below}
 use Rattle.spec_exact.proofs.Stops.{length-made, get_or-made}
@@ -111,10 +112,6 @@ between_chosen a b l v f g = record { lower = low a f; upper = high b g }
 or_left : (a b : Bool) → a ≡ true → a || b ≡ true
 or_left true b h = refl
 or_left false b h = absurd (let z : false ≡ true = h in cc)
-
-or_right : (a b : Bool) → b ≡ true → a || b ≡ true
-or_right true b h = refl
-or_right false b h = h
 
 abbrev pub side : Bool → ℕ → Bool → Side
 side r i u = record { row = r; at = i; upper = u }
