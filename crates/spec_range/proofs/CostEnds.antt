@@ -1,6 +1,7 @@
 -- The ends of a cost: between them each reduced cost has the sign of its column's status, and nowhere else.
 use Rattle.std.proofs.Common.{◌≡◌, ◌≢◌, ◌↔◌, ℕ, suc, ◌<◌, Option, Ok, Bool, true, false}
 use Rattle.std.proofs.Common.{not, ◌||◌, cond, refl, sym, ap, ap₂, ◌∙◌, subst, arith}
+use Rattle.std.proofs.lemmas.Bool.{not-true, or_parts}
 use Rattle.spec_exact.specs.Fraction.{ℚ, ◌+ℚ◌, ◌-ℚ◌, ◌*ℚ◌, neg_ℚ, 0ℚ, 1ℚ, ◌<ℚ◌, inverse, eq_ℚ}
 use Rattle.spec_exact.specs.Run.{◌>>=◌, sum_run, quotient_run}
 use Rattle.spec_exact.proofs.Field.{*ℚ_inverse}
@@ -75,14 +76,6 @@ own_is Max d c v = greatest d c v
 still_is : (d x : ℚ) → d ≡ d +ℚ x *ℚ (0ℚ -ℚ 0ℚ)
 still_is d x = simp ring
 
-two_false : (a c : Bool) → a || c ≡ false → (a ≡ false) × (c ≡ false)
-two_false true c h = let z : true ≡ false = h in cc
-two_false false c h = (refl, h)
-
-not_true : (c : Bool) → not c ≡ true → c ≡ false
-not_true true h = let z : false ≡ true = h in cc
-not_true false h = refl
-
 module _ (limit : Option ℕ) (s : Sense) (c : ℚ) (t : Tableau) (n : ℕ) (n_is : all_columns t ≡ n) (b : Bounds)
     (low : (k : ℕ) → lower_at t k ≡ b.lower k) (high : (k : ℕ) → upper_at t k ≡ b.upper k)
     (good : IsGood n b (table_of t)) (j : ℕ) (j_in : j < n) where
@@ -139,9 +132,9 @@ module _ (limit : Option ℕ) (s : Sense) (c : ℚ) (t : Tableau) (n : ℕ) (n_i
     moved_ok : (k : ℕ) (e x : Ends ℚ) → is_moved t p k ≡ true → moved_ends limit s c t p k e ≡ Ok x →
         (v : ℚ) → IsIn x v ↔ (IsIn e v × wants v k)
     moved_ok k e x q h v =
-        let a = not_true _ q in
-        let o = two_false (is_basic (status_at t k)) _ a in
-        let i = two_false (is_fixed (lower_at t k) (upper_at t k)) (eq_ℚ (entry_at t p k) 0ℚ) o.1 in
+        let a = not-true _ q in
+        let o = or_parts (is_basic (status_at t k)) _ a in
+        let i = or_parts (is_fixed (lower_at t k) (upper_at t k)) (eq_ℚ (entry_at t p k) 0ℚ) o.1 in
         let nz : entry_at t p k ≢ 0ℚ = λ z. (let y : false ≡ true = sym i.1 ∙ eq_test (entry_at t p k) 0ℚ z in cc) in
         let zero : delta j k ≡ 0ℚ =
         elsewhere k (λ z. let y : false ≡ true = sym o.0 ∙ basic_test (status_at t k) z in cc) in

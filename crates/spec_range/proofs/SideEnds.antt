@@ -1,6 +1,7 @@
 -- The ends of a right side: between them each basic value is within its bounds, and nowhere else.
 use Rattle.std.proofs.Common.{◌≡◌, ◌≢◌, ◌↔◌, ℕ, suc, ◌<◌, Option, Some, None, IfSome, Ok, Bool, true, false}
 use Rattle.std.proofs.Common.{not, ◌&&◌, cond, refl, sym, ap, ◌∙◌, subst, subst₂, arith}
+use Rattle.std.proofs.lemmas.Bool.{and_parts, not-true, not-false}
 use Rattle.spec_exact.specs.Fraction.{ℚ, ◌+ℚ◌, ◌-ℚ◌, ◌*ℚ◌, neg_ℚ, 0ℚ, 1ℚ, ◌≤ℚ◌, inverse, eq_ℚ, lt_ℚ}
 use Rattle.spec_exact.specs.Run.{sum_run, difference_run, quotient_run}
 use Rattle.spec_exact.proofs.Field.{*ℚ_inverse}
@@ -146,18 +147,6 @@ carried_ok limit b v a lower upper e y n h =
     (cuts_both e o.0 y _ _ (lower_ok limit b v a lower e o.0 n o.1) (upper_ok limit b v a upper o.0 y n o.2))
 
 -- ---- all basic columns
-not_false : (c : Bool) → not c ≡ false → c ≡ true
-not_false true h = refl
-not_false false h = let z : true ≡ false = h in cc
-
-two_true : (a c : Bool) → a && c ≡ true → (a ≡ true) × (c ≡ true)
-two_true true c h = (refl, h)
-two_true false c h = let z : false ≡ true = h in cc
-
-not_true : (c : Bool) → not c ≡ true → c ≡ false
-not_true true h = let z : false ≡ true = h in cc
-not_true false h = refl
-
 module _ (limit : Option ℕ) (b : ℚ) (t : Tableau) (s n : ℕ) (n_is : all_columns t ≡ n) (move : ℕ → ℚ)
     (moves : (k : ℕ) → k < n → status_at t k ≡ Basic → move k ≡ neg_ℚ (entry_at t (place_of t k) s))
     (inside : (k : ℕ) → k < n → status_at t k ≡ Basic → IsInside (lower_at t k) (upper_at t k) (value_at t k)) where
@@ -172,7 +161,7 @@ module _ (limit : Option ℕ) (b : ℚ) (t : Tableau) (s n : ℕ) (n_is : all_co
   unmoved : (k : ℕ) → k < n → is_carried t s k ≡ false → (x : ℚ) → Wants x k
   unmoved k k_in q x basic =
       let e : entry_at t (place_of t k) s ≡ 0ℚ =
-      eq_if (entry_at t (place_of t k) s) 0ℚ (not_false (eq_ℚ (entry_at t (place_of t k) s) 0ℚ)
+      eq_if (entry_at t (place_of t k) s) 0ℚ (not-false (eq_ℚ (entry_at t (place_of t k) s) 0ℚ)
       (ap (λ c. c && not (eq_ℚ (entry_at t (place_of t k) s) 0ℚ)) (sym (basic_test (status_at t k) basic)) ∙ q)) in
       subst (IsInside (lower_at t k) (upper_at t k))
       (still (value_at t k) (x -ℚ b) ∙ ap (λ a. value_at t k +ℚ (x -ℚ b) *ℚ a) (sym (moves k k_in basic ∙ ap neg_ℚ e)))
@@ -185,10 +174,10 @@ module _ (limit : Option ℕ) (b : ℚ) (t : Tableau) (s n : ℕ) (n_is : all_co
       carried_ends limit b (value_at t k) (entry_at t (place_of t k) s) (lower_at t k) (upper_at t k) e ≡ Ok y →
       (x : ℚ) → IsIn y x ↔ (IsIn e x × Wants x k)
   moved_ok k e y k_in q h x =
-      let o = two_true (is_basic (status_at t k)) (not (eq_ℚ (entry_at t (place_of t k) s) 0ℚ)) q in
+      let o = and_parts (is_basic (status_at t k)) (not (eq_ℚ (entry_at t (place_of t k) s) 0ℚ)) q in
       let basic : status_at t k ≡ Basic = basic_if (status_at t k) o.0 in
       let n : entry_at t (place_of t k) s ≢ 0ℚ =
-      λ z. (let y : false ≡ true = sym (not_true (eq_ℚ (entry_at t (place_of t k) s) 0ℚ) o.1)
+      λ z. (let y : false ≡ true = sym (not-true (eq_ℚ (entry_at t (place_of t k) s) 0ℚ) o.1)
       ∙ eq_test (entry_at t (place_of t k) s) 0ℚ z in cc) in
       let cuts =
       carried_ok limit b (value_at t k) (entry_at t (place_of t k) s) (lower_at t k) (upper_at t k) e y n h in
