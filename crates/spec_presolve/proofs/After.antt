@@ -2,7 +2,6 @@
 use Rattle.std.proofs.Common.{◌≡◌, ℕ, suc, ◌+◌, ◌<◌, ◌≤◌, Bool, true, false, cond, ltb, length, get_or}
 use Rattle.std.proofs.Common.{Option, Ok, refl, sym, ap, ap₂, ◌∙◌, subst, arith, ⊎_elim}
 use borrow.Author.Tests.{ltb-true, ltb-false}
-use Rattle.std.proofs.Math.ListN.{get_or-map}
 use Rattle.std.proofs.lemmas.Bool.{cases_eq}
 use Rattle.std.proofs.lemmas.List.{get_or-set_same, get_or-set_other, length-map, length-set}
 use Rattle.std.proofs.lemmas.List.Edits.{length-remove, get_or-remove_below, get_or-remove_above}
@@ -14,10 +13,10 @@ use Rattle.spec_path.proofs.Runs.{then_ok, plus_ok, less_ok, steps_ok}
 use Rattle.spec_path.proofs.RowLimits.{limits_ordered}
 use Rattle.spec_model.specs.Model.{Model, Limits, ExactRow, ExactColumn, no_row, no_column, limits_of, bounds_of}
 use Rattle.spec_model.specs.Model.{width, height, bounds, row, column, cost, coefficient, entry_of}
-use Rattle.spec_edit.specs.Changes.{without_row, without_column, without_entry, with_bounds, with_rhs, with_offset}
+use Rattle.spec_edit.specs.Changes.{without_row, without_column, with_bounds, with_rhs, with_offset}
 use Rattle.spec_edit.specs.Meaning.{skipping}
 use Rattle.spec_edit.proofs.Keeping.{lowered}
-use Rattle.spec_edit.proofs.Meanings.{without_row-means}
+use Rattle.spec_edit.proofs.Meanings.{without_row-means, column-lowered}
 use Rattle.spec_presolve.specs.declared.reduction.Reduction.TheVariants.{Fixed}
 use Rattle.spec_presolve.specs.Reduce.{tightened, shifted, after}
 use Rattle.spec_presolve.proofs.Chosen.{EmptyFound, SingleFound, FixedFound}
@@ -27,11 +26,6 @@ use Rattle.spec_presolve.proofs.OverSingle.{SingleStep}
 use Rattle.spec_presolve.proofs.OverFixed.{FixedStep, limits_moved}
 
 -- ---- a row less
-
-column-lowered : (m : Model) (i k : ℕ) → column (without_row m i) k ≡ lowered i (column m k)
-unfolding without_entry
-column-lowered m i k = get_or-map (lowered i) m.columns k no_column
-
 pub row_less : (m : Model) (i : ℕ) → i < height m → HasRow m (without_row m i) i
 row_less m i l =
     let w = without_row-means m i l in

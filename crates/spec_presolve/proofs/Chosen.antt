@@ -1,8 +1,9 @@
 -- What is known of the row or column that goes next.
 use Rattle.std.proofs.Common.{◌≡◌, ℕ, suc, ◌<◌, ◌||◌, Bool, true, false, not, cond, Option, Some, None, IfSome}
 use Rattle.std.proofs.Common.{Ok, refl, sym, ap, ◌∙◌, subst, arith, is_gt, is_lt, pos, ◌^◌}
-use Rattle.std.proofs.lemmas.Bool.{not-false}
+use Rattle.std.proofs.lemmas.Bool.{not-false, or_parts}
 use Rattle.std.specs.declared.cmp.Ordering.{Ordering}
+use Rattle.std.proofs.lemmas.Option.{same_Some}
 use Rattle.spec_exact.specs.Fraction.{ℚ, 0ℚ, ◌≤ℚ◌, ◌<ℚ◌, lt_ℚ, eq_ℚ, abs_ℚ, whole}
 use Rattle.spec_exact.specs.Limit.{order}
 use Rattle.spec_exact.specs.Run.{Run, order_run, quotient_run}
@@ -102,12 +103,9 @@ halt_not h r e = let z : ◌≡◌ {A = ExactChoice} (choice.Halt h) (Reduce r) 
 reduce_same : (r s : ExactReduction) → ◌≡◌ {A = ExactChoice} (Reduce r) (Reduce s) → r ≡ s
 reduce_same r s e = cc
 
-some_same : {A : Type 0} (a b : A) → ◌≡◌ {A = Option A} (Some a) (Some b) → a ≡ b
-some_same {A} a b e = let z : ◌≡◌ {A = Option A} (Some a) (Some b) = e in cc
-
 no_clash : {P : Type 0} (j : ℕ) (t : Bool) (r : ExactReduction) →
     cond t (Some (choice.Halt (Clash j))) None ≡ Some (Reduce r) → P
-no_clash j true r e = halt_not (Clash j) r (some_same (choice.Halt (Clash j)) (Reduce r) e)
+no_clash j true r e = halt_not (Clash j) r (same_Some (choice.Halt (Clash j)) (Reduce r) e)
 no_clash j false r e = none_not (Reduce r) e
 
 -- ---- a row without entries
@@ -155,10 +153,10 @@ pub record Falls (q old new : Option ℚ) : Type 0 where
   pub at_old : (x : ℚ) → old ≡ Some x → Most (or_old new old) x
 
 least_is : (b q x : ℚ) → ◌≡◌ {A = Option ℚ} (Some q) (Some x) → q ≤ℚ b → Least (Some b) x
-least_is b q x e h = record { bound = b; is = refl; at_least = subst (λ x. x ≤ℚ b) (some_same q x e) h }
+least_is b q x e h = record { bound = b; is = refl; at_least = subst (λ x. x ≤ℚ b) (same_Some q x e) h }
 
 most_is : (b q x : ℚ) → ◌≡◌ {A = Option ℚ} (Some q) (Some x) → b ≤ℚ q → Most (Some b) x
-most_is b q x e h = record { bound = b; is = refl; at_most = subst (λ x. b ≤ℚ x) (some_same q x e) h }
+most_is b q x e h = record { bound = b; is = refl; at_most = subst (λ x. b ≤ℚ x) (same_Some q x e) h }
 
 raised_ok : (limit : Option ℕ) (q old new : Option ℚ) → raised limit q old ≡ Ok new → Rises q old new
 raised_ok limit None old new h = subst (λ n. Rises None old n) (ok_same None new h) (record {
@@ -238,11 +236,6 @@ quotient_is_narrow limit (Some l) q a h e =
     subst (λ o. IfSome o IsNarrow) (ok_same (Some x.0) q x.2)
     (quotient_narrow l a x.0 (subst (λ n. quotient_run n l a ≡ Ok x.0) e x.1))
 
-neither : (s t : Bool) → s || t ≡ false → (s ≡ false) × (t ≡ false)
-neither true t e = let z : true ≡ false = e in cc
-neither false true e = let z : true ≡ false = e in cc
-neither false false e = (refl, refl)
-
 pub record Singles (limit : Option ℕ) (m : Model) (i j : ℕ) (a : ℚ) (r : ExactReduction) : Type 0 where
   pub lower : Option ℚ
   pub upper : Option ℚ
@@ -262,7 +255,7 @@ module _ (limit : Option ℕ) (m : Model) (i j : ℕ) (a : ℚ) (inside : i < he
         lower = x.0;
         upper = y.0;
         same = reduce_same (Single i j a x.0 y.0) r
-            (some_same (Reduce (Single i j a x.0 y.0)) (Reduce r)
+            (same_Some (Reduce (Single i j a x.0 y.0)) (Reduce r)
             (ok_same (Some (Reduce (Single i j a x.0 y.0))) (Some (Reduce r)) y.2));
         found = record {
           inside = inside;
@@ -288,14 +281,14 @@ module _ (limit : Option ℕ) (m : Model) (i j : ℕ) (a : ℚ) (inside : i < he
       (limit ≡ Some widest → IfSome p IsNarrow) → (limit ≡ Some widest → IfSome q IsNarrow) → Singles limit m i j a r
   near_ok p q r true t e f h k l n w = none_not (Reduce r) (ok_same None (Some (Reduce r)) h)
   near_ok p q r false true e f h k l n w =
-      let far = neither (is_far p) (is_far q) e in
+      let far = or_parts (is_far p) (is_far q) e in
       given_ok q p r h (bounds_ap q p l k ∙ sym (scaled_down a (limits m i) f)) far.1 far.0 w n
     where
       bounds_ap : (x y : Option ℚ) {v w : Option ℚ} → x ≡ v → y ≡ w →
           ◌≡◌ {A = Limits} (record { lower = x; upper = y }) (record { lower = v; upper = w })
       bounds_ap x y e f = cc
   near_ok p q r false false e f h k l n w =
-      let far = neither (is_far p) (is_far q) e in
+      let far = or_parts (is_far p) (is_far q) e in
       given_ok p q r h (bounds_ap p q k l ∙ sym (scaled_up a (limits m i) f)) far.0 far.1 n w
     where
       bounds_ap : (x y : Option ℚ) {v w : Option ℚ} → x ≡ v → y ≡ w →
@@ -322,7 +315,7 @@ fixed_ok m j (Some l) (Some u) r k e f h = by (eq_ℚ l u) refl h
     by : (t : Bool) → eq_ℚ l u ≡ t → cond t (Some (Reduce (Fixed j l))) None ≡ Some (Reduce r) → Fixes m j r
     by true g h = record {
       value = l;
-      same = reduce_same (Fixed j l) r (some_same (Reduce (Fixed j l)) (Reduce r) h);
+      same = reduce_same (Fixed j l) r (same_Some (Reduce (Fixed j l)) (Reduce r) h);
       found = record { inside = k; lower_is = e; upper_is = f ∙ ap Some (sym (eq_if l u g)) };
     }
     by false g h = none_not (Reduce r) h
@@ -345,7 +338,7 @@ module _ (limit : Option ℕ) (m : Model) (r : ExactReduction) where
       (subst (λ x. cond (is_above x) (choice.Halt (Above i)) (cond (is_below (limits m i).upper) (choice.Halt (Below i))
       (Reduce (Empty i))) ≡ Reduce r) a.lower
       (subst (λ x. empty_row i l.0.0 x ≡ Reduce r) a.upper
-      (some_same (empty_row i l.0.0 l.0.1) (Reduce r)
+      (same_Some (empty_row i l.0.0 l.0.1) (Reduce r)
       (ok_same (Some (empty_row i l.0.0 l.0.1)) (Some (Reduce r)) l.2)))) in
       subst (Goes limit m) g.0 (record { inside = k; nothing = row_empty m i e; within = g.1 })
   empty_ok i (One j a) k e h = none_not (Reduce r) (ok_same None (Some (Reduce r)) h)

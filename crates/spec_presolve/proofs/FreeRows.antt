@@ -10,7 +10,8 @@ use Rattle.spec_model.specs.Truth.{IsOptimal, IsInfeasible, IsUnbounded}
 use Rattle.spec_edit.specs.Changes.{without_row}
 use Rattle.spec_edit.specs.Meaning.{skipping}
 use Rattle.spec_edit.proofs.Meanings.{without_row-means}
-use Rattle.spec_edit.proofs.FreeRows.{points_same, optimal_same, infeasible_same, unbounded_same}
+use Rattle.spec_edit.proofs.FreeRows.{points_same, optimal_same, infeasible_same, unbounded_same, skipping_from}
+use Rattle.spec_edit.proofs.FreeRows.{skipping_below}
 use Rattle.spec_check.specs.declared.certificate.Certificate.TheVariants.{Optimal, Infeasible, Clash, Unbounded}
 use Rattle.spec_check.specs.declared.certificate.Known.TheVariants as known
 use Rattle.spec_check.specs.Certificate.{IsFor, shown}
@@ -21,7 +22,7 @@ use Rattle.spec_presolve.specs.FreeRows.{IsZeroAtFree, TakesNoFreeRow}
 use Rattle.spec_presolve.proofs.After.{row_less}
 use Rattle.spec_presolve.proofs.FreeRow.{free_row-checks, free_row-optimal, free_row-infeasible}
 use Rattle.spec_presolve.proofs.RowMore.{length_more}
-use Rattle.spec_presolve.proofs.Skips.{by_skip, skipping_below, skipping_above, skipping_inside}
+use Rattle.spec_presolve.proofs.Skips.{by_skip, skipping_inside}
 
 -- ---- a statement on each model along the way
 
@@ -32,7 +33,7 @@ none_removed : (m : Model) (i : ℕ) → i < height m → NoneFrom (suc i) m →
 none_removed m i l none a p q =
     let w = without_row-means m i l in
     let h = w.height in
-    ap (λ (r : ExactRow). is_free r.kind) (w.rows a ∙ ap (row m) (skipping_above i a p))
+    ap (λ (r : ExactRow). is_free r.kind) (w.rows a ∙ ap (row m) (skipping_from i a p))
     ∙ none (a + 1) (omega (arith, p)) (omega (arith, h, q))
 
 none_kept : (m : Model) (i : ℕ) → is_free (row m i).kind ≡ false → NoneFrom (suc i) m → NoneFrom i m
@@ -150,7 +151,7 @@ remove_inserted (w ∷ y) (suc i) v l = ap (λ ys. w ∷ ys) (remove_inserted y 
 part_removed : (y : List ℚ) (i a : ℕ) → i < length y → part (remove y i) a ≡ part y (skipping i a)
 part_removed y i a l =
     ⊎_elim (λ p. get_or-remove_below y i 0ℚ a p l ∙ ap (part y) (sym (skipping_below i a p)))
-    (λ p. get_or-remove_above y i 0ℚ a p l ∙ ap (part y) (sym (skipping_above i a p))) (cases_lt a i)
+    (λ p. get_or-remove_above y i 0ℚ a p l ∙ ap (part y) (sym (skipping_from i a p))) (cases_lt a i)
 
 -- the certificate without the multiplier of row i, and that this is 0
 abbrev less_at : ℕ → ExactCertificate → ExactCertificate

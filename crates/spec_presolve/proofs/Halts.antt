@@ -4,12 +4,13 @@ use Rattle.std.proofs.Common.{List, length, replicate, is_gt, refl, sym, ap, ◌
 use Rattle.std.proofs.lemmas.Bool.{cases_eq}
 use Rattle.std.proofs.lemmas.List.{length-replicate}
 use Rattle.std.proofs.lemmas.List.Edits.{length-insert}
+use Rattle.std.proofs.lemmas.Option.{same_Some}
 use Rattle.spec_exact.specs.Fraction.{ℚ, 0ℚ, 1ℚ, ◌*ℚ◌, neg_ℚ, ◌<ℚ◌, lt_ℚ, eq_ℚ}
 use Rattle.spec_exact.specs.Run.{order_run}
 use Rattle.spec_exact.proofs.Field.{*ℚ_zero}
 use Rattle.spec_exact.proofs.Order.{lt_if}
 use Rattle.spec_exact.proofs.Strict.{neg_strict}
-use Rattle.spec_exact.proofs.Ruleset.{zero-*ℚ, neg-zero}
+use Rattle.spec_exact.proofs.Ruleset.{zero-*ℚ, neg-zero, one-*ℚ}
 use Rattle.spec_exact.proofs.Results.{ok_same}
 use Rattle.spec_exact.proofs.Sums.{sum_below_none}
 use Rattle.spec_path.proofs.Runs.{then_ok, order_ok}
@@ -33,7 +34,7 @@ use Rattle.spec_presolve.specs.Choose.{is_far, raised, cut, fixed_by, chosen}
 use Rattle.spec_presolve.specs.Carry.{ExactCertificate, IsShown, alone_at, halted}
 use Rattle.spec_presolve.proofs.Skips.{by_skip, part_at, part_skipping, part_zeros, sum_of_one}
 use Rattle.spec_presolve.proofs.Tightened.{tight_has, tight_zero, asked_weighs}
-use Rattle.spec_presolve.proofs.OverSingleRun.{one_tight, minus_tight, one_times, minus_times}
+use Rattle.spec_presolve.proofs.OverSingleRun.{one_tight, minus_tight, minus_times}
 use Rattle.spec_presolve.proofs.InRows.{row_empty}
 use Rattle.spec_presolve.proofs.Chosen.{Origin, of_clash, of_empty, of_single, of_fixed, of_none, chosen_ok}
 use Rattle.spec_path.proofs.RowLimits.{limits_ok}
@@ -104,9 +105,6 @@ module _ (m : Model) (i : ℕ) (d s : ℚ) (inside : i < height m) (nothing : (k
 none_not : {A P : Type 0} (a : A) → ◌≡◌ {A = Option A} None (Some a) → P
 none_not {A} a e = let z : ◌≡◌ {A = Option A} None (Some a) = e in cc
 
-some_same : {A : Type 0} (a b : A) → ◌≡◌ {A = Option A} (Some a) (Some b) → a ≡ b
-some_same {A} a b e = let z : ◌≡◌ {A = Option A} (Some a) (Some b) = e in cc
-
 reduce_not : {P : Type 0} (h : Halt) (r : ExactReduction) → ◌≡◌ {A = ExactChoice} (Reduce r) (choice.Halt h) → P
 reduce_not h r e = let z : ◌≡◌ {A = ExactChoice} (Reduce r) (choice.Halt h) = e in cc
 
@@ -118,7 +116,7 @@ abbrev Shows : Model → Halt → Type 0
 Shows m h = (c : ExactCertificate) → halted m h ≡ Some c → IsShown m c
 
 shows_one : (m : Model) (h : Halt) (c : ExactCertificate) → halted m h ≡ Some c → IsShown m c → Shows m h
-shows_one m h c e k d f = subst (IsShown m) (some_same c d (sym e ∙ f)) k
+shows_one m h c e k d f = subst (IsShown m) (same_Some c d (sym e ∙ f)) k
 
 crossed_ok : (limit : Option ℕ) (m : Model) (j : ℕ) (l u : Option ℚ) → j < width m → (bounds m j).lower ≡ l →
     (bounds m j).upper ≡ u → crossed limit l u ≡ Ok true → ChecksClash m j
@@ -140,7 +138,7 @@ module _ (limit : Option ℕ) (m : Model) (h : Halt) where
       cond {A = Option ExactChoice} t (Some (choice.Halt (Clash j))) None ≡ Some (choice.Halt h) → Shows m h
   clash_shows j true p e f =
       let c = crossed_ok limit m j (bounds m j).lower (bounds m j).upper p refl refl e in
-      subst (Shows m) (halt_same (Clash j) h (some_same (choice.Halt (Clash j)) (choice.Halt h) f))
+      subst (Shows m) (halt_same (Clash j) h (same_Some (choice.Halt (Clash j)) (choice.Halt h) f))
       (shows_one m (Clash j) (certificate.Clash j) refl (record { fits = p; checks = c; shows = refl }))
   clash_shows j false p e f = none_not (choice.Halt h) f
 
@@ -150,7 +148,7 @@ module _ (limit : Option ℕ) (m : Model) (h : Halt) where
   above_at i (Some l) e t p n =
       shows_one m (Above i) (Infeasible (alone_at (height m - 1) i 1ℚ)) refl
       (outside m i 1ℚ l p n (one_tight (limits m i) l e)
-      (subst (λ w. 0ℚ <ℚ w) (sym (one_times l)) (lt_if 0ℚ l t)))
+      (subst (λ w. 0ℚ <ℚ w) (sym (one-*ℚ l)) (lt_if 0ℚ l t)))
 
   below_at : (i : ℕ) (o : Option ℚ) → (limits m i).upper ≡ o → is_below o ≡ true → i < height m →
       ((k : ℕ) → k < width m → coefficient m i k ≡ 0ℚ) → Shows m (Below i)
@@ -180,7 +178,7 @@ module _ (limit : Option ℕ) (m : Model) (h : Halt) where
       (subst (λ x. cond {A = ExactChoice} (is_above x) (choice.Halt (Above i))
       (cond (is_below (limits m i).upper) (choice.Halt (Below i)) (Reduce (Empty i))) ≡ choice.Halt h) a.lower
       (subst (λ x. empty_row i l.0.0 x ≡ choice.Halt h) a.upper
-      (some_same (empty_row i l.0.0 l.0.1) (choice.Halt h)
+      (same_Some (empty_row i l.0.0 l.0.1) (choice.Halt h)
       (ok_same (Some (empty_row i l.0.0 l.0.1)) (Some (choice.Halt h)) l.2))))
   empty_shows i (One j a) p e k = none_not (choice.Halt h) (ok_same None (Some (choice.Halt h)) k)
   empty_shows i More p e k = none_not (choice.Halt h) (ok_same None (Some (choice.Halt h)) k)
@@ -190,7 +188,7 @@ module _ (limit : Option ℕ) (m : Model) (h : Halt) where
       let x = then_ok (raised limit l (bounds m j).lower) _ (Some (choice.Halt h)) k in
       let y = then_ok (cut limit u (bounds m j).upper) _ (Some (choice.Halt h)) x.2 in
       reduce_not h (Single i j a x.0 y.0)
-      (some_same (Reduce (Single i j a x.0 y.0)) (choice.Halt h)
+      (same_Some (Reduce (Single i j a x.0 y.0)) (choice.Halt h)
       (ok_same (Some (Reduce (Single i j a x.0 y.0))) (Some (choice.Halt h)) y.2))
 
   near_not : {P : Type 0} (i j : ℕ) (a : ℚ) (p q : Option ℚ) (s t : Bool) →
@@ -214,7 +212,7 @@ module _ (limit : Option ℕ) (m : Model) (h : Halt) where
   fixed_not {P} j (Some l) (Some u) k = by (eq_ℚ l u) k
     where
       by : (t : Bool) → cond t (Some (Reduce (Fixed j l))) None ≡ Some (choice.Halt h) → P
-      by true k = reduce_not h (Fixed j l) (some_same (Reduce (Fixed j l)) (choice.Halt h) k)
+      by true k = reduce_not h (Fixed j l) (same_Some (Reduce (Fixed j l)) (choice.Halt h) k)
       by false k = none_not (choice.Halt h) k
 
   pub halt_shows : chosen limit m ≡ Ok (choice.Halt h) → Shows m h

@@ -1,7 +1,7 @@
 -- A result at the limit of 127 bits is of at most 127 bits.
 use Rattle.std.proofs.Common.{◌≡◌, ℕ, zero, suc, ◌/◌, ◌≤◌, ◌&&◌, Bool, true, false, cond, leb, ℤ, pos, unsigned_abs, int_div}
 use Rattle.std.proofs.Common.{Option, Some, None, Ok, refl, sym, subst, arith, div-le_self}
-use Rattle.std.proofs.lemmas.Bool.{leb-true}
+use Rattle.std.proofs.lemmas.Bool.{leb-true, and_parts}
 use Rattle.spec_exact.specs.Gcd.{gcd}
 use Rattle.spec_exact.specs.Quotients.{abs-int_div}
 use Rattle.spec_exact.specs.Fraction.{ℚ, over, whole, neg_ℚ, inverse}
@@ -36,11 +36,6 @@ last_two true true false d e = let z : false ≡ true = e in cc
 last_two true false c d e = let z : false ≡ true = e in cc
 last_two false b c d e = let z : false ≡ true = e in cc
 
-both : (a b : Bool) → a && b ≡ true → (a ≡ true) × (b ≡ true)
-both true true e = (refl, refl)
-both true false e = let z : false ≡ true = e in cc
-both false b e = let z : false ≡ true = e in cc
-
 where_fits : (t : Bool) (v x : ℚ) → ◌≡◌ {A = Option ℚ} (cond t (Some v) None) (Some x) → (t ≡ true) × (v ≡ x)
 where_fits true v x e = (refl, let z : ◌≡◌ {A = Option ℚ} (Some v) (Some x) = e in cc)
 where_fits false v x e = let z : ◌≡◌ {A = Option ℚ} None (Some x) = e in cc
@@ -66,7 +61,7 @@ unfolding mul
 mul_narrow v w x h =
     let a = v.num in let b = v.den in let c = w.num in let d = w.den in
     let f = where_fits (product_fits (Some widest) a b c d) (over (product_num a b c d) (product_den a b c d)) x h in
-    let l = both (leb (unsigned_abs (product_num a b c d)) widest) (leb (product_den a b c d) widest) f.0 in
+    let l = and_parts (leb (unsigned_abs (product_num a b c d)) widest) (leb (product_den a b c d) widest) f.0 in
     subst IsNarrow f.1
     (over_narrow (product_num a b c d) (product_den a b c d) (leb-true (unsigned_abs (product_num a b c d)) widest l.0)
     (leb-true (product_den a b c d) widest l.1))

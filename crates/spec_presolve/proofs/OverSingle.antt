@@ -7,7 +7,7 @@ use Rattle.std.proofs.lemmas.List.{length-replicate}
 use Rattle.spec_exact.specs.Fraction.{ℚ, 0ℚ, ◌+ℚ◌, ◌-ℚ◌, ◌*ℚ◌, neg_ℚ, inverse, ◌<ℚ◌}
 use Rattle.spec_exact.specs.Sums.{sum_below}
 use Rattle.spec_exact.proofs.Strict.{+ℚ_strict}
-use Rattle.spec_exact.proofs.Ruleset.{ring, zero-*ℚ}
+use Rattle.spec_exact.proofs.Ruleset.{ring, zero-*ℚ, zero-+ℚ}
 use Rattle.spec_exact.proofs.Sums.{sum_below_none}
 use Rattle.spec_model.specs.Model.{Model, Limits, width, height, bounds, limits, coefficient, part, activity}
 use Rattle.spec_model.specs.Truth.{IsBetween, IsFeasible}
@@ -46,9 +46,6 @@ less_itself d = simp ring
 
 plus_negative : (d : ℚ) → d +ℚ neg_ℚ d ≡ 0ℚ
 plus_negative d = simp ring
-
-zero_plus : (d : ℚ) → 0ℚ +ℚ d ≡ d
-zero_plus d = simp ring
 
 module _ (m n : Model) (i j : ℕ) (a : ℚ) (lower upper : Option ℚ) (h : SingleStep m n i j a lower upper) where
   abbrev given : Limits
@@ -280,13 +277,13 @@ module _ (m n : Model) (i j : ℕ) (a : ℚ) (lower upper : Option ℚ) (h : Sin
       (λ r _. has_zero (limits n r) (part zeros r) (part_zeros (height n) r))
       (λ k _ _. has_zero (turned_limits (bounds n k)) (priced n zeros k) (no_price k))
       (priced_own zeros v (length-replicate (height n) 0ℚ)
-      ∙ ap₂ ◌+ℚ◌ (no_price j) (ap (λ v. v *ℚ a) is ∙ quotient_times a d h.not_zero) ∙ zero_plus d)
+      ∙ ap₂ ◌+ℚ◌ (no_price j) (ap (λ v. v *ℚ a) is ∙ quotient_times a d h.not_zero) ∙ zero-+ℚ d)
       (record {
         row_at = subst (λ v. IsTight (limits m i) v (a *ℚ s)) (sym is) (scaled_tight a d s (limits m i) h.not_zero row);
         column_at = column;
       })
-      (subst₂ ◌<ℚ◌ (sym (ap (λ z. z +ℚ d *ℚ b) no_gives ∙ zero_plus (d *ℚ b)))
-      (sym (ap₂ ◌+ℚ◌ (ap₂ ◌+ℚ◌ no_asks (take_over d s v is) ∙ zero_plus (d *ℚ s)) (no_give j) ∙ last_zero (d *ℚ s))) less)
+      (subst₂ ◌<ℚ◌ (sym (ap (λ z. z +ℚ d *ℚ b) no_gives ∙ zero-+ℚ (d *ℚ b)))
+      (sym (ap₂ ◌+ℚ◌ (ap₂ ◌+ℚ◌ no_asks (take_over d s v is) ∙ zero-+ℚ (d *ℚ s)) (no_give j) ∙ last_zero (d *ℚ s))) less)
     where
       last_zero : (s : ℚ) → s +ℚ 0ℚ ≡ s
       last_zero s = simp ring

@@ -10,7 +10,7 @@ use Rattle.spec_exact.specs.Run.{◌>>=◌, plus_product, less_product, quotient
 use Rattle.spec_exact.proofs.Order.{clash_ℚ, <ℚ-le}
 use Rattle.spec_exact.proofs.Strict.{zero-lt-one, neg_strict}
 use Rattle.spec_exact.proofs.Results.{ok_same}
-use Rattle.spec_exact.proofs.Ruleset.{ring, neg-zero}
+use Rattle.spec_exact.proofs.Ruleset.{ring, neg-zero, one-*ℚ}
 use Rattle.spec_path.proofs.Runs.{then_ok, quotient_ok, plus_ok, less_ok, steps_ok}
 use Rattle.spec_model.specs.Model.{Model, Limits, width, height, bounds, limits, cost, coefficient, part}
 use Rattle.spec_check.specs.declared.certificate.Certificate.TheVariants.{Optimal, Infeasible, Clash, Unbounded}
@@ -69,9 +69,6 @@ pub minus_tight : (l : Limits) (v : ℚ) → l.upper ≡ Some v → IsTight l (n
 minus_tight l v e =
     record { above = λ p. absurd (clash_ℚ 0ℚ (neg_ℚ 1ℚ) p (<ℚ-le (neg_ℚ 1ℚ) 0ℚ negative-one)); below = λ _. e }
 
-pub one_times : (v : ℚ) → 1ℚ *ℚ v ≡ v
-one_times v = simp ring
-
 pub minus_times : (v : ℚ) → neg_ℚ 1ℚ *ℚ v ≡ neg_ℚ v
 minus_times v = simp ring
 
@@ -93,7 +90,7 @@ module _ (m n : Model) (i j : ℕ) (a : ℚ) (lower upper : Option ℚ) (h : Sin
         fits = length_more m n i h.row _ v.0 (length-replicate (height n) 0ℚ);
         checks = apart_by m n i j a lower upper h 1ℚ c.low c.high v.0 (one_tight given c.low both.0)
             (one_tight (turned_limits (bounds m j)) c.high both.1)
-            (subst₂ ◌<ℚ◌ (sym (one_times c.high)) (sym (one_times c.low)) c.crossed)
+            (subst₂ ◌<ℚ◌ (sym (one-*ℚ c.high)) (sym (one-*ℚ c.low)) c.crossed)
             (quotient_ok limit 1ℚ a v.0 v.1);
         shows = refl;
       })

@@ -5,7 +5,7 @@ use Rattle.spec_exact.specs.Fraction.{ℚ, 0ℚ, ◌*ℚ◌, neg_ℚ, inverse, �
 use Rattle.spec_exact.proofs.Field.{*ℚ_inverse, *ℚ_one, *ℚ_zero}
 use Rattle.spec_exact.proofs.Order.{*ℚ_mono, lt_test, not_lt_test, <ℚ-le}
 use Rattle.spec_exact.proofs.Strict.{*ℚ_mono_neg, *ℚ_mono_back, *ℚ_strict, by_sign, neg_strict, neg_mono}
-use Rattle.spec_exact.proofs.Ruleset.{ring, neg-zero, neg-neg}
+use Rattle.spec_exact.proofs.Ruleset.{ring, neg-zero, neg-neg, *ℚ_left_comm, neg-*ℚ}
 use Rattle.spec_model.specs.Model.{Limits}
 use Rattle.spec_model.specs.Truth.{IsBetween}
 use Rattle.spec_check.specs.Checks.{IsTight, Allows}
@@ -21,12 +21,8 @@ scaled a l =
     (record { lower = divided a l.lower; upper = divided a l.upper })
 
 -- ---- a quotient
-
-shuffle : (a b q : ℚ) → a *ℚ (b *ℚ q) ≡ b *ℚ (a *ℚ q)
-shuffle a b q = simp ring
-
 pub times_quotient : (a b : ℚ) → ¬ (a ≡ 0ℚ) → a *ℚ (b *ℚ inverse a) ≡ b
-times_quotient a b n = shuffle a b (inverse a) ∙ ap (λ q. b *ℚ q) (*ℚ_inverse a n) ∙ *ℚ_one b
+times_quotient a b n = *ℚ_left_comm a b (inverse a) ∙ ap (λ q. b *ℚ q) (*ℚ_inverse a n) ∙ *ℚ_one b
 
 shuffle₂ : (a b q : ℚ) → (b *ℚ q) *ℚ a ≡ b *ℚ (a *ℚ q)
 shuffle₂ a b q = simp ring
@@ -89,26 +85,21 @@ scaled_between a v l n h =
     record { lower = least_down a v l.lower p n k.upper; upper = most_down a v l.upper p n k.lower })
 
 -- ---- a ray
-
--- where 0 is allowed
-at_zero : (a : ℚ) → a *ℚ 0ℚ ≡ 0ℚ
-at_zero a = *ℚ_zero a
-
 rises_up : (a r : ℚ) (o : Option ℚ) → 0ℚ <ℚ a → IfSome (divided a o) (λ _. 0ℚ ≤ℚ r) → IfSome o (λ _. 0ℚ ≤ℚ (a *ℚ r))
 rises_up a r None p h = tt
-rises_up a r (Some b) p h = subst (λ w. w ≤ℚ (a *ℚ r)) (at_zero a) (*ℚ_mono 0ℚ r a (<ℚ-le 0ℚ a p) h)
+rises_up a r (Some b) p h = subst (λ w. w ≤ℚ (a *ℚ r)) (*ℚ_zero a) (*ℚ_mono 0ℚ r a (<ℚ-le 0ℚ a p) h)
 
 falls_up : (a r : ℚ) (o : Option ℚ) → 0ℚ <ℚ a → IfSome (divided a o) (λ _. r ≤ℚ 0ℚ) → IfSome o (λ _. (a *ℚ r) ≤ℚ 0ℚ)
 falls_up a r None p h = tt
-falls_up a r (Some b) p h = subst (λ w. (a *ℚ r) ≤ℚ w) (at_zero a) (*ℚ_mono r 0ℚ a (<ℚ-le 0ℚ a p) h)
+falls_up a r (Some b) p h = subst (λ w. (a *ℚ r) ≤ℚ w) (*ℚ_zero a) (*ℚ_mono r 0ℚ a (<ℚ-le 0ℚ a p) h)
 
 rises_down : (a r : ℚ) (o : Option ℚ) → a <ℚ 0ℚ → IfSome (divided a o) (λ _. r ≤ℚ 0ℚ) → IfSome o (λ _. 0ℚ ≤ℚ (a *ℚ r))
 rises_down a r None p h = tt
-rises_down a r (Some b) p h = subst (λ w. w ≤ℚ (a *ℚ r)) (at_zero a) (*ℚ_mono_neg r 0ℚ a (<ℚ-le a 0ℚ p) h)
+rises_down a r (Some b) p h = subst (λ w. w ≤ℚ (a *ℚ r)) (*ℚ_zero a) (*ℚ_mono_neg r 0ℚ a (<ℚ-le a 0ℚ p) h)
 
 falls_down : (a r : ℚ) (o : Option ℚ) → a <ℚ 0ℚ → IfSome (divided a o) (λ _. 0ℚ ≤ℚ r) → IfSome o (λ _. (a *ℚ r) ≤ℚ 0ℚ)
 falls_down a r None p h = tt
-falls_down a r (Some b) p h = subst (λ w. (a *ℚ r) ≤ℚ w) (at_zero a) (*ℚ_mono_neg 0ℚ r a (<ℚ-le a 0ℚ p) h)
+falls_down a r (Some b) p h = subst (λ w. (a *ℚ r) ≤ℚ w) (*ℚ_zero a) (*ℚ_mono_neg 0ℚ r a (<ℚ-le a 0ℚ p) h)
 
 pub scaled_allows : (a r : ℚ) (l : Limits) → ¬ (a ≡ 0ℚ) → Allows (scaled a l) r → Allows l (a *ℚ r)
 scaled_allows a r l n h =
@@ -122,20 +113,17 @@ scaled_allows a r l n h =
 
 -- a quotient's sign
 same_sign : (a d : ℚ) → 0ℚ <ℚ a → 0ℚ <ℚ (d *ℚ inverse a) → ¬ (a ≡ 0ℚ) → 0ℚ <ℚ d
-same_sign a d p h n = subst₂ ◌<ℚ◌ (at_zero a) (times_quotient a d n) (*ℚ_strict 0ℚ (d *ℚ inverse a) a p h)
+same_sign a d p h n = subst₂ ◌<ℚ◌ (*ℚ_zero a) (times_quotient a d n) (*ℚ_strict 0ℚ (d *ℚ inverse a) a p h)
 
 same_sign_below : (a d : ℚ) → 0ℚ <ℚ a → (d *ℚ inverse a) <ℚ 0ℚ → ¬ (a ≡ 0ℚ) → d <ℚ 0ℚ
-same_sign_below a d p h n = subst₂ ◌<ℚ◌ (times_quotient a d n) (at_zero a) (*ℚ_strict (d *ℚ inverse a) 0ℚ a p h)
-
-negated : (a v : ℚ) → neg_ℚ a *ℚ v ≡ neg_ℚ (a *ℚ v)
-negated a v = simp ring
+same_sign_below a d p h n = subst₂ ◌<ℚ◌ (times_quotient a d n) (*ℚ_zero a) (*ℚ_strict (d *ℚ inverse a) 0ℚ a p h)
 
 other_sign : (a d : ℚ) → a <ℚ 0ℚ → 0ℚ <ℚ (d *ℚ inverse a) → ¬ (a ≡ 0ℚ) → d <ℚ 0ℚ
 other_sign a d p h n =
     let pos_a : 0ℚ <ℚ neg_ℚ a = subst (λ z. z <ℚ neg_ℚ a) neg-zero (neg_strict a 0ℚ p) in
     let up : (neg_ℚ a *ℚ 0ℚ) <ℚ (neg_ℚ a *ℚ (d *ℚ inverse a)) = *ℚ_strict 0ℚ (d *ℚ inverse a) (neg_ℚ a) pos_a h in
     let up₂ : 0ℚ <ℚ neg_ℚ d =
-    subst₂ ◌<ℚ◌ (at_zero (neg_ℚ a)) (negated a (d *ℚ inverse a) ∙ ap neg_ℚ (times_quotient a d n)) up in
+    subst₂ ◌<ℚ◌ (*ℚ_zero (neg_ℚ a)) (neg-*ℚ a (d *ℚ inverse a) ∙ ap neg_ℚ (times_quotient a d n)) up in
     subst₂ ◌<ℚ◌ (neg-neg d) neg-zero (neg_strict 0ℚ (neg_ℚ d) up₂)
 
 other_sign_below : (a d : ℚ) → a <ℚ 0ℚ → (d *ℚ inverse a) <ℚ 0ℚ → ¬ (a ≡ 0ℚ) → 0ℚ <ℚ d
@@ -143,7 +131,7 @@ other_sign_below a d p h n =
     let pos_a : 0ℚ <ℚ neg_ℚ a = subst (λ z. z <ℚ neg_ℚ a) neg-zero (neg_strict a 0ℚ p) in
     let up : (neg_ℚ a *ℚ (d *ℚ inverse a)) <ℚ (neg_ℚ a *ℚ 0ℚ) = *ℚ_strict (d *ℚ inverse a) 0ℚ (neg_ℚ a) pos_a h in
     let up₂ : neg_ℚ d <ℚ 0ℚ =
-    subst₂ ◌<ℚ◌ (negated a (d *ℚ inverse a) ∙ ap neg_ℚ (times_quotient a d n)) (at_zero (neg_ℚ a)) up in
+    subst₂ ◌<ℚ◌ (neg-*ℚ a (d *ℚ inverse a) ∙ ap neg_ℚ (times_quotient a d n)) (*ℚ_zero (neg_ℚ a)) up in
     subst₂ ◌<ℚ◌ neg-zero (neg-neg d) (neg_strict (neg_ℚ d) 0ℚ up₂)
 
 -- a limit by its quotient
@@ -178,7 +166,7 @@ up_back a p q pos_a h = *ℚ_mono_back p q a pos_a h
 down_back : (a p q : ℚ) → a <ℚ 0ℚ → (a *ℚ q) ≤ℚ (a *ℚ p) → p ≤ℚ q
 down_back a p q neg_a h =
     *ℚ_mono_back p q (neg_ℚ a) (subst (λ z. z <ℚ neg_ℚ a) neg-zero (neg_strict a 0ℚ neg_a))
-    (subst₂ ◌≤ℚ◌ (sym (negated a p)) (sym (negated a q)) (neg_mono (a *ℚ q) (a *ℚ p) h))
+    (subst₂ ◌≤ℚ◌ (sym (neg-*ℚ a p)) (sym (neg-*ℚ a q)) (neg_mono (a *ℚ q) (a *ℚ p) h))
 
 pub scaled_ordered : (a : ℚ) (l : Limits) → ¬ (a ≡ 0ℚ) → Ordered l → Ordered (scaled a l)
 scaled_ordered a l n h =

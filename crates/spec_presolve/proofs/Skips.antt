@@ -1,33 +1,26 @@
 -- Lists and sums with one index more.
-use Rattle.std.proofs.Common.{◌≡◌, ℕ, zero, suc, ◌+◌, ◌-◌, ◌<◌, ◌≤◌, cond, List, length}
+use Rattle.std.proofs.Common.{◌≡◌, ℕ, zero, suc, ◌+◌, ◌-◌, ◌<◌, ◌≤◌, List, length}
 use Rattle.std.proofs.Common.{replicate, sym, ap, ap₂, ◌∙◌, subst, arith, ⊎_elim}
 use Rattle.std.specs.List.{insert}
-use borrow.Author.Tests.{lt-ltb, le-ltb}
 use Rattle.std.proofs.lemmas.Bool.{cases_lt}
 use Rattle.std.proofs.lemmas.List.{get_or-replicate, length-replicate, get_or_past}
 use Rattle.std.proofs.lemmas.List.Edits.{get_or-insert_below, get_or-insert_at, get_or-insert_above}
 use Rattle.spec_exact.specs.Fraction.{ℚ, 0ℚ, ◌+ℚ◌}
 use Rattle.spec_exact.specs.Sums.{sum_below}
-use Rattle.spec_exact.proofs.Ruleset.{ring}
+use Rattle.spec_exact.proofs.Ruleset.{ring, zero-+ℚ}
 use Rattle.spec_exact.proofs.Sums.{sum_below_same, sum_below_none}
 use Rattle.spec_model.specs.Model.{part}
 use Rattle.spec_edit.specs.Meaning.{skipping}
+use Rattle.spec_edit.proofs.FreeRows.{skipping_from, skipping_below}
 
 -- ---- the other indexes
-
-pub skipping_below : (i k : ℕ) → k < i → skipping i k ≡ k
-skipping_below i k l = ap (λ t. cond t k (k + 1)) (lt-ltb k i l)
-
-pub skipping_above : (i k : ℕ) → i ≤ k → skipping i k ≡ k + 1
-skipping_above i k l = ap (λ t. cond t k (k + 1)) (le-ltb k i l)
-
 -- each index below n + 1 is i, or one of the others
 pub by_skip : (P : ℕ → Type 0) (n i : ℕ) → P i → ((k : ℕ) → k < n → P (skipping i k)) → i ≤ n →
     (a : ℕ) → a < n + 1 → P a
 by_skip P n i at others p a l =
     ⊎_elim (λ below. subst P (skipping_below i a below) (others a (omega arith)))
     (λ from. ⊎_elim
-    (λ above. let e : skipping i (a - 1) ≡ a = skipping_above i (a - 1) (omega arith) ∙ omega arith in
+    (λ above. let e : skipping i (a - 1) ≡ a = skipping_from i (a - 1) (omega arith) ∙ omega arith in
     subst P e (others (a - 1) (omega arith)))
     (λ upto. let e : i ≡ a = omega arith in subst P e at) (cases_lt i a))
     (cases_lt a i)
@@ -35,12 +28,12 @@ by_skip P n i at others p a l =
 pub skipping_inside : (n i k : ℕ) → k < n → skipping i k < n + 1
 skipping_inside n i k l =
     ⊎_elim (λ p. subst (λ a. a < n + 1) (sym (skipping_below i k p)) (omega arith))
-    (λ p. subst (λ a. a < n + 1) (sym (skipping_above i k p)) (omega arith)) (cases_lt k i)
+    (λ p. subst (λ a. a < n + 1) (sym (skipping_from i k p)) (omega arith)) (cases_lt k i)
 
 pub skipping_other : (i k : ℕ) → ¬ (skipping i k ≡ i)
 skipping_other i k e =
     ⊎_elim (λ p. let f = skipping_below i k p in absurd (omega arith))
-    (λ p. let f = skipping_above i k p in absurd (omega arith)) (cases_lt k i)
+    (λ p. let f = skipping_from i k p in absurd (omega arith)) (cases_lt k i)
 
 -- ---- lists
 
@@ -50,7 +43,7 @@ part_at y i v l = get_or-insert_at y i v 0ℚ l
 pub part_skipping : (y : List ℚ) (i k : ℕ) (v : ℚ) → i ≤ length y → part (insert y i v) (skipping i k) ≡ part y k
 part_skipping y i k v l =
     ⊎_elim (λ p. ap (part (insert y i v)) (skipping_below i k p) ∙ get_or-insert_below y i v 0ℚ k p l)
-    (λ p. ap (part (insert y i v)) (skipping_above i k p) ∙ get_or-insert_above y i v 0ℚ k p l) (cases_lt k i)
+    (λ p. ap (part (insert y i v)) (skipping_from i k p) ∙ get_or-insert_above y i v 0ℚ k p l) (cases_lt k i)
 
 pub part_zeros : (n k : ℕ) → part (replicate n 0ℚ) k ≡ 0ℚ
 part_zeros n k =
@@ -70,14 +63,11 @@ sum_skipping (suc n) i f l =
     (λ p. ap (λ s. s +ℚ f (suc n)) (sum_skipping n i f (omega arith))
     ∙ more_last (sum_below n (λ k. f (skipping i k))) (f i) (f (suc n))
     ∙ ap (λ k. (sum_below n (λ k. f (skipping i k)) +ℚ f k) +ℚ f i)
-    (sym (skipping_above i n (omega arith) ∙ omega arith)))
+    (sym (skipping_from i n (omega arith) ∙ omega arith)))
     (λ p. let e : suc n ≡ i = omega arith in
     ap₂ ◌+ℚ◌
     (sum_below_same (suc n) f (λ k. f (skipping i k)) (λ k q. ap f (sym (skipping_below i k (omega arith)))))
     (ap f e)) (cases_lt i (suc n))
-
-zero_and : (a : ℚ) → 0ℚ +ℚ a ≡ a
-zero_and a = simp ring
 
 -- all terms but one are 0
 pub sum_of_one : (n j : ℕ) (f : ℕ → ℚ) → j < n → ((k : ℕ) → k < n → ¬ (k ≡ j) → f k ≡ 0ℚ) → sum_below n f ≡ f j
@@ -87,7 +77,7 @@ sum_of_one (suc n) j f l none =
     ∙ ap (λ s. s +ℚ f j)
     (sum_below_none n (λ k. f (skipping j k))
     (λ k p. none (skipping j k) (subst (λ a. skipping j k < a) (omega arith) (skipping_inside n j k p)) (skipping_other j k)))
-    ∙ zero_and (f j)
+    ∙ zero-+ℚ (f j)
 
 trade : (s a t b : ℚ) → s ≡ t → (s +ℚ a) +ℚ b ≡ (t +ℚ b) +ℚ a
 trade s a t b e = ap (λ s. (s +ℚ a) +ℚ b) e ∙ more_last t a b
