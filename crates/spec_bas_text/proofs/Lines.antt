@@ -6,6 +6,7 @@ use Rattle.std.specs.Prelude.{codes, nat_le}
 use Rattle.std.specs.List.{list_all, zip}
 use Rattle.std.proofs.lemmas.List.{append-nil, map-append}
 use Rattle.std.proofs.lemmas.List.Elements.{All-nil, All-cons, All-append, All-map, All-weaker, All-tail}
+use Rattle.std.proofs.lemmas.Bool.{and_parts}
 use Rattle.spec_text.specs.declared.line.Line.TheVariants.{Text}
 use Rattle.spec_text.specs.Lines.{lines_of}
 use Rattle.spec_text.specs.Words.{words_of}
@@ -21,7 +22,6 @@ use Rattle.spec_mps.specs.Cards.{is_skipped, begins_with_blank}
 use Rattle.spec_mps.specs.Fields.{Fields, texts_of}
 use Rattle.spec_mps.specs.NumberWritten.{IsWord}
 use Rattle.spec_mps.specs.Written.{WrittenCard, name_card, section_card, line_text, with_fields}
-use Rattle.spec_mps.proofs.Steps.{both}
 use Rattle.spec_mps.proofs.WrittenNames.{name_word}
 use Rattle.spec_mps.proofs.WrittenWords.{AreWords, joined, words_of_joined, parts_word, parts_word_then}
 use Rattle.spec_mps.proofs.WrittenWords.{stripped_plain, is_plain}
@@ -44,12 +44,12 @@ use Rattle.spec_bas_text.proofs.Meaning.{cards_mean}
 
 is_row : (name : Name) → is_row_name name ≡ true → is_name name ≡ true
 unfolding is_row_name
-is_row name h = (both _ _ h).0
+is_row name h = (and_parts _ _ h).0
 
 model_name_word : (b : ℕ) (bs : Name) → is_model_name (b ∷ bs) ≡ true → IsWord (b ∷ bs)
 unfolding is_model_name
 model_name_word b bs h =
-    record { some = refl; printable = (both (nat_le (length (b ∷ bs)) 64) (list_all is_printable (b ∷ bs)) h).1 }
+    record { some = refl; printable = (and_parts (nat_le (length (b ∷ bs)) 64) (list_all is_printable (b ∷ bs)) h).1 }
 
 -- the names on a card are names
 abbrev HasNames : ExactCard → Type 0

@@ -1,11 +1,12 @@
 -- The cards that a basis is written as mean that basis.
-use Rattle.std.proofs.Common.{◌≡◌, ◌≢◌, ℕ, ◌+◌, ◌<◌, Bool, true, false, not, Option, Some}
+use Rattle.std.proofs.Common.{◌≡◌, ◌≢◌, ℕ, ◌+◌, ◌<◌, true, false, not, Option, Some}
 use Rattle.std.proofs.Common.{List, [], ◌∷◌, ◌++◌, length, map, All, refl, sym, ap, ◌∙◌, subst, arith}
 use Rattle.std.specs.List.{AllPairs, zip}
 use Rattle.std.proofs.lemmas.List.{map-append}
 use Rattle.std.proofs.lemmas.Grind.{flat_map-append}
 use Rattle.std.proofs.lemmas.List.Elements.{All-append, All-map, All-weaker}
 use Rattle.std.proofs.lemmas.List.{append-nil}
+use Rattle.std.proofs.lemmas.Bool.{not-true, not-false}
 use Rattle.spec_exact.specs.Fraction.{ℚ}
 use Rattle.spec_model.specs.Model.{Model, Name}
 use Rattle.spec_model.specs.Kept.{IsModel, row_place, column_place}
@@ -26,15 +27,6 @@ use Rattle.spec_bas_text.proofs.Chosen.{chosen_missing, chosen_once, basics_chos
 use Rattle.spec_bas_text.proofs.Places.{named_once, unnamed}
 
 -- ---- statuses
-
-not_false : (b : Bool) → not b ≡ true → b ≡ false
-not_false true e = cc
-not_false false e = refl
-
-not_not : (b : Bool) → not b ≡ false → b ≡ true
-not_not true e = refl
-not_not false e = cc
-
 basic_is : (s : Status) → is_basic s ≡ true → s ≡ Basic
 basic_is Basic e = refl
 basic_is AtLower e = cc
@@ -236,7 +228,7 @@ module _ (m : Model) (f : Form) (size : HasSizeOf m f) (kept : IsModel m) (basis
       (all_zip IsOfBasic IsOfOther bs os
       (chosen_all (λ j. is_basic (basis_at basis j)) IsOfBasic f.cols (λ k l e. (l, e)))
       (chosen_all (λ i. not (is_basic (basis_at basis (f.cols + i)))) IsOfOther f.rows
-      (λ k l e. (l, not_false (is_basic (basis_at basis (f.cols + k))) e)))))
+      (λ k l e. (l, not-true (is_basic (basis_at basis (f.cols + k))) e)))))
     where
       IsOfBasic : ℕ → Type 0
       IsOfBasic j = (j < f.cols) × (is_basic (basis_at basis j) ≡ true)
@@ -280,7 +272,7 @@ module _ (m : Model) (f : Form) (size : HasSizeOf m f) (kept : IsModel m) (basis
   unnamed_rows : (i : ℕ) → i < f.rows → HasNoCard (row_place m) (rows_on (cards_of m f basis)) i →
       basis_at basis (f.cols + i) ≡ Basic
   unnamed_rows i l h =
-      basic_is (basis_at basis (f.cols + i)) (not_not (is_basic (basis_at basis (f.cols + i)))
+      basic_is (basis_at basis (f.cols + i)) (not-false (is_basic (basis_at basis (f.cols + i)))
       (chosen_missing (λ k. not (is_basic (basis_at basis (f.cols + k)))) f.rows i none l))
     where
       none : All (λ k. k ≢ i) os
