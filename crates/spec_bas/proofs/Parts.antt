@@ -1,8 +1,10 @@
 -- The marks of one kind of names, of columns or of rows: one more name, at either side of a step.
-use Rattle.std.proofs.Common.{◌≡◌, ◌≢◌, ℕ, zero, suc, ◌<◌, ◌⊎◌, inl, inr, true, false, List, ◌∷◌, length, get_or}
+use Rattle.std.proofs.Common.{◌≡◌, ◌≢◌, ℕ, suc, ◌<◌, ◌⊎◌, inl, inr, true, false, List, ◌∷◌, length, get_or}
 use Rattle.std.proofs.Common.{Option, Some, None, is_some, All, sym, ap, ◌∙◌, arith, get_or-set_other, get_or-set_same}
 use Rattle.std.specs.List.{AllPairs}
 use Rattle.std.proofs.lemmas.Bool.{cases_eq, false≢true}
+use Rattle.std.proofs.lemmas.List.Kept.{AllPairs-cons}
+use Rattle.std.proofs.lemmas.List.Elements.{All-cons, All-head, All-tail}
 use Rattle.spec_model.specs.Model.{Name}
 use Rattle.spec_pivot.specs.declared.status.Status.{Status}
 use Rattle.spec_simplex.specs.Form.{Form}
@@ -12,24 +14,6 @@ use Rattle.spec_bas.specs.Spelled.{HasNoCard}
 use Rattle.spec_bas.proofs.Marks.{mark_same, mark_other}
 
 -- ---- lists
-
-pub all_cons : {A : Type 0} (P : A → Type 0) (x : A) (xs : List A) → P x → All P xs → All P (x ∷ xs)
-all_cons P x xs p h zero d l = p
-all_cons P x xs p h (suc i) d l = h i d (omega arith)
-
-pub all_rest : {A : Type 0} (P : A → Type 0) (x : A) (xs : List A) → All P (x ∷ xs) → All P xs
-all_rest P x xs h i d l = h (suc i) d (omega arith)
-
-pub all_first : {A : Type 0} (P : A → Type 0) (x : A) (xs : List A) → All P (x ∷ xs) → P x
-all_first P x xs h = h 0 x (omega arith)
-
-pairs_cons : {A : Type 0} (P : A → A → Type 0) (x : A) (xs : List A) → All (P x) xs → AllPairs P xs →
-    AllPairs P (x ∷ xs)
-pairs_cons P x xs h g zero zero d l r = absurd (omega arith)
-pairs_cons P x xs h g zero (suc k) d l r = h k d (omega arith)
-pairs_cons P x xs h g (suc i) zero d l r = absurd (omega arith)
-pairs_cons P x xs h g (suc i) (suc k) d l r = g i k d (omega arith) (omega arith)
-
 pairs_rest : {A : Type 0} (P : A → A → Type 0) (x : A) (xs : List A) → AllPairs P (x ∷ xs) → AllPairs P xs
 pairs_rest P x xs g i k d l r = g (suc i) (suc k) d (omega arith) (omega arith)
 
@@ -97,13 +81,13 @@ module _ (f : Form) (place : Name → Option ℕ) (at : ℕ → ℕ) (n : ℕ)
 
       pub part_more : is_marked s (at i) ≡ false → Part s (name ∷ names) b
       part_more free = record {
-        once = pairs_cons (λ x y. x ≢ y) name names (λ q d l e. no_other q d l (ap place (sym e) ∙ is)) p.once;
-        free = all_cons (λ name. (k : ℕ) → place name ≡ Some k → is_marked s (at k) ≡ false) name names
+        once = AllPairs-cons (λ x y. x ≢ y) name names (λ q d l e. no_other q d l (ap place (sym e) ∙ is)) p.once;
+        free = All-cons (λ name. (k : ℕ) → place name ≡ Some k → is_marked s (at k) ≡ false) name names
             (λ k e. let z : i ≡ k = same_place k (sym is ∙ e) in ap (λ q. is_marked s (at q)) (sym z) ∙ free)
             (λ q d l k e. grown_free k (p.free q d l k e));
-        others = λ k l h. p.others k l (all_rest (λ x. place x ≢ Some k) name names h)
+        others = λ k l h. p.others k l (All-tail (λ x. place x ≢ Some k) name names h)
             ∙ mark_other f s (at i) (at k) status
-            (off k (λ e. all_first (λ x. place x ≢ Some k) name names h (is ∙ ap Some (sym e))));
+            (off k (λ e. All-head (λ x. place x ≢ Some k) name names h (is ∙ ap Some (sym e))));
       }
         where
           same_place : (k : ℕ) → ◌≡◌ {A = Option ℕ} (Some i) (Some k) → i ≡ k
@@ -112,7 +96,7 @@ module _ (f : Form) (place : Name → Option ℕ) (at : ℕ → ℕ) (n : ℕ)
     module _ (p : Part s (name ∷ names) b) (stands : basis_at b (at i) ≡ status) where
       pub part_free : is_marked s (at i) ≡ false
       part_free =
-          all_first (λ name. (k : ℕ) → place name ≡ Some k → is_marked s (at k) ≡ false) name names p.free i is
+          All-head (λ name. (k : ℕ) → place name ≡ Some k → is_marked s (at k) ≡ false) name names p.free i is
 
       pub part_less : Part t names b
       part_less = record {
@@ -121,7 +105,7 @@ module _ (f : Form) (place : Name → Option ℕ) (at : ℕ → ℕ) (n : ℕ)
             marked_other s (at i) (at k) status
             (off k (λ z. pairs_first (λ x y. x ≢ y) name names p.once q d l
             (one name (get_or names q d) i is (e ∙ ap Some z))))
-            ∙ all_rest (λ name. (k : ℕ) → place name ≡ Some k → is_marked s (at k) ≡ false) name names p.free q d l k e;
+            ∙ All-tail (λ name. (k : ℕ) → place name ≡ Some k → is_marked s (at k) ≡ false) name names p.free q d l k e;
         others = λ k l h. by k l h (cases_eq k i);
       }
         where
@@ -131,7 +115,7 @@ module _ (f : Form) (place : Name → Option ℕ) (at : ℕ → ℕ) (n : ℕ)
               ap (λ q. basis_at b (at q)) e ∙ stands ∙ sym (mark_same f s (at i) status long)
               ∙ ap (λ q. status_of f t (at q)) (sym e)
           by k l h (inr ne) =
-              p.others k l (all_cons (λ x. place x ≢ Some k) name names (λ e. ne (same_place k (sym is ∙ e))) h)
+              p.others k l (All-cons (λ x. place x ≢ Some k) name names (λ e. ne (same_place k (sym is ∙ e))) h)
               ∙ sym (mark_other f s (at i) (at k) status (off k ne))
             where
               same_place : (k : ℕ) → ◌≡◌ {A = Option ℕ} (Some i) (Some k) → k ≡ i

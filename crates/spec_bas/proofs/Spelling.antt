@@ -4,6 +4,7 @@ use Rattle.std.proofs.Common.{[], ◌∷◌, length, get_or}
 use Rattle.std.proofs.Common.{Some, None, is_some, Ok, All, refl, sym, ap, ◌∙◌, subst, arith}
 use Rattle.std.proofs.lemmas.Bool.{cases_lt}
 use Rattle.std.proofs.lemmas.List.{ext_get_or, get_or-replicate}
+use Rattle.std.proofs.lemmas.List.Elements.{All-cons, All-head, All-tail}
 use Rattle.spec_text.specs.Words.{same}
 use Rattle.spec_exact.specs.Fraction.{ℚ}
 use Rattle.spec_model.specs.Model.{Model, Name, width, height}
@@ -22,7 +23,7 @@ use Rattle.spec_bas.specs.Spelled.{Means, IsPair, IsUpper, IsUsual, AreCardsOf, 
 use Rattle.spec_bas.proofs.Marks.{marked_at, marked_length, usual_column, usual_row, start_none, mark_length}
 use Rattle.spec_bas.proofs.MarkSteps.{pair_taken, upper_taken, usual_taken}
 use Rattle.spec_bas.proofs.Parts.{Part, part_aside, part_beside, part_stands, part_more, part_free, part_less}
-use Rattle.spec_bas.proofs.Parts.{marked_other, all_cons, all_rest, all_first}
+use Rattle.spec_bas.proofs.Parts.{marked_other}
 
 -- the cards lead from these marks to this basis
 abbrev pub LeadTo : Model → Form → State → List ExactCard → List Status → Type 0
@@ -130,7 +131,7 @@ module _ (m : Model) (f : Form) (size : HasSizeOf m f) where
     paired card column row status p e g means t from = record {
       columns = subst (λ (names : List Name). Columns s names b) (sym e) p.columns;
       rows = subst (λ (names : List Name). Rows s names b) (sym g) p.rows;
-      mean = all_cons (Means m f b) card cards (means p.means) from.mean;
+      mean = All-cons (Means m f b) card cards (means p.means) from.mean;
       all = from.all;
     }
 
@@ -149,7 +150,7 @@ module _ (m : Model) (f : Form) (size : HasSizeOf m f) where
         record {
           columns = c.columns;
           rows = c.rows;
-          mean = all_cons (Means m f b) (Ul column) cards
+          mean = All-cons (Means m f b) (Ul column) cards
               (record { j = q.j; is_column = q.is_column; bound = p.bound; stands = c.stands }) from.mean;
           all = from.all;
         }
@@ -160,7 +161,7 @@ module _ (m : Model) (f : Form) (size : HasSizeOf m f) where
         record {
           columns = c.columns;
           rows = c.rows;
-          mean = all_cons (Means m f b) (Ll column) cards
+          mean = All-cons (Means m f b) (Ll column) cards
               (record { j = q.j; is_column = q.is_column; stands = c.stands }) from.mean;
           all = from.all;
         }
@@ -248,21 +249,21 @@ module _ (m : Model) (f : Form) (size : HasSizeOf m f) where
     card_less : (card : ExactCard) → From s (card ∷ cards) b → Next card
     card_less (Xu column row) g =
         pair_less (Xu column row) column row (upper_first f) refl g.columns g.rows
-        (all_first (Means m f b) (Xu column row) cards g.mean) (all_rest (Means m f b) (Xu column row) cards g.mean)
+        (All-head (Means m f b) (Xu column row) cards g.mean) (All-tail (Means m f b) (Xu column row) cards g.mean)
         g.all
     card_less (Xl column row) g =
         pair_less (Xl column row) column row (lower_first f) refl g.columns g.rows
-        (all_first (Means m f b) (Xl column row) cards g.mean) (all_rest (Means m f b) (Xl column row) cards g.mean)
+        (All-head (Means m f b) (Xl column row) cards g.mean) (All-tail (Means m f b) (Xl column row) cards g.mean)
         g.all
     card_less (Ul column) g =
-        let p : IsUpper m f b column = all_first (Means m f b) (Ul column) cards g.mean in
+        let p : IsUpper m f b column = All-head (Means m f b) (Ul column) cards g.mean in
         column_less (Ul column) column p.j AtUpper p.is_column g.columns g.rows p.stands
-        (all_rest (Means m f b) (Ul column) cards g.mean) g.all
+        (All-tail (Means m f b) (Ul column) cards g.mean) g.all
         (λ free. upper_steps s column p.j p.bound.0 p.is_column free p.bound.1)
     card_less (Ll column) g =
-        let p : IsUsual m f b column = all_first (Means m f b) (Ll column) cards g.mean in
+        let p : IsUsual m f b column = All-head (Means m f b) (Ll column) cards g.mean in
         column_less (Ll column) column p.j (lower_first f p.j) p.is_column g.columns g.rows p.stands
-        (all_rest (Means m f b) (Ll column) cards g.mean) g.all
+        (All-tail (Means m f b) (Ll column) cards g.mean) g.all
         (λ free. usual_steps s column p.j p.is_column free)
 
   one_long : (s : State) → length s.marks ≡ f.cols + f.rows → (j : ℕ) (status : Status) (t : State) → t ≡ mark j
