@@ -1,7 +1,7 @@
 -- Factors that are taken anew of the same basic columns: they are there, and stand for them.
 use Rattle.std.proofs.Common.{◌≡◌, ◌≢◌, ℕ, ◌+◌, ◌-◌, ◌<◌, ◌≤◌, List, get_or, map, Option, Some, None, Result}
 use Rattle.std.proofs.Common.{Ok, Err, Bool, true, false, cond, ◌&&◌, nat_le, refl, sym, ap, ◌∙◌, subst, arith}
-use Rattle.std.proofs.lemmas.Bool.{le-leb, lt-leb, leb-true}
+use Rattle.std.proofs.lemmas.Bool.{le-leb, lt-leb, leb-true, and_parts}
 use Rattle.std.proofs.lemmas.List.{length-map, get_or-map}
 use Rattle.spec_exact.specs.Fraction.{ℚ, ◌*ℚ◌, ◌<ℚ◌, 0ℚ, 1ℚ}
 use Rattle.spec_exact.proofs.Ruleset.{zero-*ℚ}
@@ -93,10 +93,6 @@ module _ (f : Form) (basis : List Status) (s : Factors) (old : AreFactors f basi
       by (Err (factor.Past p)) e = absurd ((choose_agrees None f basis N).exact p e)
 
 -- ---- the basic columns of a tableau, with artificials by their logicals
-both_if : (a c : Bool) → a && c ≡ true → (a ≡ true) × (c ≡ true)
-both_if true c h = (refl, h)
-both_if false c h = let z : false ≡ true = h in cc
-
 module _ (f : Form) (t : Tableau) (rows : t.rows ≡ f.rows) (cols : t.cols ≡ f.cols) where
   -- a column of the form, or an artificial, which stands as its row's logical
   pub by_factor : {P : Type 0} (k : ℕ) → k < all_columns t → (k < f.cols + f.rows → factor_column t k ≡ k → P)
@@ -143,7 +139,7 @@ module _ (f : Form) (t : Tableau) (rows : t.rows ≡ f.rows) (cols : t.cols ≡ 
           g (ap (λ c. cond c (k + t.rows) k) q)
           (sym (ap (λ c. cond c Basic (status_at t k)) q) ∙ sym (basis_reads k l) ∙ e)
       by true q =
-          let w = both_if (nat_le t.cols k) (is_basic (status_at t (k + t.rows))) q in
+          let w = and_parts (nat_le t.cols k) (is_basic (status_at t (k + t.rows))) q in
           let at : t.cols ≤ k = leb-true t.cols k w.0 in
           let z : k + t.rows ≡ f.cols + f.rows + (k - f.cols) = omega (arith, at, rows, cols) in
           h (k - f.cols) (omega (arith, l, at, cols)) (omega (arith, at, cols)) (ap (λ c. cond c (k + t.rows) k) q ∙ z)
