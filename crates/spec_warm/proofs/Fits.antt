@@ -1,6 +1,6 @@
 -- The first basic column that is outside its bounds, and what the fit of a tableau means.
 use Rattle.std.proofs.Common.{◌≡◌, ℕ, zero, suc, ◌<◌, Option, Some, None, IfSome, Ok, Bool, true}
-use Rattle.std.proofs.Common.{false, ◌&&◌, cond, option_map, refl, sym, ap, ◌∙◌, subst, arith}
+use Rattle.std.proofs.Common.{false, cond, option_map, refl, sym, ap, ◌∙◌, subst, arith}
 use Rattle.spec_exact.specs.Fraction.{ℚ, 0ℚ, ◌≤ℚ◌, ◌<ℚ◌}
 use Rattle.spec_exact.proofs.Order.{≤ℚ_refl, <ℚ-le, le_if_not}
 use Rattle.spec_exact.proofs.Same.{eq_if}
@@ -19,6 +19,7 @@ use Rattle.spec_simplex.specs.declared.ends.Fit.{Fit}
 use Rattle.spec_simplex.specs.declared.ends.Fit.TheVariants.{Primal, Dual, Unfit}
 use Rattle.spec_simplex.specs.declared.ends.Leaving.{Leaving}
 use Rattle.std.specs.Ordering.{is_lt, is_gt}
+use Rattle.std.proofs.lemmas.Bool.{and_parts}
 use Rattle.spec_simplex.specs.Fit.{below_lower, above_upper, outside_by}
 use Rattle.spec_simplex.specs.Fit.{outside_run, leaving_at, leaving_with, leaving_run, needs_flip}
 use Rattle.spec_simplex.specs.Fit.{meets_need, meets_need_at, all_meet, fit_by, fit_run}
@@ -131,14 +132,10 @@ module _ (limit : Option ℕ) (t : Tableau) where
       (λ k l. absurd (let z : ⊥ = omega (arith, l) in z)) leaving_step
 
 -- ---- needs of reduced costs
-two_true : (a c : Bool) → a && c ≡ true → (a ≡ true) × (c ≡ true)
-two_true true c h = (refl, h)
-two_true false c h = let z : false ≡ true = h in cc
-
 pub all_met : (t : Tableau) (n : ℕ) → all_meet t n ≡ true → (k : ℕ) → k < n → meets_need_at t k ≡ true
 all_met t zero h k l = absurd (let z : ⊥ = omega (arith, l) in z)
 all_met t (suc n) h k l =
-    let o = two_true (all_meet t n) (meets_need_at t n) h in
+    let o = and_parts (all_meet t n) (meets_need_at t n) h in
     by_eq k n (λ z. ap (meets_need_at t) z ∙ o.1) (λ z. all_met t n o.0 k (omega (arith, l, z)))
 
 -- a need that is met without a flip
