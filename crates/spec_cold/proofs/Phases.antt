@@ -1,7 +1,7 @@
 -- What both phases end with is accepted.
 use Rattle.std.proofs.Common.{◌≡◌, ℕ, ◌+◌, ◌-◌, ◌<◌, ◌≤◌, List, Option, Ok}
 use Rattle.std.proofs.Common.{true, false, not, ◌&&◌, sym, ap, ◌∙◌, arith}
-use Rattle.std.proofs.lemmas.Bool.{leb-true}
+use Rattle.std.proofs.lemmas.Bool.{leb-true, and_parts}
 use Rattle.spec_exact.specs.Fraction.{ℚ, 0ℚ, eq_ℚ}
 use Rattle.spec_exact.proofs.Same.{eq_test}
 use Rattle.spec_model.specs.Model.{Model, width, height}
@@ -20,7 +20,7 @@ use Rattle.spec_path.proofs.Formed.{Limited}
 use Rattle.spec_cold.proofs.EndInfeasible.{infeasible_checks}
 use Rattle.spec_cold.proofs.Shown.{Shows, multipliers_length, multiplier_at, primal_shows}
 use Rattle.spec_check.specs.declared.certificate.Certificate.TheVariants as certificate
-use Rattle.spec_path.proofs.Phases.{IsFirst, both_true, first_bounds, wanted_where_stuck, second_bounds, second_fixed}
+use Rattle.spec_path.proofs.Phases.{IsFirst, first_bounds, wanted_where_stuck, second_bounds, second_fixed}
 use Rattle.spec_path.proofs.Phases.{by_phases}
 
 module _ (limit : Option ℕ) (m : Model) (ls : List (Option ℚ × Option ℚ)) (h : Limited m ls) where
@@ -46,7 +46,7 @@ module _ (limit : Option ℕ) (m : Model) (ls : List (Option ℚ × Option ℚ))
   stuck_shows t s one o p =
       let u : Tableau = one.tableau in
       let at = some_of (λ k. is_artificial u k && not (eq_ℚ (value_at u k) 0ℚ)) u.basic 0 p in
-      let two = both_true (is_artificial u (basic_at u at.0)) (not (eq_ℚ (value_at u (basic_at u at.0)) 0ℚ)) at.2 in
+      let two = and_parts (is_artificial u (basic_at u at.0)) (not (eq_ℚ (value_at u (basic_at u at.0)) 0ℚ)) at.2 in
       let k : ℕ = basic_at u at.0 in
       let k_least : form_columns u ≤ k = leb-true (form_columns u) k two.0 in
       let k_in : k < w + r + r =
