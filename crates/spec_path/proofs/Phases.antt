@@ -2,6 +2,7 @@
 use Rattle.std.proofs.Common.{◌≡◌, ◌≢◌, ℕ, ◌+◌, ◌-◌, ◌*◌, ◌^◌, ◌<◌, ◌≤◌, List, Option, Some, Result, Ok}
 use Rattle.std.proofs.Common.{Err, Bool, true, false, not, ◌&&◌, cond, refl, sym, ◌∙◌, subst, arith}
 use Rattle.std.proofs.lemmas.List.Folds.{list_any_at}
+use Rattle.std.proofs.lemmas.Bool.{and_parts}
 use Rattle.spec_exact.specs.Fraction.{ℚ, 0ℚ, eq_ℚ}
 use Rattle.spec_model.specs.Model.{Model, width, height}
 use Rattle.spec_pivot.specs.declared.status.Way.{Way}
@@ -34,10 +35,6 @@ use Rattle.spec_path.proofs.FirstPhase.{never_goes_on}
 
 some_label : Label
 some_label = record { kind = kind.Flip; way = Up; column = 0; position = 0; theta = 0ℚ; to = Basic }
-
-pub both_true : (a c : Bool) → a && c ≡ true → (a ≡ true) × (c ≡ true)
-both_true true c h = (refl, h)
-both_true false c h = let z : false ≡ true = h in cc
 
 module _ (limit : Option ℕ) (m : Model) (ls : List (Option ℚ × Option ℚ)) (h : Limited m ls) where
   abbrev f : Form
@@ -84,7 +81,7 @@ module _ (limit : Option ℕ) (m : Model) (ls : List (Option ℚ × Option ℚ))
             let o = some_of (λ k. is_artificial t k && not (eq_ℚ (value_at t k) 0ℚ)) t.basic 0 p in
             let z : true ≡ false =
             sym (list_any_at (λ k. is_artificial t k) t.basic o.0 0 o.1
-            (both_true (is_artificial t (basic_at t o.0)) (not (eq_ℚ (value_at t (basic_at t o.0)) 0ℚ)) o.2).0) ∙ e in
+            (and_parts (is_artificial t (basic_at t o.0)) (not (eq_ℚ (value_at t (basic_at t o.0)) 0ℚ)) o.2).0) ∙ e in
             cc
 
     first_ends : (budget : ℕ) (one : PrimalEnded) → phase_one limit budget t ≡ Ok one → IsFirst one

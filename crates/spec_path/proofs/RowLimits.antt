@@ -1,7 +1,7 @@
 -- The limits of a row, as the form's run takes them.
-use Rattle.std.proofs.Common.{◌≡◌, Option, Some, None, Ok, Bool, true, false, cond, refl, sym, subst}
+use Rattle.std.proofs.Common.{◌≡◌, Option, Some, None, Ok, Bool, true, false, cond, refl, subst}
 use Rattle.spec_exact.specs.Fraction.{ℚ, 0ℚ, ◌+ℚ◌, ◌-ℚ◌, neg_ℚ, abs_ℚ, lt_ℚ, ◌≤ℚ◌, ◌<ℚ◌}
-use Rattle.spec_exact.proofs.Order.{≤ℚ_from, <ℚ-le, ≤ℚ_refl, by_le, lt_if, le_if_not}
+use Rattle.spec_exact.proofs.Order.{≤ℚ_from, <ℚ-le, ≤ℚ_refl, lt_if, le_if_not}
 use Rattle.spec_exact.proofs.Ruleset.{ring, neg-zero}
 use Rattle.spec_exact.proofs.Strict.{neg_strict}
 use Rattle.spec_model.specs.declared.parts.Kind.{Kind}
@@ -11,9 +11,9 @@ use Rattle.spec_model.specs.Model.{ExactRow, Limits, lower_of, upper_of, limit_o
 use Rattle.spec_model.proofs.RowLimits.{limit_ok}
 use Rattle.spec_exact.proofs.Results.{ok_same}
 use Rattle.spec_exact.specs.Run.{◌>>=◌}
+use Rattle.spec_exact.proofs.Sizes.{abs_least}
 use Rattle.spec_simplex.specs.Form.{limits_run}
 use Rattle.spec_path.proofs.Runs.{then_ok}
-use Rattle.spec_exact.proofs.Sizes.{abs_above, abs_below}
 
 -- a pair that has these limits
 pub record AreLimits (l : Limits) (p : Option ℚ × Option ℚ) : Type 0 where
@@ -29,13 +29,6 @@ limits_ok limit r p h =
     (record { lower = limit_ok limit (lower_of r) l.0 l.1; upper = limit_ok limit (upper_of r) u.0 u.1 })
 
 -- ---- a lower limit is not above the upper one
-abs_least : (r : ℚ) → 0ℚ ≤ℚ abs_ℚ r
-abs_least r =
-    by_le 0ℚ r
-    (λ h. subst (λ a. 0ℚ ≤ℚ a) (sym (abs_above r h)) h)
-    (λ h. subst (λ a. 0ℚ ≤ℚ a) (sym (abs_below r h))
-    (<ℚ-le 0ℚ (neg_ℚ r) (subst (λ a. a <ℚ neg_ℚ r) neg-zero (neg_strict r 0ℚ h))))
-
 abbrev Ordered : Limits → Type 0
 Ordered l = (a c : ℚ) → l.lower ≡ Some a → l.upper ≡ Some c → a ≤ℚ c
 
