@@ -1,15 +1,12 @@
 -- A certificate that is put to a model has a number for each row and column.
-use Rattle.std.proofs.Common.{◌≡◌, ℕ, ◌<◌, Bool, true, false, cond, ltb, Option, Some}
+use Rattle.std.proofs.Common.{◌≡◌, ℕ, Bool, true, false, cond, Option, Some}
 use Rattle.std.proofs.Common.{None, Ok, Err, List, [], ◌∷◌, ◌++◌, refl, ◌∙◌, subst}
-use Rattle.std.specs.List.{prefix_len}
-use Rattle.std.specs.Prelude.{not}
 use Rattle.std.proofs.Math.ListN.{length-set, length-replicate}
-use borrow.Author.Tests.{ltb-true}
-use Rattle.spec_text.specs.Words.{same}
 use Rattle.spec_exact.specs.Fraction.{ℚ, 0ℚ}
 use Rattle.spec_exact.proofs.Results.{ok_same}
-use Rattle.spec_model.specs.Model.{Model, Name, ExactColumn, width, height}
+use Rattle.spec_model.specs.Model.{Model, Name, width, height}
 use Rattle.spec_model.specs.Kept.{column_place}
+use Rattle.spec_model.proofs.NamePlaces.{column_inside}
 use Rattle.spec_check.specs.declared.certificate.Letter.{Letter}
 use Rattle.spec_check.specs.declared.certificate.Letter.TheVariants.{X, Y, R}
 use Rattle.spec_check.specs.declared.certificate.CertificateKind.TheVariants as kind
@@ -30,17 +27,6 @@ after_ok (Err fault) next b e = cc
 known_ok : (o : Option ℕ) (name : Name) (k : ℕ) → known o name ≡ Ok k → o ≡ Some k
 known_ok None name k e = cc
 known_ok (Some j) name k e = cc
-
-below : (n l k : ℕ) → cond (ltb n l) (Some n) None ≡ Some k → k < l
-below n l k h = by (ltb n l) refl h
-  where
-    by : (t : Bool) → ltb n l ≡ t → cond t (Some n) None ≡ Some k → k < l
-    by true e h = let same : n ≡ k = cc in subst (λ i. i < l) same (ltb-true n l e)
-    by false e h = cc
-
-column_inside : (m : Model) (name : Name) (j : ℕ) → column_place m name ≡ Some j → j < width m
-unfolding column_place
-column_inside m name j e = below (prefix_len (λ (c : ExactColumn). not (same c.name name)) m.columns) (width m) j e
 
 with_value_fits : (m : Model) (letter : Letter) (k : ℕ) (v : ℚ) (cert : Certificate (List ℚ)) → IsFor m cert →
     IsFor m (with_value letter k v cert)

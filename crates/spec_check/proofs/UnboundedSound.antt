@@ -1,7 +1,8 @@
 -- Where the run says yes to a ray, the conditions hold.
 use Rattle.std.proofs.Common.{◌≡◌, ℕ, List, length, Option, Some, None, Ok}
-use Rattle.std.proofs.Common.{IfSome, Bool, true, false, not, refl, sym, subst}
+use Rattle.std.proofs.Common.{IfSome, true, sym, subst}
 use Rattle.std.specs.Prelude.{⊤}
+use Rattle.std.proofs.lemmas.Bool.{not-true}
 use Rattle.spec_exact.specs.Fraction.{ℚ, 0ℚ, ◌≤ℚ◌, ◌<ℚ◌, lt_ℚ}
 use Rattle.spec_exact.proofs.Order.{lt_if, le_if_not}
 use Rattle.spec_exact.proofs.Results.{ok_same}
@@ -14,17 +15,13 @@ use Rattle.spec_check.specs.Run.{not_below, not_above, column_allows_run, row_al
 use Rattle.spec_check.proofs.StepsSound.{after_ok, need_ok, each_ok, products_ok}
 use Rattle.spec_check.proofs.StepsSound.{lower_ok, upper_ok, activity_ok, feasible_ok}
 
-not_true : (t : Bool) → not t ≡ true → t ≡ false
-not_true true e = cc
-not_true false e = refl
-
 below_from : (o : Option ℚ) (r : ℚ) → not_below o r ≡ true → IfSome o (λ _. 0ℚ ≤ℚ r)
 below_from None r e = tt
-below_from (Some k) r e = le_if_not r 0ℚ (not_true _ e)
+below_from (Some k) r e = le_if_not r 0ℚ (not-true _ e)
 
 above_from : (o : Option ℚ) (r : ℚ) → not_above o r ≡ true → IfSome o (λ _. r ≤ℚ 0ℚ)
 above_from None r e = tt
-above_from (Some k) r e = le_if_not 0ℚ r (not_true _ e)
+above_from (Some k) r e = le_if_not 0ℚ r (not-true _ e)
 
 column_allows_ok : (m : Model) (r : List ℚ) (j : ℕ) → column_allows_run m r j ≡ Ok tt → Allows (bounds m j) (part r j)
 column_allows_ok m r j e =
