@@ -2,6 +2,7 @@
 use Rattle.std.proofs.Common.{◌≡◌, ℕ, suc, Bool, true, false, ◌||◌, cond, Some, Ok, Err}
 use Rattle.std.proofs.Common.{List, [], ◌∷◌, length, refl, sym, ap, ◌∙◌, subst, codes, arith}
 use Rattle.std.specs.List.{filter, list_any}
+use Rattle.std.proofs.lemmas.Option.{same_Some}
 use Rattle.spec_text.specs.Words.{same}
 use Rattle.spec_text.proofs.WordLemmas.{same_true}
 use Rattle.spec_mps.specs.declared.fault.Code.TheVariants as code
@@ -13,7 +14,7 @@ use Rattle.spec_mps.specs.Fields.{Fields, numbers_of, texts_of}
 use Rattle.spec_mps.specs.Checks.{Check}
 use Rattle.spec_mps.specs.Shapes.{bound_kinds, look_up, bound_kind_of, bound_shapes, has_shape}
 use Rattle.spec_mps.specs.Bounds.{BoundTexts, takes_value, is_read, bound_texts_by, bound_texts}
-use Rattle.spec_mps.proofs.CheckSteps.{need_ok, same_ok, same_some}
+use Rattle.spec_mps.proofs.CheckSteps.{need_ok, same_ok}
 use Rattle.spec_meaning.specs.BoundCards.{kind_of, has_value, bound_texts_on}
 
 -- ---- the kind
@@ -38,7 +39,7 @@ looked_up word kind found (x ∷ xs) h a e = go (same word x.0) refl (λ k. look
   where
     go : (b : Bool) → same word x.0 ≡ b → (look_up word xs ≡ Some found → found ≡ Ok kind → word ≡ kind_word kind) →
         cond b (Some x.1) (look_up word xs) ≡ Some found → word ≡ kind_word kind
-    go true f g k = same_true word x.0 f ∙ a.0 kind (same_some x.1 found k ∙ e)
+    go true f g k = same_true word x.0 f ∙ a.0 kind (same_Some x.1 found k ∙ e)
     go false f g k = g k e
 
 word_of : (kind : BoundKind) (other : BoundKind) → (let r : Check BoundKind = Ok kind in r) ≡ Ok other →

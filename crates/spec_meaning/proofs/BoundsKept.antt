@@ -6,6 +6,7 @@ use Rattle.std.specs.List.{filter, position, position_or_len}
 use Rattle.std.proofs.lemmas.List.{length-map}
 use Rattle.std.proofs.lemmas.List.Elements.{filter-append}
 use Rattle.std.proofs.lemmas.List.Quantifiers.{position-Some}
+use Rattle.std.proofs.lemmas.Option.{same_Some}
 use Rattle.spec_text.specs.Words.{same}
 use Rattle.spec_text.proofs.WordLemmas.{same_true, same-refl}
 use Rattle.spec_exact.specs.Fraction.{0ℚ}
@@ -17,7 +18,6 @@ use Rattle.spec_mps.specs.Fields.{Fields, text_at}
 use Rattle.spec_mps.specs.Reader.{State, columns_with, whole_columns}
 use Rattle.spec_mps.specs.Sides.{is_used, changed_at}
 use Rattle.spec_mps.specs.Bounds.{BoundCard, BoundTexts, bounded, sets_lower, with_bound, bounds_card}
-use Rattle.spec_mps.proofs.CheckSteps.{same_some}
 use Rattle.spec_meaning.specs.NumberCards.{is_same_set}
 use Rattle.spec_meaning.specs.BoundCards.{kind_of, bound_by, bound_on, used_bounds, bounds_of_column}
 use Rattle.spec_mps.proofs.CardsDid.{BoundDid, UsedBound, SkippedBound, BoundsDid, bounds_did}
@@ -192,7 +192,7 @@ module _ (style : Style) (cards : List Fields) (card : Fields) (columns : List E
   card_said name j h true f =
       let same_name : (bound_on style card).column ≡ name = same_true (bound_on style card).column name f in
       let p : column_place name columns ≡ Some place = ap (λ n. column_place n columns) (sym same_name) ∙ at in
-      let here : place ≡ j = same_some place j (sym p ∙ h) in
+      let here : place ≡ j = same_Some place j (sym p ∙ h) in
       let inside : place < length columns = (place_named name columns place p).0 in
       let cs : bounds_of_column style name cards ++ card ∷ [] ≡ bounds_of_column style name (cards ++ card ∷ []) =
       (λ i. bounds_of_column style name cards ++ cond (sym used i && sym f i) (card ∷ []) [])

@@ -5,6 +5,7 @@ use Rattle.std.proofs.Common.{subst₂, get_or, append_assoc, append-nil, All, I
 use Rattle.std.specs.List.{list_any}
 use Rattle.std.proofs.lemmas.List.{map-append}
 use Rattle.std.proofs.lemmas.List.Elements.{All-push, All-map}
+use Rattle.std.proofs.lemmas.Bool.{not-true}
 use Rattle.spec_text.specs.Words.{same}
 use Rattle.spec_text.proofs.WordLemmas.{same_true, same-refl}
 use Rattle.spec_exact.specs.Fraction.{ℚ, 0ℚ}
@@ -18,7 +19,6 @@ use Rattle.spec_mps.specs.Fields.{Fields, text_at, texts_of}
 use Rattle.spec_mps.specs.Shapes.{shaped}
 use Rattle.spec_mps.specs.Reader.{State, is_among, new_column, columns_with, whole_columns}
 use Rattle.spec_mps.specs.Reader.{is_open, with_number, enter, pairs_of, columns_card, marker_field}
-use Rattle.spec_mps.proofs.Steps.{negated}
 use Rattle.spec_mps.proofs.Names.{none_pass}
 use Rattle.spec_mps.proofs.CheckSteps.{step_ok, must_ok, same_ok}
 use Rattle.spec_meaning.specs.NumberCards.{Pairs, IsTheNumber, texts_for}
@@ -88,7 +88,7 @@ one_pair view old name columns done s pair t p k = by
     by : IsReading view old name columns (done ++ pair ∷ []) t
     by =
         let a = must_ok (not (is_among p.place s.paired)) code.EntryRepeated _ t p.did in
-        let new : is_among p.place s.paired ≡ false = negated _ a.0 in
+        let new : is_among p.place s.paired ≡ false = not-true _ a.0 in
         let there : StandsFor every_kind view pair.0 p.place = (at, all_count view p.place) in
         let zero : number_at k.column p.place ≡ 0ℚ =
         ap (λ o. open_number o p.place) (sym k.column_is) ∙ subst (λ texts. IsTheNumber texts (open_at s p.place))
@@ -243,7 +243,7 @@ opens : (cards : List Fields) (card : Fields) (s u : State) → Opens s (column_
 opens cards card s u (Same known same) k =
     subst (IsOpened (row_view s) cards card) same (opened_again cards card s s.column refl known k.last k)
 opens cards card s u (New other free few new) k =
-    subst (IsOpened (row_view s) cards card) new (opened_new cards card s (negated _ free) k)
+    subst (IsOpened (row_view s) cards card) new (opened_new cards card s (not-true _ free) k)
 
 -- ---- a card of COLUMNS
 

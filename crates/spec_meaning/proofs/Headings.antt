@@ -2,6 +2,7 @@
 use Rattle.std.proofs.Common.{sym, ◌≡◌, ℕ, Bool, true, false, not, ◌&&◌, ◌||◌, cond, Option, Some}
 use Rattle.std.proofs.Common.{None, option_map, List, [], ◌∷◌, ◌++◌, refl, ap, ◌∙◌, append-nil}
 use Rattle.std.specs.List.{find}
+use Rattle.std.proofs.lemmas.Option.{same_Some}
 use Rattle.spec_text.specs.Words.{same}
 use Rattle.spec_text.proofs.WordLemmas.{same_true}
 use Rattle.spec_text.specs.declared.line.Line.{Line}
@@ -11,7 +12,6 @@ use Rattle.spec_mps.specs.declared.section.Section.TheVariants as section
 use Rattle.spec_mps.specs.Cards.{is_skipped, begins_with_blank}
 use Rattle.spec_mps.specs.Fields.{Fields, word_fields, text_at}
 use Rattle.spec_mps.specs.Shapes.{look_up, section_words, section_of}
-use Rattle.spec_mps.proofs.CheckSteps.{same_some}
 use Rattle.spec_meaning.specs.TextCards.{Lines, bytes_of, section_word, is_heading, begins}
 use Rattle.spec_meaning.proofs.SoFar.{before, behind, is_section, or_else, titled, lines_by}
 use Rattle.spec_meaning.proofs.SoFar.{cards_of, cards_to_come, title_by, title_to_come}
@@ -29,7 +29,7 @@ looked_up word part (x ∷ xs) h a = go (same word x.0) refl (λ k. looked_up wo
   where
     go : (b : Bool) → same word x.0 ≡ b → (look_up word xs ≡ Some part → word ≡ section_word part) →
         cond b (Some x.1) (look_up word xs) ≡ Some part → word ≡ section_word part
-    go true e f k = same_true word x.0 e ∙ a.0 ∙ ap section_word (same_some x.1 part k)
+    go true e f k = same_true word x.0 e ∙ a.0 ∙ ap section_word (same_Some x.1 part k)
     go false e f k = f k
 
 pub word_is : (word : List ℕ) (part : Section) → section_of word ≡ Some part → word ≡ section_word part

@@ -6,6 +6,7 @@ use borrow.Author.Tests.{ltb-true, ltb-false}
 use Rattle.std.specs.List.{AllPairs}
 use Rattle.std.proofs.lemmas.List.{ext_get_or, length-map}
 use Rattle.std.proofs.Math.ListN.{get_or-map}
+use Rattle.std.proofs.lemmas.Option.{same_Some}
 use Rattle.spec_exact.specs.Fraction.{ℚ, 0ℚ, neg_ℚ}
 use Rattle.spec_exact.proofs.Ruleset.{neg-neg}
 use Rattle.spec_model.specs.declared.parts.Kind.{Kind}
@@ -15,7 +16,6 @@ use Rattle.spec_model.specs.declared.parts.Sense.{Sense}
 use Rattle.spec_model.specs.declared.parts.Sense.TheVariants.{Min, Max}
 use Rattle.spec_model.specs.Model.{Model, Name, ExactRow, ExactColumn, no_row}
 use Rattle.spec_model.specs.Model.{no_column, row, column, height, width, entry_of, is_free}
-use Rattle.spec_mps.proofs.CheckSteps.{same_some}
 use Rattle.spec_model.specs.Kept.{AreEntries, IsModel}
 use Rattle.spec_mps.specs.declared.style.Style.{Style}
 use Rattle.spec_mps.specs.NumberText.{Is}
@@ -188,7 +188,7 @@ one_entries n es ds h k same = one_list n 0 es ds (entries_rise n es h) (entries
 
 module _ (style : Style) (lines : Lines) (m o : Model) (h : Means style lines m) (k : Means style lines o) where
   objectives : m.objective ≡ o.objective
-  objectives = same_some m.objective o.objective (sym h.objective ∙ k.objective)
+  objectives = same_Some m.objective o.objective (sym h.objective ∙ k.objective)
 
   labels_same : map (λ (r : ExactRow). (let x : Kind × Name = (r.kind, r.name) in x)) m.rows
       ≡ map (λ (r : ExactRow). (let x : Kind × Name = (r.kind, r.name) in x)) o.rows

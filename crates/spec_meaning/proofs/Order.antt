@@ -1,5 +1,6 @@
 -- The order of sections, and what a line does.
 use Rattle.std.proofs.Common.{◌≡◌, ℕ, Bool, true, false, ◌||◌, cond, Option, Some, None, Ok, List, refl, ◌∙◌, subst}
+use Rattle.std.proofs.lemmas.Bool.{or_left}
 use Rattle.spec_text.specs.declared.line.Line.{Line}
 use Rattle.spec_text.specs.declared.line.Line.TheVariants as line
 use Rattle.spec_mps.specs.declared.card.Card.TheVariants as card
@@ -86,19 +87,15 @@ pub not_both : (b : Bool) {A : Type 0} → b ≡ true → b ≡ false → A
 not_both true h k = absurd (cc)
 not_both false h k = absurd (cc)
 
-told_now : (now seen : Bool) → now ≡ true → (now || seen) ≡ true
-told_now true seen h = refl
-told_now false seen h = absurd (cc)
-
 begun_told : (part : Section) (seen : Seen) → IsTold (Some part) (with_one seen part)
 begun_told part seen =
     record {
-      senses = told_now _ seen.sense;
-      rows = told_now _ seen.rows;
-      columns = told_now _ seen.columns;
-      right_sides = told_now _ seen.right_sides;
-      ranges = told_now _ seen.ranges;
-      bounds = told_now _ seen.bounds;
+      senses = or_left _ seen.sense;
+      rows = or_left _ seen.rows;
+      columns = or_left _ seen.columns;
+      right_sides = or_left _ seen.right_sides;
+      ranges = or_left _ seen.ranges;
+      bounds = or_left _ seen.bounds;
     }
 
 ends_as : (seen later : Seen) → HasNoEnds seen → later.right_sides ≡ seen.right_sides → later.ranges ≡ seen.ranges →

@@ -1,9 +1,10 @@
 -- Numbers that pairs give to rows, one after another.
-use Rattle.std.proofs.Common.{◌≡◌, ℕ, Bool, true, false, ◌||◌, cond, eqb→eq, eq-eqb, Some, Ok, List}
+use Rattle.std.proofs.Common.{◌≡◌, ℕ, Bool, true, false, cond, eqb→eq, eq-eqb, Some, Ok, List}
 use Rattle.std.proofs.Common.{[], ◌∷◌, ◌++◌, map, refl, sym, ap, ◌∙◌, subst, subst₂, append-nil, T}
 use Rattle.std.specs.List.{filter}
 use Rattle.std.proofs.lemmas.List.{map-append}
 use Rattle.std.proofs.lemmas.List.Elements.{filter-append}
+use Rattle.std.proofs.lemmas.Bool.{or_parts}
 use Rattle.spec_text.specs.Words.{same}
 use Rattle.spec_text.proofs.WordLemmas.{same_true, same-refl}
 use Rattle.spec_exact.specs.Fraction.{ℚ}
@@ -97,10 +98,6 @@ pub put_set : (V : Type 0) (value_of : State → Target → V) (counted : Kind �
 put_set V value_of counted u x v w (PutNowhere off same) = ap (λ (x : State). x.set) (sym same)
 put_set V value_of counted u x v w (PutAt new paired set same_view here elsewhere) = set
 
-or_false : (a b : Bool) → (a || b) ≡ false → (a ≡ false) × (b ≡ false)
-or_false true b h = absurd (cc)
-or_false false b h = (refl, h)
-
 module _ {V : Type 0} {value_of : State → Target → V} {IsNumber : List (List ℕ) → V → Type 0} (counted : Kind → Bool)
     (view : RowView) (pairs : Pairs) (u w : State) (pair : List ℕ × List ℕ)
     (x : Target) (v : V) (at : place_in view pair.0 ≡ Some x)
@@ -133,7 +130,7 @@ module _ {V : Type 0} {value_of : State → Target → V} {IsNumber : List (List
         view_is = same_view ∙ k.view_is;
         numbers = λ name t h. by name t h (same_target t x) refl;
         unpaired = λ name t h free.
-            let f = or_false (same_target t x) (is_among t u.paired) (ap (is_among t) (sym paired) ∙ free) in
+            let f = or_parts (same_target t x) (is_among t u.paired) (ap (is_among t) (sym paired) ∙ free) in
             texts_same name pairs pair (other_name name t h.0 f.0) ∙ k.unpaired name t h f.1;
       }
     where

@@ -1,5 +1,6 @@
 -- The ranges of rows are what RANGES says.
 use Rattle.std.proofs.Common.{◌≡◌, ℕ, ◌<◌, Bool, true, false, not, Option, Some, None, Ok, List, [], ◌∷◌, refl, ap, ◌∙◌, subst}
+use Rattle.std.proofs.lemmas.Bool.{not-true}
 use Rattle.spec_exact.specs.Fraction.{ℚ}
 use Rattle.spec_model.specs.declared.parts.Kind.{Kind}
 use Rattle.spec_model.specs.Model.{Model, Name, ExactRow, no_row, row, height, is_free}
@@ -13,7 +14,6 @@ use Rattle.spec_mps.specs.declared.target.Target.TheVariants.{Objective, Row}
 use Rattle.spec_mps.specs.Reader.{State, is_among, place_of}
 use Rattle.spec_mps.specs.Sides.{new_range}
 use Rattle.spec_mps.specs.Steps.{Spells}
-use Rattle.spec_mps.proofs.Steps.{negated}
 use Rattle.spec_mps.proofs.CheckSteps.{must_ok, same_ok}
 use Rattle.spec_mps.proofs.Sets.{Ranges}
 use Rattle.spec_mps.proofs.CardsDid.{put_ranged, RangeDid, Forgotten, Kept, put_range_did}
@@ -44,7 +44,7 @@ new_put s name i v t at (Kept limited did) =
     let a = must_ok (not (is_among (Row i) s.paired)) code.EntryRepeated _ t did in
     subst (Put (Option ℚ) range_at is_ranged s (Row i) (Some v)) (same_ok _ t a.1)
     (row_put (λ q. None) (λ r. r.range) is_ranged (λ r. record r { range = Some v }) (Some v)
-    (λ r. refl) (λ r. refl) s name i at (negated _ a.0))
+    (λ r. refl) (λ r. refl) s name i at (not-true _ a.0))
 
 range_put : (s : State) (name : Name) (place : Target) (v : ℚ) (t : State) → place_of s name ≡ Some place →
     put_ranged s place v ≡ Ok t → Put (Option ℚ) range_at is_ranged s place (Some v) t

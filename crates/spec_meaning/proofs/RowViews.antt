@@ -5,6 +5,7 @@ use Rattle.std.proofs.Common.{map, refl, sym, ap, ◌∙◌, subst, get_or, arit
 use borrow.Author.Tests.{ltb-true, ltb-false, lt-ltb}
 use Rattle.std.specs.List.{position, position_or_len}
 use Rattle.std.proofs.lemmas.List.Quantifiers.{position-Some}
+use Rattle.std.proofs.lemmas.Option.{same_Some}
 use Rattle.spec_text.specs.Words.{same}
 use Rattle.spec_text.proofs.WordLemmas.{same_true, same-refl}
 use Rattle.spec_model.specs.declared.parts.Kind.{Kind}
@@ -16,7 +17,6 @@ use Rattle.spec_mps.specs.declared.target.Target.{Target}
 use Rattle.spec_mps.specs.declared.target.Target.TheVariants.{Objective, Row}
 use Rattle.spec_mps.specs.Reader.{State, is_objective, row_at, place_of}
 use Rattle.spec_mps.specs.Steps.{begun, headed}
-use Rattle.spec_mps.proofs.CheckSteps.{same_some}
 use Rattle.spec_meaning.proofs.Frames.{without_side, without_range, Leads}
 use Rattle.spec_meaning.proofs.SoFar.{is_section}
 use Rattle.spec_meaning.proofs.Runs.{headed_leads}
@@ -111,21 +111,21 @@ place_name v name t h =
 
     go : (a : Bool) (o : Option ℕ) → is_objective v.objective name ≡ a → position (λ r. same r.1 name) v.rows ≡ o →
         cond a (Some Objective) (row_at o) ≡ Some t → (name_in v t ≡ Some name) × IsIn v t
-    go true o e f k = by_target Objective (same_some _ _ k) (objective_name v.objective name e, tt)
+    go true o e f k = by_target Objective (same_Some _ _ k) (objective_name v.objective name e, tt)
     go false None e f k = absurd (cc)
     go false (Some i) e f k =
         let p = position-Some (λ (r : Kind × Name). same r.1 name) v.rows i no_label f in
-        by_target (Row i) (same_some _ _ k) (ap (λ n. Some n) (same_true (get_or v.rows i no_label).1 name p.1), p.0)
+        by_target (Row i) (same_Some _ _ k) (ap (λ n. Some n) (same_true (get_or v.rows i no_label).1 name p.1), p.0)
 
 -- a target has one name
 pub one_name : (v : RowView) (a b : Name) (t : Target) → place_in v a ≡ Some t → place_in v b ≡ Some t →
     a ≡ b
-one_name v a b t h k = same_some a b (sym (place_name v a t h).0 ∙ (place_name v b t k).0)
+one_name v a b t h k = same_Some a b (sym (place_name v a t h).0 ∙ (place_name v b t k).0)
 
 -- and a name has one target
 pub one_target : (v : RowView) (a : Name) (t u : Target) → place_in v a ≡ Some t → place_in v a ≡ Some u →
     t ≡ u
-one_target v a t u h k = same_some t u (sym h ∙ k)
+one_target v a t u h k = same_Some t u (sym h ∙ k)
 
 pub objective_place : (v : RowView) (name : Name) → v.objective ≡ Some name → place_in v name ≡ Some Objective
 objective_place v name h =

@@ -1,6 +1,7 @@
 -- What holds of each state and the cards so far, holds of the last one and all cards of the text.
 use Rattle.std.proofs.Common.{◌≡◌, ℕ, ◌+◌, true, false, not, ◌&&◌, Some, None, Ok, Err, List}
 use Rattle.std.proofs.Common.{[], ◌∷◌, refl, sym, ap, ◌∙◌, subst, subst₂, is_some}
+use Rattle.std.proofs.lemmas.Bool.{and_parts, not-true}
 use Rattle.spec_text.specs.declared.line.Line.{Line}
 use Rattle.spec_model.specs.Model.{Model, Name}
 use Rattle.spec_model.specs.Kept.{is_model_name}
@@ -14,7 +15,6 @@ use Rattle.spec_mps.specs.Reader.{State, start}
 use Rattle.spec_mps.specs.Steps.{take_sense, has_begun, with_section, may_follow, begun, sense_beside}
 use Rattle.spec_mps.specs.Steps.{headed, Progress, More, Done, Outcome, more, model_by, finished}
 use Rattle.spec_mps.specs.Steps.{begin, section_card, data_card, step, Spelled, settled, judge, Spells}
-use Rattle.spec_mps.proofs.Steps.{both, negated}
 use Rattle.spec_mps.proofs.CheckSteps.{step_ok, must_ok, need_ok, same_ok}
 use Rattle.spec_mps.proofs.CardsDid.{sense_did}
 use Rattle.spec_meaning.specs.TextCards.{Lines, bytes_of}
@@ -110,8 +110,8 @@ unfolding section_card
 heading_did s words p h =
     let a = need_ok (section_of (text_at 1 words)) code.UnknownSection _ p h in
     let b = must_ok (may_follow s.seen a.0 && not (has_begun s.seen a.0)) code.SectionOrder _ p a.2 in
-    let c = both (may_follow s.seen a.0) (not (has_begun s.seen a.0)) b.0 in
-    (a.0, record { part_is = a.1; may = c.0; new = negated _ c.1; did = b.1 })
+    let c = and_parts (may_follow s.seen a.0) (not (has_begun s.seen a.0)) b.0 in
+    (a.0, record { part_is = a.1; may = c.0; new = not-true _ c.1; did = b.1 })
 
 -- it is ENDATA, or another section
 data Begun (s : State) (part : Section) (word : List ℕ) (p : Progress) : Type 0 where

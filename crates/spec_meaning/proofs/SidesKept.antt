@@ -1,5 +1,6 @@
 -- The right sides of rows, and the offset, are what RHS says.
 use Rattle.std.proofs.Common.{◌≡◌, ℕ, ◌<◌, false, not, Some, Ok, ◌∷◌, refl, ap, subst}
+use Rattle.std.proofs.lemmas.Bool.{not-true}
 use Rattle.spec_exact.specs.Fraction.{ℚ, neg_ℚ}
 use Rattle.spec_exact.proofs.Ruleset.{neg-neg, neg-zero}
 use Rattle.spec_model.specs.Model.{Model, Name, ExactRow, row, height}
@@ -12,7 +13,6 @@ use Rattle.spec_mps.specs.declared.target.Target.TheVariants.{Objective, Row}
 use Rattle.spec_mps.specs.Reader.{State, is_among, same_target, place_of}
 use Rattle.spec_mps.specs.Sides.{put_side}
 use Rattle.spec_mps.specs.Steps.{Spells}
-use Rattle.spec_mps.proofs.Steps.{negated}
 use Rattle.spec_mps.proofs.CheckSteps.{must_ok, same_ok}
 use Rattle.spec_mps.proofs.Sets.{Sides}
 use Rattle.spec_meaning.specs.NumberCards.{IsTheNumber, texts_for, used_pairs}
@@ -35,7 +35,7 @@ unfolding put_side
 side_put s name Objective v t at h =
     let a = must_ok (not (is_among Objective s.paired)) code.EntryRepeated _ t h in
     subst (Put ℚ side_at every_kind s Objective v) (same_ok _ t a.1)
-    (PutAt (negated _ a.0) refl refl refl (neg-neg v) (λ x ne. elsewhere x ne))
+    (PutAt (not-true _ a.0) refl refl refl (neg-neg v) (λ x ne. elsewhere x ne))
   where
     elsewhere : (x : Target) → same_target x Objective ≡ false →
         side_at (record s { offset = neg_ℚ v; paired = Objective ∷ s.paired }) x ≡ side_at s x
@@ -44,7 +44,7 @@ side_put s name Objective v t at h =
 side_put s name (Row i) v t at h =
     let a = must_ok (not (is_among (Row i) s.paired)) code.EntryRepeated _ t h in
     subst (Put ℚ side_at every_kind s (Row i) v) (same_ok _ t a.1)
-    (row_put neg_ℚ (λ r. r.rhs) every_kind (λ r. record r { rhs = v }) v (λ r. refl) (λ r. refl) s name i at (negated _ a.0))
+    (row_put neg_ℚ (λ r. r.rhs) every_kind (λ r. record r { rhs = v }) v (λ r. refl) (λ r. refl) s name i at (not-true _ a.0))
 
 -- ---- other cards
 

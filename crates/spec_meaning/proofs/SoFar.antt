@@ -3,6 +3,7 @@ use Rattle.std.proofs.Common.{◌≡◌, ℕ, ◌+◌, Bool, true, false, not, �
 use Rattle.std.proofs.Common.{Option, Some, None, option_map, List, [], ◌∷◌, ◌++◌, map, take, drop}
 use Rattle.std.proofs.Common.{refl, sym, ap, ◌∙◌, append_assoc, add-one, add_comm}
 use Rattle.std.specs.List.{filter, find, before_first, after_first, position_or_len}
+use Rattle.std.proofs.lemmas.Option.{same_Some}
 use Rattle.spec_text.specs.Words.{same}
 use Rattle.spec_text.proofs.WordLemmas.{same_true}
 use Rattle.spec_text.specs.declared.line.Line.{Line}
@@ -14,7 +15,6 @@ use Rattle.spec_mps.specs.Cards.{is_skipped, begins_with_blank}
 use Rattle.spec_mps.specs.Fields.{Fields, word_fields, text_at}
 use Rattle.spec_mps.specs.Shapes.{section_of}
 use Rattle.spec_mps.specs.Steps.{has_begun, with_section}
-use Rattle.spec_mps.proofs.CheckSteps.{same_some}
 use Rattle.spec_meaning.specs.TextCards.{Lines, bytes_of, section_word, is_heading, begins, fields_in}
 
 -- ---- the elements before and after the first that passes a test
@@ -58,7 +58,7 @@ section_back part = refl
 
 pub same_section : (p q : Section) → is_section (Some p) q ≡ true → p ≡ q
 same_section p q h =
-    same_some p q
+    same_Some p q
     (sym (section_back p) ∙ ap section_of (same_true (section_word p) (section_word q) h) ∙ section_back q)
 
 -- a section that begins is no other

@@ -3,6 +3,7 @@ use Rattle.std.proofs.Common.{cond, ◌≡◌, ℕ, Bool, true, false, Option, S
 use Rattle.std.proofs.Common.{◌∷◌, ◌++◌, map, refl, sym, ap, ◌∙◌, subst, subst₂, append_assoc, codes, inl, inr}
 use Rattle.std.specs.List.{filter}
 use Rattle.std.proofs.lemmas.List.{map-append}
+use Rattle.std.proofs.lemmas.Option.{same_Some}
 use Rattle.spec_text.specs.Words.{same, has_bytes}
 use Rattle.spec_text.proofs.WordLemmas.{same_true}
 use Rattle.spec_model.specs.declared.parts.Sense.{Sense}
@@ -21,7 +22,7 @@ use Rattle.spec_mps.specs.Steps.{take_sense, sense_card, has_begun, with_section
 use Rattle.spec_mps.specs.Steps.{sense_beside, headed, data_card, sense_or_min, model_by, Spells}
 use Rattle.spec_mps.proofs.Steps.{none_if}
 use Rattle.spec_mps.proofs.CardsDid.{sense_did}
-use Rattle.spec_mps.proofs.CheckSteps.{step_ok, must_ok, same_ok, same_some}
+use Rattle.spec_mps.proofs.CheckSteps.{step_ok, must_ok, same_ok}
 use Rattle.spec_meaning.specs.RowCards.{second_word, sense_words, IsSenseWord, IsSenseOf}
 use Rattle.spec_meaning.specs.TextCards.{Lines, cards_in, title_of}
 use Rattle.spec_meaning.proofs.Frames.{Leads, card_leads}
@@ -229,7 +230,7 @@ looked_up word sense (x ∷ xs) a h = go (same word x.0) refl (looked_up word se
   where
     go : (b : Bool) → same word x.0 ≡ b → (look_up word xs ≡ Some sense → IsSenseWord sense word) →
         cond b (Some x.1) (look_up word xs) ≡ Some sense → IsSenseWord sense word
-    go true e f k = subst₂ IsSenseWord (same_some x.1 sense k) (sym (same_true word x.0 e)) a.0
+    go true e f k = subst₂ IsSenseWord (same_Some x.1 sense k) (sym (same_true word x.0 e)) a.0
     go false e f k = f k
 
 abbrev senses : List (List ℕ × Sense)
