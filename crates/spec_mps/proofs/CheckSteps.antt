@@ -24,6 +24,3 @@ need_ok None code f b h = cc
 
 pub same_ok : {A : Type 0} (a b : A) → (let r : Check A = Ok a in r) ≡ Ok b → a ≡ b
 same_ok a b h = cc
-
-pub same_some : {A : Type 0} (a b : A) → Some a ≡ Some b → a ≡ b
-same_some a b h = cc

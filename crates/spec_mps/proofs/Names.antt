@@ -1,21 +1,18 @@
 -- Names that are distinct.
-use Rattle.std.proofs.Common.{◌≡◌, ◌≢◌, ℕ, suc, ◌+◌, Bool, true, false, ◌||◌, not, cond}
-use Rattle.std.proofs.Common.{ltb, Some, None, List, [], ◌∷◌, length, map, All, refl, arith}
+use Rattle.std.proofs.Common.{◌≡◌, ◌≢◌, ℕ, suc, ◌+◌, Bool, true, false, not, cond}
+use Rattle.std.proofs.Common.{ltb, Some, None, List, [], ◌∷◌, length, map, All, arith}
 use Rattle.std.specs.List.{list_any, position, prefix_len}
 use Rattle.std.proofs.lemmas.List.Elements.{All-nil, All-cons, All-map, All-weaker}
 use Rattle.std.proofs.lemmas.Bool.Decides.{nat_tests}
+use Rattle.std.proofs.lemmas.Bool.{or_parts}
 use Rattle.spec_text.specs.Words.{same}
-use Rattle.spec_text.proofs.WordLemmas.{same_is_equal}
-
-neither : (s t : Bool) → (s || t) ≡ false → (s ≡ false) × (t ≡ false)
-neither true t e = cc
-neither false t e = (refl, e)
+use Rattle.spec_text.proofs.WordLemmas.{same_false}
 
 -- where none passes, each fails
 pub none_pass : {X : Type 0} (p : X → Bool) (xs : List X) → list_any p xs ≡ false → All (λ x. p x ≡ false) xs
 none_pass p [] h = All-nil (λ x. p x ≡ false)
 none_pass p (x ∷ xs) h =
-    let n = neither (p x) (list_any p xs) h in
+    let n = or_parts (p x) (list_any p xs) h in
     All-cons (λ x. p x ≡ false) x xs n.0 (none_pass p xs n.1)
 
 no_place : (n l : ℕ) (t : Bool) →
@@ -30,10 +27,6 @@ nowhere p [] h = All-nil (λ x. p x ≡ false)
 nowhere p (x ∷ xs) h =
     let n = no_place (prefix_len (λ x. not (p x)) xs) (length xs) (p x) h in
     All-cons (λ x. p x ≡ false) x xs n.0 (nowhere p xs n.1)
-
--- texts that are not the same are not equal
-pub same_false : (xs ys : List ℕ) → same xs ys ≡ false → xs ≢ ys
-same_false xs ys h e = let t : same xs ys ≡ true = (same_is_equal xs ys).1 e in cc
 
 -- none of the names is this one
 pub others : {X : Type 0} (f : X → List ℕ) (name : List ℕ) (xs : List X) → All (λ x. same (f x) name ≡ false) xs →

@@ -3,6 +3,7 @@ use Rattle.std.proofs.Common.{◌≡◌, ℕ, zero, suc, ◌*◌, ◌/◌, ◌^�
 use Rattle.std.proofs.Common.{None, List, ℤ, pos, negsuc, int_div, unsigned_abs, refl, sym, ap, subst, arith}
 use Rattle.std.specs.Prelude.{nat_le}
 use Rattle.std.proofs.Math.Nat.{div-le_self}
+use Rattle.std.proofs.lemmas.Bool.{and_parts}
 use borrow.Author.Tests.{leb-true}
 use Rattle.spec_exact.specs.Fraction.{ℚ, 0ℚ, whole, over, neg_ℚ, lt_ℚ}
 use Rattle.spec_exact.specs.Gcd.{gcd}
@@ -13,7 +14,6 @@ use Rattle.spec_mps.specs.NumberText.{value_of, is_narrow, number_by, number_of,
 use Rattle.spec_mps.specs.NumberText as number
 use Rattle.spec_mps.specs.BoundText.{BoundReading, Finite, PlusInf, MinusInf, Shape, infinite}
 use Rattle.spec_mps.specs.BoundText.{is_infinity, infinity, as_bound, bound_by_value, bound_by, bound_of}
-use Rattle.spec_mps.proofs.Steps.{both}
 use Rattle.spec_mps.proofs.RoundTrip.{zero_value}
 
 -- ---- fractions
@@ -53,11 +53,11 @@ value_narrow (Decimal negative zero (negsuc e)) h = subst IsNarrow (sym (zero_va
 value_narrow (Decimal negative (suc s) (pos e)) h =
     whole_narrow (signed negative (suc s * 10 ^ e)) (signed_narrow negative (suc s * 10 ^ e) h)
 value_narrow (Decimal negative (suc s) (negsuc e)) h =
-    let p = both (nat_le (suc s) widest) (nat_le (10 ^ suc e) widest) h in
+    let p = and_parts (nat_le (suc s) widest) (nat_le (10 ^ suc e) widest) h in
     over_narrow (signed negative (suc s)) (10 ^ suc e)
     (signed_narrow negative (suc s) p.0) (leb-true (10 ^ suc e) widest p.1)
 value_narrow (Quotient negative top bottom) h =
-    let p = both (nat_le top widest) (nat_le bottom widest) h in
+    let p = and_parts (nat_le top widest) (nat_le bottom widest) h in
     over_narrow (signed negative top) bottom (signed_narrow negative top p.0) (leb-true bottom widest p.1)
 
 same_number : (p q : ℚ) → Is p ≡ Is q → p ≡ q

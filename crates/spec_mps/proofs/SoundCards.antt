@@ -6,10 +6,12 @@ use borrow.Author.Tests.{ltb-true}
 use Rattle.std.specs.List.{position}
 use Rattle.std.specs.Option.{option_to_list}
 use Rattle.std.proofs.lemmas.List.{map-append, length-map}
-use Rattle.std.proofs.lemmas.Bool.{and_parts}
+use Rattle.std.proofs.lemmas.Bool.{and_parts, not-true}
 use Rattle.std.proofs.lemmas.List.Elements.{All-cons, All-head, All-tail, All-push}
 use Rattle.std.proofs.lemmas.List.Quantifiers.{position-Some}
+use Rattle.std.proofs.lemmas.Option.{same_Some}
 use Rattle.spec_text.specs.Words.{same}
+use Rattle.spec_text.proofs.WordLemmas.{same_false}
 use Rattle.spec_exact.specs.Fraction.{ℚ, abs_ℚ, ◌<ℚ◌}
 use Rattle.spec_exact.specs.Narrow.{IsNarrow}
 use Rattle.spec_exact.proofs.Narrow.{neg_narrow}
@@ -29,9 +31,9 @@ use Rattle.spec_mps.specs.Reader.{rows_card, whole_columns, enter, columns_card,
 use Rattle.spec_mps.specs.Sides.{changed_at, put_side, rhs_card, new_range, ranges_card}
 use Rattle.spec_mps.specs.Bounds.{BoundCard, BoundTexts, with_bound, bounds_card}
 use Rattle.spec_mps.proofs.BoundLemmas.{bound_is_within, abs_from_within}
-use Rattle.spec_mps.proofs.Steps.{negated, none_if}
-use Rattle.spec_mps.proofs.Names.{same_false, none_pass, nowhere, others}
-use Rattle.spec_mps.proofs.CheckSteps.{must_ok, same_ok, same_some}
+use Rattle.spec_mps.proofs.Steps.{none_if}
+use Rattle.spec_mps.proofs.Names.{none_pass, nowhere, others}
+use Rattle.spec_mps.proofs.CheckSteps.{must_ok, same_ok}
 use Rattle.spec_mps.proofs.CardsDid.{rows_did, PairDid, pairs_keep, column_puts, side_puts, put_ranged, range_puts}
 use Rattle.spec_mps.proofs.CardsDid.{RangeDid, Forgotten, Kept, put_range_did}
 use Rattle.spec_mps.proofs.CardsDid.{Opens, Same, New, columns_did, rhs_did, ranges_did, set_keeps}
@@ -92,9 +94,9 @@ place_inside s name place h =
   where
     go : (t : Bool) (o : Option ℕ) → ((i : ℕ) → o ≡ Some i → i < length (row_names s.rows)) →
         cond t (Some Objective) (row_at o) ≡ Some place → IsInside (length (row_names s.rows)) place
-    go true o f k = subst (IsInside (length (row_names s.rows))) (same_some Objective place k) tt
+    go true o f k = subst (IsInside (length (row_names s.rows))) (same_Some Objective place k) tt
     go false None f k = absurd (cc)
-    go false (Some i) f k = subst (IsInside (length (row_names s.rows))) (same_some (Row i) place k) (f i refl)
+    go false (Some i) f k = subst (IsInside (length (row_names s.rows))) (same_Some (Row i) place k) (f i refl)
 
 -- ---- ROWS
 
@@ -145,7 +147,7 @@ opens_sound s name t named (Same known same) sound = subst IsSound same sound
 opens_sound s name t named (New other free few new) sound =
     let f =
     others (λ (c : ExactColumn). c.name) name (whole_columns s)
-    (none_pass (λ (c : ExactColumn). same c.name name) (whole_columns s) (negated _ free)) in
+    (none_pass (λ (c : ExactColumn). same c.name name) (whole_columns s) (not-true _ free)) in
     subst IsSound new
     (record {
       rows = sound.rows;
@@ -170,7 +172,7 @@ entered_sound s pair t p sound =
       fit = sound.fit;
       columns =
           with_pair (length (row_names s.rows)) s.columns s.column s.paired p.place p.value
-          (place_inside s pair.0 p.place p.place_is) (negated _ a.0) sound.columns;
+          (place_inside s pair.0 p.place p.place_is) (not-true _ a.0) sound.columns;
       narrow = entered_narrow s.offset s.rows s.columns s.column sound.narrow p.place p.value (pair_narrow p);
     })
 

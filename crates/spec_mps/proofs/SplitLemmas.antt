@@ -1,10 +1,11 @@
 -- A text in two at the first byte that passes a test.
-use Rattle.std.proofs.Common.{◌≡◌, ℕ, ◌+◌, Bool, true, false, ◌||◌, Some, None, List}
+use Rattle.std.proofs.Common.{◌≡◌, ℕ, ◌+◌, Bool, true, false, Some, None, List}
 use Rattle.std.proofs.Common.{[], ◌∷◌, ◌++◌, length, take, drop, refl, ap, ◌∙◌, arith}
 use Rattle.std.specs.List.{list_any, position_or_len, before_first, after_first}
 use Rattle.std.proofs.lemmas.List.{take_all, drop_all}
 use Rattle.std.proofs.lemmas.List.Folds.{list_any-append}
 use Rattle.std.proofs.Math.Seq.{take-append_seam, drop-append-add}
+use Rattle.std.proofs.lemmas.Bool.{or_parts}
 use Rattle.spec_mps.specs.NumberText.{behind}
 
 -- a text of which no byte passes
@@ -18,10 +19,6 @@ pub record IsSplit (test : ℕ → Bool) (text front back : List ℕ) : Type 0 w
   pub before : before_first test text ≡ front
   pub after : after_first test text ≡ back
   pub behind : behind test text ≡ Some back
-
-or_parts : (s t : Bool) → s || t ≡ false → (s ≡ false) × (t ≡ false)
-or_parts true t e = cc
-or_parts false t e = (refl, e)
 
 -- the place of the first that passes is after all that do not
 pub position_past : (test : ℕ → Bool) (front rest : List ℕ) → list_any test front ≡ false →

@@ -1,11 +1,12 @@
 -- What follows others in a list: its place, what is there, and a change there.
 use Rattle.std.proofs.Common.{◌≡◌, Some, List, [], ◌∷◌, ◌++◌, length, map, get_or, refl, ap, length-append, arith}
 use Rattle.std.specs.List.{list_any, position, position_or_len}
+use Rattle.std.proofs.lemmas.Bool.{or_parts}
 use borrow.Author.Tests.{lt-ltb}
 use Rattle.spec_text.specs.Words.{same}
 use Rattle.spec_model.specs.Model.{Name}
 use Rattle.spec_mps.specs.Sides.{changed_at}
-use Rattle.spec_mps.proofs.WrittenRows.{IsAbsent, or_parts}
+use Rattle.spec_mps.proofs.WrittenRows.{IsAbsent}
 use Rattle.spec_mps.proofs.WrittenPlaces.{same_itself}
 
 len_behind : {X : Type 0} (f : X → Name) (name : Name) (done : List X) (x : X) (more : List X) →

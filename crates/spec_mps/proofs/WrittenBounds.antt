@@ -3,6 +3,7 @@ use Rattle.std.proofs.Common.{◌≡◌, ℕ, ◌||◌, ◌&&◌, Bool, true, fa
 use Rattle.std.proofs.Common.{◌∷◌, ◌++◌, length, map, get_or, refl, sym, ap, ◌∙◌, subst, inl, inr, ◌⊎◌}
 use Rattle.std.specs.Prelude.{codes, IfSome}
 use Rattle.std.specs.List.{position}
+use Rattle.std.proofs.lemmas.Bool.{and_parts, and_right}
 use borrow.Author.Tests.{ltb-false}
 use Rattle.spec_text.specs.Words.{same}
 use Rattle.spec_exact.specs.Fraction.{ℚ, 0ℚ, eq_ℚ, lt_ℚ, ◌≤ℚ◌}
@@ -27,7 +28,6 @@ use Rattle.spec_mps.specs.Steps.{more}
 use Rattle.spec_mps.specs.Written.{WrittenCards, Data, field_at, bound_card, unbound_card, bound_cards, line_text}
 use Rattle.spec_mps.proofs.WrittenCards.{HasRoom, IsItem, IsReadBack, read_as}
 use Rattle.spec_mps.proofs.WrittenSteps.{Goes, bare_column}
-use Rattle.spec_mps.proofs.Steps.{both}
 use Rattle.spec_mps.proofs.WrittenBack.{cards_are_read_back}
 use Rattle.spec_mps.proofs.WrittenNames.{field_narrow}
 use Rattle.spec_mps.proofs.WrittenRows.{IsAbsent, goes_one, goes_none, goes_then}
@@ -173,13 +173,9 @@ IsBounded style s done c more before after set cards =
     × Goes style (spot s done (bare_column c) more before false after set) cards (spot s done c more before b after q)
     × (is_used q (Some (codes "BND")) ≡ true)
 
-never : (t : Bool) → t && false ≡ false
-never true = refl
-never false = refl
-
 -- an upper bound where the lower one is set, or where it is not negative
 upper_lowered : (c : ExactColumn) (u : ℚ) → bounded true (SetsUpper (Some u)) c ≡ record c { upper = Some u }
-upper_lowered c u = rw (never (lt_ℚ u 0ℚ)) refl
+upper_lowered c u = rw (and_right (lt_ℚ u 0ℚ) false refl) refl
 
 not_below : (u : ℚ) → lt_ℚ 0ℚ u ≡ true → lt_ℚ u 0ℚ ≡ false
 not_below u h = not_lt_test u 0ℚ (by (≤ℚ_total 0ℚ u))
@@ -267,7 +263,7 @@ column_bounded style s done c more before after set e place used word (Some l) (
         RoomFor style (cond t (bound_card (codes "UP") c.name u ∷ []) lows) →
         IsBounded style s done whole more before after set (cond t (bound_card (codes "UP") c.name u ∷ []) lows)
     two true z room =
-        let p = both (eq_ℚ l 0ℚ) (lt_ℚ 0ℚ u) z in
+        let p = and_parts (eq_ℚ l 0ℚ) (lt_ℚ 0ℚ u) z in
         let r = value_room style (codes "UP") c.name u room in
         let same : record c { lower = Some 0ℚ; upper = Some u } ≡ whole =
         ap (λ x. record c { lower = Some x; upper = Some u }) (sym (eq_if l 0ℚ p.0)) in (

@@ -1,9 +1,10 @@
 -- The whole section BOUNDS of a written text, and the end.
-use Rattle.std.proofs.Common.{◌≡◌, ℕ, suc, not, Bool, true, false, Option, Some, None, Ok, List, [], ◌∷◌}
+use Rattle.std.proofs.Common.{◌≡◌, ℕ, suc, Bool, true, false, Option, Some, None, Ok, List, [], ◌∷◌}
 use Rattle.std.proofs.Common.{◌++◌, length, map, refl, sym, ap, ◌∙◌, subst, append_assoc, length-append, arith}
 use Rattle.std.specs.Prelude.{codes, IfSome}
 use Rattle.std.specs.List.{All, flat_map, list_any}
 use Rattle.std.proofs.lemmas.List.{map-append}
+use Rattle.std.proofs.lemmas.Bool.{not-false, or_parts}
 use Rattle.spec_text.specs.declared.line.Line.TheVariants.{Text}
 use Rattle.spec_text.specs.Words.{words_of}
 use Rattle.spec_exact.specs.Fraction.{ℚ, 0ℚ}
@@ -22,7 +23,7 @@ use Rattle.spec_mps.specs.Steps.{Done, begun, finished, model_by, step}
 use Rattle.spec_mps.specs.Steps.{section_card as on_section}
 use Rattle.spec_mps.specs.Written.{WrittenCards, bound_cards, bounds_cards, has_bounds, is_usual, section_card}
 use Rattle.spec_mps.proofs.WrittenSteps.{Goes, bare_column}
-use Rattle.spec_mps.proofs.WrittenRows.{or_parts, AreFresh, goes_one, goes_none}
+use Rattle.spec_mps.proofs.WrittenRows.{AreFresh, goes_one, goes_none}
 use Rattle.spec_mps.proofs.WrittenNames.{name_word, fresh}
 use Rattle.spec_mps.proofs.WrittenGoes.{goes_append}
 use Rattle.spec_mps.proofs.WrittenHeadings.{bounds_step, heading_step}
@@ -103,15 +104,11 @@ usual_is c None upper h = cc
 usual_is c (Some l) None h = ap (λ x. record c { lower = Some x; upper = None }) (sym (eq_if l 0ℚ h))
 usual_is c (Some l) (Some u) h = cc
 
-not_false : (t : Bool) → not t ≡ false → t ≡ true
-not_false true h = refl
-not_false false h = cc
-
 none_bounded : (columns : List ExactColumn) → list_any has_bounds columns ≡ false → map bare_column columns ≡ columns
 none_bounded [] h = refl
 none_bounded (c ∷ columns) h =
     let p = or_parts (has_bounds c) (list_any has_bounds columns) h in
-    ap (λ x. x ∷ map bare_column columns) (usual_is c c.lower c.upper (not_false (is_usual c.lower c.upper) p.0))
+    ap (λ x. x ∷ map bare_column columns) (usual_is c c.lower c.upper (not-false (is_usual c.lower c.upper) p.0))
     ∙ ap (λ l. c ∷ l) (none_bounded columns p.1)
 
 pub bounds_are_read : (style : Style) (m : Model) → IsModel m → RoomFor style (bounds_cards m) → (s : State) →

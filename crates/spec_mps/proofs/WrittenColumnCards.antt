@@ -3,6 +3,7 @@ use Rattle.std.proofs.Common.{◌≡◌, ℕ, ◌<◌, true, false, not, Option,
 use Rattle.std.proofs.Common.{Ok, List, [], ◌∷◌, ◌++◌, length, refl, ap, ◌∙◌}
 use Rattle.std.specs.Prelude.{codes}
 use Rattle.std.specs.List.{list_any}
+use Rattle.std.proofs.lemmas.Bool.{and_parts, not-true}
 use borrow.Author.Tests.{lt-ltb}
 use Rattle.spec_text.specs.Words.{same}
 use Rattle.spec_exact.specs.Fraction.{ℚ}
@@ -24,7 +25,6 @@ use Rattle.spec_mps.specs.Steps.{more, data_card, step, on_reading, reading_of}
 use Rattle.spec_mps.specs.Written.{line_text, number_card}
 use Rattle.spec_mps.proofs.WrittenCards.{IsItem, read_as}
 use Rattle.spec_mps.proofs.WrittenSteps.{Goes}
-use Rattle.spec_mps.proofs.Steps.{both, negated}
 use Rattle.spec_mps.proofs.WrittenBack.{cards_are_read_back}
 use Rattle.spec_mps.proofs.WrittenRows.{goes_one}
 use Rattle.spec_mps.proofs.WrittenParts.{number_fields}
@@ -49,7 +49,7 @@ has_number_shape Fixed group name text = refl
 -- a row's name marks no columns
 no_marker : (name : Name) → is_row_name name ≡ true → same name (codes "'MARKER'") ≡ false
 unfolding is_row_name
-no_marker name h = negated (same name (codes "'MARKER'")) (both (is_name name) (not (same name (codes "'MARKER'"))) h).1
+no_marker name h = not-true (same name (codes "'MARKER'")) (and_parts (is_name name) (not (same name (codes "'MARKER'"))) h).1
 
 columns_read : (style : Style) (s t u : State) (group name text : List ℕ) → is_name group ≡ true →
     is_row_name name ≡ true → opened s group ≡ Ok t → column_pair t name text ≡ Ok u

@@ -4,11 +4,11 @@ use Rattle.std.proofs.Common.{List, [], ◌∷◌, ◌++◌, length, take, drop,
 use Rattle.std.specs.Prelude.{nat_le}
 use Rattle.std.specs.List.{list_all}
 use Rattle.std.proofs.lemmas.List.{append-nil, take_all, drop_all}
+use Rattle.std.proofs.lemmas.Bool.{and_parts, and_right}
 use borrow.Author.Tests.{leb-true, ne_eqb}
 use Rattle.spec_model.specs.Kept.{is_printable}
 use Rattle.spec_mps.specs.Fields.{is_space, without_front, without_end, in_columns}
 use Rattle.spec_mps.specs.Fields.{is_beside, is_misplaced, misplaced_from}
-use Rattle.spec_mps.proofs.Steps.{both}
 
 abbrev pub IsPrinted : List ℕ → Type 0
 IsPrinted w = list_all is_printable w ≡ true
@@ -18,7 +18,7 @@ blanks n = replicate n 32
 
 no_space : (b : ℕ) → is_printable b ≡ true → is_space b ≡ false
 no_space b h =
-    let p = both (nat_le 33 b) (nat_le b 126) h in
+    let p = and_parts (nat_le 33 b) (nat_le b 126) h in
     let low : 33 ≤ b = leb-true 33 b p.0 in
     ne_eqb b 32 (λ e. omega arith)
 
@@ -39,7 +39,7 @@ end_blank (suc n) = rw (all_blank n) refl
 end_printed : (w : List ℕ) (n : ℕ) → IsPrinted w → without_end (w ++ blanks n) ≡ w
 end_printed [] n h = end_blank n
 end_printed (b ∷ w) n h =
-    let p = both (is_printable b) (list_all is_printable w) h in
+    let p = and_parts (is_printable b) (list_all is_printable w) h in
     rw (no_space b p.0) (ap (λ v. b ∷ v) (end_printed w n p.1))
 
 front_kept : (b : ℕ) (bs : List ℕ) → is_space b ≡ false → without_front (b ∷ bs) ≡ b ∷ bs
@@ -48,7 +48,7 @@ front_kept b bs h = rw h refl
 trimmed : (w : List ℕ) (n : ℕ) → IsPrinted w → without_end (without_front (w ++ blanks n)) ≡ w
 trimmed [] n h = ap without_end (front_blank n)
 trimmed (b ∷ w) n h =
-    ap without_end (front_kept b (w ++ blanks n) (no_space b (both (is_printable b) (list_all is_printable w) h).0))
+    ap without_end (front_kept b (w ++ blanks n) (no_space b (and_parts (is_printable b) (list_all is_printable w) h).0))
     ∙ end_printed (b ∷ w) n h
 
 -- ---- what stands between two columns
@@ -111,7 +111,7 @@ column_past line first last h =
 
 no_tab : (b : ℕ) → is_printable b ≡ true → (b == 9) ≡ false
 no_tab b h =
-    let p = both (nat_le 33 b) (nat_le b 126) h in
+    let p = and_parts (nat_le 33 b) (nat_le b 126) h in
     let low : 33 ≤ b = leb-true 33 b p.0 in
     ne_eqb b 9 (λ e. omega arith)
 
@@ -131,19 +131,15 @@ placed_blanks column (suc n) rest =
 abbrev pub HasNoneBeside : ℕ → ℕ → Type 0
 HasNoneBeside first size = (k : ℕ) → first ≤ k → k < first + size → is_beside k ≡ false
 
-never_beside : (s : Bool) → s && false ≡ false
-never_beside true = refl
-never_beside false = refl
-
 text_byte : (column b : ℕ) → is_printable b ≡ true → is_beside column ≡ false → is_misplaced column b ≡ false
-text_byte column b h none = rw (no_tab b h, none) (never_beside (nat_le column 62))
+text_byte column b h none = rw (no_tab b h, none) (and_right (nat_le column 62) false refl)
 
 pub placed_text : (column size : ℕ) (w rest : List ℕ) → IsPrinted w → length w ≤ size → HasNoneBeside column size →
     misplaced_from column (w ++ rest) ≡ misplaced_from (column + length w) rest
 placed_text column size [] rest h fits none = ap (λ k. misplaced_from k rest) (omega arith)
 placed_text column zero (b ∷ w) rest h fits none = absurd (omega arith)
 placed_text column (suc size) (b ∷ w) rest h fits none =
-    let p = both (is_printable b) (list_all is_printable w) h in
+    let p = and_parts (is_printable b) (list_all is_printable w) h in
     let here : is_misplaced column b ≡ false = text_byte column b p.0 (none column (omega arith) (omega arith)) in
     let more : HasNoneBeside (column + 1) size = λ k a c. none k (omega arith) (omega arith) in
     rw here

@@ -4,6 +4,7 @@ use Rattle.std.proofs.Common.{◌∷◌, ◌++◌, length, refl, sym, ap, ◌∙
 use Rattle.std.specs.List.{list_all}
 use Rattle.std.proofs.lemmas.List.{append-nil, take-append-le, length-replicate}
 use Rattle.std.proofs.lemmas.List.Folds.{list_all-append}
+use Rattle.std.proofs.lemmas.Bool.{and_parts, not-true, and_right}
 use borrow.Author.Count.{below_more}
 use Rattle.spec_text.specs.Words.{is_blank}
 use Rattle.spec_model.specs.Kept.{is_printable}
@@ -14,10 +15,10 @@ use Rattle.spec_mps.specs.Fields.{Fields, Is, field_of, in_columns, column_field
 use Rattle.spec_mps.specs.Fields.{is_beside}
 use Rattle.spec_mps.specs.Written.{Data, field_at, line_text}
 use Rattle.spec_mps.specs.NumberWritten.{IsWord}
-use Rattle.spec_mps.proofs.Steps.{both, negated}
 use Rattle.spec_mps.proofs.WrittenWords.{is_plain, plain_text, stripped_plain, no_blank}
 use Rattle.spec_mps.proofs.WrittenColumns.{IsPrinted, blanks, HasNoneBeside, column_read}
 use Rattle.spec_mps.proofs.WrittenColumns.{column_last, column_past, placed_blanks, placed_text}
+use Rattle.spec_mps.proofs.WrittenShort.{plain_both}
 
 -- ---- lines that grow at their end
 
@@ -69,10 +70,10 @@ are_inside first (suc size) = not (is_beside (first + size)) && are_inside first
 none_beside : (first size : ℕ) → are_inside first size ≡ true → HasNoneBeside first size
 none_beside first zero h k a b = absurd (omega arith)
 none_beside first (suc size) h k a b =
-    let p = both (not (is_beside (first + size))) (are_inside first size) h in
+    let p = and_parts (not (is_beside (first + size))) (are_inside first size) h in
     below_more (λ c. first ≤ c → is_beside c ≡ false) (first + size)
     (λ c less above. none_beside first size p.1 c above less)
-    (λ above. negated (is_beside (first + size)) p.0) k (omega arith) a
+    (λ above. not-true (is_beside (first + size)) p.0) k (omega arith) a
 
 pub none_1 : HasNoneBeside 2 2
 none_1 = none_beside 2 2 refl
@@ -87,25 +88,16 @@ pub none_4 : HasNoneBeside 25 12
 none_4 = none_beside 25 12 refl
 
 -- ---- a line that begins with a blank and has a word is a data card
-
-and_false : (s : Bool) → s && false ≡ false
-and_false true = refl
-and_false false = refl
-
 word_not_blank : (w : List ℕ) → IsWord w → list_all is_blank w ≡ false
 word_not_blank [] h = cc
-word_not_blank (b ∷ w) h = rw (no_blank b (both (is_printable b) (list_all is_printable w) h.printable).0) refl
+word_not_blank (b ∷ w) h = rw (no_blank b (and_parts (is_printable b) (list_all is_printable w) h.printable).0) refl
 
 with_word : (line w : List ℕ) → IsWord w → list_all is_blank (line ++ w) ≡ false
-with_word line w h = list_all-append is_blank line w ∙ rw (word_not_blank w h) (and_false (list_all is_blank line))
+with_word line w h = list_all-append is_blank line w ∙ rw (word_not_blank w h) (and_right (list_all is_blank line) false refl)
 
 plain_blanks : (n : ℕ) → list_all is_plain (blanks n) ≡ true
 plain_blanks zero = refl
 plain_blanks (suc n) = plain_blanks n
-
-plain_more : (line more : List ℕ) → list_all is_plain line ≡ true → list_all is_plain more ≡ true →
-    list_all is_plain (line ++ more) ≡ true
-plain_more line more h k = list_all-append is_plain line more ∙ rw (h, k) refl
 
 -- a line without misplaced bytes is read by its columns
 pub by_columns : (line : List ℕ) (fs : Fields) → begins_with_star line ≡ false → begins_with_blank line ≡ true →
@@ -147,8 +139,8 @@ cell_front line w at column size next h e c room =
     record {
       long = omega arith;
       plain =
-          plain_more (line ++ w) (blanks n)
-          (plain_more line w h.plain (plain_text w c.word.printable)) (plain_blanks n);
+          plain_both (line ++ w) (blanks n)
+          (plain_both line w h.plain (plain_text w c.word.printable)) (plain_blanks n);
       placed =
           blanks_placed (line ++ w) n
           (text_placed line w column size h.placed (ap (λ k. k + 1) h.long ∙ e) c.word.printable c.fits c.none);
@@ -185,7 +177,7 @@ ended line w at column size limit h e c room =
     let f = c.fits in
     record {
       short = omega arith;
-      plain = plain_more line w h.plain (plain_text w c.word.printable);
+      plain = plain_both line w h.plain (plain_text w c.word.printable);
       word = with_word line w c.word;
       placed =
           whole_placed (line ++ w)

@@ -3,6 +3,7 @@ use Rattle.std.proofs.Common.{◌≡◌, ◌≢◌, ℕ, suc, ◌≤◌, true, L
 use Rattle.std.specs.Prelude.{nat_le}
 use Rattle.std.specs.List.{All, list_all}
 use Rattle.std.proofs.lemmas.List.Elements.{All-nil, All-cons}
+use Rattle.std.proofs.lemmas.Bool.{and_parts}
 use borrow.Author.Tests.{leb-true}
 use Rattle.spec_text.specs.declared.line.Line.TheVariants.{Text}
 use Rattle.spec_text.specs.Lines.{lines_of, line_of}
@@ -10,14 +11,13 @@ use Rattle.spec_text.proofs.LineLemmas.{lines_of_line, lines_of_none, line_short
 use Rattle.spec_mps.specs.declared.style.Style.{Style}
 use Rattle.spec_mps.specs.Written.{WrittenCards, cards_text, line_text}
 use Rattle.spec_mps.proofs.WrittenSteps.{IsPlainLine, HasItsLines}
-use Rattle.spec_mps.proofs.Steps.{both}
 use Rattle.spec_mps.proofs.WrittenWords.{is_plain, stripped_plain}
 
 no_feed : (line : List ℕ) → list_all is_plain line ≡ true → All (λ b. b ≢ 10) line
 no_feed [] h = All-nil (λ b. b ≢ 10)
 no_feed (b ∷ line) h =
-    let p = both (is_plain b) (list_all is_plain line) h in
-    let q = both (nat_le 32 b) (nat_le b 126) p.0 in
+    let p = and_parts (is_plain b) (list_all is_plain line) h in
+    let q = and_parts (nat_le 32 b) (nat_le b 126) p.0 in
     let low : 32 ≤ b = leb-true 32 b q.0 in
     All-cons (λ x. x ≢ 10) b line (λ e. omega arith) (no_feed line p.1)
 

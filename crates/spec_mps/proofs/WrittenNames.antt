@@ -6,6 +6,7 @@ use Rattle.std.specs.Option.{option_or}
 use Rattle.std.specs.List.{All, AllPairs, list_all, flat_map}
 use Rattle.std.proofs.lemmas.Grind.{flat_map-append}
 use Rattle.std.proofs.lemmas.List.Folds.{find-append, list_any-append}
+use Rattle.std.proofs.lemmas.Bool.{and_parts}
 use borrow.Author.Tests.{ltb-false}
 use Rattle.spec_text.specs.Words.{has_bytes, same}
 use Rattle.spec_text.proofs.WordLemmas.{same_is_equal}
@@ -16,7 +17,6 @@ use Rattle.spec_mps.specs.declared.style.Style.TheVariants.{Free, Fixed}
 use Rattle.spec_mps.specs.Fields.{Field, Fields}
 use Rattle.spec_mps.specs.Written.{WrittenCards, is_wide, data_fields, first_wide, row_card, field_at, kind_word}
 use Rattle.spec_mps.specs.NumberWritten.{IsWord}
-use Rattle.spec_mps.proofs.Steps.{both}
 use Rattle.spec_mps.proofs.WrittenRows.{IsAbsent, AreFresh, AreRows}
 
 -- ---- words
@@ -28,13 +28,13 @@ some_bytes (b ∷ name) h = refl
 pub name_word : (name : Name) → is_name name ≡ true → IsWord name
 unfolding is_name
 name_word name h =
-    let p = both (nat_lt 0 (length name) && nat_le (length name) 64) (list_all is_printable name) h in
-    let q = both (nat_lt 0 (length name)) (nat_le (length name) 64) p.0 in
+    let p = and_parts (nat_lt 0 (length name) && nat_le (length name) 64) (list_all is_printable name) h in
+    let q = and_parts (nat_lt 0 (length name)) (nat_le (length name) 64) p.0 in
     record { some = some_bytes name q.0; printable = p.1 }
 
 pub row_name_word : (name : Name) → is_row_name name ≡ true → IsWord name
 unfolding is_row_name
-row_name_word name h = name_word name (both _ _ h).0
+row_name_word name h = name_word name (and_parts _ _ h).0
 
 -- ---- distinct names
 

@@ -6,6 +6,7 @@ use Rattle.std.specs.List.{list_all}
 use Rattle.std.specs.Char.{is_ascii_digit}
 use Rattle.std.proofs.lemmas.List.Folds.{list_all-append}
 use Rattle.std.proofs.Math.Nat.{div-le_self}
+use Rattle.std.proofs.lemmas.Bool.{and_parts}
 use borrow.Author.Tests.{le-leb, leb-true}
 use Rattle.spec_text.specs.Words.{has_bytes}
 use Rattle.spec_exact.specs.Fraction.{ℚ}
@@ -13,7 +14,6 @@ use Rattle.spec_exact.specs.Narrow.{widest}
 use Rattle.spec_model.specs.Kept.{is_printable}
 use Rattle.spec_mps.specs.NumberWritten.{last_digits, pointed, quotient_text, placed}
 use Rattle.spec_mps.specs.NumberWritten.{places, size_text, number_text, IsWord}
-use Rattle.spec_mps.proofs.Steps.{both}
 use Rattle.spec_mps.proofs.DigitLemmas.{digit_is, spelled_decimal, last_are_digits}
 
 printed_digit : (b : ℕ) → is_ascii_digit b ≡ true → is_printable b ≡ true
@@ -24,7 +24,7 @@ printed_digit b h =
 printed : (ds : List ℕ) → list_all is_ascii_digit ds ≡ true → list_all is_printable ds ≡ true
 printed [] h = refl
 printed (d ∷ ds) h =
-    let p = both (is_ascii_digit d) (list_all is_ascii_digit ds) h in rw (printed_digit d p.0, printed ds p.1) refl
+    let p = and_parts (is_ascii_digit d) (list_all is_ascii_digit ds) h in rw (printed_digit d p.0, printed ds p.1) refl
 
 has_some : (ds : List ℕ) → 0 < length ds → has_bytes ds ≡ true
 has_some [] h = absurd (omega arith)

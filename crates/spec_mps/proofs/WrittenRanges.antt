@@ -3,6 +3,7 @@ use Rattle.std.proofs.Common.{◌≡◌, true, false, Option, Some, None, List, 
 use Rattle.std.proofs.Common.{◌++◌, length, map, refl, sym, ap, ◌∙◌, subst}
 use Rattle.std.specs.Prelude.{codes, IfSome, is_some}
 use Rattle.std.specs.List.{flat_map, list_any}
+use Rattle.std.proofs.lemmas.Bool.{or_parts}
 use Rattle.spec_exact.specs.Fraction.{ℚ}
 use Rattle.spec_exact.specs.Narrow.{IsNarrow}
 use Rattle.spec_model.specs.Model.{Name, Model, ExactRow, is_free}
@@ -19,7 +20,7 @@ use Rattle.spec_mps.specs.Written.{WrittenCards, number_card, range_cards}
 use Rattle.spec_mps.specs.Written.{ranges_cards, has_range, section_card}
 use Rattle.spec_mps.proofs.Sets.{Ranges}
 use Rattle.spec_mps.proofs.WrittenSteps.{Goes}
-use Rattle.spec_mps.proofs.WrittenRows.{or_parts, IsAbsent, AreFresh, names_of, goes_one, goes_none}
+use Rattle.spec_mps.proofs.WrittenRows.{IsAbsent, AreFresh, names_of, goes_one, goes_none}
 use Rattle.spec_mps.proofs.WrittenNames.{fresh_names}
 use Rattle.spec_mps.proofs.WrittenParts.{IsNumberCard, number_card_of}
 use Rattle.spec_mps.proofs.WrittenHeadings.{ranges_step}

@@ -4,6 +4,7 @@ use Rattle.std.proofs.Common.{length, map, refl, sym, ap, ◌∙◌, subst, appe
 use Rattle.std.specs.Prelude.{IsTrue}
 use Rattle.std.specs.List.{All, flat_map, list_any}
 use Rattle.std.proofs.lemmas.List.{map-append}
+use Rattle.std.proofs.lemmas.Bool.{or_parts}
 use borrow.Author.Tests.{ne_eqb}
 use Rattle.spec_text.specs.Words.{same}
 use Rattle.spec_model.specs.Model.{Name, ExactRow}
@@ -16,7 +17,7 @@ use Rattle.spec_mps.specs.Reader.{State, place_of, is_among}
 use Rattle.spec_mps.specs.Sides.{is_used}
 use Rattle.spec_mps.specs.Written.{WrittenCards}
 use Rattle.spec_mps.proofs.WrittenSteps.{Goes}
-use Rattle.spec_mps.proofs.WrittenRows.{or_parts, IsAbsent, AreFresh, names_of, goes_none}
+use Rattle.spec_mps.proofs.WrittenRows.{IsAbsent, AreFresh, names_of, goes_none}
 use Rattle.spec_mps.proofs.WrittenGoes.{goes_append}
 use Rattle.spec_mps.proofs.WrittenNames.{row_name_word}
 use Rattle.spec_mps.proofs.WrittenBehind.{place_behind}

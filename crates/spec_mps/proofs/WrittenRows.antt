@@ -1,8 +1,9 @@
 -- The cards of ROWS of a written text are read as the rows.
-use Rattle.std.proofs.Common.{◌≡◌, ℕ, ◌+◌, ◌<◌, ◌≤◌, ◌||◌, Bool, true, false, Option, Some, None, Ok, List, [], ◌∷◌}
+use Rattle.std.proofs.Common.{◌≡◌, ℕ, ◌+◌, ◌<◌, ◌≤◌, true, false, Option, Some, None, Ok, List, [], ◌∷◌}
 use Rattle.std.proofs.Common.{◌++◌, length, map, refl, sym, ap, ◌∙◌, subst, append_assoc, length-append, arith}
 use Rattle.std.specs.List.{list_any, position, position_or_len}
 use Rattle.std.proofs.lemmas.List.{append-nil, map-append}
+use Rattle.std.proofs.lemmas.Bool.{or_parts}
 use borrow.Author.Tests.{lt-ltb, le-ltb}
 use Rattle.spec_text.specs.declared.line.Line.TheVariants.{Text}
 use Rattle.spec_text.specs.Words.{same}
@@ -126,10 +127,6 @@ AreFresh seen (name ∷ names) = IsAbsent name seen × AreFresh (seen ++ name �
 
 abbrev pub names_of : List ExactRow → List Name
 names_of rows = map (λ r. r.name) rows
-
-pub or_parts : (s t : Bool) → s || t ≡ false → (s ≡ false) × (t ≡ false)
-or_parts true t e = cc
-or_parts false t e = (refl, e)
 
 pub all_past : (rows : List ExactRow) (name : Name) → IsAbsent name (names_of rows) →
     position_or_len (λ r. same r.name name) rows ≡ length rows

@@ -9,6 +9,7 @@ use Rattle.std.proofs.lemmas.List.{length-replicate}
 use Rattle.std.proofs.lemmas.List.Elements.{All-nil, All-cons, All-append, All-map}
 use Rattle.std.proofs.lemmas.List.Folds.{list_all-append}
 use Rattle.std.proofs.Math.Nat.{div-le_self}
+use Rattle.std.proofs.lemmas.Bool.{and_parts}
 use borrow.Author.Tests.{leb-true}
 use Rattle.spec_exact.specs.Fraction.{ℚ, 0ℚ, neg_ℚ, eq_ℚ, lt_ℚ}
 use Rattle.spec_exact.specs.Narrow.{IsNarrow, widest}
@@ -30,7 +31,6 @@ use Rattle.spec_mps.specs.Written.{section_card, type_card, number_card, bound_c
 use Rattle.spec_mps.specs.Written.{kind_word, row_card, column_cards, side_cards, range_cards, bound_cards}
 use Rattle.spec_mps.specs.Written.{has_range, has_bounds, first_column, padded, with_fields, line_text}
 use Rattle.spec_mps.proofs.WrittenSteps.{IsPlainLine}
-use Rattle.spec_mps.proofs.Steps.{both}
 use Rattle.spec_mps.proofs.DigitLemmas.{length-last}
 use Rattle.spec_mps.proofs.RoundTrip.{found_place}
 use Rattle.spec_mps.proofs.WrittenNumbers.{number_word}
@@ -82,7 +82,7 @@ line_fits style line (f ∷ fs) h =
     let r = line_fits style (padded style f.number line ++ f.text) fs h.1 in
     omega arith
 
-plain_both : (a b : List ℕ) → list_all is_plain a ≡ true → list_all is_plain b ≡ true →
+pub plain_both : (a b : List ℕ) → list_all is_plain a ≡ true → list_all is_plain b ≡ true →
     list_all is_plain (a ++ b) ≡ true
 plain_both a b h k = list_all-append is_plain a b ∙ rw (h, k) refl
 
@@ -125,19 +125,19 @@ plain_line style (Data fields) h =
 pub name_short : (name : Name) → is_name name ≡ true → IsShort name
 unfolding is_name
 name_short name h =
-    let p = both (nat_lt 0 (length name) && nat_le (length name) 64) (list_all is_printable name) h in
-    let q = both (nat_lt 0 (length name)) (nat_le (length name) 64) p.0 in
+    let p = and_parts (nat_lt 0 (length name) && nat_le (length name) 64) (list_all is_printable name) h in
+    let q = and_parts (nat_lt 0 (length name)) (nat_le (length name) 64) p.0 in
     let l : length name ≤ 64 = leb-true (length name) 64 q.1 in
     record { fits = omega arith; plain = plain_text name p.1 }
 
 row_name_short : (name : Name) → is_row_name name ≡ true → IsShort name
 unfolding is_row_name
-row_name_short name h = name_short name (both _ _ h).0
+row_name_short name h = name_short name (and_parts _ _ h).0
 
 pub model_name_short : (name : Name) → is_model_name name ≡ true → IsShort name
 unfolding is_model_name
 model_name_short name h =
-    let p = both (nat_le (length name) 64) (list_all is_printable name) h in
+    let p = and_parts (nat_le (length name) 64) (list_all is_printable name) h in
     let l : length name ≤ 64 = leb-true (length name) 64 p.0 in
     record { fits = omega arith; plain = plain_text name p.1 }
 

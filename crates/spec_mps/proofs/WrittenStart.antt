@@ -2,6 +2,7 @@
 use Rattle.std.proofs.Common.{◌≡◌, ℕ, true, Some, None, Ok, List, [], ◌∷◌, length, refl, ap, ◌∙◌}
 use Rattle.std.specs.Prelude.{codes, nat_le}
 use Rattle.std.specs.List.{list_all}
+use Rattle.std.proofs.lemmas.Bool.{and_parts}
 use Rattle.spec_text.specs.declared.line.Line.TheVariants.{Text}
 use Rattle.spec_text.specs.Words.{words_of}
 use Rattle.spec_model.specs.declared.parts.Sense.{Sense}
@@ -20,7 +21,6 @@ use Rattle.spec_mps.specs.Steps.{More, on_reading, reading_of, section_card, ste
 use Rattle.spec_mps.specs.Written.{field_at, name_card, sense_cards, line_text, section_card as one_word}
 use Rattle.spec_mps.specs.NumberWritten.{IsWord}
 use Rattle.spec_mps.proofs.WrittenSteps.{Goes, StartIsRead, named, with_start_of}
-use Rattle.spec_mps.proofs.Steps.{both}
 use Rattle.spec_mps.proofs.WrittenWords.{is_plain, plain_text, stripped_plain, parts_word, parts_word_then}
 use Rattle.spec_mps.proofs.WrittenRows.{goes_one, goes_then}
 
@@ -62,7 +62,7 @@ name_step Free [] h = ap (on_reading Free start) (unnamed_read Free)
 name_step Fixed [] h = ap (on_reading Fixed start) (unnamed_read Fixed)
 name_step style (b ∷ bs) h =
     let word : IsWord (b ∷ bs) =
-    record { some = refl; printable = (both (nat_le (length (b ∷ bs)) 64) (list_all is_printable (b ∷ bs)) h).1 } in
+    record { some = refl; printable = (and_parts (nat_le (length (b ∷ bs)) 64) (list_all is_printable (b ∷ bs)) h).1 } in
     ap (on_reading style start) (named_read style b bs word) ∙ rw h refl
 
 sense_read : (style : Style) →

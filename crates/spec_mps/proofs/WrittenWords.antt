@@ -8,6 +8,7 @@ use Rattle.std.proofs.lemmas.List.{append-nil}
 use Rattle.std.proofs.lemmas.List.Elements.{All-nil, All-cons}
 use Rattle.std.proofs.lemmas.List.Splits.{slice_split_none, slice_split_at}
 use Rattle.std.proofs.lemmas.List.Folds.{list_all-append}
+use Rattle.std.proofs.lemmas.Bool.{and_parts}
 use borrow.Author.Tests.{leb-true, le-leb, ne_eqb}
 use Rattle.spec_text.specs.Words.{is_blank, has_bytes, words_of}
 use Rattle.spec_model.specs.Kept.{is_printable}
@@ -17,7 +18,6 @@ use Rattle.spec_mps.specs.Cards.{is_skipped}
 use Rattle.spec_mps.specs.Fields.{Field, Fields, Is, free_fields, word_fields, numbered_from, texts_of}
 use Rattle.spec_mps.specs.Written.{Data, line_text, with_fields}
 use Rattle.spec_mps.specs.NumberWritten.{IsWord}
-use Rattle.spec_mps.proofs.Steps.{both}
 
 abbrev pub AreWords : List (List ℕ) → Type 0
 AreWords [] = Unit {0}
@@ -25,14 +25,14 @@ AreWords (w ∷ ws) = IsWord w × AreWords ws
 
 pub no_blank : (b : ℕ) → is_printable b ≡ true → is_blank b ≡ false
 no_blank b h =
-    let p = both (nat_le 33 b) (nat_le b 126) h in
+    let p = and_parts (nat_le 33 b) (nat_le b 126) h in
     let low : 33 ≤ b = leb-true 33 b p.0 in
     rw (ne_eqb b 32 (λ e. omega arith), ne_eqb b 9 (λ e. omega arith)) refl
 
 no_blanks : (w : List ℕ) → list_all is_printable w ≡ true → All (λ b. is_blank b ≡ false) w
 no_blanks [] h = All-nil (λ b. is_blank b ≡ false)
 no_blanks (b ∷ w) h =
-    let p = both (is_printable b) (list_all is_printable w) h in
+    let p = and_parts (is_printable b) (list_all is_printable w) h in
     All-cons (λ x. is_blank x ≡ false) b w (no_blank b p.0) (no_blanks w p.1)
 
 -- ---- words
@@ -68,27 +68,27 @@ is_plain b = nat_le 32 b && nat_le b 126
 
 no_return : (b : ℕ) → is_plain b ≡ true → (b == 13) ≡ false
 no_return b h =
-    let p = both (nat_le 32 b) (nat_le b 126) h in
+    let p = and_parts (nat_le 32 b) (nat_le b 126) h in
     let low : 32 ≤ b = leb-true 32 b p.0 in
     ne_eqb b 13 (λ e. omega arith)
 
 no_return_at : (line : List ℕ) (n : ℕ) → list_all is_plain line ≡ true → (get_or line n 0 == 13) ≡ false
 no_return_at [] n h = refl
-no_return_at (b ∷ line) zero h = no_return b (both (is_plain b) (list_all is_plain line) h).0
-no_return_at (b ∷ line) (suc n) h = no_return_at line n (both (is_plain b) (list_all is_plain line) h).1
+no_return_at (b ∷ line) zero h = no_return b (and_parts (is_plain b) (list_all is_plain line) h).0
+no_return_at (b ∷ line) (suc n) h = no_return_at line n (and_parts (is_plain b) (list_all is_plain line) h).1
 
 pub stripped_plain : (line : List ℕ) → list_all is_plain line ≡ true → strip_carriage_return line ≡ line
 stripped_plain line h = rw (no_return_at line (length line - 1) h) refl
 
 plain_of : (b : ℕ) → is_printable b ≡ true → is_plain b ≡ true
 plain_of b h =
-    let p = both (nat_le 33 b) (nat_le b 126) h in
+    let p = and_parts (nat_le 33 b) (nat_le b 126) h in
     rw (le-leb 32 b (omega (arith, leb-true 33 b p.0)), p.1) refl
 
 pub plain_text : (w : List ℕ) → list_all is_printable w ≡ true → list_all is_plain w ≡ true
 plain_text [] h = refl
 plain_text (b ∷ w) h =
-    let p = both (is_printable b) (list_all is_printable w) h in rw (plain_of b p.0, plain_text w p.1) refl
+    let p = and_parts (is_printable b) (list_all is_printable w) h in rw (plain_of b p.0, plain_text w p.1) refl
 
 plain_joined : (ws : List (List ℕ)) → AreWords ws → list_all is_plain (joined ws) ≡ true
 plain_joined [] h = refl
@@ -99,7 +99,7 @@ not_skipped : (w : List ℕ) (ws : List (List ℕ)) → AreWords (w ∷ ws) → 
 unfolding is_skipped
 not_skipped [] ws h = cc
 not_skipped (b ∷ w) ws h =
-    let p = both (is_printable b) (list_all is_printable w) h.0.printable in
+    let p = and_parts (is_printable b) (list_all is_printable w) h.0.printable in
     rw (stripped_plain (joined ((b ∷ w) ∷ ws)) (plain_joined ((b ∷ w) ∷ ws) h), no_blank b p.0) refl
 
 -- ---- a data card
