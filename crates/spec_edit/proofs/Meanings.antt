@@ -3,7 +3,7 @@ use Rattle.std.proofs.Common.{◌≡◌, ◌≢◌, ℕ, ◌+◌, ◌<◌, ◌�
 use Rattle.std.proofs.Common.{eqb, ltb, set, get_or, refl, sym, ap, ap₂, ◌∙◌, arith, ⊎_elim}
 use borrow.Author.Tests.{ltb-true, ltb-false, eqb-true, eqb-false}
 use Rattle.std.proofs.Math.ListN.{get_or-map}
-use Rattle.std.proofs.lemmas.Bool.{cases_lt}
+use Rattle.std.proofs.lemmas.Bool.{cases_lt, and_right}
 use Rattle.std.proofs.lemmas.List.{get_or-set_same, get_or-set_other, get_or_past}
 use Rattle.std.proofs.lemmas.List.Edits.{length-remove, get_or-remove_below, get_or-remove_above}
 use Rattle.std.proofs.lemmas.List.Elements.{All-weaker}
@@ -21,10 +21,6 @@ use Rattle.spec_edit.proofs.Coefficients.{none_at, entry_of-with_entry, entry_of
 and_true : (t : Bool) → t && true ≡ t
 and_true true = refl
 and_true false = refl
-
-and_false : (t : Bool) → t && false ≡ false
-and_false true = refl
-and_false false = refl
 
 pub with_coefficient-means : (m : Model) (i j : ℕ) (v : ℚ) → j < width m → IsWithCoefficient m i j v
 with_coefficient-means m i j v l a b = by (eqb b j) refl
@@ -44,7 +40,7 @@ with_coefficient-means m i j v l a b = by (eqb b j) refl
     by false e =
         ap (λ (c : ExactColumn). entry_of c.entries a)
         (get_or-set_other m.columns j b changed no_column (eqb-false b j e))
-        ∙ sym (ap (λ t. cond t v (coefficient m a b)) (ap (λ t. eqb a i && t) e ∙ and_false (eqb a i)))
+        ∙ sym (ap (λ t. cond t v (coefficient m a b)) (ap (λ t. eqb a i && t) e ∙ and_right (eqb a i) false refl))
 
 -- ---- a row that is gone, and a new one
 
