@@ -4,11 +4,12 @@ use Rattle.std.proofs.Common.{option_map, IfSome, refl, ap, ◌∙◌, subst, in
 use Rattle.spec_exact.specs.Fraction.{ℚ, ◌-ℚ◌, ◌*ℚ◌, neg_ℚ, inverse, 0ℚ, ◌≤ℚ◌, ◌<ℚ◌, lt_ℚ}
 use Rattle.spec_exact.proofs.Order.{≤ℚ_trans, <ℚ-le, lt_if, ≤ℚ-difference, *ℚ-nonneg}
 use Rattle.spec_exact.proofs.Strict.{inv_pos}
+use Rattle.spec_exact.proofs.Sizes.{below_turned}
 use Rattle.spec_pivot.specs.Tableau.{Matrix}
 use Rattle.spec_pivot.specs.declared.status.Way.{Way}
 use Rattle.spec_pivot.specs.Simplex.{Bounds, IsInside, IsWithin, Table, ray, IsTableau, Enters}
 use Rattle.spec_pivot.specs.Ratio.{room, room_at, Best, range_of, best_of, HasRoom, GoesOn}
-use Rattle.spec_pivot.proofs.Ratio.{no_more, none_before, none_first, found, scan_first, scan_least, neg_above}
+use Rattle.spec_pivot.proofs.Ratio.{no_more, none_before, none_first, found, scan_first, scan_least}
 
 -- ---- no room is below 0 where the value is within its bounds
 upper_least : (o : Option ℚ) (v r q : ℚ) → 0ℚ <ℚ r → IfSome o (λ k. v ≤ℚ k) →
@@ -25,7 +26,7 @@ lower_least (Some l) v r q p i e =
     let z : (v -ℚ l) *ℚ inverse (neg_ℚ r) ≡ q = cc in
     subst (λ a. 0ℚ ≤ℚ a) z
     (*ℚ-nonneg (v -ℚ l) (inverse (neg_ℚ r)) (≤ℚ-difference l v i)
-    (<ℚ-le 0ℚ (inverse (neg_ℚ r)) (inv_pos (neg_ℚ r) (neg_above r p))))
+    (<ℚ-le 0ℚ (inverse (neg_ℚ r)) (inv_pos (neg_ℚ r) (below_turned r p))))
 
 room_least : (b : Bounds) (k : ℕ) (v r q : ℚ) → IsInside (b.lower k) (b.upper k) v → room b k v r ≡ Some q → 0ℚ ≤ℚ q
 room_least b k v r q i e = by (lt_ℚ 0ℚ r) (lt_ℚ r 0ℚ) refl refl e

@@ -5,8 +5,9 @@ use Rattle.std.proofs.Common.{ap, ◌∙◌, subst, arith, inl, inr, ⊎_elim, l
 use Rattle.spec_exact.specs.Fraction.{ℚ, ◌+ℚ◌, ◌-ℚ◌, ◌*ℚ◌, neg_ℚ, 0ℚ, 1ℚ, ◌≤ℚ◌, ◌<ℚ◌, inverse, lt_ℚ}
 use Rattle.spec_exact.proofs.Field.{*ℚ_assoc, *ℚ_comm, *ℚ_one, *ℚ_inverse}
 use Rattle.spec_exact.proofs.Order.{≤ℚ_refl, ≤ℚ_trans, lt_if, le_if_not, lt_test, not_lt_test, ≤ℚ_antisym, <ℚ-le}
-use Rattle.spec_exact.proofs.Ruleset.{ring, neg-zero}
-use Rattle.spec_exact.proofs.Strict.{<ℚ_irrefl, <ℚ-≤ℚ_trans, not-zero_from_lt, neg_strict}
+use Rattle.spec_exact.proofs.Ruleset.{ring}
+use Rattle.spec_exact.proofs.Strict.{<ℚ_irrefl, <ℚ-≤ℚ_trans, not-zero_from_lt}
+use Rattle.spec_exact.proofs.Sizes.{below_turned}
 use Rattle.spec_pivot.specs.Simplex.{Bounds, IsBlocked}
 use Rattle.spec_pivot.specs.Ratio.{room, Best, NoWorse, is_better, take_room, scan}
 use Rattle.spec_pivot.proofs.Pivot.{by_eq}
@@ -232,16 +233,13 @@ measured_down q v r n =
     turn : (v q r : ℚ) → v -ℚ (v +ℚ q *ℚ r) ≡ q *ℚ neg_ℚ r
     turn v q r = simp ring
 
-pub neg_above : (r : ℚ) → r <ℚ 0ℚ → 0ℚ <ℚ neg_ℚ r
-neg_above r p = subst (λ x. x <ℚ neg_ℚ r) neg-zero (neg_strict r 0ℚ p)
-
 -- what is blocked after a move by q has the room q
 pub blocked_room : (b : Bounds) (k : ℕ) (v q r : ℚ) → IsBlocked b k (v +ℚ q *ℚ r) r → room b k v r ≡ Some q
 blocked_room b k v q r (inl h) =
     rw (lt_test 0ℚ r h.0, h.1) (ap Some (measured q v r (not-zero_from_lt r h.0)))
 blocked_room b k v q r (inr h) =
     rw (not_lt_test 0ℚ r (<ℚ-le r 0ℚ h.0), lt_test r 0ℚ h.0, h.1)
-    (ap Some (measured_down q v r (not-zero_from_lt (neg_ℚ r) (neg_above r h.0))))
+    (ap Some (measured_down q v r (not-zero_from_lt (neg_ℚ r) (below_turned r h.0))))
 
 -- and back
 room_up : (o : Option ℚ) (v q r : ℚ) → 0ℚ <ℚ r → option_map (λ u. (u -ℚ v) *ℚ inverse r) o ≡ Some q →
@@ -256,7 +254,7 @@ room_down : (o : Option ℚ) (v q r : ℚ) → r <ℚ 0ℚ → option_map (λ l.
 room_down None v q r p e = cc
 room_down (Some l) v q r p e =
     let z : (v -ℚ l) *ℚ inverse (neg_ℚ r) ≡ q = cc in
-    ap Some (sym (reaches_down l v (neg_ℚ r) (not-zero_from_lt (neg_ℚ r) (neg_above r p)))
+    ap Some (sym (reaches_down l v (neg_ℚ r) (not-zero_from_lt (neg_ℚ r) (below_turned r p)))
     ∙ ap (λ x. v -ℚ x *ℚ neg_ℚ r) z ∙ turn v q r)
   where
     turn : (v q r : ℚ) → v -ℚ q *ℚ neg_ℚ r ≡ v +ℚ q *ℚ r

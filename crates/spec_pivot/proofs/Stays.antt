@@ -6,6 +6,7 @@ use Rattle.spec_exact.proofs.Field.{+ℚ_zero, *ℚ_comm, *ℚ_zero}
 use Rattle.spec_exact.proofs.Order.{≤ℚ_refl, ≤ℚ_trans, +ℚ_mono, *ℚ_mono, <ℚ-le, lt_if, le_if_not}
 use Rattle.spec_exact.proofs.Ruleset.{ring, neg-zero}
 use Rattle.spec_exact.proofs.Strict.{zero-lt-one, neg_mono, +ℚ_mono₂, not-zero_from_lt}
+use Rattle.spec_exact.proofs.Sizes.{below_turned}
 use Rattle.spec_pivot.specs.Tableau.{Matrix}
 use Rattle.spec_pivot.specs.declared.status.Status.{Status}
 use Rattle.spec_pivot.specs.declared.status.Status.TheVariants.{Basic, AtLower, AtUpper, AtZero}
@@ -17,7 +18,7 @@ use Rattle.spec_pivot.specs.Ratio.{room, HasRoom}
 use Rattle.spec_pivot.proofs.Pivot.{by_eq}
 use Rattle.spec_pivot.proofs.Kept.{outside, j_outside}
 use Rattle.spec_pivot.proofs.Ray.{ray_at, ray_still}
-use Rattle.spec_pivot.proofs.Ratio.{neg_above, reaches}
+use Rattle.spec_pivot.proofs.Ratio.{reaches}
 use Rattle.spec_pivot.proofs.Values.{by_basic}
 
 -- a value that rises or falls
@@ -44,7 +45,7 @@ down_to_bound : (a v theta r : ℚ) → r <ℚ 0ℚ → theta ≤ℚ ((v -ℚ a)
 down_to_bound a v theta r p h =
     subst₂ ◌≤ℚ◌ (twice a) (turn v theta r)
     (neg_mono _ _ (up_to_bound (neg_ℚ a) (neg_ℚ v) theta (neg_ℚ r)
-    (neg_above r p) (subst (λ z. theta ≤ℚ (z *ℚ inverse (neg_ℚ r))) (gap v a) h)))
+    (below_turned r p) (subst (λ z. theta ≤ℚ (z *ℚ inverse (neg_ℚ r))) (gap v a) h)))
   where
     twice : (a : ℚ) → neg_ℚ (neg_ℚ a) ≡ a
     twice a = simp ring
