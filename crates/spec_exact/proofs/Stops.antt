@@ -1,7 +1,7 @@
 -- Runs over places in order, step by step: one more place, and a refusal at a place,
 -- which stays so at the places after it.
 use Rattle.std.proofs.Common.{◌≡◌, ℕ, zero, suc, ◌+◌, ◌-◌, ◌<◌, List, [], ◌∷◌, ◌++◌, length}
-use Rattle.std.proofs.Common.{get_or, Result, Ok, Err, ⊎_elim, refl, sym, subst, ap, ◌∙◌, arith}
+use Rattle.std.proofs.Common.{get_or, Result, Ok, Err, ⊎_elim, refl, sym, subst, ap, ◌∙◌, arith, add-one}
 use Rattle.std.proofs.lemmas.Bool.{cases_eq}
 use Rattle.std.proofs.lemmas.List.{length-append}
 use Rattle.std.proofs.lemmas.List.Elements.{All-nil, All-push}
@@ -18,9 +18,6 @@ pub refused_then : {A B E : Type 0} (kind : Past ℚ → E) (o : Run A) (next : 
 refused_then kind (Ok a) next = refl
 refused_then kind (Err e) next = refl
 
-next_is : (k : ℕ) → k + 1 ≡ suc k
-next_is k = omega arith
-
 up_to : (k n : ℕ) → k < n → suc k + (n - suc k) ≡ n
 up_to k n h = omega arith
 
@@ -35,7 +32,7 @@ steps_stay n (suc d) f a e h =
 -- one more step
 pub steps_more : {A E : Type 0} (k : ℕ) (f : ℕ → A → Result A E) (a b c : A) → steps k f a ≡ Ok b → f k b ≡ Ok c →
     steps (k + 1) f a ≡ Ok c
-steps_more k f a b c h g = ap (λ i. steps i f a) (next_is k) ∙ ap (λ o. o >>= λ b. f k b) h ∙ g
+steps_more k f a b c h g = ap (λ i. steps i f a) (add-one k) ∙ ap (λ o. o >>= λ b. f k b) h ∙ g
 
 -- a stop at step k stops all n
 pub steps_stop : {A E : Type 0} (k n : ℕ) (f : ℕ → A → Result A E) (a b : A) (e : E) → k < n → steps k f a ≡ Ok b →
@@ -55,7 +52,7 @@ list_stays n (suc d) f e h =
 pub list_more : {A : Type 0} (k : ℕ) (f : ℕ → Run A) (xs : List A) (x : A) → list_run k f ≡ Ok xs → f k ≡ Ok x →
     list_run (k + 1) f ≡ Ok (xs ++ x ∷ [])
 list_more k f xs x h g =
-    ap (λ i. list_run i f) (next_is k) ∙ ap (λ o. o >>= λ xs. f k >>= λ x. Ok (xs ++ x ∷ [])) h
+    ap (λ i. list_run i f) (add-one k) ∙ ap (λ o. o >>= λ xs. f k >>= λ x. Ok (xs ++ x ∷ [])) h
     ∙ ap (λ o. o >>= λ x. Ok (xs ++ x ∷ [])) g
 
 -- a refusal of item k stops the list of n
@@ -73,7 +70,7 @@ length-made (suc n) f = omega (arith, length-append (made n f) (f n ∷ []), len
 
 -- one more item
 pub made_more : {A : Type 0} (k : ℕ) (f : ℕ → A) (xs : List A) → xs ≡ made k f → xs ++ f k ∷ [] ≡ made (k + 1) f
-made_more k f xs h = ap (λ ys. ys ++ f k ∷ []) h ∙ ap (λ i. made i f) (sym (next_is k))
+made_more k f xs h = ap (λ ys. ys ++ f k ∷ []) h ∙ ap (λ i. made i f) (sym (add-one k))
 
 pub length-list_run : {A : Type 0} (n : ℕ) (f : ℕ → Run A) (xs : List A) → list_run n f ≡ Ok xs → length xs ≡ n
 length-list_run zero f xs e = let g : xs ≡ [] = cc in ap length g
