@@ -1,11 +1,8 @@
 -- Texts that are the same.
-use Rattle.std.proofs.Common.{◌≡◌, ◌≢◌, ◌↔◌, ℕ, Bool, true, false, ◌&&◌, eqb, eqb→eq, eq-eqb}
+use Rattle.std.proofs.Common.{◌≡◌, ◌≢◌, ◌↔◌, ℕ, true, false, eqb, eqb→eq, eq-eqb}
 use Rattle.std.proofs.Common.{IsTrue, T, List, [], ◌∷◌, refl, sym, ap, ◌∙◌, subst}
+use Rattle.std.proofs.lemmas.Bool.{and_parts}
 use Rattle.spec_text.specs.Words.{same}
-
-both : (s t : Bool) → s && t ≡ true → (s ≡ true) × (t ≡ true)
-both true t e = (refl, e)
-both false t e = cc
 
 pub same-refl : (xs : List ℕ) → same xs xs ≡ true
 same-refl [] = refl
@@ -17,7 +14,7 @@ same_true [] [] h = refl
 same_true [] (y ∷ ys) h = cc
 same_true (x ∷ xs) [] h = cc
 same_true (x ∷ xs) (y ∷ ys) h =
-    let p = both (eqb x y) (same xs ys) h in
+    let p = and_parts (eqb x y) (same xs ys) h in
     let e : x ≡ y = eqb→eq x y (subst T (sym p.0) tt) in
     let f : xs ≡ ys = same_true xs ys p.1 in
     cc
