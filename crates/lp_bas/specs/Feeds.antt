@@ -6,8 +6,8 @@ use Rattle.spec_simplex.specs.Eliminate.{IsBasisOf}
 use Rattle.spec_bas.specs.declared.fault.BasFault.{BasFault}
 use Rattle.spec_bas.specs.Steps.{Outcome, More, Done}
 use Rattle.spec_bas.specs.Fits.{IsMarking}
-use Rattle.lp_bas.specs.declared.reader.BasFeed.{BasFeed}
-use Rattle.lp_bas.specs.declared.reader.BasFeed.TheVariants as feed
+use Rattle.lp_base.specs.declared.feed.Feed.{Feed}
+use Rattle.lp_base.specs.declared.feed.Feed.TheVariants as feed
 use Rattle.lp_bas.specs.FileRead.{FileRead}
 
 -- the file continues
@@ -29,7 +29,7 @@ pub record IsWrong (outcome : Outcome) (old new : FileRead) (fault : BasFault) :
   pub kept : new ≡ old
 
 -- the answer at a line, of what its step leads to; if memory runs out it says nothing of that
-abbrev pub Feeds : Form → Outcome → FileRead → FileRead → BasFeed → Type 0
+abbrev pub Feeds : Form → Outcome → FileRead → FileRead → Feed (List Status) BasFault → Type 0
 Feeds f outcome old new feed.More = GoesOn f outcome old new
 Feeds f outcome old new (feed.Done basis) = Ends f outcome old new basis
 Feeds f outcome old new (feed.Refused fault) = IsWrong outcome old new fault

@@ -3,7 +3,6 @@
 //! | Item | What it is | Where |
 //! |---|---|---|
 //! | `BasReader` | a file that is read line by line | src/reader |
-//! | `BasFeed` | what a line is answered | src/reader |
 //! | `BasFault`, `BasCode` | the first line that is wrong, and what is wrong with it | `spec_bas` |
 //! | `write` | the file of a basis | src/writing |
 //!
@@ -16,6 +15,6 @@ mod reading;
 mod statuses;
 mod writing;
 
-pub use reader::{BasFeed, BasReader};
+pub use reader::BasReader;
 pub use spec_bas::{BasCode, BasFault};
 pub use writing::write;

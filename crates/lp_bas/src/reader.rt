@@ -5,23 +5,11 @@ ghost use Rattle.spec_bas.specs.Fits.{HasSizeOf, IsMarking};
 ghost use Rattle.lp_bas.specs.Feeds.{Feeds};
 
 use crate::marks::{Marks, StepFault};
-use lp_base::Line;
+use lp_base::{Feed, Line};
 use lp_form::{Basis, Form};
 use lp_model::Model;
 use spec_bas::BasFault;
 use std::alloc::{AllocError, Global};
-
-/// What a line is answered.
-#[derive(Drop)]
-pub enum BasFeed {
-    /// The file continues.
-    More,
-    /// It has ended, and spells this basis.
-    Done(Basis),
-    /// It spells none, by this line.
-    Refused(BasFault),
-    NoMemory,
-}
 
 /// A basis file that is read line by line, for a model and its form. After any answer but `More` the reader is as it
 /// was before the line.
@@ -56,7 +44,13 @@ impl BasReader {
     }
 
     /// Takes the next line.
-    pub fn feed(&mut self, alloc: Global, model: &Model, form: &Form, line: &Line) -> BasFeed
+    pub fn feed(
+        &mut self,
+        alloc: Global,
+        model: &Model,
+        form: &Form,
+        line: &Line,
+    ) -> Feed<Basis, BasFault>
         requires sizes { HasSizeOf model.now form.now }
         requires marking { IsMarking form.now self.old.state }
         requires lines { self.old.lines < 2 ^ 32 - 1 }
@@ -66,11 +60,11 @@ impl BasReader {
         match self.marks.take(alloc, model, form, line) {
             Ok(None) => {
                 self.lines = number;
-                BasFeed::More
+                Feed::More
             }
-            Ok(Some(basis)) => BasFeed::Done(basis),
-            Err(StepFault::Wrong(code)) => BasFeed::Refused(BasFault { line: number, code }),
-            Err(StepFault::NoMemory) => BasFeed::NoMemory,
+            Ok(Some(basis)) => Feed::Done(basis),
+            Err(StepFault::Wrong(code)) => Feed::Refused(BasFault { line: number, code }),
+            Err(StepFault::NoMemory) => Feed::NoMemory,
         }
     }
 }

@@ -7,6 +7,7 @@
 //! | `MemSource`, `MemSink` | both in memory, which fail at the calls that are listed | src/memory |
 //! | `Calls` | numbers calls, and says which of them fail | src/calls |
 //! | `Lines`, `Line` | the lines of a source, one by one | src/lines |
+//! | `Feed` | what a reader of texts answers at a line | src/feed |
 //! | `Bytes`, `Name`, `Texts` | lists of bytes, and a list of them | src/bytes |
 //! | `words` | the words of a line | src/word |
 //! | `look_up`, `by_word` | what stands beside a word in a table, and what is done for a word | src/word |
@@ -19,6 +20,7 @@
 
 mod bytes;
 mod calls;
+mod feed;
 mod lines;
 mod memory;
 mod outside;
@@ -27,6 +29,7 @@ mod word;
 
 pub use bytes::{Bytes, Name, Texts, are_same};
 pub use calls::Calls;
+pub use feed::Feed;
 pub use lines::{Line, LineStop, Lines};
 pub use memory::{MemSink, MemSource};
 pub use outside::{Failed, Sink, Source, WriteFault, send};

@@ -3,8 +3,8 @@ use Rattle.std.specs.Prelude.{ℕ, ◌≡◌, Some}
 use Rattle.spec_certificate.specs.declared.progress.Progress.TheVariants as progress
 use Rattle.spec_check.specs.Raw.{RawOf}
 use Rattle.spec_certificate.specs.Text.{OutcomeOf}
-use Rattle.lp_certificate.specs.declared.reader.FeedOf.{FeedOf}
-use Rattle.lp_certificate.specs.declared.reader.FeedOf.TheVariants as feed
+use Rattle.lp_base.specs.declared.feed.Feed.{Feed}
+use Rattle.lp_base.specs.declared.feed.Feed.TheVariants as feed
 use Rattle.lp_certificate.specs.CertificateRead.{CertificateRead}
 
 -- the text continues after line n
@@ -19,7 +19,7 @@ pub record IsUnfit {F : Type 0} (outcome : OutcomeOf F) (n line : ℕ) : Type 0 
   pub number : line ≡ n
 
 -- the answer at line n of what its step leads to; if memory runs out it says nothing
-abbrev pub Feeds : {F : Type 0} → OutcomeOf F → ℕ → CertificateRead F → FeedOf F → Type 0
+abbrev pub Feeds : {F : Type 0} → OutcomeOf F → ℕ → CertificateRead F → Feed (RawOf F) ℕ → Type 0
 Feeds outcome n new feed.More = GoesOn outcome n new
 Feeds outcome n new (feed.Done raw) = outcome ≡ progress.Done raw
 Feeds outcome n new (feed.Refused line) = IsUnfit outcome n line

@@ -4,9 +4,9 @@
 //! |---|---|---|
 //! | `settle` | the certificate of a model that parts with names make | src/settled |
 //! | `cert_text` | the lines of a certificate's text | src/text |
-//! | `CertReader`, `CertFeed` | a text of a certificate that is read line by line, and what a line is answered | src/reader |
+//! | `CertReader` | a text of a certificate that is read line by line | src/reader |
 //! | `is_end` | whether the words of a line end a text of a certificate | src/words |
-//! | `ReaderOf`, `FeedOf` | the same over the type of numbers | src/reader |
+//! | `ReaderOf` | the same over the type of numbers | src/reader |
 //! | `RawCertificate`, `CertificateKind`, `Letter` | a certificate as its text has it, with names | src/certificate, `spec_check` |
 //! | `RawOf`, `PartsOf`, `PartOf`, `CertificateOf` | the same, and a certificate of a model, over the type of numbers | src/certificate |
 //! | `Number` | a number of a certificate: of 127 bits, or of any width | src/number, src/narrow, src/wide |
@@ -29,7 +29,7 @@ pub use certificate::{
     CertificateKind, CertificateOf, PartOf, PartsOf, RawCertificate, RawOf, SettleFault,
 };
 pub use number::Number;
-pub use reader::{CertFeed, CertReader, FeedOf, ReaderOf};
+pub use reader::{CertReader, ReaderOf};
 pub use settled::{SettleError, settle};
 pub use spec_check::Letter;
 pub use text::cert_text;

@@ -7,7 +7,7 @@ ghost use Rattle.lp_certificate.specs.Feeds.{Feeds};
 use crate::certificate::RawOf;
 use crate::number::Number;
 use crate::words::{is_end, kind_of, part_of};
-use lp_base::{Line, Texts, words};
+use lp_base::{Feed, Line, Texts, words};
 use lp_frac::Frac;
 use lp_list::Items;
 use spec_certificate::Progress;
@@ -15,26 +15,11 @@ use spec_check::RawCertificate;
 use std::alloc::{AllocError, Global};
 use std::marker::Model;
 
-/// What a line is answered.
-#[derive(Drop)]
-pub enum FeedOf<N> {
-    /// The text continues.
-    More,
-    /// It has ended, and spells this.
-    Done(RawOf<N>),
-    /// The line with this number does not fit.
-    Refused(u32),
-    NoMemory,
-}
-
 /// A text of a certificate that is read line by line. After any answer but `More` the reader has lost what it read.
 pub struct ReaderOf<N> {
     raw: Option<RawOf<N>>,
     lines: u32,
 }
-
-/// What a line is answered, where numbers are of 127 bits.
-pub type CertFeed = FeedOf<Frac>;
 
 /// A text whose numbers are of 127 bits.
 pub type CertReader = ReaderOf<Frac>;
@@ -139,8 +124,8 @@ impl<N> ReaderOf<N> {
 }
 
 impl<N: Number> ReaderOf<N> {
-    /// Takes the next line.
-    pub fn feed(&mut self, alloc: Global, line: &Line) -> FeedOf<N>
+    /// Takes the next line. One that does not fit is refused by its number.
+    pub fn feed(&mut self, alloc: Global, line: &Line) -> Feed<RawOf<N>, u32>
         requires { self.old.lines < 2 ^ 32 - 1 }
         ensures { Feeds (certificate.step_by N.reading self.old.raw line.now) (self.old.lines + 1) self.new result }
     {
@@ -152,11 +137,11 @@ impl<N: Number> ReaderOf<N> {
             Ok(Progress::More(raw)) => {
                 self.raw = Some(raw);
                 self.lines = number;
-                FeedOf::More
+                Feed::More
             }
-            Ok(Progress::Done(raw)) => FeedOf::Done(raw),
-            Ok(Progress::Unfit) => FeedOf::Refused(number),
-            Err(_) => FeedOf::NoMemory,
+            Ok(Progress::Done(raw)) => Feed::Done(raw),
+            Ok(Progress::Unfit) => Feed::Refused(number),
+            Err(_) => Feed::NoMemory,
         }
     }
 }

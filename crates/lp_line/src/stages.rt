@@ -2,10 +2,10 @@
 ghost use Rattle.std.specs.Prelude.{refl};
 
 use crate::hearing::{Stage, Step};
-use lp_base::Line;
-use lp_certificate::{CertFeed, CertReader, RawCertificate};
+use lp_base::{Feed, Line};
+use lp_certificate::{CertReader, RawCertificate};
 use lp_model::Model;
-use mps_read::{Feed, Reader};
+use mps_read::Reader;
 use spec_mps::MpsFault;
 use std::alloc::{AllocError, Global};
 
@@ -53,10 +53,10 @@ impl Stage for CertReader {
         line: &Line,
     ) -> Result<Step<CertReader, CertificateSaid>, AllocError> {
         match self.feed(alloc, line) {
-            CertFeed::More => Ok(Step::On(self)),
-            CertFeed::Done(raw) => Ok(Step::Says(Ok(raw))),
-            CertFeed::Refused(unfit) => Ok(Step::Says(Err(unfit))),
-            CertFeed::NoMemory => Err(AllocError),
+            Feed::More => Ok(Step::On(self)),
+            Feed::Done(raw) => Ok(Step::Says(Ok(raw))),
+            Feed::Refused(unfit) => Ok(Step::Says(Err(unfit))),
+            Feed::NoMemory => Err(AllocError),
         }
     }
 }

@@ -7,14 +7,14 @@ ghost use Rattle.lp_text_commands.specs.Basis.{step_of, count_of, BasisSays};
 
 use crate::basis_file::FileStage;
 use crate::basis_start::{Handed, Start};
-use lp_bas::{BasFeed, BasReader};
-use lp_base::Line;
+use lp_bas::BasReader;
+use lp_base::{Feed, Line};
 use lp_form::Form;
 use lp_frac::Stop;
 use lp_line::{Stage, Step};
 use lp_model::Model;
 use lp_standard::form;
-use mps_read::{Feed, Reader};
+use mps_read::Reader;
 use spec_commands::BasisFault;
 use std::alloc::{AllocError, Global};
 
@@ -109,18 +109,18 @@ fn file_line(alloc: Global, file: FileStage, line: &Line) -> Result<BasisStep, A
         mut reader,
     } = file;
     let step = match reader.feed(alloc, &model, &form, line) {
-        BasFeed::More => return Ok(Step::On(BasisStage::File(FileStage {
+        Feed::More => return Ok(Step::On(BasisStage::File(FileStage {
             model,
             form,
             reader,
         }))),
-        BasFeed::Done(basis) => {
+        Feed::Done(basis) => {
             drop(reader);
             let start = Some(Start { form, basis });
             return Ok(Step::Says(Ok(Handed { model, start })));
         }
-        BasFeed::Refused(fault) => Ok(Step::Says(Err(BasisFault::File(fault)))),
-        BasFeed::NoMemory => Err(AllocError),
+        Feed::Refused(fault) => Ok(Step::Says(Err(BasisFault::File(fault)))),
+        Feed::NoMemory => Err(AllocError),
     };
     drop(model);
     drop(form);

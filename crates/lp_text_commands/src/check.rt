@@ -8,11 +8,11 @@ ghost use Rattle.lp_text_commands.specs.Stage.{step_of, count_of, CheckSays};
 use crate::exit_status::ExitStatus;
 use crate::hearing::Output;
 use lp_answer::verdict_on;
-use lp_base::{Bytes, Line};
-use lp_certificate::{CertFeed, CertReader, RawCertificate};
+use lp_base::{Bytes, Feed, Line};
+use lp_certificate::{CertReader, RawCertificate};
 use lp_line::{Refusal, Reply, Stage, Step, print_said};
 use lp_model::Model;
-use mps_read::{Feed, Reader};
+use mps_read::Reader;
 use std::alloc::{AllocError, Global};
 
 type CheckStep = Step<CheckStage, Reply>;
@@ -97,10 +97,10 @@ fn certificate_line(
     ensures { IfOk result (λ step. step_of step ≡ check_step (InCertificate model reader.raw reader.lines) line.now) }
 {
     let step = match reader.feed(alloc, line) {
-        CertFeed::More => return Ok(Step::On(CheckStage::Certificate { model, reader })),
-        CertFeed::Done(raw) => verdict(alloc, &model, raw),
-        CertFeed::Refused(unfit) => Ok(Step::Says(Reply::Refused(Refusal::Unfit(unfit)))),
-        CertFeed::NoMemory => Err(AllocError),
+        Feed::More => return Ok(Step::On(CheckStage::Certificate { model, reader })),
+        Feed::Done(raw) => verdict(alloc, &model, raw),
+        Feed::Refused(unfit) => Ok(Step::Says(Reply::Refused(Refusal::Unfit(unfit)))),
+        Feed::NoMemory => Err(AllocError),
     };
     drop(model);
     drop(reader);

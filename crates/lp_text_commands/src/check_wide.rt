@@ -12,14 +12,14 @@ ghost use Rattle.lp_text_commands.specs.WideStage.{wide_step_of, wide_count_of, 
 
 use crate::exit_status::ExitStatus;
 use crate::hearing::Output;
-use lp_base::{Bytes, Line};
-use lp_certificate::{FeedOf, RawOf, ReaderOf, SettleError, SettleFault, settle};
+use lp_base::{Bytes, Feed, Line};
+use lp_certificate::{RawOf, ReaderOf, SettleError, SettleFault, settle};
 use lp_check_wide::{Known, Verdict, check};
 use lp_line::{Refusal, Reply, Stage, Step};
 use lp_model::Model;
 use lp_ratio::Ratio;
 use lp_wide_text::wide_text;
-use mps_read::{Feed, Reader};
+use mps_read::Reader;
 use std::alloc::{AllocError, Global};
 
 type WideStep = Step<WideStage, WideReply>;
@@ -180,12 +180,12 @@ fn certificate_line(
         ≡ wide_step (InCertificate model reader.raw reader.lines) line.now) }
 {
     let step = match reader.feed(alloc, line) {
-        FeedOf::More => return Ok(Step::On(WideStage::Certificate { model, reader })),
-        FeedOf::Done(raw) => verdict_step(alloc, &model, raw),
-        FeedOf::Refused(unfit) => Ok(Step::Says(WideReply::new(WideSaid::Refused(Refusal::Unfit(
+        Feed::More => return Ok(Step::On(WideStage::Certificate { model, reader })),
+        Feed::Done(raw) => verdict_step(alloc, &model, raw),
+        Feed::Refused(unfit) => Ok(Step::Says(WideReply::new(WideSaid::Refused(Refusal::Unfit(
             unfit,
         ))))),
-        FeedOf::NoMemory => Err(AllocError),
+        Feed::NoMemory => Err(AllocError),
     };
     drop(model);
     drop(reader);

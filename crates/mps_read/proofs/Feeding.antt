@@ -1,15 +1,17 @@
 -- A line that is refused.
 use Rattle.std.proofs.Common.{◌≡◌, ℕ, ◌+◌, List, subst}
 use Rattle.spec_text.specs.declared.line.Line.{Line}
+use Rattle.spec_model.specs.Model.{Model}
+use Rattle.spec_mps.specs.declared.fault.MpsFault.{MpsFault}
 use Rattle.spec_mps.specs.declared.style.Style.{Style}
 use Rattle.spec_mps.specs.Steps.{Outcome, step}
 use Rattle.mps_read.specs.declared.fault.Fault.{Fault}
-use Rattle.mps_read.specs.declared.reader.Feed.{Feed}
+use Rattle.lp_base.specs.declared.feed.Feed.{Feed}
 use Rattle.mps_read.specs.Answer.{Fails}
 use Rattle.mps_read.specs.Feeds.{Feeds}
 use Rattle.mps_read.specs.TextRead.{TextRead}
 
-pub refusal : (v old new : TextRead) (line : Line (List ℕ)) (fault : Fault) (answer : Feed) → v ≡ old →
+pub refusal : (v old new : TextRead) (line : Line (List ℕ)) (fault : Fault) (answer : Feed Model MpsFault) → v ≡ old →
     ((outcome : Outcome) (style : Style) (new : TextRead) →
     Fails outcome fault → Feeds outcome style (v.lines + 1) new answer) →
     Fails (step v.style v.state line) fault →

@@ -1,11 +1,12 @@
 -- What a line is answered.
 use Rattle.std.specs.Prelude.{ℕ, ◌≡◌, Ok, Err}
+use Rattle.spec_model.specs.Model.{Model}
 use Rattle.spec_mps.specs.declared.fault.MpsFault.{MpsFault}
 use Rattle.spec_mps.specs.declared.style.Style.{Style}
 use Rattle.spec_mps.specs.Steps.{Outcome}
 use Rattle.spec_mps.specs.Steps as steps
-use Rattle.mps_read.specs.declared.reader.Feed.{Feed}
-use Rattle.mps_read.specs.declared.reader.Feed.TheVariants as feed
+use Rattle.lp_base.specs.declared.feed.Feed.{Feed}
+use Rattle.lp_base.specs.declared.feed.Feed.TheVariants as feed
 use Rattle.mps_read.specs.TextRead.{TextRead}
 
 -- the text continues after line n
@@ -20,7 +21,7 @@ pub record IsRefused (outcome : Outcome) (n : ℕ) (fault : MpsFault) : Type 0 w
   pub code : outcome ≡ Err fault.code
 
 -- the answer at line n of what its step leads to; if memory runs out it says nothing
-abbrev pub Feeds : Outcome → Style → ℕ → TextRead → Feed → Type 0
+abbrev pub Feeds : Outcome → Style → ℕ → TextRead → Feed Model MpsFault → Type 0
 Feeds outcome style n new feed.More = GoesOn outcome style n new
 Feeds outcome style n new (feed.Done m) = outcome ≡ Ok (steps.Done m)
 Feeds outcome style n new (feed.Refused fault) = IsRefused outcome n fault

@@ -3,7 +3,6 @@
 //! | Item | What it is | Where |
 //! |---|---|---|
 //! | `Reader` | a text that is read; `new` begins it, and `feed` takes its next line | src/reader |
-//! | `Feed` | what a line is answered | src/reader |
 //! | `Style`, `MpsFault`, `Code` | the two forms, and a line that is wrong, as spec_mps has them |  |
 //! | `TextRead` | a reader to contracts: its form, what was read, and the lines so far | specs/TextRead |
 //! | `Feeds` | that an answer is the one of the step of a line | specs/Feeds |
@@ -44,7 +43,7 @@ ghost use Rattle.spec_mps.specs.Reader.{State, start};
 ghost use Rattle.spec_mps.specs.Steps.{More, Done, Spells, Refuses, step};
 ghost use Rattle.mps_read.specs.Leads.{Leads};
 
-pub use reader::{Feed, Reader};
+pub use reader::Reader;
 pub use spec_mps::{Code, MpsFault, Style};
 
 /// The answers at the lines of a text, one by one, are the verdict on the text. After lines that lead to a state, a

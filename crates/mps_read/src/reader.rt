@@ -9,23 +9,11 @@ ghost use Rattle.mps_read.specs.Feeds.{Feeds};
 
 use crate::draft::Draft;
 use crate::fault::Fault;
-use lp_base::Line;
+use lp_base::{Feed, Line};
 use lp_model::Model;
 use spec_mps::{MpsFault, Style};
 use std::alloc::Global;
 use std::marker;
-
-/// What a line is answered.
-#[derive(Drop)]
-pub enum Feed {
-    /// The text continues.
-    More,
-    /// It has ended, and spells this model.
-    Done(Model),
-    /// This line is wrong.
-    Refused(MpsFault),
-    NoMemory,
-}
 
 /// A text of a model that is read line by line. After any answer but `More` the reader has lost what it read.
 pub struct Reader {
@@ -46,7 +34,7 @@ impl marker::Model for Reader {
     ghost invariant = { λ r. IsReached r.style (state_of r.draft) };
 }
 
-fn refused(fault: Fault, line: u32) -> Feed
+fn refused(fault: Fault, line: u32) -> Feed<Model, MpsFault>
     ensures { (outcome : Outcome) (style : Style) (new : TextRead) →
         Fails outcome fault → Feeds outcome style line new result }
 {
@@ -80,7 +68,7 @@ impl Reader {
     }
 
     /// Takes the next line.
-    pub fn feed(&mut self, alloc: Global, line: &Line) -> Feed
+    pub fn feed(&mut self, alloc: Global, line: &Line) -> Feed<Model, MpsFault>
         requires { self.old.lines < 2 ^ 32 - 1 }
         ensures { Feeds (step self.old.style self.old.state line.now) self.old.style
             (self.old.lines + 1) self.new result }
