@@ -6,6 +6,7 @@ ghost use Rattle.basis_board.specs.Board.{first_view, cut_left, cut_right, stori
 use crate::seats::{Pass, Sight, Words};
 use crate::steps::{Claims, Counts, Finishes, Joins, Learns, Parts, Reads, Sees, Writes};
 use atomic_table::Seat;
+use spec_reads::Put;
 use std::alloc::{AllocError, Global};
 
 /// A fixed number of places, each of which takes the words of one basis and never changes afterwards.
@@ -25,17 +26,6 @@ pub enum Look {
     Found(u32, [u64; 49]),
     /// None of the places claimed, so many, was read as done with this shape.
     NoneReady(u32),
-}
-
-/// What a publication came to.
-#[derive(Clone, Copy, Debug, PartialEq, Eq)]
-pub enum Put {
-    /// The words stand at this place.
-    Published(u32),
-    /// All places are claimed, so many.
-    Full(u32),
-    /// Another pass took the place in between: so many were claimed then.
-    Raced(u32),
 }
 
 impl Board {

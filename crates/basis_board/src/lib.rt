@@ -4,7 +4,8 @@
 //! |---|---|---|
 //! | `Board` | a fixed number of places, each of which takes one basis and keeps it | src/board |
 //! | `Pass` | the right to look at a board and to publish on it, with what was seen so far | src/seats |
-//! | `Look`, `Put` | what a look found, and what a publication came to | src/board |
+//! | `Look` | what a look found | src/board |
+//! | `Put` | what a publication came to | spec_reads |
 //! | `View`, `Read` | what contracts see of a pass: what it has seen, published and read | src/seats |
 //! | `Looks`, `Puts`, `Meets` | what the calls promise | specs/Calls |
 //! | `Kept` | the rule of the board's words, which each atomic step keeps | specs/Rule |
@@ -24,9 +25,10 @@ mod laws;
 mod seats;
 mod steps;
 
-pub use board::{Board, Look, Put};
+pub use board::{Board, Look};
 pub use laws::{
     meaning, notes_are_made_then, only_what_is_so_is_noted, rule_is_kept, seen_words_stay,
     steps_are_events, whole_passes_own_all,
 };
 pub use seats::{Pass, Read, Sight, View};
+pub use spec_reads::Put;

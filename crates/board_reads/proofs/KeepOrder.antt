@@ -9,8 +9,8 @@ use Rattle.basis_board.specs.declared.seats.Read.{Read}
 use Rattle.basis_board.specs.declared.seats.Read.TheVariants.{Count, Open, See, Claim, Lost, Done}
 use Rattle.basis_board.specs.declared.board.Look.{Look}
 use Rattle.basis_board.specs.declared.board.Look.TheVariants.{Found, NoneReady}
-use Rattle.basis_board.specs.declared.board.Put.{Put}
-use Rattle.basis_board.specs.declared.board.Put.TheVariants.{Published, Full, Raced}
+use Rattle.spec_reads.specs.declared.read.Put.{Put}
+use Rattle.spec_reads.specs.declared.read.Put.TheVariants.{Published, Full, Raced}
 use Rattle.basis_board.specs.Board.{Each, IsAtMost}
 use Rattle.basis_board.specs.Rule.{StandsIn, Consistent}
 use Rattle.basis_board.specs.Calls.{CountTells, Passed, OpenUnseen, IsDownTo, Looks, Puts}

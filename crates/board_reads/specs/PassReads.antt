@@ -1,7 +1,6 @@
 -- What a pass of a board reads, as the reads of places that sessions share.
 use Rattle.std.specs.Prelude.{◌≡◌, ◌++◌, List, map, reverse, Some, None}
-use Rattle.spec_reads.specs.declared.read.Put.{Put as ExactPut}
-use Rattle.spec_reads.specs.declared.read.Put.TheVariants as put
+use Rattle.spec_reads.specs.declared.read.Put.{Put}
 use Rattle.spec_reads.specs.declared.read.Read.TheVariants as read
 use Rattle.spec_reads.specs.Reads.{Words, ExactRead, Looked, LookReads, PutReads}
 use Rattle.basis_board.specs.declared.seats.View.{View}
@@ -9,8 +8,6 @@ use Rattle.basis_board.specs.declared.seats.Read.{Read}
 use Rattle.basis_board.specs.declared.seats.Read.TheVariants.{Count, Open, See, Claim, Lost, Done}
 use Rattle.basis_board.specs.declared.board.Look.{Look}
 use Rattle.basis_board.specs.declared.board.Look.TheVariants.{Found, NoneReady}
-use Rattle.basis_board.specs.declared.board.Put.{Put}
-use Rattle.basis_board.specs.declared.board.Put.TheVariants.{Published, Full, Raced}
 
 abbrev pub exact_read : Read → ExactRead
 exact_read (Count c) = read.Count c
@@ -28,11 +25,6 @@ abbrev pub looked_by : Look → Looked
 looked_by (Found k words) = Some (record { place = k; words = words })
 looked_by (NoneReady c) = None
 
-abbrev pub exact_put : Put → ExactPut
-exact_put (Published k) = put.Published k
-exact_put (Full c) = put.Full c
-exact_put (Raced e) = put.Raced e
-
 -- the pass reads one look more
 pub record AddsLook (shape : Words) (look : Look) (before after : View) : Type 0 where
   pub made : List ExactRead
@@ -42,5 +34,5 @@ pub record AddsLook (shape : Words) (look : Look) (before after : View) : Type 0
 -- the pass reads one put more
 pub record AddsPut (words : Words) (put : Put) (before after : View) : Type 0 where
   pub made : List ExactRead
-  pub reads : PutReads before.places words (exact_put put) made
+  pub reads : PutReads before.places words put made
   pub all : reads_of after ≡ reads_of before ++ made

@@ -21,7 +21,7 @@ ghost use Rattle.spec_reads.specs.Orders.{AreBacked};
 ghost use Rattle.atomic_table.specs.Table.{State};
 ghost use Rattle.basis_board.specs.declared.seats.View.{View};
 ghost use Rattle.basis_board.specs.declared.board.Look.{Look};
-ghost use Rattle.basis_board.specs.declared.board.Put.{Put};
+ghost use Rattle.spec_reads.specs.declared.read.Put.{Put};
 ghost use Rattle.basis_board.specs.Calls.{CountTells, Looks, Puts};
 ghost use Rattle.basis_board.specs.Rule.{Consistent, Kept, OwnsBelow};
 ghost use Rattle.board_reads.specs.Orderly.{IsWhole, IsOrderly};

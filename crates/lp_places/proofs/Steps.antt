@@ -9,7 +9,7 @@ use Rattle.basis_board.specs.declared.seats.View.{View}
 use Rattle.basis_board.specs.declared.seats.Read.{Read}
 use Rattle.basis_board.specs.declared.seats.Read.TheVariants.{Count, Claim, Done}
 use Rattle.basis_board.specs.declared.board.Look.{Look}
-use Rattle.basis_board.specs.declared.board.Put.{Put}
+use Rattle.spec_reads.specs.declared.read.Put.{Put}
 use Rattle.basis_board.specs.Board.{Has}
 use Rattle.basis_board.specs.Rule.{Consistent}
 use Rattle.basis_board.specs.Calls.{Looks, Puts}

@@ -10,8 +10,8 @@ use Rattle.spec_world.proofs.Places.{Plays-append}
 use Rattle.basis_board.specs.declared.seats.View.{View}
 use Rattle.basis_board.specs.declared.board.Look.{Look}
 use Rattle.basis_board.specs.declared.board.Look.TheVariants.{Found, NoneReady}
-use Rattle.basis_board.specs.declared.board.Put.{Put}
-use Rattle.basis_board.specs.declared.board.Put.TheVariants.{Published, Full, Raced}
+use Rattle.spec_reads.specs.declared.read.Put.{Put}
+use Rattle.spec_reads.specs.declared.read.Put.TheVariants.{Published, Full, Raced}
 use Rattle.basis_board.specs.Rule.{Consistent}
 use Rattle.basis_board.specs.Calls.{Looks, Puts}
 use Rattle.lp_session.specs.Boarding.{StepCalls, MayPut}

@@ -2,7 +2,7 @@
 use Rattle.std.proofs.Common.{◌≡◌, List, ◌++◌, refl, sym, ap, ◌∙◌, subst, inl, inr}
 use Rattle.std.proofs.lemmas.List.{append_assoc}
 use Rattle.spec_shape.specs.Words.{IsWellFormed}
-use Rattle.spec_reads.specs.declared.read.Put.{Put as ExactPut}
+use Rattle.spec_reads.specs.declared.read.Put.{Put}
 use Rattle.spec_reads.specs.Reads.{Words, ExactRead, Looked, LookReads, PutReads}
 use Rattle.spec_server.specs.declared.halves.Next.{Next}
 use Rattle.spec_server.specs.declared.halves.Next.TheVariants as next
@@ -14,10 +14,9 @@ use Rattle.spec_server.specs.Halves.{WhatBecameOf, Standing, StartFits, AwaitsPu
 use Rattle.basis_board.specs.declared.seats.View.{View}
 use Rattle.basis_board.specs.declared.board.Look.{Look}
 use Rattle.basis_board.specs.declared.board.Look.TheVariants.{Found, NoneReady}
-use Rattle.basis_board.specs.declared.board.Put.{Put}
 use Rattle.basis_board.specs.Calls.{Looks, Puts}
 use Rattle.basis_board.specs.Rule.{Consistent}
-use Rattle.board_reads.specs.PassReads.{reads_of, looked_by, exact_put, AddsLook, AddsPut}
+use Rattle.board_reads.specs.PassReads.{reads_of, looked_by, AddsLook, AddsPut}
 use Rattle.board_reads.proofs.Tying.{looks_read, puts_read}
 use Rattle.lp_session.specs.Boarding.{AddsStep, StepCalls}
 
@@ -80,18 +79,16 @@ module _ (old : State) (asked : ExactAsk) (begun : Started ExactReply) (first : 
         tried : AddsPut words put w u
         tried = puts_read words w u put puts
 
-        put_reads : (tell : ExactPut) → tell ≡ exact_put put → PutReads v.places awaits.pending.words tell tried.made
-        put_reads tell e =
-            subst (λ tell. PutReads v.places awaits.pending.words tell tried.made) (sym e)
-            (subst (λ words. PutReads v.places words (exact_put put) tried.made) (sym awaits.words_so)
-            (subst (λ places. PutReads places words (exact_put put) tried.made) (places_kept shape v w look called)
-            tried.reads))
+        put_reads : PutReads v.places awaits.pending.words put tried.made
+        put_reads =
+            subst (λ words. PutReads v.places words put tried.made) (sym awaits.words_so)
+            (subst (λ places. PutReads places words put tried.made) (places_kept shape v w look called) tried.reads)
 
-        pub publishes_so : (tell : ExactPut) (replied : ExactReply) (third : Standing) → tell ≡ exact_put put →
-            PutFits second.state second.awaits tell replied third → AddsStep old asked v replied third.state u
-        publishes_so tell replied third e fits =
-            let so : PutFits old (WhatBecameOf awaits.pending) tell replied third =
-            subst (λ (s : Standing). PutFits s.state s.awaits tell replied third) awaits.awaited fits in
+        pub publishes_so : (replied : ExactReply) (third : Standing) →
+            PutFits second.state second.awaits put replied third → AddsStep old asked v replied third.state u
+        publishes_so replied third fits =
+            let so : PutFits old (WhatBecameOf awaits.pending) put replied third =
+            subst (λ (s : Standing). PutFits s.state s.awaits put replied third) awaits.awaited fits in
             record {
               reads = made.made ++ tried.made;
               step = record {
@@ -104,9 +101,9 @@ module _ (old : State) (asked : ExactAsk) (begun : Started ExactReply) (first : 
                   look = look_reads;
                   works = awaits.works;
                   concludes = record {
-                    put = tell;
+                    put = put;
                     tried = tried.made;
-                    puts = put_reads tell e;
+                    puts = put_reads;
                     all = refl;
                     answer = so.0;
                     kept = ap (λ (s : Standing). s.state) so.1;

@@ -6,7 +6,7 @@ use Rattle.spec_server.specs.Machine.{ExactAsk, ExactReply, State}
 use Rattle.spec_server.specs.Step.{AloneStep}
 use Rattle.basis_board.specs.declared.seats.View.{View}
 use Rattle.basis_board.specs.declared.board.Look.{Look}
-use Rattle.basis_board.specs.declared.board.Put.{Put}
+use Rattle.spec_reads.specs.declared.read.Put.{Put}
 use Rattle.basis_board.specs.Calls.{Looks, Puts}
 use Rattle.basis_board.specs.Known.{Known}
 use Rattle.basis_board.specs.Moments.{NotesMore, WereTrue}

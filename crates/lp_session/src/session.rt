@@ -6,7 +6,7 @@ ghost use Rattle.basis_board.specs.Id.{id_of};
 ghost use Rattle.basis_board.specs.Rule.{Consistent};
 ghost use Rattle.lp_session.specs.Boarding.{AddsStep, StepCalls, NotesOn};
 
-use crate::boarding::{found_by, put_by};
+use crate::boarding::found_by;
 use crate::holding::Holding;
 use crate::stage::{Begun, Stage, Worked};
 use basis_board::{Board, Pass};
@@ -129,7 +129,7 @@ impl Session {
             Next::Reply(reply) => return reply,
             Next::Publish(words) => words,
         };
-        let put = put_by(board.publish(pass, &words));
+        let put = board.publish(pass, &words);
         self.put(put)
     }
 }

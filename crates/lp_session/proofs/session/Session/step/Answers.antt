@@ -13,7 +13,7 @@ pub returns-clause-step : goal.returns-clause-step
 returns-clause-step c =
     publishes_so c.args.self.now.state c.args.ask c.start.result _ c.start.ensures c.args.pass.now.view _ c.in-Look.is _
     c.look.result c.look.ensures.look _ c.found_by-found.ensures c.found.result _ c.found.ensures _ c.in-Publish.is _
-    c.publish.result c.publish.ensures.put _ _ _ c.put_by-put.ensures c.put.ensures
+    c.publish-put.result c.publish-put.ensures.put _ _ c.put.ensures
 
 pub returns-in-Reply-found-clause-calls : goal.returns-in-Reply-found-clause-calls
 returns-in-Reply-found-clause-calls c =
@@ -21,8 +21,8 @@ returns-in-Reply-found-clause-calls c =
 
 pub returns-clause-calls : goal.returns-clause-calls
 returns-clause-calls c =
-    calls_both _ c.look.result _ c.publish.result _ _ _ c.look.ensures.look c.look.ensures.consistent
-    (publishes_formed _ _ _ _ _ c.found.ensures c.in-Publish.is) c.publish.ensures.put
+    calls_both _ c.look.result _ c.publish-put.result _ _ _ c.look.ensures.look c.look.ensures.consistent
+    (publishes_formed _ _ _ _ _ c.found.ensures c.in-Publish.is) c.publish-put.ensures.put
 
 pub returns-in-Reply-clause-notes : goal.returns-in-Reply-clause-notes
 returns-in-Reply-clause-notes c = record { notes = notes_none _ _ refl; were_true = λ h. h }
@@ -34,6 +34,6 @@ returns-in-Reply-found-clause-notes c =
 pub returns-clause-notes : goal.returns-clause-notes
 returns-clause-notes c =
     record {
-      notes = notes_on _ _ _ c.look.ensures.moments c.publish.ensures.moments;
-      were_true = λ h. c.publish.ensures.then;
+      notes = notes_on _ _ _ c.look.ensures.moments c.publish-put.ensures.moments;
+      were_true = λ h. c.publish-put.ensures.then;
     }
