@@ -1,5 +1,5 @@
 -- What the run of a script reads and writes.
-use Rattle.std.specs.Prelude.{ℕ, ◌≡◌, ◌≤◌, ◌⊎◌, List, map, Option, Result, Ok, Err}
+use Rattle.std.specs.Prelude.{ℕ, ◌≡◌, ◌⊎◌, List, map, Option, Result, Ok, Err}
 use Rattle.std.specs.Io.KnownBytes.{Consumes, Appends, IsAtEnd}
 use Rattle.spec_text.specs.Lines.{IsPrefixOf}
 use Rattle.spec_server.specs.declared.addressing.Addressing.TheVariants.{Numbered}
@@ -9,17 +9,11 @@ use Rattle.spec_server.specs.Exchanges.{Exchange, asked_in}
 use Rattle.spec_server.specs.Script.{Ending, Ended, Cut, script_of, ended_asks_of}
 use Rattle.spec_server.specs.Script as script
 use Rattle.spec_server.specs.Output.{script_out}
+pub use Rattle.spec_program.specs.Fits.{IsPlaces, IsWorkers}
 use Rattle.spec_world.specs.Workers.{RunsBy}
 use Rattle.lp_line.specs.declared.halt.Halt.{Halt}
 use Rattle.lp_line.specs.declared.halt.Halt.TheVariants as halts
 use Rattle.spec_server.specs.Streams.{Streams}
-
--- so many places may be shared, and so many workers may share them
-abbrev pub IsPlaces : ℕ → Type 0
-IsPlaces places = (1 ≤ places) × (places ≤ 1024)
-
-abbrev pub IsWorkers : ℕ → Type 0
-IsWorkers workers = (1 ≤ workers) × (workers ≤ 16)
 
 -- these are the asks of the lines that end among the bytes; or all asks of the script, where the input has ended
 abbrev pub AreAsked : Option (List ℕ) → List ℕ → List (Asked ExactAsk) → Type 0
