@@ -7,7 +7,7 @@ use Rattle.std.proofs.lemmas.Bool.{and_parts}
 use borrow.Author.Tests.{leb-true}
 use Rattle.spec_exact.specs.Fraction.{ℚ, 0ℚ, whole, over, neg_ℚ, lt_ℚ}
 use Rattle.spec_exact.specs.Gcd.{gcd}
-use Rattle.spec_exact.specs.Narrow.{IsNarrow, widest}
+use Rattle.spec_exact.specs.Narrow.{IsNarrow, number_limit}
 use Rattle.spec_exact.specs.Quotients.{abs-int_div, abs-neg_ℤ}
 use Rattle.spec_mps.specs.NumberText.{NumberParts, Decimal, Quotient, NumberReading, Is, Wide, signed, parts_of}
 use Rattle.spec_mps.specs.NumberText.{value_of, is_narrow, number_by, number_of, is_negative, without_sign}
@@ -22,12 +22,12 @@ pub zero_narrow : IsNarrow 0ℚ
 unfolding whole
 zero_narrow = record { top = omega arith; bottom = omega arith }
 
-whole_narrow : (n : ℤ) → unsigned_abs n ≤ widest → IsNarrow (whole n)
+whole_narrow : (n : ℤ) → unsigned_abs n ≤ number_limit → IsNarrow (whole n)
 unfolding whole
 whole_narrow n h = record { top = h; bottom = omega arith }
 
 -- lowest terms are no wider
-over_narrow : (n : ℤ) (d : ℕ) → unsigned_abs n ≤ widest → d ≤ widest → IsNarrow (over n d)
+over_narrow : (n : ℤ) (d : ℕ) → unsigned_abs n ≤ number_limit → d ≤ number_limit → IsNarrow (over n d)
 unfolding over
 over_narrow n zero h k = zero_narrow
 over_narrow n (suc d) h k =
@@ -35,7 +35,7 @@ over_narrow n (suc d) h k =
     let less : unsigned_abs n / g ≤ unsigned_abs n = div-le_self (unsigned_abs n) g in
     let low : suc d / g ≤ suc d = div-le_self (suc d) g in
     let size : unsigned_abs (int_div n (pos g)) ≡ unsigned_abs n / g = abs-int_div n g in
-    record { top = subst (λ k. k ≤ widest) (sym size) (omega arith); bottom = omega arith }
+    record { top = subst (λ k. k ≤ number_limit) (sym size) (omega arith); bottom = omega arith }
 
 -- ---- numbers
 
@@ -43,8 +43,9 @@ signed_size : (negative : Bool) (n : ℕ) → unsigned_abs (signed negative n) �
 signed_size true n = abs-neg_ℤ (pos n)
 signed_size false n = refl
 
-signed_narrow : (negative : Bool) (n : ℕ) → nat_le n widest ≡ true → unsigned_abs (signed negative n) ≤ widest
-signed_narrow negative n h = subst (λ k. k ≤ widest) (sym (signed_size negative n)) (leb-true n widest h)
+signed_narrow : (negative : Bool) (n : ℕ) → nat_le n number_limit ≡ true →
+    unsigned_abs (signed negative n) ≤ number_limit
+signed_narrow negative n h = subst (λ k. k ≤ number_limit) (sym (signed_size negative n)) (leb-true n number_limit h)
 
 value_narrow : (p : NumberParts) → is_narrow p ≡ true → IsNarrow (value_of p)
 unfolding is_narrow value_of
@@ -53,12 +54,12 @@ value_narrow (Decimal negative zero (negsuc e)) h = subst IsNarrow (sym (zero_va
 value_narrow (Decimal negative (suc s) (pos e)) h =
     whole_narrow (signed negative (suc s * 10 ^ e)) (signed_narrow negative (suc s * 10 ^ e) h)
 value_narrow (Decimal negative (suc s) (negsuc e)) h =
-    let p = and_parts (nat_le (suc s) widest) (nat_le (10 ^ suc e) widest) h in
+    let p = and_parts (nat_le (suc s) number_limit) (nat_le (10 ^ suc e) number_limit) h in
     over_narrow (signed negative (suc s)) (10 ^ suc e)
-    (signed_narrow negative (suc s) p.0) (leb-true (10 ^ suc e) widest p.1)
+    (signed_narrow negative (suc s) p.0) (leb-true (10 ^ suc e) number_limit p.1)
 value_narrow (Quotient negative top bottom) h =
-    let p = and_parts (nat_le top widest) (nat_le bottom widest) h in
-    over_narrow (signed negative top) bottom (signed_narrow negative top p.0) (leb-true bottom widest p.1)
+    let p = and_parts (nat_le top number_limit) (nat_le bottom number_limit) h in
+    over_narrow (signed negative top) bottom (signed_narrow negative top p.0) (leb-true bottom number_limit p.1)
 
 same_number : (p q : ℚ) → Is p ≡ Is q → p ≡ q
 same_number p q e = cc

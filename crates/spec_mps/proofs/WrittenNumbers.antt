@@ -10,7 +10,7 @@ use Rattle.std.proofs.lemmas.Bool.{and_parts}
 use borrow.Author.Tests.{le-leb, leb-true}
 use Rattle.spec_text.specs.Words.{has_bytes}
 use Rattle.spec_exact.specs.Fraction.{ℚ}
-use Rattle.spec_exact.specs.Narrow.{widest}
+use Rattle.spec_exact.specs.Narrow.{number_limit}
 use Rattle.spec_model.specs.Kept.{is_printable}
 use Rattle.spec_mps.specs.NumberWritten.{last_digits, pointed, quotient_text, placed}
 use Rattle.spec_mps.specs.NumberWritten.{places, size_text, number_text, IsWord}
@@ -30,7 +30,7 @@ has_some : (ds : List ℕ) → 0 < length ds → has_bytes ds ≡ true
 has_some [] h = absurd (omega arith)
 has_some (d ∷ ds) h = refl
 
-decimal_word : (n : ℕ) → n ≤ widest → IsWord (decimal n)
+decimal_word : (n : ℕ) → n ≤ number_limit → IsWord (decimal n)
 decimal_word n h =
     let s = spelled_decimal n h in
     record { some = has_some (decimal n) s.some; printable = printed (decimal n) s.digits }
@@ -41,28 +41,28 @@ longer [] more h k = cc
 longer (b ∷ w) more h k =
     record { some = refl; printable = list_all-append is_printable (b ∷ w) more ∙ rw (h.printable, k) refl }
 
-quotient_word : (n den : ℕ) → n ≤ widest → den ≤ widest → IsWord (quotient_text n den)
+quotient_word : (n den : ℕ) → n ≤ number_limit → den ≤ number_limit → IsWord (quotient_text n den)
 unfolding quotient_text
 quotient_word n den h k = longer (decimal n) (47 ∷ decimal den) (decimal_word n h) (decimal_word den k).printable
 
-pointed_word : (d n : ℕ) → n ≤ widest → IsWord (pointed d n)
+pointed_word : (d n : ℕ) → n ≤ number_limit → IsWord (pointed d n)
 unfolding pointed
 pointed_word d n h =
     let a : n / 10 ^ d ≤ n = div-le_self n (10 ^ d) in
     longer (decimal (n / 10 ^ d)) (46 ∷ last_digits d n)
     (decimal_word (n / 10 ^ d) (omega arith)) (printed (last_digits d n) (last_are_digits d n))
 
-placed_word : (n den : ℕ) (o : Option ℕ) → n ≤ widest → den ≤ widest → IsWord (placed n den o)
+placed_word : (n den : ℕ) (o : Option ℕ) → n ≤ number_limit → den ≤ number_limit → IsWord (placed n den o)
 unfolding placed
 placed_word n den None h k = quotient_word n den h k
-placed_word n den (Some d) h k = by (nat_le (n * (10 ^ d / den)) widest) refl
+placed_word n den (Some d) h k = by (nat_le (n * (10 ^ d / den)) number_limit) refl
   where
-    by : (t : Bool) → nat_le (n * (10 ^ d / den)) widest ≡ t →
+    by : (t : Bool) → nat_le (n * (10 ^ d / den)) number_limit ≡ t →
         IsWord (cond t (pointed d (n * (10 ^ d / den))) (quotient_text n den))
-    by true e = pointed_word d (n * (10 ^ d / den)) (leb-true (n * (10 ^ d / den)) widest e)
+    by true e = pointed_word d (n * (10 ^ d / den)) (leb-true (n * (10 ^ d / den)) number_limit e)
     by false e = quotient_word n den h k
 
-size_word : (n den : ℕ) → n ≤ widest → den ≤ widest → IsWord (size_text n den)
+size_word : (n den : ℕ) → n ≤ number_limit → den ≤ number_limit → IsWord (size_text n den)
 unfolding size_text
 size_word n den h k = by (den == 1)
   where
@@ -70,7 +70,7 @@ size_word n den h k = by (den == 1)
     by true = decimal_word n h
     by false = placed_word n den (places den) h k
 
-pub number_word : (q : ℚ) → unsigned_abs q.num ≤ widest → q.den ≤ widest → IsWord (number_text q)
+pub number_word : (q : ℚ) → unsigned_abs q.num ≤ number_limit → q.den ≤ number_limit → IsWord (number_text q)
 unfolding number_text
 number_word q h k = by (int_lt q.num (pos 0))
   where

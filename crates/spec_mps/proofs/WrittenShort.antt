@@ -12,7 +12,7 @@ use Rattle.std.proofs.Math.Nat.{div-le_self}
 use Rattle.std.proofs.lemmas.Bool.{and_parts}
 use borrow.Author.Tests.{leb-true}
 use Rattle.spec_exact.specs.Fraction.{ℚ, 0ℚ, neg_ℚ, eq_ℚ, lt_ℚ}
-use Rattle.spec_exact.specs.Narrow.{IsNarrow, widest}
+use Rattle.spec_exact.specs.Narrow.{IsNarrow, number_limit}
 use Rattle.spec_exact.proofs.Narrow.{neg_narrow}
 use Rattle.spec_model.specs.declared.parts.Kind.{Kind}
 use Rattle.spec_model.specs.declared.parts.Kind.TheVariants.{L, G, E, N}
@@ -143,10 +143,10 @@ model_name_short name h =
 
 -- ---- numbers
 
-decimal_fits : (n : ℕ) → n ≤ widest → length (decimal n) ≤ 39
+decimal_fits : (n : ℕ) → n ≤ number_limit → length (decimal n) ≤ 39
 decimal_fits n h = length-decimal-le_wide 39 n (omega arith) (omega arith) (omega arith)
 
-quotient_fits : (n den : ℕ) → n ≤ widest → den ≤ widest → length (quotient_text n den) ≤ 79
+quotient_fits : (n den : ℕ) → n ≤ number_limit → den ≤ number_limit → length (quotient_text n den) ≤ 79
 unfolding quotient_text
 quotient_fits n den h k =
     let a = length-append (decimal n) (47 ∷ decimal den) in
@@ -154,7 +154,7 @@ quotient_fits n den h k =
     let c = decimal_fits den k in
     omega arith
 
-pointed_fits : (d n : ℕ) → n ≤ widest → d < 19 → length (pointed d n) ≤ 79
+pointed_fits : (d n : ℕ) → n ≤ number_limit → d < 19 → length (pointed d n) ≤ 79
 unfolding pointed
 pointed_fits d n h k =
     let small = div-le_self n (10 ^ d) in
@@ -163,18 +163,18 @@ pointed_fits d n h k =
     let c = length-last d n in
     omega arith
 
-placed_fits : (n den : ℕ) (o : Option ℕ) → n ≤ widest → den ≤ widest → ((d : ℕ) → o ≡ Some d → d < 19) →
+placed_fits : (n den : ℕ) (o : Option ℕ) → n ≤ number_limit → den ≤ number_limit → ((d : ℕ) → o ≡ Some d → d < 19) →
     length (placed n den o) ≤ 79
 unfolding placed
 placed_fits n den None h k few = quotient_fits n den h k
-placed_fits n den (Some d) h k few = by (nat_le (n * (10 ^ d / den)) widest) refl
+placed_fits n den (Some d) h k few = by (nat_le (n * (10 ^ d / den)) number_limit) refl
   where
-    by : (t : Bool) → nat_le (n * (10 ^ d / den)) widest ≡ t →
+    by : (t : Bool) → nat_le (n * (10 ^ d / den)) number_limit ≡ t →
         length (cond t (pointed d (n * (10 ^ d / den))) (quotient_text n den)) ≤ 79
-    by true e = pointed_fits d (n * (10 ^ d / den)) (leb-true (n * (10 ^ d / den)) widest e) (few d refl)
+    by true e = pointed_fits d (n * (10 ^ d / den)) (leb-true (n * (10 ^ d / den)) number_limit e) (few d refl)
     by false e = quotient_fits n den h k
 
-size_fits : (n den : ℕ) → n ≤ widest → den ≤ widest → length (size_text n den) ≤ 79
+size_fits : (n den : ℕ) → n ≤ number_limit → den ≤ number_limit → length (size_text n den) ≤ 79
 unfolding size_text places
 size_fits n den h k = by (den == 1)
   where

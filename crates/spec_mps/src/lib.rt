@@ -35,7 +35,7 @@ ghost use Rattle.std.specs.Prelude.{◌≡◌, ◌≤◌, ◌↔◌, List, ℕ, 
 ghost use Rattle.spec_text.specs.Lines.{lines_of};
 ghost use Rattle.spec_text.specs.declared.line.Line.{Line};
 ghost use Rattle.spec_exact.specs.Fraction.{ℚ, abs_ℚ, ◌<ℚ◌};
-ghost use Rattle.spec_exact.specs.Narrow.{widest};
+ghost use Rattle.spec_exact.specs.Narrow.{number_limit};
 ghost use Rattle.spec_model.specs.Model.{Model};
 ghost use Rattle.spec_model.specs.Kept.{IsModel};
 ghost use Rattle.spec_mps.specs.declared.style.Style.{Style};
@@ -66,12 +66,12 @@ pub fn spelled_texts_are_kept()
 
 /// The text of a fraction within the width is read as that fraction.
 pub fn written_numbers_are_read()
-    ensures { (q : ℚ) → unsigned_abs q.num ≤ widest → q.den ≤ widest → number_of (number_text q) ≡ Is q }
+    ensures { (q : ℚ) → unsigned_abs q.num ≤ number_limit → q.den ≤ number_limit → number_of (number_text q) ≡ Is q }
 {}
 
 /// The text of a fraction within the width is one word of printed bytes.
 pub fn written_numbers_are_words()
-    ensures { (q : ℚ) → unsigned_abs q.num ≤ widest → q.den ≤ widest → IsWord (number_text q) }
+    ensures { (q : ℚ) → unsigned_abs q.num ≤ number_limit → q.den ≤ number_limit → IsWord (number_text q) }
 {}
 
 /// The text that a model is written as spells that model and no other, in both forms.

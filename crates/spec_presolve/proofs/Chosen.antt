@@ -29,7 +29,7 @@ use Rattle.spec_presolve.specs.Choose.{single_by, single_at, fixed_by, fixed_at,
 use Rattle.spec_presolve.specs.Reduce.{or_old}
 use Rattle.spec_presolve.proofs.Scaled.{divided, scaled, scaled_up, scaled_down}
 use Rattle.spec_presolve.proofs.Tightened.{Tightens, Least, Most}
-use Rattle.spec_exact.specs.Narrow.{IsNarrow, widest}
+use Rattle.spec_exact.specs.Narrow.{IsNarrow, number_limit}
 use Rattle.spec_presolve.proofs.Narrow.{quotient_narrow}
 use Rattle.spec_presolve.proofs.InRows.{Alone, row_empty, row_alone}
 
@@ -138,8 +138,8 @@ pub record SingleFound (limit : Option ℕ) (m : Model) (i j : ℕ) (a : ℚ) (l
   pub tightens : Tightens (scaled a (limits m i)) (bounds m j) lower upper
   pub near_lower : IfSome lower (λ q. abs_ℚ q <ℚ whole (pos (10 ^ 20)))
   pub near_upper : IfSome upper (λ q. abs_ℚ q <ℚ whole (pos (10 ^ 20)))
-  pub narrow_lower : limit ≡ Some widest → IfSome lower IsNarrow
-  pub narrow_upper : limit ≡ Some widest → IfSome upper IsNarrow
+  pub narrow_lower : limit ≡ Some number_limit → IfSome lower IsNarrow
+  pub narrow_upper : limit ≡ Some number_limit → IfSome upper IsNarrow
 
 -- what the row asks for against what there was, and what is given
 pub record Rises (q old new : Option ℚ) : Type 0 where
@@ -228,7 +228,8 @@ narrow_is : (q x : Option ℚ) → IfSome q IsNarrow → ((v : ℚ) → x ≡ So
 narrow_is q None n h = tt
 narrow_is q (Some v) n h = subst (λ o. IfSome o IsNarrow) (h v refl) n
 
-quotient_is_narrow : (limit : Option ℕ) (o q : Option ℚ) (a : ℚ) → quotient limit o a ≡ Ok q → limit ≡ Some widest →
+quotient_is_narrow : (limit : Option ℕ) (o q : Option ℚ) (a : ℚ) → quotient limit o a ≡ Ok q →
+    limit ≡ Some number_limit →
     IfSome q IsNarrow
 quotient_is_narrow limit None q a h e = subst (λ o. IfSome o IsNarrow) (ok_same None q h) tt
 quotient_is_narrow limit (Some l) q a h e =
@@ -245,7 +246,8 @@ pub record Singles (limit : Option ℕ) (m : Model) (i j : ℕ) (a : ℚ) (r : E
 module _ (limit : Option ℕ) (m : Model) (i j : ℕ) (a : ℚ) (inside : i < height m) (alone : Alone m i (width m) j a) where
   given_ok : (l u : Option ℚ) (r : ExactReduction) → given limit m i j a l u ≡ Ok (Some (Reduce r)) →
       record { lower = l; upper = u } ≡ scaled a (limits m i) → is_far l ≡ false → is_far u ≡ false →
-      (limit ≡ Some widest → IfSome l IsNarrow) → (limit ≡ Some widest → IfSome u IsNarrow) → Singles limit m i j a r
+      (limit ≡ Some number_limit → IfSome l IsNarrow) → (limit ≡ Some number_limit → IfSome u IsNarrow) →
+      Singles limit m i j a r
   given_ok l u r h e f g n w =
       let x = then_ok (raised limit l (bounds m j).lower) _ (Some (Reduce r)) h in
       let y = then_ok (cut limit u (bounds m j).upper) _ (Some (Reduce r)) x.2 in
@@ -278,7 +280,8 @@ module _ (limit : Option ℕ) (m : Model) (i j : ℕ) (a : ℚ) (inside : i < he
   near_ok : (p q : Option ℚ) (r : ExactReduction) (s t : Bool) → (is_far p || is_far q) ≡ s → lt_ℚ a 0ℚ ≡ t →
       cond s (Ok None) (cond t (given limit m i j a q p) (given limit m i j a p q)) ≡ Ok (Some (Reduce r)) →
       p ≡ divided a (limits m i).lower → q ≡ divided a (limits m i).upper →
-      (limit ≡ Some widest → IfSome p IsNarrow) → (limit ≡ Some widest → IfSome q IsNarrow) → Singles limit m i j a r
+      (limit ≡ Some number_limit → IfSome p IsNarrow) → (limit ≡ Some number_limit → IfSome q IsNarrow) →
+      Singles limit m i j a r
   near_ok p q r true t e f h k l n w = none_not (Reduce r) (ok_same None (Some (Reduce r)) h)
   near_ok p q r false true e f h k l n w =
       let far = or_parts (is_far p) (is_far q) e in

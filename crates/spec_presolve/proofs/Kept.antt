@@ -4,7 +4,7 @@ use Rattle.std.proofs.Common.{length, pos, ◌^◌, refl, ◌∙◌, subst, arit
 use Rattle.std.proofs.lemmas.List.{length-set}
 use Rattle.std.proofs.lemmas.List.Elements.{All-nil, All-cons}
 use Rattle.spec_exact.specs.Fraction.{ℚ, abs_ℚ, ◌<ℚ◌, whole}
-use Rattle.spec_exact.specs.Narrow.{IsNarrow, widest}
+use Rattle.spec_exact.specs.Narrow.{IsNarrow, number_limit}
 use Rattle.spec_exact.specs.Run.{Run, ◌>>=◌, less_product}
 use Rattle.spec_exact.proofs.Results.{ok_same}
 use Rattle.spec_path.proofs.Runs.{then_ok, steps_ok}
@@ -35,13 +35,15 @@ record Moving (m : Model) (x : Model) : Type 0 where
   same_height : length x.rows ≡ length m.rows
   same_width : length x.columns ≡ length m.columns
 
-shifted_kept : (m : Model) (j : ℕ) (v : ℚ) (x : Model) → IsModel m → shifted (Some widest) m j v ≡ Ok x → Moving m x
+shifted_kept : (m : Model) (j : ℕ) (v : ℚ) (x : Model) → IsModel m → shifted (Some number_limit) m j v ≡ Ok x →
+    Moving m x
 shifted_kept m j v x k h =
     steps_ok (λ _ x. Moving m x) (height m)
-    (λ i n. less_product (Some widest) (coefficient m i j) v (row m i).rhs >>= λ b. Ok (with_rhs n i b)) m x h
+    (λ i n. less_product (Some number_limit) (coefficient m i j) v (row m i).rhs >>= λ b. Ok (with_rhs n i b)) m x h
     (record { kept = k; same_height = refl; same_width = refl })
     (λ i y z l s e.
-    let b = then_ok (less_product (Some widest) (coefficient m i j) v (row m i).rhs) (λ b. Ok (with_rhs y i b)) z e in
+    let b = then_ok (less_product (Some number_limit) (coefficient m i j) v (row m i).rhs) (λ b. Ok (with_rhs y i b)) z
+    e in
     subst (Moving m) (ok_same (with_rhs y i b.0) z b.2)
     (record {
       kept = with_rhs-kept y i b.0 s.kept (omega (arith, l, s.same_height))
@@ -50,8 +52,8 @@ shifted_kept m j v x k h =
       same_width = s.same_width;
     }))
 
-pub after_kept : (m n : Model) (r : ExactReduction) → IsModel m → Goes (Some widest) m r →
-    after (Some widest) m r ≡ Ok n → IsModel n
+pub after_kept : (m n : Model) (r : ExactReduction) → IsModel m → Goes (Some number_limit) m r →
+    after (Some number_limit) m r ≡ Ok n → IsModel n
 unfolding after
 after_kept m n (Empty i) k g a = subst IsModel (ok_same (without_row m i) n a) (without_row-kept m i k g.inside)
 after_kept m n (Single i j a lower upper) k g t =
@@ -64,7 +66,7 @@ after_kept m n (Single i j a lower upper) k g t =
     (bound_or_old upper (bounds m j).upper g.near_upper (g.narrow_upper refl) c.upper w.upper))
     g.inside)
 after_kept m n (Fixed j v) k g a =
-    let p = fixed_parts (Some widest) m n j v a in
+    let p = fixed_parts (Some number_limit) m n j v a in
     let s = shifted_kept m j v p.moved_model k p.moved_is in
     subst IsModel p.same
     (without_column-kept (with_offset p.moved_model p.offset) j
@@ -78,26 +80,28 @@ halted_kept : (m : Model) (h : Halt) (r : Reductions) → IsModel m →
     ◌≡◌ {A = Reductions} (record { steps = []; last = m; halt = h }) r → AllKept r
 halted_kept m h r k e = subst AllKept e (All-nil (λ (s : ExactReduction × Model). IsModel s.1), k)
 
-within_kept : (k : ℕ) (m : Model) (r : Reductions) → IsModel m → reduced_within (Some widest) k m ≡ Ok r → AllKept r
+within_kept : (k : ℕ) (m : Model) (r : Reductions) → IsModel m → reduced_within (Some number_limit) k m ≡ Ok r →
+    AllKept r
 within_kept zero m r w h = halted_kept m Done r w (ok_same _ r h)
 within_kept (suc k) m r w h =
-    let c = then_ok (chosen (Some widest) m) _ r h in by c.0 c.1 c.2 (λ n. within_kept k n)
+    let c = then_ok (chosen (Some number_limit) m) _ r h in by c.0 c.1 c.2 (λ n. within_kept k n)
   where
     next : ExactReduction → Run Reductions
     next s =
-        after (Some widest) m s >>= λ smaller. reduced_within (Some widest) k smaller >>= λ rest.
+        after (Some number_limit) m s >>= λ smaller. reduced_within (Some number_limit) k smaller >>= λ rest.
         Ok (record rest { steps = (s, smaller) ∷ rest.steps })
 
-    by : (c : ExactChoice) → chosen (Some widest) m ≡ Ok c → proceed m c next ≡ Ok r →
-        ((n : Model) (r : Reductions) → IsModel n → reduced_within (Some widest) k n ≡ Ok r → AllKept r) → AllKept r
+    by : (c : ExactChoice) → chosen (Some number_limit) m ≡ Ok c → proceed m c next ≡ Ok r →
+        ((n : Model) (r : Reductions) → IsModel n → reduced_within (Some number_limit) k n ≡ Ok r → AllKept r) →
+        AllKept r
     by (choice.Halt t) f p later = halted_kept m t r w (ok_same _ r p)
     by (Reduce s) f p later =
-        let n = then_ok (after (Some widest) m s) _ r p in
-        let rest = then_ok (reduced_within (Some widest) k n.0) _ r n.2 in
-        let kept = after_kept m n.0 s w (what_goes (Some widest) m s f) n.1 in
+        let n = then_ok (after (Some number_limit) m s) _ r p in
+        let rest = then_ok (reduced_within (Some number_limit) k n.0) _ r n.2 in
+        let kept = after_kept m n.0 s w (what_goes (Some number_limit) m s f) n.1 in
         let l = later n.0 rest.0 kept rest.1 in
         subst AllKept (ok_same _ r rest.2)
         (All-cons (λ (s : ExactReduction × Model). IsModel s.1) (s, n.0) rest.0.steps kept l.0, l.1)
 
-pub kept_all : (m : Model) (r : Reductions) → IsModel m → reduced (Some widest) m ≡ Ok r → AllKept r
+pub kept_all : (m : Model) (r : Reductions) → IsModel m → reduced (Some number_limit) m ≡ Ok r → AllKept r
 kept_all m r k h = within_kept (width m + height m) m r k h

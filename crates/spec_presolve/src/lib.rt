@@ -24,7 +24,7 @@ ghost use Rattle.std.specs.Prelude.{All, ◌≡◌, ◌+◌, ℕ, List, Option, 
 ghost use Rattle.std.specs.List.{filter};
 ghost use Rattle.spec_exact.specs.Fraction.{ℚ, 0ℚ};
 ghost use Rattle.spec_model.specs.Model.{Model, width, height, row, part, is_free};
-ghost use Rattle.spec_exact.specs.Narrow.{widest};
+ghost use Rattle.spec_exact.specs.Narrow.{number_limit};
 ghost use Rattle.spec_model.specs.Kept.{IsModel};
 ghost use Rattle.spec_model.specs.Truth.{IsOptimal, IsInfeasible, IsUnbounded};
 ghost use Rattle.spec_check.specs.declared.certificate.Certificate.{Certificate};
@@ -105,7 +105,7 @@ pub fn reductions_end()
 
 /// At the limit of 127 bits each reduction of a model that may be kept leads to one that may be kept.
 pub fn reduced_models_may_be_kept()
-    ensures { (m : Model) (r : Reductions) → IsModel m → reduced (Some widest) m ≡ Ok r →
+    ensures { (m : Model) (r : Reductions) → IsModel m → reduced (Some number_limit) m ≡ Ok r →
         All (λ s. IsModel s.1) r.steps × IsModel r.last }
 {}
 

@@ -4,7 +4,7 @@ use Rattle.std.proofs.Common.{cond, Option, Some, None, unsigned_abs, int_lt, po
 use Rattle.std.specs.Prelude.{codes, decimal, nat_le}
 use Rattle.std.proofs.lemmas.List.Elements.{All-nil, All-cons, All-tail}
 use Rattle.spec_exact.specs.Fraction.{ℚ}
-use Rattle.spec_exact.specs.Narrow.{widest}
+use Rattle.spec_exact.specs.Narrow.{number_limit}
 use Rattle.spec_exact.specs.declared.past.Op.{Op}
 use Rattle.spec_exact.specs.declared.past.Op.TheVariants.{Add, Sub, Mul, Div, Cmp}
 use Rattle.spec_exact.specs.declared.past.Past.{Past}
@@ -51,7 +51,7 @@ placed_no_feed : (n den : ℕ) (o : Option ℕ) → HasNoFeed (placed n den o)
 unfolding placed
 placed_no_feed n den None = quotient_no_feed n den
 placed_no_feed n den (Some d) =
-    either_no_feed (nat_le (n * (10 ^ d / den)) widest) (pointed d (n * (10 ^ d / den))) (quotient_text n den)
+    either_no_feed (nat_le (n * (10 ^ d / den)) number_limit) (pointed d (n * (10 ^ d / den))) (quotient_text n den)
     (pointed_no_feed d (n * (10 ^ d / den))) (quotient_no_feed n den)
 
 size_no_feed : (n den : ℕ) → HasNoFeed (size_text n den)

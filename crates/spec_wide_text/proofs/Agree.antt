@@ -4,20 +4,20 @@ use Rattle.std.proofs.Common.{refl, ap, ◌∙◌, arith, ◌⊎◌, inl, inr, l
 use Rattle.std.proofs.lemmas.Bool.{cases_lt, leb-true, and_parts}
 use Rattle.std.proofs.Math.Nat.{pow-le-pow_right, mul-le-mul_right}
 use Rattle.spec_exact.specs.Fraction.{ℚ}
-use Rattle.spec_exact.specs.Narrow.{widest}
+use Rattle.spec_exact.specs.Narrow.{number_limit}
 use Rattle.spec_mps.specs.NumberText.{NumberParts, Decimal, Quotient, is_narrow, number_by, number_of, value_of, parts_of}
 use Rattle.spec_mps.specs.NumberText as number
 use Rattle.spec_wide_text.specs.WideText.{is_near, wide_by, wide_of}
 use Rattle.spec_wide_text.specs.WideText as wide
 
-small_power : (e : ℕ) → 10 ^ e ≤ widest → e < 39
+small_power : (e : ℕ) → 10 ^ e ≤ number_limit → e < 39
 small_power e h = by (cases_lt e 39)
   where
     by : (e < 39) ⊎ (39 ≤ e) → e < 39
     by (inl l) = l
     by (inr g) = let p : 10 ^ 39 ≤ 10 ^ e = pow-le-pow_right (omega arith) g in absurd (omega arith)
 
-small_product : (s e : ℕ) → suc s * 10 ^ e ≤ widest → e < 39
+small_product : (s e : ℕ) → suc s * 10 ^ e ≤ number_limit → e < 39
 small_product s e h =
     let m : 1 * 10 ^ e ≤ suc s * 10 ^ e = mul-le-mul_right (10 ^ e) (omega arith) in
     small_power e (omega arith)
@@ -28,7 +28,7 @@ narrow_near (Decimal negative zero e) h = refl
 narrow_near (Decimal negative (suc s) (pos e)) h =
     let l : e < 39 = small_product s e (leb-true _ _ h) in le-leb e 16384 (omega arith)
 narrow_near (Decimal negative (suc s) (negsuc e)) h =
-    let l : suc e < 39 = small_power (suc e) (leb-true (10 ^ suc e) widest (and_parts _ _ h).1) in
+    let l : suc e < 39 = small_power (suc e) (leb-true (10 ^ suc e) number_limit (and_parts _ _ h).1) in
     le-leb (suc e) 16384 (omega (arith, l))
 narrow_near (Quotient negative top bottom) h = refl
 
