@@ -1,9 +1,9 @@
 // The check of a certificate: the conditions in their order.
 ghost use Rattle.std.specs.Prelude.{◌≡◌, Some, length};
+ghost use Rattle.spec_exact.specs.Narrow.{number_limit};
 ghost use Rattle.spec_model.specs.Model.{width, height};
 ghost use Rattle.spec_check.specs.Certificate.{IsFor};
 ghost use Rattle.spec_check.specs.Run as run;
-ghost use Rattle.lp_frac.specs.Narrow.{largest};
 
 use crate::certificate::{Certificate, CheckStop, Known, Verdict};
 use crate::farkas::{clash, infeasible};
@@ -17,7 +17,7 @@ use lp_model::Model;
 fn optimal(model: &Model, x: &Fracs, y: &Fracs) -> Result<Known, CheckStop>
     requires point { length x.now ≡ width model.now }
     requires multipliers { length y.now ≡ height model.now }
-    ensures { result ≡ run.optimal_run (Some largest) model.now x.now y.now }
+    ensures { result ≡ run.optimal_run (Some number_limit) model.now x.now y.now }
 {
     columns_within(model, x)?;
     rows_within(model, x)?;
@@ -30,7 +30,7 @@ fn optimal(model: &Model, x: &Fracs, y: &Fracs) -> Result<Known, CheckStop>
 fn unbounded(model: &Model, x: &Fracs, r: &Fracs) -> Result<Known, CheckStop>
     requires point { length x.now ≡ width model.now }
     requires ray { length r.now ≡ width model.now }
-    ensures { result ≡ run.unbounded_run (Some largest) model.now x.now r.now }
+    ensures { result ≡ run.unbounded_run (Some number_limit) model.now x.now r.now }
 {
     columns_within(model, x)?;
     rows_within(model, x)?;
@@ -44,7 +44,7 @@ fn unbounded(model: &Model, x: &Fracs, r: &Fracs) -> Result<Known, CheckStop>
 #[tactic(auto, unfolding(spec_check::specs::Run::check_run))]
 fn accepted(model: &Model, cert: &Certificate) -> Result<Known, CheckStop>
     requires { IsFor model.now cert.now }
-    ensures { result ≡ run.check_run (Some largest) model.now cert.now }
+    ensures { result ≡ run.check_run (Some number_limit) model.now cert.now }
 {
     match cert {
         Certificate::Optimal { x, y } => optimal(model, x, y),
@@ -68,7 +68,7 @@ fn accepted(model: &Model, cert: &Certificate) -> Result<Known, CheckStop>
 /// bound; 4, a row's sum over the ray leaves no limit; 5, the objective gets better.
 pub fn check(model: &Model, cert: &Certificate) -> Verdict
     requires { IsFor model.now cert.now }
-    ensures { result ≡ run.verdict_of (run.check_run (Some largest) model.now cert.now) }
+    ensures { result ≡ run.verdict_of (run.check_run (Some number_limit) model.now cert.now) }
 {
     match accepted(model, cert) {
         Ok(known) => Verdict::Yes(known),

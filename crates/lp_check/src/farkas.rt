@@ -1,9 +1,9 @@
 // Certificates that no point is feasible: multipliers with which the rows ask for more than the bounds give, and bounds
 // that clash.
 ghost use Rattle.std.specs.Prelude.{◌≡◌, ◌<◌, Some, length};
+ghost use Rattle.spec_exact.specs.Narrow.{number_limit};
 ghost use Rattle.spec_model.specs.Model.{width, height};
 ghost use Rattle.spec_check.specs.Run as run;
-ghost use Rattle.lp_frac.specs.Narrow.{largest};
 
 use crate::certificate::{CheckStop, Known};
 use crate::steps::{need, part, plus_product};
@@ -12,7 +12,7 @@ use lp_model::{Model, lower_limit, upper_limit};
 
 // `d` times a limit that condition `n` asks for, onto `s`.
 fn weighed_at(n: u32, d: Frac, limit: Option<Frac>, s: Frac) -> Result<Frac, CheckStop>
-    ensures { result ≡ run.weighed_at n (Some largest) d limit s }
+    ensures { result ≡ run.weighed_at n (Some number_limit) d limit s }
 {
     match limit {
         None => Err(CheckStop::No(n)),
@@ -37,7 +37,7 @@ macro_rules! weighed {
 fn row_asks(model: &Model, y: &Fracs, i: u32, sum: Frac) -> Result<Frac, CheckStop>
     requires inside { i < height model.now }
     requires multipliers { length y.now ≡ height model.now }
-    ensures { result ≡ run.row_asks_run (Some largest) model.now y.now i sum }
+    ensures { result ≡ run.row_asks_run (Some number_limit) model.now y.now i sum }
 {
     let multiplier = part(y, i);
     let row = model.row(i);
@@ -47,7 +47,7 @@ fn row_asks(model: &Model, y: &Fracs, i: u32, sum: Frac) -> Result<Frac, CheckSt
 // Condition 1: what all rows ask for.
 fn rows_ask(model: &Model, y: &Fracs) -> Result<Frac, CheckStop>
     requires { length y.now ≡ height model.now }
-    ensures { result ≡ run.rows_ask_run (Some largest) model.now y.now }
+    ensures { result ≡ run.rows_ask_run (Some number_limit) model.now y.now }
 {
     let mut sum = zero();
     for i in 0..model.rows() {
@@ -60,7 +60,7 @@ fn rows_ask(model: &Model, y: &Fracs) -> Result<Frac, CheckStop>
 fn priced(model: &Model, y: &Fracs, j: u32) -> Result<Frac, CheckStop>
     requires inside { j < width model.now }
     requires multipliers { length y.now ≡ height model.now }
-    ensures { result ≡ run.priced_run (Some largest) model.now y.now j }
+    ensures { result ≡ run.priced_run (Some number_limit) model.now y.now j }
 {
     let mut sum = zero();
     for i in 0..model.rows() {
@@ -73,7 +73,7 @@ fn priced(model: &Model, y: &Fracs, j: u32) -> Result<Frac, CheckStop>
 fn column_gives(model: &Model, y: &Fracs, j: u32, sum: Frac) -> Result<Frac, CheckStop>
     requires inside { j < width model.now }
     requires multipliers { length y.now ≡ height model.now }
-    ensures { result ≡ run.column_gives_run (Some largest) model.now y.now j sum }
+    ensures { result ≡ run.column_gives_run (Some number_limit) model.now y.now j sum }
 {
     let column = model.col(j);
     let priced = priced(model, y, j)?;
@@ -83,7 +83,7 @@ fn column_gives(model: &Model, y: &Fracs, j: u32, sum: Frac) -> Result<Frac, Che
 // Condition 2: the most that all columns give.
 fn columns_give(model: &Model, y: &Fracs) -> Result<Frac, CheckStop>
     requires { length y.now ≡ height model.now }
-    ensures { result ≡ run.columns_give_run (Some largest) model.now y.now }
+    ensures { result ≡ run.columns_give_run (Some number_limit) model.now y.now }
 {
     let mut sum = zero();
     for j in 0..model.cols() {
@@ -95,7 +95,7 @@ fn columns_give(model: &Model, y: &Fracs) -> Result<Frac, CheckStop>
 // What multipliers show with which the columns give less than the rows ask for.
 pub(crate) fn infeasible(model: &Model, y: &Fracs) -> Result<Known, CheckStop>
     requires { length y.now ≡ height model.now }
-    ensures { result ≡ run.infeasible_run (Some largest) model.now y.now }
+    ensures { result ≡ run.infeasible_run (Some number_limit) model.now y.now }
 {
     let asked = rows_ask(model, y)?;
     let given = columns_give(model, y)?;
@@ -105,7 +105,7 @@ pub(crate) fn infeasible(model: &Model, y: &Fracs) -> Result<Known, CheckStop>
 
 // Condition 1: both bounds are there, and the lower one is above the upper one.
 fn crossed(lower: Option<Frac>, upper: Option<Frac>) -> Result<(), CheckStop>
-    ensures { result ≡ run.crossed_run (Some largest) lower upper }
+    ensures { result ≡ run.crossed_run (Some number_limit) lower upper }
 {
     match (lower, upper) {
         (Some(lower), Some(upper)) => need(1, cmp(lower, upper)?.is_gt()),
@@ -116,7 +116,7 @@ fn crossed(lower: Option<Frac>, upper: Option<Frac>) -> Result<(), CheckStop>
 // What a column shows whose bounds clash.
 pub(crate) fn clash(model: &Model, j: u32) -> Result<Known, CheckStop>
     requires { j < width model.now }
-    ensures { result ≡ run.clash_run (Some largest) model.now j }
+    ensures { result ≡ run.clash_run (Some number_limit) model.now j }
 {
     let column = model.col(j);
     crossed(column.lower, column.upper)?;

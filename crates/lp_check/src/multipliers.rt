@@ -1,9 +1,9 @@
 // Conditions 3 and 4: multipliers of the rows that are complementary to a point.
 ghost use Rattle.std.specs.Prelude.{◌≡◌, ◌<◌, Some, length};
+ghost use Rattle.spec_exact.specs.Narrow.{number_limit};
 ghost use Rattle.spec_model.specs.Model.{width, height, bounds_of};
 ghost use Rattle.spec_check.specs.Checks.{signed as signed_by};
 ghost use Rattle.spec_check.specs.Run as run;
-ghost use Rattle.lp_frac.specs.Narrow.{largest};
 
 use crate::certificate::CheckStop;
 use crate::point::activity;
@@ -25,7 +25,7 @@ pub(crate) fn signed(sense: Sense, cost: Frac) -> Frac
 fn reduced(model: &Model, y: &Fracs, j: u32) -> Result<Frac, CheckStop>
     requires inside { j < width model.now }
     requires multipliers { length y.now ≡ height model.now }
-    ensures { result ≡ run.reduced_run (Some largest) model.now y.now j }
+    ensures { result ≡ run.reduced_run (Some number_limit) model.now y.now j }
 {
     let mut rest = signed(model.sense(), model.col(j).cost);
     for i in 0..model.rows() {
@@ -52,7 +52,7 @@ fn column_tight(model: &Model, x: &Fracs, y: &Fracs, j: u32) -> Result<(), Check
     requires inside { j < width model.now }
     requires point { length x.now ≡ width model.now }
     requires multipliers { length y.now ≡ height model.now }
-    ensures { result ≡ run.column_tight_run (Some largest) model.now x.now y.now j }
+    ensures { result ≡ run.column_tight_run (Some number_limit) model.now x.now y.now j }
 {
     let reduced = reduced(model, y, j)?;
     need(3, is_tight(model.col(j), reduced, part(x, j)))
@@ -62,7 +62,7 @@ fn column_tight(model: &Model, x: &Fracs, y: &Fracs, j: u32) -> Result<(), Check
 pub(crate) fn columns_tight(model: &Model, x: &Fracs, y: &Fracs) -> Result<(), CheckStop>
     requires point { length x.now ≡ width model.now }
     requires multipliers { length y.now ≡ height model.now }
-    ensures { result ≡ run.each (width model.now) (run.column_tight_run (Some largest) model.now x.now y.now) }
+    ensures { result ≡ run.each (width model.now) (run.column_tight_run (Some number_limit) model.now x.now y.now) }
 {
     for j in 0..model.cols() {
         column_tight(model, x, y, j)?;
@@ -75,7 +75,7 @@ fn row_tight(model: &Model, x: &Fracs, y: &Fracs, i: u32) -> Result<(), CheckSto
     requires inside { i < height model.now }
     requires point { length x.now ≡ width model.now }
     requires multipliers { length y.now ≡ height model.now }
-    ensures { result ≡ run.row_tight_run (Some largest) model.now x.now y.now i }
+    ensures { result ≡ run.row_tight_run (Some number_limit) model.now x.now y.now i }
 {
     let multiplier = part(y, i);
     let is_above = is_positive(multiplier);
@@ -96,7 +96,7 @@ fn row_tight(model: &Model, x: &Fracs, y: &Fracs, i: u32) -> Result<(), CheckSto
 pub(crate) fn rows_tight(model: &Model, x: &Fracs, y: &Fracs) -> Result<(), CheckStop>
     requires point { length x.now ≡ width model.now }
     requires multipliers { length y.now ≡ height model.now }
-    ensures { result ≡ run.each (height model.now) (run.row_tight_run (Some largest) model.now x.now y.now) }
+    ensures { result ≡ run.each (height model.now) (run.row_tight_run (Some number_limit) model.now x.now y.now) }
 {
     for i in 0..model.rows() {
         row_tight(model, x, y, i)?;

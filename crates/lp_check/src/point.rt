@@ -1,8 +1,8 @@
 // Conditions 1 and 2: a point is feasible. And its value.
 ghost use Rattle.std.specs.Prelude.{◌≡◌, ◌<◌, Some, length};
+ghost use Rattle.spec_exact.specs.Narrow.{number_limit};
 ghost use Rattle.spec_model.specs.Model.{width, height};
 ghost use Rattle.spec_check.specs.Run as run;
-ghost use Rattle.lp_frac.specs.Narrow.{largest};
 
 use crate::certificate::CheckStop;
 use crate::steps::{at_least, at_most, part, plus_product};
@@ -13,7 +13,7 @@ use lp_model::{Model, lower_limit, upper_limit};
 fn column_within(model: &Model, x: &Fracs, j: u32) -> Result<(), CheckStop>
     requires inside { j < width model.now }
     requires point { length x.now ≡ width model.now }
-    ensures { result ≡ run.column_within_run (Some largest) model.now x.now j }
+    ensures { result ≡ run.column_within_run (Some number_limit) model.now x.now j }
 {
     let column = model.col(j);
     let value = part(x, j);
@@ -24,7 +24,7 @@ fn column_within(model: &Model, x: &Fracs, j: u32) -> Result<(), CheckStop>
 // Each column's value is within its bounds.
 pub(crate) fn columns_within(model: &Model, x: &Fracs) -> Result<(), CheckStop>
     requires { length x.now ≡ width model.now }
-    ensures { result ≡ run.columns_run (Some largest) model.now x.now }
+    ensures { result ≡ run.columns_run (Some number_limit) model.now x.now }
 {
     for j in 0..model.cols() {
         column_within(model, x, j)?;
@@ -36,7 +36,7 @@ pub(crate) fn columns_within(model: &Model, x: &Fracs) -> Result<(), CheckStop>
 pub(crate) fn activity(model: &Model, x: &Fracs, i: u32) -> Result<Frac, CheckStop>
     requires inside { i < height model.now }
     requires point { length x.now ≡ width model.now }
-    ensures { result ≡ run.activity_run (Some largest) model.now x.now i }
+    ensures { result ≡ run.activity_run (Some number_limit) model.now x.now i }
 {
     let mut sum = zero();
     for j in 0..model.cols() {
@@ -49,7 +49,7 @@ pub(crate) fn activity(model: &Model, x: &Fracs, i: u32) -> Result<Frac, CheckSt
 fn row_within(model: &Model, x: &Fracs, i: u32) -> Result<(), CheckStop>
     requires inside { i < height model.now }
     requires point { length x.now ≡ width model.now }
-    ensures { result ≡ run.row_within_run (Some largest) model.now x.now i }
+    ensures { result ≡ run.row_within_run (Some number_limit) model.now x.now i }
 {
     let sum = activity(model, x, i)?;
     let row = model.row(i);
@@ -60,7 +60,7 @@ fn row_within(model: &Model, x: &Fracs, i: u32) -> Result<(), CheckStop>
 // Each row's sum is within the row's limits.
 pub(crate) fn rows_within(model: &Model, x: &Fracs) -> Result<(), CheckStop>
     requires { length x.now ≡ width model.now }
-    ensures { result ≡ run.rows_run (Some largest) model.now x.now }
+    ensures { result ≡ run.rows_run (Some number_limit) model.now x.now }
 {
     for i in 0..model.rows() {
         row_within(model, x, i)?;
@@ -71,7 +71,7 @@ pub(crate) fn rows_within(model: &Model, x: &Fracs) -> Result<(), CheckStop>
 // The sum of the costs.
 pub(crate) fn cost(model: &Model, x: &Fracs) -> Result<Frac, CheckStop>
     requires { length x.now ≡ width model.now }
-    ensures { result ≡ run.cost_run (Some largest) model.now x.now }
+    ensures { result ≡ run.cost_run (Some number_limit) model.now x.now }
 {
     let mut sum = zero();
     for j in 0..model.cols() {
@@ -83,7 +83,7 @@ pub(crate) fn cost(model: &Model, x: &Fracs) -> Result<Frac, CheckStop>
 // What the objective is at the point.
 pub(crate) fn value(model: &Model, x: &Fracs) -> Result<Frac, CheckStop>
     requires { length x.now ≡ width model.now }
-    ensures { result ≡ run.value_run (Some largest) model.now x.now }
+    ensures { result ≡ run.value_run (Some number_limit) model.now x.now }
 {
     let value = add(cost(model, x)?, model.offset())?;
     Ok(value)

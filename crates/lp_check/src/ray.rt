@@ -1,8 +1,8 @@
 // Conditions 3 to 5 of a ray: points stay feasible along it, and get better.
 ghost use Rattle.std.specs.Prelude.{◌≡◌, ◌<◌, Some, length};
+ghost use Rattle.spec_exact.specs.Narrow.{number_limit};
 ghost use Rattle.spec_model.specs.Model.{width, height};
 ghost use Rattle.spec_check.specs.Run as run;
-ghost use Rattle.lp_frac.specs.Narrow.{largest};
 
 use crate::certificate::CheckStop;
 use crate::multipliers::signed;
@@ -58,7 +58,7 @@ pub(crate) fn columns_allow(model: &Model, r: &Fracs) -> Result<(), CheckStop>
 fn row_allows(model: &Model, r: &Fracs, i: u32) -> Result<(), CheckStop>
     requires inside { i < height model.now }
     requires ray { length r.now ≡ width model.now }
-    ensures { result ≡ run.row_allows_run (Some largest) model.now r.now i }
+    ensures { result ≡ run.row_allows_run (Some number_limit) model.now r.now i }
 {
     let sum = activity(model, r, i)?;
     let row = model.row(i);
@@ -69,7 +69,7 @@ fn row_allows(model: &Model, r: &Fracs, i: u32) -> Result<(), CheckStop>
 // Each row's limits allow the ray.
 pub(crate) fn rows_allow(model: &Model, r: &Fracs) -> Result<(), CheckStop>
     requires { length r.now ≡ width model.now }
-    ensures { result ≡ run.each (height model.now) (run.row_allows_run (Some largest) model.now r.now) }
+    ensures { result ≡ run.each (height model.now) (run.row_allows_run (Some number_limit) model.now r.now) }
 {
     for i in 0..model.rows() {
         row_allows(model, r, i)?;
@@ -80,7 +80,7 @@ pub(crate) fn rows_allow(model: &Model, r: &Fracs) -> Result<(), CheckStop>
 // Condition 5: the objective gets better along the ray.
 pub(crate) fn better(model: &Model, r: &Fracs) -> Result<(), CheckStop>
     requires { length r.now ≡ width model.now }
-    ensures { result ≡ run.better_run (Some largest) model.now r.now }
+    ensures { result ≡ run.better_run (Some number_limit) model.now r.now }
 {
     let cost = cost(model, r)?;
     need(5, is_negative(signed(model.sense(), cost)))

@@ -1,8 +1,8 @@
 // The steps of a run: two operations on fractions, and tests against one limit.
 ghost use Rattle.std.specs.Prelude.{◌≡◌, ◌<◌, Some, length};
+ghost use Rattle.spec_exact.specs.Narrow.{number_limit};
 ghost use Rattle.spec_model.specs.Model.{part as part_of};
 ghost use Rattle.spec_check.specs.Run as run;
-ghost use Rattle.lp_frac.specs.Narrow.{largest};
 
 use crate::certificate::CheckStop;
 use lp_frac::{Frac, Fracs, are_same, cmp};
@@ -18,7 +18,7 @@ pub fn part(z: &Fracs, k: u32) -> Frac
 
 // `v * w` onto `s`.
 pub(crate) fn plus_product(v: Frac, w: Frac, s: Frac) -> Result<Frac, CheckStop>
-    ensures { result ≡ run.plus_product (Some largest) v w s }
+    ensures { result ≡ run.plus_product (Some number_limit) v w s }
 {
     let sum = lp_frac::plus_product(v, w, s)?;
     Ok(sum)
@@ -26,7 +26,7 @@ pub(crate) fn plus_product(v: Frac, w: Frac, s: Frac) -> Result<Frac, CheckStop>
 
 // `v * w` off `s`.
 pub(crate) fn less_product(v: Frac, w: Frac, s: Frac) -> Result<Frac, CheckStop>
-    ensures { result ≡ run.less_product (Some largest) v w s }
+    ensures { result ≡ run.less_product (Some number_limit) v w s }
 {
     let rest = lp_frac::less_product(v, w, s)?;
     Ok(rest)
@@ -34,7 +34,7 @@ pub(crate) fn less_product(v: Frac, w: Frac, s: Frac) -> Result<Frac, CheckStop>
 
 // Condition `n`: `v` is at least the limit, if there is one.
 pub(crate) fn at_least(n: u32, limit: Option<Frac>, v: Frac) -> Result<(), CheckStop>
-    ensures { result ≡ run.at_least n (Some largest) limit v }
+    ensures { result ≡ run.at_least n (Some number_limit) limit v }
 {
     match limit {
         None => Ok(()),
@@ -47,7 +47,7 @@ pub(crate) fn at_least(n: u32, limit: Option<Frac>, v: Frac) -> Result<(), Check
 
 // Condition `n`: `v` is at most the limit, if there is one.
 pub(crate) fn at_most(n: u32, limit: Option<Frac>, v: Frac) -> Result<(), CheckStop>
-    ensures { result ≡ run.at_most n (Some largest) limit v }
+    ensures { result ≡ run.at_most n (Some number_limit) limit v }
 {
     match limit {
         None => Ok(()),

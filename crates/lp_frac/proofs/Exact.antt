@@ -18,12 +18,12 @@ use Rattle.spec_exact.proofs.Ring.{◌⊕◌, ◌⊖◌, ◌⊗◌, minus, v0, v
 use Rattle.spec_exact.proofs.Whole.{by_ring}
 use Rattle.spec_exact.proofs.Fraction.{over-same, over_cross, exact_quotient}
 use Rattle.spec_exact.proofs.Limit.{product_exact, sum_exact}
-use Rattle.lp_frac.specs.Narrow.{largest}
+use Rattle.spec_exact.specs.Narrow.{number_limit}
 use Rattle.lp_frac.specs.Less.{IsSmall, IsShort, IsShortProduct, IsDenominator, less_num, less_den}
 use Rattle.lp_frac.proofs.Sizes.{fitted_size}
 
-test : (n k : ℕ) → n ≤ k → k ≤ largest → fits (Some largest) n ≡ true
-test n k h g = le-leb n largest (le_trans h g)
+test : (n k : ℕ) → n ≤ k → k ≤ number_limit → fits (Some number_limit) n ≡ true
+test n k h g = le-leb n number_limit (le_trans h g)
 
 two_pass : (s t : Bool) (x : ℚ) → s ≡ true → t ≡ true → (if s && t then Some x else None) ≡ Some x
 two_pass s t x e f = rw (e, f) refl
@@ -36,8 +36,8 @@ four_pass s t u w x e f g h = rw (e, f, g, h) refl
 part_le : (a : ℤ) (g : ℕ) → unsigned_abs (int_div a (pos g)) ≤ unsigned_abs a
 part_le a g = subst (λ k. k ≤ unsigned_abs a) (sym (abs-int_div a g)) (div-le_self (unsigned_abs a) g)
 
-pub mul_fits : (v w : ℚ) → unsigned_abs v.num * unsigned_abs w.num ≤ largest → v.den * w.den ≤ largest →
-    mul (Some largest) v w ≡ Some (v *ℚ w)
+pub mul_fits : (v w : ℚ) → unsigned_abs v.num * unsigned_abs w.num ≤ number_limit → v.den * w.den ≤ number_limit →
+    mul (Some number_limit) v w ≡ Some (v *ℚ w)
 unfolding mul
 mul_fits v w h k =
     let a = int_div v.num (pos (gcd (unsigned_abs v.num) w.den)) in
@@ -57,8 +57,9 @@ times_le a d g =
     subst (λ n. n ≤ unsigned_abs a * d) (sym (unsigned_abs-mul a (pos (d / g))))
     (mul-le-mul (omega arith) (div-le_self d g))
 
-pub add_fits : (v w : ℚ) → unsigned_abs v.num * w.den + unsigned_abs w.num * v.den ≤ largest → v.den * w.den ≤ largest →
-    add (Some largest) v w ≡ Some (v +ℚ w)
+pub add_fits : (v w : ℚ) → unsigned_abs v.num * w.den + unsigned_abs w.num * v.den ≤ number_limit →
+    v.den * w.den ≤ number_limit →
+    add (Some number_limit) v w ≡ Some (v +ℚ w)
 unfolding add
 add_fits v w h k =
     let l = times_le v.num w.den (gcd v.den w.den) in
@@ -71,11 +72,13 @@ add_fits v w h k =
     (test _ _ (mul-le-mul (div-le_self v.den _) (div-le_self w.den _)) k)
     ∙ ap (λ (x : ℚ). Some x) (sum_exact v w)
 
-pub sub_fits : (v w : ℚ) → unsigned_abs v.num * w.den + unsigned_abs w.num * v.den ≤ largest → v.den * w.den ≤ largest →
-    sub (Some largest) v w ≡ Some (v -ℚ w)
+pub sub_fits : (v w : ℚ) → unsigned_abs v.num * w.den + unsigned_abs w.num * v.den ≤ number_limit →
+    v.den * w.den ≤ number_limit →
+    sub (Some number_limit) v w ≡ Some (v -ℚ w)
 unfolding sub neg_ℚ
 sub_fits v w h k =
-    add_fits v (neg_ℚ w) (subst (λ n. unsigned_abs v.num * w.den + n * v.den ≤ largest) (sym (abs-neg_ℤ w.num)) h) k
+    add_fits v (neg_ℚ w) (subst (λ n. unsigned_abs v.num * w.den + n * v.den ≤ number_limit) (sym (abs-neg_ℤ w.num)) h)
+    k
 
 -- ---- the parts of a product
 record IsBelow (q : ℚ) (n d : ℕ) : Type 0 where
@@ -116,17 +119,17 @@ less_exact v w s =
         ∙ by_ring (e ∷ pos f ∷ n ∷ pos q ∷ pos d ∷ [])
         (v0 ⊗ v3 ⊗ v4 ⊗ v1 ⊖ v2 ⊗ v3 ⊗ (v1 ⊗ v1)) ((v0 ⊗ v4 ⊖ v2 ⊗ v1) ⊗ (v1 ⊗ v3)) refl
 
-pub less_fits : (v w s : ℚ) → unsigned_abs v.num * unsigned_abs w.num ≤ largest → v.den * w.den ≤ largest →
-    unsigned_abs s.num * (v.den * w.den) + unsigned_abs v.num * unsigned_abs w.num * s.den ≤ largest →
-    s.den * (v.den * w.den) ≤ largest →
-    less_product (Some largest) v w s
+pub less_fits : (v w s : ℚ) → unsigned_abs v.num * unsigned_abs w.num ≤ number_limit → v.den * w.den ≤ number_limit →
+    unsigned_abs s.num * (v.den * w.den) + unsigned_abs v.num * unsigned_abs w.num * s.den ≤ number_limit →
+    s.den * (v.den * w.den) ≤ number_limit →
+    less_product (Some number_limit) v w s
     ≡ Ok (over (less_num v.num v.den w.num w.den s.num s.den) (less_den v.den w.den s.den))
 less_fits v w s h k l m =
     let b = product_below v w in
-    let top : unsigned_abs s.num * (v *ℚ w).den + unsigned_abs (v *ℚ w).num * s.den ≤ largest =
+    let top : unsigned_abs s.num * (v *ℚ w).den + unsigned_abs (v *ℚ w).num * s.den ≤ number_limit =
     omega (arith, l, mul-le-mul_left (unsigned_abs s.num) b.den, mul-le-mul_right s.den b.num) in
-    let low : s.den * (v *ℚ w).den ≤ largest = omega (arith, m, mul-le-mul_left s.den b.den) in
-    ap (λ o. told Mul v w o >>= difference_run (Some largest) s) (mul_fits v w h k)
+    let low : s.den * (v *ℚ w).den ≤ number_limit = omega (arith, m, mul-le-mul_left s.den b.den) in
+    ap (λ o. told Mul v w o >>= difference_run (Some number_limit) s) (mul_fits v w h k)
     ∙ ap (told Sub s (v *ℚ w)) (sub_fits s (v *ℚ w) top low)
     ∙ ap Ok (less_exact v w s)
 
@@ -192,7 +195,7 @@ product_of_short n a c b d k v w x y z f e =
 
 pub less_short : (v w s x : ℚ) (n e : ℤ) (k f : ℕ) → IsShortProduct n k v w →
     IsShort e f s → x ≡ over (e *ℤ pos k -ℤ n *ℤ pos f) (k * f) →
-    less_product (Some largest) v w s ≡ Ok x
+    less_product (Some number_limit) v w s ≡ Ok x
 less_short v w s x n e k f hp hs ex =
     let left : unsigned_abs e * k ≤ 9223372036854775808 * 9223372036854775807 = mul-le-mul hs.num_size hp.den_size in
     let right : unsigned_abs n * f ≤ 9223372036854775808 * 9223372036854775807 = mul-le-mul hp.num_size hs.den_size in
@@ -204,16 +207,17 @@ less_short v w s x n e k f hp hs ex =
     ∙ ap Ok (sym ex)
   where
     at : (t : ℕ) (m : ℤ) (l : ℕ) (g : ℤ) (h : ℕ) → unsigned_abs m ≡ t → n ≡ m → k ≡ l → e ≡ g → f ≡ h →
-        (t ≤ largest → l ≤ largest → unsigned_abs g * l + t * h ≤ largest → h * l ≤ largest →
-        less_product (Some largest) v w s ≡ Ok (over (g *ℤ pos l -ℤ m *ℤ pos h) (l * h))) →
-        unsigned_abs n ≤ largest → k ≤ largest → unsigned_abs e * k + unsigned_abs n * f ≤ largest → f * k ≤ largest →
-        less_product (Some largest) v w s ≡ Ok (over (e *ℤ pos k -ℤ n *ℤ pos f) (k * f))
+        (t ≤ number_limit → l ≤ number_limit → unsigned_abs g * l + t * h ≤ number_limit → h * l ≤ number_limit →
+        less_product (Some number_limit) v w s ≡ Ok (over (g *ℤ pos l -ℤ m *ℤ pos h) (l * h))) →
+        unsigned_abs n ≤ number_limit → k ≤ number_limit → unsigned_abs e * k + unsigned_abs n * f ≤ number_limit →
+        f * k ≤ number_limit →
+        less_product (Some number_limit) v w s ≡ Ok (over (e *ℤ pos k -ℤ n *ℤ pos f) (k * f))
     at t m l g h et en ek ee ef = rw (en, ek, ee, ef, sym et) (λ y. y)
 
 -- of small parts
 pub less_small : (v w s x : ℚ) (a c e : ℤ) (b d f : ℕ) (n : ℤ) (k : ℕ) → IsSmall a b v → IsSmall c d w →
     IsSmall e f s → n ≡ a *ℤ c → k ≡ b * d → x ≡ over (e *ℤ pos k -ℤ n *ℤ pos f) (k * f) →
-    less_product (Some largest) v w s ≡ Ok x
+    less_product (Some number_limit) v w s ≡ Ok x
 less_small v w s x a c e b d f n k hv hw hs en ek ex =
     let tops : unsigned_abs a * unsigned_abs c ≤ 2147483648 * 2147483648 = mul-le-mul hv.num_size hw.num_size in
     let lows : b * d ≤ 4294967295 * 4294967295 = mul-le-mul hv.den_size hw.den_size in
@@ -226,12 +230,12 @@ less_small v w s x a c e b d f n k hv hw hs en ek ex =
     ∙ ap Ok (sym (ex ∙ ap₂ (λ (z : ℤ) (l : ℕ). over (e *ℤ pos l -ℤ z *ℤ pos f) (l * f)) en ek))
   where
     at : (p : ℤ) (q : ℕ) (k : ℤ) (l : ℕ) (m : ℤ) (n : ℕ) → a ≡ p → b ≡ q → c ≡ k → d ≡ l → e ≡ m → f ≡ n →
-        (unsigned_abs p * unsigned_abs k ≤ largest → q * l ≤ largest →
-        unsigned_abs m * (q * l) + unsigned_abs p * unsigned_abs k * n ≤ largest → n * (q * l) ≤ largest →
-        less_product (Some largest) v w s ≡ Ok (over (less_num p q k l m n) (less_den q l n))) →
-        unsigned_abs a * unsigned_abs c ≤ largest → b * d ≤ largest →
-        unsigned_abs e * (b * d) + unsigned_abs a * unsigned_abs c * f ≤ largest → f * (b * d) ≤ largest →
-        less_product (Some largest) v w s ≡ Ok (over (less_num a b c d e f) (less_den b d f))
+        (unsigned_abs p * unsigned_abs k ≤ number_limit → q * l ≤ number_limit →
+        unsigned_abs m * (q * l) + unsigned_abs p * unsigned_abs k * n ≤ number_limit → n * (q * l) ≤ number_limit →
+        less_product (Some number_limit) v w s ≡ Ok (over (less_num p q k l m n) (less_den q l n))) →
+        unsigned_abs a * unsigned_abs c ≤ number_limit → b * d ≤ number_limit →
+        unsigned_abs e * (b * d) + unsigned_abs a * unsigned_abs c * f ≤ number_limit → f * (b * d) ≤ number_limit →
+        less_product (Some number_limit) v w s ≡ Ok (over (less_num a b c d e f) (less_den b d f))
     at p q k l m n ea eb ec ed ee ef = rw (ea, eb, ec, ed, ee, ef) (λ h. h)
 
 -- 0 over any denominator

@@ -4,23 +4,23 @@ use mir.Syntax.{w128}
 use Rattle.spec_exact.specs.Fraction.{ℚ, 0ℚ}
 use Rattle.spec_exact.specs.Limit.{add, mul}
 use Rattle.spec_exact.proofs.Zero.{add_left, add_right, mul_left, mul_right}
-use Rattle.lp_frac.specs.Narrow.{largest}
+use Rattle.spec_exact.specs.Narrow.{number_limit}
 use Rattle.lp_frac.specs.Steps.{AreParts}
 use Rattle.lp_frac.proofs.Read.{zero_read, within_read}
 
 module _ {v w : ℚ} {a c : ℤ} {b d : ℕ} (hv : AreParts a b v) (hw : AreParts c d w) where
-  pub add_onto_zero : of_z w128 a ≡ 0 → add (Some largest) v w ≡ Some w
+  pub add_onto_zero : of_z w128 a ≡ 0 → add (Some number_limit) v w ≡ Some w
   add_onto_zero e =
-      ap (λ (x : ℚ). add (Some largest) x w) (zero_read hv e) ∙ add_left largest w (within_read hw)
+      ap (λ (x : ℚ). add (Some number_limit) x w) (zero_read hv e) ∙ add_left number_limit w (within_read hw)
 
-  pub add_zero : of_z w128 c ≡ 0 → add (Some largest) v w ≡ Some v
+  pub add_zero : of_z w128 c ≡ 0 → add (Some number_limit) v w ≡ Some v
   add_zero e =
-      ap (λ (x : ℚ). add (Some largest) v x) (zero_read hw e) ∙ add_right largest v (within_read hv)
+      ap (λ (x : ℚ). add (Some number_limit) v x) (zero_read hw e) ∙ add_right number_limit v (within_read hv)
 
-  pub zero_times : of_z w128 a ≡ 0 → mul (Some largest) v w ≡ Some 0ℚ
+  pub zero_times : of_z w128 a ≡ 0 → mul (Some number_limit) v w ≡ Some 0ℚ
   zero_times e =
-      ap (λ (x : ℚ). mul (Some largest) x w) (zero_read hv e) ∙ mul_left largest w (within_read hw)
+      ap (λ (x : ℚ). mul (Some number_limit) x w) (zero_read hv e) ∙ mul_left number_limit w (within_read hw)
 
-  pub times_zero : of_z w128 c ≡ 0 → mul (Some largest) v w ≡ Some 0ℚ
+  pub times_zero : of_z w128 c ≡ 0 → mul (Some number_limit) v w ≡ Some 0ℚ
   times_zero e =
-      ap (λ (x : ℚ). mul (Some largest) v x) (zero_read hw e) ∙ mul_right largest v (within_read hv)
+      ap (λ (x : ℚ). mul (Some number_limit) v x) (zero_read hw e) ∙ mul_right number_limit v (within_read hv)

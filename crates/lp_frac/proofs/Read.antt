@@ -5,10 +5,10 @@ use mir.Syntax.{w128}
 use Rattle.spec_exact.specs.Fraction.{ℚ, 0ℚ}
 use Rattle.spec_exact.specs.Laws.{IsWithin}
 use Rattle.spec_exact.proofs.Field.{zero_from_num}
-use Rattle.lp_frac.specs.Narrow.{largest}
+use Rattle.spec_exact.specs.Narrow.{number_limit}
 use Rattle.lp_frac.specs.Steps.{AreParts}
 
-fits : (num : ℤ) → unsigned_abs num ≤ largest → SFits w128 num
+fits : (num : ℤ) → unsigned_abs num ≤ number_limit → SFits w128 num
 fits (pos n) h = let k : n < 170141183460469231731687303715884105728 = omega (arith, h) in record { sfits = k }
 fits (negsuc n) h = let k : n < 170141183460469231731687303715884105728 = omega (arith, h) in record { sfits = k }
 
@@ -19,9 +19,9 @@ module _ {num : ℤ} {den : ℕ} {v : ℚ} (h : AreParts num den v) where
   pub zero_read : of_z w128 num ≡ 0 → v ≡ 0ℚ
   zero_read e = zero_from_num v (sym num_read ∙ ap (to_z w128) e)
 
-  pub within_read : IsWithin largest v
+  pub within_read : IsWithin number_limit v
   within_read =
       record {
-        num_fits = subst (λ (z : ℤ). unsigned_abs z ≤ largest) h.num_is h.num_size;
-        den_fits = subst (λ n. n ≤ largest) h.den_is h.den_size;
+        num_fits = subst (λ (z : ℤ). unsigned_abs z ≤ number_limit) h.num_is h.num_size;
+        den_fits = subst (λ n. n ≤ number_limit) h.den_is h.den_size;
       }

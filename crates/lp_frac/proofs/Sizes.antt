@@ -5,9 +5,9 @@ use Rattle.std.proofs.Common.{SFits, to_z, of_z, to_z-of_z}
 use Rattle.std.proofs.Common.{refl, ap, ap₂, subst, sym, ◌∙◌, arith}
 use Rattle.std.proofs.Math.Nat.{mul-le-mul}
 use Rattle.std.proofs.lemmas.Int.{ints, unsigned_abs-mul, fits_signed_from_abs, to_z_pos}
+use Rattle.spec_exact.specs.Narrow.{number_limit}
 use mir.Syntax.{Width, w128}
 use mir.Val.{hbits}
-use Rattle.lp_frac.specs.Narrow.{largest}
 use Rattle.lp_frac.specs.Steps.{narrow}
 
 -- the code's u is z, which fits the width, and whose size is at most n
@@ -74,13 +74,17 @@ difference w x y m n f g hx hy h =
     computed w _ (x -ℤ y) (m + n) (ap₂ ◌-ℤ◌ (to_z-of_z f) (to_z-of_z g)) (omega (arith, abs-diff x y, hx, hy)) h
 
 -- ---- a number within the limit
-pub narrow_fits : (z : ℤ) → unsigned_abs z ≤ largest → ◌≡◌ {A = Option ℤ} (Some z) (narrow z)
-narrow_fits z h = sym (ap (λ (t : Bool). if t then Some z else None) (le-leb (unsigned_abs z) largest h))
+pub narrow_fits : (z : ℤ) → unsigned_abs z ≤ number_limit → ◌≡◌ {A = Option ℤ} (Some z) (narrow z)
+narrow_fits z h = sym (ap (λ (t : Bool). if t then Some z else None) (le-leb (unsigned_abs z) number_limit h))
 
 -- a number that does not fit is past it
 pub narrow_unfit : (z : ℤ) → (SFits w128 z → ⊥) → ◌≡◌ {A = Option ℤ} None (narrow z)
 narrow_unfit z f =
-    by _ (λ e. f (fits_signed_from_abs w128 z (omega (arith, leb→le (unsigned_abs z) largest (subst T (sym e) tt)))))
+    by _ (λ e. f (fits_signed_from_abs w128 z (omega (
+      arith,
+      leb→le (unsigned_abs z) number_limit (subst T (sym e)
+          tt),
+    ))))
   where
     by : (t : Bool) → (t ≡ true → ⊥) → ◌≡◌ {A = Option ℤ} None (if t then Some z else None)
     by true g = absurd (g refl)

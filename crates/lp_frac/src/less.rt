@@ -1,7 +1,7 @@
 // A product put onto a number, and one taken off, by the sizes of their parts.
 ghost use Rattle.std.specs.Prelude.{◌≡◌, Some};
 ghost use Rattle.spec_exact.specs.Run as run;
-ghost use Rattle.lp_frac.specs.Narrow.{largest};
+ghost use Rattle.spec_exact.specs.Narrow.{number_limit};
 
 use crate::frac::{Frac, Past};
 use crate::operations::{add, mul, sub};
@@ -10,7 +10,7 @@ use crate::small::small_less;
 
 /// `s` and `v * w`. Refused at the product or else at the sum, with that operation and its operands.
 pub fn plus_product(v: Frac, w: Frac, s: Frac) -> Result<Frac, Past>
-    ensures { result ≡ run.plus_product (Some largest) v w s }
+    ensures { result ≡ run.plus_product (Some number_limit) v w s }
 {
     let product = mul(v, w)?;
     add(s, product)
@@ -18,7 +18,7 @@ pub fn plus_product(v: Frac, w: Frac, s: Frac) -> Result<Frac, Past>
 
 // The product, and then the difference.
 fn long_less(v: Frac, w: Frac, s: Frac) -> Result<Frac, Past>
-    ensures { result ≡ run.less_product (Some largest) v w s }
+    ensures { result ≡ run.less_product (Some number_limit) v w s }
 {
     let product = mul(v, w)?;
     sub(s, product)
@@ -27,7 +27,7 @@ fn long_less(v: Frac, w: Frac, s: Frac) -> Result<Frac, Past>
 // `s` less `v * w`, where some number on the way is past 32 bits.
 #[inline(never)]
 fn wide_less(v: Frac, w: Frac, s: Frac) -> Result<Frac, Past>
-    ensures { result ≡ run.less_product (Some largest) v w s }
+    ensures { result ≡ run.less_product (Some number_limit) v w s }
 {
     match short_less(v, w, s) {
         Some(x) => Ok(x),
@@ -38,7 +38,7 @@ fn wide_less(v: Frac, w: Frac, s: Frac) -> Result<Frac, Past>
 // The same. Its operands are copied on this way alone, since `wide_less` is not inlined.
 #[inline(always)]
 fn else_wide_less(v: Frac, w: Frac, s: Frac) -> Result<Frac, Past>
-    ensures { result ≡ run.less_product (Some largest) v w s }
+    ensures { result ≡ run.less_product (Some number_limit) v w s }
 {
     wide_less(v, w, s)
 }
@@ -47,7 +47,7 @@ fn else_wide_less(v: Frac, w: Frac, s: Frac) -> Result<Frac, Past>
 /// operands. Its result is not copied, since it is inlined.
 #[inline(always)]
 pub fn less_product(v: Frac, w: Frac, s: Frac) -> Result<Frac, Past>
-    ensures { result ≡ run.less_product (Some largest) v w s }
+    ensures { result ≡ run.less_product (Some number_limit) v w s }
 {
     match small_less(v, w, s) {
         Some(x) => Ok(x),

@@ -1,7 +1,7 @@
 // Fractions of two whole numbers in lowest terms, and factors of two denominators.
 ghost use Rattle.std.specs.Prelude.{◌≡◌, ◌<◌, ◌≤◌, ◌/◌, pos, int_div, unsigned_abs};
 ghost use Rattle.spec_exact.specs.Fraction.{over};
-ghost use Rattle.lp_frac.specs.Narrow.{largest};
+ghost use Rattle.spec_exact.specs.Narrow.{number_limit};
 ghost use Rattle.lp_frac.specs.Less.{IsScaled};
 
 use crate::divisors::{common, common_of_short};
@@ -11,8 +11,8 @@ use crate::limited::{part, part_den};
 // num / den = (num/g) / (den/g), g = gcd(|num|, den)
 pub(crate) fn lowest(num: i128, den: u128) -> Frac
     requires positive { 0 < den }
-    requires num_fits { unsigned_abs num ≤ largest }
-    requires den_fits { den ≤ largest }
+    requires num_fits { unsigned_abs num ≤ number_limit }
+    requires den_fits { den ≤ number_limit }
     ensures { result ≡ over num den }
 {
     let g = common(num.unsigned_abs(), den);

@@ -3,7 +3,7 @@ ghost use Rattle.std.specs.Prelude.{◌≡◌, ◌≢◌, ◌≤◌, unsigned_ab
 ghost use Rattle.spec_exact.specs.Fraction.{neg_ℚ, abs_ℚ, 0ℚ, 1ℚ, inverse, eq_ℚ, lt_ℚ};
 ghost use Rattle.spec_exact.specs.Limit.{sign as sign_of};
 ghost use Rattle.spec_exact.specs.Laws.{IsWithin};
-ghost use Rattle.lp_frac.specs.Narrow.{largest};
+ghost use Rattle.spec_exact.specs.Narrow.{number_limit};
 
 use crate::frac::Frac;
 use crate::limited::signed;
@@ -12,7 +12,7 @@ use std::cmp::Ordering;
 /// The numerator, whose magnitude is at most `LARGEST`.
 pub fn num(v: Frac) -> i128
     ensures value { result ≡ v.num }
-    ensures size { unsigned_abs result ≤ largest }
+    ensures size { unsigned_abs result ≤ number_limit }
 {
     v.top()
 }
@@ -20,7 +20,7 @@ pub fn num(v: Frac) -> i128
 /// The denominator, at least 1 and at most `LARGEST`.
 pub fn den(v: Frac) -> i128
     ensures value { result ≡ pos v.den }
-    ensures size { v.den ≤ largest }
+    ensures size { v.den ≤ number_limit }
 {
     v.bottom() as i128
 }
@@ -40,14 +40,14 @@ pub fn is_zero(v: Frac) -> bool
 
 /// Both parts of a fraction are within the limit. It does nothing: proofs call it for this fact.
 pub fn within(v: Frac)
-    ensures { IsWithin largest v }
+    ensures { IsWithin number_limit v }
 {
     let (_, _) = (v.top(), v.bottom());
 }
 
 /// The same of each fraction of a list.
 pub fn all_within(vs: &[Frac])
-    ensures { All (IsWithin largest) vs.now }
+    ensures { All (IsWithin number_limit) vs.now }
 {
     for v in vs {
         within(*v);

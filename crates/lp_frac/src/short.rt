@@ -2,7 +2,7 @@
 ghost use Rattle.std.specs.Prelude.{◌≡◌, ◌<◌, ◌≤◌, ◌*◌, Some, IfSome, Ok, ◌*ℤ◌, ◌-ℤ◌, pos, unsigned_abs};
 ghost use Rattle.spec_exact.specs.Fraction.{over};
 ghost use Rattle.spec_exact.specs.Run.{less_product};
-ghost use Rattle.lp_frac.specs.Narrow.{largest};
+ghost use Rattle.spec_exact.specs.Narrow.{number_limit};
 ghost use Rattle.lp_frac.specs.Less.{IsShort, IsShortProduct, IsNumerator, IsDenominator};
 
 use crate::frac::Frac;
@@ -91,7 +91,7 @@ fn long_num(e: i64, p: u64, n: i64, q: u64) -> i128
     requires p_size { p ≤ 9223372036854775807 }
     requires q_size { q ≤ 9223372036854775807 }
     ensures value { result ≡ e *ℤ pos p -ℤ n *ℤ pos q }
-    ensures size { unsigned_abs result ≤ largest }
+    ensures size { unsigned_abs result ≤ number_limit }
 {
     long_scaled(e, p) - long_scaled(n, q)
 }
@@ -101,7 +101,7 @@ fn long_den(p: u64, f: u64) -> u128
     requires p_size { p ≤ 9223372036854775807 }
     requires f_size { f ≤ 9223372036854775807 }
     ensures value { result ≡ p * f }
-    ensures size { result ≤ largest }
+    ensures size { result ≤ number_limit }
 {
     p as u128 * f as u128
 }
@@ -136,7 +136,7 @@ fn difference(e: i64, f: u64, n: i64, k: u64) -> Frac
 // `s` less `v * w`, where all parts and those of the product have 64 bits.
 // e/f - (a/b) (c/d) = e/f - n/k, n = a c, k = b d
 pub(crate) fn short_less(v: Frac, w: Frac, s: Frac) -> Option<Frac>
-    ensures { IfSome result (λ x. less_product (Some largest) v w s ≡ Ok x) }
+    ensures { IfSome result (λ x. less_product (Some number_limit) v w s ≡ Ok x) }
 {
     let Some((e, f)) = short(s) else {
         return None;

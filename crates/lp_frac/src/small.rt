@@ -2,7 +2,7 @@
 ghost use Rattle.std.specs.Prelude.{◌≡◌, ◌<◌, ◌≤◌, ◌*◌, Some, IfSome, Ok, ◌*ℤ◌, ◌-ℤ◌, pos, unsigned_abs};
 ghost use Rattle.spec_exact.specs.Fraction.{over};
 ghost use Rattle.spec_exact.specs.Run.{less_product};
-ghost use Rattle.lp_frac.specs.Narrow.{largest};
+ghost use Rattle.spec_exact.specs.Narrow.{number_limit};
 ghost use Rattle.lp_frac.specs.Less.{IsSmall, IsTerm};
 
 use crate::frac::Frac;
@@ -126,7 +126,7 @@ fn small_difference(e: i32, f: u64, n: i64, k: u64) -> Option<Frac>
 // e/f - (a/b) (c/d) = e/f - n/k, n = a c, k = b d
 #[inline(always)]
 pub(crate) fn small_less(v: Frac, w: Frac, s: Frac) -> Option<Frac>
-    ensures { IfSome result (λ x. less_product (Some largest) v w s ≡ Ok x) }
+    ensures { IfSome result (λ x. less_product (Some number_limit) v w s ≡ Ok x) }
 {
     let Some((a, b)) = small(v) else {
         return None;

@@ -1,7 +1,7 @@
 // The limits of a row: as operations, and taken at 127 bits.
 ghost use Rattle.std.specs.Prelude.{◌≡◌, Some};
+ghost use Rattle.spec_exact.specs.Narrow.{number_limit};
 ghost use Rattle.spec_model.specs.Model as model;
-ghost use Rattle.lp_frac.specs.Narrow.{largest};
 
 use crate::model::Row;
 use lp_frac::{Frac, Past, abs, add, is_negative, sub};
@@ -42,7 +42,7 @@ pub fn upper_of(row: &Row) -> RowLimit
 }
 
 fn taken(limit: RowLimit) -> Result<Option<Frac>, Past>
-    ensures { result ≡ model.limit_run (Some largest) limit }
+    ensures { result ≡ model.limit_run (Some number_limit) limit }
 {
     match limit {
         RowLimit::Absent => Ok(None),
@@ -54,14 +54,14 @@ fn taken(limit: RowLimit) -> Result<Option<Frac>, Past>
 
 /// The least that the row's sum may be, at 127 bits.
 pub fn lower_limit(row: &Row) -> Result<Option<Frac>, Past>
-    ensures { result ≡ model.lower_run (Some largest) row.now }
+    ensures { result ≡ model.lower_run (Some number_limit) row.now }
 {
     taken(lower_of(row))
 }
 
 /// The most that the row's sum may be, at 127 bits.
 pub fn upper_limit(row: &Row) -> Result<Option<Frac>, Past>
-    ensures { result ≡ model.upper_run (Some largest) row.now }
+    ensures { result ≡ model.upper_run (Some number_limit) row.now }
 {
     taken(upper_of(row))
 }

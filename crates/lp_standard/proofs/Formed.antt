@@ -12,7 +12,7 @@ use Rattle.spec_exact.specs.Run.{◌>>=◌, refused_as, list_run, steps}
 use Rattle.spec_simplex.specs.Form.{Form, IsForm, limits_run, column_clash, least_cost, formed, form_of}
 use Rattle.lp_standard.specs.Answer.{IsFaultOf, IsStopOf}
 use Rattle.spec_exact.proofs.Stops.{list_more}
-use Rattle.lp_frac.specs.Narrow.{largest}
+use Rattle.spec_exact.specs.Narrow.{number_limit}
 use Rattle.lp_standard.specs.Bounds.{AreBounds}
 use Rattle.lp_standard.specs.Fault.{stop_of}
 use Rattle.lp_frac.specs.declared.stop.Stop.{Stop}
@@ -36,12 +36,12 @@ pushed f front done a all h =
     ∙ ap (λ back. front ++ back) (sym (map-append f done (a ∷ [])))
 
 pub row_more : (m : Model) (lower upper : List (Option ℚ)) (i : ℕ) (least most : Option ℚ) →
-    AreBounds m i lower upper → limits_run (Some largest) (row m i) ≡ Ok (least, most) →
+    AreBounds m i lower upper → limits_run (Some number_limit) (row m i) ≡ Ok (least, most) →
     AreBounds m (i + 1) (lower ++ least ∷ []) (upper ++ most ∷ [])
 row_more m lower upper i least most b e =
     record {
       limits = b.limits ++ (least, most) ∷ [];
-      taken = list_more i (λ i. limits_run (Some largest) (row m i)) b.limits (least, most) b.taken e;
+      taken = list_more i (λ i. limits_run (Some number_limit) (row m i)) b.limits (least, most) b.taken e;
       lower_is = pushed (λ l. l.0) (map (λ c. c.lower) m.columns) b.limits (least, most) lower b.lower_is;
       upper_is = pushed (λ l. l.1) (map (λ c. c.upper) m.columns) b.limits (least, most) upper b.upper_is;
     }

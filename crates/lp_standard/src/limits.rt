@@ -1,7 +1,7 @@
 // The limits of a row, and bounds that clash.
 ghost use Rattle.std.specs.Prelude.{◌≡◌, Some};
+ghost use Rattle.spec_exact.specs.Narrow.{number_limit};
 ghost use Rattle.spec_simplex.specs.Form as forms;
-ghost use Rattle.lp_frac.specs.Narrow.{largest};
 
 use lp_frac::{Frac, Past, cmp};
 use lp_model::{Row, lower_limit, upper_limit};
@@ -11,7 +11,7 @@ type FormFault = spec_simplex::FormFault<Frac>;
 
 // The least and the most that the row's sum may be.
 pub(crate) fn limits(row: &Row) -> Result<(Option<Frac>, Option<Frac>), Past>
-    ensures { result ≡ forms.limits_run (Some largest) row.now }
+    ensures { result ≡ forms.limits_run (Some number_limit) row.now }
 {
     let lower = lower_limit(row)?;
     let upper = upper_limit(row)?;
@@ -20,7 +20,7 @@ pub(crate) fn limits(row: &Row) -> Result<(Option<Frac>, Option<Frac>), Past>
 
 // Whether the bounds of column `j` clash.
 pub(crate) fn clash(j: u32, lower: Option<Frac>, upper: Option<Frac>) -> Result<(), FormFault>
-    ensures { result ≡ forms.bounds_clash (Some largest) j lower upper }
+    ensures { result ≡ forms.bounds_clash (Some number_limit) j lower upper }
 {
     match (lower, upper) {
         (Some(lower), Some(upper)) => match cmp(lower, upper) {

@@ -4,8 +4,8 @@ ghost use Rattle.spec_exact.specs.Fraction.{0ℚ};
 ghost use Rattle.spec_model.specs.Model.{width, height, row};
 ghost use Rattle.spec_model.specs.Kept.{AreEntries};
 ghost use Rattle.spec_exact.specs.Run.{list_run, steps};
+ghost use Rattle.spec_exact.specs.Narrow.{number_limit};
 ghost use Rattle.spec_simplex.specs.Form as forms;
-ghost use Rattle.lp_frac.specs.Narrow.{largest};
 ghost use Rattle.lp_standard.specs.Answer.{IsFaultOf, IsStopOf};
 ghost use Rattle.lp_standard.specs.Bounds.{AreBounds};
 
@@ -38,7 +38,7 @@ fn fill_bounds(model: &Model, lower: &mut BoundList, upper: &mut BoundList) -> R
     requires upper { upper.old ≡ [] }
     ensures ok { OnOk result (AreBounds model.now (height model.now) lower.new upper.new) }
     ensures err { IfErr result
-        (IsStopOf (list_run (height model.now) (λ i. forms.limits_run (Some largest) (row model.now i)))) }
+        (IsStopOf (list_run (height model.now) (λ i. forms.limits_run (Some number_limit) (row model.now i)))) }
 {
     for j in 0..model.cols() {
         let column = model.col(j);
@@ -53,7 +53,7 @@ fn fill_bounds(model: &Model, lower: &mut BoundList, upper: &mut BoundList) -> R
 
 // The first column whose bounds clash, if there is one.
 fn first_clash(model: &Model) -> Result<(), FormFault>
-    ensures { result ≡ steps (width model.now) (λ j _. forms.column_clash (Some largest) model.now j) tt }
+    ensures { result ≡ steps (width model.now) (λ j _. forms.column_clash (Some number_limit) model.now j) tt }
 {
     for j in 0..model.cols() {
         let column = model.col(j);
@@ -104,8 +104,8 @@ fn costs(alloc: Global, model: &Model) -> Result<Fracs, AllocError>
 /// taken first, in order, then the bounds of the columns are compared, in order; the first refused
 /// operation, or the first clash, is why there is none.
 pub fn form(alloc: Global, model: &Model) -> Result<Form, FormStop>
-    ensures ok { IfOk result (λ f. forms.form_of (Some largest) model.now ≡ Ok f) }
-    ensures err { IfErr result (IsFaultOf (forms.form_of (Some largest) model.now)) }
+    ensures ok { IfOk result (λ f. forms.form_of (Some number_limit) model.now ≡ Ok f) }
+    ensures err { IfErr result (IsFaultOf (forms.form_of (Some number_limit) model.now)) }
 {
     let mut lower = BoundList::new(alloc);
     let mut upper = BoundList::new(alloc);

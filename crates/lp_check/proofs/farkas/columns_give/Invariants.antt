@@ -2,10 +2,10 @@
 use Rattle.std.proofs.Common.{◌≡◌, Some, Ok}
 use Rattle.spec_exact.specs.Fraction.{0ℚ}
 use Rattle.spec_exact.specs.Run.{steps}
+use Rattle.spec_exact.specs.Narrow.{number_limit}
 use Rattle.spec_check.specs.Run as run
-use Rattle.lp_frac.specs.Narrow.{largest}
 use Rattle.lp_check.proofs.farkas.columns_give.Given as goal
 
 -- what the columns so far give
 abbrev pub invariant-loop-j : goal.invariant-loop-j
-invariant-loop-j l = steps l.j (run.column_gives_run (Some largest) l.model l.y) 0ℚ ≡ Ok l.sum
+invariant-loop-j l = steps l.j (run.column_gives_run (Some number_limit) l.model l.y) 0ℚ ≡ Ok l.sum

@@ -2,10 +2,10 @@
 use Rattle.std.proofs.Common.{◌≡◌, Some, Ok}
 use Rattle.spec_exact.specs.Fraction.{0ℚ}
 use Rattle.spec_exact.specs.Run.{steps}
+use Rattle.spec_exact.specs.Narrow.{number_limit}
 use Rattle.spec_check.specs.Run as run
-use Rattle.lp_frac.specs.Narrow.{largest}
 use Rattle.lp_check.proofs.farkas.rows_ask.Given as goal
 
 -- what the rows so far ask for
 abbrev pub invariant-loop-i : goal.invariant-loop-i
-invariant-loop-i l = steps l.i (run.row_asks_run (Some largest) l.model l.y) 0ℚ ≡ Ok l.sum
+invariant-loop-i l = steps l.i (run.row_asks_run (Some number_limit) l.model l.y) 0ℚ ≡ Ok l.sum

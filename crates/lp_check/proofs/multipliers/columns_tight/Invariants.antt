@@ -1,9 +1,9 @@
 -- The loop over the columns.
 use Rattle.std.proofs.Common.{◌≡◌, Some, Ok}
+use Rattle.spec_exact.specs.Narrow.{number_limit}
 use Rattle.spec_check.specs.Run as run
-use Rattle.lp_frac.specs.Narrow.{largest}
 use Rattle.lp_check.proofs.multipliers.columns_tight.Given as goal
 
 -- the condition holds of the columns so far
 abbrev pub invariant-loop-j : goal.invariant-loop-j
-invariant-loop-j l = run.each l.j (run.column_tight_run (Some largest) l.model l.x l.y) ≡ Ok tt
+invariant-loop-j l = run.each l.j (run.column_tight_run (Some number_limit) l.model l.x l.y) ≡ Ok tt

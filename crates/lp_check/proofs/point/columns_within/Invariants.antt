@@ -1,9 +1,9 @@
 -- The loop over the columns.
 use Rattle.std.proofs.Common.{◌≡◌, Some, Ok}
+use Rattle.spec_exact.specs.Narrow.{number_limit}
 use Rattle.spec_check.specs.Run as run
-use Rattle.lp_frac.specs.Narrow.{largest}
 use Rattle.lp_check.proofs.point.columns_within.Given as goal
 
 -- the columns so far are within their bounds
 abbrev pub invariant-loop-j : goal.invariant-loop-j
-invariant-loop-j l = run.each l.j (run.column_within_run (Some largest) l.model l.x) ≡ Ok tt
+invariant-loop-j l = run.each l.j (run.column_within_run (Some number_limit) l.model l.x) ≡ Ok tt

@@ -3,7 +3,7 @@ use Rattle.std.proofs.Common.{◌≡◌, ◌≤◌, SFits, ℤ, to_z-of_z, unsig
 use mir.Syntax.{w64, w128}
 use Rattle.spec_exact.specs.Gcd.{gcd}
 use Rattle.spec_exact.specs.Fraction.{over}
-use Rattle.lp_frac.specs.Narrow.{largest}
+use Rattle.spec_exact.specs.Narrow.{number_limit}
 use Rattle.lp_frac.proofs.Sizes.{cast_is}
 use Rattle.lp_frac.proofs.Exact.{IsLowest, in_lowest}
 use Rattle.lp_frac.proofs.lowest.divided.Goals as goal
@@ -27,7 +27,7 @@ make-requires c =
       lowest =
           ap (λ z. gcd (unsigned_abs z) c.args.den) same
           ∙ ap (λ k. gcd k c.args.den) (sym size) ∙ sym g.ensures.value ∙ c.if-g-eq1.true;
-      num_fits = subst (λ z. unsigned_abs z ≤ largest) (sym same) (omega (arith, c.requires.num_fits));
+      num_fits = subst (λ z. unsigned_abs z ≤ number_limit) (sym same) (omega (arith, c.requires.num_fits));
       den_fits = omega (arith, c.requires.den_fits);
     }
 

@@ -6,16 +6,16 @@ use mir.Syntax.{w128}
 use borrow.Author.Tests.{le-leb}
 use Rattle.spec_exact.specs.Fraction.{ℚ, whole}
 use Rattle.spec_exact.proofs.Field.{whole_over}
+use Rattle.spec_exact.specs.Narrow.{number_limit}
 use Rattle.lp_frac.specs.declared.frac.FracFault.{FracFault}
-use Rattle.lp_frac.specs.Narrow.{largest}
 use Rattle.lp_frac.specs.Answer.{checked, fraction_of}
 use Rattle.lp_gen.proofs.draws.whole.Goals as goal
 
 checked_whole : (n : ℕ) → n < 2 ^ 32 → checked (whole (pos n)) ≡ Ok (whole (pos n))
 unfolding whole
 checked_whole n h =
-    let low : n ≤ largest = omega arith in
-    rw (le-leb n largest low) refl
+    let low : n ≤ number_limit = omega arith in
+    rw (le-leb n number_limit low) refl
 
 fraction_whole : (n : ℕ) → n < 2 ^ 32 → fraction_of (pos n) (pos 1) ≡ Ok (whole (pos n))
 fraction_whole n h = ap checked (sym (whole_over (pos n))) ∙ checked_whole n h
