@@ -1,9 +1,9 @@
 // Which column enters: the dual ratio test.
 ghost use Rattle.std.specs.Prelude.{◌≡◌, ◌≢◌, ◌<◌, Some};
 ghost use Rattle.spec_exact.specs.Fraction.{0ℚ};
+ghost use Rattle.spec_exact.specs.Narrow.{number_limit};
 ghost use Rattle.spec_simplex.specs.Tableau.{all_columns};
 ghost use Rattle.spec_simplex.specs.Dual as dual;
-ghost use Rattle.lp_frac.specs.Narrow.{largest};
 
 use lp_frac::{Frac, Past, abs, cmp, div};
 use lp_primal::{is_fixed, way};
@@ -27,7 +27,7 @@ fn column_way(tab: &Tableau, p: u32, below: bool, k: u32) -> Option<bool>
 
 // The one with the lesser ratio, and of equal ones the first.
 fn cheaper(new: Cheapest, best: Option<Cheapest>) -> Result<Option<Cheapest>, Past>
-    ensures { result ≡ dual.cheaper_run (Some largest) new best }
+    ensures { result ≡ dual.cheaper_run (Some number_limit) new best }
 {
     let Some(best) = best else {
         return Ok(Some(new));
@@ -48,7 +48,7 @@ fn cheapest_with(
 ) -> Result<Option<Cheapest>, Past>
     requires place { p < tab.now.rows }
     requires column { k < all_columns tab.now }
-    ensures { result ≡ dual.cheapest_with (Some largest) tab.now p below k best }
+    ensures { result ≡ dual.cheapest_with (Some number_limit) tab.now p below k best }
 {
     match column_way(tab, p, below, k) {
         None => Ok(best),
@@ -62,7 +62,7 @@ fn cheapest_with(
 // The least ratio of all, if any column may enter.
 pub(crate) fn cheapest(tab: &Tableau, p: u32, below: bool) -> Result<Option<Cheapest>, Past>
     requires { p < tab.now.rows }
-    ensures { result ≡ dual.cheapest_run (Some largest) tab.now p below }
+    ensures { result ≡ dual.cheapest_run (Some number_limit) tab.now p below }
 {
     let mut best = None;
     for k in 0..tab.width() {

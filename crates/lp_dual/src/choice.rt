@@ -1,7 +1,7 @@
 // What a dual step does.
 ghost use Rattle.std.specs.Prelude.{◌≡◌, IfOk, Some};
+ghost use Rattle.spec_exact.specs.Narrow.{number_limit};
 ghost use Rattle.spec_simplex.specs.Dual as dual;
-ghost use Rattle.lp_frac.specs.Narrow.{largest};
 ghost use Rattle.lp_dual.specs.Starts.{IsSeated, CanTake};
 
 use crate::candidates::cheapest;
@@ -39,7 +39,7 @@ fn passed_bound(below: bool) -> Status
 #[tactic(auto, unfolding(spec_simplex::specs::Dual::dual_choice_run))]
 pub(crate) fn choice(tab: &Tableau) -> Result<DualChoice, Past>
     requires { IsSeated tab.now }
-    ensures value { result ≡ dual.dual_choice_run (Some largest) tab.now }
+    ensures value { result ≡ dual.dual_choice_run (Some number_limit) tab.now }
     ensures possible { IfOk result (CanTake tab.now) }
 {
     let Some(out) = leaving(tab)? else {

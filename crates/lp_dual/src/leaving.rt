@@ -1,8 +1,8 @@
 // Which basic column is outside its bounds.
 ghost use Rattle.std.specs.Prelude.{◌≡◌, ◌<◌, Some};
+ghost use Rattle.spec_exact.specs.Narrow.{number_limit};
 ghost use Rattle.spec_simplex.specs.Tableau.{all_columns};
 ghost use Rattle.spec_simplex.specs.Fit as fit;
-ghost use Rattle.lp_frac.specs.Narrow.{largest};
 
 use lp_form::is_basic;
 use lp_frac::{Frac, Past, cmp};
@@ -11,7 +11,7 @@ use spec_simplex::Leaving;
 
 // Whether `v` is below the bound.
 fn below_lower(bound: Option<Frac>, v: Frac) -> Result<bool, Past>
-    ensures { result ≡ fit.below_lower (Some largest) bound v }
+    ensures { result ≡ fit.below_lower (Some number_limit) bound v }
 {
     match bound {
         None => Ok(false),
@@ -21,7 +21,7 @@ fn below_lower(bound: Option<Frac>, v: Frac) -> Result<bool, Past>
 
 // Whether `v` is above the bound.
 fn above_upper(bound: Option<Frac>, v: Frac) -> Result<bool, Past>
-    ensures { result ≡ fit.above_upper (Some largest) bound v }
+    ensures { result ≡ fit.above_upper (Some number_limit) bound v }
 {
     match bound {
         None => Ok(false),
@@ -31,7 +31,7 @@ fn above_upper(bound: Option<Frac>, v: Frac) -> Result<bool, Past>
 
 // Whether `v` is below the lower bound or above the upper one, if it is either.
 fn outside(lower: Option<Frac>, upper: Option<Frac>, v: Frac) -> Result<Option<bool>, Past>
-    ensures { result ≡ fit.outside_run (Some largest) lower upper v }
+    ensures { result ≡ fit.outside_run (Some number_limit) lower upper v }
 {
     if below_lower(lower, v)? {
         return Ok(Some(true));
@@ -45,7 +45,7 @@ fn outside(lower: Option<Frac>, upper: Option<Frac>, v: Frac) -> Result<Option<b
 // Column `col`, if it is outside its bounds.
 fn leaving_at(tab: &Tableau, col: u32) -> Result<Option<Leaving>, Past>
     requires { col < all_columns tab.now }
-    ensures { result ≡ fit.leaving_at (Some largest) tab.now col }
+    ensures { result ≡ fit.leaving_at (Some number_limit) tab.now col }
 {
     match outside(tab.lower(col), tab.upper(col), tab.value(col))? {
         Some(below) => Ok(Some(Leaving { col, below })),
@@ -56,7 +56,7 @@ fn leaving_at(tab: &Tableau, col: u32) -> Result<Option<Leaving>, Past>
 // The first so far, with column `col`. Nothing is compared after the first.
 fn leaving_with(tab: &Tableau, col: u32, first: Option<Leaving>) -> Result<Option<Leaving>, Past>
     requires { col < all_columns tab.now }
-    ensures { result ≡ fit.leaving_with (Some largest) tab.now col first }
+    ensures { result ≡ fit.leaving_with (Some number_limit) tab.now col first }
 {
     if let Some(first) = first {
         return Ok(Some(first));
@@ -70,7 +70,7 @@ fn leaving_with(tab: &Tableau, col: u32, first: Option<Leaving>) -> Result<Optio
 
 // The first basic column that is outside its bounds, if one is.
 pub(crate) fn leaving(tab: &Tableau) -> Result<Option<Leaving>, Past>
-    ensures { result ≡ fit.leaving_run (Some largest) tab.now }
+    ensures { result ≡ fit.leaving_run (Some number_limit) tab.now }
 {
     let mut first = None;
     for col in 0..tab.width() {

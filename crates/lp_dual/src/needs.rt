@@ -1,9 +1,9 @@
 // Which method a tableau is fit for.
 ghost use Rattle.std.specs.Prelude.{◌≡◌, ◌<◌, Some};
 ghost use Rattle.spec_exact.specs.Fraction.{0ℚ, eq_ℚ};
+ghost use Rattle.spec_exact.specs.Narrow.{number_limit};
 ghost use Rattle.spec_simplex.specs.Tableau.{all_columns};
 ghost use Rattle.spec_simplex.specs.Fit as spec;
-ghost use Rattle.lp_frac.specs.Narrow.{largest};
 
 use crate::leaving::leaving;
 use lp_form::Status;
@@ -93,7 +93,7 @@ fn fit_by(tab: &Tableau, outside: Option<Leaving>) -> Fit
 /// outside them.
 #[tactic(auto, unfolding(spec_simplex::specs::Fit::fit_run))]
 pub fn fit(tab: &Tableau) -> Result<Fit, Past>
-    ensures { result ≡ spec.fit_run (Some largest) tab.now }
+    ensures { result ≡ spec.fit_run (Some number_limit) tab.now }
 {
     let outside = leaving(tab)?;
     Ok(fit_by(tab, outside))

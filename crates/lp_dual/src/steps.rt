@@ -1,7 +1,7 @@
 // The flips, and then steps up to an end.
 ghost use Rattle.std.specs.Prelude.{◌≡◌, ◌-◌, IfOk, Some};
+ghost use Rattle.spec_exact.specs.Narrow.{number_limit};
 ghost use Rattle.spec_simplex.specs.Dual as dual;
-ghost use Rattle.lp_frac.specs.Narrow.{largest};
 ghost use Rattle.lp_tableau.specs.Answer.{GivesRun};
 ghost use Rattle.lp_dual.specs.Starts.{IsDualStart, IsSeated, CanEnter, IsPlace};
 ghost use Rattle.lp_dual.specs.Answer.{DualRuns};
@@ -17,7 +17,7 @@ use spec_simplex::{DualChoice, DualEnd};
 #[tactic(auto, unfolding(spec_simplex::specs::Dual::dual_pivot_run))]
 fn pivot(tab: &mut Tableau, place: u32, col: u32, to: Status) -> Result<(), Past>
     requires { CanEnter tab.old place col to }
-    ensures { GivesRun (dual.dual_pivot_run (Some largest) tab.old place col to) tab.new result }
+    ensures { GivesRun (dual.dual_pivot_run (Some number_limit) tab.old place col to) tab.new result }
 {
     let out = tab.basic(place);
     let gap = sub(tab.value(out), stand(to, tab.lower(out), tab.upper(out)))?;
@@ -28,7 +28,7 @@ fn pivot(tab: &mut Tableau, place: u32, col: u32, to: Status) -> Result<(), Past
 // Steps up to an end.
 fn steps(tab: &mut Tableau, used: &mut u64, budget: u64) -> Result<DualEnd, RunStop>
     requires { IsSeated tab.old }
-    ensures runs { DualRuns (dual.dual_from (Some largest) (budget - used.old) used.old tab.old)
+    ensures runs { DualRuns (dual.dual_from (Some number_limit) (budget - used.old) used.old tab.old)
         tab.new used.new result }
     ensures inside { IfOk result (IsPlace tab.new) }
 {
@@ -56,7 +56,7 @@ fn steps(tab: &mut Tableau, used: &mut u64, budget: u64) -> Result<DualEnd, RunS
 pub fn run(tab: &mut Tableau, used: &mut u64, budget: u64) -> Result<DualEnd, RunStop>
     requires none_used { used.old ≡ 0 }
     requires ready { IsDualStart tab.old }
-    ensures runs { DualRuns (dual.dual_run (Some largest) budget tab.old) tab.new used.new result }
+    ensures runs { DualRuns (dual.dual_run (Some number_limit) budget tab.old) tab.new used.new result }
     ensures inside { IfOk result (IsPlace tab.new) }
 {
     flips(tab, used, budget)?;

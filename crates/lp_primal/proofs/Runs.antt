@@ -8,9 +8,9 @@ use Rattle.spec_simplex.specs.declared.ends.Choice.TheVariants.{End, Flip, Pivot
 use Rattle.spec_simplex.specs.declared.ends.RunStop.{RunStop}
 use Rattle.spec_simplex.specs.declared.ends.RunStop.TheVariants as stop
 use Rattle.spec_exact.specs.Run.{◌>>=◌, refused_as}
+use Rattle.spec_exact.specs.Narrow.{number_limit}
 use Rattle.spec_simplex.specs.Tableau.{Tableau}
 use Rattle.spec_simplex.specs.Step.{choice_run}
-use Rattle.lp_frac.specs.Narrow.{largest}
 use Rattle.lp_tableau.proofs.Budget.{IsRun}
 use Rattle.lp_primal.specs.Answer.{Steps, StopsAt, StopsAfter}
 use Rattle.spec_simplex.specs.Phases.{PrimalEnded, done_run, end_or_spent, end_or_next, run_from}
@@ -49,8 +49,8 @@ pub sets_out : (budget used : ℕ) (t : Tableau) → IsUnderWay budget used t us
 sets_out budget used t = record { count = 0; counted = omega arith; few = omega arith; steps = refl }
 
 module _ (budget used : ℕ) (t : Tableau) (now : ℕ) (u : Tableau) (w : IsUnderWay budget used t now u) where
-  pub one_made : (v : Tableau) (choice : Choice ℚ) → choice_run (Some largest) u ≡ Ok choice → GoesOn choice →
-      now < budget → done_run (Some largest) u choice ≡ Ok v → IsUnderWay budget used t (now + 1) v
+  pub one_made : (v : Tableau) (choice : Choice ℚ) → choice_run (Some number_limit) u ≡ Ok choice → GoesOn choice →
+      now < budget → done_run (Some number_limit) u choice ≡ Ok v → IsUnderWay budget used t (now + 1) v
   one_made v choice h n l g =
       record {
         count = suc w.count;
@@ -63,12 +63,13 @@ module _ (budget used : ℕ) (t : Tableau) (now : ℕ) (u : Tableau) (w : IsUnde
   stops_after stop h =
       record { count = w.count; last = u; counted = w.counted; few = w.few; steps = w.steps; stops = h }
 
-  pub choice_stops : (p : Past ℚ) → choice_run (Some largest) u ≡ Err p → StopsAfter budget used t now (stop.Past p)
-  choice_stops p h = stops_after (stop.Past p) (ap (λ o. o >>= done_run (Some largest) u) h)
+  pub choice_stops : (p : Past ℚ) → choice_run (Some number_limit) u ≡ Err p →
+      StopsAfter budget used t now (stop.Past p)
+  choice_stops p h = stops_after (stop.Past p) (ap (λ o. o >>= done_run (Some number_limit) u) h)
 
-  pub step_stops : (choice : Choice ℚ) (p : Past ℚ) → choice_run (Some largest) u ≡ Ok choice →
-      done_run (Some largest) u choice ≡ Err p → StopsAfter budget used t now (stop.Past p)
-  step_stops choice p h g = stops_after (stop.Past p) (ap (λ o. o >>= done_run (Some largest) u) h ∙ g)
+  pub step_stops : (choice : Choice ℚ) (p : Past ℚ) → choice_run (Some number_limit) u ≡ Ok choice →
+      done_run (Some number_limit) u choice ≡ Err p → StopsAfter budget used t now (stop.Past p)
+  step_stops choice p h g = stops_after (stop.Past p) (ap (λ o. o >>= done_run (Some number_limit) u) h ∙ g)
 
   pub budget_stops : budget ≤ now → StopsAfter budget used t now stop.Spent
   budget_stops h = stops_after stop.Spent h

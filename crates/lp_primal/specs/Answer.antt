@@ -7,10 +7,10 @@ use Rattle.spec_simplex.specs.declared.ends.Choice.TheVariants.{End}
 use Rattle.spec_simplex.specs.declared.ends.RunStop.{RunStop}
 use Rattle.spec_simplex.specs.declared.ends.RunStop.TheVariants.{Past, Spent}
 use Rattle.spec_exact.specs.Run.{◌>>=◌}
+use Rattle.spec_exact.specs.Narrow.{number_limit}
 use Rattle.spec_simplex.specs.Tableau.{Tableau}
 use Rattle.spec_simplex.specs.Step.{choice_run}
 use Rattle.spec_simplex.specs.Phases.{PrimalEnded, done_run}
-use Rattle.lp_frac.specs.Narrow.{largest}
 
 -- the steps end so, with this tableau and this count, or stop so
 abbrev pub Runs : Result PrimalEnded (RunStop ℚ) → Tableau → ℕ → Result PrimalEnd (RunStop ℚ) → Type 0
@@ -21,9 +21,9 @@ Runs answer t used (Err stop) = answer ≡ Err stop
 -- a flip or a pivot makes u of t
 pub record IsStep (t u : Tableau) : Type 0 where
   pub choice : Choice ℚ
-  pub chosen : choice_run (Some largest) t ≡ Ok choice
+  pub chosen : choice_run (Some number_limit) t ≡ Ok choice
   pub no_end : (end : PrimalEnd) → choice ≢ End end
-  pub done : done_run (Some largest) t choice ≡ Ok u
+  pub done : done_run (Some number_limit) t choice ≡ Ok u
 
 -- n of them do
 abbrev pub Steps : ℕ → Tableau → Tableau → Type 0
@@ -33,7 +33,7 @@ Steps (suc n) t u = (v : Tableau) × Steps n t v × IsStep v u
 -- why no step is made from t, where `now` are counted: an operation is refused in its choice or in the step itself, or
 -- none is left of the budget
 abbrev pub StopsAt : ℕ → ℕ → Tableau → RunStop ℚ → Type 0
-StopsAt budget now t (Past p) = (choice_run (Some largest) t >>= done_run (Some largest) t) ≡ Err p
+StopsAt budget now t (Past p) = (choice_run (Some number_limit) t >>= done_run (Some number_limit) t) ≡ Err p
 StopsAt budget now t Spent = budget ≤ now
 
 -- from t, before which `used` are counted, steps are made up to this stop, each is counted,

@@ -1,7 +1,7 @@
 // What a step does.
 ghost use Rattle.std.specs.Prelude.{◌≡◌, IfOk, Some};
+ghost use Rattle.spec_exact.specs.Narrow.{number_limit};
 ghost use Rattle.spec_simplex.specs.Step.{choice_by, choice_run, CanMake};
-ghost use Rattle.lp_frac.specs.Narrow.{largest};
 
 use crate::entering::entering;
 use crate::ratio::{Best, best};
@@ -34,7 +34,7 @@ pub fn chosen(e: Entering, best: Option<Best>) -> Choice
 // The flip or the pivot that comes next, or the end.
 #[tactic(auto, unfolding(spec_simplex::specs::Step::choice_run))]
 pub(crate) fn choice(tab: &Tableau) -> Result<Choice, Past>
-    ensures value { result ≡ choice_run (Some largest) tab.now }
+    ensures value { result ≡ choice_run (Some number_limit) tab.now }
     ensures possible { IfOk result (CanMake tab.now) }
 {
     let Some(e) = entering(tab) else {

@@ -1,9 +1,9 @@
 // Which position stops the entering column: the ratio test.
 ghost use Rattle.std.specs.Prelude.{◌≡◌, ◌≢◌, ◌<◌, Some};
 ghost use Rattle.spec_exact.specs.Fraction.{0ℚ};
+ghost use Rattle.spec_exact.specs.Narrow.{number_limit};
 ghost use Rattle.spec_simplex.specs.Tableau.{all_columns};
 ghost use Rattle.spec_simplex.specs.Step as step;
-ghost use Rattle.lp_frac.specs.Narrow.{largest};
 ghost use Rattle.lp_primal.specs.Ratio.{best_at as best_at_of};
 
 use lp_form::Status;
@@ -17,7 +17,7 @@ pub type Best = spec_simplex::Best<Frac>;
 
 /// How far the entering column itself may move, where it has both bounds.
 pub fn range(e: Entering, lower: Option<Frac>, upper: Option<Frac>) -> Result<Option<Best>, Past>
-    ensures { result ≡ step.range_run (Some largest) e lower upper }
+    ensures { result ≡ step.range_run (Some number_limit) e lower upper }
 {
     match (lower, upper) {
         (Some(lower), Some(upper)) => Ok(Some(Best {
@@ -32,7 +32,7 @@ pub fn range(e: Entering, lower: Option<Frac>, upper: Option<Frac>) -> Result<Op
 
 // How far the value may rise.
 fn rise(upper: Option<Frac>, value: Frac) -> Result<Option<(Frac, Status)>, Past>
-    ensures { result ≡ step.rise_run (Some largest) upper value }
+    ensures { result ≡ step.rise_run (Some number_limit) upper value }
 {
     match upper {
         Some(upper) => Ok(Some((sub(upper, value)?, Status::AtUpper))),
@@ -42,7 +42,7 @@ fn rise(upper: Option<Frac>, value: Frac) -> Result<Option<(Frac, Status)>, Past
 
 // How far the value may fall.
 fn fall(lower: Option<Frac>, value: Frac) -> Result<Option<(Frac, Status)>, Past>
-    ensures { result ≡ step.fall_run (Some largest) lower value }
+    ensures { result ≡ step.fall_run (Some number_limit) lower value }
 {
     match lower {
         Some(lower) => Ok(Some((sub(value, lower)?, Status::AtLower))),
@@ -59,7 +59,7 @@ fn gap(
     upper: Option<Frac>,
     value: Frac,
 ) -> Result<Option<(Frac, Status)>, Past>
-    ensures { result ≡ step.gap_run (Some largest) up entry lower upper value }
+    ensures { result ≡ step.gap_run (Some number_limit) up entry lower upper value }
 {
     match sign(directed(up, entry)) {
         Ordering::Less => rise(upper, value),
@@ -70,7 +70,7 @@ fn gap(
 
 // The better of two: the lesser ratio, and of equal ones the lesser column.
 fn better(new: Best, best: Option<Best>) -> Result<Option<Best>, Past>
-    ensures { result ≡ step.better_run (Some largest) new best }
+    ensures { result ≡ step.better_run (Some number_limit) new best }
 {
     let Some(best) = best else {
         return Ok(Some(new));
@@ -123,7 +123,7 @@ pub fn best_at(up: bool, at: Position, best: Option<Best>) -> Result<Option<Best
 fn best_with(tab: &Tableau, e: Entering, i: u32, best: Option<Best>) -> Result<Option<Best>, Past>
     requires column { e.col < all_columns tab.now }
     requires place { i < tab.now.rows }
-    ensures { result ≡ step.best_with (Some largest) tab.now e i best }
+    ensures { result ≡ step.best_with (Some number_limit) tab.now e i best }
 {
     let col = tab.basic(i);
     let at = Position {
@@ -140,7 +140,7 @@ fn best_with(tab: &Tableau, e: Entering, i: u32, best: Option<Best>) -> Result<O
 // The least ratio of all, if anything stops the column.
 pub(crate) fn best(tab: &Tableau, e: Entering) -> Result<Option<Best>, Past>
     requires { e.col < all_columns tab.now }
-    ensures { result ≡ step.best_run (Some largest) tab.now e }
+    ensures { result ≡ step.best_run (Some number_limit) tab.now e }
 {
     let mut best = range(e, tab.lower(e.col), tab.upper(e.col))?;
     for i in 0..tab.rows() {

@@ -6,7 +6,7 @@ use Rattle.spec_exact.specs.Laws.{IsWithin}
 use Rattle.spec_exact.specs.declared.past.Past.{Past}
 use Rattle.spec_exact.specs.Run.{Run, ◌>>=◌, steps, less_product}
 use Rattle.spec_exact.proofs.Stops.{steps_more}
-use Rattle.lp_frac.specs.Narrow.{largest}
+use Rattle.spec_exact.specs.Narrow.{number_limit}
 use Rattle.spec_simplex.specs.Form.{Form}
 use Rattle.spec_simplex.specs.Tableau.{Tableau, basic_at, entry_at}
 use Rattle.spec_simplex.specs.Start.{cost_at, reduced_run, priced_run, with_reduced}
@@ -41,12 +41,12 @@ phase_two_gives limit f t u x costs (Err p) e g h k =
 
 -- a basic column of no cost is passed over
 abbrev pub less_basic : Tableau → List ℚ → ℕ → ℕ → ℚ → Run ℚ
-less_basic t costs k i d = less_product (Some largest) (cost_at costs (basic_at t i)) (entry_at t i k) d
+less_basic t costs k i d = less_product (Some number_limit) (cost_at costs (basic_at t i)) (entry_at t i k) d
 
 pub free_passed : (t : Tableau) (costs : List ℚ) (k i : ℕ) (d : ℚ) →
     steps i (less_basic t costs k) (cost_at costs k) ≡ Ok d →
-    cost_at costs (basic_at t i) ≡ 0ℚ → IsWithin largest (entry_at t i k) → IsWithin largest d →
+    cost_at costs (basic_at t i) ≡ 0ℚ → IsWithin number_limit (entry_at t i k) → IsWithin number_limit d →
     steps (i + 1) (less_basic t costs k) (cost_at costs k) ≡ Ok d
 free_passed t costs k i d h e v w =
     steps_more i (less_basic t costs k) (cost_at costs k) d d h
-    (less_no_times largest (cost_at costs (basic_at t i)) (entry_at t i k) d e v w)
+    (less_no_times number_limit (cost_at costs (basic_at t i)) (entry_at t i k) d e v w)

@@ -14,7 +14,7 @@ use Rattle.std.proofs.lemmas.Bool.{cases_lt}
 use Rattle.std.proofs.lemmas.List.{get_or_past}
 use Rattle.std.proofs.lemmas.List.Elements.{All-get_or, All-take, All-drop}
 use Rattle.spec_exact.specs.Laws.{IsWithin}
-use Rattle.lp_frac.specs.Narrow.{largest}
+use Rattle.spec_exact.specs.Narrow.{number_limit}
 use Rattle.lp_tableau.specs.Grid.{rows_of, IsBlock, IsNarrowGrid}
 
 pub length-rows_of : (n m : ℕ) (xs : List ℚ) → length (rows_of n m xs) ≡ m
@@ -102,21 +102,22 @@ module _ (n m i k : ℕ) (xs : List ℚ) (rows : List (List ℚ)) (e : rows_of n
   set_is v = set-rows_of n m i k xs v row column_in ∙ ap (λ rows. set rows i (set (get_or rows i []) k v)) e
 
 -- ---- fractions within the limit
-zero_within : IsWithin largest 0ℚ
+zero_within : IsWithin number_limit 0ℚ
 unfolding whole
 zero_within = record { num_fits = omega arith; den_fits = omega arith }
 
-pub within_item : (xs : List ℚ) (k : ℕ) → All (IsWithin largest) xs → IsWithin largest (get_or xs k 0ℚ)
+pub within_item : (xs : List ℚ) (k : ℕ) → All (IsWithin number_limit) xs → IsWithin number_limit (get_or xs k 0ℚ)
 within_item xs k h =
-    ⊎_elim (λ l. All-get_or (IsWithin largest) xs k 0ℚ l h)
-    (λ g. subst (IsWithin largest) (sym (get_or_past xs k 0ℚ g)) zero_within) (cases_lt k (length xs))
+    ⊎_elim (λ l. All-get_or (IsWithin number_limit) xs k 0ℚ l h)
+    (λ g. subst (IsWithin number_limit) (sym (get_or_past xs k 0ℚ g)) zero_within) (cases_lt k (length xs))
 
-within_rows : (n m : ℕ) (xs : List ℚ) (i k : ℕ) → All (IsWithin largest) xs →
-    IsWithin largest (at_place (rows_of n m xs) i k)
+within_rows : (n m : ℕ) (xs : List ℚ) (i k : ℕ) → All (IsWithin number_limit) xs →
+    IsWithin number_limit (at_place (rows_of n m xs) i k)
 within_rows n zero xs i k h = within_item [] k (λ j d l. absurd (omega (arith, l)))
-within_rows n (suc m) xs zero k h = within_item (take n xs) k (All-take (IsWithin largest) n xs h)
-within_rows n (suc m) xs (suc i) k h = within_rows n m (drop n xs) i k (All-drop (IsWithin largest) n xs h)
+within_rows n (suc m) xs zero k h = within_item (take n xs) k (All-take (IsWithin number_limit) n xs h)
+within_rows n (suc m) xs (suc i) k h = within_rows n m (drop n xs) i k (All-drop (IsWithin number_limit) n xs h)
 
-pub narrow_rows : (n m : ℕ) (xs : List ℚ) (rows : List (List ℚ)) → rows_of n m xs ≡ rows → All (IsWithin largest) xs →
+pub narrow_rows : (n m : ℕ) (xs : List ℚ) (rows : List (List ℚ)) → rows_of n m xs ≡ rows →
+    All (IsWithin number_limit) xs →
     IsNarrowGrid rows
 narrow_rows n m xs rows e h = subst IsNarrowGrid e (record { each = λ i k. within_rows n m xs i k h })

@@ -10,9 +10,9 @@ use Rattle.spec_exact.specs.declared.past.Op.TheVariants.{Mul, Sub}
 use Rattle.spec_exact.specs.Answer.{told}
 use Rattle.spec_exact.proofs.Zero.{mul_left, mul_right, sub_right}
 use Rattle.spec_exact.specs.Run.{Run, ◌>>=◌, difference_run, less_product}
+use Rattle.spec_exact.specs.Narrow.{number_limit}
 use Rattle.spec_simplex.specs.Tableau.{Tableau, at_place, entry_at, basic_at}
 use Rattle.spec_simplex.specs.Step.{moved_at}
-use Rattle.lp_frac.specs.Narrow.{largest}
 use Rattle.lp_tableau.specs.Grid.{IsNext, Covers, IsListed, IsNarrowGrid}
 use Rattle.lp_tableau.proofs.Done.{IsDone, IsRowDone, one_done, as_before, no_row_done}
 
@@ -87,7 +87,7 @@ zero_passed row n spots c e = record { covers = zero_more row 0 n spots e c.cove
 
 -- ---- a row that is cleared in these columns
 abbrev pub cleared_at : List (List ℚ) → ℕ → ℚ → ℕ → ℕ → Run ℚ
-cleared_at rows p times i k = less_product (Some largest) times (at_place rows p k) (at_place rows i k)
+cleared_at rows p times i k = less_product (Some number_limit) times (at_place rows p k) (at_place rows i k)
 
 -- row i is done up to some column, from which on the columns are those in which row p may not be 0
 pub record IsOnWay (n p : ℕ) (times : ℚ) (i : ℕ) (spots : List ℕ) (old new : List (List ℚ)) : Type 0 where
@@ -102,9 +102,9 @@ set_out n p times i spots rows c =
     record { so_far = 0; inside = omega arith; done = no_row_done i (cleared_at rows p times i) rows; ahead = c.covers }
 
 module _ (n p : ℕ) (times : ℚ) (i : ℕ) (old new : List (List ℚ))
-    (t : IsWithin largest times) (w : IsNarrowGrid old) where
+    (t : IsWithin number_limit times) (w : IsNarrowGrid old) where
   zero_kept : (k : ℕ) → at_place old p k ≡ 0ℚ → cleared_at old p times i k ≡ Ok (at_place old i k)
-  zero_kept k e = less_times_no largest times (at_place old p k) (at_place old i k) e t (w.each i k)
+  zero_kept k e = less_times_no number_limit times (at_place old p k) (at_place old i k) e t (w.each i k)
 
   -- at the next column
   pub there : (k : ℕ) (ks : List ℕ) → IsOnWay n p times i (k ∷ ks) old new → length (get_or new i []) ≡ n →
@@ -141,7 +141,7 @@ pub none_cleared : (n p : ℕ) (times : ℚ) (i : ℕ) (rows : List (List ℚ)) 
 none_cleared n p times i rows w e h =
     row_kept i 0 n (cleared_at rows p times i) rows rows
     (no_row_done i (cleared_at rows p times i) rows) (omega arith) (omega (arith, h))
-    (λ k l g. less_no_times largest times (at_place rows p k) (at_place rows i k) e (w.each p k) (w.each i k))
+    (λ k l g. less_no_times number_limit times (at_place rows p k) (at_place rows i k) e (w.each p k) (w.each i k))
 
 -- in a list of columns that is read from its start
 module _ (n p : ℕ) (times : ℚ) (i : ℕ) (old new : List (List ℚ)) (spots : List ℕ)
@@ -153,9 +153,10 @@ module _ (n p : ℕ) (times : ℚ) (i : ℕ) (old new : List (List ℚ)) (spots 
   past_spots h = subst (λ ks. IsOnWay n p times i ks old new) (drop_all s spots h) o
 
 -- ---- a basic column whose entry is 0 does not move
-pub not_moved : (t : Tableau) (j : ℕ) (theta : ℚ) (i : ℕ) → entry_at t i j ≡ 0ℚ → IsWithin largest theta →
-    IsWithin largest (get_or t.value (basic_at t i) 0ℚ) → moved_at (Some largest) t j theta i t.value ≡ Ok t.value
+pub not_moved : (t : Tableau) (j : ℕ) (theta : ℚ) (i : ℕ) → entry_at t i j ≡ 0ℚ → IsWithin number_limit theta →
+    IsWithin number_limit (get_or t.value (basic_at t i) 0ℚ) →
+    moved_at (Some number_limit) t j theta i t.value ≡ Ok t.value
 not_moved t j theta i e h g =
     ap (λ o. o >>= λ v. Ok (set t.value (basic_at t i) v))
-    (less_no_times largest (entry_at t i j) theta (get_or t.value (basic_at t i) 0ℚ) e h g)
+    (less_no_times number_limit (entry_at t i j) theta (get_or t.value (basic_at t i) 0ℚ) e h g)
     ∙ ap Ok (set-get_or t.value (basic_at t i) 0ℚ)

@@ -7,7 +7,7 @@ use Rattle.spec_exact.specs.declared.past.Past.{Past}
 use Rattle.spec_exact.specs.Run.{Run, ◌>>=◌, steps}
 use Rattle.spec_simplex.specs.Step.{scaled_run, cleared_run, turned_run}
 use Rattle.spec_exact.proofs.Stops.{steps_more, steps_stop}
-use Rattle.lp_frac.specs.Narrow.{largest}
+use Rattle.spec_exact.specs.Narrow.{number_limit}
 use Rattle.lp_tableau.specs.Grid.{IsGrid}
 use Rattle.lp_tableau.specs.Twins.{twinned}
 
@@ -53,6 +53,7 @@ module _ (limit : Option ℕ) (n p j k : ℕ) (scaled now : List (List ℚ))
 
 -- all rows before row i are turned, and row p is as it was scaled
 pub record IsTurning (c m : ℕ) (turned : List Bool) (p j i : ℕ) (scaled grid : List (List ℚ)) : Type 0 where
-  pub done : steps i (turned_at (Some largest) (c + m + m) p j) (twinned c turned scaled) ≡ Ok (twinned c turned grid)
+  pub done : steps i (turned_at (Some number_limit) (c + m + m) p j) (twinned c turned scaled) ≡ Ok (twinned c turned
+      grid)
   pub kept : get_or grid p [] ≡ get_or scaled p []
   pub shape : IsGrid m (c + m) grid

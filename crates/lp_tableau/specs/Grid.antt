@@ -3,8 +3,8 @@ use Rattle.std.specs.Prelude.{◌≡◌, ℕ, ◌+◌, ◌*◌, ◌<◌, ◌≤�
 use Rattle.std.specs.Prelude.{[], ◌∷◌, ◌++◌, length, take, drop, get_or, All}
 use Rattle.spec_exact.specs.Fraction.{ℚ, 0ℚ}
 use Rattle.spec_exact.specs.Laws.{IsWithin}
+use Rattle.spec_exact.specs.Narrow.{number_limit}
 use Rattle.spec_simplex.specs.Tableau.{at_place}
-use Rattle.lp_frac.specs.Narrow.{largest}
 
 -- what stands in each row, column by column
 abbrev pub Rows : Type 0
@@ -34,11 +34,11 @@ pub record IsGrid (m n : ℕ) (rows : List (List ℚ)) : Type 0 where
 -- a block whose fractions are within the limit
 pub record IsHeld (m n : ℕ) (items : List ℚ) : Type 0 where
   pub block : IsBlock m n items
-  pub narrow : All (IsWithin largest) items
+  pub narrow : All (IsWithin number_limit) items
 
 -- rows whose fractions are within the limit
 pub record IsNarrowGrid (rows : List (List ℚ)) : Type 0 where
-  pub each : (i k : ℕ) → IsWithin largest (at_place rows i k)
+  pub each : (i k : ℕ) → IsWithin number_limit (at_place rows i k)
 
 -- ---- the columns in which a row is not 0
 -- the row is 0 from column a up to column b

@@ -3,11 +3,11 @@ ghost use Rattle.std.specs.Prelude.{◌≡◌, ◌<◌, ◌+◌, ◌++◌, IfOk,
 ghost use Rattle.spec_exact.specs.Fraction.{0ℚ};
 ghost use Rattle.spec_pivot.specs.declared.status.Status.TheVariants.{AtLower};
 ghost use Rattle.spec_exact.specs.Run.{made, refused_as};
+ghost use Rattle.spec_exact.specs.Narrow.{number_limit};
 ghost use Rattle.spec_simplex.specs.Form.{IsForm};
 ghost use Rattle.spec_simplex.specs.Tableau.{all_columns};
 ghost use Rattle.spec_simplex.specs.declared.ends.StartStop.TheVariants as start;
 ghost use Rattle.spec_simplex.specs.Eliminate as elimination;
-ghost use Rattle.lp_frac.specs.Narrow.{largest};
 ghost use Rattle.lp_tableau.specs.Grid.{IsGrid};
 ghost use Rattle.lp_tableau.specs.Parts.{AreLists};
 ghost use Rattle.lp_tableau.specs.Based.{AreInside, StopsAt, based_run, stand_in};
@@ -135,7 +135,7 @@ impl Tableau {
     // The value of the basic column at position `i`.
     fn position(&self, i: u32) -> Result<Frac, Past>
         requires { i < self.now.rows }
-        ensures { result ≡ elimination.position_run (Some largest) self.now i }
+        ensures { result ≡ elimination.position_run (Some number_limit) self.now i }
     {
         let mut value = zero();
         for k in 0..self.width() {
@@ -148,9 +148,10 @@ impl Tableau {
 
     // The values of all columns.
     fn valued(&self, alloc: Global) -> Result<Vec<Frac>, BasisStop>
-        ensures ok { IfOk result (λ v. elimination.valued_run (Some largest) self.now ≡ Ok v.items) }
+        ensures ok { IfOk result (λ v. elimination.valued_run (Some number_limit) self.now ≡ Ok v.items) }
         ensures len { IfOk result (λ v. length v.items ≡ all_columns self.now) }
-        ensures err { IfErr result (StopsAt (refused_as start.Past (elimination.valued_run (Some largest) self.now))) }
+        ensures err { IfErr result (StopsAt (refused_as start.Past (elimination.valued_run (Some number_limit)
+            self.now))) }
     {
         let mut values = Vec::from_slice(alloc, &self.value)?;
         for i in 0..self.rows() {
@@ -169,9 +170,9 @@ impl Tableau {
 
     // The values of the basic columns, and the reduced costs for the form's costs.
     fn complete(&mut self, alloc: Global, form: &Form) -> Result<(), BasisStop>
-        ensures ok { OnOk result (elimination.filled_run (Some largest) form.now self.old ≡ Ok self.new) }
+        ensures ok { OnOk result (elimination.filled_run (Some number_limit) form.now self.old ≡ Ok self.new) }
         ensures err { IfErr result (StopsAt (refused_as start.Past
-            (elimination.filled_run (Some largest) form.now self.old))) }
+            (elimination.filled_run (Some number_limit) form.now self.old))) }
     {
         let values = self.valued(alloc)?;
         self.price(form.costs())?;
@@ -183,8 +184,8 @@ impl Tableau {
 // The form's equations solved for the basic columns.
 fn solved(alloc: Global, form: &Form, basis: &Basis) -> Result<Tableau, BasisStop>
     requires { length basis.now ≡ form.now.cols + form.now.rows }
-    ensures ok { IfOk result (λ t. based_run (Some largest) form.now basis.now ≡ Ok t) }
-    ensures err { IfErr result (StopsAt (based_run (Some largest) form.now basis.now)) }
+    ensures ok { IfOk result (λ t. based_run (Some number_limit) form.now basis.now ≡ Ok t) }
+    ensures err { IfErr result (StopsAt (based_run (Some number_limit) form.now basis.now)) }
 {
     let mut grid = equations(alloc, form)?;
     let mut basic = no_columns(alloc, form)?;
@@ -198,8 +199,8 @@ fn solved(alloc: Global, form: &Form, basis: &Basis) -> Result<Tableau, BasisSto
 /// the reduced costs for the form's costs. A basis is singular where a column has no such position.
 pub fn start_from(alloc: Global, form: &Form, basis: &Basis) -> Result<Tableau, BasisStop>
     requires { length basis.now ≡ form.now.cols + form.now.rows }
-    ensures ok { IfOk result (λ t. elimination.start_from (Some largest) form.now basis.now ≡ Ok t) }
-    ensures err { IfErr result (StopsAt (elimination.start_from (Some largest) form.now basis.now)) }
+    ensures ok { IfOk result (λ t. elimination.start_from (Some number_limit) form.now basis.now ≡ Ok t) }
+    ensures err { IfErr result (StopsAt (elimination.start_from (Some number_limit) form.now basis.now)) }
 {
     let mut tab = solved(alloc, form, basis)?;
     match tab.complete(alloc, form) {

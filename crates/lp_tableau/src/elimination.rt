@@ -1,9 +1,9 @@
 // The rows of a pivot, without the columns that are twins of others.
 ghost use Rattle.std.specs.Prelude.{◌≡◌, ◌≢◌, ◌<◌, ◌≤◌, ◌+◌, [], Some, length, get_or, take};
 ghost use Rattle.spec_exact.specs.Fraction.{0ℚ};
+ghost use Rattle.spec_exact.specs.Narrow.{number_limit};
 ghost use Rattle.spec_simplex.specs.Tableau.{at_place};
 ghost use Rattle.spec_simplex.specs.Step.{cleared_run, turned_run};
-ghost use Rattle.lp_frac.specs.Narrow.{largest};
 ghost use Rattle.lp_tableau.specs.Answer.{GivesRun};
 ghost use Rattle.lp_tableau.specs.Grid.{IsGrid, IsListed};
 ghost use Rattle.lp_tableau.specs.Twins.{signed as signed_of, twinned, scaled_by, cleared_by};
@@ -47,7 +47,7 @@ fn scale(grid: &mut Grid, height: u32, width: u32, p: u32, by: Frac) -> Result<(
     requires shape { IsGrid height width grid.old }
     requires place { p < height }
     requires divisor { by ≢ 0ℚ }
-    ensures rows { GivesRun (scaled_by (Some largest) width grid.old p by) grid.new result }
+    ensures rows { GivesRun (scaled_by (Some number_limit) width grid.old p by) grid.new result }
     ensures shape { IsGrid height width grid.new }
 {
     for k in 0..width {
@@ -91,7 +91,7 @@ fn clear(
     requires row { i < height }
     requires other { i ≢ p }
     requires listed { IsListed (get_or grid.old p []) width spots.now }
-    ensures rows { GivesRun (cleared_by (Some largest) width p times i grid.old) grid.new result }
+    ensures rows { GivesRun (cleared_by (Some number_limit) width p times i grid.old) grid.new result }
     ensures shape { IsGrid height width grid.new }
     ensures rest { get_or grid.new p [] ≡ get_or grid.old p [] }
 {
@@ -131,7 +131,7 @@ fn clear_twins(
     requires row { i < others }
     requires other { i ≢ p }
     requires listed { IsListed (get_or grid.old p []) (first + others) spots.now }
-    ensures rows { GivesRun (cleared_run (Some largest) (first + others + others) p j i
+    ensures rows { GivesRun (cleared_run (Some number_limit) (first + others + others) p j i
         (twinned first turned.now grid.old)) (twinned first turned.now grid.new) result }
     ensures shape { IsGrid others (first + others) grid.new }
     ensures rest { get_or grid.new p [] ≡ get_or grid.old p [] }
@@ -155,7 +155,7 @@ pub(crate) fn turn(
     requires place { p < others }
     requires column { j < first + others + others }
     requires entry { at_place (twinned first turned.now grid.old) p j ≢ 0ℚ }
-    ensures rows { GivesRun (turned_run (Some largest) others (first + others + others)
+    ensures rows { GivesRun (turned_run (Some number_limit) others (first + others + others)
         (twinned first turned.now grid.old) p j) (twinned first turned.now grid.new) result }
     ensures shape { IsGrid others (first + others) grid.new }
 {

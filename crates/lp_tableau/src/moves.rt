@@ -1,10 +1,10 @@
 // How the basic columns move with one that is not basic, and flips.
 ghost use Rattle.std.specs.Prelude.{◌≡◌, ◌<◌, Some, slice_set};
+ghost use Rattle.spec_exact.specs.Narrow.{number_limit};
 ghost use Rattle.spec_simplex.specs.Tableau.{all_columns};
 ghost use Rattle.spec_simplex.specs.Step.{CanFlip, directed as directed_by, other_bound as other_bound_of};
 ghost use Rattle.spec_simplex.specs.Step.{is_place as is_place_of, moved_at};
 ghost use Rattle.spec_simplex.specs.Step.{moved_run, flip_way as flip_way_of, flipped, flip_run};
-ghost use Rattle.lp_frac.specs.Narrow.{largest};
 ghost use Rattle.lp_tableau.specs.Answer.{GivesRun};
 
 use crate::steps::{or_zero, stand};
@@ -59,7 +59,8 @@ impl Tableau {
     fn move_at(&mut self, col: u32, theta: Frac, i: u32) -> Result<(), Past>
         requires col_in_range { col < all_columns self.old }
         requires place_in_range { i < self.old.rows }
-        ensures moved { GivesRun (moved_at (Some largest) self.old col theta i self.old.value) self.new.value result }
+        ensures moved { GivesRun (moved_at (Some number_limit) self.old col theta i self.old.value) self.new.value
+            result }
         ensures rest { self.new ≡ record self.old { value = self.new.value } }
     {
         let k = self.basic(i);
@@ -82,7 +83,7 @@ impl Tableau {
         but: Option<u32>,
     ) -> Result<(), Past>
         requires { col < all_columns self.old }
-        ensures moved { GivesRun (moved_run (Some largest) self.old col theta but) self.new.value result }
+        ensures moved { GivesRun (moved_run (Some number_limit) self.old col theta but) self.new.value result }
         ensures rest { self.new ≡ record self.old { value = self.new.value } }
     {
         for i in 0..self.rows() {
@@ -107,7 +108,7 @@ impl Tableau {
     /// is spent.
     pub fn flip(&mut self, col: u32) -> Result<(), Past>
         requires { CanFlip self.old col }
-        ensures { GivesRun (flip_run (Some largest) self.old col) self.new result }
+        ensures { GivesRun (flip_run (Some number_limit) self.old col) self.new result }
     {
         let range = sub(or_zero(self.upper(col)), or_zero(self.lower(col)))?;
         let up = flip_way(self.status(col));

@@ -1,10 +1,10 @@
 // Pivots.
 ghost use Rattle.std.specs.Prelude.{◌≡◌, ◌≢◌, ◌<◌, Some, length, slice_set};
 ghost use Rattle.spec_exact.specs.Fraction.{0ℚ};
+ghost use Rattle.spec_exact.specs.Narrow.{number_limit};
 ghost use Rattle.spec_pivot.specs.declared.status.Status.TheVariants.{Basic};
 ghost use Rattle.spec_simplex.specs.Tableau.{all_columns, entry_at};
 ghost use Rattle.spec_simplex.specs.Step.{CanPivot, turned_run, repriced_run, shifted_run, exchanged, pivot_run};
-ghost use Rattle.lp_frac.specs.Narrow.{largest};
 ghost use Rattle.lp_tableau.specs.Answer.{GivesRun};
 ghost use Rattle.lp_tableau.specs.Grid.{IsGrid};
 
@@ -18,7 +18,7 @@ fn reprice(reduced: &mut [Frac], grid: &Twins, height: u32, p: u32, j: u32) -> R
     requires shape { IsGrid height (length reduced.old) grid.now }
     requires place { p < height }
     requires column { j < length reduced.old }
-    ensures costs { GivesRun (repriced_run (Some largest) (length reduced.old) reduced.old grid.now p j)
+    ensures costs { GivesRun (repriced_run (Some number_limit) (length reduced.old) reduced.old grid.now p j)
         reduced.new result }
     ensures len { length reduced.new ≡ length reduced.old }
 {
@@ -40,7 +40,7 @@ impl Tableau {
     #[tactic(auto, unfolding(spec_simplex::specs::Step::shifted_run))]
     fn shift(&mut self, col: u32, theta: Frac) -> Result<(), Past>
         requires { col < all_columns self.old }
-        ensures value { GivesRun (shifted_run (Some largest) self.old.value col theta) self.new.value result }
+        ensures value { GivesRun (shifted_run (Some number_limit) self.old.value col theta) self.new.value result }
         ensures rest { self.new ≡ record self.old { value = self.new.value } }
     {
         let value = add(self.value(col), theta)?;
@@ -52,7 +52,7 @@ impl Tableau {
         requires place { place < self.old.rows }
         requires column { col < all_columns self.old }
         requires entry { entry_at self.old place col ≢ 0ℚ }
-        ensures rows { GivesRun (turned_run (Some largest) self.old.rows
+        ensures rows { GivesRun (turned_run (Some number_limit) self.old.rows
             (all_columns self.old) self.old.entries place col) self.new.entries result }
         ensures rest { self.new ≡ record self.old { entries = self.new.entries } }
     {
@@ -63,7 +63,7 @@ impl Tableau {
     fn reprice(&mut self, place: u32, col: u32) -> Result<(), Past>
         requires place { place < self.old.rows }
         requires column { col < all_columns self.old }
-        ensures costs { GivesRun (repriced_run (Some largest)
+        ensures costs { GivesRun (repriced_run (Some number_limit)
             (all_columns self.old) self.old.reduced self.old.entries place col) self.new.reduced result }
         ensures rest { self.new ≡ record self.old { reduced = self.new.reduced } }
     {
@@ -104,7 +104,7 @@ impl Tableau {
     /// a position, which goes to the bound `to`. After a refusal the tableau is spent.
     pub fn pivot(&mut self, place: u32, col: u32, theta: Frac, to: Status) -> Result<(), Past>
         requires { CanPivot self.old place col theta to }
-        ensures { GivesRun (pivot_run (Some largest) self.old place col theta to) self.new result }
+        ensures { GivesRun (pivot_run (Some number_limit) self.old place col theta to) self.new result }
     {
         self.move_values(col, theta, Some(place))?;
         self.shift(col, theta)?;

@@ -1,10 +1,10 @@
 // Reduced costs, and the change to phase two.
 ghost use Rattle.std.specs.Prelude.{◌≡◌, ◌<◌, Some, false, slice_set};
 ghost use Rattle.spec_exact.specs.Fraction.{0ℚ};
+ghost use Rattle.spec_exact.specs.Narrow.{number_limit};
 ghost use Rattle.spec_simplex.specs.Tableau.{all_columns};
 ghost use Rattle.spec_simplex.specs.Start.{cost_at as cost_of, reduced_run, priced_run};
 ghost use Rattle.spec_simplex.specs.Phases.{is_stuck, without_artificials, phase_two_run};
-ghost use Rattle.lp_frac.specs.Narrow.{largest};
 ghost use Rattle.lp_tableau.specs.Answer.{GivesRun};
 
 use crate::tableau::Tableau;
@@ -25,7 +25,7 @@ impl Tableau {
     // The reduced cost of column `k` for these costs.
     fn reduced_cost(&self, costs: &[Frac], k: u32) -> Result<Frac, Past>
         requires { k < all_columns self.now }
-        ensures { result ≡ reduced_run (Some largest) self.now costs.now k }
+        ensures { result ≡ reduced_run (Some number_limit) self.now costs.now k }
     {
         let mut rest = cost_at(costs, k);
         for i in 0..self.rows() {
@@ -50,7 +50,7 @@ impl Tableau {
 
     // The reduced costs of all columns for these costs.
     pub(crate) fn price(&mut self, costs: &[Frac]) -> Result<(), Past>
-        ensures priced { GivesRun (priced_run (Some largest) self.old costs.now) self.new.reduced result }
+        ensures priced { GivesRun (priced_run (Some number_limit) self.old costs.now) self.new.reduced result }
         ensures rest { self.new ≡ record self.old { reduced = self.new.reduced } }
     {
         for k in 0..self.width() {
@@ -88,7 +88,7 @@ impl Tableau {
         requires same_rows { form.now.rows ≡ self.old.rows }
         requires same_cols { form.now.cols ≡ self.old.cols }
         requires at_zero { is_stuck self.old ≡ false }
-        ensures { GivesRun (phase_two_run (Some largest) form.now self.old) self.new result }
+        ensures { GivesRun (phase_two_run (Some number_limit) form.now self.old) self.new result }
     {
         self.fix_artificials();
         self.price(form.costs())

@@ -1,9 +1,9 @@
 // How the rows of a form begin.
 ghost use Rattle.std.specs.Prelude.{◌≡◌, ◌<◌, ◌++◌, [], ◌∷◌, IfOk, IfErr, OnOk, Ok, Some, None};
 ghost use Rattle.spec_exact.specs.Run.{list_run};
+ghost use Rattle.spec_exact.specs.Narrow.{number_limit};
 ghost use Rattle.spec_simplex.specs.Form.{form_lower, form_upper};
 ghost use Rattle.spec_simplex.specs.Start as starting;
-ghost use Rattle.lp_frac.specs.Narrow.{largest};
 ghost use Rattle.lp_tableau.specs.Answer.{Stops};
 ghost use Rattle.lp_tableau.specs.Begun.{HoldsColumns};
 
@@ -41,7 +41,7 @@ pub(crate) fn first_value(form: &Form, j: u32) -> Frac
 fn row_sum(form: &Form, coefficients: &Grid, i: u32) -> Result<Frac, Past>
     requires held { HoldsColumns form.now form.now.cols coefficients.now }
     requires row { i < form.now.rows }
-    ensures { result ≡ starting.row_sum (Some largest) form.now i }
+    ensures { result ≡ starting.row_sum (Some number_limit) form.now i }
 {
     let mut sum = zero();
     for j in 0..form.cols() {
@@ -53,7 +53,7 @@ fn row_sum(form: &Form, coefficients: &Grid, i: u32) -> Result<Frac, Past>
 
 // How much `v` is below the bound, if it is.
 fn below(bound: Option<Frac>, v: Frac) -> Result<Option<Frac>, Past>
-    ensures { result ≡ starting.below_run (Some largest) bound v }
+    ensures { result ≡ starting.below_run (Some number_limit) bound v }
 {
     match bound {
         None => Ok(None),
@@ -66,7 +66,7 @@ fn below(bound: Option<Frac>, v: Frac) -> Result<Option<Frac>, Past>
 
 // How a row begins whose sum `v` is not below its lower bound.
 fn within_or_above(upper: Option<Frac>, v: Frac) -> Result<RowStart, Past>
-    ensures { result ≡ starting.row_start_by (Some largest) upper v None }
+    ensures { result ≡ starting.row_start_by (Some number_limit) upper v None }
 {
     match upper {
         None => Ok(RowStart::Within(v)),
@@ -80,7 +80,7 @@ fn within_or_above(upper: Option<Frac>, v: Frac) -> Result<RowStart, Past>
 fn row_start(form: &Form, coefficients: &Grid, i: u32) -> Result<RowStart, Past>
     requires held { HoldsColumns form.now form.now.cols coefficients.now }
     requires row { i < form.now.rows }
-    ensures { result ≡ starting.row_start (Some largest) form.now i }
+    ensures { result ≡ starting.row_start (Some number_limit) form.now i }
 {
     let v = row_sum(form, coefficients, i)?;
     let logical = form.logical(i);
@@ -104,8 +104,9 @@ pub(crate) fn row_starts(
     coefficients: &Grid,
 ) -> Result<Vec<RowStart>, ColdStop>
     requires { HoldsColumns form.now form.now.cols coefficients.now }
-    ensures ok { IfOk result (λ v. list_run form.now.rows (starting.row_start (Some largest) form.now) ≡ Ok v.items) }
-    ensures err { IfErr result (Stops (list_run form.now.rows (starting.row_start (Some largest) form.now))) }
+    ensures ok { IfOk result (λ v. list_run form.now.rows (starting.row_start (Some number_limit) form.now) ≡ Ok
+        v.items) }
+    ensures err { IfErr result (Stops (list_run form.now.rows (starting.row_start (Some number_limit) form.now))) }
 {
     let mut starts = Vec::new(alloc);
     for i in 0..form.rows() {

@@ -1,10 +1,10 @@
 // Rows that are solved for columns, one after the other.
 ghost use Rattle.std.specs.Prelude.{◌≡◌, ◌≢◌, ◌<◌, ◌+◌, IfSome, Some, None, length, get_or};
 ghost use Rattle.spec_exact.specs.Fraction.{0ℚ, eq_ℚ};
+ghost use Rattle.spec_exact.specs.Narrow.{number_limit};
 ghost use Rattle.spec_simplex.specs.Tableau.{at_place};
 ghost use Rattle.spec_simplex.specs.Tableau.{is_basic as is_basic_of};
 ghost use Rattle.spec_simplex.specs.Eliminate as elimination;
-ghost use Rattle.lp_frac.specs.Narrow.{largest};
 ghost use Rattle.lp_tableau.specs.Grid.{IsGrid};
 ghost use Rattle.lp_tableau.specs.Based.{IsOpenAt, AreInside, Solves};
 
@@ -61,7 +61,7 @@ fn solve(grid: &mut Twins, basic: &mut [Option<u32>], form: &Form, j: u32) -> Re
     requires places { length basic.old ≡ form.now.rows }
     requires inside { AreInside (form.now.cols + form.now.rows + form.now.rows) basic.old }
     requires column { j < form.now.cols + form.now.rows + form.now.rows }
-    ensures solved { Solves (elimination.solved_run (Some largest) form.now
+    ensures solved { Solves (elimination.solved_run (Some number_limit) form.now
         (record { rows = grid.old; basic = basic.old }) j) grid.new basic.new result }
     ensures shape { IsGrid form.now.rows (form.now.cols + form.now.rows + form.now.rows) grid.new }
     ensures places { length basic.new ≡ form.now.rows }
@@ -93,7 +93,7 @@ pub(crate) fn eliminate(
     requires rows { grid.old ≡ (elimination.unsolved form.now).rows }
     requires places { basic.old ≡ (elimination.unsolved form.now).basic }
     requires statuses { length basis.now ≡ form.now.cols + form.now.rows }
-    ensures solved { Solves (elimination.eliminate_run (Some largest) form.now basis.now) grid.new basic.new result }
+    ensures solved { Solves (elimination.eliminate_run (Some number_limit) form.now basis.now) grid.new basic.new result }
     ensures shape { IsGrid form.now.rows (form.now.cols + form.now.rows + form.now.rows) grid.new }
     ensures places { length basic.new ≡ form.now.rows }
     ensures inside { AreInside (form.now.cols + form.now.rows + form.now.rows) basic.new }

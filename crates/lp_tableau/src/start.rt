@@ -2,8 +2,8 @@
 ghost use Rattle.std.specs.Prelude.{◌≡◌, ◌<◌, ◌≤◌, ◌+◌, ◌++◌, length, map, replicate, IfOk, IfErr, OnOk, Ok, Some};
 ghost use Rattle.spec_exact.specs.Fraction.{0ℚ};
 ghost use Rattle.spec_exact.specs.Run.{list_run, made};
+ghost use Rattle.spec_exact.specs.Narrow.{number_limit};
 ghost use Rattle.spec_simplex.specs.Start as starting;
-ghost use Rattle.lp_frac.specs.Narrow.{largest};
 ghost use Rattle.lp_tableau.specs.Answer.{Stops};
 ghost use Rattle.lp_tableau.specs.Grid.{flat};
 ghost use Rattle.lp_tableau.specs.Parts.{AreLists};
@@ -394,8 +394,8 @@ fn priced(
 ) -> Result<Tableau, ColdStop>
     requires held { HoldsColumns form.now form.now.cols coefficients.now }
     requires starts { length starts.now ≡ form.now.rows }
-    ensures ok { IfOk result (λ t. priced_start (Some largest) form.now starts.now ≡ Ok t) }
-    ensures err { IfErr result (Stops (priced_start (Some largest) form.now starts.now)) }
+    ensures ok { IfOk result (λ t. priced_start (Some number_limit) form.now starts.now ≡ Ok t) }
+    ensures err { IfErr result (Stops (priced_start (Some number_limit) form.now starts.now)) }
 {
     let costs = first_costs(alloc, form, starts)?;
     let mut tableau = begun(alloc, form, coefficients, starts)?;
@@ -410,8 +410,9 @@ fn priced(
 
 /// How all rows begin, in order, with each structural column at its first place.
 pub fn starts(alloc: Global, form: &Form) -> Result<Vec<RowStart>, ColdStop>
-    ensures ok { IfOk result (λ v. list_run form.now.rows (starting.row_start (Some largest) form.now) ≡ Ok v.items) }
-    ensures err { IfErr result (Stops (list_run form.now.rows (starting.row_start (Some largest) form.now))) }
+    ensures ok { IfOk result (λ v. list_run form.now.rows (starting.row_start (Some number_limit) form.now) ≡ Ok
+        v.items) }
+    ensures err { IfErr result (Stops (list_run form.now.rows (starting.row_start (Some number_limit) form.now))) }
 {
     let coefficients = coefficients(alloc, form)?;
     row_starts(alloc, form, &coefficients)
@@ -423,8 +424,8 @@ pub fn starts(alloc: Global, form: &Form) -> Result<Vec<RowStart>, ColdStop>
 /// the logical is basic where its row's sum is then within the row's limits; else the logical stands
 /// at the limit that is missed, and the row's artificial is basic with the missing amount as its value.
 pub fn start_cold(alloc: Global, form: &Form) -> Result<Tableau, ColdStop>
-    ensures ok { IfOk result (λ t. starting.start_of (Some largest) form.now ≡ Ok t) }
-    ensures err { IfErr result (Stops (starting.start_of (Some largest) form.now)) }
+    ensures ok { IfOk result (λ t. starting.start_of (Some number_limit) form.now ≡ Ok t) }
+    ensures err { IfErr result (Stops (starting.start_of (Some number_limit) form.now)) }
 {
     let coefficients = coefficients(alloc, form)?;
     let starts = row_starts(alloc, form, &coefficients)?;

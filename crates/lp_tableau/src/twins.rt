@@ -2,9 +2,9 @@
 // negative, all through: an operation on the one gives, up to the sign, what it gives on the other.
 ghost use Rattle.std.specs.Prelude.{◌≡◌, ◌≢◌, ◌<◌, ◌≤◌, ◌+◌, [], Some, length, get_or};
 ghost use Rattle.spec_exact.specs.Fraction.{0ℚ};
+ghost use Rattle.spec_exact.specs.Narrow.{number_limit};
 ghost use Rattle.spec_simplex.specs.Tableau.{at_place};
 ghost use Rattle.spec_simplex.specs.Step.{turned_run};
-ghost use Rattle.lp_frac.specs.Narrow.{largest};
 ghost use Rattle.lp_tableau.specs.Answer.{GivesRun};
 ghost use Rattle.lp_tableau.specs.Grid.{IsGrid};
 ghost use Rattle.lp_tableau.specs.Twins.{IsTwinned, twinned};
@@ -63,7 +63,7 @@ impl Twins {
         requires place { p < height }
         requires column { j < width }
         requires entry { at_place self.old p j ≢ 0ℚ }
-        ensures rows { GivesRun (turned_run (Some largest) height width self.old p j) self.new result }
+        ensures rows { GivesRun (turned_run (Some number_limit) height width self.old p j) self.new result }
         ensures shape { IsGrid height width self.new }
     {
         turn(&mut self.grid, self.first, self.others, &self.turned, p, j)

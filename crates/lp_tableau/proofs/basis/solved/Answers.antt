@@ -1,7 +1,7 @@
 -- A stop in the rows, and the tableau of their columns.
 use Rattle.std.proofs.Common.{◌+◌, ◌∙◌, Some, sym, ap, subst, length}
 use Rattle.std.proofs.lemmas.Result.{err_from_is_err_and}
-use Rattle.lp_frac.specs.Narrow.{largest}
+use Rattle.spec_exact.specs.Narrow.{number_limit}
 use Rattle.lp_tableau.specs.Based.{AreInside}
 use Rattle.lp_tableau.proofs.Based.{written_back, lent_is, rows_stop, based}
 use Rattle.lp_tableau.proofs.basis.solved.Goals as goal
@@ -9,11 +9,11 @@ use Rattle.lp_tableau.proofs.basis.solved.Goals as goal
 pub returns-in_err-eliminate-clause-err : goal.returns-in_err-eliminate-clause-err
 returns-in_err-eliminate-clause-err c =
     let p = err_from_is_err_and c.from_residual-in_err-eliminate.result c.from_residual-in_err-eliminate.ensures.1 in
-    rw (p.1, p.2) (rows_stop (Some largest) c.args.form.now c.args.basis.now _ c.in_err-eliminate.ensures.solved)
+    rw (p.1, p.2) (rows_stop (Some number_limit) c.args.form.now c.args.basis.now _ c.in_err-eliminate.ensures.solved)
 
 pub returns-clause-ok : goal.returns-clause-ok
 returns-clause-ok c =
-    based (Some largest) c.args.form.now c.args.basis.now _ c.in_ok-tab.tab c.in_ok-eliminate.ensures.solved
+    based (Some number_limit) c.args.form.now c.args.basis.now _ c.in_ok-tab.tab c.in_ok-eliminate.ensures.solved
     (lent_is c.args.form.now c.args.basis.now c.eliminate.new.grid c.in_ok-tab.tab _ c.eliminate.new.basic _ _ _ _
     c.in_ok-tab.ensures c.deref.ensures.value (c.deref_mut.ensures.value ∙ c.in_ok-basic.ensures)
     c.deref_mut.ensures.len c.in_ok-eliminate.ensures.places)

@@ -4,7 +4,7 @@ use Rattle.std.proofs.lemmas.Result.{err_from_is_err_and}
 use Rattle.spec_exact.specs.Laws.{IsWithin}
 use Rattle.spec_simplex.specs.Step.{repriced_run}
 use Rattle.spec_exact.proofs.Stops.{list_stops}
-use Rattle.lp_frac.specs.Narrow.{largest}
+use Rattle.spec_exact.specs.Narrow.{number_limit}
 use Rattle.lp_tableau.proofs.Done.{one_done, list_finished, as_before, item_is}
 use Rattle.lp_tableau.proofs.Spots.{one_kept, less_times_no}
 use Rattle.lp_tableau.proofs.pivot.reprice.Goals as goal
@@ -36,8 +36,8 @@ loop-k-preserved-then-is_zero c =
     item_is c.loop-k.reduced c.loop-k.k _ c.index-reduced-k.is (omega (arith, d.len, c.loop-k-test.true))
     ∙ as_before _ _ _ _ d in
     let z = sym c.at-entry.ensures ∙ c.if-is_zero.ensures.0 refl in
-    one_kept _ _ _ _ d (omega (arith, d.len, c.loop-k-test.true)) (less_times_no largest _ _ _ z
-    (subst (IsWithin largest) a c.within.ensures) (subst (IsWithin largest) b c.within-in-loop-k.ensures))
+    one_kept _ _ _ _ d (omega (arith, d.len, c.loop-k-test.true)) (less_times_no number_limit _ _ _ z
+    (subst (IsWithin number_limit) a c.within.ensures) (subst (IsWithin number_limit) b c.within-in-loop-k.ensures))
 
 pub returns-clause-costs : goal.returns-clause-costs
 unfolding repriced_run

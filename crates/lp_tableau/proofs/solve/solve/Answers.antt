@@ -1,6 +1,6 @@
 -- No position is open, and the column has its position.
 use Rattle.std.proofs.Common.{Some, sym, ap₂, subst₂, ◌∙◌, arith}
-use Rattle.lp_frac.specs.Narrow.{largest}
+use Rattle.spec_exact.specs.Narrow.{number_limit}
 use Rattle.spec_simplex.specs.Step.{turned_run}
 use Rattle.lp_tableau.specs.Grid.{IsGrid}
 use Rattle.lp_tableau.proofs.Solving.{is_singular, is_solved, one_inside}
@@ -8,7 +8,7 @@ use Rattle.lp_tableau.proofs.solve.solve.Goals as goal
 
 pub returns-in_default-clause-solved : goal.returns-in_default-clause-solved
 returns-in_default-clause-solved c =
-    is_singular (Some largest) c.args.form.now c.args.grid.now c.args.basic.now c.args.j c.in_default.ensures.least
+    is_singular (Some number_limit) c.args.form.now c.args.grid.now c.args.basic.now c.args.j c.in_default.ensures.least
 
 pub turn-requires-clause-shape : goal.turn-requires-clause-shape
 turn-requires-clause-shape c =
@@ -19,9 +19,9 @@ turn-requires-clause-column c = omega (arith, c.requires.column, c.width.ensures
 
 pub returns-clause-solved : goal.returns-clause-solved
 returns-clause-solved c =
-    is_solved (Some largest) c.args.form.now c.args.grid.now c.args.basic.now c.args.j c.in-Some.p
+    is_solved (Some number_limit) c.args.form.now c.args.grid.now c.args.basic.now c.args.j c.in-Some.p
     c.in-Some.ensures.least _
-    (ap₂ (λ m n. turned_run (Some largest) m n c.args.grid.now c.in-Some.p c.args.j)
+    (ap₂ (λ m n. turned_run (Some number_limit) m n c.args.grid.now c.in-Some.p c.args.j)
     (sym c.rows.ensures.value) (sym c.width.ensures.value) ∙ c.in_ok-turn.ensures.rows)
 
 pub returns-clause-inside : goal.returns-clause-inside
