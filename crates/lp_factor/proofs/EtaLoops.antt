@@ -5,12 +5,11 @@ use Rattle.std.proofs.lemmas.List.{length-set, get_or_default}
 use Rattle.std.proofs.lemmas.List.Elements.{All-get_or, All-set}
 use Rattle.std.proofs.lemmas.Option.{get_or_from_slice_get}
 use Rattle.spec_exact.specs.Fraction.{ℚ, 0ℚ}
-use Rattle.spec_exact.specs.Narrow.{IsNarrow}
+use Rattle.spec_exact.specs.Narrow.{IsNarrow, number_limit}
 use Rattle.spec_exact.specs.declared.past.Past.{Past}
 use Rattle.spec_exact.specs.Run.{Run, quotient_run, less_product}
 use Rattle.spec_exact.proofs.Stops.{length-made}
 use Rattle.spec_model.specs.Model.{entry_of}
-use Rattle.lp_frac.specs.Narrow.{largest}
 use Rattle.spec_factor.specs.Factors.{Pair, forward_run, backward_run}
 use Rattle.lp_factor.specs.Eta.{IsEta, pair_of}
 use Rattle.lp_factor.proofs.Gaps.{Entries, row_at, value_at, row_inside}
@@ -26,13 +25,13 @@ module _ {m place : ℕ} {pivot : ℚ} {es : Entries} {now : Pair} (view : pair_
   pub place_in : place < length v
   place_in = subst (λ n. place < n) (sym long) h.inside
 
-  as_forward : (r : Run (List ℚ)) → forward_run (Some largest) m (pair_of m place es) v ≡ r →
-      forward_run (Some largest) (length v) now v ≡ r
-  as_forward r e = ap₂ (λ n p. forward_run (Some largest) n p v) long (sym view) ∙ e
+  as_forward : (r : Run (List ℚ)) → forward_run (Some number_limit) m (pair_of m place es) v ≡ r →
+      forward_run (Some number_limit) (length v) now v ≡ r
+  as_forward r e = ap₂ (λ n p. forward_run (Some number_limit) n p v) long (sym view) ∙ e
 
-  as_backward : (r : Run (List ℚ)) → backward_run (Some largest) m (pair_of m place es) v ≡ r →
-      backward_run (Some largest) (length v) now v ≡ r
-  as_backward r e = ap₂ (λ n p. backward_run (Some largest) n p v) long (sym view) ∙ e
+  as_backward : (r : Run (List ℚ)) → backward_run (Some number_limit) m (pair_of m place es) v ≡ r →
+      backward_run (Some number_limit) (length v) now v ≡ r
+  as_backward r e = ap₂ (λ n p. backward_run (Some number_limit) n p v) long (sym view) ∙ e
 
   own : (x : ℚ) → slice_get v place ≡ Some x → get_or v place 0ℚ ≡ x
   own x e = get_or_from_slice_get v place x 0ℚ e
@@ -61,26 +60,26 @@ module _ {m place : ℕ} {pivot : ℚ} {es : Entries} {now : Pair} (view : pair_
 
     -- ---- ftran
     module _ (narrow : All IsNarrow v) {q : ℚ} (narrow_q : IsNarrow q) {x0 : ℚ} (x0_is : slice_get v place ≡ Some x0)
-        (q_is : quotient_run (Some largest) x0 pivot ≡ Ok q) {w : List ℚ} (d : ForwardTo m place es v q c w) where
-      q_own : quotient_run (Some largest) (get_or v place 0ℚ) pivot ≡ Ok q
-      q_own = ap (λ a. quotient_run (Some largest) a pivot) (own x0 x0_is) ∙ q_is
+        (q_is : quotient_run (Some number_limit) x0 pivot ≡ Ok q) {w : List ℚ} (d : ForwardTo m place es v q c w) where
+      q_own : quotient_run (Some number_limit) (get_or v place 0ℚ) pivot ≡ Ok q
+      q_own = ap (λ a. quotient_run (Some number_limit) a pivot) (own x0 x0_is) ∙ q_is
 
-      run_is : (x : ℚ) (r : Run ℚ) → slice_get w item.0 ≡ Some x → less_product (Some largest) item.1 q x ≡ r →
-          less_product (Some largest) (value_at es c) q (get_or w (row_at es c) 0ℚ) ≡ r
+      run_is : (x : ℚ) (r : Run ℚ) → slice_get w item.0 ≡ Some x → less_product (Some number_limit) item.1 q x ≡ r →
+          less_product (Some number_limit) (value_at es c) q (get_or w (row_at es c) 0ℚ) ≡ r
       run_is x r e k =
-          ap₂ (λ a s. less_product (Some largest) a q s) value_is
+          ap₂ (λ a s. less_product (Some number_limit) a q s) value_is
           (ap (λ i. get_or w i 0ℚ) row_is ∙ get_or_from_slice_get w item.0 x 0ℚ e)
           ∙ k
 
       pub forward_stop : (x : ℚ) (p : Past ℚ) → item.0 ≢ place → slice_get w item.0 ≡ Some x →
-          less_product (Some largest) item.1 q x ≡ Err p → forward_run (Some largest) (length v) now v ≡ Err p
+          less_product (Some number_limit) item.1 q x ≡ Err p → forward_run (Some number_limit) (length v) now v ≡ Err p
       forward_stop x p n e k =
           as_forward (Err p) (forward_by m place pivot es h v q long narrow narrow_q q_own
           ∙ forward_stops m place pivot es h v q long narrow narrow_q c w p c_here
           (λ z. n (sym row_is ∙ z)) d.done (run_is x (Err p) e k))
 
       pub forward_next : (x r : ℚ) (u : List ℚ) → item.0 ≢ place → slice_get w item.0 ≡ Some x →
-          less_product (Some largest) item.1 q x ≡ Ok r → IsNarrow r → u ≡ set w item.0 r →
+          less_product (Some number_limit) item.1 q x ≡ Ok r → IsNarrow r → u ≡ set w item.0 r →
           ForwardTo m place es v q (c + 1) u
       forward_next x r u n e k narrow_r z =
           subst (ForwardTo m place es v q (c + 1)) (ap (λ i. set w i r) row_is ∙ sym z) (record {
@@ -99,21 +98,22 @@ module _ {m place : ℕ} {pivot : ℚ} {es : Entries} {now : Pair} (view : pair_
 
     -- ---- btran
     module _ (narrow : All IsNarrow v) {s : ℚ} (d : BackwardTo m place es v c s) where
-      back_is : (x : ℚ) (r : Run ℚ) → slice_get v item.0 ≡ Some x → less_product (Some largest) x item.1 s ≡ r →
-          less_product (Some largest) (get_or v (row_at es c) 0ℚ) (value_at es c) s ≡ r
+      back_is : (x : ℚ) (r : Run ℚ) → slice_get v item.0 ≡ Some x → less_product (Some number_limit) x item.1 s ≡ r →
+          less_product (Some number_limit) (get_or v (row_at es c) 0ℚ) (value_at es c) s ≡ r
       back_is x r e k =
-          ap₂ (λ a b. less_product (Some largest) a b s)
+          ap₂ (λ a b. less_product (Some number_limit) a b s)
           (ap (λ i. get_or v i 0ℚ) row_is ∙ get_or_from_slice_get v item.0 x 0ℚ e) value_is
           ∙ k
 
       pub backward_stop : (x : ℚ) (p : Past ℚ) → item.0 ≢ place → slice_get v item.0 ≡ Some x →
-          less_product (Some largest) x item.1 s ≡ Err p → backward_run (Some largest) (length v) now v ≡ Err p
+          less_product (Some number_limit) x item.1 s ≡ Err p →
+          backward_run (Some number_limit) (length v) now v ≡ Err p
       backward_stop x p n e k =
           as_backward (Err p) (backward_stops m place pivot es h v long narrow c s p c_here
           (λ z. n (sym row_is ∙ z)) d.done (back_is x (Err p) e k))
 
       pub backward_next : (x r u : ℚ) → item.0 ≢ place → slice_get v item.0 ≡ Some x →
-          less_product (Some largest) x item.1 s ≡ Ok r → IsNarrow r → u ≡ r → BackwardTo m place es v (c + 1) u
+          less_product (Some number_limit) x item.1 s ≡ Ok r → IsNarrow r → u ≡ r → BackwardTo m place es v (c + 1) u
       backward_next x r u n e k narrow_r z =
           subst (BackwardTo m place es v (c + 1)) (sym z) (record {
             done =
@@ -139,26 +139,27 @@ module _ {m place : ℕ} {pivot : ℚ} {es : Entries} {now : Pair} (view : pair_
       })
 
   pub forward_zero : (narrow : All IsNarrow v) {q x : ℚ} {w : List ℚ} → IsNarrow q → slice_get v place ≡ Some x →
-      quotient_run (Some largest) x pivot ≡ Ok q → q ≡ 0ℚ → w ≡ set v place q →
-      forward_run (Some largest) (length v) now v ≡ Ok w
+      quotient_run (Some number_limit) x pivot ≡ Ok q → q ≡ 0ℚ → w ≡ set v place q →
+      forward_run (Some number_limit) (length v) now v ≡ Ok w
   forward_zero narrow {q} {x} {w} narrow_q e k z is =
       as_forward (Ok w) (forward_by m place pivot es h v q long narrow narrow_q
-      (ap (λ a. quotient_run (Some largest) a pivot) (own x e) ∙ k)
+      (ap (λ a. quotient_run (Some number_limit) a pivot) (own x e) ∙ k)
       ∙ forward_nothing m place pivot es h v q long narrow narrow_q z ∙ ap Ok (sym is))
 
-  pub forward_not : {x : ℚ} {p : Past ℚ} → slice_get v place ≡ Some x → quotient_run (Some largest) x pivot ≡ Err p →
-      forward_run (Some largest) (length v) now v ≡ Err p
+  pub forward_not : {x : ℚ} {p : Past ℚ} → slice_get v place ≡ Some x →
+      quotient_run (Some number_limit) x pivot ≡ Err p →
+      forward_run (Some number_limit) (length v) now v ≡ Err p
   forward_not {x} {p} e k =
       as_forward (Err p)
-      (forward_refused m place pivot es h v p (ap (λ a. quotient_run (Some largest) a pivot) (own x e) ∙ k))
+      (forward_refused m place pivot es h v p (ap (λ a. quotient_run (Some number_limit) a pivot) (own x e) ∙ k))
 
   pub forward_whole : (narrow : All IsNarrow v) {q x : ℚ} (c : ℕ) {w : List ℚ} → IsNarrow q →
-      slice_get v place ≡ Some x → quotient_run (Some largest) x pivot ≡ Ok q → length es ≤ c →
+      slice_get v place ≡ Some x → quotient_run (Some number_limit) x pivot ≡ Ok q → length es ≤ c →
       ForwardTo m place es v q c w
-      → forward_run (Some largest) (length v) now v ≡ Ok w
+      → forward_run (Some number_limit) (length v) now v ≡ Ok w
   forward_whole narrow {q} {x} c {w} narrow_q e k l d =
       as_forward (Ok w) (forward_by m place pivot es h v q long narrow narrow_q
-      (ap (λ a. quotient_run (Some largest) a pivot) (own x e) ∙ k)
+      (ap (λ a. quotient_run (Some number_limit) a pivot) (own x e) ∙ k)
       ∙ forward_ends m place pivot es h v q long narrow narrow_q c w l d.done)
 
   pub forward_long : {q : ℚ} {c : ℕ} {w : List ℚ} → ForwardTo m place es v q c w → length w ≡ length v
@@ -171,13 +172,13 @@ module _ {m place : ℕ} {pivot : ℚ} {es : Entries} {now : Pair} (view : pair_
       record { done = backward_first m place pivot es h v long narrow (subst IsNarrow (sym z) n) ∙ ap Ok z; narrow = n }
 
   pub backward_not : (narrow : All IsNarrow v) (c : ℕ) {s : ℚ} {p : Past ℚ} → length es ≤ c →
-      BackwardTo m place es v c s → quotient_run (Some largest) s pivot ≡ Err p →
-      backward_run (Some largest) (length v) now v ≡ Err p
+      BackwardTo m place es v c s → quotient_run (Some number_limit) s pivot ≡ Err p →
+      backward_run (Some number_limit) (length v) now v ≡ Err p
   backward_not narrow c {s} {p} l d k =
       as_backward (Err p) (backward_refused m place pivot es h v long narrow c s p l d.done k)
 
   pub backward_whole : (narrow : All IsNarrow v) (c : ℕ) {s q : ℚ} {w : List ℚ} → length es ≤ c →
-      BackwardTo m place es v c s → quotient_run (Some largest) s pivot ≡ Ok q → w ≡ set v place q →
-      backward_run (Some largest) (length v) now v ≡ Ok w
+      BackwardTo m place es v c s → quotient_run (Some number_limit) s pivot ≡ Ok q → w ≡ set v place q →
+      backward_run (Some number_limit) (length v) now v ≡ Ok w
   backward_whole narrow c {s} {q} {w} l d k e =
       as_backward (Ok w) (backward_ends m place pivot es h v long narrow c s q l d.done k ∙ ap Ok (sym e))

@@ -4,13 +4,12 @@ use Rattle.std.proofs.Common.{Err, cond, nat_eq, refl, sym, ap, ap₂, ◌∙◌
 use Rattle.std.proofs.lemmas.List.{length-set, get_or-set_same, get_or-set_other}
 use Rattle.std.proofs.lemmas.List.Elements.{All-get_or}
 use Rattle.spec_exact.specs.Fraction.{ℚ, 0ℚ}
-use Rattle.spec_exact.specs.Narrow.{IsNarrow}
+use Rattle.spec_exact.specs.Narrow.{IsNarrow, number_limit}
 use Rattle.spec_exact.specs.declared.past.Past.{Past}
 use Rattle.spec_model.specs.Model.{entry_of}
 use Rattle.spec_pivot.proofs.Pivot.{by_eq}
 use Rattle.spec_exact.specs.Run.{Run, ◌>>=◌, quotient_run, less_product, steps, list_run}
 use Rattle.spec_exact.proofs.Stops.{get_or-made, list_stops, steps_more, steps_stop}
-use Rattle.lp_frac.specs.Narrow.{largest}
 use Rattle.spec_factor.specs.Factors.{Pair, pair_at, forward_run, backward_run}
 use Rattle.lp_factor.specs.Eta.{IsEta, pair_of}
 use Rattle.lp_factor.proofs.Gaps.{Entries, row_at, value_at, bound, less_zero_left, less_zero_right, entry_there}
@@ -20,11 +19,11 @@ use Rattle.lp_factor.proofs.Gaps.{none_between, DoneTo, none_done, one_done, sti
 -- what happens at place i: to its item, and to what is left of the pair's own
 abbrev pub forward_at : ℕ → ℕ → Entries → List ℚ → ℚ → ℕ → Run ℚ
 forward_at m place es v q i =
-    cond (nat_eq i place) (Ok q) (less_product (Some largest) (pair_at (pair_of m place es) i) q (get_or v i 0ℚ))
+    cond (nat_eq i place) (Ok q) (less_product (Some number_limit) (pair_at (pair_of m place es) i) q (get_or v i 0ℚ))
 
 abbrev pub backward_at : ℕ → ℕ → Entries → List ℚ → ℕ → ℚ → Run ℚ
 backward_at m place es v i s =
-    cond (nat_eq i place) (Ok s) (less_product (Some largest) (get_or v i 0ℚ) (pair_at (pair_of m place es) i) s)
+    cond (nat_eq i place) (Ok s) (less_product (Some number_limit) (get_or v i 0ℚ) (pair_at (pair_of m place es) i) s)
 
 -- the loops, before entry c
 pub record ForwardTo (m place : ℕ) (es : Entries) (v : List ℚ) (q : ℚ) (c : ℕ) (w : List ℚ) : Type 0 where
@@ -67,14 +66,14 @@ module _ (m place : ℕ) (pivot : ℚ) (es : Entries) (h : IsEta m place pivot e
         rw (eq-eqb place place refl)
         (ap Ok (sym (get_or-set_same v place q 0ℚ (subst (λ n. place < n) (sym all) h.inside))))
 
-    at_other : (i : ℕ) → i ≢ place → at i ≡ less_product (Some largest) (pair_at pair i) q (get_or v i 0ℚ)
+    at_other : (i : ℕ) → i ≢ place → at i ≡ less_product (Some number_limit) (pair_at pair i) q (get_or v i 0ℚ)
     at_other i d = rw (ne_eqb i place d) refl
 
     skipped : (i : ℕ) → i < m → entry_of es i ≡ 0ℚ → at i ≡ Ok (get_or begun i 0ℚ)
     skipped i l e =
         by_eq i place
         (λ d. subst (λ i. at i ≡ Ok (get_or begun i 0ℚ)) (sym d) at_own)
-        (λ d. at_other i d ∙ ap (λ a. less_product (Some largest) a q (get_or v i 0ℚ)) (pair_is i l ∙ e)
+        (λ d. at_other i d ∙ ap (λ a. less_product (Some number_limit) a q (get_or v i 0ℚ)) (pair_is i l ∙ e)
         ∙ less_zero_left q (get_or v i 0ℚ) narrow_q (All-get_or IsNarrow v i 0ℚ (subst (λ n. i < n) (sym all) l) narrow)
         ∙ ap Ok (sym (begun_other i d)))
 
@@ -96,7 +95,7 @@ module _ (m place : ℕ) (pivot : ℚ) (es : Entries) (h : IsEta m place pivot e
         at_zero i l =
             by_eq i place
             (λ d. subst (λ i. at i ≡ Ok (get_or begun i 0ℚ)) (sym d) at_own)
-            (λ d. at_other i d ∙ ap₂ (λ a c. less_product (Some largest) a c (get_or v i 0ℚ)) (pair_is i l) e
+            (λ d. at_other i d ∙ ap₂ (λ a c. less_product (Some number_limit) a c (get_or v i 0ℚ)) (pair_is i l) e
             ∙ less_zero_right (entry_of es i) (get_or v i 0ℚ) (entry_narrow es h.narrow i)
             (All-get_or IsNarrow v i 0ℚ (subst (λ n. i < n) (sym all) l) narrow)
             ∙ ap Ok (sym (begun_other i d)))
@@ -118,15 +117,15 @@ module _ (m place : ℕ) (pivot : ℚ) (es : Entries) (h : IsEta m place pivot e
     in_list c w l d = subst (λ n. row_at es c < n) (sym (d.all ∙ begun_long)) (row_inside m es h.entries c l)
 
     same_run : (c : ℕ) (w : List ℚ) → c < length es → row_at es c ≢ place → DoneTo at (row_at es c) begun w
-        → at (row_at es c) ≡ less_product (Some largest) (value_at es c) q (get_or w (row_at es c) 0ℚ)
+        → at (row_at es c) ≡ less_product (Some number_limit) (value_at es c) q (get_or w (row_at es c) 0ℚ)
     same_run c w l n d =
         at_other (row_at es c) n
-        ∙ ap₂ (λ a s. less_product (Some largest) a q s) (entry_is c l)
+        ∙ ap₂ (λ a s. less_product (Some number_limit) a q s) (entry_is c l)
         (sym (d.rest (row_at es c) (omega arith) ∙ begun_other (row_at es c) n))
 
     pub forward_other : (c : ℕ) (w : List ℚ) (x : ℚ) → c < length es → row_at es c ≢ place →
         DoneTo at (bound m es c) begun w
-        → less_product (Some largest) (value_at es c) q (get_or w (row_at es c) 0ℚ) ≡ Ok x →
+        → less_product (Some number_limit) (value_at es c) q (get_or w (row_at es c) 0ℚ) ≡ Ok x →
         DoneTo at (bound m es (c + 1)) begun (set w (row_at es c) x)
     forward_other c w x l n d e =
         let d' = at_entry c w l d in
@@ -145,7 +144,7 @@ module _ (m place : ℕ) (pivot : ℚ) (es : Entries) (h : IsEta m place pivot e
 
     pub forward_stops : (c : ℕ) (w : List ℚ) (p : Past ℚ) → c < length es → row_at es c ≢ place →
         DoneTo at (bound m es c) begun w
-        → less_product (Some largest) (value_at es c) q (get_or w (row_at es c) 0ℚ) ≡ Err p → list_run m at ≡ Err p
+        → less_product (Some number_limit) (value_at es c) q (get_or w (row_at es c) 0ℚ) ≡ Err p → list_run m at ≡ Err p
     forward_stops c w p l n d e =
         let d' = at_entry c w l d in
         list_stops (row_at es c) m at (take (row_at es c) w) p
@@ -155,21 +154,23 @@ module _ (m place : ℕ) (pivot : ℚ) (es : Entries) (h : IsEta m place pivot e
     forward_ends c w l d =
         whole_done at m begun w (subst (λ b. DoneTo at b begun w) (bound_end m es h.entries c l) d) begun_long
 
-    pub forward_by : (e : quotient_run (Some largest) (get_or v place 0ℚ) pivot ≡ Ok q) →
-        forward_run (Some largest) m pair v ≡ list_run m at
+    pub forward_by : (e : quotient_run (Some number_limit) (get_or v place 0ℚ) pivot ≡ Ok q) →
+        forward_run (Some number_limit) m pair v ≡ list_run m at
     unfolding forward_run
     forward_by e =
         ap (λ o. o >>= λ q.
-        list_run m (λ i. cond (nat_eq i place) (Ok q) (less_product (Some largest) (pair_at pair i) q (get_or v i 0ℚ))))
-        (ap (quotient_run (Some largest) (get_or v place 0ℚ)) pivot_is ∙ e)
+        list_run m (λ i. cond (nat_eq i place) (Ok q) (less_product (Some number_limit) (pair_at pair i) q (get_or v i
+        0ℚ))))
+        (ap (quotient_run (Some number_limit) (get_or v place 0ℚ)) pivot_is ∙ e)
 
-  pub forward_refused : (v : List ℚ) (p : Past ℚ) → quotient_run (Some largest) (get_or v place 0ℚ) pivot ≡ Err p →
-      forward_run (Some largest) m pair v ≡ Err p
+  pub forward_refused : (v : List ℚ) (p : Past ℚ) → quotient_run (Some number_limit) (get_or v place 0ℚ) pivot ≡ Err p →
+      forward_run (Some number_limit) m pair v ≡ Err p
   unfolding forward_run
   forward_refused v p e =
       ap (λ o. o >>= λ q.
-      list_run m (λ i. cond (nat_eq i place) (Ok q) (less_product (Some largest) (pair_at pair i) q (get_or v i 0ℚ))))
-      (ap (quotient_run (Some largest) (get_or v place 0ℚ)) pivot_is ∙ e)
+      list_run m (λ i. cond (nat_eq i place) (Ok q) (less_product (Some number_limit) (pair_at pair i) q (get_or v i
+      0ℚ))))
+      (ap (quotient_run (Some number_limit) (get_or v place 0ℚ)) pivot_is ∙ e)
 
   -- ---- btran
   module _ (v : List ℚ) (all : length v ≡ m) (narrow : All IsNarrow v) where
@@ -183,7 +184,7 @@ module _ (m place : ℕ) (pivot : ℚ) (es : Entries) (h : IsEta m place pivot e
     left_out i s l n e =
         by_eq i place
         (λ d. rw (eq-eqb i place d) refl)
-        (λ d. rw (ne_eqb i place d) (ap (λ a. less_product (Some largest) (get_or v i 0ℚ) a s) (pair_is i l ∙ e)
+        (λ d. rw (ne_eqb i place d) (ap (λ a. less_product (Some number_limit) (get_or v i 0ℚ) a s) (pair_is i l ∙ e)
         ∙ less_zero_right (get_or v i 0ℚ) s (All-get_or IsNarrow v i 0ℚ (subst (λ n. i < n) (sym all) l) narrow) n))
 
     pub backward_first : IsNarrow own_item → steps (bound m es 0) back_at own_item ≡ Ok own_item
@@ -205,14 +206,14 @@ module _ (m place : ℕ) (pivot : ℚ) (es : Entries) (h : IsEta m place pivot e
     there c s l e = subst (λ b. steps b back_at own_item ≡ Ok s) (bound_at m es h.entries c l) e
 
     same_step : (c : ℕ) (s : ℚ) → c < length es → row_at es c ≢ place →
-        back_at (row_at es c) s ≡ less_product (Some largest) (get_or v (row_at es c) 0ℚ) (value_at es c) s
+        back_at (row_at es c) s ≡ less_product (Some number_limit) (get_or v (row_at es c) 0ℚ) (value_at es c) s
     same_step c s l n =
         rw (ne_eqb (row_at es c) place n)
-        (ap (λ a. less_product (Some largest) (get_or v (row_at es c) 0ℚ) a s) (entry_is c l))
+        (ap (λ a. less_product (Some number_limit) (get_or v (row_at es c) 0ℚ) a s) (entry_is c l))
 
     pub backward_other : (c : ℕ) (s x : ℚ) → c < length es → row_at es c ≢ place → IsNarrow x →
         steps (bound m es c) back_at own_item ≡ Ok s
-        → less_product (Some largest) (get_or v (row_at es c) 0ℚ) (value_at es c) s ≡ Ok x →
+        → less_product (Some number_limit) (get_or v (row_at es c) 0ℚ) (value_at es c) s ≡ Ok x →
         steps (bound m es (c + 1)) back_at own_item ≡ Ok x
     backward_other c s x l n k e g =
         further c x l k (steps_more (row_at es c) back_at own_item s x (there c s l e) (same_step c s l n ∙ g))
@@ -224,12 +225,12 @@ module _ (m place : ℕ) (pivot : ℚ) (es : Entries) (h : IsEta m place pivot e
         (steps_more (row_at es c) back_at own_item s s (there c s l e) (rw (eq-eqb (row_at es c) place d) refl))
 
     abbrev after_steps : ℚ → Run (List ℚ)
-    after_steps s = quotient_run (Some largest) s (pair_at pair place) >>= λ q. Ok (set v place q)
+    after_steps s = quotient_run (Some number_limit) s (pair_at pair place) >>= λ q. Ok (set v place q)
 
     pub backward_stops : (c : ℕ) (s : ℚ) (p : Past ℚ) → c < length es → row_at es c ≢ place →
         steps (bound m es c) back_at own_item ≡ Ok s
-        → less_product (Some largest) (get_or v (row_at es c) 0ℚ) (value_at es c) s ≡ Err p →
-        backward_run (Some largest) m pair v ≡ Err p
+        → less_product (Some number_limit) (get_or v (row_at es c) 0ℚ) (value_at es c) s ≡ Err p →
+        backward_run (Some number_limit) m pair v ≡ Err p
     unfolding backward_run
     backward_stops c s p l n e g =
         ap (λ o. o >>= after_steps) (steps_stop (row_at es c) m back_at own_item s p
@@ -240,15 +241,15 @@ module _ (m place : ℕ) (pivot : ℚ) (es : Entries) (h : IsEta m place pivot e
     ended c s l e = subst (λ b. steps b back_at own_item ≡ Ok s) (bound_end m es h.entries c l) e
 
     pub backward_ends : (c : ℕ) (s q : ℚ) → length es ≤ c → steps (bound m es c) back_at own_item ≡ Ok s →
-        quotient_run (Some largest) s pivot ≡ Ok q → backward_run (Some largest) m pair v ≡ Ok (set v place q)
+        quotient_run (Some number_limit) s pivot ≡ Ok q → backward_run (Some number_limit) m pair v ≡ Ok (set v place q)
     unfolding backward_run
     backward_ends c s q l e g =
         ap (λ o. o >>= after_steps) (ended c s l e)
-        ∙ ap (λ o. o >>= λ q. Ok (set v place q)) (ap (quotient_run (Some largest) s) pivot_is ∙ g)
+        ∙ ap (λ o. o >>= λ q. Ok (set v place q)) (ap (quotient_run (Some number_limit) s) pivot_is ∙ g)
 
     pub backward_refused : (c : ℕ) (s : ℚ) (p : Past ℚ) → length es ≤ c → steps (bound m es c) back_at own_item ≡ Ok s →
-        quotient_run (Some largest) s pivot ≡ Err p → backward_run (Some largest) m pair v ≡ Err p
+        quotient_run (Some number_limit) s pivot ≡ Err p → backward_run (Some number_limit) m pair v ≡ Err p
     unfolding backward_run
     backward_refused c s p l e g =
         ap (λ o. o >>= after_steps) (ended c s l e)
-        ∙ ap (λ o. o >>= λ q. Ok (set v place q)) (ap (quotient_run (Some largest) s) pivot_is ∙ g)
+        ∙ ap (λ o. o >>= λ q. Ok (set v place q)) (ap (quotient_run (Some number_limit) s) pivot_is ∙ g)

@@ -10,7 +10,7 @@ use Rattle.std.proofs.lemmas.Option.{get_or_from_slice_get}
 use Rattle.std.proofs.Math.Seq.{take-length}
 use Rattle.spec_exact.specs.Fraction.{ℚ, 0ℚ, eq_ℚ, whole}
 use Rattle.spec_exact.specs.Laws.{IsWithin}
-use Rattle.spec_exact.specs.Narrow.{IsNarrow}
+use Rattle.spec_exact.specs.Narrow.{IsNarrow, number_limit}
 use Rattle.spec_exact.specs.Answer.{told}
 use Rattle.spec_exact.specs.declared.past.Op.TheVariants.{Sub, Mul}
 use Rattle.spec_exact.proofs.Same.{eq_if, eq_test}
@@ -21,7 +21,6 @@ use Rattle.spec_pivot.proofs.Pivot.{by_eq}
 use Rattle.spec_exact.specs.Run.{Run, ◌>>=◌, difference_run, less_product, steps, list_run}
 use Rattle.spec_exact.proofs.Stops.{list_more, steps_more}
 use Rattle.spec_path.proofs.Lists.{by_lt}
-use Rattle.lp_frac.specs.Narrow.{largest}
 
 abbrev pub Entries : Type 0
 Entries = List (ℕ × ℚ)
@@ -38,18 +37,18 @@ pub bound : ℕ → Entries → ℕ → ℕ
 bound m es c = cond (nat_lt c (length es)) (row_at es c) m
 
 -- ---- where an operand is 0
-within : (v : ℚ) → IsNarrow v → IsWithin largest v
+within : (v : ℚ) → IsNarrow v → IsWithin number_limit v
 within v n = record { num_fits = n.top; den_fits = n.bottom }
 
-pub less_zero_left : (q s : ℚ) → IsNarrow q → IsNarrow s → less_product (Some largest) 0ℚ q s ≡ Ok s
+pub less_zero_left : (q s : ℚ) → IsNarrow q → IsNarrow s → less_product (Some number_limit) 0ℚ q s ≡ Ok s
 less_zero_left q s n k =
-    ap (λ o. told Mul 0ℚ q o >>= λ p. difference_run (Some largest) s p) (mul_left largest q (within q n))
-    ∙ ap (told Sub s 0ℚ) (sub_right largest s (within s k))
+    ap (λ o. told Mul 0ℚ q o >>= λ p. difference_run (Some number_limit) s p) (mul_left number_limit q (within q n))
+    ∙ ap (told Sub s 0ℚ) (sub_right number_limit s (within s k))
 
-pub less_zero_right : (q s : ℚ) → IsNarrow q → IsNarrow s → less_product (Some largest) q 0ℚ s ≡ Ok s
+pub less_zero_right : (q s : ℚ) → IsNarrow q → IsNarrow s → less_product (Some number_limit) q 0ℚ s ≡ Ok s
 less_zero_right q s n k =
-    ap (λ o. told Mul q 0ℚ o >>= λ p. difference_run (Some largest) s p) (mul_right largest q (within q n))
-    ∙ ap (told Sub s 0ℚ) (sub_right largest s (within s k))
+    ap (λ o. told Mul q 0ℚ o >>= λ p. difference_run (Some number_limit) s p) (mul_right number_limit q (within q n))
+    ∙ ap (told Sub s 0ℚ) (sub_right number_limit s (within s k))
 
 -- ---- where entries stand
 found_entry : (es : Entries) (i : ℕ) → entry_of es i ≢ 0ℚ → (c : ℕ) × (c < length es) × (row_at es c ≡ i)

@@ -9,9 +9,9 @@ use Rattle.spec_exact.proofs.Same.{eq_test, eq_if}
 use Rattle.spec_pivot.specs.declared.status.Status.{Status}
 use Rattle.spec_exact.specs.Run.{◌>>=◌, steps}
 use Rattle.spec_exact.proofs.Stops.{steps_more, steps_stop}
+use Rattle.spec_exact.specs.Narrow.{number_limit}
 use Rattle.spec_simplex.specs.Tableau.{is_basic}
 use Rattle.spec_simplex.specs.Form.{Form}
-use Rattle.lp_frac.specs.Narrow.{largest}
 use Rattle.lp_frac.specs.declared.stop.Stop.{Stop}
 use Rattle.lp_form.specs.declared.stop.Singular.{Singular}
 use Rattle.lp_frac.specs.declared.stop.Stop.TheVariants as stop
@@ -64,25 +64,25 @@ free_is columns v i x c e g h =
 
 -- ---- the basic columns one by one
 pub record ChosenTo (f : Form) (basis : List Status) (n : ℕ) (s : Chosen) : Type 0 where
-  pub done : steps n (λ k s. cond (is_basic (basis_at basis k)) (choose_run (Some largest) f k s) (Ok s))
+  pub done : steps n (λ k s. cond (is_basic (basis_at basis k)) (choose_run (Some number_limit) f k s) (Ok s))
       (none_chosen f) ≡ Ok s
   pub all : length s.columns ≡ f.rows
 
 module _ (f : Form) (basis : List Status) where
   abbrev at : ℕ → Chosen → Result Chosen (NoFactors ℚ)
-  at k s = cond (is_basic (basis_at basis k)) (choose_run (Some largest) f k s) (Ok s)
+  at k s = cond (is_basic (basis_at basis k)) (choose_run (Some number_limit) f k s) (Ok s)
 
   pub status_read : (k : ℕ) (s : Status) → slice_get basis k ≡ Some s → basis_at basis k ≡ s
   status_read k s e = get_or_from_slice_get basis k s _ e
 
   pub one_more : (k : ℕ) (s u : Chosen) (status : Status) → ChosenTo f basis k s → slice_get basis k ≡ Some status →
-      is_basic status ≡ true → choose_run (Some largest) f k s ≡ Ok u → length u.columns ≡ length s.columns →
+      is_basic status ≡ true → choose_run (Some number_limit) f k s ≡ Ok u → length u.columns ≡ length s.columns →
       ChosenTo f basis (k + 1) u
   one_more k s u status d e b h l = record {
     done =
         steps_more k at (none_chosen f) s u d.done
-        (ap (λ x. cond (is_basic x) (choose_run (Some largest) f k s) (Ok s)) (status_read k status e)
-        ∙ ap (λ c. cond c (choose_run (Some largest) f k s) (Ok s)) b ∙ h);
+        (ap (λ x. cond (is_basic x) (choose_run (Some number_limit) f k s) (Ok s)) (status_read k status e)
+        ∙ ap (λ c. cond c (choose_run (Some number_limit) f k s) (Ok s)) b ∙ h);
     all = l ∙ d.all;
   }
 
@@ -91,22 +91,22 @@ module _ (f : Form) (basis : List Status) where
   passed_by k s u status d e b same = subst (ChosenTo f basis (k + 1)) (sym same) (record {
     done =
         steps_more k at (none_chosen f) s s d.done
-        (ap (λ x. cond (is_basic x) (choose_run (Some largest) f k s) (Ok s)) (status_read k status e)
-        ∙ ap (λ c. cond c (choose_run (Some largest) f k s) (Ok s)) b);
+        (ap (λ x. cond (is_basic x) (choose_run (Some number_limit) f k s) (Ok s)) (status_read k status e)
+        ∙ ap (λ c. cond c (choose_run (Some number_limit) f k s) (Ok s)) b);
     all = d.all;
   })
 
   pub factor_stops : (k : ℕ) (s : Chosen) (status : Status) (x : NoFactors ℚ) → k < f.cols + f.rows →
       ChosenTo f basis k s → slice_get basis k ≡ Some status → is_basic status ≡ true →
-      choose_run (Some largest) f k s ≡ Err x → factor_run (Some largest) f basis ≡ Err x
+      choose_run (Some number_limit) f k s ≡ Err x → factor_run (Some number_limit) f basis ≡ Err x
   unfolding factor_run choose_all
   factor_stops k s status x l d e b h =
       ap (λ o. o >>= λ s. Ok (factors_of s)) (steps_stop k (f.cols + f.rows) at (none_chosen f) s x l d.done
-      (ap (λ x. cond (is_basic x) (choose_run (Some largest) f k s) (Ok s)) (status_read k status e)
-      ∙ ap (λ c. cond c (choose_run (Some largest) f k s) (Ok s)) b ∙ h))
+      (ap (λ x. cond (is_basic x) (choose_run (Some number_limit) f k s) (Ok s)) (status_read k status e)
+      ∙ ap (λ c. cond c (choose_run (Some number_limit) f k s) (Ok s)) b ∙ h))
 
   pub factor_gives : (n : ℕ) (s : Chosen) → n ≡ f.cols + f.rows → ChosenTo f basis n s →
-      factor_run (Some largest) f basis ≡ Ok (factors_of s)
+      factor_run (Some number_limit) f basis ≡ Ok (factors_of s)
   unfolding factor_run choose_all
   factor_gives n s e d =
       ap (λ n. steps n at (none_chosen f) >>= λ s. Ok (factors_of s)) (sym e)
@@ -114,8 +114,8 @@ module _ (f : Form) (basis : List Status) where
 
   pub factor_refused : (k : ℕ) (s u : Chosen) (status : Status) (e : Stop Singular) → k < f.cols + f.rows →
       ChosenTo f basis k s → slice_get basis k ≡ Some status → is_basic status ≡ true →
-      Chooses (choose_run (Some largest) f k s) u (Err e)
-      → MakesFactors (factor_run (Some largest) f basis) (Err e)
+      Chooses (choose_run (Some number_limit) f k s) u (Err e)
+      → MakesFactors (factor_run (Some number_limit) f basis) (Err e)
   factor_refused k s u status (stop.Cause why) l d e b h = factor_stops k s status cause.Singular l d e b h
   factor_refused k s u status (stop.Past p) l d e b h = factor_stops k s status (cause.Past p) l d e b h
   factor_refused k s u status stop.NoMemory l d e b h = tt

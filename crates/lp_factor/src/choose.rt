@@ -2,10 +2,10 @@
 ghost use Rattle.std.specs.Prelude.{◌≡◌, ◌≢◌, ◌+◌, ◌<◌, ◌≤◌, ℕ, List, Some, None, [], length, get_or};
 ghost use Rattle.std.specs.Prelude.{replicate, IfOk, IfSome, OnOk, map, unwrap_or, slice_set};
 ghost use Rattle.spec_exact.specs.Fraction.{ℚ, 0ℚ};
+ghost use Rattle.spec_exact.specs.Narrow.{number_limit};
 ghost use Rattle.spec_simplex.specs.Eliminate.{basics_below};
 ghost use Rattle.spec_factor.specs.Factors.{ftran_run, column_of as column_by, is_open as is_open_of};
 ghost use Rattle.spec_factor.specs.Factors.{open_place as open_place_of, with_pair, choose_run, factor_run};
-ghost use Rattle.lp_frac.specs.Narrow.{largest};
 ghost use Rattle.lp_factor.specs.Answer.{GivesRun, Chooses, MakesFactors};
 ghost use Rattle.lp_factor.specs.Chosen.{AreChosen};
 
@@ -135,7 +135,7 @@ impl Chosen {
     // The pairs' solution of the list `v`, by rows.
     fn ftran(&self, v: &mut Fracs) -> Result<(), Past>
         requires { length v.old ≡ length self.now.columns }
-        ensures run { GivesRun (ftran_run (Some largest) (length v.old) self.now.pairs v.old) v.new result }
+        ensures run { GivesRun (ftran_run (Some number_limit) (length v.old) self.now.pairs v.old) v.new result }
         ensures all { length v.new ≡ length v.old }
     {
         forward_all(&self.etas, v)
@@ -154,7 +154,7 @@ impl Chosen {
     fn choose(&mut self, alloc: Global, form: &Form, k: u32) -> Result<(), BasisStop>
         requires column { k < form.now.cols + form.now.rows }
         requires all { length self.old.columns ≡ form.now.rows }
-        ensures run { Chooses (choose_run (Some largest) form.now k self.old) self.new result }
+        ensures run { Chooses (choose_run (Some number_limit) form.now k self.old) self.new result }
         ensures all { length self.new.columns ≡ length self.old.columns }
     {
         let mut v = column_of(alloc, form, k)?;
@@ -183,7 +183,7 @@ fn basic_of(alloc: Global, columns: &[Option<u32>]) -> Result<Vec<u32>, AllocErr
 /// Factors of the basic columns by the statuses of the form's structural and logical columns.
 pub fn factor(alloc: Global, form: &Form, basis: &StatusList) -> Result<Factors, BasisStop>
     requires { length basis.now ≡ form.now.cols + form.now.rows }
-    ensures run { MakesFactors (factor_run (Some largest) form.now basis.now) result }
+    ensures run { MakesFactors (factor_run (Some number_limit) form.now basis.now) result }
     ensures all { IfOk result (λ s. length s.basic ≡ form.now.rows) }
 {
     let mut chosen = Chosen::none(alloc, form.rows())?;

@@ -2,9 +2,8 @@
 ghost use Rattle.std.specs.Prelude.{◌≡◌, ◌≢◌, ◌<◌, ◌≤◌, Some, All, IfOk, length, get_or};
 ghost use Rattle.spec_exact.specs.Fraction.{0ℚ};
 ghost use Rattle.spec_model.specs.Kept.{row_limit};
-ghost use Rattle.spec_exact.specs.Narrow.{IsNarrow};
+ghost use Rattle.spec_exact.specs.Narrow.{IsNarrow, number_limit};
 ghost use Rattle.spec_factor.specs.Factors.{forward_run, backward_run};
-ghost use Rattle.lp_frac.specs.Narrow.{largest};
 ghost use Rattle.lp_factor.specs.Answer.{GivesRun};
 ghost use Rattle.lp_factor.specs.Eta.{AreItems};
 
@@ -71,7 +70,7 @@ impl Eta {
     pub(crate) fn forward(&self, v: &mut Fracs) -> Result<(), Past>
         requires all { length self.now.column ≡ length v.old }
         requires narrow { All IsNarrow v.old }
-        ensures run { GivesRun (forward_run (Some largest) (length v.old) self.now v.old) v.new result }
+        ensures run { GivesRun (forward_run (Some number_limit) (length v.old) self.now v.old) v.new result }
         ensures all { length v.new ≡ length v.old }
         ensures narrow { All IsNarrow v.new }
     {
@@ -94,7 +93,7 @@ impl Eta {
     pub(crate) fn backward(&self, v: &mut Fracs) -> Result<(), Past>
         requires all { length self.now.column ≡ length v.old }
         requires narrow { All IsNarrow v.old }
-        ensures run { GivesRun (backward_run (Some largest) (length v.old) self.now v.old) v.new result }
+        ensures run { GivesRun (backward_run (Some number_limit) (length v.old) self.now v.old) v.new result }
         ensures all { length v.new ≡ length v.old }
         ensures narrow { All IsNarrow v.new }
     {

@@ -2,8 +2,8 @@
 ghost use Rattle.std.specs.Prelude.{◌≡◌, ◌≢◌, ◌<◌, ◌≤◌, [], Some, IfOk};
 ghost use Rattle.std.specs.Prelude.{OnOk, length, get_or, slice_set, replicate};
 ghost use Rattle.spec_exact.specs.Fraction.{0ℚ};
+ghost use Rattle.spec_exact.specs.Narrow.{number_limit};
 ghost use Rattle.spec_factor.specs.Factors.{ftran_run, btran_run, with_pair};
-ghost use Rattle.lp_frac.specs.Narrow.{largest};
 ghost use Rattle.lp_factor.specs.Answer.{GivesRun};
 ghost use Rattle.lp_factor.specs.Eta.{AreFactorsOf};
 
@@ -71,7 +71,7 @@ impl Factors {
     /// basis * z = v. After a refusal `v` is open.
     pub fn ftran(&self, v: &mut Fracs) -> Result<(), Past>
         requires { length v.old ≡ length self.now.basic }
-        ensures run { GivesRun (ftran_run (Some largest) (length self.now.basic) self.now.pairs v.old) v.new result }
+        ensures run { GivesRun (ftran_run (Some number_limit) (length self.now.basic) self.now.pairs v.old) v.new result }
         ensures all { length v.new ≡ length v.old }
     {
         forward_all(&self.etas, v)
@@ -81,7 +81,7 @@ impl Factors {
     /// After a refusal `v` is open.
     pub fn btran(&self, v: &mut Fracs) -> Result<(), Past>
         requires { length v.old ≡ length self.now.basic }
-        ensures run { GivesRun (btran_run (Some largest) (length self.now.basic) self.now.pairs v.old) v.new result }
+        ensures run { GivesRun (btran_run (Some number_limit) (length self.now.basic) self.now.pairs v.old) v.new result }
         ensures all { length v.new ≡ length v.old }
     {
         backward_all(&self.etas, v)

@@ -1,7 +1,7 @@
 // Both solves over a list of pairs.
 ghost use Rattle.std.specs.Prelude.{◌≡◌, Some, All, length};
+ghost use Rattle.spec_exact.specs.Narrow.{number_limit};
 ghost use Rattle.spec_factor.specs.Factors.{ftran_run, btran_run};
-ghost use Rattle.lp_frac.specs.Narrow.{largest};
 ghost use Rattle.lp_factor.specs.Answer.{GivesRun};
 
 use crate::eta::Eta;
@@ -11,7 +11,7 @@ use lp_frac::{Fracs, Past};
 // The pairs from the first to the last.
 pub(crate) fn forward_all(etas: &[Eta], v: &mut Fracs) -> Result<(), Past>
     requires { All (λ e. length e.column ≡ length v.old) etas.now }
-    ensures run { GivesRun (ftran_run (Some largest) (length v.old) etas.now v.old) v.new result }
+    ensures run { GivesRun (ftran_run (Some number_limit) (length v.old) etas.now v.old) v.new result }
     ensures all { length v.new ≡ length v.old }
 {
     tell_narrow(v);
@@ -24,7 +24,7 @@ pub(crate) fn forward_all(etas: &[Eta], v: &mut Fracs) -> Result<(), Past>
 // The pairs from the last to the first.
 pub(crate) fn backward_all(etas: &[Eta], v: &mut Fracs) -> Result<(), Past>
     requires { All (λ e. length e.column ≡ length v.old) etas.now }
-    ensures run { GivesRun (btran_run (Some largest) (length v.old) etas.now v.old) v.new result }
+    ensures run { GivesRun (btran_run (Some number_limit) (length v.old) etas.now v.old) v.new result }
     ensures all { length v.new ≡ length v.old }
 {
     tell_narrow(v);

@@ -1,8 +1,7 @@
 // A product taken off a number, and what is known of fractions.
 ghost use Rattle.std.specs.Prelude.{◌≡◌, Some, All};
-ghost use Rattle.spec_exact.specs.Narrow.{IsNarrow};
+ghost use Rattle.spec_exact.specs.Narrow.{IsNarrow, number_limit};
 ghost use Rattle.spec_exact.specs.Run as run;
-ghost use Rattle.lp_frac.specs.Narrow.{largest};
 
 use lp_frac::{Frac, Fracs, Past, den, is_zero, less_product, num};
 
@@ -20,7 +19,7 @@ pub fn narrow(v: Frac) -> Frac
 pub(crate) fn less_part(v: Frac, w: Frac, s: Frac) -> Result<Frac, Past>
     requires w_narrow { IsNarrow w }
     requires s_narrow { IsNarrow s }
-    ensures { result ≡ run.less_product (Some largest) v w s }
+    ensures { result ≡ run.less_product (Some number_limit) v w s }
 {
     if is_zero(v) {
         return Ok(s);

@@ -1,13 +1,14 @@
 -- The certificate of the last model, and what is carried back.
 use Rattle.std.proofs.Common.{◌≡◌, ℕ, Option, Some, None, Ok, refl, sym, ap, subst}
 use Rattle.spec_exact.proofs.Results.{ok_same}
+use Rattle.spec_exact.specs.Narrow.{number_limit}
 use Rattle.spec_model.specs.Model.{Model}
 use Rattle.spec_check.specs.declared.solve_end.SolveEnd.TheVariants.{Ended, Past, Spent}
 use Rattle.spec_check.specs.Certificate.{IsFor}
 use Rattle.spec_check.specs.Checks.{Checks}
 use Rattle.spec_check.proofs.RunSound.{run_sound}
 use Rattle.spec_cold.specs.Cold.{ExactSolveEnd}
-use Rattle.spec_solve.specs.Answers.{number_limit, MayAnswer}
+use Rattle.spec_solve.specs.Answers.{MayAnswer}
 use Rattle.spec_presolve.specs.Reduce.{Reductions, reduced}
 use Rattle.spec_presolve.specs.Carry.{ExactCertificate, halted}
 use Rattle.spec_presolve.specs.Presolved.{last_end, IsLast}

@@ -5,6 +5,7 @@ use Rattle.std.proofs.Common.{refl, sym, ap, ◌∙◌, subst, arith}
 use Rattle.std.proofs.lemmas.List.{length-map}
 use Rattle.spec_exact.specs.Fraction.{ℚ}
 use Rattle.spec_exact.specs.declared.past.Past.{Past as Refusal}
+use Rattle.spec_exact.specs.Narrow.{number_limit}
 use Rattle.spec_model.specs.Model.{Model, width, height}
 use Rattle.spec_model.specs.Kept.{IsModel}
 use Rattle.spec_check.specs.declared.certificate.Certificate.TheVariants.{Optimal, Infeasible, Clash, Unbounded}
@@ -16,7 +17,7 @@ use Rattle.spec_check.specs.Certificate.{IsFor, IsNarrowCertificate, shown}
 use Rattle.spec_check.specs.Run.{check_run, Agrees}
 use Rattle.spec_check.proofs.RunAgrees.{run_agrees}
 use Rattle.spec_check.proofs.RunComplete.{run_complete}
-use Rattle.spec_solve.specs.Answers.{number_limit, MayAnswer}
+use Rattle.spec_solve.specs.Answers.{MayAnswer}
 use Rattle.spec_presolve.specs.declared.presolved.Why.TheVariants as why
 use Rattle.spec_presolve.specs.declared.presolved.Way.TheVariants.{Reduced}
 use Rattle.spec_presolve.specs.declared.reduction.Halt.{Halt}
@@ -28,7 +29,6 @@ use Rattle.spec_presolve.proofs.Carried.{carries}
 use Rattle.spec_presolve.proofs.Ends.{ends_well}
 use Rattle.lp_frac.specs.declared.stop.Stop.{Stop}
 use Rattle.lp_frac.specs.declared.stop.Stop.TheVariants as stop
-use Rattle.lp_frac.specs.Narrow.{largest}
 use Rattle.lp_reduction.specs.declared.step.Step.{Step}
 use Rattle.lp_reduction.specs.Clash.{clash_of}
 use Rattle.lp_reduction.specs.Tells.{Tells}
@@ -73,7 +73,8 @@ module _ (m last : Model) (budget : ℕ) (now : List Step) (halt : Halt) (l : Le
         clash_inside (Clash k) f = omega (arith, f)
         clash_inside (Unbounded x r) f = omega arith
 
-    pub not_carried : {C : Type 0} (e : Stop C) → Tells (carried (Some largest) l.steps c) (Err e) → Tries m budget (Err e)
+    pub not_carried : {C : Type 0} (e : Stop C) → Tells (carried (Some number_limit) l.steps c) (Err e) →
+        Tries m budget (Err e)
     not_carried (stop.Cause x) t = absurd t
     not_carried (stop.Past q) t =
         falls m budget (why.Past q)
@@ -83,14 +84,14 @@ module _ (m last : Model) (budget : ℕ) (now : List Step) (halt : Halt) (l : Le
 
     -- ---- what is carried back
 
-    module _ (back : ExactCertificate) (t : carried (Some largest) l.steps c ≡ Ok back) where
+    module _ (back : ExactCertificate) (t : carried (Some number_limit) l.steps c ≡ Ok back) where
       is_carried : IsCarried m last c back
       is_carried = carries (Some number_limit) m all c back l.run t fit.fits fit.checks
 
       pub back_fits : IsFor m back
       back_fits = is_carried.fits
 
-      pub never_no : (n : ℕ) → check_run (Some largest) m back ≢ Err (check.No n)
+      pub never_no : (n : ℕ) → check_run (Some number_limit) m back ≢ Err (check.No n)
       unfolding Agrees
       never_no n e = by (run_agrees (Some number_limit) m back)
         where

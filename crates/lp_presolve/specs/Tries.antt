@@ -2,12 +2,12 @@
 use Rattle.std.specs.Prelude.{ℕ, ◌≡◌, Option, Some, None, Result, Ok, Err, List}
 use Rattle.spec_exact.specs.Fraction.{ℚ}
 use Rattle.spec_exact.specs.declared.past.Past.{Past as Refusal}
+use Rattle.spec_exact.specs.Narrow.{number_limit}
 use Rattle.spec_model.specs.Model.{Model, width, height}
 use Rattle.spec_check.specs.declared.certificate.CheckStop.TheVariants as check
 use Rattle.spec_check.specs.declared.certificate.Known.{Known}
 use Rattle.spec_check.specs.declared.solve_end.SolveEnd.TheVariants.{Ended}
 use Rattle.spec_check.specs.Run.{check_run}
-use Rattle.spec_solve.specs.Answers.{number_limit}
 use Rattle.spec_presolve.specs.declared.presolved.Why.TheVariants as why
 use Rattle.spec_presolve.specs.declared.presolved.Way.TheVariants.{Reduced}
 use Rattle.spec_presolve.specs.declared.reduction.Halt.{Halt}

@@ -1,12 +1,11 @@
 // The solve of a model by a smaller one.
 ghost use Rattle.std.specs.Prelude.{◌≢◌, ℕ, All, Err, IfOk, Some};
-ghost use Rattle.spec_exact.specs.Narrow.{IsNarrow};
+ghost use Rattle.spec_exact.specs.Narrow.{IsNarrow, number_limit};
 ghost use Rattle.spec_check.specs.Certificate.{IsFor, IsNarrowCertificate};
 ghost use Rattle.spec_check.specs.Run.{check_run};
 ghost use Rattle.spec_check.specs.declared.certificate.CheckStop.TheVariants.{No};
 ghost use Rattle.spec_model.specs.Kept.{IsModel};
 ghost use Rattle.spec_presolve.specs.Presolved.{IsPlain, IsPresolved};
-ghost use Rattle.lp_frac.specs.Narrow.{largest};
 ghost use Rattle.lp_presolve.specs.Tries.{Accepts, Led, Tries};
 
 use crate::last::last_certificate;
@@ -61,7 +60,7 @@ fn accepted(
     pivots: u64,
 ) -> Result<Presolved, Past>
     requires fits { IsFor model.now certificate }
-    requires never_no { (n : ℕ) → check_run (Some largest) model.now certificate ≢ Err (No n) }
+    requires never_no { (n : ℕ) → check_run (Some number_limit) model.now certificate ≢ Err (No n) }
     ensures { Accepts model.now last.now certificate pivots result }
 {
     match check(model, &certificate) {

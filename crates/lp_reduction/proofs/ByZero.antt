@@ -7,9 +7,9 @@ use Rattle.spec_exact.specs.Limit.{div}
 use Rattle.spec_exact.specs.declared.past.Op.TheVariants.{Div}
 use Rattle.spec_exact.specs.Run.{quotient_run}
 use Rattle.spec_exact.proofs.Zero.{mul_right}
-use Rattle.lp_frac.specs.Narrow.{largest}
+use Rattle.spec_exact.specs.Narrow.{number_limit}
 
-pub quotient_by_zero : (d a : ℚ) → IsWithin largest d → a ≡ 0ℚ → quotient_run (Some largest) d a ≡ Ok 0ℚ
+pub quotient_by_zero : (d a : ℚ) → IsWithin number_limit d → a ≡ 0ℚ → quotient_run (Some number_limit) d a ≡ Ok 0ℚ
 unfolding div inverse turned over whole
 quotient_by_zero d a w e =
-    subst (λ a. quotient_run (Some largest) d a ≡ Ok 0ℚ) (sym e) (ap (told Div d 0ℚ) (mul_right largest d w))
+    subst (λ a. quotient_run (Some number_limit) d a ≡ Ok 0ℚ) (sym e) (ap (told Div d 0ℚ) (mul_right number_limit d w))

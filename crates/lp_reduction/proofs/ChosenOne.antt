@@ -2,48 +2,52 @@
 use Rattle.std.proofs.Common.{◌≡◌, Option, Some, None, Ok, Err, refl}
 use Rattle.spec_exact.specs.Fraction.{ℚ}
 use Rattle.spec_exact.specs.declared.past.Past.{Past}
+use Rattle.spec_exact.specs.Narrow.{number_limit}
 use Rattle.spec_model.specs.Model.{Model, width, height}
 use Rattle.spec_presolve.specs.Choose.{ExactChoice, first, clash_at, empty_at, single_at, fixed_at, or_done, chosen}
-use Rattle.lp_frac.specs.Narrow.{largest}
 
 pub none_found : {A : Type 0} (o : Option A) → ((a : A) → o ≡ Some a → ⊥) → o ≡ None
 none_found None n = refl
 none_found (Some a) n = absurd (n a refl)
 
-pub refused₁ : (m : Model) (p : Past ℚ) → first (width m) (clash_at (Some largest) m) ≡ Err p → chosen (Some largest) m ≡ Err p
+pub refused₁ : (m : Model) (p : Past ℚ) → first (width m) (clash_at (Some number_limit) m) ≡ Err p →
+    chosen (Some number_limit) m ≡ Err p
 unfolding chosen
 refused₁ m p e = rw e refl
 
-pub refused₂ : (m : Model) (p : Past ℚ) → first (width m) (clash_at (Some largest) m) ≡ Ok None →
-    first (height m) (empty_at (Some largest) m) ≡ Err p → chosen (Some largest) m ≡ Err p
+pub refused₂ : (m : Model) (p : Past ℚ) → first (width m) (clash_at (Some number_limit) m) ≡ Ok None →
+    first (height m) (empty_at (Some number_limit) m) ≡ Err p → chosen (Some number_limit) m ≡ Err p
 unfolding chosen
 refused₂ m p e f = rw (e, f) refl
 
-pub refused₃ : (m : Model) (p : Past ℚ) → first (width m) (clash_at (Some largest) m) ≡ Ok None →
-    first (height m) (empty_at (Some largest) m) ≡ Ok None → first (height m) (single_at (Some largest) m) ≡ Err p →
-    chosen (Some largest) m ≡ Err p
+pub refused₃ : (m : Model) (p : Past ℚ) → first (width m) (clash_at (Some number_limit) m) ≡ Ok None →
+    first (height m) (empty_at (Some number_limit) m) ≡ Ok None →
+    first (height m) (single_at (Some number_limit) m) ≡ Err p →
+    chosen (Some number_limit) m ≡ Err p
 unfolding chosen
 refused₃ m p e f g = rw (e, f, g) refl
 
-pub found₁ : (m : Model) (c : ExactChoice) → first (width m) (clash_at (Some largest) m) ≡ Ok (Some c) →
-    chosen (Some largest) m ≡ Ok c
+pub found₁ : (m : Model) (c : ExactChoice) → first (width m) (clash_at (Some number_limit) m) ≡ Ok (Some c) →
+    chosen (Some number_limit) m ≡ Ok c
 unfolding chosen
 found₁ m c e = rw e refl
 
-pub found₂ : (m : Model) (c : ExactChoice) → first (width m) (clash_at (Some largest) m) ≡ Ok None →
-    first (height m) (empty_at (Some largest) m) ≡ Ok (Some c) → chosen (Some largest) m ≡ Ok c
+pub found₂ : (m : Model) (c : ExactChoice) → first (width m) (clash_at (Some number_limit) m) ≡ Ok None →
+    first (height m) (empty_at (Some number_limit) m) ≡ Ok (Some c) → chosen (Some number_limit) m ≡ Ok c
 unfolding chosen
 found₂ m c e f = rw (e, f) refl
 
-pub found₃ : (m : Model) (c : ExactChoice) → first (width m) (clash_at (Some largest) m) ≡ Ok None →
-    first (height m) (empty_at (Some largest) m) ≡ Ok None → first (height m) (single_at (Some largest) m) ≡ Ok (Some c) →
-    chosen (Some largest) m ≡ Ok c
+pub found₃ : (m : Model) (c : ExactChoice) → first (width m) (clash_at (Some number_limit) m) ≡ Ok None →
+    first (height m) (empty_at (Some number_limit) m) ≡ Ok None →
+    first (height m) (single_at (Some number_limit) m) ≡ Ok (Some c) →
+    chosen (Some number_limit) m ≡ Ok c
 unfolding chosen
 found₃ m c e f g = rw (e, f, g) refl
 
 -- the last rule, which is never refused, finds it, or nothing does
-pub found₄ : (m : Model) (o : Option ExactChoice) → first (width m) (clash_at (Some largest) m) ≡ Ok None →
-    first (height m) (empty_at (Some largest) m) ≡ Ok None → first (height m) (single_at (Some largest) m) ≡ Ok None →
-    Ok o ≡ first (width m) (fixed_at m) → chosen (Some largest) m ≡ Ok (or_done o)
+pub found₄ : (m : Model) (o : Option ExactChoice) → first (width m) (clash_at (Some number_limit) m) ≡ Ok None →
+    first (height m) (empty_at (Some number_limit) m) ≡ Ok None →
+    first (height m) (single_at (Some number_limit) m) ≡ Ok None →
+    Ok o ≡ first (width m) (fixed_at m) → chosen (Some number_limit) m ≡ Ok (or_done o)
 unfolding chosen
 found₄ m o e f g h = rw (e, f, g, ← h) refl

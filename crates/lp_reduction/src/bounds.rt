@@ -1,8 +1,8 @@
 // Bounds of a column that a row with one entry gives.
 ghost use Rattle.std.specs.Prelude.{◌≡◌, ◌≢◌, Some};
 ghost use Rattle.spec_exact.specs.Fraction.{0ℚ};
+ghost use Rattle.spec_exact.specs.Narrow.{number_limit};
 ghost use Rattle.spec_presolve.specs.Choose as choose;
-ghost use Rattle.lp_frac.specs.Narrow.{largest};
 
 use lp_frac::{Frac, Past, cmp, den, div, num};
 use std::cmp::Ordering;
@@ -10,7 +10,7 @@ use std::cmp::Ordering;
 // The limit over the entry, if there is a limit.
 pub(crate) fn quotient(limit: Option<Frac>, entry: Frac) -> Result<Option<Frac>, Past>
     requires { entry ≢ 0ℚ }
-    ensures { result ≡ choose.quotient (Some largest) limit entry }
+    ensures { result ≡ choose.quotient (Some number_limit) limit entry }
 {
     match limit {
         None => Ok(None),
@@ -32,7 +32,7 @@ pub(crate) fn is_far(bound: &Option<Frac>) -> bool
 
 // The new lower bound, if the one that was there is below it.
 pub(crate) fn raised(bound: Option<Frac>, old: Option<Frac>) -> Result<Option<Frac>, Past>
-    ensures { result ≡ choose.raised (Some largest) bound old }
+    ensures { result ≡ choose.raised (Some number_limit) bound old }
 {
     match (bound, old) {
         (None, _) => Ok(None),
@@ -46,7 +46,7 @@ pub(crate) fn raised(bound: Option<Frac>, old: Option<Frac>) -> Result<Option<Fr
 
 // The new upper bound, if the one that was there is above it.
 pub(crate) fn cut(bound: Option<Frac>, old: Option<Frac>) -> Result<Option<Frac>, Past>
-    ensures { result ≡ choose.cut (Some largest) bound old }
+    ensures { result ≡ choose.cut (Some number_limit) bound old }
 {
     match (bound, old) {
         (None, _) => Ok(None),

@@ -3,12 +3,12 @@ ghost use Rattle.std.specs.Prelude.{◌≡◌, ◌<◌, ◌≤◌, ◌+◌, ◌^
 ghost use Rattle.std.specs.List.{insert};
 ghost use Rattle.spec_exact.specs.Fraction.{ℚ};
 ghost use Rattle.spec_exact.specs.Run.{quotient_run};
+ghost use Rattle.spec_exact.specs.Narrow.{number_limit};
 ghost use Rattle.spec_model.specs.Model.{Model, entry_of};
 ghost use Rattle.spec_model.specs.Model as models;
 ghost use Rattle.spec_check.specs.Checks as checks;
 ghost use Rattle.spec_presolve.specs.Choose.{ExactReduction};
 ghost use Rattle.spec_presolve.specs.Carry as carry;
-ghost use Rattle.lp_frac.specs.Narrow.{largest};
 ghost use Rattle.lp_reduction.specs.Kept.{kept, all_kept};
 ghost use Rattle.lp_reduction.specs.Tells.{Tells};
 ghost use Rattle.lp_reduction.specs.Sums.{reduced_by, priced_by, apart_by, clash_by, over_step};
@@ -69,7 +69,7 @@ fn signed(sense: Sense, cost: Frac) -> Frac
 
 // The reduced cost of the step's column.
 fn reduced(step: &Step, y: &Fracs) -> Result<Frac, Past>
-    ensures { result ≡ reduced_by (Some largest) step.now y.now }
+    ensures { result ≡ reduced_by (Some number_limit) step.now y.now }
 {
     let mut d = signed(step.sense, step.cost);
     for i in 0..step.rows {
@@ -80,7 +80,7 @@ fn reduced(step: &Step, y: &Fracs) -> Result<Frac, Past>
 
 // The multipliers' part in the step's column.
 fn priced(step: &Step, y: &Fracs) -> Result<Frac, Past>
-    ensures { result ≡ priced_by (Some largest) step.now y.now }
+    ensures { result ≡ priced_by (Some number_limit) step.now y.now }
 {
     let mut sum = zero();
     for i in 0..step.rows {
@@ -91,7 +91,7 @@ fn priced(step: &Step, y: &Fracs) -> Result<Frac, Past>
 
 // `d / a`, and 0 where `a` is 0.
 fn over_entry(d: Frac, a: Frac) -> Result<Frac, Past>
-    ensures { result ≡ quotient_run (Some largest) d a }
+    ensures { result ≡ quotient_run (Some number_limit) d a }
 {
     within(d);
     if is_zero(a) { Ok(zero()) } else { div(d, a) }
@@ -112,7 +112,7 @@ fn is_given(lower: Option<Frac>, upper: Option<Frac>, d: Frac) -> bool
 
 // What the row takes over of the column.
 fn taken_over(t: bool, d: Frac, a: Frac) -> Result<Frac, Past>
-    ensures { result ≡ carry.taken_over (Some largest) t d a }
+    ensures { result ≡ carry.taken_over (Some number_limit) t d a }
 {
     if t { over_entry(d, a) } else { Ok(zero()) }
 }
@@ -128,7 +128,7 @@ pub fn alone_at(alloc: Global, n: u32, i: u32, v: Frac) -> Result<Fracs, AllocEr
 
 // The row's bound and the other one of the column are apart: its multiplier, if the row gave a bound.
 fn apart(a: Frac, lower: Option<Frac>, upper: Option<Frac>) -> Result<Option<Frac>, Past>
-    ensures { result ≡ apart_by (Some largest) a lower upper }
+    ensures { result ≡ apart_by (Some number_limit) a lower upper }
 {
     match (lower, upper) {
         (Some(_), _) => Ok(Some(over_entry(one(), a)?)),
@@ -185,7 +185,7 @@ fn over_clash(
     upper: Option<Frac>,
     k: u32,
 ) -> Result<Certificate, Stop<Spent>>
-    ensures { Tells (clash_by (Some largest) rows row column a lower upper k) result }
+    ensures { Tells (clash_by (Some number_limit) rows row column a lower upper k) result }
 {
     if k == column {
         match apart(a, lower, upper)? {
@@ -210,7 +210,7 @@ fn over_single(
     upper: Option<Frac>,
     certificate: Certificate,
 ) -> Result<Certificate, Stop<Spent>>
-    ensures { Tells (over_step (Some largest) step.now row column a lower upper certificate) result }
+    ensures { Tells (over_step (Some number_limit) step.now row column a lower upper certificate) result }
 {
     match certificate {
         Certificate::Optimal { x, mut y } => {
@@ -235,7 +235,7 @@ fn over(alloc: Global, step: &Step, certificate: Certificate) -> Result<Certific
     requires { clash_of certificate + 1 < 2 ^ 32 }
     ensures clash { IfOk result (λ c. clash_of c ≤ clash_of certificate + 1) }
     ensures carried { (r : ExactReduction) (m : Model) → step.now ≡ kept r m →
-        Tells (carry.carried_over (Some largest) (r, m) certificate) result }
+        Tells (carry.carried_over (Some number_limit) (r, m) certificate) result }
 {
     match &step.reduction {
         Reduction::Empty { row } => Ok(over_empty(*row, certificate)?),
@@ -268,7 +268,7 @@ pub fn carry(
     requires { clash_of certificate + length steps.now < 2 ^ 32 }
     ensures clash { IfOk result (λ c. clash_of c ≤ clash_of certificate + length steps.now) }
     ensures carried { (reductions : List (ExactReduction × Model)) → steps.now ≡ all_kept reductions →
-        Tells (carry.carried (Some largest) reductions certificate) result }
+        Tells (carry.carried (Some number_limit) reductions certificate) result }
 {
     match steps {
         [] => Ok(certificate),

@@ -1,9 +1,9 @@
 // The row or column that goes next.
 ghost use Rattle.std.specs.Prelude.{◌≡◌, ◌<◌, ◌||◌, ◌≢◌, Some, Ok, IfSome};
 ghost use Rattle.spec_exact.specs.Fraction.{0ℚ};
+ghost use Rattle.spec_exact.specs.Narrow.{number_limit};
 ghost use Rattle.spec_model.specs.Model.{width, height};
 ghost use Rattle.spec_presolve.specs.Choose as choose;
-ghost use Rattle.lp_frac.specs.Narrow.{largest};
 
 use crate::bounds::{cut, is_far, quotient, raised};
 use crate::rows::{InRow, in_row, limits};
@@ -19,7 +19,7 @@ pub(crate) type Choice = spec_presolve::Choice<Frac>;
 
 // Whether there is no number between both.
 fn crossed(lower: Option<Frac>, upper: Option<Frac>) -> Result<bool, Past>
-    ensures { result ≡ choose.crossed (Some largest) lower upper }
+    ensures { result ≡ choose.crossed (Some number_limit) lower upper }
 {
     match (lower, upper) {
         (Some(lower), Some(upper)) => match cmp(lower, upper)? {
@@ -33,7 +33,7 @@ fn crossed(lower: Option<Frac>, upper: Option<Frac>) -> Result<bool, Past>
 // Whether the bounds of column `j` clash.
 fn clash_at(model: &Model, j: u32) -> Result<Option<Choice>, Past>
     requires { j < width model.now }
-    ensures { result ≡ choose.clash_at (Some largest) model.now j }
+    ensures { result ≡ choose.clash_at (Some number_limit) model.now j }
 {
     let column = model.col(j);
     if crossed(column.lower, column.upper)? {
@@ -77,7 +77,7 @@ fn empty_row(row: u32, lower: Option<Frac>, upper: Option<Frac>) -> Choice
 // Row `i`, if it has no entries.
 fn empty_at(model: &Model, i: u32) -> Result<Option<Choice>, Past>
     requires { i < height model.now }
-    ensures { result ≡ choose.empty_at (Some largest) model.now i }
+    ensures { result ≡ choose.empty_at (Some number_limit) model.now i }
 {
     match in_row(model, i) {
         InRow::Nothing => {
@@ -98,7 +98,7 @@ fn given(
     upper: Option<Frac>,
 ) -> Result<Option<Choice>, Past>
     requires { column < width model.now }
-    ensures { result ≡ choose.given (Some largest) model.now row column value lower upper }
+    ensures { result ≡ choose.given (Some number_limit) model.now row column value lower upper }
 {
     let old = model.col(column);
     let lower = raised(lower, old.lower)?;
@@ -129,7 +129,7 @@ fn near(
     most: Option<Frac>,
 ) -> Result<Option<Choice>, Past>
     requires { column < width model.now }
-    ensures { result ≡ choose.near (Some largest) model.now row column value least most }
+    ensures { result ≡ choose.near (Some number_limit) model.now row column value least most }
 {
     if are_far(&least, &most) {
         Ok(None)
@@ -143,7 +143,7 @@ fn near(
 // Row `i`, if it has one entry.
 fn single_at(model: &Model, i: u32) -> Result<Option<Choice>, Past>
     requires { i < height model.now }
-    ensures { result ≡ choose.single_at (Some largest) model.now i }
+    ensures { result ≡ choose.single_at (Some number_limit) model.now i }
 {
     match in_row(model, i) {
         InRow::One { column, value } => {
@@ -171,7 +171,7 @@ fn fixed_by(column: u32, lower: Option<Frac>, upper: Option<Frac>) -> Option<Cho
 }
 
 fn first_clash(model: &Model) -> Result<Option<Choice>, Past>
-    ensures { result ≡ choose.first (width model.now) (choose.clash_at (Some largest) model.now) }
+    ensures { result ≡ choose.first (width model.now) (choose.clash_at (Some number_limit) model.now) }
 {
     for j in 0..model.cols() {
         if let Some(choice) = clash_at(model, j)? {
@@ -182,7 +182,7 @@ fn first_clash(model: &Model) -> Result<Option<Choice>, Past>
 }
 
 fn first_empty(model: &Model) -> Result<Option<Choice>, Past>
-    ensures { result ≡ choose.first (height model.now) (choose.empty_at (Some largest) model.now) }
+    ensures { result ≡ choose.first (height model.now) (choose.empty_at (Some number_limit) model.now) }
 {
     for i in 0..model.rows() {
         if let Some(choice) = empty_at(model, i)? {
@@ -193,7 +193,7 @@ fn first_empty(model: &Model) -> Result<Option<Choice>, Past>
 }
 
 fn first_single(model: &Model) -> Result<Option<Choice>, Past>
-    ensures { result ≡ choose.first (height model.now) (choose.single_at (Some largest) model.now) }
+    ensures { result ≡ choose.first (height model.now) (choose.single_at (Some number_limit) model.now) }
 {
     for i in 0..model.rows() {
         if let Some(choice) = single_at(model, i)? {
@@ -217,7 +217,7 @@ fn first_fixed(model: &Model) -> Option<Choice>
 
 /// What comes next: the first row or column that goes by the first rule that applies, or that none does.
 pub(crate) fn choose(model: &Model) -> Result<Choice, Past>
-    ensures { result ≡ choose.chosen (Some largest) model.now }
+    ensures { result ≡ choose.chosen (Some number_limit) model.now }
 {
     if let Some(choice) = first_clash(model)? {
         return Ok(choice);

@@ -1,10 +1,10 @@
 // All reductions of a model.
 ghost use Rattle.std.specs.Prelude.{◌≡◌, ◌<◌, [], ◌∷◌, ◌++◌, Some, Ok, IfOk, IfErr, OnOk};
+ghost use Rattle.spec_exact.specs.Narrow.{number_limit};
 ghost use Rattle.spec_model.specs.Kept.{IsModel};
 ghost use Rattle.spec_presolve.specs.declared.reduction.Choice.TheVariants.{Reduce};
 ghost use Rattle.spec_presolve.specs.Choose.{chosen};
 ghost use Rattle.spec_presolve.specs.Reduce as reduce;
-ghost use Rattle.lp_frac.specs.Narrow.{largest};
 ghost use Rattle.lp_reduction.specs.Kept.{kept};
 ghost use Rattle.lp_reduction.specs.Tells.{LeadsTo, StopsAt};
 
@@ -30,10 +30,10 @@ fn go_on(
     reduction: Reduction,
 ) -> Result<(), Stop<Spent>>
     requires kept { IsModel model.old }
-    requires chosen { chosen (Some largest) model.old ≡ Ok (Reduce reduction) }
-    ensures after { OnOk result (reduce.after (Some largest) model.old reduction ≡ Ok model.new) }
+    requires chosen { chosen (Some number_limit) model.old ≡ Ok (Reduce reduction) }
+    ensures after { OnOk result (reduce.after (Some number_limit) model.old reduction ≡ Ok model.new) }
     ensures steps { OnOk result (steps.new ≡ steps.old ++ kept reduction model.new ∷ []) }
-    ensures err { IfErr result (StopsAt (reduce.after (Some largest) model.old reduction)) }
+    ensures err { IfErr result (StopsAt (reduce.after (Some number_limit) model.old reduction)) }
 {
     shrink(model, &reduction)?;
     let step = step_of(alloc, model, reduction)?;
@@ -50,8 +50,9 @@ pub fn reduce(
     left: u32,
 ) -> Result<Halt, Stop<Spent>>
     requires { IsModel model.old }
-    ensures ok { IfOk result (LeadsTo (reduce.reduced_within (Some largest) left model.old) model.new steps.old steps.new) }
-    ensures err { IfErr result (StopsAt (reduce.reduced_within (Some largest) left model.old)) }
+    ensures ok { IfOk result (LeadsTo (reduce.reduced_within (Some number_limit) left model.old) model.new steps.old
+        steps.new) }
+    ensures err { IfErr result (StopsAt (reduce.reduced_within (Some number_limit) left model.old)) }
 {
     for _ in 0..left {
         match choose(model)? {

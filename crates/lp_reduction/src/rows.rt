@@ -1,9 +1,9 @@
 // What stands in a row, and between which limits its sum is.
 ghost use Rattle.std.specs.Prelude.{◌≡◌, ◌<◌, Some};
+ghost use Rattle.spec_exact.specs.Narrow.{number_limit};
 ghost use Rattle.spec_model.specs.Model.{height};
 ghost use Rattle.spec_simplex.specs.Form as forms;
 ghost use Rattle.spec_presolve.specs.Choose as choose;
-ghost use Rattle.lp_frac.specs.Narrow.{largest};
 
 use lp_frac::{Frac, Past, are_same, zero};
 use lp_model::{Model, Row, lower_limit, upper_limit};
@@ -41,7 +41,7 @@ pub(crate) fn in_row(model: &Model, i: u32) -> InRow
 
 // The least and the most that the row's sum may be.
 pub(crate) fn limits(row: &Row) -> Result<(Option<Frac>, Option<Frac>), Past>
-    ensures { result ≡ forms.limits_run (Some largest) row.now }
+    ensures { result ≡ forms.limits_run (Some number_limit) row.now }
 {
     let lower = lower_limit(row)?;
     let upper = upper_limit(row)?;

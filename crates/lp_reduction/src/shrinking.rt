@@ -1,12 +1,12 @@
 // The model without the row or column that goes.
 ghost use Rattle.std.specs.Prelude.{◌≡◌, ◌<◌, Some, Ok, Err, OnOk, IfErr};
+ghost use Rattle.spec_exact.specs.Narrow.{number_limit};
 ghost use Rattle.spec_model.specs.Model.{Limits, width, height, bounds};
 ghost use Rattle.spec_edit.specs.Changes as changes;
 ghost use Rattle.spec_presolve.specs.declared.reduction.Choice.TheVariants.{Reduce};
 ghost use Rattle.spec_presolve.specs.declared.reduction.Reduction.TheVariants.{Fixed};
 ghost use Rattle.spec_presolve.specs.Choose.{chosen};
 ghost use Rattle.spec_presolve.specs.Reduce as reduce;
-ghost use Rattle.lp_frac.specs.Narrow.{largest};
 ghost use Rattle.spec_model.specs.Kept.{IsBound, IsModel};
 
 use crate::choosing::Reduction;
@@ -43,8 +43,8 @@ fn without_single(model: &mut Model, i: u32, j: u32, lower: Option<Frac>, upper:
 // The right sides less what column `j` adds to the rows where it stands at `value`.
 fn shift(model: &mut Model, j: u32, value: Frac) -> Result<(), Past>
     requires { j < width model.old }
-    ensures ok { OnOk result (reduce.shifted (Some largest) model.old j value ≡ Ok model.new) }
-    ensures err { IfErr result (λ p. reduce.shifted (Some largest) model.old j value ≡ Err p) }
+    ensures ok { OnOk result (reduce.shifted (Some number_limit) model.old j value ≡ Ok model.new) }
+    ensures err { IfErr result (λ p. reduce.shifted (Some number_limit) model.old j value ≡ Err p) }
 {
     for i in 0..model.rows() {
         let rhs = less_product(model.entry(i, j), value, model.row(i).rhs)?;
@@ -56,8 +56,8 @@ fn shift(model: &mut Model, j: u32, value: Frac) -> Result<(), Past>
 // Column `j` goes, which stands at `value`.
 fn without_fixed(model: &mut Model, j: u32, value: Frac) -> Result<(), Past>
     requires { j < width model.old }
-    ensures ok { OnOk result (reduce.after (Some largest) model.old (Fixed j value) ≡ Ok model.new) }
-    ensures err { IfErr result (λ p. reduce.after (Some largest) model.old (Fixed j value) ≡ Err p) }
+    ensures ok { OnOk result (reduce.after (Some number_limit) model.old (Fixed j value) ≡ Ok model.new) }
+    ensures err { IfErr result (λ p. reduce.after (Some number_limit) model.old (Fixed j value) ≡ Err p) }
 {
     let cost = model.col(j).cost;
     let old = model.offset();
@@ -71,9 +71,9 @@ fn without_fixed(model: &mut Model, j: u32, value: Frac) -> Result<(), Past>
 /// The model after the reduction that was chosen for it. Where an operation is refused, it is left as it is then.
 pub(crate) fn shrink(model: &mut Model, reduction: &Reduction) -> Result<(), Past>
     requires kept { IsModel model.old }
-    requires chosen { chosen (Some largest) model.old ≡ Ok (Reduce reduction.now) }
-    ensures ok { OnOk result (reduce.after (Some largest) model.old reduction.now ≡ Ok model.new) }
-    ensures err { IfErr result (λ p. reduce.after (Some largest) model.old reduction.now ≡ Err p) }
+    requires chosen { chosen (Some number_limit) model.old ≡ Ok (Reduce reduction.now) }
+    ensures ok { OnOk result (reduce.after (Some number_limit) model.old reduction.now ≡ Ok model.new) }
+    ensures err { IfErr result (λ p. reduce.after (Some number_limit) model.old reduction.now ≡ Err p) }
 {
     match reduction {
         Reduction::Empty { row } => {

@@ -9,15 +9,15 @@ use Rattle.spec_exact.specs.Run.{Run, ◌>>=◌, steps}
 use Rattle.spec_simplex.specs.Tableau.{Tableau, all_columns}
 use Rattle.spec_simplex.specs.Step.{or_enters}
 use Rattle.spec_exact.proofs.Stops.{steps_more, steps_stop}
+use Rattle.spec_exact.specs.Narrow.{number_limit}
 use Rattle.spec_factor.specs.Revised.{way_run, or_priced, entering_run}
-use Rattle.lp_frac.specs.Narrow.{largest}
 
 module _ (f : Form) (costs y : List ℚ) (t : Tableau) where
   abbrev pub priced_at : ℕ → Option Entering → Run (Option Entering)
-  priced_at k e = or_priced (Some largest) f costs y t k e
+  priced_at k e = or_priced (Some number_limit) f costs y t k e
 
   pub way_refused : (k : ℕ) (p : Past ℚ) → steps k priced_at None ≡ Ok None → k < all_columns t →
-      way_run (Some largest) f costs y t k ≡ Err p → entering_run (Some largest) f costs y t ≡ Err p
+      way_run (Some number_limit) f costs y t k ≡ Err p → entering_run (Some number_limit) f costs y t ≡ Err p
   unfolding entering_run
   way_refused k p h l g =
       steps_stop k (all_columns t) priced_at None None p l h (ap (λ o. o >>= λ way. Ok (or_enters None k way)) g)
@@ -29,8 +29,8 @@ module _ (f : Form) (costs y : List ℚ) (t : Tableau) where
       ∙ ap (λ o. o >>= λ e. priced_at (n + d) e) (stays n d e h)
 
   pub enters : (k : ℕ) (up : Bool) → steps k priced_at None ≡ Ok None → k < all_columns t →
-      way_run (Some largest) f costs y t k ≡ Ok (Some up) →
-      entering_run (Some largest) f costs y t ≡ Ok (Some (record { col = k; up = up }))
+      way_run (Some number_limit) f costs y t k ≡ Ok (Some up) →
+      entering_run (Some number_limit) f costs y t ≡ Ok (Some (record { col = k; up = up }))
   unfolding entering_run
   enters k up h l g =
       let z : k + 1 + (all_columns t - (k + 1)) ≡ all_columns t = omega (arith, l) in
@@ -40,6 +40,6 @@ module _ (f : Form) (costs y : List ℚ) (t : Tableau) where
       (ap (λ o. o >>= λ way. Ok (or_enters None k way)) g)))
 
   pub none_enters : (k : ℕ) → steps k priced_at None ≡ Ok None → k ≡ all_columns t →
-      entering_run (Some largest) f costs y t ≡ Ok None
+      entering_run (Some number_limit) f costs y t ≡ Ok None
   unfolding entering_run
   none_enters k h e = subst (λ i. steps i priced_at None ≡ Ok None) e h

@@ -9,7 +9,7 @@ use Rattle.spec_simplex.specs.Step.{shifted_run, exchanged, turned}
 use Rattle.spec_factor.specs.Factors.{Factors, with_pair, column_of, ftran_run, replace_run}
 use Rattle.spec_factor.specs.Revised.{Revised, seen, exchange_run}
 use Rattle.std.specs.Prelude.{slice_set}
-use Rattle.lp_frac.specs.Narrow.{largest}
+use Rattle.spec_exact.specs.Narrow.{number_limit}
 use Rattle.lp_revised.specs.Moved.{moves_by, exchanged_by}
 use Rattle.lp_revised.proofs.Flipped.{moves_are}
 
@@ -24,7 +24,7 @@ module _ (starts : List (RowStart ℚ)) (s : Revised) (z : List ℚ) (p j : ℕ)
       }
 
   abbrev after_moves : List ℚ → Run Revised
-  after_moves values = shifted_run (Some largest) values j theta >>= λ shifted. Ok (new_state shifted)
+  after_moves values = shifted_run (Some number_limit) values j theta >>= λ shifted. Ok (new_state shifted)
 
   abbrev whole : Run Revised
   whole = exchanged_by starts s z p j theta to
@@ -43,14 +43,14 @@ module _ (starts : List (RowStart ℚ)) (s : Revised) (z : List ℚ) (p j : ℕ)
 
   abbrev by_solve : Run (List ℚ) → List ℚ → Run Revised
   by_solve solve values =
-      shifted_run (Some largest) values j theta >>= λ shifted. (solve >>= λ v. Ok (new_factors v)) >>= λ factors.
+      shifted_run (Some number_limit) values j theta >>= λ shifted. (solve >>= λ v. Ok (new_factors v)) >>= λ factors.
       with_factors shifted factors
 
   -- the exchange of the definition, where z is the column's solution
-  pub exchange_is : (f : Form) → ftran_run (Some largest) s.bare.rows s.pairs (column_of f j) ≡ Ok z →
-      exchange_run (Some largest) f s (seen starts s.bare j z) p j theta to ≡ whole
+  pub exchange_is : (f : Form) → ftran_run (Some number_limit) s.bare.rows s.pairs (column_of f j) ≡ Ok z →
+      exchange_run (Some number_limit) f s (seen starts s.bare j z) p j theta to ≡ whole
   unfolding exchange_run replace_run
   exchange_is f h =
-      ap (λ o. o >>= by_solve (ftran_run (Some largest) s.bare.rows s.pairs (column_of f j)))
+      ap (λ o. o >>= by_solve (ftran_run (Some number_limit) s.bare.rows s.pairs (column_of f j)))
       (sym (moves_are starts s z theta (Some p) j))
       ∙ ap (λ o. moves_by starts s.bare z theta (Some p) s.bare.rows >>= by_solve o) h

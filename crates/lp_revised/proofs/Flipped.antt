@@ -9,9 +9,9 @@ use Rattle.spec_exact.specs.Run.{Run, ◌>>=◌, difference_run, less_product}
 use Rattle.spec_simplex.specs.Tableau.{Tableau, basic_at, status_at, lower_at, upper_at, or_zero}
 use Rattle.spec_simplex.specs.Step.{directed, other_bound, is_place, moved_at, moved_run, flip_way, flipped}
 use Rattle.spec_exact.proofs.Stops.{steps_stop}
+use Rattle.spec_exact.specs.Narrow.{number_limit}
 use Rattle.spec_factor.specs.Revised.{Revised, bare_of, seen, flip_over_run}
 use Rattle.spec_revised.proofs.Selection.{steps_same}
-use Rattle.lp_frac.specs.Narrow.{largest}
 use Rattle.lp_tableau.proofs.Flips.{range_stops, flip_stops, flip_made}
 use Rattle.lp_revised.specs.Moved.{WithValues, moved_by, moves_by}
 use Rattle.lp_revised.proofs.Seen.{seen_at}
@@ -30,13 +30,14 @@ module _ (starts : List (RowStart ℚ)) (s : Revised) (z : List ℚ) (theta : �
 
   -- the same as the step sees it
   pub moves_are : (j : ℕ) →
-      moves_by starts s.bare z theta but s.bare.rows ≡ moved_run (Some largest) (seen starts s.bare j z) j theta but
+      moves_by starts s.bare z theta but s.bare.rows ≡ moved_run (Some number_limit) (seen starts s.bare j z) j theta
+      but
   unfolding moved_run
   moves_are j =
       steps_same s.bare.rows step_by (λ i values. cond (is_place but i) (Ok values)
-      (moved_at (Some largest) (seen starts s.bare j z) j theta i values)) s.bare.value
+      (moved_at (Some number_limit) (seen starts s.bare j z) j theta i values)) s.bare.value
       (λ i values l. ap (λ a. cond (is_place but i) (Ok values)
-      (less_product (Some largest) a theta (get_or values (basic_at s.bare i) 0ℚ) >>= λ v. Ok
+      (less_product (Some number_limit) a theta (get_or values (basic_at s.bare i) 0ℚ) >>= λ v. Ok
       (set values (basic_at s.bare i) v))) (sym (seen_at starts s.bare j z i l)))
 
 module _ (starts : List (RowStart ℚ)) (s : Revised) (z : List ℚ) (j : ℕ) where
@@ -44,29 +45,31 @@ module _ (starts : List (RowStart ℚ)) (s : Revised) (z : List ℚ) (j : ℕ) w
   sight = seen starts s.bare j z
 
   abbrev range : Run ℚ
-  range = difference_run (Some largest) (or_zero (upper_at s.bare j)) (or_zero (lower_at s.bare j))
+  range = difference_run (Some number_limit) (or_zero (upper_at s.bare j)) (or_zero (lower_at s.bare j))
 
-  pub flip_refused : (p : Past ℚ) → range ≡ Err p → flip_over_run (Some largest) s sight j ≡ Err p
+  pub flip_refused : (p : Past ℚ) → range ≡ Err p → flip_over_run (Some number_limit) s sight j ≡ Err p
   unfolding flip_over_run
-  flip_refused p h = ap (λ o. o >>= λ u. Ok (record s { bare = bare_of u })) (range_stops (Some largest) sight j p h)
+  flip_refused p h = ap (λ o. o >>= λ u. Ok (record s { bare = bare_of u })) (range_stops (Some number_limit) sight j p
+      h)
 
   module _ (r : ℚ) (h : range ≡ Ok r) (up : Bool) (w : up ≡ flip_way (status_at s.bare j)) (theta : ℚ)
       (d : theta ≡ directed up r) where
     pub flip_moves_refused : (p : Past ℚ) → moves_by starts s.bare z theta None s.bare.rows ≡ Err p →
-        flip_over_run (Some largest) s sight j ≡ Err p
+        flip_over_run (Some number_limit) s sight j ≡ Err p
     unfolding flip_over_run
     flip_moves_refused p m =
         ap (λ o. o >>= λ u. Ok (record s { bare = bare_of u }))
-        (flip_stops (Some largest) sight j r h up w theta p d (sym (moves_are starts s z theta None j) ∙ m))
+        (flip_stops (Some number_limit) sight j r h up w theta p d (sym (moves_are starts s z theta None j) ∙ m))
 
     pub flips : (to : Status) (u new : Revised) → to ≡ other_bound up → s.bare ≡ bare_of s.bare →
         moves_by starts s.bare z theta None s.bare.rows ≡ Ok u.bare.value → WithValues s u
-        → new ≡ record u { bare = flipped u.bare j to u.bare.value } → flip_over_run (Some largest) s sight j ≡ Ok new
+        → new ≡ record u { bare = flipped u.bare j to u.bare.value } →
+        flip_over_run (Some number_limit) s sight j ≡ Ok new
     unfolding flip_over_run
     flips to u new t b m e is =
         let v = u.bare.value in
         ap (λ o. o >>= λ u. Ok (record s { bare = bare_of u }))
-        (flip_made (Some largest) sight j r h up w theta to (record sight { value = v })
+        (flip_made (Some number_limit) sight j r h up w theta to (record sight { value = v })
         (flipped (record sight { value = v }) j to v) d t (sym (moves_are starts s z theta None j) ∙ m) refl refl)
         ∙ ap (λ (x : Tableau). Ok (record s { bare = flipped (record x { value = v }) j to v })) (sym b)
         ∙ ap (λ (x : Revised). Ok (record x { bare = flipped x.bare j to v })) (sym e) ∙ ap Ok (sym is)

@@ -11,9 +11,9 @@ use Rattle.spec_simplex.specs.declared.ends.RunStop.{RunStop}
 use Rattle.spec_simplex.specs.declared.ends.RunStop.TheVariants as cause
 use Rattle.spec_simplex.specs.Form.{Form}
 use Rattle.spec_exact.specs.Run.{Run, ◌>>=◌, refused_as}
+use Rattle.spec_exact.specs.Narrow.{number_limit}
 use Rattle.spec_factor.specs.Revised.{Revised, Selection, selection_run}
 use Rattle.spec_factor.specs.Over.{RevisedEnded, over_or_spent, over_or_next, over_from}
-use Rattle.lp_frac.specs.Narrow.{largest}
 use Rattle.lp_revised.specs.declared.select.Column.{Column}
 use Rattle.lp_revised.specs.declared.select.Selected.{Selected}
 use Rattle.lp_frac.specs.declared.stop.Stop.{Stop}
@@ -40,10 +40,10 @@ ends_with f s column choice end e h = by column end (subst (CanDo f s column) e 
 
 module _ (f : Form) (starts : List (RowStart ℚ)) (costs : List ℚ) where
   abbrev seen_from : Revised → Run Selection
-  seen_from s = selection_run (Some largest) f starts costs s
+  seen_from s = selection_run (Some number_limit) f starts costs s
 
   abbrev from : ℕ → ℕ → Revised → Result RevisedEnded (RunStop ℚ)
-  from left used s = over_from (Some largest) f starts costs left used s
+  from left used s = over_from (Some number_limit) f starts costs left used s
 
   pub run_refused : (left used : ℕ) (s : Revised) (e : Stop Spent) →
       StopsRevised (refused_as cause.Past (seen_from s)) e → StopsRevised (from left used s) e
@@ -52,7 +52,7 @@ module _ (f : Form) (starts : List (RowStart ℚ)) (costs : List ℚ) where
       stops_after (refused_as cause.Past (seen_from s)) (λ x. over_or_spent s used x x.choice) e h
   run_refused (suc left) used s e h =
       stops_after (refused_as cause.Past (seen_from s))
-      (λ x. over_or_next (Some largest) f s used (λ u. from left (used + 1) u) x x.choice) e h
+      (λ x. over_or_next (Some number_limit) f s used (λ u. from left (used + 1) u) x x.choice) e h
 
   module _ (s : Revised) (selected : Selected) (h : seen_from s ≡ Ok (selection_of starts s.bare selected)) where
     abbrev shown_by : Choice ℚ → Selection
@@ -70,7 +70,8 @@ module _ (f : Form) (starts : List (RowStart ℚ)) (costs : List ℚ) where
     run_ends zero used end c =
         ap (λ o. refused_as cause.Past o >>= λ x. over_or_spent s used x x.choice) (h ∙ ap (λ c. Ok (shown_by c)) c)
     run_ends (suc left) used end c =
-        ap (λ o. refused_as cause.Past o >>= λ x. over_or_next (Some largest) f s used (λ u. from left (used + 1) u) x
+        ap (λ o. refused_as cause.Past o >>= λ x. over_or_next (Some number_limit) f s used (λ u. from left (used + 1)
+        u) x
         x.choice)
         (h ∙ ap (λ c. Ok (shown_by c)) c)
 
@@ -88,7 +89,7 @@ module _ (f : Form) (starts : List (RowStart ℚ)) (costs : List ℚ) where
     run_spent (suc left) used n e = absurd (let z : ⊥ = omega (arith, e) in z)
 
     next_at : (used : ℕ) (next : Revised → Result RevisedEnded (RunStop ℚ)) (c d : Choice ℚ) → GoesOn d →
-        over_or_next (Some largest) f s used next (shown_by c) d ≡ (made_run f starts s selected.column d >>= next)
+        over_or_next (Some number_limit) f s used next (shown_by c) d ≡ (made_run f starts s selected.column d >>= next)
     next_at used next c (End end) n = absurd (n end refl)
     next_at used next c (Flip j) n = refl
     next_at used next c (Pivot p j theta to) n = refl
@@ -97,7 +98,8 @@ module _ (f : Form) (starts : List (RowStart ℚ)) (costs : List ℚ) where
         from (suc left) used s ≡ (made_run f starts s selected.column selected.choice >>= λ u. from left (used + 1) u)
     unfolding over_from
     goes_on left used n =
-        ap (λ o. refused_as cause.Past o >>= λ x. over_or_next (Some largest) f s used (λ u. from left (used + 1) u) x
+        ap (λ o. refused_as cause.Past o >>= λ x. over_or_next (Some number_limit) f s used (λ u. from left (used + 1)
+        u) x
         x.choice) h
         ∙ next_at used (λ u. from left (used + 1) u) selected.choice selected.choice n
 

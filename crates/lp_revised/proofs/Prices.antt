@@ -4,7 +4,7 @@ use Rattle.std.proofs.Common.{ap, ap₂, ◌∙◌, subst, arith, eq-eqb, ne_eqb
 use Rattle.std.proofs.lemmas.List.{get_or_default}
 use Rattle.std.proofs.lemmas.List.Elements.{All-get_or}
 use Rattle.spec_exact.specs.Fraction.{ℚ, 0ℚ, 1ℚ, neg_ℚ}
-use Rattle.spec_exact.specs.Narrow.{IsNarrow}
+use Rattle.spec_exact.specs.Narrow.{IsNarrow, number_limit}
 use Rattle.spec_exact.specs.declared.past.Past.{Past}
 use Rattle.spec_exact.proofs.Ruleset.{neg-zero}
 use Rattle.spec_model.specs.Model.{entry_of}
@@ -15,12 +15,11 @@ use Rattle.spec_simplex.specs.Start.{cost_at}
 use Rattle.spec_exact.proofs.Stops.{steps_more, steps_stop}
 use Rattle.spec_factor.specs.Factors.{column_entry}
 use Rattle.spec_factor.specs.Revised.{price_run}
-use Rattle.lp_frac.specs.Narrow.{largest}
 use Rattle.lp_factor.proofs.Gaps.{Entries, row_at, value_at, bound, less_zero_right, entry_there, row_inside, bound_at}
 use Rattle.lp_factor.proofs.Gaps.{bound_end, bound_least, next_bound, none_first, none_between, steps_to}
 
 abbrev pub price_at : Form → List ℚ → ℕ → ℕ → ℚ → Run ℚ
-price_at f y k i d = less_product (Some largest) (get_or y i 0ℚ) (column_entry f i k) d
+price_at f y k i d = less_product (Some number_limit) (get_or y i 0ℚ) (column_entry f i k) d
 
 -- the rows before entry c are taken off
 pub record PricedTo (f : Form) (costs y : List ℚ) (k : ℕ) (es : Entries) (c : ℕ) (d : ℚ) : Type 0 where
@@ -30,7 +29,7 @@ pub record PricedTo (f : Form) (costs y : List ℚ) (k : ℕ) (es : Entries) (c 
 module _ (f : Form) (costs y : List ℚ) (k : ℕ) (all : length y ≡ f.rows) (narrow : All IsNarrow y) where
   skipped : (i : ℕ) (d : ℚ) → i < f.rows → column_entry f i k ≡ 0ℚ → IsNarrow d → price_at f y k i d ≡ Ok d
   skipped i d l e n =
-      ap (λ a. less_product (Some largest) (get_or y i 0ℚ) a d) e
+      ap (λ a. less_product (Some number_limit) (get_or y i 0ℚ) a d) e
       ∙ less_zero_right (get_or y i 0ℚ) d (All-get_or IsNarrow y i 0ℚ (subst (λ n. i < n) (sym all) l) narrow) n
 
   -- ---- a structural column
@@ -64,9 +63,9 @@ module _ (f : Form) (costs y : List ℚ) (k : ℕ) (all : length y ≡ f.rows) (
 
       module _ (d : ℚ) (so_far : PricedTo f costs y k es c d) (x v : ℚ) (x_is : x ≡ get_or y item.0 x)
           (v_is : v ≡ neg_ℚ item.1) where
-        step_is : (r : Run ℚ) → less_product (Some largest) x v d ≡ r → price_at f y k (row_at es c) d ≡ r
+        step_is : (r : Run ℚ) → less_product (Some number_limit) x v d ≡ r → price_at f y k (row_at es c) d ≡ r
         step_is r e =
-            ap₂ (λ a b. less_product (Some largest) a b d)
+            ap₂ (λ a b. less_product (Some number_limit) a b d)
             (ap (λ i. get_or y i 0ℚ) row_is ∙ sym (x_is ∙ get_or_default y item.0 x 0ℚ item_in))
             (structural (row_at es c) ∙ ap neg_ℚ (entry_there es h.ascending c here ∙ value_is) ∙ sym v_is)
             ∙ e
@@ -75,13 +74,13 @@ module _ (f : Form) (costs y : List ℚ) (k : ℕ) (all : length y ≡ f.rows) (
         before =
             subst (λ b. steps b (price_at f y k) (cost_at costs k) ≡ Ok d) (bound_at f.rows es h c here) so_far.done
 
-        pub priced_stop : (p : Past ℚ) → less_product (Some largest) x v d ≡ Err p →
-            price_run (Some largest) f costs y k ≡ Err p
+        pub priced_stop : (p : Past ℚ) → less_product (Some number_limit) x v d ≡ Err p →
+            price_run (Some number_limit) f costs y k ≡ Err p
         priced_stop p e =
             steps_stop (row_at es c) f.rows (price_at f y k) (cost_at costs k) d p (row_inside f.rows es h c here)
             before (step_is (Err p) e)
 
-        pub priced_next : (r : ℚ) → less_product (Some largest) x v d ≡ Ok r → IsNarrow r →
+        pub priced_next : (r : ℚ) → less_product (Some number_limit) x v d ≡ Ok r → IsNarrow r →
             PricedTo f costs y k es (c + 1) r
         priced_next r e n = record {
           done =
@@ -95,7 +94,7 @@ module _ (f : Form) (costs y : List ℚ) (k : ℕ) (all : length y ≡ f.rows) (
         }
 
     pub priced_whole : (c : ℕ) (d : ℚ) → length es ≤ c → PricedTo f costs y k es c d →
-        price_run (Some largest) f costs y k ≡ Ok d
+        price_run (Some number_limit) f costs y k ≡ Ok d
     priced_whole c d l p =
         subst (λ b. steps b (price_at f y k) (cost_at costs k) ≡ Ok d) (bound_end f.rows es h c l) p.done
 
@@ -109,7 +108,7 @@ module _ (f : Form) (costs y : List ℚ) (k : ℕ) (all : length y ≡ f.rows) (
       other i e = rw (le-ltb k f.cols out, ne_eqb i (k - f.cols) (λ z. e (z ∙ sym r_is))) refl
 
       -- an artificial has nothing in any row
-      pub priced_nothing : f.rows ≤ r → price_run (Some largest) f costs y k ≡ Ok d
+      pub priced_nothing : f.rows ≤ r → price_run (Some number_limit) f costs y k ≡ Ok d
       priced_nothing l =
           steps_to (price_at f y k) (cost_at costs k) d 0 f.rows (ap Ok (sym d_is)) (omega arith)
           (λ i _ q. skipped i d q (other i (λ z. let w : ⊥ = omega (arith, q, l, z) in w)) n)
@@ -120,17 +119,17 @@ module _ (f : Form) (costs y : List ℚ) (k : ℕ) (all : length y ≡ f.rows) (
             steps_to (price_at f y k) (cost_at costs k) d 0 r (ap Ok (sym d_is)) (omega arith)
             (λ i _ q. skipped i d (omega (arith, q, here)) (other i (λ z. let w : ⊥ = omega (arith, q, z) in w)) n)
 
-        step_own : (o : Run ℚ) → less_product (Some largest) x v d ≡ o → price_at f y k r d ≡ o
+        step_own : (o : Run ℚ) → less_product (Some number_limit) x v d ≡ o → price_at f y k r d ≡ o
         step_own o e =
-            ap₂ (λ a b. less_product (Some largest) a b d)
+            ap₂ (λ a b. less_product (Some number_limit) a b d)
             (sym (x_is ∙ get_or_default y r x 0ℚ (subst (λ m. r < m) (sym all) here))) (own ∙ sym v_is) ∙ e
 
-        pub logical_stop : (p : Past ℚ) → less_product (Some largest) x v d ≡ Err p →
-            price_run (Some largest) f costs y k ≡ Err p
+        pub logical_stop : (p : Past ℚ) → less_product (Some number_limit) x v d ≡ Err p →
+            price_run (Some number_limit) f costs y k ≡ Err p
         logical_stop p e = steps_stop r f.rows (price_at f y k) (cost_at costs k) d p here begun (step_own (Err p) e)
 
-        pub logical_priced : (w : ℚ) → less_product (Some largest) x v d ≡ Ok w → IsNarrow w →
-            price_run (Some largest) f costs y k ≡ Ok w
+        pub logical_priced : (w : ℚ) → less_product (Some number_limit) x v d ≡ Ok w → IsNarrow w →
+            price_run (Some number_limit) f costs y k ≡ Ok w
         logical_priced w e m =
             steps_to (price_at f y k) (cost_at costs k) w (r + 1) f.rows
             (steps_more r (price_at f y k) (cost_at costs k) d w begun (step_own (Ok w) e)) (omega (arith, here))

@@ -8,10 +8,10 @@ use Rattle.spec_simplex.specs.Form.{Form}
 use Rattle.spec_exact.specs.Run.{◌>>=◌}
 use Rattle.spec_simplex.specs.Tableau.{Tableau, form_columns}
 use Rattle.spec_exact.proofs.Stops.{length-made}
+use Rattle.spec_exact.specs.Narrow.{number_limit}
 use Rattle.spec_cold.specs.Cold.{basis_status}
 use Rattle.spec_factor.specs.Factors.{Factors, factor_run}
 use Rattle.spec_factor.specs.Revised.{Revised, standing, factor_basis, factor_stop, refactored, refactor_run}
-use Rattle.lp_frac.specs.Narrow.{largest}
 use Rattle.lp_frac.specs.declared.stop.Stop.{Stop}
 use Rattle.lp_revised.specs.declared.stop.Spent.{Spent}
 use Rattle.lp_frac.specs.declared.stop.Stop.TheVariants as stop
@@ -31,21 +31,21 @@ pub basis_long : (t : Tableau) (f : Form) (basis : List Status) → basis ≡ fa
 basis_long t f basis b r c = ap length b ∙ length-made (form_columns t) (basis_status t) ∙ sym (ap₂ (λ m n. m + n) c r)
 
 module _ (f : Form) (now : Revised) (basis : List Status) (b : basis ≡ factor_basis now.bare) where
-  by_basis : (factor_stop (factor_run (Some largest) f basis) >>= λ s. Ok (refactored now.bare s)) ≡ refactor_run
-      (Some largest) f now.bare
+  by_basis : (factor_stop (factor_run (Some number_limit) f basis) >>= λ s. Ok (refactored now.bare s)) ≡ refactor_run
+      (Some number_limit) f now.bare
   unfolding refactor_run
-  by_basis = ap (λ basis. factor_stop (factor_run (Some largest) f basis) >>= λ s. Ok (refactored now.bare s)) b
+  by_basis = ap (λ basis. factor_stop (factor_run (Some number_limit) f basis) >>= λ s. Ok (refactored now.bare s)) b
 
-  pub no_factors : (e : Stop Spent) → StopsRevised (factor_stop (factor_run (Some largest) f basis)) e →
-      StopsRevised (refactor_run (Some largest) f now.bare) e
+  pub no_factors : (e : Stop Spent) → StopsRevised (factor_stop (factor_run (Some number_limit) f basis)) e →
+      StopsRevised (refactor_run (Some number_limit) f now.bare) e
   no_factors e h =
-      subst (λ r. StopsRevised r e) by_basis (stops_after (factor_stop (factor_run (Some largest) f basis))
+      subst (λ r. StopsRevised r e) by_basis (stops_after (factor_stop (factor_run (Some number_limit) f basis))
       (λ s. Ok (refactored now.bare s)) e h)
 
   pub renewed : (old : Revised) (factors : Factors) (items : List ℕ) → old ≡ now →
-      factor_stop (factor_run (Some largest) f basis) ≡ Ok factors →
+      factor_stop (factor_run (Some number_limit) f basis) ≡ Ok factors →
       items ≡ map (λ k. standing now.bare k) factors.basic
-      → refactor_run (Some largest) f now.bare ≡ Ok
+      → refactor_run (Some number_limit) f now.bare ≡ Ok
       (record { bare = record old.bare { basic = items }; pairs = factors.pairs; replaced = 0 })
   renewed old factors items v h i =
       sym by_basis ∙ ap (λ o. o >>= λ s. Ok (refactored now.bare s)) h

@@ -13,12 +13,12 @@ use Rattle.spec_simplex.specs.declared.ends.RunStop.{RunStop}
 use Rattle.spec_simplex.specs.declared.ends.RunStop.TheVariants as cause
 use Rattle.spec_simplex.specs.Form.{Form}
 use Rattle.spec_exact.specs.Run.{Run, ◌>>=◌, refused_as}
+use Rattle.spec_exact.specs.Narrow.{number_limit}
 use Rattle.spec_simplex.specs.Tableau.{Tableau, basic_at}
 use Rattle.spec_simplex.specs.Step.{best_run, choice_at, choice_by}
 use Rattle.spec_factor.specs.Factors.{column_of, ftran_run}
 use Rattle.spec_factor.specs.Revised.{Revised, sign_of, seen, multipliers_run, entering_run, Selection, selection_with}
 use Rattle.spec_factor.specs.Revised.{selection_run}
-use Rattle.lp_frac.specs.Narrow.{largest}
 use Rattle.lp_primal.proofs.Ratios.{StopsBy, best_is}
 use Rattle.lp_frac.specs.declared.stop.Stop.{Stop}
 use Rattle.lp_revised.specs.declared.stop.Spent.{Spent}
@@ -43,11 +43,12 @@ gives (Err q) a h = cc
 
 -- the place of a pivot has an entry
 entry_there : (starts : List (RowStart ℚ)) (t : Tableau) (z : List ℚ) (e : Entering) (best : Best ℚ) (p : ℕ) →
-    best_run (Some largest) (seen starts t e.col z) e ≡ Ok (Some best) → best.place ≡ Some p
+    best_run (Some number_limit) (seen starts t e.col z) e ≡ Ok (Some best) → best.place ≡ Some p
     → (p < t.rows) × (get_or z p 0ℚ ≢ 0ℚ)
 entry_there starts t z e best p h is =
     let known : StopsBy (seen starts t e.col z) e best.ratio best.to (Some p) =
-    subst (StopsBy (seen starts t e.col z) e best.ratio best.to) is (best_is (Some largest) (seen starts t e.col z) e
+    subst (StopsBy (seen starts t e.col z) e best.ratio best.to) is (best_is (Some number_limit) (seen starts t e.col z)
+    e
     (Some best) h) in (
       known.place,
       λ w. known.entry
@@ -57,7 +58,7 @@ entry_there starts t z e best p h is =
 
 -- what is chosen by the least ratio may be done
 pub may_do : (starts : List (RowStart ℚ)) (t : Tableau) (z : List ℚ) (e : Entering) (best : Option (Best ℚ)) →
-    best_run (Some largest) (seen starts t e.col z) e ≡ Ok best → MayDo t z e.col (choice_by e best)
+    best_run (Some number_limit) (seen starts t e.col z) e ≡ Ok best → MayDo t z e.col (choice_by e best)
 may_do starts t z e None h = refl
 may_do starts t z e (Some x) h = by x.place refl
   where
@@ -67,42 +68,44 @@ may_do starts t z e (Some x) h = by x.place refl
 
 module _ (f : Form) (starts : List (RowStart ℚ)) (costs : List ℚ) (s : Revised) where
   abbrev whole : Run Selection
-  whole = selection_run (Some largest) f starts costs s
+  whole = selection_run (Some number_limit) f starts costs s
 
   abbrev on_from : List ℚ → Run Selection
-  on_from y = entering_run (Some largest) f costs y s.bare >>= λ e. selection_with (Some largest) f starts s y e
+  on_from y = entering_run (Some number_limit) f costs y s.bare >>= λ e. selection_with (Some number_limit) f starts s y
+      e
 
   pub no_multipliers : (e : Stop Spent) →
-      StopsRevised (refused_as cause.Past (multipliers_run (Some largest) starts costs s)) e →
+      StopsRevised (refused_as cause.Past (multipliers_run (Some number_limit) starts costs s)) e →
       StopsRevised (refused_as cause.Past whole) e
   unfolding selection_run
-  no_multipliers e h = stops_on (multipliers_run (Some largest) starts costs s) on_from e h
+  no_multipliers e h = stops_on (multipliers_run (Some number_limit) starts costs s) on_from e h
 
-  module _ (y : List ℚ) (y_is : refused_as {E = RunStop ℚ} cause.Past (multipliers_run (Some largest) starts costs s) ≡
+  module _ (y : List ℚ) (y_is : refused_as {E = RunStop ℚ} cause.Past (multipliers_run (Some number_limit) starts costs
+      s) ≡
       Ok y) where
     from_y : whole ≡ on_from y
     unfolding selection_run
-    from_y = ap (λ o. o >>= on_from) (gives (multipliers_run (Some largest) starts costs s) y y_is)
+    from_y = ap (λ o. o >>= on_from) (gives (multipliers_run (Some number_limit) starts costs s) y y_is)
 
-    pub no_entering : (p : Past ℚ) → entering_run (Some largest) f costs y s.bare ≡ Err p → whole ≡ Err p
-    no_entering p h = from_y ∙ ap (λ o. o >>= λ e. selection_with (Some largest) f starts s y e) h
+    pub no_entering : (p : Past ℚ) → entering_run (Some number_limit) f costs y s.bare ≡ Err p → whole ≡ Err p
+    no_entering p h = from_y ∙ ap (λ o. o >>= λ e. selection_with (Some number_limit) f starts s y e) h
 
-    pub none_enters : entering_run (Some largest) f costs y s.bare ≡ Ok None →
+    pub none_enters : entering_run (Some number_limit) f costs y s.bare ≡ Ok None →
         whole ≡ Ok (record { multipliers = y; tableau = s.bare; choice = End Optimal })
-    none_enters h = from_y ∙ ap (λ o. o >>= λ e. selection_with (Some largest) f starts s y e) h
+    none_enters h = from_y ∙ ap (λ o. o >>= λ e. selection_with (Some number_limit) f starts s y e) h
 
-    module _ (e : Entering) (e_is : entering_run (Some largest) f costs y s.bare ≡ Ok (Some e)) where
+    module _ (e : Entering) (e_is : entering_run (Some number_limit) f costs y s.bare ≡ Ok (Some e)) where
       abbrev solve : Run (List ℚ)
-      solve = ftran_run (Some largest) s.bare.rows s.pairs (column_of f e.col)
+      solve = ftran_run (Some number_limit) s.bare.rows s.pairs (column_of f e.col)
 
       abbrev sees_with : List ℚ → Option (Best ℚ) → Selection
       sees_with z best = record { multipliers = y; tableau = seen starts s.bare e.col z; choice = choice_by e best }
 
       abbrev after_solve : List ℚ → Run Selection
-      after_solve z = best_run (Some largest) (seen starts s.bare e.col z) e >>= λ best. Ok (sees_with z best)
+      after_solve z = best_run (Some number_limit) (seen starts s.bare e.col z) e >>= λ best. Ok (sees_with z best)
 
       from_e : whole ≡ (solve >>= after_solve)
-      from_e = from_y ∙ ap (λ o. o >>= λ e. selection_with (Some largest) f starts s y e) e_is
+      from_e = from_y ∙ ap (λ o. o >>= λ e. selection_with (Some number_limit) f starts s y e) e_is
 
       pub not_solved : (x : Stop Spent) → StopsRevised (refused_as cause.Past solve) x →
           StopsRevised (refused_as cause.Past whole) x
@@ -114,7 +117,7 @@ module _ (f : Form) (starts : List (RowStart ℚ)) (costs : List ℚ) (s : Revis
         from_z = from_e ∙ ap (λ o. o >>= after_solve) (gives solve z z_is)
 
         pub not_chosen : (p : Past ℚ) → choice_seen starts s.bare z e ≡ Err p → whole ≡ Err p
-        not_chosen p h = from_z ∙ by (best_run (Some largest) (seen starts s.bare e.col z) e) h
+        not_chosen p h = from_z ∙ by (best_run (Some number_limit) (seen starts s.bare e.col z) e) h
           where
             by : (o : Run (Option (Best ℚ))) → (o >>= λ best. Ok (choice_by e best)) ≡ Err p →
                 (o >>= λ best. Ok (sees_with z best)) ≡ Err p
@@ -123,7 +126,7 @@ module _ (f : Form) (starts : List (RowStart ℚ)) (costs : List ℚ) (s : Revis
 
         pub selected : (choice : Choice ℚ) → choice_seen starts s.bare z e ≡ Ok choice →
             whole ≡ Ok (record { multipliers = y; tableau = seen starts s.bare e.col z; choice = choice })
-        selected choice h = from_z ∙ by (best_run (Some largest) (seen starts s.bare e.col z) e) h
+        selected choice h = from_z ∙ by (best_run (Some number_limit) (seen starts s.bare e.col z) e) h
           where
             by : (o : Run (Option (Best ℚ))) → (o >>= λ best. Ok (choice_by e best)) ≡ Ok choice →
                 (o >>= λ best. Ok (sees_with z best)) ≡ Ok

@@ -7,11 +7,11 @@ use Rattle.spec_exact.proofs.Ruleset.{one-*ℚ, neg-*ℚ}
 use Rattle.spec_simplex.specs.declared.ends.RowStart.{RowStart}
 use Rattle.spec_simplex.specs.declared.ends.RowStart.TheVariants.{Within, Below, Above}
 use Rattle.spec_exact.specs.Run.{Run}
+use Rattle.spec_exact.specs.Narrow.{number_limit}
 use Rattle.spec_simplex.specs.Start.{start_at, logical_sign}
 use Rattle.spec_simplex.specs.Tableau.{Tableau, form_columns}
 use Rattle.spec_factor.specs.Factors.{Pair, btran_run}
 use Rattle.spec_factor.specs.Revised.{Revised, sign_of, basic_costs, multipliers_run}
-use Rattle.lp_frac.specs.Narrow.{largest}
 
 one_times : (v : ℚ) → v ≡ logical_sign (Within 0ℚ) *ℚ v
 one_times v = sym (one-*ℚ v)
@@ -39,10 +39,11 @@ module _ (starts : List (RowStart ℚ)) (t : Tableau) (k : ℕ) (v : ℚ) where
 
 pub multipliers_are : (starts : List (RowStart ℚ)) (costs : List ℚ) (s : Revised) (places : ℕ) (pairs : List Pair)
     (list : List ℚ) (r : Run (List ℚ))
-    → places ≡ s.bare.rows → pairs ≡ s.pairs → list ≡ basic_costs starts costs s.bare → btran_run (Some largest) places
-    pairs list ≡ r → multipliers_run (Some largest) starts costs s ≡ r
+    → places ≡ s.bare.rows → pairs ≡ s.pairs → list ≡ basic_costs starts costs s.bare →
+    btran_run (Some number_limit) places
+    pairs list ≡ r → multipliers_run (Some number_limit) starts costs s ≡ r
 unfolding multipliers_run
 multipliers_are starts costs s places pairs list r p q l h =
-    ap (λ m. btran_run (Some largest) m s.pairs (basic_costs starts costs s.bare)) (sym p)
-    ∙ ap (λ es. btran_run (Some largest) places es (basic_costs starts costs s.bare)) (sym q)
-    ∙ ap (btran_run (Some largest) places pairs) (sym l) ∙ h
+    ap (λ m. btran_run (Some number_limit) m s.pairs (basic_costs starts costs s.bare)) (sym p)
+    ∙ ap (λ es. btran_run (Some number_limit) places es (basic_costs starts costs s.bare)) (sym q)
+    ∙ ap (btran_run (Some number_limit) places pairs) (sym l) ∙ h

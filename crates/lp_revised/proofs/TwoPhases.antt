@@ -11,13 +11,13 @@ use Rattle.spec_simplex.specs.declared.ends.RunStop.TheVariants as cause
 use Rattle.spec_simplex.specs.Form.{Form}
 use Rattle.spec_simplex.specs.Tableau.{Tableau}
 use Rattle.spec_exact.specs.Run.{◌>>=◌, refused_as, list_run}
+use Rattle.spec_exact.specs.Narrow.{number_limit}
 use Rattle.spec_simplex.specs.Start.{row_start, begun}
 use Rattle.spec_simplex.specs.Phases.{is_stuck}
 use Rattle.spec_cold.specs.Cold.{basis_at}
 use Rattle.spec_factor.specs.Revised.{Revised, bare_of, refactor_run}
 use Rattle.spec_factor.specs.Over.{RevisedEnded, OverEnd, over_from, over_one, over_two, over_phases, over_run}
 use Rattle.spec_factor.specs.Over.{over_certificate, second_state, stuck_answer, end_answer, negatives}
-use Rattle.lp_frac.specs.Narrow.{largest}
 use Rattle.lp_revised.specs.declared.cold_run.RunEnd.{RunEnd}
 use Rattle.lp_revised.specs.declared.steps.StepsEnd.{StepsEnd}
 use Rattle.lp_frac.specs.declared.stop.Stop.{Stop}
@@ -29,14 +29,14 @@ use Rattle.lp_revised.proofs.Renewed.{stops_after}
 
 module _ (budget : ℕ) (f : Form) (starts : List (RowStart ℚ)) (s : Revised) where
   -- ---- both
-  pub first_stops : (e : Stop Spent) → StopsRevised (over_one (Some largest) budget f starts s) e →
-      StopsRevised (over_phases (Some largest) budget f starts s) e
+  pub first_stops : (e : Stop Spent) → StopsRevised (over_one (Some number_limit) budget f starts s) e →
+      StopsRevised (over_phases (Some number_limit) budget f starts s) e
   first_stops e h =
-      stops_after (over_one (Some largest) budget f starts s) (after_one_run budget f starts) e h
+      stops_after (over_one (Some number_limit) budget f starts s) (after_one_run budget f starts) e h
 
   pub then_after : (one : RevisedEnded) (result : Result RunEnd (Stop Spent)) →
-      over_one (Some largest) budget f starts s ≡ Ok one → EndsOver (after_one_run budget f starts one) result →
-      EndsOver (over_phases (Some largest) budget f starts s) result
+      over_one (Some number_limit) budget f starts s ≡ Ok one → EndsOver (after_one_run budget f starts one) result →
+      EndsOver (over_phases (Some number_limit) budget f starts s) result
   then_after one result h g =
       subst (λ r. EndsOver r result) (sym (ap (λ o. o >>= after_one_run budget f starts) h)) g
 
@@ -45,7 +45,7 @@ module _ (budget : ℕ) (f : Form) (starts : List (RowStart ℚ)) (u : Revised) 
   abbrev by_test : Bool → Result OverEnd (RunStop ℚ)
   by_test b =
       cond b (Ok (stuck_answer (ended_of starts u used one)))
-      (over_two (Some largest) budget f starts (ended_of starts u used one))
+      (over_two (Some number_limit) budget f starts (ended_of starts u used one))
 
   pub is_infeasible : (y : List ℚ) (rows : ℕ) → is_stuck u.bare ≡ true → rows ≡ u.bare.rows →
       y ≡ negatives rows one.multipliers →
@@ -65,21 +65,23 @@ module _ (budget : ℕ) (f : Form) (starts : List (RowStart ℚ)) (u : Revised) 
 module _ (budget : ℕ) (f : Form) (starts : List (RowStart ℚ)) (used : ℕ) (s t : Revised) (costs : List ℚ)
     (b : t ≡ second_state s) (c : costs ≡ f.cost) where
   second_is : second_run budget f starts used s
-      ≡ (over_from (Some largest) f starts costs (budget - used) used t >>= λ two. Ok (end_answer two))
+      ≡ (over_from (Some number_limit) f starts costs (budget - used) used t >>= λ two. Ok (end_answer two))
   second_is =
-      sym (ap (λ t. over_from (Some largest) f starts costs (budget - used) used t >>= λ two. Ok (end_answer two)) b
-      ∙ ap (λ costs. over_from (Some largest) f starts costs (budget - used) used (second_state s) >>= λ two. Ok
+      sym (ap (λ t. over_from (Some number_limit) f starts costs (budget - used) used t >>= λ two. Ok (end_answer two))
+      b
+      ∙ ap (λ costs. over_from (Some number_limit) f starts costs (budget - used) used (second_state s) >>= λ two. Ok
       (end_answer two)) c)
 
   pub second_stops : (e : Stop Spent) →
-      StopsRevised (over_from (Some largest) f starts costs (budget - used) used t) e →
+      StopsRevised (over_from (Some number_limit) f starts costs (budget - used) used t) e →
       StopsRevised (second_run budget f starts used s) e
   second_stops e h =
       subst (λ r. StopsRevised r e) (sym second_is)
-      (stops_after (over_from (Some largest) f starts costs (budget - used) used t) (λ two. Ok (end_answer two)) e h)
+      (stops_after (over_from (Some number_limit) f starts costs (budget - used) used t) (λ two. Ok (end_answer two)) e
+      h)
 
   pub is_finished : (u : Revised) (now : ℕ) (e : StepsEnd) (ended : RunEnd) →
-      over_from (Some largest) f starts costs (budget - used) used t ≡ Ok (ended_of starts u now e) →
+      over_from (Some number_limit) f starts costs (budget - used) used t ≡ Ok (ended_of starts u now e) →
       over_end ended ≡ end_answer (ended_of starts u now e) →
       second_run budget f starts used s ≡ Ok (over_end ended)
   is_finished u now e ended h k = second_is ∙ ap (λ o. o >>= λ two. Ok (end_answer two)) h ∙ ap Ok (sym k)
@@ -98,14 +100,14 @@ module _ (budget : ℕ) (f : Form) where
   after_rows starts = begun_run budget f starts (bare_of (begun f starts))
 
   pub rows_stop : (e : Stop Spent) →
-      StopsRevised (refused_as cause.Past (list_run f.rows (row_start (Some largest) f))) e →
-      StopsRevised (over_run (Some largest) budget f) e
+      StopsRevised (refused_as cause.Past (list_run f.rows (row_start (Some number_limit) f))) e →
+      StopsRevised (over_run (Some number_limit) budget f) e
   unfolding over_run
-  rows_stop e h = stops_after (refused_as cause.Past (list_run f.rows (row_start (Some largest) f))) after_rows e h
+  rows_stop e h = stops_after (refused_as cause.Past (list_run f.rows (row_start (Some number_limit) f))) after_rows e h
 
   pub runs_whole : (starts : List (RowStart ℚ)) (t : Tableau) (result : Result RunEnd (Stop Spent)) →
-      list_run f.rows (row_start (Some largest) f) ≡ Ok starts → t ≡ bare_of (begun f starts) →
-      EndsOver (begun_run budget f starts t) result → EndsOver (over_run (Some largest) budget f) result
+      list_run f.rows (row_start (Some number_limit) f) ≡ Ok starts → t ≡ bare_of (begun f starts) →
+      EndsOver (begun_run budget f starts t) result → EndsOver (over_run (Some number_limit) budget f) result
   unfolding over_run
   runs_whole starts t result h b g =
       subst (λ r. EndsOver r result)
@@ -113,18 +115,20 @@ module _ (budget : ℕ) (f : Form) where
 
 -- the first factors, and what goes on from them
 module _ (budget : ℕ) (f : Form) (starts : List (RowStart ℚ)) (t : Tableau) where
-  pub factors_stop : (e : Stop Spent) → StopsRevised (refactor_run (Some largest) f t) e →
+  pub factors_stop : (e : Stop Spent) → StopsRevised (refactor_run (Some number_limit) f t) e →
       StopsRevised (begun_run budget f starts t) e
-  factors_stop e h = stops_after (refactor_run (Some largest) f t) (over_phases (Some largest) budget f starts) e h
+  factors_stop e h = stops_after (refactor_run (Some number_limit) f t) (over_phases (Some number_limit) budget f
+      starts) e h
 
-  module _ (s : Revised) (h : refactor_run (Some largest) f t ≡ Ok s) where
-    from_factors : begun_run budget f starts t ≡ over_phases (Some largest) budget f starts s
-    from_factors = ap (λ o. o >>= over_phases (Some largest) budget f starts) h
+  module _ (s : Revised) (h : refactor_run (Some number_limit) f t ≡ Ok s) where
+    from_factors : begun_run budget f starts t ≡ over_phases (Some number_limit) budget f starts s
+    from_factors = ap (λ o. o >>= over_phases (Some number_limit) budget f starts) h
 
-    pub phases_stop : (e : Stop Spent) → StopsRevised (over_phases (Some largest) budget f starts s) e →
+    pub phases_stop : (e : Stop Spent) → StopsRevised (over_phases (Some number_limit) budget f starts s) e →
         StopsRevised (begun_run budget f starts t) e
     phases_stop e g = subst (λ r. StopsRevised r e) (sym from_factors) g
 
     pub phases_end : (result : Result RunEnd (Stop Spent)) →
-        EndsOver (over_phases (Some largest) budget f starts s) result → EndsOver (begun_run budget f starts t) result
+        EndsOver (over_phases (Some number_limit) budget f starts s) result →
+        EndsOver (begun_run budget f starts t) result
     phases_end result g = subst (λ r. EndsOver r result) (sym from_factors) g

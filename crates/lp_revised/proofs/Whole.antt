@@ -2,6 +2,7 @@
 use Rattle.std.proofs.Common.{◌≡◌, ⊎_elim, ℕ, Some, None, Result, Ok, Err, sym, ap, ◌∙◌}
 use Rattle.spec_exact.specs.Fraction.{ℚ}
 use Rattle.spec_exact.specs.declared.past.Past.{Past}
+use Rattle.spec_exact.specs.Narrow.{number_limit}
 use Rattle.spec_model.specs.Model.{Model}
 use Rattle.spec_simplex.specs.declared.ends.RunStop.{RunStop}
 use Rattle.spec_simplex.specs.declared.ends.RunStop.TheVariants as cause
@@ -10,7 +11,6 @@ use Rattle.spec_simplex.specs.Phases.{PhasesEnd, phases_run}
 use Rattle.spec_factor.specs.Over.{OverEnd, over_run, answer_of, answer_in}
 use Rattle.spec_revised.proofs.OverCold.{run_is}
 use Rattle.spec_revised.proofs.OverLimits.{over_agrees}
-use Rattle.lp_frac.specs.Narrow.{largest}
 use Rattle.lp_revised.specs.declared.cold_run.RunEnd.{RunEnd}
 use Rattle.lp_frac.specs.declared.stop.Stop.{Stop}
 use Rattle.lp_revised.specs.declared.stop.Spent.{Spent}
@@ -24,18 +24,18 @@ is_spent : (whole : Result PhasesEnd (RunStop ℚ)) → answer_in whole ≡ Err 
 is_spent (Ok e) h = let z : ◌≡◌ {A = Outcome} (Ok (answer_of e)) (Err cause.Spent) = h in cc
 is_spent (Err s) h = let z : ◌≡◌ {A = Outcome} (Err s) (Err cause.Spent) = h in let y : s ≡ cause.Spent = cc in ap Err y
 
-module _ (budget : ℕ) (m : Model) (f : Form) (formed : form_of (Some largest) m ≡ Ok f) where
+module _ (budget : ℕ) (m : Model) (f : Form) (formed : form_of (Some number_limit) m ≡ Ok f) where
   abbrev limited : Outcome
-  limited = over_run (Some largest) budget f
+  limited = over_run (Some number_limit) budget f
 
   -- the run at the limit is no refusal, so it is the one on whole tableaus
   is_whole : (r : Outcome) → limited ≡ r → ((p : Past ℚ) → r ≡ Err (cause.Past p) → ⊥) →
       answer_in (phases_run None budget f) ≡ r
   is_whole r h n =
       ⊎_elim
-      (λ q. sym (run_is (Some largest) budget m f formed) ∙ sym q ∙ h)
+      (λ q. sym (run_is (Some number_limit) budget m f formed) ∙ sym q ∙ h)
       (λ p. absurd (n p.0 (sym h ∙ p.1)))
-      ((over_agrees (Some largest) budget f).same)
+      ((over_agrees (Some number_limit) budget f).same)
 
   pub ends_whole : (result : Result RunEnd (Stop Spent)) → EndsOver limited result → EndsWhole
       (phases_run None budget f) result

@@ -3,12 +3,12 @@ use Rattle.std.specs.Prelude.{◌≡◌, ℕ, suc, List, [], slice_set, get_or, 
 use Rattle.spec_exact.specs.Fraction.{ℚ, 0ℚ}
 use Rattle.spec_simplex.specs.declared.ends.RowStart.{RowStart}
 use Rattle.spec_exact.specs.Run.{Run, ◌>>=◌, less_product, steps}
+use Rattle.spec_exact.specs.Narrow.{number_limit}
 use Rattle.spec_simplex.specs.Tableau.{Tableau, basic_at}
 use Rattle.spec_pivot.specs.declared.status.Status.{Status}
 use Rattle.spec_simplex.specs.Step.{is_place, shifted_run, exchanged, turned}
 use Rattle.spec_factor.specs.Factors.{with_pair}
 use Rattle.spec_factor.specs.Revised.{Revised, seen_entry}
-use Rattle.lp_frac.specs.Narrow.{largest}
 
 -- the same state but for its values
 abbrev pub WithValues : Revised → Revised → Type 0
@@ -16,7 +16,7 @@ WithValues s u = u ≡ record s { bare = record s.bare { value = u.bare.value } 
 
 abbrev pub moved_by : List (RowStart ℚ) → Tableau → List ℚ → ℚ → ℕ → List ℚ → Run (List ℚ)
 moved_by starts t z theta i values =
-    less_product (Some largest) (seen_entry starts t z i) theta (get_or values (basic_at t i) 0ℚ) >>= λ v.
+    less_product (Some number_limit) (seen_entry starts t z i) theta (get_or values (basic_at t i) 0ℚ) >>= λ v.
     Ok (slice_set values (basic_at t i) v)
 
 -- those of the first n positions, but for one, if one is named
@@ -28,7 +28,7 @@ moves_by starts t z theta but n =
 abbrev pub exchanged_by : List (RowStart ℚ) → Revised → List ℚ → ℕ → ℕ → ℚ → Status → Run Revised
 exchanged_by starts s z p j theta to =
     moves_by starts s.bare z theta (Some p) s.bare.rows >>= λ values.
-    shifted_run (Some largest) values j theta >>= λ shifted.
+    shifted_run (Some number_limit) values j theta >>= λ shifted.
     Ok (record {
       bare = exchanged (turned s.bare shifted [] []) p j to;
       pairs = with_pair s.pairs p z;

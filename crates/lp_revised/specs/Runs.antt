@@ -11,12 +11,12 @@ use Rattle.spec_simplex.specs.declared.ends.RunStop.{RunStop}
 use Rattle.spec_simplex.specs.declared.ends.RunStop.TheVariants as cause
 use Rattle.spec_simplex.specs.Form.{Form}
 use Rattle.spec_exact.specs.Run.{◌>>=◌, refused_as}
+use Rattle.spec_exact.specs.Narrow.{number_limit}
 use Rattle.spec_simplex.specs.Tableau.{Tableau}
 use Rattle.spec_simplex.specs.Phases.{PhasesEnd, is_stuck}
 use Rattle.spec_factor.specs.Revised.{Revised, Selection, flip_over_run, pivot_over_run, refactor_run}
 use Rattle.spec_factor.specs.Over.{RevisedEnded, OverEnd, over_from, over_two, over_phases}
 use Rattle.spec_factor.specs.Over.{second_state, stuck_answer, end_answer, answer_in}
-use Rattle.lp_frac.specs.Narrow.{largest}
 use Rattle.lp_revised.specs.declared.cold_run.RunEnd.{RunEnd}
 use Rattle.lp_revised.specs.declared.select.Column.{Column}
 use Rattle.lp_revised.specs.declared.steps.StepsEnd.{StepsEnd}
@@ -30,9 +30,9 @@ use Rattle.lp_revised.specs.Selecting.{tableau_of}
 abbrev pub made_run : Form → List (RowStart ℚ) → Revised → Option Column → Choice ℚ → Result Revised (RunStop ℚ)
 made_run f starts s column (End end) = Ok s
 made_run f starts s column (Flip j) =
-    refused_as cause.Past (flip_over_run (Some largest) s (tableau_of starts s.bare column) j)
+    refused_as cause.Past (flip_over_run (Some number_limit) s (tableau_of starts s.bare column) j)
 made_run f starts s column (Pivot p j theta to) =
-    pivot_over_run (Some largest) f s (tableau_of starts s.bare column) p j theta to
+    pivot_over_run (Some number_limit) f s (tableau_of starts s.bare column) p j theta to
 
 -- what the last step saw
 abbrev pub selection_at : List (RowStart ℚ) → Tableau → StepsEnd → Selection
@@ -73,16 +73,17 @@ EndsOver answer (Err e) = StopsRevised answer e
 -- phase two from the state that phase one leaves, before which `used` steps were made
 abbrev pub second_run : ℕ → Form → List (RowStart ℚ) → ℕ → Revised → Result OverEnd (RunStop ℚ)
 second_run budget f starts used s =
-    over_from (Some largest) f starts f.cost (budget - used) used (second_state s) >>= λ two. Ok (end_answer two)
+    over_from (Some number_limit) f starts f.cost (budget - used) used (second_state s) >>= λ two. Ok (end_answer two)
 
 -- what follows phase one
 abbrev pub after_one_run : ℕ → Form → List (RowStart ℚ) → RevisedEnded → Result OverEnd (RunStop ℚ)
 after_one_run budget f starts one =
-    if is_stuck one.state.bare then Ok (stuck_answer one) else over_two (Some largest) budget f starts one
+    if is_stuck one.state.bare then Ok (stuck_answer one) else over_two (Some number_limit) budget f starts one
 
 -- both phases, with the first factors of these columns
 abbrev pub begun_run : ℕ → Form → List (RowStart ℚ) → Tableau → Result OverEnd (RunStop ℚ)
-begun_run budget f starts t = refactor_run (Some largest) f t >>= λ s. over_phases (Some largest) budget f starts s
+begun_run budget f starts t = refactor_run (Some number_limit) f t >>= λ s. over_phases (Some number_limit) budget f
+    starts s
 
 -- without a limit the run on whole tableaus ends so, or is spent too
 abbrev pub EndsWhole : Result PhasesEnd (RunStop ℚ) → Result RunEnd (Stop Spent) → Type 0

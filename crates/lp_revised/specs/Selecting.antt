@@ -9,11 +9,11 @@ use Rattle.spec_simplex.specs.declared.ends.Choice.TheVariants.{End, Flip, Pivot
 use Rattle.spec_simplex.specs.declared.ends.RunStop.TheVariants as cause
 use Rattle.spec_simplex.specs.Form.{Form}
 use Rattle.spec_exact.specs.Run.{Run, ◌>>=◌, refused_as}
+use Rattle.spec_exact.specs.Narrow.{number_limit}
 use Rattle.spec_simplex.specs.Tableau.{Tableau, all_columns}
 use Rattle.spec_simplex.specs.Step.{best_run, choice_by}
 use Rattle.spec_factor.specs.Factors.{column_of, ftran_run}
 use Rattle.spec_factor.specs.Revised.{Revised, seen, Selection}
-use Rattle.lp_frac.specs.Narrow.{largest}
 use Rattle.lp_revised.specs.declared.select.Selected.{Selected}
 use Rattle.lp_revised.specs.declared.select.Column.{Column}
 use Rattle.lp_frac.specs.declared.stop.Stop.{Stop}
@@ -22,7 +22,7 @@ use Rattle.lp_revised.specs.Answer.{StopsRevised}
 
 -- what a step does with the entering column, which is z by places
 abbrev pub choice_seen : List (RowStart ℚ) → Tableau → List ℚ → Entering → Run (Choice ℚ)
-choice_seen starts t z e = best_run (Some largest) (seen starts t e.col z) e >>= λ best. Ok (choice_by e best)
+choice_seen starts t z e = best_run (Some number_limit) (seen starts t e.col z) e >>= λ best. Ok (choice_by e best)
 
 -- the choice is of column j, which is z by places, and a pivot's place has an entry
 abbrev pub MayDo : Tableau → List ℚ → ℕ → Choice ℚ → Type 0
@@ -35,7 +35,7 @@ MayDo t z j (Pivot p k theta to) = (k ≡ j) × (p < t.rows) × (get_or z p 0ℚ
 pub record IsSolved (f : Form) (s : Revised) (c : Column) : Type 0 where
   pub inside : c.number < all_columns s.bare
   pub all : length c.solved ≡ s.bare.rows
-  pub solves : ftran_run (Some largest) s.bare.rows s.pairs (column_of f c.number) ≡ Ok c.solved
+  pub solves : ftran_run (Some number_limit) s.bare.rows s.pairs (column_of f c.number) ≡ Ok c.solved
 
 -- the choice may be made: without a column that may enter it is an end
 abbrev pub CanDo : Form → Revised → Option Column → Choice ℚ → Type 0

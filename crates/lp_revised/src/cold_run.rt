@@ -4,12 +4,12 @@ ghost use Rattle.spec_model.specs.Model.{Model};
 ghost use Rattle.spec_check.specs.Certificate.{IsNarrowCertificate};
 ghost use Rattle.spec_simplex.specs.declared.ends.RunStop.TheVariants as cause;
 ghost use Rattle.spec_exact.specs.Run.{list_run, refused_as};
+ghost use Rattle.spec_exact.specs.Narrow.{number_limit};
 ghost use Rattle.spec_simplex.specs.Start as starting;
 ghost use Rattle.spec_simplex.specs.Form.{form_of};
 ghost use Rattle.spec_simplex.specs.Phases.{phases_run};
 ghost use Rattle.spec_factor.specs.Revised.{bare_of, replacements};
 ghost use Rattle.spec_factor.specs.Over.{over_one, over_run, end_answer};
-ghost use Rattle.lp_frac.specs.Narrow.{largest};
 ghost use Rattle.lp_revised.specs.Answer.{StopsRevised};
 ghost use Rattle.lp_revised.specs.Runs.{RunsFirst, EndsOver, EndsWith, EndsWhole, ended_of, over_end};
 ghost use Rattle.lp_revised.specs.Runs.{second_run, after_one_run, begun_run};
@@ -36,9 +36,10 @@ pub struct RunEnd {
 
 // How all rows begin, in order.
 fn row_starts(alloc: Global, form: &Form) -> Result<Vec<RowStart>, RevisedStop>
-    ensures ok { IfOk result (λ v. list_run form.now.rows (starting.row_start (Some largest) form.now) ≡ Ok v.items) }
+    ensures ok { IfOk result (λ v. list_run form.now.rows (starting.row_start (Some number_limit) form.now) ≡ Ok
+        v.items) }
     ensures err { IfErr result (StopsRevised (refused_as cause.Past
-        (list_run form.now.rows (starting.row_start (Some largest) form.now)))) }
+        (list_run form.now.rows (starting.row_start (Some number_limit) form.now)))) }
 {
     match start::starts(alloc, form) {
         Ok(starts) => Ok(starts),
@@ -78,7 +79,7 @@ impl Revised {
         requires cols { form.now.cols ≡ self.old.bare.cols }
         requires starts { length starts.now ≡ self.old.bare.rows }
         requires few { self.old.replaced < replacements }
-        ensures run { RunsFirst (over_one (Some largest) budget form.now starts.now self.old) starts.now self.new
+        ensures run { RunsFirst (over_one (Some number_limit) budget form.now starts.now self.old) starts.now self.new
             result }
         ensures rows { OnOk result (self.new.bare.rows ≡ self.old.bare.rows) }
         ensures cols { OnOk result (self.new.bare.cols ≡ self.old.bare.cols) }
@@ -203,8 +204,8 @@ impl Revised {
 /// It gives up with the first operation that is past 127 bits, or where the budget is spent. For the form of a model
 /// the run on whole tableaus with unlimited fractions ends so too.
 pub fn cold(alloc: Global, form: &Form, budget: u64) -> Result<RunEnd, RevisedStop>
-    ensures run { EndsOver (over_run (Some largest) budget form.now) result }
-    ensures whole { (m : Model) → form_of (Some largest) m ≡ Ok form.now →
+    ensures run { EndsOver (over_run (Some number_limit) budget form.now) result }
+    ensures whole { (m : Model) → form_of (Some number_limit) m ≡ Ok form.now →
         EndsWhole (phases_run None budget form.now) result }
     ensures narrow { IfOk result (λ e. IsNarrowCertificate e.certificate) }
 {

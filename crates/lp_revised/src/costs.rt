@@ -1,9 +1,8 @@
 // The multipliers: btran of the basic columns' costs.
 ghost use Rattle.std.specs.Prelude.{◌≡◌, Some, All, length, IfOk};
-ghost use Rattle.spec_exact.specs.Narrow.{IsNarrow};
+ghost use Rattle.spec_exact.specs.Narrow.{IsNarrow, number_limit};
 ghost use Rattle.spec_simplex.specs.Start.{cost_at};
 ghost use Rattle.spec_factor.specs.Revised.{basic_costs, multipliers_run};
-ghost use Rattle.lp_frac.specs.Narrow.{largest};
 ghost use Rattle.lp_revised.specs.Answer.{TellsRevised};
 
 use crate::state::{Revised, RowStart};
@@ -50,7 +49,7 @@ impl Revised {
         costs: &[Frac],
     ) -> Result<Fracs, RevisedStop>
         requires { length starts.now ≡ self.now.bare.rows }
-        ensures run { TellsRevised (multipliers_run (Some largest) starts.now costs.now self.now) result }
+        ensures run { TellsRevised (multipliers_run (Some number_limit) starts.now costs.now self.now) result }
         ensures all { IfOk result (λ y. length y ≡ self.now.bare.rows) }
         ensures narrow { IfOk result (All IsNarrow) }
     {

@@ -1,9 +1,9 @@
 // How the basic columns move with the entering one, and flips.
 ghost use Rattle.std.specs.Prelude.{◌≡◌, ◌<◌, Some, length};
+ghost use Rattle.spec_exact.specs.Narrow.{number_limit};
 ghost use Rattle.spec_simplex.specs.Tableau.{all_columns};
 ghost use Rattle.spec_simplex.specs.Step.{flipped};
 ghost use Rattle.spec_factor.specs.Revised.{seen, flip_over_run};
-ghost use Rattle.lp_frac.specs.Narrow.{largest};
 ghost use Rattle.lp_factor.specs.Answer.{GivesRun};
 ghost use Rattle.lp_revised.specs.Moved.{WithValues, moved_by, moves_by};
 
@@ -72,7 +72,8 @@ impl Revised {
         requires starts { length starts.now ≡ self.old.bare.rows }
         requires solved { length solved.now ≡ self.old.bare.rows }
         requires column { col < all_columns self.old.bare }
-        ensures run { GivesRun (flip_over_run (Some largest) self.old (seen starts.now self.old.bare col solved.now)
+        ensures run { GivesRun (flip_over_run (Some number_limit) self.old (seen starts.now self.old.bare col
+            solved.now)
             col) self.new result }
         ensures rows { self.new.bare.rows ≡ self.old.bare.rows }
         ensures cols { self.new.bare.cols ≡ self.old.bare.cols }

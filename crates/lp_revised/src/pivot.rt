@@ -3,11 +3,11 @@ ghost use Rattle.std.specs.Prelude.{◌≡◌, ◌≢◌, ◌<◌, ◌+◌, Some
 ghost use Rattle.spec_exact.specs.Fraction.{0ℚ};
 ghost use Rattle.spec_simplex.specs.Tableau.{all_columns};
 ghost use Rattle.spec_exact.specs.Run.{refused_as};
+ghost use Rattle.spec_exact.specs.Narrow.{number_limit};
 ghost use Rattle.spec_simplex.specs.declared.ends.RunStop.TheVariants as cause;
 ghost use Rattle.spec_simplex.specs.Step.{shifted_run, exchanged};
 ghost use Rattle.spec_factor.specs.Factors.{with_pair};
 ghost use Rattle.spec_factor.specs.Revised.{seen, pivot_over_run, replacements};
-ghost use Rattle.lp_frac.specs.Narrow.{largest};
 ghost use Rattle.lp_factor.specs.Answer.{GivesRun};
 ghost use Rattle.lp_revised.specs.Answer.{LeavesRevised};
 ghost use Rattle.lp_revised.specs.Moved.{WithValues, exchanged_by};
@@ -26,7 +26,8 @@ impl Revised {
     #[tactic(auto, unfolding(spec_simplex::specs::Step::shifted_run))]
     fn shift(&mut self, col: u32, theta: Frac) -> Result<(), Past>
         requires { col < all_columns self.old.bare }
-        ensures value { GivesRun (shifted_run (Some largest) self.old.bare.value col theta) self.new.bare.value result }
+        ensures value { GivesRun (shifted_run (Some number_limit) self.old.bare.value col theta) self.new.bare.value
+            result }
         ensures rest { WithValues self.old self.new }
     {
         let value = add(self.value(col), theta)?;
@@ -130,7 +131,7 @@ impl Revised {
         requires place { place < self.old.bare.rows }
         requires entry { get_or column.now.solved place 0ℚ ≢ 0ℚ }
         requires few { self.old.replaced < replacements }
-        ensures run { LeavesRevised (pivot_over_run (Some largest) form.now self.old
+        ensures run { LeavesRevised (pivot_over_run (Some number_limit) form.now self.old
             (seen starts.now self.old.bare column.now.number column.now.solved) place column.now.number theta
             to) self.new result }
         ensures rows { self.new.bare.rows ≡ self.old.bare.rows }

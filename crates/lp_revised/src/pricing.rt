@@ -1,9 +1,8 @@
 // Which column enters: reduced costs, each over its column's entries alone.
 ghost use Rattle.std.specs.Prelude.{◌≡◌, ◌<◌, ◌≤◌, ◌+◌, Some, All, IfSome, IfOk, length};
-ghost use Rattle.spec_exact.specs.Narrow.{IsNarrow};
+ghost use Rattle.spec_exact.specs.Narrow.{IsNarrow, number_limit};
 ghost use Rattle.spec_simplex.specs.Tableau.{all_columns};
 ghost use Rattle.spec_factor.specs.Revised.{price_run, way_run, entering_run};
-ghost use Rattle.lp_frac.specs.Narrow.{largest};
 
 use crate::costs::cost;
 use crate::state::Revised;
@@ -18,7 +17,7 @@ fn price_structural(form: &Form, costs: &[Frac], y: &[Frac], k: u32) -> Result<F
     requires column { k < form.now.cols }
     requires all { length y.now ≡ form.now.rows }
     requires narrow { All IsNarrow y.now }
-    ensures { result ≡ price_run (Some largest) form.now costs.now y.now k }
+    ensures { result ≡ price_run (Some number_limit) form.now costs.now y.now k }
 {
     let mut rest = narrow(cost(costs, k));
     for (row, value) in form.entries(k) {
@@ -33,7 +32,7 @@ fn price_logical(form: &Form, costs: &[Frac], y: &[Frac], k: u32) -> Result<Frac
     requires column { k < form.now.cols + form.now.rows }
     requires all { length y.now ≡ form.now.rows }
     requires narrow { All IsNarrow y.now }
-    ensures { result ≡ price_run (Some largest) form.now costs.now y.now k }
+    ensures { result ≡ price_run (Some number_limit) form.now costs.now y.now k }
 {
     let rest = narrow(cost(costs, k));
     let less = narrow(less_product(y[(k - form.cols()) as usize], one(), rest)?);
@@ -44,7 +43,7 @@ fn price_logical(form: &Form, costs: &[Frac], y: &[Frac], k: u32) -> Result<Frac
 fn price(form: &Form, costs: &[Frac], y: &[Frac], k: u32) -> Result<Frac, Past>
     requires all { length y.now ≡ form.now.rows }
     requires narrow { All IsNarrow y.now }
-    ensures { result ≡ price_run (Some largest) form.now costs.now y.now k }
+    ensures { result ≡ price_run (Some number_limit) form.now costs.now y.now k }
 {
     if k < form.cols() {
         price_structural(form, costs, y, k)
@@ -61,7 +60,7 @@ impl Revised {
         requires column { k < all_columns self.now.bare }
         requires all { length y.now ≡ form.now.rows }
         requires narrow { All IsNarrow y.now }
-        ensures { result ≡ way_run (Some largest) form.now costs.now y.now self.now.bare k }
+        ensures { result ≡ way_run (Some number_limit) form.now costs.now y.now self.now.bare k }
     {
         let status = self.status(k);
         if is_fixed(self.lower(k), self.upper(k)) || is_basic(status) {
@@ -79,7 +78,7 @@ impl Revised {
     ) -> Result<Option<Entering>, Past>
         requires all { length y.now ≡ form.now.rows }
         requires narrow { All IsNarrow y.now }
-        ensures value { result ≡ entering_run (Some largest) form.now costs.now y.now self.now.bare }
+        ensures value { result ≡ entering_run (Some number_limit) form.now costs.now y.now self.now.bare }
         ensures inside { IfOk result (λ o. IfSome o (λ e. e.col < all_columns self.now.bare)) }
     {
         for col in 0..self.width() {

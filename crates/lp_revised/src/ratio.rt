@@ -1,9 +1,9 @@
 // Which position stops the entering column.
 ghost use Rattle.std.specs.Prelude.{◌≡◌, ◌<◌, Some, length};
+ghost use Rattle.spec_exact.specs.Narrow.{number_limit};
 ghost use Rattle.spec_simplex.specs.Tableau.{all_columns};
 ghost use Rattle.spec_simplex.specs.Step as step;
 ghost use Rattle.spec_factor.specs.Revised.{seen_entry, seen};
-ghost use Rattle.lp_frac.specs.Narrow.{largest};
 
 use crate::state::{Revised, RowStart};
 use lp_frac::{Frac, Past};
@@ -33,7 +33,7 @@ impl Revised {
         requires starts { length starts.now ≡ self.now.bare.rows }
         requires solved { length solved.now ≡ self.now.bare.rows }
         requires place { i < self.now.bare.rows }
-        ensures { result ≡ step.best_with (Some largest) (seen starts.now self.now.bare e.col solved.now) e i best }
+        ensures { result ≡ step.best_with (Some number_limit) (seen starts.now self.now.bare e.col solved.now) e i best }
     {
         let col = self.basic(i);
         let at = Position {
@@ -57,7 +57,7 @@ impl Revised {
         requires starts { length starts.now ≡ self.now.bare.rows }
         requires solved { length solved.now ≡ self.now.bare.rows }
         requires column { e.col < all_columns self.now.bare }
-        ensures { result ≡ step.best_run (Some largest) (seen starts.now self.now.bare e.col solved.now) e }
+        ensures { result ≡ step.best_run (Some number_limit) (seen starts.now self.now.bare e.col solved.now) e }
     {
         let mut best = range(e, self.lower(e.col), self.upper(e.col))?;
         for i in 0..self.rows() {

@@ -1,12 +1,12 @@
 // Taking factors anew.
 ghost use Rattle.std.specs.Prelude.{◌≡◌, ◌<◌, ◌+◌, Some, All, OnOk, IfOk, length, map, nat_le, ◌&&◌};
+ghost use Rattle.spec_exact.specs.Narrow.{number_limit};
 ghost use Rattle.spec_cold.specs.Cold.{basis_status as basis_status_of};
 ghost use Rattle.spec_simplex.specs.Tableau.{is_basic as is_basic_of};
 ghost use Rattle.spec_simplex.specs.Tableau.{all_columns, status_at, form_columns as form_columns_of};
 ghost use Rattle.spec_factor.specs.Factors.{factor_run};
 ghost use Rattle.spec_factor.specs.Revised.{standing as standing_of, factor_basis, factor_stop, refactor_run};
 ghost use Rattle.spec_factor.specs.Revised.{refreshed_run, replacements};
-ghost use Rattle.lp_frac.specs.Narrow.{largest};
 ghost use Rattle.lp_revised.specs.Answer.{AnswersRevised, LeavesRevised};
 
 use crate::state::Revised;
@@ -19,7 +19,7 @@ use std::alloc::{AllocError, Global};
 // Factors of a basis. Basic columns that are dependent, which a run never has, count as a spent run.
 fn factors_of(alloc: Global, form: &Form, basis: &StatusList) -> Result<Factors, RevisedStop>
     requires { length basis.now ≡ form.now.cols + form.now.rows }
-    ensures run { AnswersRevised (factor_stop (factor_run (Some largest) form.now basis.now)) result }
+    ensures run { AnswersRevised (factor_stop (factor_run (Some number_limit) form.now basis.now)) result }
     ensures all { IfOk result (λ s. length s.basic ≡ form.now.rows) }
     ensures inside { IfOk result (λ s. All (λ k. k < form.now.cols + form.now.rows) s.basic) }
 {
@@ -95,7 +95,8 @@ impl Revised {
     fn new_factors(&self, alloc: Global, form: &Form) -> Result<Factors, RevisedStop>
         requires rows { form.now.rows ≡ self.now.bare.rows }
         requires cols { form.now.cols ≡ self.now.bare.cols }
-        ensures run { AnswersRevised (factor_stop (factor_run (Some largest) form.now (factor_basis self.now.bare)))
+        ensures run { AnswersRevised (factor_stop (factor_run (Some number_limit) form.now (factor_basis
+            self.now.bare)))
             result }
         ensures all { IfOk result (λ s. length s.basic ≡ self.now.bare.rows) }
         ensures inside { IfOk result (λ s. All (λ k. k < form_columns_of self.now.bare) s.basic) }
@@ -108,7 +109,7 @@ impl Revised {
     pub(crate) fn refactor(&mut self, alloc: Global, form: &Form) -> Result<(), RevisedStop>
         requires rows { form.now.rows ≡ self.old.bare.rows }
         requires cols { form.now.cols ≡ self.old.bare.cols }
-        ensures run { LeavesRevised (refactor_run (Some largest) form.now self.old.bare) self.new result }
+        ensures run { LeavesRevised (refactor_run (Some number_limit) form.now self.old.bare) self.new result }
         ensures rows { self.new.bare.rows ≡ self.old.bare.rows }
         ensures cols { self.new.bare.cols ≡ self.old.bare.cols }
         ensures fresh { OnOk result (self.new.replaced ≡ 0) }
@@ -126,7 +127,7 @@ impl Revised {
     pub(crate) fn refresh(&mut self, alloc: Global, form: &Form) -> Result<(), RevisedStop>
         requires rows { form.now.rows ≡ self.old.bare.rows }
         requires cols { form.now.cols ≡ self.old.bare.cols }
-        ensures run { LeavesRevised (refreshed_run (Some largest) form.now self.old) self.new result }
+        ensures run { LeavesRevised (refreshed_run (Some number_limit) form.now self.old) self.new result }
         ensures rows { self.new.bare.rows ≡ self.old.bare.rows }
         ensures cols { self.new.bare.cols ≡ self.old.bare.cols }
         ensures fresh { OnOk result (self.new.replaced < replacements) }

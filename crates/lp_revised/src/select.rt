@@ -1,9 +1,9 @@
 // What a step sees and chooses.
 ghost use Rattle.std.specs.Prelude.{◌≡◌, ◌<◌, Some, Ok, IfOk, length};
+ghost use Rattle.spec_exact.specs.Narrow.{number_limit};
 ghost use Rattle.spec_simplex.specs.Tableau.{all_columns};
 ghost use Rattle.spec_factor.specs.Factors.{column_of as column_by, ftran_run};
 ghost use Rattle.spec_factor.specs.Revised.{selection_run};
-ghost use Rattle.lp_frac.specs.Narrow.{largest};
 ghost use Rattle.lp_revised.specs.Answer.{TellsRevised};
 ghost use Rattle.lp_revised.specs.Selecting.{choice_seen, MayDo, CanDo, Selects};
 
@@ -40,7 +40,8 @@ impl Revised {
     // The solution of column `k`, by places.
     fn solve_column(&self, alloc: Global, form: &Form, k: u32) -> Result<Fracs, RevisedStop>
         requires { form.now.rows ≡ self.now.bare.rows }
-        ensures run { TellsRevised (ftran_run (Some largest) self.now.bare.rows self.now.pairs (column_by form.now k))
+        ensures run { TellsRevised (ftran_run (Some number_limit) self.now.bare.rows self.now.pairs (column_by form.now
+            k))
             result }
         ensures all { IfOk result (λ z. length z ≡ self.now.bare.rows) }
     {
@@ -70,7 +71,7 @@ impl Revised {
     ) -> Result<Selected, RevisedStop>
         requires rows { form.now.rows ≡ self.now.bare.rows }
         requires starts { length starts.now ≡ self.now.bare.rows }
-        ensures run { Selects (selection_run (Some largest) form.now starts.now costs.now self.now) starts.now
+        ensures run { Selects (selection_run (Some number_limit) form.now starts.now costs.now self.now) starts.now
             self.now.bare result }
         ensures possible { IfOk result (λ l. CanDo form.now self.now l.column l.choice) }
     {

@@ -1,8 +1,8 @@
 // Steps up to an end.
 ghost use Rattle.std.specs.Prelude.{◌≡◌, ◌<◌, ◌-◌, Some, IfOk, OnOk, length};
+ghost use Rattle.spec_exact.specs.Narrow.{number_limit};
 ghost use Rattle.spec_factor.specs.Revised.{replacements};
 ghost use Rattle.spec_factor.specs.Over.{over_from};
-ghost use Rattle.lp_frac.specs.Narrow.{largest};
 ghost use Rattle.lp_revised.specs.Answer.{LeavesRevised};
 ghost use Rattle.lp_revised.specs.Selecting.{CanDo};
 ghost use Rattle.lp_revised.specs.Runs.{EndsWith, made_run, RunsOver};
@@ -98,7 +98,7 @@ impl Revised {
         requires cols { form.now.cols ≡ self.old.bare.cols }
         requires starts { length starts.now ≡ self.old.bare.rows }
         requires few { self.old.replaced < replacements }
-        ensures run { RunsOver (over_from (Some largest) form.now starts.now costs.now (budget - used.old) used.old
+        ensures run { RunsOver (over_from (Some number_limit) form.now starts.now costs.now (budget - used.old) used.old
             self.old) starts.now self.new used.new result }
         ensures with { IfOk result (λ e. EndsWith self.new.bare e.column e.end) }
         ensures rows { OnOk result (self.new.bare.rows ≡ self.old.bare.rows) }

@@ -1,10 +1,10 @@
 // The run of a form: its start, and both phases at one width after the other.
 ghost use Rattle.std.specs.Prelude.{◌≡◌, ℕ, IfOk, IfSome, Ok, Some, None};
+ghost use Rattle.spec_exact.specs.Narrow.{number_limit};
 ghost use Rattle.spec_model.specs.Model.{Model};
 ghost use Rattle.spec_simplex.specs.Form.{Form as Forms, form_of};
 ghost use Rattle.spec_simplex.specs.Tableau as tableaus;
 ghost use Rattle.spec_simplex.specs.Phases.{phases_run};
-ghost use Rattle.lp_frac.specs.Narrow.{largest};
 ghost use Rattle.lp_row_tableau.specs.Shows.{IsWhole, IsReached, Shows};
 ghost use Rattle.lp_row_cold.specs.Phases.{rest_run, HasCosts, IsReady, IsLeft};
 ghost use Rattle.lp_row_cold.specs.Cold.{start_run, EndsAs, EndsAsStated, IsFitEnd, IsNarrowEnd, LeavesAt, LeavesReady};
@@ -400,7 +400,7 @@ fn cold_run<N: Listed>(
     budget: u64,
     work: u64,
 ) -> Result<Option<RowEnd<N>>, AllocError>
-    ensures whole { (m : Model) → form_of (Some largest) m ≡ Ok form.now →
+    ensures whole { (m : Model) → form_of (Some number_limit) m ≡ Ok form.now →
         IfOk result (EndsAs N.of (phases_run None budget form.now)) }
     ensures fits { IfOk result (IsFitEnd N.fits) }
 {
@@ -429,7 +429,7 @@ pub fn cold(
     budget: u64,
     work: u64,
 ) -> Result<Option<RowEnd<Frac>>, AllocError>
-    ensures whole { (m : Model) → form_of (Some largest) m ≡ Ok form.now →
+    ensures whole { (m : Model) → form_of (Some number_limit) m ≡ Ok form.now →
         IfOk result (EndsAsStated (phases_run None budget form.now)) }
     ensures narrow { IfOk result IsNarrowEnd }
 {
@@ -443,7 +443,7 @@ pub fn wide_cold(
     budget: u64,
     work: u64,
 ) -> Result<Option<RowEnd<Ratio>>, AllocError>
-    ensures { (m : Model) → form_of (Some largest) m ≡ Ok form.now →
+    ensures { (m : Model) → form_of (Some number_limit) m ≡ Ok form.now →
         IfOk result (EndsAsStated (phases_run None budget form.now)) }
 {
     cold_run(alloc, form, budget, work)

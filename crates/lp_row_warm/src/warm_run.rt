@@ -1,11 +1,11 @@
 // The run from a basis, at one width after the other.
 ghost use Rattle.std.specs.Prelude.{◌≡◌, IfOk, IfSome, List, Ok, Some};
+ghost use Rattle.spec_exact.specs.Narrow.{number_limit};
 ghost use Rattle.spec_model.specs.Model.{Model};
 ghost use Rattle.spec_pivot.specs.declared.status.Status.{Status as statuses};
 ghost use Rattle.spec_simplex.specs.Form.{Form as forms, form_of};
 ghost use Rattle.spec_simplex.specs.Eliminate.{IsBasisOf};
 ghost use Rattle.spec_path.specs.Begins.{IsProper};
-ghost use Rattle.lp_frac.specs.Narrow.{largest};
 ghost use Rattle.lp_row_tableau.specs.Shows.{IsWhole};
 ghost use Rattle.lp_row_cold.specs.Phases.{HasCosts};
 ghost use Rattle.lp_row_warm.specs.Rows.{HasSize, ShowsStart};
@@ -224,7 +224,7 @@ pub fn wide_warm(
     budget: u64,
 ) -> Result<Option<RowEnd<Ratio>>, AllocError>
     requires { IsBasisOf form.now basis.now }
-    ensures { (m : Model) → form_of (Some largest) m ≡ Ok form.now →
+    ensures { (m : Model) → form_of (Some number_limit) m ≡ Ok form.now →
         IfOk result (λ o. IfSome o (EndsFromBasis budget form.now basis.now)) }
 {
     let mut work = WORK;

@@ -2,7 +2,7 @@
 use Rattle.std.proofs.Common.{◌≡◌, ◌∙◌, sym, ap, ap₂, subst, map, length, arith, Some, Ok}
 use Rattle.std.specs.Prelude.{unwrap_or}
 use Rattle.std.proofs.lemmas.Result.{err_from_is_err_and}
-use Rattle.lp_frac.specs.Narrow.{largest}
+use Rattle.spec_exact.specs.Narrow.{number_limit}
 use Rattle.spec_factor.specs.Factors.{Chosen, choose_run}
 use Rattle.lp_factor.proofs.Opens.{one_more, passed_by, factor_refused, factor_gives}
 use Rattle.lp_factor.proofs.choose.factor.Goals.{then-is_basic+in_ok-choose, else-is_basic}
@@ -22,7 +22,7 @@ loop-k-preserved c =
       | then-is_basic+in_ok-choose w ↦
           one_more c.args.form.now c.args.basis.now c.loop-k.k c.loop-k.chosen c.if-is_basic.chosen
           c.at.result c.loop-k.invariant c.at.ensures (sym c.is_basic.ensures ∙ w.if-is_basic.true)
-          (subst (λ (u : Chosen). choose_run (Some largest) c.args.form.now c.loop-k.k c.loop-k.chosen ≡ Ok u)
+          (subst (λ (u : Chosen). choose_run (Some number_limit) c.args.form.now c.loop-k.k c.loop-k.chosen ≡ Ok u)
           (sym w.chosen-is) w.in_ok-choose.ensures.run)
           (subst (λ (u : Chosen). length u.columns ≡ length c.loop-k.chosen.columns)
           (sym w.chosen-is) w.choose.ensures.all)

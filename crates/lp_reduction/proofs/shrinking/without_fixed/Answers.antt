@@ -1,7 +1,7 @@
 -- The right sides, then the offset, and the column goes.
 use Rattle.std.proofs.Common.{Some, ap, ◌∙◌}
 use Rattle.std.proofs.lemmas.Result.{err_from_is_err_and}
-use Rattle.lp_frac.specs.Narrow.{largest}
+use Rattle.spec_exact.specs.Narrow.{number_limit}
 use Rattle.spec_model.specs.Model.{Model}
 use Rattle.spec_edit.specs.Changes.{without_column}
 use Rattle.spec_presolve.proofs.After.{shifted_ok}
@@ -24,7 +24,8 @@ returns-in_err-offset-clause-err c =
 pub remove_col-requires : goal.remove_col-requires
 remove_col-requires c =
     rw (c.set_offset.ensures)
-    (rw ((shifted_ok (Some largest) c.args.model.now c.args.j c.args.value c.shift.new.model c.in_ok-shift.ensures.ok).columns_are)
+    (rw ((shifted_ok (Some number_limit) c.args.model.now c.args.j c.args.value c.shift.new.model
+    c.in_ok-shift.ensures.ok).columns_are)
     c.requires)
 
 pub returns-clause-ok : goal.returns-clause-ok

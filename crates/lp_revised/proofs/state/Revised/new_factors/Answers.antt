@@ -1,9 +1,9 @@
 -- The factors are those of the basic columns.
 use Rattle.std.proofs.Common.{◌≡◌, ◌<◌, ◌+◌, Some, All, length, ap₂, subst}
 use Rattle.std.specs.Result.{IfOk}
+use Rattle.spec_exact.specs.Narrow.{number_limit}
 use Rattle.spec_factor.specs.Factors.{factor_run}
 use Rattle.spec_factor.specs.Revised.{factor_stop}
-use Rattle.lp_frac.specs.Narrow.{largest}
 use Rattle.lp_revised.specs.Answer.{AnswersRevised}
 use Rattle.lp_revised.proofs.Renewed.{basis_long}
 use Rattle.lp_revised.proofs.state.Revised.new_factors.Goals as goal
@@ -15,7 +15,7 @@ factors_of-requires c =
 
 pub returns-clause-run : goal.returns-clause-run
 returns-clause-run c =
-    subst (λ b. AnswersRevised (factor_stop (factor_run (Some largest) c.args.form.now b)) c.factors_of.result)
+    subst (λ b. AnswersRevised (factor_stop (factor_run (Some number_limit) c.args.form.now b)) c.factors_of.result)
     c.in_ok-basis.ensures c.factors_of.ensures.run
 
 pub returns-clause-all : goal.returns-clause-all
