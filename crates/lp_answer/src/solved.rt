@@ -1,8 +1,9 @@
 // Solves of models within a budget.
 ghost use Rattle.std.specs.Prelude.{◌≡◌, None, IfOk, Ok, Some};
+ghost use Rattle.spec_exact.specs.Narrow.{number_limit};
 ghost use Rattle.spec_simplex.specs.Form.{form_of};
 ghost use Rattle.spec_simplex.specs.Eliminate.{IsBasisOf};
-ghost use Rattle.spec_solve.specs.Answers.{number_limit, IsSolved};
+ghost use Rattle.spec_solve.specs.Answers.{IsSolved};
 ghost use Rattle.spec_solve.specs.Wide.{IsWideSolved, IsWideFrom};
 ghost use Rattle.lp_solve.specs.Fit.{LeavesBasis};
 

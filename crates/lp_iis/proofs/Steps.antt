@@ -5,6 +5,7 @@ use Rattle.std.proofs.lemmas.List.{append_assoc, drop_more}
 use Rattle.std.specs.Prelude.{slice_get, IfOk}
 use Rattle.std.proofs.lemmas.Option.{get_or_from_slice_get}
 use Rattle.spec_exact.specs.Fraction.{ℚ}
+use Rattle.spec_exact.specs.Narrow.{number_limit}
 use Rattle.spec_check.specs.declared.certificate.Certificate.{Certificate}
 use Rattle.spec_check.specs.declared.certificate.Known.TheVariants as known
 use Rattle.spec_check.specs.Certificate.{IsFor}
@@ -24,7 +25,6 @@ use Rattle.spec_iis.proofs.Readings.{used_read}
 use Rattle.spec_iis.proofs.Listed.{listed_holds, all_listed, among_both}
 use Rattle.spec_iis.proofs.Filtered.{filtered_none, filtered_without, filtered_kept, filtered_points, filtered_all}
 use Rattle.spec_iis.proofs.Filtered.{clash_infeasible, present_without}
-use Rattle.lp_frac.specs.Narrow.{largest}
 use Rattle.lp_iis.specs.declared.finding.First.TheVariants.{Infeasible, Else}
 use Rattle.lp_iis.specs.Ways.{begin_by, IsBegun, GivesUpAt, IsOnWay, IsCertified, MayEnd}
 use Rattle.lp_iis.proofs.Tried.{shown_infeasible}
@@ -37,7 +37,7 @@ pub record IsAhead (m : Model) (all kept rest : List Side) (points : List (List 
   pub clashes : IsClash m (kept ++ rest) clash
 
 pub ahead_first : (m : Model) (all : List Side) → All (IsSide m) all → IsInfeasible (only m all) →
-    All (IsRead (Some largest) m) all → IsAhead m all [] all [] all
+    All (IsRead (Some number_limit) m) all → IsAhead m all [] all [] all
 ahead_first m all present h read = record {
   way = record { filtered = filtered_none m all present h; read = read; onward = λ s r. r };
   clashes = record { among = all_listed all; infeasible = h };
@@ -57,9 +57,10 @@ module _ (m : Model) (all kept : List Side) (x : Side) (rest : List Side) (point
   pub others_present : All (IsSide m) (kept ++ rest)
   others_present = present_without m kept x rest a.way.filtered.present
 
-  pub others_read : All (IsRead (Some largest) m) (kept ++ rest)
+  pub others_read : All (IsRead (Some number_limit) m) (kept ++ rest)
   others_read =
-      λ k d l. listed_holds (IsRead (Some largest) m) (kept ++ x ∷ rest) _ a.way.read (among_both kept x rest k d l)
+      λ k d l. listed_holds (IsRead (Some number_limit) m) (kept ++ x ∷ rest) _ a.way.read (among_both kept x rest k d
+      l)
 
   -- what is tried is reached
   pub others_reached : Reaches m [] all (kept ++ rest)
@@ -82,7 +83,7 @@ module _ (m : Model) (all kept : List Side) (x : Side) (rest : List Side) (point
   ahead_kept z h = record {
     way = record {
       filtered = filtered_kept m kept x rest points z a.way.filtered h;
-      read = subst (All (IsRead (Some largest) m)) (sym same) a.way.read;
+      read = subst (All (IsRead (Some number_limit) m)) (sym same) a.way.read;
       onward = λ s r. a.way.onward s (inr (inr ((z, h), r)));
     };
     clashes = subst (λ sides. IsClash m sides clash) (sym same) a.clashes;
@@ -130,7 +131,7 @@ module _ (budget : ℕ) (m : Model) (cert : Certificate (List ℚ)) (b : IsBegun
   pub begun_fits : IsFor m cert
   begun_fits = b.ends.may_answer.0
 
-  pub begun_accepted : check_run (Some largest) m cert ≡ Ok known.Infeasible
+  pub begun_accepted : check_run (Some number_limit) m cert ≡ Ok known.Infeasible
   begun_accepted = b.ends.may_answer.2
 
   begun_infeasible : IsInfeasible m
@@ -139,10 +140,10 @@ module _ (budget : ℕ) (m : Model) (cert : Certificate (List ℚ)) (b : IsBegun
       (record { fits = b.ends.may_answer.0; narrow = b.ends.may_answer.1; accepted = b.ends.may_answer.2 })
 
   pub begun_clash : Clashes m (used m cert)
-  begun_clash = used_clash (Some largest) m cert begun_fits begun_accepted
+  begun_clash = used_clash (Some number_limit) m cert begun_fits begun_accepted
 
-  pub begun_read : All (IsRead (Some largest) m) (used m cert)
-  begun_read = used_read (Some largest) m cert begun_accepted
+  pub begun_read : All (IsRead (Some number_limit) m) (used m cert)
+  begun_read = used_read (Some number_limit) m cert begun_accepted
 
   reached_at : (s : List Side) → Reaches m [] (used m cert) s → IsReached m budget s
   reached_at s r = record { certificate = cert; basis = b.basis; pivots = b.pivots; ends = b.ends; reached = r }

@@ -1,6 +1,7 @@
 -- What the end of a solve says of its model.
 use Rattle.std.proofs.Common.{◌≡◌, ℕ, List, None, Some, Ok, sym, ap, ◌∙◌, subst}
 use Rattle.spec_exact.specs.Fraction.{ℚ}
+use Rattle.spec_exact.specs.Narrow.{number_limit}
 use Rattle.spec_model.specs.Model.{Model}
 use Rattle.spec_model.specs.Truth.{IsInfeasible}
 use Rattle.spec_check.specs.declared.certificate.Certificate.{Certificate}
@@ -14,7 +15,7 @@ use Rattle.spec_check.proofs.Sound.{checks_hold}
 use Rattle.spec_check.specs.declared.solve_end.SolveEnd.TheVariants.{Ended, Past, Spent}
 use Rattle.spec_cold.specs.Cold.{ExactSolveEnd}
 use Rattle.spec_warm.specs.Solve.{SolveEnd}
-use Rattle.spec_solve.specs.Answers.{number_limit, IsSolved}
+use Rattle.spec_solve.specs.Answers.{IsSolved}
 use Rattle.spec_iis.specs.Found.{EndsCold, ShowsInfeasible}
 use Rattle.lp_iis.specs.Trials.{trial_by, trial_of, IsTried}
 

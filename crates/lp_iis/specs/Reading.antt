@@ -2,16 +2,16 @@
 use Rattle.std.specs.Prelude.{ℕ, ◌≡◌, Bool, List, [], ◌∷◌, Option, Some, None, Ok, get_or, if◌then◌else◌}
 use Rattle.std.specs.Option.{unwrap_or}
 use Rattle.spec_exact.specs.Fraction.{ℚ}
+use Rattle.spec_exact.specs.Narrow.{number_limit}
 use Rattle.spec_model.specs.Model.{ExactRow, limits_of}
 use Rattle.spec_iis.specs.declared.side.Side.{Side}
 use Rattle.spec_iis.specs.Sides.{end_of}
 use Rattle.spec_iis.specs.Only.{rank}
 use Rattle.spec_iis.specs.Rule.{end_run}
-use Rattle.lp_frac.specs.Narrow.{largest}
 
 -- a limit of a row is read without a refusal at 127 bits
 abbrev pub IsReadable : Bool → ExactRow → Type 0
-IsReadable upper r = end_run upper (Some largest) r ≡ Ok (end_of upper (limits_of r))
+IsReadable upper r = end_run upper (Some number_limit) r ≡ Ok (end_of upper (limits_of r))
 
 -- the number of a row among those that pass, if it does
 abbrev pub place_by : (ℕ → Bool) → ℕ → Option ℕ

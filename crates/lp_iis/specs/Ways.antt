@@ -1,6 +1,7 @@
 -- What holds on the way of a search.
 use Rattle.std.specs.Prelude.{ℕ, ◌≡◌, List, [], ◌++◌, All, Option, Some}
 use Rattle.spec_exact.specs.Fraction.{ℚ}
+use Rattle.spec_exact.specs.Narrow.{number_limit}
 use Rattle.spec_model.specs.Model.{Model}
 use Rattle.spec_model.specs.Truth.{IsFeasible}
 use Rattle.spec_check.specs.declared.certificate.Certificate.{Certificate}
@@ -15,7 +16,6 @@ use Rattle.spec_iis.specs.Only.{only}
 use Rattle.spec_iis.specs.Irreducible.{IsIrreducible, ArePointsWithout}
 use Rattle.spec_iis.specs.Rule.{IsRead, IsClash, IsFiltered, Reaches}
 use Rattle.spec_iis.specs.Found.{ExactIis, EndsCold, ShowsInfeasible}
-use Rattle.lp_frac.specs.Narrow.{largest}
 use Rattle.lp_iis.specs.declared.look.Look.{Look}
 use Rattle.lp_iis.specs.declared.look.Look.TheVariants.{Clash, Point, Stopped as LookStopped}
 use Rattle.lp_iis.specs.declared.finding.First.{First}
@@ -52,7 +52,7 @@ pub record IsBegun (budget : ℕ) (m : Model) (cert : Certificate (List ℚ)) : 
 -- in front of the sides that are still to be looked at
 pub record IsOnWay (m : Model) (all kept rest : List Side) (points : List (List ℚ)) : Type 0 where
   pub filtered : IsFiltered m kept rest points
-  pub read : All (IsRead (Some largest) m) (kept ++ rest)
+  pub read : All (IsRead (Some number_limit) m) (kept ++ rest)
   pub onward : (s : List Side) → Reaches m kept rest s → Reaches m [] all s
 
 -- a solve of a set gives up so, and the set is reached

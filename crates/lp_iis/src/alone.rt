@@ -1,9 +1,9 @@
 // The model with some of its sides alone.
 ghost use Rattle.std.specs.Prelude.{◌≡◌, All, IfOk, Some};
+ghost use Rattle.spec_exact.specs.Narrow.{number_limit};
 ghost use Rattle.spec_model.specs.Kept.{IsModel};
 ghost use Rattle.spec_iis.specs.Only.{only};
 ghost use Rattle.spec_iis.specs.Rule.{IsRead};
-ghost use Rattle.lp_frac.specs.Narrow.{largest};
 
 use crate::columns::columns;
 use crate::places::places;
@@ -17,7 +17,7 @@ use std::alloc::{AllocError, Global};
 #[tactic(auto, unfolding(spec_iis::specs::Only::only))]
 pub fn only(alloc: Global, model: &Model, sides: &[Side]) -> Result<Model, AllocError>
     requires kept { IsModel model.now }
-    requires read { All (IsRead (Some largest) model.now) sides.now }
+    requires read { All (IsRead (Some number_limit) model.now) sides.now }
     ensures { IfOk result (λ alone. alone ≡ only model.now sides.now) }
 {
     let places = places(alloc, model, sides)?;

@@ -1,5 +1,6 @@
 // The sides that a certificate uses.
 ghost use Rattle.std.specs.Prelude.{◌≡◌, ◌<◌, ◌++◌, IfOk, OnOk, Ok, Some, length, true, false};
+ghost use Rattle.spec_exact.specs.Narrow.{number_limit};
 ghost use Rattle.spec_model.specs.Model.{width, height, part as part_of};
 ghost use Rattle.spec_check.specs.declared.certificate.Known.TheVariants as known;
 ghost use Rattle.spec_check.specs.Certificate.{IsFor};
@@ -7,7 +8,6 @@ ghost use Rattle.spec_check.specs.Checks as checks;
 ghost use Rattle.spec_check.specs.Run as run;
 ghost use Rattle.spec_check.specs.declared.certificate.Certificate.TheVariants as certificates;
 ghost use Rattle.spec_iis.specs.Rule as rule;
-ghost use Rattle.lp_frac.specs.Narrow.{largest};
 
 use crate::lists::Sides;
 use lp_check::{Certificate, part};
@@ -20,7 +20,7 @@ type CheckStop = spec_check::CheckStop<Frac>;
 
 // `v * w` onto `s`.
 fn plus_product(v: Frac, w: Frac, s: Frac) -> Result<Frac, CheckStop>
-    ensures { result ≡ run.plus_product (Some largest) v w s }
+    ensures { result ≡ run.plus_product (Some number_limit) v w s }
 {
     let sum = lp_frac::plus_product(v, w, s)?;
     Ok(sum)
@@ -30,7 +30,7 @@ fn plus_product(v: Frac, w: Frac, s: Frac) -> Result<Frac, CheckStop>
 fn priced(model: &Model, y: &Fracs, j: u32) -> Result<Frac, CheckStop>
     requires inside { j < width model.now }
     requires multipliers { length y.now ≡ height model.now }
-    ensures { result ≡ run.priced_run (Some largest) model.now y.now j }
+    ensures { result ≡ run.priced_run (Some number_limit) model.now y.now j }
 {
     let mut sum = zero();
     for i in 0..model.rows() {
@@ -103,7 +103,7 @@ fn push_rows(model: &Model, y: &Fracs, to: &mut Sides) -> Result<(), AllocError>
 fn push_column(model: &Model, y: &Fracs, j: u32, to: &mut Sides) -> Result<(), AllocError>
     requires inside { j < width model.now }
     requires multipliers { length y.now ≡ height model.now }
-    requires read { run.priced_run (Some largest) model.now y.now j ≡ Ok (checks.priced model.now y.now j) }
+    requires read { run.priced_run (Some number_limit) model.now y.now j ≡ Ok (checks.priced model.now y.now j) }
     ensures { OnOk result (to.new ≡ to.old ++ rule.column_sides j (checks.priced model.now y.now j)) }
 {
     match priced(model, y, j) {
@@ -115,7 +115,8 @@ fn push_column(model: &Model, y: &Fracs, j: u32, to: &mut Sides) -> Result<(), A
 // Adds those of all columns.
 fn push_columns(model: &Model, y: &Fracs, to: &mut Sides) -> Result<(), AllocError>
     requires multipliers { length y.now ≡ height model.now }
-    requires accepted { run.check_run (Some largest) model.now (certificates.Infeasible y.now) ≡ Ok known.Infeasible }
+    requires accepted { run.check_run (Some number_limit) model.now (certificates.Infeasible y.now) ≡ Ok
+        known.Infeasible }
     ensures { OnOk result
         (to.new ≡ to.old ++ rule.gathered (λ j. rule.column_sides j (checks.priced model.now y.now j)) (width model.now)) }
 {
@@ -129,7 +130,7 @@ fn push_columns(model: &Model, y: &Fracs, to: &mut Sides) -> Result<(), AllocErr
 #[tactic(auto, unfolding(spec_iis::specs::Rule::used))]
 pub(crate) fn used(alloc: Global, model: &Model, cert: &Certificate) -> Result<Sides, AllocError>
     requires fits { IsFor model.now cert.now }
-    requires accepted { run.check_run (Some largest) model.now cert.now ≡ Ok known.Infeasible }
+    requires accepted { run.check_run (Some number_limit) model.now cert.now ≡ Ok known.Infeasible }
     ensures { IfOk result (λ sides. sides ≡ rule.used model.now cert.now) }
 {
     let mut sides = Sides::new(alloc);

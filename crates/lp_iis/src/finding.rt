@@ -1,12 +1,12 @@
 // The search: the sides that a certificate uses, one by one.
 ghost use Rattle.std.specs.Prelude.{◌≡◌, ◌<◌, ◌+◌, ◌++◌, ◌∷◌, [], All, IfOk, OnOk, Some, length, drop as drop_front};
+ghost use Rattle.spec_exact.specs.Narrow.{number_limit};
 ghost use Rattle.spec_model.specs.Truth.{IsInfeasible};
 ghost use Rattle.spec_model.specs.Kept.{IsModel};
 ghost use Rattle.spec_iis.specs.Sides.{IsSide};
 ghost use Rattle.spec_iis.specs.Only.{only};
 ghost use Rattle.spec_iis.specs.Rule.{IsRead, IsFiltered};
 ghost use Rattle.spec_iis.specs.Found.{MayFind};
-ghost use Rattle.lp_frac.specs.Narrow.{largest};
 ghost use Rattle.lp_iis.specs.Trials.{IsTried};
 ghost use Rattle.lp_iis.specs.Ways.{begin_by, IsBegun, IsLeft, MayEnd};
 
@@ -63,7 +63,7 @@ fn filter(alloc: Global, model: &Model, budget: u64, sides: &Sides) -> Result<Le
     requires model { IsModel model.now }
     requires present { All (IsSide model.now) sides.now }
     requires infeasible { IsInfeasible (only model.now sides.now) }
-    requires read { All (IsRead (Some largest) model.now) sides.now }
+    requires read { All (IsRead (Some number_limit) model.now) sides.now }
     ensures { IfOk result (IsLeft budget model.now sides.now) }
 {
     let mut kept = Sides::new(alloc);
@@ -83,7 +83,7 @@ fn filter(alloc: Global, model: &Model, budget: u64, sides: &Sides) -> Result<Le
 // What a solve says of these sides alone.
 fn try_alone(alloc: Global, model: &Model, budget: u64, sides: &[Side]) -> Result<Trial, AllocError>
     requires model { IsModel model.now }
-    requires read { All (IsRead (Some largest) model.now) sides.now }
+    requires read { All (IsRead (Some number_limit) model.now) sides.now }
     ensures { IfOk result (IsTried budget (only model.now sides.now)) }
 {
     let alone = only(alloc, model, sides)?;
@@ -101,7 +101,7 @@ fn certified(
     points: Points,
 ) -> Result<Iis, AllocError>
     requires model { IsModel model.now }
-    requires read { All (IsRead (Some largest) model.now) sides }
+    requires read { All (IsRead (Some number_limit) model.now) sides }
     requires filtered { IsFiltered model.now sides [] points }
     ensures { IfOk result (MayEnd budget model.now sides) }
 {

@@ -1,15 +1,15 @@
 // The limits of a row, where none is refused.
 ghost use Rattle.std.specs.Prelude.{◌≡◌, is_some, Some, Ok};
+ghost use Rattle.spec_exact.specs.Narrow.{number_limit};
 ghost use Rattle.spec_model.specs.Model.{limits_of};
 ghost use Rattle.spec_check.specs.Run.{lower_run, upper_run};
-ghost use Rattle.lp_frac.specs.Narrow.{largest};
 
 use lp_frac::Frac;
 use lp_model::{Row, RowLimit, lower_of, upper_of};
 
 /// The least that the row's sum may be, if there is one.
 pub(crate) fn lower_limit(row: &Row) -> Option<Frac>
-    requires { lower_run (Some largest) row.now ≡ Ok (limits_of row.now).lower }
+    requires { lower_run (Some number_limit) row.now ≡ Ok (limits_of row.now).lower }
     ensures { result ≡ (limits_of row.now).lower }
 {
     match lp_model::lower_limit(row) {
@@ -20,7 +20,7 @@ pub(crate) fn lower_limit(row: &Row) -> Option<Frac>
 
 /// The most that the row's sum may be, if there is one.
 pub(crate) fn upper_limit(row: &Row) -> Option<Frac>
-    requires { upper_run (Some largest) row.now ≡ Ok (limits_of row.now).upper }
+    requires { upper_run (Some number_limit) row.now ≡ Ok (limits_of row.now).upper }
     ensures { result ≡ (limits_of row.now).upper }
 {
     match lp_model::upper_limit(row) {

@@ -1,10 +1,10 @@
 // A look at some sides alone: whether a point meets them all.
 ghost use Rattle.std.specs.Prelude.{◌≡◌, ◌++◌, ◌∷◌, All, IfOk, Some};
+ghost use Rattle.spec_exact.specs.Narrow.{number_limit};
 ghost use Rattle.spec_model.specs.Kept.{IsModel};
 ghost use Rattle.spec_iis.specs.Sides.{IsSide};
 ghost use Rattle.spec_iis.specs.Only.{only};
 ghost use Rattle.spec_iis.specs.Rule.{IsRead, IsClash};
-ghost use Rattle.lp_frac.specs.Narrow.{largest};
 ghost use Rattle.lp_iis.specs.Ways.{IsSeen};
 ghost use Rattle.lp_iis.specs.declared.look.Look.TheVariants as looks;
 
@@ -57,7 +57,7 @@ fn look_into(
 fn look_at(alloc: Global, model: &Model, budget: u64, sides: &Sides) -> Result<Look, AllocError>
     requires model { IsModel model.now }
     requires present { All (IsSide model.now) sides.now }
-    requires read { All (IsRead (Some largest) model.now) sides.now }
+    requires read { All (IsRead (Some number_limit) model.now) sides.now }
     ensures { IfOk result (IsSeen budget model.now sides.now) }
 {
     let alone = only(alloc, model, sides.as_slice())?;
@@ -85,7 +85,7 @@ fn look_at_both(
 ) -> Result<Look, AllocError>
     requires model { IsModel model.now }
     requires present { All (IsSide model.now) (kept.now ++ others.now) }
-    requires read { All (IsRead (Some largest) model.now) (kept.now ++ others.now) }
+    requires read { All (IsRead (Some number_limit) model.now) (kept.now ++ others.now) }
     ensures { IfOk result (IsSeen budget model.now (kept.now ++ others.now)) }
 {
     let sides = joined(alloc, kept, others)?;
@@ -114,7 +114,7 @@ pub(crate) fn look_without(
 ) -> Result<Look, AllocError>
     requires model { IsModel model.now }
     requires present { All (IsSide model.now) (kept.now ++ behind.now) }
-    requires read { All (IsRead (Some largest) model.now) (kept.now ++ behind.now) }
+    requires read { All (IsRead (Some number_limit) model.now) (kept.now ++ behind.now) }
     requires clash { IsClash model.now (kept.now ++ side ∷ behind.now) clash.now }
     ensures { IfOk result (IsSeen budget model.now (kept.now ++ behind.now)) }
 {

@@ -1,11 +1,10 @@
 // The rows of a model with some of its sides alone.
 ghost use Rattle.std.specs.Prelude.{◌≡◌, ◌<◌, true, false, All, IfOk, IfSome, Some};
-ghost use Rattle.spec_exact.specs.Narrow.{IsNarrow};
+ghost use Rattle.spec_exact.specs.Narrow.{IsNarrow, number_limit};
 ghost use Rattle.spec_model.specs.Model.{height};
 ghost use Rattle.spec_model.specs.Kept.{IsNarrowRow};
 ghost use Rattle.spec_iis.specs.Only as only;
 ghost use Rattle.spec_iis.specs.Rule.{IsRead};
-ghost use Rattle.lp_frac.specs.Narrow.{largest};
 ghost use Rattle.lp_iis.specs.Reading.{IsReadable};
 
 use crate::limits::{is_limited_above, is_limited_below, lower_limit, upper_limit};
@@ -112,7 +111,7 @@ fn row_with(alloc: Global, row: &Row, lower: bool, upper: bool) -> Result<Row, A
 // Row `i` with its sides that are listed.
 fn row_at(alloc: Global, model: &Model, sides: &[Side], i: u32) -> Result<Row, AllocError>
     requires inside { i < height model.now }
-    requires read { All (IsRead (Some largest) model.now) sides.now }
+    requires read { All (IsRead (Some number_limit) model.now) sides.now }
     ensures value { IfOk result (λ r. r ≡ only.only_row_at model.now sides.now i) }
     ensures narrow { IfOk result IsNarrowRow }
 {
@@ -123,7 +122,7 @@ fn row_at(alloc: Global, model: &Model, sides: &[Side], i: u32) -> Result<Row, A
 
 /// The rows that stay, each with its sides that are listed.
 pub(crate) fn rows(alloc: Global, model: &Model, sides: &[Side]) -> Result<Vec<Row>, AllocError>
-    requires { All (IsRead (Some largest) model.now) sides.now }
+    requires { All (IsRead (Some number_limit) model.now) sides.now }
     ensures value { IfOk result
         (λ rows. rows.items ≡ only.picked (only.stays sides.now) (only.only_row_at model.now sides.now) (height model.now)) }
     ensures narrow { IfOk result (λ rows. All IsNarrowRow rows.items) }

@@ -1,10 +1,10 @@
 // The certificate of a basis: a guess, and what is checked of it.
 ghost use Rattle.std.specs.Prelude.{◌≡◌, Ok, Some, IfOk, IfSome};
+ghost use Rattle.spec_exact.specs.Narrow.{number_limit};
 ghost use Rattle.spec_check.specs.Certificate.{IsFor};
 ghost use Rattle.spec_simplex.specs.Eliminate.{IsBasisOf};
 ghost use Rattle.spec_simplex.specs.Form.{form_of};
 ghost use Rattle.spec_solve.specs.OfBasis.{IsOfBasis};
-ghost use Rattle.lp_frac.specs.Narrow.{largest};
 
 use crate::guess::guess;
 use crate::stands::stands;
@@ -25,7 +25,7 @@ pub fn certificate_of_basis(
     form: &Form,
     basis: &[Status],
 ) -> Result<Option<Certificate>, AllocError>
-    requires formed { form_of (Some largest) model.now ≡ Ok form.now }
+    requires formed { form_of (Some number_limit) model.now ≡ Ok form.now }
     requires fits { IsBasisOf form.now basis.now }
     ensures { IfOk result (λ o. IfSome o (λ c. IsFor model.now c × IsOfBasis model.now basis.now c)) }
 {

@@ -1,9 +1,9 @@
 // The ends of a right side: where basic values come to their bounds.
 ghost use Rattle.std.specs.Prelude.{◌≡◌, ◌≢◌, ◌<◌, Some};
 ghost use Rattle.spec_exact.specs.Fraction.{0ℚ};
+ghost use Rattle.spec_exact.specs.Narrow.{number_limit};
 ghost use Rattle.spec_simplex.specs.Tableau.{all_columns};
 ghost use Rattle.spec_range.specs.Rule as rule;
-ghost use Rattle.lp_frac.specs.Narrow.{largest};
 ghost use Rattle.lp_range.specs.Answer.{IsSeated};
 
 use crate::columns::{is_there, is_zero, place};
@@ -14,7 +14,7 @@ use lp_tableau::Tableau;
 
 // The right side with which the bound, as it moves along, comes to `value`.
 fn shifted(rhs: Frac, value: Frac, bound: Option<Frac>) -> Result<Option<Frac>, Past>
-    ensures { result ≡ rule.shifted_run (Some largest) rhs value bound }
+    ensures { result ≡ rule.shifted_run (Some number_limit) rhs value bound }
 {
     let Some(bound) = bound else {
         return Ok(None);
@@ -26,7 +26,7 @@ fn shifted(rhs: Frac, value: Frac, bound: Option<Frac>) -> Result<Option<Frac>, 
 
 // The ends for the right side of a row whose logical is basic, at `value`.
 fn still(rhs: Frac, value: Frac, lower: Option<Frac>, upper: Option<Frac>) -> Result<Ends, Past>
-    ensures { result ≡ rule.still_ends (Some largest) rhs value lower upper }
+    ensures { result ≡ rule.still_ends (Some number_limit) rhs value lower upper }
 {
     let high = shifted(rhs, value, lower)?;
     let low = shifted(rhs, value, upper)?;
@@ -43,7 +43,7 @@ fn bounded(
     ends: Ends,
 ) -> Result<Ends, Past>
     requires { entry ≢ 0ℚ }
-    ensures { result ≡ rule.bound_ends (Some largest) rhs value entry bound upper ends }
+    ensures { result ≡ rule.bound_ends (Some number_limit) rhs value entry bound upper ends }
 {
     let Some(bound) = bound else {
         return Ok(ends);
@@ -64,7 +64,7 @@ fn carried(
     ends: Ends,
 ) -> Result<Ends, Past>
     requires { entry ≢ 0ℚ }
-    ensures { result ≡ rule.carried_ends (Some largest) rhs value entry lower upper ends }
+    ensures { result ≡ rule.carried_ends (Some number_limit) rhs value entry lower upper ends }
 {
     let falls = is_positive(entry);
     let ends = bounded(rhs, value, entry, lower, falls, ends)?;
@@ -76,7 +76,7 @@ fn carried_if(tab: &Tableau, rhs: Frac, s: u32, k: u32, ends: Ends) -> Result<En
     requires logical { s < all_columns tab.now }
     requires column { k < all_columns tab.now }
     requires seated { IsSeated tab.now }
-    ensures { result ≡ rule.carried_if (Some largest) rhs tab.now s k ends }
+    ensures { result ≡ rule.carried_if (Some number_limit) rhs tab.now s k ends }
 {
     if !is_basic(tab.status(k)) {
         return Ok(ends);
@@ -92,7 +92,7 @@ fn carried_if(tab: &Tableau, rhs: Frac, s: u32, k: u32, ends: Ends) -> Result<En
 fn nonbasic(tab: &Tableau, rhs: Frac, s: u32) -> Result<Ends, Past>
     requires logical { s < all_columns tab.now }
     requires seated { IsSeated tab.now }
-    ensures { result ≡ rule.nonbasic_ends (Some largest) rhs tab.now s }
+    ensures { result ≡ rule.nonbasic_ends (Some number_limit) rhs tab.now s }
 {
     let mut ends = no_ends();
     for k in 0..tab.width() {
@@ -105,7 +105,7 @@ fn nonbasic(tab: &Tableau, rhs: Frac, s: u32) -> Result<Ends, Past>
 pub(crate) fn side_ends(tab: &Tableau, rhs: Frac, s: u32) -> Result<Ends, Past>
     requires logical { s < all_columns tab.now }
     requires seated { IsSeated tab.now }
-    ensures { result ≡ rule.side_ends (Some largest) rhs tab.now s }
+    ensures { result ≡ rule.side_ends (Some number_limit) rhs tab.now s }
 {
     let (lower, upper) = (tab.lower(s), tab.upper(s));
     if is_basic(tab.status(s)) {

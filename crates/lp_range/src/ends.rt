@@ -1,7 +1,7 @@
 // The ends so far, of which the tightest are kept.
 ghost use Rattle.std.specs.Prelude.{◌≡◌, Some};
+ghost use Rattle.spec_exact.specs.Narrow.{number_limit};
 ghost use Rattle.spec_range.specs.Rule as rule;
-ghost use Rattle.lp_frac.specs.Narrow.{largest};
 
 use lp_frac::{Frac, Past, cmp};
 use std::cmp::Ordering;
@@ -23,7 +23,7 @@ pub(crate) fn no_ends() -> Ends
 }
 
 fn greater(new: Frac, kept: Option<Frac>) -> Result<Frac, Past>
-    ensures { result ≡ rule.greater_run (Some largest) new kept }
+    ensures { result ≡ rule.greater_run (Some number_limit) new kept }
 {
     let Some(kept) = kept else {
         return Ok(new);
@@ -35,7 +35,7 @@ fn greater(new: Frac, kept: Option<Frac>) -> Result<Frac, Past>
 }
 
 fn lesser(new: Frac, kept: Option<Frac>) -> Result<Frac, Past>
-    ensures { result ≡ rule.lesser_run (Some largest) new kept }
+    ensures { result ≡ rule.lesser_run (Some number_limit) new kept }
 {
     let Some(kept) = kept else {
         return Ok(new);
@@ -48,7 +48,7 @@ fn lesser(new: Frac, kept: Option<Frac>) -> Result<Frac, Past>
 
 // With `v` as a lower end too.
 pub(crate) fn at_least(v: Frac, ends: Ends) -> Result<Ends, Past>
-    ensures { result ≡ rule.at_least (Some largest) v ends }
+    ensures { result ≡ rule.at_least (Some number_limit) v ends }
 {
     let low = greater(v, ends.low)?;
     Ok(Ends {
@@ -59,7 +59,7 @@ pub(crate) fn at_least(v: Frac, ends: Ends) -> Result<Ends, Past>
 
 // With `v` as an upper end too.
 pub(crate) fn at_most(v: Frac, ends: Ends) -> Result<Ends, Past>
-    ensures { result ≡ rule.at_most (Some largest) v ends }
+    ensures { result ≡ rule.at_most (Some number_limit) v ends }
 {
     let high = lesser(v, ends.high)?;
     Ok(Ends {
@@ -69,7 +69,7 @@ pub(crate) fn at_most(v: Frac, ends: Ends) -> Result<Ends, Past>
 }
 
 pub(crate) fn at_side(upper: bool, v: Frac, ends: Ends) -> Result<Ends, Past>
-    ensures { result ≡ rule.at_side (Some largest) upper v ends }
+    ensures { result ≡ rule.at_side (Some number_limit) upper v ends }
 {
     if upper {
         at_most(v, ends)

@@ -1,9 +1,9 @@
 // The ends of a cost: where reduced costs change their sign.
 ghost use Rattle.std.specs.Prelude.{◌≡◌, ◌≢◌, ◌<◌, Some};
 ghost use Rattle.spec_exact.specs.Fraction.{0ℚ};
+ghost use Rattle.spec_exact.specs.Narrow.{number_limit};
 ghost use Rattle.spec_simplex.specs.Tableau.{all_columns, entry_at};
 ghost use Rattle.spec_range.specs.Rule as rule;
-ghost use Rattle.lp_frac.specs.Narrow.{largest};
 ghost use Rattle.lp_range.specs.Answer.{IsSeated};
 
 use crate::columns::{is_zero, least_cost, place};
@@ -16,7 +16,7 @@ use lp_tableau::Tableau;
 
 // The ends that a column of this status asks for, whose reduced cost is 0 where the cost is `v`.
 fn ends_by(status: Status, falls: bool, v: Frac, ends: Ends) -> Result<Ends, Past>
-    ensures { result ≡ rule.ends_by (Some largest) status falls v ends }
+    ensures { result ≡ rule.ends_by (Some number_limit) status falls v ends }
 {
     match status {
         Status::Basic => Ok(ends),
@@ -38,7 +38,7 @@ fn falls(sense: Sense, entry: Frac) -> bool
 
 // Where the cost of a column that is not basic makes its own reduced cost 0.
 fn own_number(sense: Sense, cost: Frac, status: Status, reduced: Frac) -> Result<Frac, Past>
-    ensures { result ≡ rule.own_number (Some largest) sense cost status reduced }
+    ensures { result ≡ rule.own_number (Some number_limit) sense cost status reduced }
 {
     match status {
         Status::Basic | Status::AtZero => Ok(cost),
@@ -49,7 +49,7 @@ fn own_number(sense: Sense, cost: Frac, status: Status, reduced: Frac) -> Result
 // The ends for the cost of a column that is not basic.
 fn own(tab: &Tableau, sense: Sense, cost: Frac, col: u32) -> Result<Ends, Past>
     requires { col < all_columns tab.now }
-    ensures { result ≡ rule.own_ends (Some largest) sense cost tab.now col }
+    ensures { result ≡ rule.own_ends (Some number_limit) sense cost tab.now col }
 {
     if is_fixed(tab.lower(col), tab.upper(col)) {
         return Ok(no_ends());
@@ -73,7 +73,7 @@ fn moved(tab: &Tableau, sense: Sense, cost: Frac, p: u32, k: u32, ends: Ends) ->
     requires place { p < tab.now.rows }
     requires column { k < all_columns tab.now }
     requires entry { entry_at tab.now p k ≢ 0ℚ }
-    ensures { result ≡ rule.moved_ends (Some largest) sense cost tab.now p k ends }
+    ensures { result ≡ rule.moved_ends (Some number_limit) sense cost tab.now p k ends }
 {
     let entry = tab.entry(p, k);
     let q = div(least_cost(sense, tab.reduced(k)), entry)?;
@@ -92,7 +92,7 @@ fn moved_if(
 ) -> Result<Ends, Past>
     requires place { p < tab.now.rows }
     requires column { k < all_columns tab.now }
-    ensures { result ≡ rule.moved_if (Some largest) sense cost tab.now p k ends }
+    ensures { result ≡ rule.moved_if (Some number_limit) sense cost tab.now p k ends }
 {
     if is_moved(tab, p, k) {
         moved(tab, sense, cost, p, k, ends)
@@ -104,7 +104,7 @@ fn moved_if(
 // The ends for the cost of the basic column at position `p`.
 fn basic(tab: &Tableau, sense: Sense, cost: Frac, p: u32) -> Result<Ends, Past>
     requires { p < tab.now.rows }
-    ensures { result ≡ rule.basic_ends (Some largest) sense cost tab.now p }
+    ensures { result ≡ rule.basic_ends (Some number_limit) sense cost tab.now p }
 {
     let mut ends = no_ends();
     for k in 0..tab.width() {
@@ -117,7 +117,7 @@ fn basic(tab: &Tableau, sense: Sense, cost: Frac, p: u32) -> Result<Ends, Past>
 pub(crate) fn cost_ends(tab: &Tableau, sense: Sense, cost: Frac, col: u32) -> Result<Ends, Past>
     requires column { col < all_columns tab.now }
     requires seated { IsSeated tab.now }
-    ensures { result ≡ rule.cost_ends (Some largest) sense cost tab.now col }
+    ensures { result ≡ rule.cost_ends (Some number_limit) sense cost tab.now col }
 {
     if is_basic(tab.status(col)) {
         basic(tab, sense, cost, place(tab, col))

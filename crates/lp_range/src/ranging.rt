@@ -1,6 +1,7 @@
 // The range of a cost, and of a right side.
 ghost use Rattle.std.specs.Prelude.{◌≡◌, ◌<◌, ℕ, IfOk, IfErr, Ok, Some};
 ghost use Rattle.spec_exact.specs.Fraction.{ℚ};
+ghost use Rattle.spec_exact.specs.Narrow.{number_limit};
 ghost use Rattle.spec_model.specs.Model.{width, height, row, cost as cost_of};
 ghost use Rattle.spec_model.specs.Truth.{IsOptimal};
 ghost use Rattle.spec_edit.specs.Changes.{with_cost, with_rhs};
@@ -8,7 +9,6 @@ ghost use Rattle.spec_simplex.specs.Form.{form_of};
 ghost use Rattle.spec_simplex.specs.Eliminate as elimination;
 ghost use Rattle.spec_range.specs.Rule as rule;
 ghost use Rattle.spec_range.specs.Span.{Keeps, IsRange};
-ghost use Rattle.lp_frac.specs.Narrow.{largest};
 ghost use Rattle.lp_range.specs.Answer.{Answers, IsSeated, IsRefused};
 
 use crate::carried::side_ends;
@@ -26,7 +26,7 @@ fn cost_at(tab: &Tableau, model: &Model, col: u32) -> Result<Range, Past>
     requires column { col < width model.now }
     requires wide { tab.now.cols ≡ width model.now }
     requires seated { IsSeated tab.now }
-    ensures { result ≡ rule.cost_run (Some largest) model.now tab.now col }
+    ensures { result ≡ rule.cost_run (Some number_limit) model.now tab.now col }
 {
     let ends = cost_ends(tab, model.sense(), model.col(col).cost, col)?;
     Ok(Range {
@@ -40,7 +40,7 @@ fn side_at(tab: &Tableau, model: &Model, row: u32) -> Result<Range, Past>
     requires row { row < height model.now }
     requires high { tab.now.rows ≡ height model.now }
     requires seated { IsSeated tab.now }
-    ensures { result ≡ rule.side_run (Some largest) model.now tab.now row }
+    ensures { result ≡ rule.side_run (Some number_limit) model.now tab.now row }
 {
     let logical = logical(tab, row);
     let ends = side_ends(tab, model.row(row).rhs, logical)?;
@@ -70,12 +70,12 @@ pub fn cost(
     col: u32,
 ) -> Result<Range, BasisStop>
     requires column { col < width model.now }
-    requires formed { form_of (Some largest) model.now ≡ Ok form.now }
+    requires formed { form_of (Some number_limit) model.now ≡ Ok form.now }
     requires keeps { Keeps model.now basis.now }
-    ensures ok { IfOk result (λ r. rule.cost_range (Some largest) model.now form.now basis.now col ≡ Ok r) }
+    ensures ok { IfOk result (λ r. rule.cost_range (Some number_limit) model.now form.now basis.now col ≡ Ok r) }
     ensures range { IfOk result (λ r. (v : ℚ) → IsOptimal model.now v →
         IsRange (with_cost model.now col) basis.now (cost_of model.now col) v r) }
-    ensures err { IfErr result (IsRefused (rule.cost_range (Some largest) model.now form.now basis.now col)) }
+    ensures err { IfErr result (IsRefused (rule.cost_range (Some number_limit) model.now form.now basis.now col)) }
 {
     match start_from(alloc, form, basis) {
         Ok(tab) => {
@@ -98,12 +98,12 @@ pub fn side(
     at: u32,
 ) -> Result<Range, BasisStop>
     requires row { at < height model.now }
-    requires formed { form_of (Some largest) model.now ≡ Ok form.now }
+    requires formed { form_of (Some number_limit) model.now ≡ Ok form.now }
     requires keeps { Keeps model.now basis.now }
-    ensures ok { IfOk result (λ r. rule.side_range (Some largest) model.now form.now basis.now at ≡ Ok r) }
+    ensures ok { IfOk result (λ r. rule.side_range (Some number_limit) model.now form.now basis.now at ≡ Ok r) }
     ensures range { IfOk result (λ r. (v : ℚ) → IsOptimal model.now v →
         IsRange (with_rhs model.now at) basis.now (row model.now at).rhs v r) }
-    ensures err { IfErr result (IsRefused (rule.side_range (Some largest) model.now form.now basis.now at)) }
+    ensures err { IfErr result (IsRefused (rule.side_range (Some number_limit) model.now form.now basis.now at)) }
 {
     match start_from(alloc, form, basis) {
         Ok(tab) => {

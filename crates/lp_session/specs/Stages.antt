@@ -1,10 +1,11 @@
 -- A session between the parts of a step, as the code keeps it.
 use Rattle.std.specs.Prelude.{ℕ, ◌≡◌, Option, Some, None, Ok, IfSome}
+use Rattle.spec_exact.specs.Narrow.{number_limit}
 use Rattle.spec_model.specs.Model.{Model}
 use Rattle.spec_simplex.specs.Form.{Form, form_of}
 use Rattle.spec_cold.specs.Cold.{ExactSolveEnd}
 use Rattle.spec_warm.specs.Solve.{SolveEnd}
-use Rattle.spec_solve.specs.Answers.{number_limit, MayAnswer, IsSolved}
+use Rattle.spec_solve.specs.Answers.{MayAnswer, IsSolved}
 use Rattle.spec_shape.specs.Words.{IsWellFormed, shape_of}
 use Rattle.spec_reads.specs.Reads.{Looked, front}
 use Rattle.spec_server.specs.declared.asks.Reply.TheVariants as reply

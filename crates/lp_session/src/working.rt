@@ -1,7 +1,8 @@
 // A solve with what was found.
 ghost use Rattle.std.specs.Prelude.{◌≡◌, IfOk, IfSome, Ok, Some};
+ghost use Rattle.spec_exact.specs.Narrow.{number_limit};
 ghost use Rattle.spec_simplex.specs.Form.{form_of};
-ghost use Rattle.spec_solve.specs.Answers.{number_limit, IsSolved};
+ghost use Rattle.spec_solve.specs.Answers.{IsSolved};
 ghost use Rattle.spec_shape.specs.Words.{IsWellFormed};
 ghost use Rattle.spec_server.specs.Step as step;
 ghost use Rattle.lp_solve.specs.Fit.{LeavesBasis};

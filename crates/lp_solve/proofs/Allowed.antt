@@ -2,6 +2,7 @@
 use Rattle.std.proofs.Common.{◌≡◌, ℕ, List, Option, Some, None, IfSome, Result, Ok, Err, IfOk, option_map}
 use Rattle.std.proofs.Common.{refl, sym, subst, ◌∙◌}
 use Rattle.spec_exact.specs.Fraction.{ℚ}
+use Rattle.spec_exact.specs.Narrow.{number_limit}
 use Rattle.spec_model.specs.Model.{Model}
 use Rattle.spec_check.specs.declared.certificate.Certificate.{Certificate}
 use Rattle.spec_check.specs.declared.certificate.Known.{Known}
@@ -20,7 +21,6 @@ use Rattle.spec_solve.specs.Order.{MayEndCold, MayEnd}
 use Rattle.spec_solve.specs.Answers.{IsSolved}
 use Rattle.spec_solve.proofs.Solves.{HasFitEnd, cold_solved, is_solved}
 use Rattle.spec_solve.proofs.Left.{solved_left}
-use Rattle.lp_frac.specs.Narrow.{largest}
 use Rattle.lp_solve.specs.Fit.{IsFit, IsWarmFit, LeavesBasis}
 use Rattle.lp_solve.specs.Stopped.{IsAfterStop}
 use Rattle.lp_solve.proofs.WarmRuns.{ends_warm, falls}
@@ -29,50 +29,52 @@ fit_end : (m : Model) (end : ExactSolveEnd) → IsFit m end → HasFitEnd m end
 fit_end m end fit = λ known c basis pivots is. subst (IsFit m) is fit
 
 -- ---- from a basis of the form
-module _ (budget : ℕ) (m : Model) (f : Form) (basis : List Status) (formed : form_of (Some largest) m ≡ Ok f)
+module _ (budget : ℕ) (m : Model) (f : Form) (basis : List Status) (formed : form_of (Some number_limit) m ≡ Ok f)
     (fits : IsBasisOf f basis) where
-  handed_solved : (s : SolveEnd) → MayEnd (Some largest) budget m (Some basis) s → IsFit m s.end →
+  handed_solved : (s : SolveEnd) → MayEnd (Some number_limit) budget m (Some basis) s → IsFit m s.end →
       IsSolved m budget (Some basis) s
   handed_solved s may fit = is_solved m budget (Some basis) s (f, formed, fits) may (fit_end m s.end fit)
 
   pub warm_solved : (answer : Known ℚ) (c : Certificate (List ℚ)) (left : Option (List Status)) (pivots : ℕ)
-      (w : WarmResult) → w ≡ warm.Ended answer c left pivots → w ≡ after_form (Some largest) budget m basis (Ok f) →
+      (w : WarmResult) → w ≡ warm.Ended answer c left pivots →
+      w ≡ after_form (Some number_limit) budget m basis (Ok f) →
       IsWarmFit m w →
       IsSolved m budget (Some basis) (record { end = Ended answer c left pivots; route = route.Warm })
   warm_solved answer c left pivots w e h fit =
       handed_solved (record { end = Ended answer c left pivots; route = route.Warm })
-      (ends_warm (Some largest) budget m f basis formed answer c left pivots w e h) (subst (IsWarmFit m) e fit)
+      (ends_warm (Some number_limit) budget m f basis formed answer c left pivots w e h) (subst (IsWarmFit m) e fit)
 
   pub fall_solved : (stop : WarmStop ℚ) (w : WarmResult) (end : ExactSolveEnd) → w ≡ warm.Stopped stop →
-      w ≡ after_form (Some largest) budget m basis (Ok f) → MayEndCold (Some largest) budget m end → IsFit m end →
+      w ≡ after_form (Some number_limit) budget m basis (Ok f) → MayEndCold (Some number_limit) budget m end →
+      IsFit m end →
       IsSolved m budget (Some basis) (record { end = end; route = route.Fell (fall_of stop) })
   fall_solved stop w end e h may fit =
       handed_solved (record { end = end; route = route.Fell (fall_of stop) })
-      (falls (Some largest) budget m f basis formed stop w end e h may) fit
+      (falls (Some number_limit) budget m f basis formed stop w end e h may) fit
 
   pub after_solved : {E : Type 0} (stop : WarmStop ℚ) (w : WarmResult) (r : Result SolveEnd E) →
-      w ≡ warm.Stopped stop → w ≡ after_form (Some largest) budget m basis (Ok f) →
+      w ≡ warm.Stopped stop → w ≡ after_form (Some number_limit) budget m basis (Ok f) →
       IfOk r (IsAfterStop budget m f stop) → IfOk r (IsSolved m budget (Some basis))
   after_solved stop w (Ok s) e h after = after basis fits (sym h ∙ e)
   after_solved stop w (Err why) e h after = tt
 
 -- ---- where the start from a basis has stopped
 pub after_stop : (budget : ℕ) (m : Model) (f : Form) (stop : WarmStop ℚ) (end : ExactSolveEnd) →
-    form_of (Some largest) m ≡ Ok f → MayEndCold (Some largest) budget m end → IsFit m end →
+    form_of (Some number_limit) m ≡ Ok f → MayEndCold (Some number_limit) budget m end → IsFit m end →
     IsAfterStop budget m f stop (record { end = end; route = route.Fell (fall_of stop) })
 after_stop budget m f stop end formed may fit = λ basis fits stops.
     fall_solved budget m f basis formed fits stop (warm.Stopped stop) end refl (sym stops) may fit
 
 -- ---- where nothing is handed
 pub unhanded_solved : (budget : ℕ) (m : Model) (end : ExactSolveEnd) (s : SolveEnd) →
-    s ≡ record { end = end; route = route.Cold } → MayEndCold (Some largest) budget m end → IsFit m end →
+    s ≡ record { end = end; route = route.Cold } → MayEndCold (Some number_limit) budget m end → IsFit m end →
     IsSolved m budget None s
 unhanded_solved budget m end s is may fit =
     subst (IsSolved m budget None) (sym is) (cold_solved m budget end may (fit_end m end fit))
 
 pub nothing_solved : {B : Type 0} (budget : ℕ) (m : Model) (view : B → List Status) (handed : Option B)
     (end : ExactSolveEnd) (s : SolveEnd) → handed ≡ None → s ≡ record { end = end; route = route.Cold } →
-    MayEndCold (Some largest) budget m end → IsFit m end → IsSolved m budget (option_map view handed) s
+    MayEndCold (Some number_limit) budget m end → IsFit m end → IsSolved m budget (option_map view handed) s
 nothing_solved budget m view handed end s e is may fit =
     subst (λ handed. IsSolved m budget (option_map view handed) s) (sym e)
     (unhanded_solved budget m end s is may fit)
@@ -84,7 +86,7 @@ handed_fits view f None fits = tt
 handed_fits view f (Some basis) fits = fits
 
 module _ {B : Type 0} (budget : ℕ) (m : Model) (f : Form) (view : B → List Status) (handed : Option B)
-    (formed : form_of (Some largest) m ≡ Ok f) (fits : IfSome handed (λ basis. IsBasisOf f (view basis))) where
+    (formed : form_of (Some number_limit) m ≡ Ok f) (fits : IfSome handed (λ basis. IsBasisOf f (view basis))) where
   pub solve_leaves : (s : SolveEnd) → IsSolved m budget (option_map view handed) s → LeavesBasis f s.end
   solve_leaves s h = by s.end refl
     where

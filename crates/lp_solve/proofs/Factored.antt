@@ -3,6 +3,7 @@ use Rattle.std.proofs.Common.{◌≡◌, ◌⊎◌, inl, inr, ℕ, List, Option,
 use Rattle.std.proofs.Common.{refl, sym, ap, ◌∙◌, subst}
 use Rattle.spec_exact.specs.Fraction.{ℚ}
 use Rattle.spec_exact.specs.declared.past.Past.{Past}
+use Rattle.spec_exact.specs.Narrow.{number_limit}
 use Rattle.spec_model.specs.Model.{Model}
 use Rattle.spec_check.specs.declared.certificate.Certificate.{Certificate}
 use Rattle.spec_check.specs.declared.certificate.Known.{Known}
@@ -20,7 +21,6 @@ use Rattle.spec_factor.specs.Over.{OverEnd, over_run, answer_of, answer_in, afte
 use Rattle.spec_revised.proofs.OverCold.{form_without}
 use Rattle.spec_solve.specs.Order.{GivesUp, MayEndCold, or_tableaus, cold_by, cold_over}
 use Rattle.spec_solve.proofs.Orders.{part_may, part_kept, checked_may}
-use Rattle.lp_frac.specs.Narrow.{largest}
 use Rattle.lp_revised.specs.declared.cold_run.RunEnd.{RunEnd}
 use Rattle.lp_frac.specs.declared.stop.Stop.{Stop}
 use Rattle.lp_revised.specs.declared.stop.Spent.{Spent}
@@ -31,7 +31,7 @@ use Rattle.lp_solve.specs.Fit.{IsFit}
 use Rattle.lp_solve.proofs.Left.{phases_leave}
 use Rattle.lp_solve.proofs.Solved.{cold_is}
 
-module _ (budget : ℕ) (m : Model) (f : Form) (formed : form_of (Some largest) m ≡ Ok f) where
+module _ (budget : ℕ) (m : Model) (f : Form) (formed : form_of (Some number_limit) m ≡ Ok f) where
   -- ---- the run over factors
   -- its certificate is that of the run over whole tableaus without a limit
   pub over_fits : (e : RunEnd) → answer_in (phases_run None budget f) ≡ Ok (over_end e) → IsFor m e.certificate
@@ -41,7 +41,7 @@ module _ (budget : ℕ) (m : Model) (f : Form) (formed : form_of (Some largest) 
           IsFor m e.certificate
       by (Ok end) q h =
           let a : IsAccepted None m (certificate_of end) =
-          end_accepted None budget m f end (form_without (Some largest) m f formed) q in
+          end_accepted None budget m f end (form_without (Some number_limit) m f formed) q in
           let same : answer_of end ≡ over_end e = cc in
           subst (λ (o : OverEnd). IsFor m o.certificate) same a.fits
       by (Err s) q h = let z : ◌≡◌ {A = Result OverEnd (RunStop ℚ)} (Err s) (Ok (over_end e)) = h in cc
@@ -56,80 +56,83 @@ module _ (budget : ℕ) (m : Model) (f : Form) (formed : form_of (Some largest) 
       by (Ok end) q h =
           let same : answer_of end ≡ over_end e = cc in
           subst (λ (o : OverEnd). IfSome o.basis (λ basis. IsBasisOf f basis)) same
-          (phases_leave None budget m f (form_without (Some largest) m f formed) end q)
+          (phases_leave None budget m f (form_without (Some number_limit) m f formed) end q)
       by (Err s) q h = let z : ◌≡◌ {A = Result OverEnd (RunStop ℚ)} (Err s) (Ok (over_end e)) = h in cc
 
-  pub over_ends : (e : RunEnd) (end : ExactSolveEnd) → over_run (Some largest) budget f ≡ Ok (over_end e) →
-      end ≡ answered (Some largest) m e.certificate e.basis e.pivots → end ≡ over_factors (Some largest) budget m f
+  pub over_ends : (e : RunEnd) (end : ExactSolveEnd) → over_run (Some number_limit) budget f ≡ Ok (over_end e) →
+      end ≡ answered (Some number_limit) m e.certificate e.basis e.pivots →
+      end ≡ over_factors (Some number_limit) budget m f
   unfolding over_factors
-  over_ends e end h is = is ∙ sym (ap (after_over (Some largest) m) h)
+  over_ends e end h is = is ∙ sym (ap (after_over (Some number_limit) m) h)
 
   pub past_stops : (s : Stop Spent) (p : Past ℚ) → s ≡ revised.Past p →
-      StopsRevised (over_run (Some largest) budget f) s →
-      ◌≡◌ {A = ExactSolveEnd} (outcome.Past p) (over_factors (Some largest) budget m f)
+      StopsRevised (over_run (Some number_limit) budget f) s →
+      ◌≡◌ {A = ExactSolveEnd} (outcome.Past p) (over_factors (Some number_limit) budget m f)
   unfolding over_factors
   past_stops s p e h =
-      sym (ap (after_over (Some largest) m) (subst (StopsRevised (over_run (Some largest) budget f)) e h))
+      sym (ap (after_over (Some number_limit) m) (subst (StopsRevised (over_run (Some number_limit) budget f)) e h))
 
   pub spent_stops : (s : Stop Spent) (why : Spent) → s ≡ revised.Cause why →
-      StopsRevised (over_run (Some largest) budget f) s →
-      ◌≡◌ {A = ExactSolveEnd} outcome.Spent (over_factors (Some largest) budget m f)
+      StopsRevised (over_run (Some number_limit) budget f) s →
+      ◌≡◌ {A = ExactSolveEnd} outcome.Spent (over_factors (Some number_limit) budget m f)
   unfolding over_factors
   spent_stops s why e h =
-      sym (ap (after_over (Some largest) m) (subst (StopsRevised (over_run (Some largest) budget f)) e h))
+      sym (ap (after_over (Some number_limit) m) (subst (StopsRevised (over_run (Some number_limit) budget f)) e h))
 
   -- ---- both runs
-  part_is : cold_by (Some largest) budget m (Ok f) ≡ cold_over (Some largest) budget m
+  part_is : cold_by (Some number_limit) budget m (Ok f) ≡ cold_over (Some number_limit) budget m
   unfolding cold_over
-  part_is = ap (cold_by (Some largest) budget m) (sym formed)
+  part_is = ap (cold_by (Some number_limit) budget m) (sym formed)
 
-  or_is : (o : ExactSolveEnd) → o ≡ over_factors (Some largest) budget m f →
-      or_tableaus o (cold (Some largest) budget m) ≡ cold_over (Some largest) budget m
-  or_is o h = ap (λ o. or_tableaus o (cold (Some largest) budget m)) h ∙ part_is
+  or_is : (o : ExactSolveEnd) → o ≡ over_factors (Some number_limit) budget m f →
+      or_tableaus o (cold (Some number_limit) budget m) ≡ cold_over (Some number_limit) budget m
+  or_is o h = ap (λ o. or_tableaus o (cold (Some number_limit) budget m)) h ∙ part_is
 
   pub or_ended : (o : ExactSolveEnd) (known : Known ℚ) (c : Certificate (List ℚ)) (basis : Option (List Status))
       (pivots : ℕ) →
-      o ≡ outcome.Ended known c basis pivots → o ≡ over_factors (Some largest) budget m f →
-      o ≡ cold_over (Some largest) budget m
+      o ≡ outcome.Ended known c basis pivots → o ≡ over_factors (Some number_limit) budget m f →
+      o ≡ cold_over (Some number_limit) budget m
   or_ended o known c basis pivots is h =
       is ∙ or_is (outcome.Ended known c basis pivots) (sym is ∙ h)
 
   -- after an end without an answer
   pub or_given_up : {E : Type 0} (o : ExactSolveEnd) (r : Result ExactSolveEnd E) →
-      ((p : Past ℚ) × (o ≡ outcome.Past p)) ⊎ (o ≡ outcome.Spent) → o ≡ over_factors (Some largest) budget m f →
-      IfOk r (λ s. s ≡ after_form (Some largest) budget m (Ok f)) →
-      IfOk r (λ s. s ≡ cold_over (Some largest) budget m)
+      ((p : Past ℚ) × (o ≡ outcome.Past p)) ⊎ (o ≡ outcome.Spent) → o ≡ over_factors (Some number_limit) budget m f →
+      IfOk r (λ s. s ≡ after_form (Some number_limit) budget m (Ok f)) →
+      IfOk r (λ s. s ≡ cold_over (Some number_limit) budget m)
   or_given_up o (Err e) why h is = tt
   or_given_up o (Ok end) (inl past) h is =
-      is ∙ cold_is (Some largest) budget m (Ok f) formed ∙ or_is (outcome.Past past.0) (sym past.1 ∙ h)
+      is ∙ cold_is (Some number_limit) budget m (Ok f) formed ∙ or_is (outcome.Past past.0) (sym past.1 ∙ h)
   or_given_up o (Ok end) (inr spent) h is =
-      is ∙ cold_is (Some largest) budget m (Ok f) formed ∙ or_is outcome.Spent (sym spent ∙ h)
+      is ∙ cold_is (Some number_limit) budget m (Ok f) formed ∙ or_is outcome.Spent (sym spent ∙ h)
 
   -- ---- tableaus first
   -- both runs end as the solve over them, or that one gives up
-  cold_kept : (cold_over (Some largest) budget m ≡ cold (Some largest) budget m)
-      ⊎ GivesUp (cold (Some largest) budget m)
-  cold_kept = part_kept (Some largest) budget m (cold_over (Some largest) budget m) (part_may (Some largest) budget m)
+  cold_kept : (cold_over (Some number_limit) budget m ≡ cold (Some number_limit) budget m)
+      ⊎ GivesUp (cold (Some number_limit) budget m)
+  cold_kept = part_kept (Some number_limit) budget m (cold_over (Some number_limit) budget m) (part_may
+      (Some number_limit) budget m)
 
   -- what they answer
   pub tableaus_ended : (o : ExactSolveEnd) (known : Known ℚ) (c : Certificate (List ℚ)) (basis : Option (List Status))
       (pivots : ℕ) →
-      o ≡ outcome.Ended known c basis pivots → o ≡ after_form (Some largest) budget m (Ok f) →
-      o ≡ cold_over (Some largest) budget m
+      o ≡ outcome.Ended known c basis pivots → o ≡ after_form (Some number_limit) budget m (Ok f) →
+      o ≡ cold_over (Some number_limit) budget m
   tableaus_ended o known c basis pivots is h =
-      let whole : o ≡ cold (Some largest) budget m = h ∙ cold_is (Some largest) budget m (Ok f) formed in
+      let whole : o ≡ cold (Some number_limit) budget m = h ∙ cold_is (Some number_limit) budget m (Ok f) formed in
       whole ∙ kept cold_kept
     where
-      kept : (cold_over (Some largest) budget m ≡ cold (Some largest) budget m)
-          ⊎ GivesUp (cold (Some largest) budget m) → cold (Some largest) budget m ≡ cold_over (Some largest) budget m
+      kept : (cold_over (Some number_limit) budget m ≡ cold (Some number_limit) budget m)
+          ⊎ GivesUp (cold (Some number_limit) budget m) → cold (Some number_limit) budget m ≡ cold_over
+          (Some number_limit) budget m
       kept (inl e) = sym e
       kept (inr up) =
-          absurd (subst GivesUp (sym (h ∙ cold_is (Some largest) budget m (Ok f) formed) ∙ is) up)
+          absurd (subst GivesUp (sym (h ∙ cold_is (Some number_limit) budget m (Ok f) formed) ∙ is) up)
 
   -- what they are refused, after an end over factors without an answer
   pub refused_kept : (o refused : ExactSolveEnd) → ((p : Past ℚ) × (o ≡ outcome.Past p)) ⊎ (o ≡ outcome.Spent) →
-      o ≡ over_factors (Some largest) budget m f → refused ≡ cold (Some largest) budget m →
-      refused ≡ cold_over (Some largest) budget m
+      o ≡ over_factors (Some number_limit) budget m f → refused ≡ cold (Some number_limit) budget m →
+      refused ≡ cold_over (Some number_limit) budget m
   refused_kept o refused (inl past) h is = is ∙ or_is (outcome.Past past.0) (sym past.1 ∙ h)
   refused_kept o refused (inr spent) h is = is ∙ or_is outcome.Spent (sym spent ∙ h)
 
@@ -144,9 +147,11 @@ module _ (budget : ℕ) (m : Model) (f : Form) (formed : form_of (Some largest) 
 
   -- ---- the cold part
   -- both runs may be all that is tried
-  pub stated_may : {E : Type 0} (r : Result ExactSolveEnd E) → IfOk r (λ s. s ≡ cold_over (Some largest) budget m) →
-      IfOk r (MayEndCold (Some largest) budget m)
-  stated_may (Ok end) is = subst (MayEndCold (Some largest) budget m) (sym is) (part_may (Some largest) budget m)
+  pub stated_may : {E : Type 0} (r : Result ExactSolveEnd E) →
+      IfOk r (λ s. s ≡ cold_over (Some number_limit) budget m) →
+      IfOk r (MayEndCold (Some number_limit) budget m)
+  stated_may (Ok end) is = subst (MayEndCold (Some number_limit) budget m) (sym is) (part_may (Some number_limit) budget
+      m)
   stated_may (Err e) is = tt
 
   -- another run may win the answer: what it ends with is the end of both phases without a limit, and the checker says
@@ -154,22 +159,23 @@ module _ (budget : ℕ) (m : Model) (f : Form) (formed : form_of (Some largest) 
   pub other_may : (a : OverEnd) (end : ExactSolveEnd) (known : Known ℚ) (c : Certificate (List ℚ))
       (basis : Option (List Status)) (pivots : ℕ) →
       answer_in (phases_run None budget f) ≡ Ok a →
-      end ≡ answered (Some largest) m a.certificate a.basis a.pivots → end ≡ outcome.Ended known c basis pivots →
-      MayEndCold (Some largest) budget m end
+      end ≡ answered (Some number_limit) m a.certificate a.basis a.pivots → end ≡ outcome.Ended known c basis pivots →
+      MayEndCold (Some number_limit) budget m end
   other_may a end known c basis pivots ends is ended = by (phases_run None budget f) refl ends
     where
-      either : (e : PhasesEnd) → end ≡ answered (Some largest) m (certificate_of e) (basis_of e) (pivots_of e) →
-          MayEndCold (Some largest) budget m (answered (Some largest) m (certificate_of e) (basis_of e) (pivots_of e))
-          ⊎ GivesUp (answered (Some largest) m (certificate_of e) (basis_of e) (pivots_of e)) →
-          MayEndCold (Some largest) budget m end
-      either e same (inl may) = subst (MayEndCold (Some largest) budget m) (sym same) may
+      either : (e : PhasesEnd) → end ≡ answered (Some number_limit) m (certificate_of e) (basis_of e) (pivots_of e) →
+          MayEndCold (Some number_limit) budget m (answered (Some number_limit) m (certificate_of e) (basis_of e)
+          (pivots_of e))
+          ⊎ GivesUp (answered (Some number_limit) m (certificate_of e) (basis_of e) (pivots_of e)) →
+          MayEndCold (Some number_limit) budget m end
+      either e same (inl may) = subst (MayEndCold (Some number_limit) budget m) (sym same) may
       either e same (inr up) = absurd (subst GivesUp (sym same ∙ ended) up)
 
       by : (o : Result PhasesEnd (RunStop ℚ)) → phases_run None budget f ≡ o → answer_in o ≡ Ok a →
-          MayEndCold (Some largest) budget m end
+          MayEndCold (Some number_limit) budget m end
       by (Ok e) q h =
           let same : answer_of e ≡ a = cc in
           either e
-          (is ∙ ap (λ (a : OverEnd). answered (Some largest) m a.certificate a.basis a.pivots) (sym same))
-          (checked_may (Some largest) budget m f formed e q)
+          (is ∙ ap (λ (a : OverEnd). answered (Some number_limit) m a.certificate a.basis a.pivots) (sym same))
+          (checked_may (Some number_limit) budget m f formed e q)
       by (Err s) q h = let z : ◌≡◌ {A = Result OverEnd (RunStop ℚ)} (Err s) (Ok a) = h in cc

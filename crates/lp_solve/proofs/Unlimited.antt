@@ -2,6 +2,7 @@
 use Rattle.std.proofs.Common.{◌≡◌, ◌⊎◌, inl, inr, ℕ, List, Option, Some, None, Result, Ok, Err, IfOk, IfSome, sym, ap, ◌∙◌, subst}
 use Rattle.spec_exact.specs.Fraction.{ℚ}
 use Rattle.spec_exact.specs.declared.past.Past.{Past}
+use Rattle.spec_exact.specs.Narrow.{number_limit}
 use Rattle.spec_model.specs.Model.{Model}
 use Rattle.spec_check.specs.declared.certificate.Certificate.{Certificate}
 use Rattle.spec_check.specs.declared.certificate.Known.{Known}
@@ -28,7 +29,6 @@ use Rattle.spec_warm.specs.Warm.{warm, warm_certificate}
 use Rattle.spec_warm.proofs.TrueEnds.{run_accepted}
 use Rattle.spec_solve.specs.Answers.{IsSolved}
 use Rattle.spec_solve.specs.Wide.{ExactAnswer, IsPastFrom, IsWarmEnd, IsColdEnd, IsWideAnswer}
-use Rattle.lp_frac.specs.Narrow.{largest}
 use Rattle.lp_revised.specs.Runs.{over_end}
 use Rattle.lp_row_cold.specs.declared.phases.RowEnd.{RowEnd}
 use Rattle.lp_row_warm.specs.Warm.{EndsFromBasis}
@@ -37,9 +37,9 @@ use Rattle.lp_solve.proofs.FromRows.{run_end}
 use Rattle.lp_solve.proofs.Left.{warm_leaves}
 use Rattle.lp_solve.proofs.Solved.{cold_is}
 
-module _ (budget : ℕ) (m : Model) (f : Form) (formed : form_of (Some largest) m ≡ Ok f) where
+module _ (budget : ℕ) (m : Model) (f : Form) (formed : form_of (Some number_limit) m ≡ Ok f) where
   without : form_of None m ≡ Ok f
-  without = form_without (Some largest) m f formed
+  without = form_without (Some number_limit) m f formed
 
   -- ---- the cold run
 
@@ -144,15 +144,15 @@ is_answer m budget handed solved p a s e h = record {
 
 -- that of a basis, where the start from it is refused an operation
 pub at_handed : (m : Model) (budget : ℕ) (basis : List Status) (f : Form) (p : Past ℚ) (a : ExactAnswer) →
-    form_of (Some largest) m ≡ Ok f →
-    warms.after_form (Some largest) budget m basis (Ok f) ≡ start.Stopped (fall.Past p) → IsCertifiedAt m basis a →
+    form_of (Some number_limit) m ≡ Ok f →
+    warms.after_form (Some number_limit) budget m basis (Ok f) ≡ start.Stopped (fall.Past p) → IsCertifiedAt m basis a →
     IsWideAnswer m budget (Some basis) a
 unfolding warm
 at_handed m budget basis f p a formed stops h = record {
   fits = h.certified.fits;
   accepted = h.certified.accepted;
   found = inl (record {
-    refused = record { past = p; stops = ap (warms.after_form (Some largest) budget m basis) formed ∙ stops };
+    refused = record { past = p; stops = ap (warms.after_form (Some number_limit) budget m basis) formed ∙ stops };
     certificate = h.certificate;
     basis = h.basis;
     pivots = h.pivots;
@@ -161,8 +161,8 @@ at_handed m budget basis f p a formed stops h = record {
 }
 
 pub at_handed_known : {E : Type 0} (m : Model) (budget : ℕ) (basis : List Status) (f : Form) (stop : WarmStop ℚ)
-    (p : Past ℚ) (result : Result (Option ExactAnswer) E) → form_of (Some largest) m ≡ Ok f →
-    warms.after_form (Some largest) budget m basis (Ok f) ≡ start.Stopped stop → stop ≡ fall.Past p →
+    (p : Past ℚ) (result : Result (Option ExactAnswer) E) → form_of (Some number_limit) m ≡ Ok f →
+    warms.after_form (Some number_limit) budget m basis (Ok f) ≡ start.Stopped stop → stop ≡ fall.Past p →
     IfOk result (λ o. IfSome o (IsCertifiedAt m basis)) →
     IfOk result (λ o. IfSome o (IsWideAnswer m budget (Some basis)))
 at_handed_known m budget basis f stop p (Ok (Some a)) formed stops is h =

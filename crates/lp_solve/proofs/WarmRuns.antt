@@ -17,6 +17,7 @@ use Rattle.spec_simplex.specs.declared.ends.StartStop.TheVariants as begun
 use Rattle.spec_simplex.specs.declared.ends.WarmStop.{WarmStop}
 use Rattle.spec_simplex.specs.declared.ends.WarmStop.TheVariants as fall
 use Rattle.spec_exact.specs.Run.{◌>>=◌, refused_as}
+use Rattle.spec_exact.specs.Narrow.{number_limit}
 use Rattle.spec_simplex.specs.Form.{Form, form_of}
 use Rattle.spec_simplex.specs.Tableau.{Tableau}
 use Rattle.spec_simplex.specs.Phases.{PrimalEnded, run_from}
@@ -37,7 +38,6 @@ use Rattle.spec_warm.specs.Solve.{HasBasis, fall_of}
 use Rattle.spec_solve.specs.Order.{MayEndCold, MayEndBy, MayEnd}
 use Rattle.spec_warm.proofs.Started.{start_begins_from}
 use Rattle.spec_warm.proofs.TrueEnds.{run_accepted}
-use Rattle.lp_frac.specs.Narrow.{largest}
 use Rattle.lp_tableau.specs.Based.{StopsAt}
 use Rattle.lp_frac.specs.declared.stop.Stop.{Stop}
 use Rattle.lp_form.specs.declared.stop.Singular.{Singular}
@@ -146,45 +146,50 @@ form_costs limit m f e =
 module _ (m : Model) (t : Tableau) (kind : Fit) (k : IsBegun m t kind) where
   pub can_run : kind ≡ fit.Dual → IsDualStart t
   can_run e =
-      let s : BeginsFrom k.form t = start_begins_from (Some largest) k.form k.basis t
-      (form_proper (Some largest) m k.form k.formed) k.fits (form_costs (Some largest) m k.form k.formed) k.starts
+      let s : BeginsFrom k.form t = start_begins_from (Some number_limit) k.form k.basis t
+      (form_proper (Some number_limit) m k.form k.formed) k.fits (form_costs (Some number_limit) m k.form k.formed)
+      k.starts
       in
-      can_start (Some largest) _ _ _ _ _ t s.based (k.fit ∙ ap Ok e)
+      can_start (Some number_limit) _ _ _ _ _ t s.based (k.fit ∙ ap Ok e)
 
-  runs : (budget : ℕ) → warm_run (Some largest) budget k.form k.basis ≡ run_by (Some largest) budget t kind
-  runs budget = runs_by (Some largest) budget k.form k.basis t k.starts kind k.fit
+  runs : (budget : ℕ) → warm_run (Some number_limit) budget k.form k.basis ≡ run_by (Some number_limit) budget t kind
+  runs budget = runs_by (Some number_limit) budget k.form k.basis t k.starts kind k.fit
 
 pub primal_fits : (budget : ℕ) (m : Model) (t : Tableau) (e : PrimalEnded) → IsBegun m t fit.Primal →
-    run_from (Some largest) budget 0 t ≡ Ok e → IsFor m (colds.certificate_at e.tableau e.end)
+    run_from (Some number_limit) budget 0 t ≡ Ok e → IsFor m (colds.certificate_at e.tableau e.end)
 primal_fits budget m t e k h =
-    let a : IsAccepted (Some largest) m (warm_certificate (ByPrimal e)) = run_accepted (Some largest) budget m k.form
-    k.basis (ByPrimal e) k.formed k.fits (runs m t fit.Primal k budget ∙ primal_ends (Some largest) budget t e h) in
+    let a : IsAccepted (Some number_limit) m (warm_certificate (ByPrimal e)) = run_accepted (Some number_limit) budget m
+    k.form
+    k.basis (ByPrimal e) k.formed k.fits (runs m t fit.Primal k budget ∙ primal_ends (Some number_limit) budget t e h)
+    in
     a.fits
 
 pub dual_fits : (budget : ℕ) (m : Model) (t : Tableau) (e : DualEnded) → IsBegun m t fit.Dual →
-    dual_run (Some largest) budget t ≡ Ok e → IsFor m (dual_certificate e.tableau e.end)
+    dual_run (Some number_limit) budget t ≡ Ok e → IsFor m (dual_certificate e.tableau e.end)
 dual_fits budget m t e k h =
-    let a : IsAccepted (Some largest) m (warm_certificate (ByDual e)) = run_accepted (Some largest) budget m k.form
-    k.basis (ByDual e) k.formed k.fits (runs m t fit.Dual k budget ∙ dual_ends (Some largest) budget t e h) in
+    let a : IsAccepted (Some number_limit) m (warm_certificate (ByDual e)) = run_accepted (Some number_limit) budget m
+    k.form
+    k.basis (ByDual e) k.formed k.fits (runs m t fit.Dual k budget ∙ dual_ends (Some number_limit) budget t e h) in
     a.fits
 
 -- ---- the bases that are left
-same_form : (m : Model) (f g : Form) → form_of (Some largest) m ≡ Ok f → form_of (Some largest) m ≡ Ok g → f ≡ g
+same_form : (m : Model) (f g : Form) → form_of (Some number_limit) m ≡ Ok f → form_of (Some number_limit) m ≡ Ok g →
+    f ≡ g
 same_form m f g h k = let z : ◌≡◌ {A = Result Form (FormFault ℚ)} (Ok f) (Ok g) = sym h ∙ k in cc
 
-module _ (budget : ℕ) (m : Model) (f : Form) (t : Tableau) (formed : form_of (Some largest) m ≡ Ok f) where
-  pub primal_leaves : (e : PrimalEnded) → IsBegun m t fit.Primal → run_from (Some largest) budget 0 t ≡ Ok e →
+module _ (budget : ℕ) (m : Model) (f : Form) (t : Tableau) (formed : form_of (Some number_limit) m ≡ Ok f) where
+  pub primal_leaves : (e : PrimalEnded) → IsBegun m t fit.Primal → run_from (Some number_limit) budget 0 t ≡ Ok e →
       IfSome (colds.basis_at e.tableau e.end) (λ basis. IsBasisOf f basis)
   primal_leaves e k h =
       subst (λ f. IfSome (colds.basis_at e.tableau e.end) (λ basis. IsBasisOf f basis))
       (same_form m k.form f k.formed formed)
-      (warm_leaves (Some largest) budget m k.form k.formed k.basis (ByPrimal e) k.fits
-      (runs m t fit.Primal k budget ∙ primal_ends (Some largest) budget t e h))
+      (warm_leaves (Some number_limit) budget m k.form k.formed k.basis (ByPrimal e) k.fits
+      (runs m t fit.Primal k budget ∙ primal_ends (Some number_limit) budget t e h))
 
-  pub dual_leaves : (e : DualEnded) → IsBegun m t fit.Dual → dual_run (Some largest) budget t ≡ Ok e →
+  pub dual_leaves : (e : DualEnded) → IsBegun m t fit.Dual → dual_run (Some number_limit) budget t ≡ Ok e →
       IfSome (dual_basis e.tableau e.end) (λ basis. IsBasisOf f basis)
   dual_leaves e k h =
       subst (λ f. IfSome (dual_basis e.tableau e.end) (λ basis. IsBasisOf f basis))
       (same_form m k.form f k.formed formed)
-      (warm_leaves (Some largest) budget m k.form k.formed k.basis (ByDual e) k.fits
-      (runs m t fit.Dual k budget ∙ dual_ends (Some largest) budget t e h))
+      (warm_leaves (Some number_limit) budget m k.form k.formed k.basis (ByDual e) k.fits
+      (runs m t fit.Dual k budget ∙ dual_ends (Some number_limit) budget t e h))

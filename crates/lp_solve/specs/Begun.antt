@@ -1,5 +1,6 @@
 -- The tableau of a basis, with which a warm start begins.
 use Rattle.std.specs.Prelude.{◌≡◌, List, Some, Ok}
+use Rattle.spec_exact.specs.Narrow.{number_limit}
 use Rattle.spec_model.specs.Model.{Model}
 use Rattle.spec_pivot.specs.declared.status.Status.{Status}
 use Rattle.spec_simplex.specs.declared.ends.Fit.{Fit}
@@ -7,13 +8,12 @@ use Rattle.spec_simplex.specs.Form.{Form, form_of}
 use Rattle.spec_simplex.specs.Tableau.{Tableau}
 use Rattle.spec_simplex.specs.Eliminate.{IsBasisOf, start_from}
 use Rattle.spec_simplex.specs.Fit.{fit_run}
-use Rattle.lp_frac.specs.Narrow.{largest}
 
 -- it is that of a basis of the model's form, and fit for this method
 pub record IsBegun (m : Model) (t : Tableau) (kind : Fit) : Type 0 where
   pub form : Form
   pub basis : List Status
-  pub formed : form_of (Some largest) m ≡ Ok form
+  pub formed : form_of (Some number_limit) m ≡ Ok form
   pub fits : IsBasisOf form basis
-  pub starts : start_from (Some largest) form basis ≡ Ok t
-  pub fit : fit_run (Some largest) t ≡ Ok kind
+  pub starts : start_from (Some number_limit) form basis ≡ Ok t
+  pub fit : fit_run (Some number_limit) t ≡ Ok kind

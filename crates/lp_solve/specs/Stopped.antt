@@ -1,6 +1,7 @@
 -- How a solve ends where the start from the basis has stopped.
 use Rattle.std.specs.Prelude.{◌≡◌, ℕ, List, Some, Ok}
 use Rattle.spec_exact.specs.Fraction.{ℚ}
+use Rattle.spec_exact.specs.Narrow.{number_limit}
 use Rattle.spec_model.specs.Model.{Model}
 use Rattle.spec_pivot.specs.declared.status.Status.{Status}
 use Rattle.spec_simplex.specs.declared.ends.WarmStop.{WarmStop}
@@ -10,11 +11,10 @@ use Rattle.spec_warm.specs.declared.ends.Warm.TheVariants as warm
 use Rattle.spec_warm.specs.Warm.{after_form}
 use Rattle.spec_warm.specs.Solve.{SolveEnd}
 use Rattle.spec_solve.specs.Answers.{IsSolved}
-use Rattle.lp_frac.specs.Narrow.{largest}
 
 -- the start from a basis of the form stops so
 abbrev pub StopsFrom : ℕ → Model → Form → List Status → WarmStop ℚ → Type 0
-StopsFrom budget m f basis stop = after_form (Some largest) budget m basis (Ok f) ≡ warm.Stopped stop
+StopsFrom budget m f basis stop = after_form (Some number_limit) budget m basis (Ok f) ≡ warm.Stopped stop
 
 -- from each basis of the form from which the start stops so, a solve may end so
 abbrev pub IsAfterStop : ℕ → Model → Form → WarmStop ℚ → SolveEnd → Type 0

@@ -1,10 +1,10 @@
 // The cold solve of a model from its form.
 ghost use Rattle.std.specs.Prelude.{◌≡◌, IfOk, IfSome, Ok, Some};
+ghost use Rattle.spec_exact.specs.Narrow.{number_limit};
 ghost use Rattle.spec_check.specs.Certificate.{IsFor, IsNarrowCertificate};
 ghost use Rattle.spec_simplex.specs.Eliminate.{IsBasisOf};
 ghost use Rattle.spec_simplex.specs.Form.{form_of};
 ghost use Rattle.spec_cold.specs.Cold as cold;
-ghost use Rattle.lp_frac.specs.Narrow.{largest};
 ghost use Rattle.lp_solve.specs.Ends.{end_of, IsInside};
 ghost use Rattle.lp_solve.specs.Fit.{IsFit};
 
@@ -31,7 +31,7 @@ pub(crate) fn answered(
 ) -> End
     requires fits { IsFor model.now certificate }
     requires narrow { IsNarrowCertificate certificate }
-    ensures answer { result ≡ cold.answered (Some largest) model.now certificate basis pivots }
+    ensures answer { result ≡ cold.answered (Some number_limit) model.now certificate basis pivots }
     ensures narrow { IsFit model.now result }
 {
     match check(model, &certificate) {
@@ -81,7 +81,7 @@ fn finished(alloc: Global, model: &Model, form: &Form, ended: &Ended) -> Result<
     requires inside { IsInside ended.now.tab ended.now.end }
     requires fits { IsFor model.now (cold.certificate_of (end_of ended.now)) }
     requires based { IfSome (cold.basis_of (end_of ended.now)) (λ basis. IsBasisOf form.now basis) }
-    ensures answer { IfOk result (λ s. s ≡ cold.after_phases (Some largest) model.now (Ok (end_of ended.now))) }
+    ensures answer { IfOk result (λ s. s ≡ cold.after_phases (Some number_limit) model.now (Ok (end_of ended.now))) }
     ensures narrow { IfOk result (IsFit model.now) }
 {
     let certificate = certificate(alloc, ended)?;
@@ -96,8 +96,8 @@ pub(crate) fn from_form(
     model: &Model,
     form: &Form,
 ) -> Result<End, AllocError>
-    requires { form_of (Some largest) model.now ≡ Ok form.now }
-    ensures answer { IfOk result (λ s. s ≡ cold.after_form (Some largest) budget model.now (Ok form.now)) }
+    requires { form_of (Some number_limit) model.now ≡ Ok form.now }
+    ensures answer { IfOk result (λ s. s ≡ cold.after_form (Some number_limit) budget model.now (Ok form.now)) }
     ensures narrow { IfOk result (IsFit model.now) }
 {
     let tab = match start_cold(alloc, form) {

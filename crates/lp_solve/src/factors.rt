@@ -1,11 +1,11 @@
 // The cold part of a solve: over factors, over whole tableaus and over rows of whole numbers.
 ghost use Rattle.std.specs.Prelude.{◌≡◌, IfOk, Ok, Some};
+ghost use Rattle.spec_exact.specs.Narrow.{number_limit};
 ghost use Rattle.spec_simplex.specs.Form.{form_of};
 ghost use Rattle.spec_factor.specs.Over as over;
 ghost use Rattle.spec_cold.specs.Cold.{cold};
 ghost use Rattle.spec_solve.specs.Order.{GivesUp};
 ghost use Rattle.spec_solve.specs.Order as order;
-ghost use Rattle.lp_frac.specs.Narrow.{largest};
 ghost use Rattle.lp_solve.specs.Fit.{IsFit};
 
 use crate::basis::basis_of;
@@ -18,8 +18,8 @@ use std::alloc::{AllocError, Global};
 
 // The run over factors, and the check of the certificate that it ended with.
 fn over_factors(alloc: Global, budget: u64, model: &Model, form: &Form) -> Result<End, AllocError>
-    requires { form_of (Some largest) model.now ≡ Ok form.now }
-    ensures answer { IfOk result (λ s. s ≡ over.over_factors (Some largest) budget model.now form.now) }
+    requires { form_of (Some number_limit) model.now ≡ Ok form.now }
+    ensures answer { IfOk result (λ s. s ≡ over.over_factors (Some number_limit) budget model.now form.now) }
     ensures narrow { IfOk result (IsFit model.now) }
 {
     match lp_revised::cold(alloc, form, budget) {
@@ -37,8 +37,8 @@ fn over_factors(alloc: Global, budget: u64, model: &Model, form: &Form) -> Resul
 
 // Over factors first.
 fn factors_first(alloc: Global, budget: u64, model: &Model, form: &Form) -> Result<End, AllocError>
-    requires { form_of (Some largest) model.now ≡ Ok form.now }
-    ensures answer { IfOk result (λ s. s ≡ order.cold_over (Some largest) budget model.now) }
+    requires { form_of (Some number_limit) model.now ≡ Ok form.now }
+    ensures answer { IfOk result (λ s. s ≡ order.cold_over (Some number_limit) budget model.now) }
     ensures narrow { IfOk result (IsFit model.now) }
 {
     let end = over_factors(alloc, budget, model, form)?;
@@ -56,10 +56,10 @@ fn or_factors(
     form: &Form,
     refused: End,
 ) -> Result<End, AllocError>
-    requires formed { form_of (Some largest) model.now ≡ Ok form.now }
-    requires tableaus { refused ≡ cold (Some largest) budget model.now }
+    requires formed { form_of (Some number_limit) model.now ≡ Ok form.now }
+    requires tableaus { refused ≡ cold (Some number_limit) budget model.now }
     requires gives_up { GivesUp refused }
-    ensures answer { IfOk result (λ s. s ≡ order.cold_over (Some largest) budget model.now) }
+    ensures answer { IfOk result (λ s. s ≡ order.cold_over (Some number_limit) budget model.now) }
     ensures narrow { IfOk result (IsFit model.now) }
 {
     let end = over_factors(alloc, budget, model, form)?;
@@ -74,8 +74,8 @@ fn or_factors(
 
 // Over whole tableaus first. An answer of theirs is that of the factors too, if these have one.
 fn tableaus_first(alloc: Global, budget: u64, model: &Model, form: &Form) -> Result<End, AllocError>
-    requires { form_of (Some largest) model.now ≡ Ok form.now }
-    ensures answer { IfOk result (λ s. s ≡ order.cold_over (Some largest) budget model.now) }
+    requires { form_of (Some number_limit) model.now ≡ Ok form.now }
+    ensures answer { IfOk result (λ s. s ≡ order.cold_over (Some number_limit) budget model.now) }
     ensures narrow { IfOk result (IsFit model.now) }
 {
     let end = from_form(alloc, budget, model, form)?;
@@ -134,8 +134,8 @@ fn is_tall(form: &Form) -> bool {
 // The two stated runs, each with the whole budget: the answer of either, or what the tableaus are refused. Which of
 // them comes first is a choice of speed alone.
 fn stated_runs(alloc: Global, budget: u64, model: &Model, form: &Form) -> Result<End, AllocError>
-    requires { form_of (Some largest) model.now ≡ Ok form.now }
-    ensures answer { IfOk result (λ s. s ≡ order.cold_over (Some largest) budget model.now) }
+    requires { form_of (Some number_limit) model.now ≡ Ok form.now }
+    ensures answer { IfOk result (λ s. s ≡ order.cold_over (Some number_limit) budget model.now) }
     ensures narrow { IfOk result (IsFit model.now) }
 {
     if suits_factors(form) {
@@ -147,8 +147,8 @@ fn stated_runs(alloc: Global, budget: u64, model: &Model, form: &Form) -> Result
 
 // What they end with is one way in which the cold part may end.
 fn stated_part(alloc: Global, budget: u64, model: &Model, form: &Form) -> Result<End, AllocError>
-    requires { form_of (Some largest) model.now ≡ Ok form.now }
-    ensures answer { IfOk result (order.MayEndCold (Some largest) budget model.now) }
+    requires { form_of (Some number_limit) model.now ≡ Ok form.now }
+    ensures answer { IfOk result (order.MayEndCold (Some number_limit) budget model.now) }
     ensures narrow { IfOk result (IsFit model.now) }
 {
     stated_runs(alloc, budget, model, form)
@@ -163,10 +163,10 @@ fn or_rows(
     form: &Form,
     refused: End,
 ) -> Result<End, AllocError>
-    requires formed { form_of (Some largest) model.now ≡ Ok form.now }
-    requires may { order.MayEndCold (Some largest) budget model.now refused }
+    requires formed { form_of (Some number_limit) model.now ≡ Ok form.now }
+    requires may { order.MayEndCold (Some number_limit) budget model.now refused }
     requires narrow { IsFit model.now refused }
-    ensures answer { IfOk result (order.MayEndCold (Some largest) budget model.now) }
+    ensures answer { IfOk result (order.MayEndCold (Some number_limit) budget model.now) }
     ensures narrow { IfOk result (IsFit model.now) }
 {
     match over_rows(alloc, budget, work, model, form)? {
@@ -186,8 +186,8 @@ fn stated_first(
     model: &Model,
     form: &Form,
 ) -> Result<End, AllocError>
-    requires { form_of (Some largest) model.now ≡ Ok form.now }
-    ensures answer { IfOk result (order.MayEndCold (Some largest) budget model.now) }
+    requires { form_of (Some number_limit) model.now ≡ Ok form.now }
+    ensures answer { IfOk result (order.MayEndCold (Some number_limit) budget model.now) }
     ensures narrow { IfOk result (IsFit model.now) }
 {
     let end = stated_part(alloc, budget, model, form)?;
@@ -205,8 +205,8 @@ fn rows_first(
     model: &Model,
     form: &Form,
 ) -> Result<End, AllocError>
-    requires { form_of (Some largest) model.now ≡ Ok form.now }
-    ensures answer { IfOk result (order.MayEndCold (Some largest) budget model.now) }
+    requires { form_of (Some number_limit) model.now ≡ Ok form.now }
+    ensures answer { IfOk result (order.MayEndCold (Some number_limit) budget model.now) }
     ensures narrow { IfOk result (IsFit model.now) }
 {
     match over_rows(alloc, budget, work, model, form)? {
@@ -226,8 +226,8 @@ pub(crate) fn cold_part(
     model: &Model,
     form: &Form,
 ) -> Result<End, AllocError>
-    requires { form_of (Some largest) model.now ≡ Ok form.now }
-    ensures answer { IfOk result (order.MayEndCold (Some largest) budget model.now) }
+    requires { form_of (Some number_limit) model.now ≡ Ok form.now }
+    ensures answer { IfOk result (order.MayEndCold (Some number_limit) budget model.now) }
     ensures narrow { IfOk result (IsFit model.now) }
 {
     if suits_factors(form) || is_tall(form) {

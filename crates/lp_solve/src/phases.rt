@@ -1,8 +1,8 @@
 // Both phases.
 ghost use Rattle.std.specs.Prelude.{◌≡◌, IfOk, Ok, Some};
+ghost use Rattle.spec_exact.specs.Narrow.{number_limit};
 ghost use Rattle.spec_simplex.specs.Start.{start_of};
 ghost use Rattle.spec_simplex.specs.Phases as phases;
-ghost use Rattle.lp_frac.specs.Narrow.{largest};
 ghost use Rattle.lp_primal.specs.Answer.{Runs};
 ghost use Rattle.lp_solve.specs.Ends.{Ends, EndsAt, IsInside};
 
@@ -22,7 +22,7 @@ pub(crate) struct Ended {
 // Phase one, where it is wanted.
 fn phase_one(tab: &mut Tableau, used: &mut u64, budget: u64) -> Result<PrimalEnd, RunStop>
     requires { used.old ≡ 0 }
-    ensures { Runs (phases.phase_one (Some largest) budget tab.old) tab.new used.new result }
+    ensures { Runs (phases.phase_one (Some number_limit) budget tab.old) tab.new used.new result }
 {
     if tab.wants_phase_one() {
         run(tab, used, budget)
@@ -39,8 +39,8 @@ fn both_phases(
     budget: u64,
 ) -> Result<Option<PrimalEnd>, RunStop>
     requires unused { used.old ≡ 0 }
-    requires start { start_of (Some largest) form.now ≡ Ok tab.old }
-    ensures answer { EndsAt (phases.phases_run (Some largest) budget form.now) tab.new used.new result }
+    requires start { start_of (Some number_limit) form.now ≡ Ok tab.old }
+    ensures answer { EndsAt (phases.phases_run (Some number_limit) budget form.now) tab.new used.new result }
     ensures inside { IfOk result (IsInside tab.new) }
 {
     phase_one(tab, used, budget)?;
@@ -54,8 +54,8 @@ fn both_phases(
 
 /// Both phases from the tableau that the form begins with, and the tableau that they left.
 pub(crate) fn phases(mut tab: Tableau, form: &Form, budget: u64) -> Result<Ended, RunStop>
-    requires { start_of (Some largest) form.now ≡ Ok tab }
-    ensures answer { Ends (phases.phases_run (Some largest) budget form.now) result }
+    requires { start_of (Some number_limit) form.now ≡ Ok tab }
+    ensures answer { Ends (phases.phases_run (Some number_limit) budget form.now) result }
     ensures inside { IfOk result (λ e. IsInside e.tab e.end) }
 {
     let mut used = 0;

@@ -1,11 +1,11 @@
 // The run over rows of whole numbers, and the check of its certificate.
 ghost use Rattle.std.specs.Prelude.{◌≡◌, IfOk, IfSome, Ok, Some, None};
+ghost use Rattle.spec_exact.specs.Narrow.{number_limit};
 ghost use Rattle.spec_simplex.specs.Form.{form_of};
 ghost use Rattle.spec_simplex.specs.Eliminate.{IsBasisOf};
 ghost use Rattle.spec_check.specs.Certificate.{IsFor, IsNarrowCertificate};
 ghost use Rattle.spec_cold.specs.Cold as cold;
 ghost use Rattle.spec_solve.specs.Order as order;
-ghost use Rattle.lp_frac.specs.Narrow.{largest};
 ghost use Rattle.lp_solve.specs.Fit.{IsFit};
 
 use crate::basis::basis_of;
@@ -26,7 +26,7 @@ fn checked(model: &Model, form: &Form, end: RowEnd<Frac>) -> Option<End>
     requires based { IfSome end.basis (λ basis. IsBasisOf form.now basis) }
     requires narrow { IsNarrowCertificate end.certificate }
     ensures answer { IfSome result (λ s. (¬ (order.GivesUp s)) ×
-        (s ≡ cold.answered (Some largest) model.now end.certificate end.basis end.pivots)) }
+        (s ≡ cold.answered (Some number_limit) model.now end.certificate end.basis end.pivots)) }
     ensures narrow { IfSome result (IsFit model.now) }
 {
     let basis = basis_of(form, end.basis);
@@ -46,8 +46,8 @@ pub(crate) fn over_rows(
     model: &Model,
     form: &Form,
 ) -> Result<Option<End>, AllocError>
-    requires { form_of (Some largest) model.now ≡ Ok form.now }
-    ensures answer { IfOk result (λ o. IfSome o (order.MayEndCold (Some largest) budget model.now)) }
+    requires { form_of (Some number_limit) model.now ≡ Ok form.now }
+    ensures answer { IfOk result (λ o. IfSome o (order.MayEndCold (Some number_limit) budget model.now)) }
     ensures narrow { IfOk result (λ o. IfSome o (IsFit model.now)) }
 {
     match lp_row_cold::cold(alloc, form, budget, work)? {

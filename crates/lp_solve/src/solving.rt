@@ -1,11 +1,11 @@
 // The solve of a model, of which a basis may be handed.
 ghost use Rattle.std.specs.Prelude.{◌≡◌, IfOk, IfSome, Ok, Some, None, option_map};
+ghost use Rattle.spec_exact.specs.Narrow.{number_limit};
 ghost use Rattle.spec_simplex.specs.Eliminate.{IsBasisOf};
 ghost use Rattle.spec_simplex.specs.Form.{form_of};
 ghost use Rattle.spec_warm.specs.declared.ends.Route.TheVariants as route;
 ghost use Rattle.spec_warm.specs.Solve as solve;
-ghost use Rattle.spec_solve.specs.Answers.{number_limit, IsSolved};
-ghost use Rattle.lp_frac.specs.Narrow.{largest};
+ghost use Rattle.spec_solve.specs.Answers.{IsSolved};
 ghost use Rattle.lp_solve.specs.Fit.{LeavesBasis};
 ghost use Rattle.lp_solve.specs.Stopped.{IsAfterStop};
 
@@ -44,7 +44,7 @@ pub(crate) fn cold_after(
     form: &Form,
     stop: WarmStop,
 ) -> Result<Solved, AllocError>
-    requires { form_of (Some largest) model.now ≡ Ok form.now }
+    requires { form_of (Some number_limit) model.now ≡ Ok form.now }
     ensures { IfOk result (IsAfterStop budget model.now form.now stop) }
 {
     Ok(Solved {
@@ -61,7 +61,7 @@ fn warm_first(
     form: &Form,
     basis: &Basis,
 ) -> Result<Solved, AllocError>
-    requires formed { form_of (Some largest) model.now ≡ Ok form.now }
+    requires formed { form_of (Some number_limit) model.now ≡ Ok form.now }
     requires fits { IsBasisOf form.now basis.now }
     ensures { IfOk result (IsSolved model.now budget (Some basis.now)) }
 {
@@ -109,7 +109,7 @@ pub(crate) fn cold_within(
     work: u64,
     form: &Form,
 ) -> Result<Solved, AllocError>
-    requires { form_of (Some largest) model.now ≡ Ok form.now }
+    requires { form_of (Some number_limit) model.now ≡ Ok form.now }
     ensures { IfOk result (IsSolved model.now budget None) }
 {
     Ok(cold(cold_part(alloc, budget, work, model, form)?))

@@ -1,12 +1,12 @@
 // The warm start of a model from a basis of its form.
 ghost use Rattle.std.specs.Prelude.{◌≡◌, IfOk, Ok, Some};
+ghost use Rattle.spec_exact.specs.Narrow.{number_limit};
 ghost use Rattle.spec_check.specs.Certificate.{IsFor, IsNarrowCertificate};
 ghost use Rattle.spec_simplex.specs.declared.ends.Fit.TheVariants as fitted;
 ghost use Rattle.spec_simplex.specs.Eliminate.{IsBasisOf};
 ghost use Rattle.spec_simplex.specs.Eliminate as eliminated;
 ghost use Rattle.spec_simplex.specs.Form.{form_of};
 ghost use Rattle.spec_warm.specs.Warm as warm;
-ghost use Rattle.lp_frac.specs.Narrow.{largest};
 ghost use Rattle.lp_solve.specs.Begun.{IsBegun};
 ghost use Rattle.lp_solve.specs.Fit.{IsWarmFit};
 
@@ -40,7 +40,7 @@ fn run_stop(stop: RunStop) -> WarmStop
 fn answered(model: &Model, certificate: Certificate, basis: Option<Basis>, pivots: u64) -> Warm
     requires fits { IsFor model.now certificate }
     requires narrow { IsNarrowCertificate certificate }
-    ensures answer { result ≡ warm.answered (Some largest) model.now certificate basis pivots }
+    ensures answer { result ≡ warm.answered (Some number_limit) model.now certificate basis pivots }
     ensures narrow { IsWarmFit model.now result }
 {
     match check(model, &certificate) {
@@ -71,10 +71,11 @@ fn by_primal(
     form: &Form,
     tab: &mut Tableau,
 ) -> Result<Warm, AllocError>
-    requires formed { form_of (Some largest) model.now ≡ Ok form.now }
+    requires formed { form_of (Some number_limit) model.now ≡ Ok form.now }
     requires begun { IsBegun model.now tab.old fitted.Primal }
     ensures answer { IfOk result
-        (λ w. w ≡ warm.after_run (Some largest) model.now (warm.run_by (Some largest) budget tab.old fitted.Primal)) }
+        (λ w. w ≡ warm.after_run (Some number_limit) model.now (warm.run_by (Some number_limit) budget tab.old
+        fitted.Primal)) }
     ensures narrow { IfOk result (IsWarmFit model.now) }
 {
     let mut used = 0;
@@ -96,10 +97,11 @@ fn by_dual(
     form: &Form,
     tab: &mut Tableau,
 ) -> Result<Warm, AllocError>
-    requires formed { form_of (Some largest) model.now ≡ Ok form.now }
+    requires formed { form_of (Some number_limit) model.now ≡ Ok form.now }
     requires begun { IsBegun model.now tab.old fitted.Dual }
     ensures answer { IfOk result
-        (λ w. w ≡ warm.after_run (Some largest) model.now (warm.run_by (Some largest) budget tab.old fitted.Dual)) }
+        (λ w. w ≡ warm.after_run (Some number_limit) model.now (warm.run_by (Some number_limit) budget tab.old
+        fitted.Dual)) }
     ensures narrow { IfOk result (IsWarmFit model.now) }
 {
     let mut used = 0;
@@ -122,10 +124,10 @@ fn from_tableau(
     basis: &Basis,
     tab: &mut Tableau,
 ) -> Result<Warm, AllocError>
-    requires formed { form_of (Some largest) model.now ≡ Ok form.now }
+    requires formed { form_of (Some number_limit) model.now ≡ Ok form.now }
     requires fits { IsBasisOf form.now basis.now }
-    requires starts { eliminated.start_from (Some largest) form.now basis.now ≡ Ok tab.old }
-    ensures answer { IfOk result (λ w. w ≡ warm.after_form (Some largest) budget model.now basis.now (Ok form.now)) }
+    requires starts { eliminated.start_from (Some number_limit) form.now basis.now ≡ Ok tab.old }
+    ensures answer { IfOk result (λ w. w ≡ warm.after_form (Some number_limit) budget model.now basis.now (Ok form.now)) }
     ensures narrow { IfOk result (IsWarmFit model.now) }
 {
     match fit(tab) {
@@ -144,9 +146,9 @@ pub(crate) fn from_basis(
     form: &Form,
     basis: &Basis,
 ) -> Result<Warm, AllocError>
-    requires formed { form_of (Some largest) model.now ≡ Ok form.now }
+    requires formed { form_of (Some number_limit) model.now ≡ Ok form.now }
     requires fits { IsBasisOf form.now basis.now }
-    ensures answer { IfOk result (λ w. w ≡ warm.after_form (Some largest) budget model.now basis.now (Ok form.now)) }
+    ensures answer { IfOk result (λ w. w ≡ warm.after_form (Some number_limit) budget model.now basis.now (Ok form.now)) }
     ensures narrow { IfOk result (IsWarmFit model.now) }
 {
     match start_from(alloc, form, basis) {

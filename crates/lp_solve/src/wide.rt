@@ -1,13 +1,13 @@
 // The solve of a model whose certificate may have numbers of any width.
 ghost use Rattle.std.specs.Prelude.{◌≡◌, ◌⊎◌, IfOk, IfSome, Ok, Some, None};
+ghost use Rattle.spec_exact.specs.Narrow.{number_limit};
 ghost use Rattle.spec_check.specs.Certificate.{IsFor};
 ghost use Rattle.spec_simplex.specs.Eliminate.{IsBasisOf};
 ghost use Rattle.spec_simplex.specs.Form.{form_of};
-ghost use Rattle.spec_solve.specs.Answers.{number_limit, IsSolved};
+ghost use Rattle.spec_solve.specs.Answers.{IsSolved};
 ghost use Rattle.spec_solve.specs.declared.wide_solved.WideSolved.TheVariants as wides;
 ghost use Rattle.spec_solve.specs.Wide.{IsPastFrom, IsOfSomeBasis, IsWarmEnd, IsColdEnd, IsWideSolved, IsWideAnswer};
 ghost use Rattle.spec_solve.specs.Wide.{IsWideFrom};
-ghost use Rattle.lp_frac.specs.Narrow.{largest};
 ghost use Rattle.lp_solve.specs.Stopped.{StopsFrom};
 ghost use Rattle.lp_solve.specs.Wide.{AcceptsEnd, IsCertified, IsCertifiedAt};
 
@@ -86,7 +86,7 @@ fn unlimited(
     budget: u64,
     route: Route,
 ) -> Result<Option<WideAnswer>, AllocError>
-    requires { form_of (Some largest) model.now ≡ Ok form.now }
+    requires { form_of (Some number_limit) model.now ≡ Ok form.now }
     ensures { IfOk result (λ o. IfSome o (λ a. IsCertified model.now a × IsColdEnd model.now budget route a)) }
 {
     match wide_cold(alloc, form, budget, WIDE_WORK)? {
@@ -103,7 +103,7 @@ fn unlimited_from(
     budget: u64,
     basis: &Basis,
 ) -> Result<Option<WideAnswer>, AllocError>
-    requires formed { form_of (Some largest) model.now ≡ Ok form.now }
+    requires formed { form_of (Some number_limit) model.now ≡ Ok form.now }
     requires fits { IsBasisOf form.now basis.now }
     ensures { IfOk result
         (λ o. IfSome o (λ a. IsCertified model.now a × IsWarmEnd model.now budget (Some basis.now) a)) }
@@ -124,7 +124,7 @@ fn beyond_from(
     basis: &Basis,
     route: Route,
 ) -> Result<Option<WideAnswer>, AllocError>
-    requires formed { form_of (Some largest) model.now ≡ Ok form.now }
+    requires formed { form_of (Some number_limit) model.now ≡ Ok form.now }
     requires fits { IsBasisOf form.now basis.now }
     ensures { IfOk result (λ o. IfSome o (λ a. IsCertified model.now a
         × (IsWarmEnd model.now budget (Some basis.now) a ⊎ IsColdEnd model.now budget route a))) }
@@ -142,7 +142,7 @@ fn at_basis(
     form: &Form,
     basis: &Basis,
 ) -> Result<Option<WideAnswer>, AllocError>
-    requires formed { form_of (Some largest) model.now ≡ Ok form.now }
+    requires formed { form_of (Some number_limit) model.now ≡ Ok form.now }
     requires fits { IsBasisOf form.now basis.now }
     ensures { IfOk result (λ o. IfSome o (IsCertifiedAt model.now basis.now)) }
 {
@@ -166,7 +166,7 @@ fn at_rough_basis(
     model: &Model,
     form: &Form,
 ) -> Result<Option<WideAnswer>, AllocError>
-    requires { form_of (Some largest) model.now ≡ Ok form.now }
+    requires { form_of (Some number_limit) model.now ≡ Ok form.now }
     ensures { IfOk result (λ o. IfSome o (λ a. IsOfSomeBasis model.now a.known a.certificate)) }
 {
     match rough_basis(alloc, form, None)? {
@@ -199,7 +199,7 @@ fn over_rows_in_full(
     form: &Form,
     refused: Solved,
 ) -> Result<WideSolved, AllocError>
-    requires formed { form_of (Some largest) model.now ≡ Ok form.now }
+    requires formed { form_of (Some number_limit) model.now ≡ Ok form.now }
     requires solved { IsSolved model.now budget None refused }
     requires past { IsPastFrom model.now budget None }
     ensures { IfOk result (IsWideSolved model.now budget) }
@@ -224,7 +224,7 @@ fn solve_wide_formed(
     budget: u64,
     form: &Form,
 ) -> Result<WideSolved, AllocError>
-    requires { form_of (Some largest) model.now ≡ Ok form.now }
+    requires { form_of (Some number_limit) model.now ≡ Ok form.now }
     ensures { IfOk result (IsWideSolved model.now budget) }
 {
     let solved = cold_within(alloc, model, budget, FIRST_WORK, form)?;
@@ -270,7 +270,7 @@ fn at_refused(
     basis: &Basis,
     stop: &WarmStop,
 ) -> Result<Option<WideAnswer>, AllocError>
-    requires formed { form_of (Some largest) model.now ≡ Ok form.now }
+    requires formed { form_of (Some number_limit) model.now ≡ Ok form.now }
     requires fits { IsBasisOf form.now basis.now }
     requires stops { StopsFrom budget model.now form.now basis.now stop.now }
     ensures { IfOk result (λ o. IfSome o (IsWideAnswer model.now budget (Some basis.now))) }
@@ -290,7 +290,7 @@ fn wide_after(
     basis: &Basis,
     stop: WarmStop,
 ) -> Result<WideBased, AllocError>
-    requires formed { form_of (Some largest) model.now ≡ Ok form.now }
+    requires formed { form_of (Some number_limit) model.now ≡ Ok form.now }
     requires fits { IsBasisOf form.now basis.now }
     requires stops { StopsFrom budget model.now form.now basis.now stop }
     ensures { IfOk result (IsWideFrom model.now budget (Some basis.now)) }
@@ -318,7 +318,7 @@ fn stopped(
     basis: &Basis,
     stop: WarmStop,
 ) -> Result<WideBased, AllocError>
-    requires formed { form_of (Some largest) model.now ≡ Ok form.now }
+    requires formed { form_of (Some number_limit) model.now ≡ Ok form.now }
     requires fits { IsBasisOf form.now basis.now }
     requires stops { StopsFrom budget model.now form.now basis.now stop }
     ensures { IfOk result (IsWideFrom model.now budget (Some basis.now)) }

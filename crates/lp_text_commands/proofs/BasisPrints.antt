@@ -2,12 +2,13 @@
 use Rattle.std.proofs.Common.{◌≡◌, ℕ, List, [], ◌++◌, Some, None, Result, Ok, Err, OnOk, ap, sym, ◌∙◌, refl}
 use Rattle.std.proofs.Common.{append_assoc, append-nil}
 use Rattle.spec_exact.specs.Fraction.{ℚ}
+use Rattle.spec_exact.specs.Narrow.{number_limit}
 use Rattle.spec_model.specs.Model.{Model}
 use Rattle.spec_simplex.specs.declared.ends.FormFault.{FormFault}
 use Rattle.spec_simplex.specs.Form.{Form, form_of}
 use Rattle.spec_warm.specs.Solve.{SolveEnd}
 use Rattle.spec_mps.specs.declared.fault.MpsFault.{MpsFault}
-use Rattle.spec_solve.specs.Answers.{IsSolved, number_limit}
+use Rattle.spec_solve.specs.Answers.{IsSolved}
 use Rattle.spec_server.specs.declared.asks.Reply.TheVariants as reply
 use Rattle.spec_server.specs.declared.asks.Refusal.TheVariants as refusal
 use Rattle.spec_commands.specs.declared.basis.BasisFault.{BasisFault}

@@ -4,6 +4,7 @@ use Rattle.std.proofs.Common.{append-nil, ap, subst, ⊎_elim}
 use Rattle.std.proofs.lemmas.List.{append_assoc, get_or_default}
 use Rattle.std.specs.Prelude.{OnOk}
 use Rattle.spec_exact.specs.Fraction.{ℚ}
+use Rattle.spec_exact.specs.Narrow.{number_limit}
 use Rattle.spec_model.specs.Model.{Model, width}
 use Rattle.spec_check.specs.declared.certificate.Certificate.{Certificate}
 use Rattle.spec_iis.specs.declared.side.Side.{Side}
@@ -16,7 +17,6 @@ use Rattle.spec_iis.proofs.Points.{width-only}
 use Rattle.spec_server.specs.Machine.{opening_budget}
 use Rattle.spec_server.specs.Output.{ended_lines}
 use Rattle.spec_commands.specs.IisOut.{IisOut, iis_lines}
-use Rattle.lp_frac.specs.Narrow.{largest}
 use Rattle.lp_text_commands.specs.Prints.{Prints}
 
 -- ---- the sides
@@ -34,11 +34,11 @@ reached_hold P m kept (x ∷ rest) s all r =
 
 -- none of their limits is refused
 pub found_read : (m : Model) (budget : ℕ) (sides : List Side) (cert : Certificate (List ℚ)) (points : List (List ℚ)) →
-    IsFound m budget sides cert points → All (IsRead (Some largest) m) sides
+    IsFound m budget sides cert points → All (IsRead (Some number_limit) m) sides
 found_read m budget sides cert points f =
     let r = f.reached in
-    reached_hold (IsRead (Some largest) m) m [] (used m r.certificate) sides
-    (used_read (Some largest) m r.certificate r.ends.may_answer.2) r.reached
+    reached_hold (IsRead (Some number_limit) m) m [] (used m r.certificate) sides
+    (used_read (Some number_limit) m r.certificate r.ends.may_answer.2) r.reached
 
 -- ---- the points
 -- a part for each column

@@ -1,6 +1,7 @@
 -- What is written of a wide solve from the basis of a file.
 use Rattle.std.proofs.Common.{◌≡◌, ℕ, List, ◌++◌, Some, None, IfSome, Result, Ok, Err, OnOk, refl, ap, sym, ◌∙◌, subst}
 use Rattle.spec_exact.specs.Fraction.{ℚ}
+use Rattle.spec_exact.specs.Narrow.{number_limit}
 use Rattle.spec_model.specs.Model.{Model}
 use Rattle.spec_check.specs.declared.certificate.Certificate.{Certificate}
 use Rattle.spec_check.specs.declared.certificate.Known.{Known}
@@ -13,7 +14,7 @@ use Rattle.spec_simplex.specs.Eliminate.{IsBasisOf}
 use Rattle.spec_simplex.specs.Form.{Form, form_of}
 use Rattle.spec_cold.specs.Cold.{ExactSolveEnd}
 use Rattle.spec_warm.specs.Solve.{SolveEnd}
-use Rattle.spec_solve.specs.Answers.{number_limit, MayAnswer, IsSolved}
+use Rattle.spec_solve.specs.Answers.{MayAnswer, IsSolved}
 use Rattle.spec_solve.specs.Wide.{ExactAnswer, BasedEnd, IsWideAnswer, IsWideFrom}
 use Rattle.spec_solve.specs.declared.wide_solved.WideBased.TheVariants.{Narrow, Wide}
 use Rattle.spec_solve.proofs.Left.{solved_left}

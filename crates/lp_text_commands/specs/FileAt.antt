@@ -1,8 +1,8 @@
 -- Where the reading of a basis file stands, for a model and its form.
 use Rattle.std.specs.Prelude.{ℕ, ◌≡◌, Some, Ok}
+use Rattle.spec_exact.specs.Narrow.{number_limit}
 use Rattle.spec_model.specs.Model.{Model}
 use Rattle.spec_simplex.specs.Form.{Form, form_of}
-use Rattle.spec_solve.specs.Answers.{number_limit}
 use Rattle.spec_bas.specs.Steps as file
 use Rattle.spec_bas.specs.Fits.{IsMarking}
 

@@ -1,11 +1,11 @@
 -- The model that is to be solved, and from where.
 use Rattle.std.specs.Prelude.{◌≡◌, Option, Some, None, option_map, Ok, Err}
 use Rattle.spec_exact.specs.Fraction.{ℚ}
+use Rattle.spec_exact.specs.Narrow.{number_limit}
 use Rattle.spec_model.specs.Model.{Model}
 use Rattle.spec_simplex.specs.declared.ends.FormFault.{FormFault}
 use Rattle.spec_simplex.specs.Form.{form_of}
 use Rattle.spec_simplex.specs.Eliminate.{IsBasisOf}
-use Rattle.spec_solve.specs.Answers.{number_limit}
 use Rattle.spec_commands.specs.BasisOut as reading
 use Rattle.lp_text_commands.specs.declared.basis_start.Start.{Start}
 

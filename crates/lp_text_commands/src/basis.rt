@@ -1,7 +1,7 @@
 // The basis file that follows the text of its model.
 ghost use Rattle.std.specs.Prelude.{◌≡◌, ◌<◌, ◌-◌, ◌^◌, IfOk, Ok, Some, refl};
+ghost use Rattle.spec_exact.specs.Narrow.{number_limit};
 ghost use Rattle.spec_simplex.specs.Form.{form_of};
-ghost use Rattle.spec_solve.specs.Answers.{number_limit};
 ghost use Rattle.spec_commands.specs.BasisOut.{InText, InFile, begun_file, basis_step};
 ghost use Rattle.lp_text_commands.specs.Basis.{step_of, count_of, BasisSays};
 

@@ -1,7 +1,8 @@
 // The solve of a model from the basis of a file.
 ghost use Rattle.std.specs.Prelude.{◌≡◌, ◌++◌, OnOk, Ok, Some};
+ghost use Rattle.spec_exact.specs.Narrow.{number_limit};
 ghost use Rattle.spec_simplex.specs.Form.{form_of};
-ghost use Rattle.spec_solve.specs.Answers.{number_limit, MayAnswer};
+ghost use Rattle.spec_solve.specs.Answers.{MayAnswer};
 ghost use Rattle.spec_server.specs.Machine.{opening_budget, pivots_of_solved};
 ghost use Rattle.spec_commands.specs.BasisOut.{BasisOut, final_text};
 ghost use Rattle.spec_server.specs.Output.{check_line};

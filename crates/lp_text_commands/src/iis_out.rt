@@ -1,5 +1,6 @@
 // What a search for an irreducible infeasible subset of a model ends with.
 ghost use Rattle.std.specs.Prelude.{◌≡◌, ◌++◌, ◌∷◌, [], All, Ok, OnOk, Some, codes, decimal};
+ghost use Rattle.spec_exact.specs.Narrow.{number_limit};
 ghost use Rattle.spec_model.specs.Kept.{IsModel};
 ghost use Rattle.spec_check.specs.Certificate.{IsFor};
 ghost use Rattle.spec_certificate.specs.TextWritten.{certificate_lines};
@@ -9,7 +10,6 @@ ghost use Rattle.spec_iis.specs.Found.{IsFound, MayFind};
 ghost use Rattle.spec_server.specs.Machine.{opening_budget};
 ghost use Rattle.spec_server.specs.Output.{ended_lines};
 ghost use Rattle.spec_commands.specs.IisOut.{IisOut, end_words, found_lines, iis_lines};
-ghost use Rattle.lp_frac.specs.Narrow.{largest};
 ghost use Rattle.lp_text_commands.specs.Prints.{Prints};
 
 use crate::points::print_points;
@@ -107,7 +107,7 @@ fn print_certificate(
     to: &mut Bytes,
 ) -> Result<(), AllocError>
     requires model { IsModel model.now }
-    requires read { All (IsRead (Some largest) model.now) sides.now }
+    requires read { All (IsRead (Some number_limit) model.now) sides.now }
     requires fits { IsFor (only model.now sides.now) certificate.now }
     ensures { OnOk result
         (to.new ≡ to.old ++ ended_lines (certificate_lines (only model.now sides.now) certificate.now)) }

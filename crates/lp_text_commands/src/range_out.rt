@@ -1,7 +1,7 @@
 // The solve of a model, and the range of one of its numbers.
 ghost use Rattle.std.specs.Prelude.{◌≡◌, ◌<◌, ◌++◌, OnOk, IfOk, IfErr, Ok, Some};
+ghost use Rattle.spec_exact.specs.Narrow.{number_limit};
 ghost use Rattle.spec_simplex.specs.Form.{form_of};
-ghost use Rattle.spec_solve.specs.Answers.{number_limit};
 ghost use Rattle.spec_range.specs.Span.{Keeps};
 ghost use Rattle.spec_commands.specs.RangeOut as ranges;
 ghost use Rattle.spec_server.specs.Output.{check_line};

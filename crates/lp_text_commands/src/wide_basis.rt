@@ -1,9 +1,9 @@
 // The solve of a model from the basis of a file, whose answer may have numbers of any width.
 ghost use Rattle.std.specs.Prelude.{◌≡◌, ◌++◌, IfSome, Ok, OnOk, Some};
+ghost use Rattle.spec_exact.specs.Narrow.{number_limit};
 ghost use Rattle.spec_check.specs.Certificate.{IsFor};
 ghost use Rattle.spec_simplex.specs.Eliminate.{IsBasisOf};
 ghost use Rattle.spec_simplex.specs.Form.{form_of};
-ghost use Rattle.spec_solve.specs.Answers.{number_limit};
 ghost use Rattle.spec_solve.specs.Wide.{IsWideFrom};
 ghost use Rattle.spec_server.specs.Machine.{opening_budget};
 ghost use Rattle.spec_commands.specs.BasisOut.{final_text};

@@ -6,7 +6,7 @@ use Rattle.std.specs.declared.cmp.Ordering.{Ordering}
 use Rattle.std.specs.declared.cmp.Ordering.TheVariants.{Less, Equal, Greater}
 use Rattle.std.proofs.lemmas.List.Elements.{All-append, All-replicate, All-set}
 use Rattle.spec_exact.specs.Fraction.{ℚ, 0ℚ, 1ℚ, neg_ℚ, lt_ℚ}
-use Rattle.spec_exact.specs.Narrow.{IsNarrow}
+use Rattle.spec_exact.specs.Narrow.{IsNarrow, number_limit}
 use Rattle.spec_exact.specs.Run.{Run, ◌>>=◌, refused_as, sum_run, difference_run, quotient_run, order_run}
 use Rattle.spec_exact.specs.Run.{less_product}
 use Rattle.spec_exact.proofs.Narrow.{neg_narrow}
@@ -26,7 +26,6 @@ use Rattle.spec_simplex.specs.Eliminate.{position_run, valued_run, with_values, 
 use Rattle.spec_simplex.specs.Fit.{is_there}
 use Rattle.spec_simplex.specs.Dual.{place_of}
 use Rattle.spec_path.proofs.Runs.{then_ok, refused_ok, steps_ok}
-use Rattle.spec_solve.specs.Answers.{number_limit}
 use Rattle.spec_solve.proofs.NarrowRuns.{zero_narrow, sum_narrow, difference_narrow, less_narrow}
 use Rattle.spec_solve.proofs.NarrowSteps.{NarrowBound, number_at, bound_at, stand_narrow}
 use Rattle.spec_solve.proofs.NarrowStart.{IsNarrowModel, IsNarrowForm, form_narrow, priced_narrow}

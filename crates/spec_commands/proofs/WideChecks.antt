@@ -4,6 +4,7 @@ use Rattle.std.proofs.Common.{sym, ap, ◌∙◌, subst}
 use Rattle.spec_text.specs.declared.line.Line.{Line}
 use Rattle.spec_exact.specs.Fraction.{ℚ}
 use Rattle.spec_exact.specs.declared.past.Past.{Past}
+use Rattle.spec_exact.specs.Narrow.{number_limit}
 use Rattle.spec_model.specs.Model.{Model}
 use Rattle.spec_mps.specs.declared.style.Style.{Style}
 use Rattle.spec_mps.specs.Reader.{State, start}
@@ -20,7 +21,6 @@ use Rattle.spec_certificate.specs.Text.{step_by}
 use Rattle.spec_certificate.specs.NarrowText.{ExactRaw, Outcome, narrow}
 use Rattle.spec_certificate.specs.WideText.{wide}
 use Rattle.spec_certificate.proofs.Wider.{step_same, is_read}
-use Rattle.spec_solve.specs.Answers.{number_limit}
 use Rattle.spec_server.specs.declared.asks.Reply.TheVariants as reply
 use Rattle.spec_server.specs.declared.asks.Refusal.TheVariants as refusal
 use Rattle.spec_server.specs.Machine.{ExactReply, verdict_on}

@@ -5,6 +5,7 @@ use Rattle.spec_text.specs.declared.line.Line.{Line}
 use Rattle.spec_text.specs.declared.line.Line.TheVariants.{Text}
 use Rattle.spec_text.specs.Lines.{ended_lines_of}
 use Rattle.spec_exact.specs.Fraction.{ℚ}
+use Rattle.spec_exact.specs.Narrow.{number_limit}
 use Rattle.spec_model.specs.Model.{Model}
 use Rattle.spec_model.specs.Kept.{IsModel}
 use Rattle.spec_mps.specs.declared.style.Style.{Style}
@@ -29,7 +30,6 @@ use Rattle.spec_certificate.specs.TextWritten.{wide_certificate_lines}
 use Rattle.spec_certificate.specs.TextRead.{AllNumbers, IsShortNumber}
 use Rattle.spec_certificate.proofs.ReadBack.{wide_read_back}
 use Rattle.spec_certificate.proofs.WideWords.{wide_word}
-use Rattle.spec_solve.specs.Answers.{number_limit}
 use Rattle.spec_solve.specs.declared.wide_solved.WideBased.TheVariants as based_end
 use Rattle.spec_solve.specs.declared.wide_solved.WideSolved.TheVariants as wide_end
 use Rattle.spec_solve.specs.Wide.{IsWideSolved}

@@ -2,6 +2,7 @@
 -- range of one number of the model in which the basis of the optimum stays optimal.
 use Rattle.std.specs.Prelude.{ℕ, ◌≡◌, ◌++◌, Option, Some, None, Result, Ok, Err, List, [], ◌∷◌, codes}
 use Rattle.spec_exact.specs.Fraction.{ℚ}
+use Rattle.spec_exact.specs.Narrow.{number_limit}
 use Rattle.spec_model.specs.Model.{Model, Name}
 use Rattle.spec_model.specs.Kept.{row_place, column_place}
 use Rattle.spec_check.specs.declared.certificate.Known.TheVariants as known
@@ -13,7 +14,7 @@ use Rattle.spec_simplex.specs.declared.ends.StartStop.TheVariants as stop
 use Rattle.spec_simplex.specs.Form.{Form, form_of}
 use Rattle.spec_cold.specs.Cold.{ExactSolveEnd}
 use Rattle.spec_warm.specs.Solve.{SolveEnd}
-use Rattle.spec_solve.specs.Answers.{IsSolved, number_limit}
+use Rattle.spec_solve.specs.Answers.{IsSolved}
 use Rattle.spec_range.specs.declared.range.Range.{Range}
 use Rattle.spec_range.specs.Rule.{cost_range, side_range}
 use Rattle.spec_server.specs.declared.answer.Answer.TheVariants as answer

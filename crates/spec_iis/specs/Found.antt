@@ -1,6 +1,7 @@
 -- What a search for an irreducible infeasible subset may end with, at the limit of the program.
 use Rattle.std.specs.Prelude.{ℕ, ◌≡◌, List, [], Option, Some, None, Ok}
 use Rattle.spec_exact.specs.Fraction.{ℚ}
+use Rattle.spec_exact.specs.Narrow.{number_limit}
 use Rattle.spec_model.specs.Model.{Model}
 use Rattle.spec_model.specs.Truth.{IsInfeasible}
 use Rattle.spec_check.specs.declared.certificate.Certificate.{Certificate}
@@ -12,7 +13,7 @@ use Rattle.spec_pivot.specs.declared.status.Status.{Status}
 use Rattle.spec_cold.specs.Cold.{ExactSolveEnd}
 use Rattle.spec_warm.specs.declared.ends.Route.TheVariants as route
 use Rattle.spec_solve.specs.Order.{GivesUp}
-use Rattle.spec_solve.specs.Answers.{number_limit, IsSolved}
+use Rattle.spec_solve.specs.Answers.{IsSolved}
 use Rattle.spec_iis.specs.declared.side.Side.{Side}
 use Rattle.spec_iis.specs.declared.outcome.Iis.{Iis}
 use Rattle.spec_iis.specs.declared.outcome.Iis.TheVariants.{Found, Other, Stopped}

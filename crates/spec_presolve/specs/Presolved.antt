@@ -2,6 +2,7 @@
 use Rattle.std.specs.Prelude.{ℕ, ◌≡◌, Option, Some, None, Result, Ok, Err, List}
 use Rattle.spec_exact.specs.Fraction.{ℚ}
 use Rattle.spec_exact.specs.Run.{Run}
+use Rattle.spec_exact.specs.Narrow.{number_limit}
 use Rattle.spec_model.specs.Model.{Model, width, height}
 use Rattle.spec_check.specs.declared.certificate.CheckStop.{CheckStop}
 use Rattle.spec_check.specs.declared.certificate.CheckStop.TheVariants as stop
@@ -11,7 +12,7 @@ use Rattle.spec_check.specs.Run.{check_run}
 use Rattle.spec_pivot.specs.declared.status.Status.{Status}
 use Rattle.spec_cold.specs.Cold.{ExactSolveEnd}
 use Rattle.spec_warm.specs.Solve.{SolveEnd}
-use Rattle.spec_solve.specs.Answers.{number_limit, MayAnswer, IsSolved}
+use Rattle.spec_solve.specs.Answers.{MayAnswer, IsSolved}
 use Rattle.spec_presolve.specs.declared.presolved.Why.{Why}
 use Rattle.spec_presolve.specs.declared.presolved.Why.TheVariants as why
 use Rattle.spec_presolve.specs.declared.presolved.Way.TheVariants.{Reduced, Plain}

@@ -1,13 +1,14 @@
 -- A solve answers what the cold solve at the limit finds.
 use Rattle.std.proofs.Common.{◌≡◌, ℕ, List, Option, Some, ap, ◌∙◌, subst, ◌⊎◌, inl, inr}
 use Rattle.spec_exact.specs.Fraction.{ℚ}
+use Rattle.spec_exact.specs.Narrow.{number_limit}
 use Rattle.spec_model.specs.Model.{Model}
 use Rattle.spec_check.specs.declared.certificate.Certificate.{Certificate}
 use Rattle.spec_check.specs.declared.certificate.Known.{Known}
 use Rattle.spec_pivot.specs.declared.status.Status.{Status}
 use Rattle.spec_check.specs.declared.solve_end.SolveEnd.TheVariants as outcome
 use Rattle.spec_cold.specs.Cold.{ExactSolveEnd, cold}
-use Rattle.spec_solve.specs.Answers.{number_limit, MayAnswer}
+use Rattle.spec_solve.specs.Answers.{MayAnswer}
 use Rattle.spec_solve.proofs.TrueAnswers.{cold_found}
 use Rattle.spec_reads.specs.Reads.{ExactRead}
 use Rattle.spec_server.specs.declared.asks.Ask.TheVariants as ask

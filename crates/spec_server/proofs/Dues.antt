@@ -2,6 +2,7 @@
 use Rattle.std.proofs.Common.{◌≡◌, ℕ, false, List, [], ◌∷◌, Option, Some, None, Result, Ok, Err, refl, inl}
 use Rattle.std.specs.Prelude.{IfSome}
 use Rattle.spec_exact.specs.Fraction.{ℚ}
+use Rattle.spec_exact.specs.Narrow.{number_limit}
 use Rattle.spec_model.specs.Model.{Model, Name}
 use Rattle.spec_model.specs.Kept.{IsModel}
 use Rattle.spec_mps.specs.declared.style.Style.{Style}
@@ -20,7 +21,6 @@ use Rattle.spec_simplex.specs.Form.{Form, form_of}
 use Rattle.spec_cold.specs.Cold.{ExactSolveEnd}
 use Rattle.spec_warm.specs.declared.ends.Route.TheVariants as route
 use Rattle.spec_solve.specs.Order.{cold_by}
-use Rattle.spec_solve.specs.Answers.{number_limit}
 use Rattle.spec_solve.proofs.Stated.{part_is_solved}
 use Rattle.spec_reads.specs.declared.read.Put.TheVariants.{Full}
 use Rattle.spec_reads.specs.declared.read.Read.TheVariants.{Count}

@@ -1,6 +1,7 @@
 -- The one-session machine: a session that holds its model, its budget and its last answer alone.
 use Rattle.std.specs.Prelude.{ℕ, Bool, true, false, Option, Some, None, Ok, Err, List, [], length, All}
 use Rattle.spec_exact.specs.Fraction.{ℚ}
+use Rattle.spec_exact.specs.Narrow.{number_limit}
 use Rattle.spec_model.specs.Model.{Model, Name}
 use Rattle.spec_model.specs.Kept.{IsModel}
 use Rattle.spec_check.specs.declared.certificate.Certificate.{Certificate}
@@ -20,7 +21,6 @@ use Rattle.spec_edit.specs.Edited as edits
 use Rattle.spec_pivot.specs.declared.status.Status.{Status}
 use Rattle.spec_check.specs.declared.solve_end.SolveEnd.TheVariants as outcome
 use Rattle.spec_cold.specs.Cold.{ExactSolveEnd}
-use Rattle.spec_solve.specs.Answers.{number_limit}
 use Rattle.spec_server.specs.declared.answer.Answer.{Answer}
 use Rattle.spec_server.specs.declared.answer.Answer.TheVariants as answer
 use Rattle.spec_server.specs.declared.answer.LastAnswer.{LastAnswer}

@@ -5,6 +5,7 @@ use Rattle.std.specs.Prelude.{ℕ, ◌≡◌, ◌⊎◌, ◌++◌, Bool, true, f
 use Rattle.std.specs.Prelude.{List, [], if◌then◌else◌}
 use Rattle.spec_text.specs.Words.{same}
 use Rattle.spec_exact.specs.Fraction.{ℚ}
+use Rattle.spec_exact.specs.Narrow.{number_limit}
 use Rattle.spec_model.specs.Model.{Model}
 use Rattle.spec_check.specs.declared.certificate.Known.TheVariants as known
 use Rattle.spec_pivot.specs.declared.status.Status.{Status}
@@ -15,7 +16,7 @@ use Rattle.spec_cold.specs.Cold.{ExactSolveEnd, cold}
 use Rattle.spec_warm.specs.declared.ends.Route.{Route}
 use Rattle.spec_warm.specs.declared.ends.Route.TheVariants as route
 use Rattle.spec_warm.specs.Solve.{SolveEnd}
-use Rattle.spec_solve.specs.Answers.{number_limit, IsSolved}
+use Rattle.spec_solve.specs.Answers.{IsSolved}
 use Rattle.spec_shape.specs.Words.{shape_of, packed, unpacked}
 use Rattle.spec_reads.specs.declared.read.Put.{Put}
 use Rattle.spec_reads.specs.Reads.{Words, ExactRead, Looked, LookReads, PutReads}

@@ -1,6 +1,7 @@
 -- The basis that a solve leaves is one of the model's form.
 use Rattle.std.proofs.Common.{◌≡◌, ℕ, List, Option, Some, None, IfSome, Result, Ok, Err, refl, sym, ap, ◌∙◌, subst}
 use Rattle.spec_exact.specs.Fraction.{ℚ}
+use Rattle.spec_exact.specs.Narrow.{number_limit}
 use Rattle.spec_model.specs.Model.{Model}
 use Rattle.spec_check.specs.declared.certificate.Certificate.{Certificate}
 use Rattle.spec_check.specs.declared.certificate.CheckStop.{CheckStop}
@@ -23,7 +24,7 @@ use Rattle.spec_warm.specs.Warm.{WarmEnd, WarmResult, warm_run, warm_certificate
 use Rattle.spec_warm.specs.Solve.{SolveEnd}
 use Rattle.spec_warm.proofs.TrueEnds.{run_left, phases_left}
 use Rattle.spec_revised.proofs.OverCold.{form_without}
-use Rattle.spec_solve.specs.Answers.{number_limit, ColdFits, WarmFits, IsSolved}
+use Rattle.spec_solve.specs.Answers.{ColdFits, WarmFits, IsSolved}
 
 module _ (known : Known ℚ) (c : Certificate (List ℚ)) (left : List Status) (pivots : ℕ) where
   cold_checked : (d : Certificate (List ℚ)) (basis : Option (List Status)) (n : ℕ)

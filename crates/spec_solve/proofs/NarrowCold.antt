@@ -5,7 +5,7 @@ use Rattle.std.proofs.Common.{List, nat_eq, refl, subst}
 use Rattle.std.specs.Prelude.{All}
 use Rattle.std.proofs.lemmas.List.Elements.{All-set}
 use Rattle.spec_exact.specs.Fraction.{ℚ, 0ℚ, 1ℚ, neg_ℚ}
-use Rattle.spec_exact.specs.Narrow.{IsNarrow}
+use Rattle.spec_exact.specs.Narrow.{IsNarrow, number_limit}
 use Rattle.spec_model.specs.Model.{Model}
 use Rattle.spec_model.specs.Kept.{IsModel}
 use Rattle.spec_check.specs.declared.certificate.Certificate.{Certificate}
@@ -39,7 +39,6 @@ use Rattle.spec_cold.specs.Cold.{ExactSolveEnd, point, multipliers, moves_below,
 use Rattle.spec_cold.specs.Cold.{certificate_of}
 use Rattle.spec_cold.specs.Cold.{basis_of, pivots_of, checked, after_phases, after_form, cold}
 use Rattle.spec_path.proofs.Runs.{then_ok, refused_ok}
-use Rattle.spec_solve.specs.Answers.{number_limit}
 use Rattle.spec_solve.proofs.NarrowRuns.{zero_narrow}
 use Rattle.spec_solve.proofs.NarrowSteps.{NarrowBound, AreNarrow, number_at, place_narrow, flip_narrow, pivot_narrow}
 use Rattle.spec_solve.proofs.NarrowStart.{IsNarrowForm, one_narrow, form_narrow, start_narrow, priced_narrow}

@@ -6,7 +6,7 @@ use Rattle.std.specs.Prelude.{All, nat_lt}
 use Rattle.std.proofs.lemmas.List.Elements.{All-nil, All-set}
 use Rattle.spec_exact.specs.Fraction.{ℚ, 0ℚ, 1ℚ, neg_ℚ, ◌*ℚ◌}
 use Rattle.spec_exact.proofs.Ruleset.{one-*ℚ, neg-*ℚ}
-use Rattle.spec_exact.specs.Narrow.{IsNarrow}
+use Rattle.spec_exact.specs.Narrow.{IsNarrow, number_limit}
 use Rattle.spec_model.specs.Model.{Model}
 use Rattle.spec_model.specs.Kept.{IsModel}
 use Rattle.spec_check.specs.declared.certificate.Certificate.{Certificate}
@@ -44,7 +44,6 @@ use Rattle.spec_factor.specs.Over.{RevisedEnded, over_or_spent, over_or_next, ov
 use Rattle.spec_factor.specs.Over.{second_state, OverEnd, negatives, stuck_answer, over_certificate, end_answer}
 use Rattle.spec_factor.specs.Over.{over_two}
 use Rattle.spec_factor.specs.Over.{over_phases, over_run, after_over, over_factors}
-use Rattle.spec_solve.specs.Answers.{number_limit}
 use Rattle.spec_solve.proofs.NarrowRuns.{zero_narrow, quotient_narrow, less_narrow, all_given}
 use Rattle.spec_solve.proofs.NarrowSteps.{AreNarrow, number_at, moved_narrow, shifted_narrow}
 use Rattle.spec_solve.proofs.NarrowSteps.{flip_narrow, exchanged_narrow}

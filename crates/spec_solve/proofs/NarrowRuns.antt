@@ -10,14 +10,13 @@ use Rattle.spec_exact.specs.Gcd.{gcd}
 use Rattle.spec_exact.specs.Quotients.{abs-int_div}
 use Rattle.spec_exact.specs.Limit.{fits, left_num, right_num, whole_sum, sum_common, sum_num, sum_den, sum_fits}
 use Rattle.spec_exact.specs.Limit.{product_num, product_den, product_fits, add, sub, mul, div}
-use Rattle.spec_exact.specs.Narrow.{IsNarrow}
+use Rattle.spec_exact.specs.Narrow.{IsNarrow, number_limit}
 use Rattle.spec_exact.specs.Answer.{told}
 use Rattle.spec_exact.specs.declared.past.Op.{Op}
 use Rattle.spec_exact.specs.declared.past.Op.TheVariants.{Add, Sub, Div}
 use Rattle.spec_exact.specs.Run.{Run, sum_run, difference_run, product_run, quotient_run, plus_product, less_product}
 use Rattle.spec_exact.specs.Run.{list_run}
 use Rattle.spec_path.proofs.Runs.{then_ok, list_ok}
-use Rattle.spec_solve.specs.Answers.{number_limit}
 
 pub zero_narrow : IsNarrow 0ℚ
 unfolding whole

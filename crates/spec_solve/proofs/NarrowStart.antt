@@ -7,7 +7,7 @@ use Rattle.std.specs.declared.cmp.Ordering.{Ordering}
 use Rattle.std.specs.declared.cmp.Ordering.TheVariants.{Less, Equal, Greater}
 use Rattle.std.proofs.lemmas.List.Elements.{All-nil, All-append, All-map, All-replicate}
 use Rattle.spec_exact.specs.Fraction.{ℚ, 0ℚ, 1ℚ, whole, lt_ℚ}
-use Rattle.spec_exact.specs.Narrow.{IsNarrow}
+use Rattle.spec_exact.specs.Narrow.{IsNarrow, number_limit}
 use Rattle.spec_model.specs.declared.parts.Sense.{Sense}
 use Rattle.spec_model.specs.declared.parts.Sense.TheVariants.{Min, Max}
 use Rattle.spec_model.specs.declared.parts.Kind.{Kind}
@@ -34,7 +34,6 @@ use Rattle.spec_exact.proofs.Results.{ok_same}
 use Rattle.spec_exact.proofs.Stops.{All-made}
 use Rattle.spec_exact.proofs.Narrow.{neg_narrow}
 use Rattle.spec_path.proofs.Runs.{then_ok, refused_ok, steps_ok}
-use Rattle.spec_solve.specs.Answers.{number_limit}
 use Rattle.spec_solve.proofs.NarrowRuns.{zero_narrow, sum_narrow, difference_narrow, plus_narrow, less_narrow}
 use Rattle.spec_solve.proofs.NarrowRuns.{all_given}
 use Rattle.spec_solve.proofs.NarrowSteps.{NarrowBound, AreNarrow, at, number_at, bound_at, or_zero_narrow}

@@ -6,7 +6,7 @@ use Rattle.std.proofs.lemmas.Bool.{cases_lt}
 use Rattle.std.proofs.lemmas.List.{get_or_past}
 use Rattle.std.proofs.lemmas.List.Elements.{All-nil, All-set}
 use Rattle.spec_exact.specs.Fraction.{ℚ, 0ℚ}
-use Rattle.spec_exact.specs.Narrow.{IsNarrow}
+use Rattle.spec_exact.specs.Narrow.{IsNarrow, number_limit}
 use Rattle.spec_pivot.specs.declared.status.Status.{Status}
 use Rattle.spec_pivot.specs.declared.status.Status.TheVariants.{Basic, AtLower, AtUpper, AtZero}
 use Rattle.spec_exact.specs.Run.{Run, difference_run, list_run, less_product, quotient_run, sum_run}
@@ -16,7 +16,6 @@ use Rattle.spec_simplex.specs.Step.{directed, other_bound, is_place, moved_at, m
 use Rattle.spec_simplex.specs.Step.{scaled_run, cleared_run, turned_run, repriced_run, leave_bound, exchanged, turned}
 use Rattle.spec_simplex.specs.Step.{shifted_run, pivot_run}
 use Rattle.spec_path.proofs.Runs.{then_ok, steps_ok}
-use Rattle.spec_solve.specs.Answers.{number_limit}
 use Rattle.spec_solve.proofs.NarrowRuns.{zero_narrow, sum_narrow, quotient_narrow, less_narrow, all_given}
 
 abbrev pub NarrowBound : Option ℚ → Type 0

@@ -4,6 +4,7 @@ use Rattle.std.proofs.Common.{◌≡◌, ℕ, ◌<◌, Bool, true, false, leb, l
 use Rattle.std.proofs.Common.{refl, sym, ap, ◌∙◌, subst}
 use Rattle.std.proofs.lemmas.Bool.{leb-false}
 use Rattle.spec_exact.specs.Fraction.{ℚ}
+use Rattle.spec_exact.specs.Narrow.{number_limit}
 use Rattle.spec_model.specs.Model.{Model}
 use Rattle.spec_check.specs.declared.certificate.Certificate.{Certificate}
 use Rattle.spec_check.specs.declared.certificate.Certificate.TheVariants as certificate
@@ -28,7 +29,7 @@ use Rattle.spec_factor.specs.Over.{over_factors}
 use Rattle.spec_solve.specs.Order.{GivesUp, MayEndCold, Answered, GaveUp, MayEndBy, MayEnd}
 use Rattle.spec_solve.proofs.Orders as orders
 use Rattle.spec_solve.proofs.Orders.{part_true, part_ends, tableaus_give_up, factors_give_up, formless_ends}
-use Rattle.spec_solve.specs.Answers.{number_limit, enough_pivots, MayAnswer, ColdFits, WarmFits, IsSolved}
+use Rattle.spec_solve.specs.Answers.{enough_pivots, MayAnswer, ColdFits, WarmFits, IsSolved}
 
 -- ---- the cold solve
 

@@ -1,6 +1,7 @@
 -- What the two stated runs end with may be answered, of a model that may be kept.
 use Rattle.std.proofs.Common.{◌≡◌, ℕ, List, Option, Some, None, Result, Ok, Err, refl, ◌∙◌, subst}
 use Rattle.spec_exact.specs.Fraction.{ℚ}
+use Rattle.spec_exact.specs.Narrow.{number_limit}
 use Rattle.spec_model.specs.Model.{Model}
 use Rattle.spec_model.specs.Kept.{IsModel}
 use Rattle.spec_check.specs.declared.certificate.Certificate.{Certificate}
@@ -14,7 +15,7 @@ use Rattle.spec_cold.specs.Cold.{ExactSolveEnd, cold}
 use Rattle.spec_warm.specs.declared.ends.Route.TheVariants as route
 use Rattle.spec_factor.specs.Over.{over_factors}
 use Rattle.spec_solve.specs.Order.{MayEndCold, or_tableaus, cold_by, cold_over}
-use Rattle.spec_solve.specs.Answers.{number_limit, IsSolved}
+use Rattle.spec_solve.specs.Answers.{IsSolved}
 use Rattle.spec_solve.proofs.Orders.{part_true, by_may}
 use Rattle.spec_solve.proofs.NarrowCold.{cold_narrow}
 use Rattle.spec_solve.proofs.NarrowOver.{over_narrow}

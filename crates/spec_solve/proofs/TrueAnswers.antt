@@ -1,6 +1,7 @@
 -- What may be answered is true, and is what the cold solve at the limit finds.
 use Rattle.std.proofs.Common.{◌≡◌, ℕ, List, Option, Some, refl, sym, ap, ◌∙◌, subst, pos}
 use Rattle.spec_exact.specs.Fraction.{ℚ}
+use Rattle.spec_exact.specs.Narrow.{number_limit}
 use Rattle.spec_model.specs.Model.{Model}
 use Rattle.spec_model.proofs.Exclusion.{one_optimum, not_both}
 use Rattle.spec_check.specs.declared.certificate.Certificate.{Certificate}
@@ -13,7 +14,7 @@ use Rattle.spec_pivot.specs.declared.status.Status.{Status}
 use Rattle.spec_check.specs.declared.solve_end.SolveEnd.TheVariants.{Ended, Past, Spent}
 use Rattle.spec_cold.specs.Cold.{ExactSolveEnd, cold}
 use Rattle.spec_cold.proofs.Solved.{ended_is_true}
-use Rattle.spec_solve.specs.Answers.{number_limit, MayAnswer}
+use Rattle.spec_solve.specs.Answers.{MayAnswer}
 
 pub ended_true : (m : Model) (budget : ℕ) (known : Known ℚ) (cert : Certificate (List ℚ)) (basis : Option (List Status))
     (pivots : ℕ) →

@@ -1,6 +1,7 @@
 -- What a solve at the limit of the program may end with.
 use Rattle.std.specs.Prelude.{◌≡◌, ◌*◌, ◌+◌, ◌^◌, ◌<◌, ℕ, Option, Some, None, Ok, Err, List}
 use Rattle.spec_exact.specs.Fraction.{ℚ}
+use Rattle.spec_exact.specs.Narrow.{number_limit}
 use Rattle.spec_model.specs.Model.{Model, width, height}
 use Rattle.spec_check.specs.Certificate.{IsFor, IsNarrowCertificate}
 use Rattle.spec_check.specs.Run.{check_run}
@@ -15,10 +16,6 @@ use Rattle.spec_warm.specs.Warm.{WarmResult, warm as warm_start}
 use Rattle.spec_warm.specs.Solve.{SolveEnd, fall_of}
 use Rattle.spec_factor.specs.Over.{over_factors}
 use Rattle.spec_solve.specs.Order.{GivesUp}
-
--- the limit of the numbers that the program holds, 2 ^ 127 - 1
-abbrev pub number_limit : ℕ
-number_limit = 170141183460469231731687303715884105727
 
 -- so many pivots and flips are enough for each model of that size (`a_stated_budget_is_enough` of spec_cold)
 abbrev pub enough_pivots : Model → ℕ

@@ -2,6 +2,7 @@
 use Rattle.std.specs.Prelude.{◌≡◌, ◌⊎◌, ℕ, List, Option, Some, None, Ok}
 use Rattle.spec_exact.specs.Fraction.{ℚ}
 use Rattle.spec_exact.specs.declared.past.Past.{Past}
+use Rattle.spec_exact.specs.Narrow.{number_limit}
 use Rattle.spec_model.specs.Model.{Model}
 use Rattle.spec_check.specs.declared.certificate.Certificate.{Certificate}
 use Rattle.spec_check.specs.declared.certificate.Known.{Known}
@@ -23,7 +24,7 @@ use Rattle.spec_solve.specs.declared.wide_solved.WideBased.{WideBased}
 use Rattle.spec_solve.specs.declared.wide_solved.WideBased.TheVariants as based
 use Rattle.spec_solve.specs.declared.wide_solved.WideSolved.{WideSolved}
 use Rattle.spec_solve.specs.declared.wide_solved.WideSolved.TheVariants.{Narrow, Wide}
-use Rattle.spec_solve.specs.Answers.{number_limit, IsSolved}
+use Rattle.spec_solve.specs.Answers.{IsSolved}
 use Rattle.spec_solve.specs.OfBasis.{IsOfBasis}
 
 abbrev pub WideEnd : Type 0

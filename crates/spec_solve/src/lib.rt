@@ -13,7 +13,7 @@
 //! | `WideBased`, `WideAnswer`, `IsWideFrom` | the same of one to which a basis may be handed | src/wide_solved, specs/Wide |
 //! | `IsOfSomeBasis` | the answer of any basis of the model's form, to whose certificate the checker says yes | specs/Wide |
 //! | `IsOfBasis`, `StandsAt` | the certificate of a basis | specs/OfBasis |
-//! | `number_limit`, `enough_pivots` | the limit of the program, and so many pivots and flips as are enough | specs/Answers |
+//! | `enough_pivots` | so many pivots and flips as are enough | specs/Answers |
 //!
 //! All runs take a limit: `Some m` refuses numbers past m, `None` refuses nothing. The functions here have the laws as
 //! their contracts.
@@ -26,6 +26,7 @@ mod wide_solved;
 ghost use Rattle.std.specs.Prelude.{◌≡◌, ◌⊎◌, ℕ, List, Option, Some, None, Ok, Err, IfSome};
 ghost use Rattle.spec_exact.specs.Fraction.{ℚ};
 ghost use Rattle.spec_exact.specs.declared.past.Past.{Past};
+ghost use Rattle.spec_exact.specs.Narrow.{number_limit};
 ghost use Rattle.spec_model.specs.Model.{Model, value_of};
 ghost use Rattle.spec_model.specs.Truth.{IsOptimal};
 ghost use Rattle.spec_model.specs.Kept.{IsModel};
@@ -46,7 +47,7 @@ ghost use Rattle.spec_warm.specs.declared.ends.Route.TheVariants as route;
 ghost use Rattle.spec_warm.specs.Solve.{SolveEnd, HasBasis, solve};
 ghost use Rattle.spec_factor.specs.Over.{over_factors};
 ghost use Rattle.spec_solve.specs.Order.{GivesUp, MayEndCold, MayEnd, cold_over};
-ghost use Rattle.spec_solve.specs.Answers.{number_limit, MayAnswer, IsSolved};
+ghost use Rattle.spec_solve.specs.Answers.{MayAnswer, IsSolved};
 ghost use Rattle.spec_solve.specs.OfBasis.{StandsAt};
 ghost use Rattle.spec_solve.specs.declared.wide_solved.WideBased.TheVariants as based;
 ghost use Rattle.spec_solve.specs.declared.wide_solved.WideSolved.TheVariants as wide;

@@ -3,6 +3,7 @@ use Rattle.std.proofs.Common.{◌≡◌, ℕ, ◌+◌, List, [], ◌∷◌, ◌+
 use Rattle.std.proofs.Common.{subst, ◌⊎◌, inl, inr}
 use Rattle.spec_text.specs.declared.line.Line.{Line}
 use Rattle.spec_exact.specs.Fraction.{ℚ}
+use Rattle.spec_exact.specs.Narrow.{number_limit}
 use Rattle.spec_model.specs.Model.{Model}
 use Rattle.spec_mps.specs.declared.fault.Code.TheVariants as code
 use Rattle.spec_mps.specs.declared.fault.MpsFault.{MpsFault}
@@ -19,7 +20,6 @@ use Rattle.spec_bas.specs.Fits.{HasSizeOf}
 use Rattle.spec_bas.proofs.Files.{gives_spells, spells_gives}
 use Rattle.spec_bas.proofs.Sizes.{sized}
 use Rattle.spec_commands.specs.declared.basis.BasisFault.TheVariants as fault
-use Rattle.spec_solve.specs.Answers.{number_limit}
 use Rattle.spec_server.specs.Said.{follow, said_by}
 use Rattle.spec_server.specs.TextSaid.{TextSaid, behind_line, text_step}
 use Rattle.spec_commands.specs.BasisOut.{Handed, InText, InFile, BasisSaid, begun_file, behind_text, behind_file, basis_step}

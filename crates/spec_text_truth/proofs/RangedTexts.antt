@@ -9,7 +9,7 @@ use borrow.Author.Tests.{leb-true}
 use Rattle.spec_text.specs.declared.line.Line.{Line}
 use Rattle.spec_exact.specs.Fraction.{ℚ}
 use Rattle.spec_exact.specs.declared.past.Past.{Past}
-use Rattle.spec_exact.specs.Narrow.{IsNarrow}
+use Rattle.spec_exact.specs.Narrow.{IsNarrow, number_limit}
 use Rattle.spec_model.specs.Model.{Model, Name}
 use Rattle.spec_model.specs.Truth.{IsOptimal, IsInfeasible, IsUnbounded}
 use Rattle.spec_model.specs.Kept.{is_printable}
@@ -29,7 +29,7 @@ use Rattle.spec_simplex.specs.declared.ends.StartStop.TheVariants as stop
 use Rattle.spec_simplex.specs.Form.{Form, form_of}
 use Rattle.spec_cold.specs.Cold.{ExactSolveEnd}
 use Rattle.spec_warm.specs.Solve.{SolveEnd}
-use Rattle.spec_solve.specs.Answers.{IsSolved, MayAnswer, number_limit}
+use Rattle.spec_solve.specs.Answers.{IsSolved, MayAnswer}
 use Rattle.spec_solve.proofs.NarrowStart.{IsNarrowModel}
 use Rattle.spec_solve.proofs.NarrowSteps.{NarrowBound}
 use Rattle.spec_range.specs.declared.range.Range.{Range}

@@ -3,6 +3,7 @@
 use Rattle.std.specs.Prelude.{ℕ, ◌≡◌, Option, Some, None, Result, Ok, Err, List, [], ◌∷◌, ◌++◌}
 use Rattle.spec_text.specs.declared.line.Line.{Line}
 use Rattle.spec_exact.specs.Fraction.{ℚ}
+use Rattle.spec_exact.specs.Narrow.{number_limit}
 use Rattle.spec_model.specs.Model.{Model}
 use Rattle.spec_mps.specs.declared.style.Style.{Style}
 use Rattle.spec_mps.specs.Steps as text
@@ -12,7 +13,6 @@ use Rattle.spec_simplex.specs.Form.{Form, form_of}
 use Rattle.spec_bas.specs.declared.fault.BasCode.{BasCode}
 use Rattle.spec_bas.specs.Steps as file
 use Rattle.spec_bas.specs.Spelled.{SpellsBasis}
-use Rattle.spec_solve.specs.Answers.{number_limit}
 use Rattle.spec_server.specs.TextSaid.{text_said}
 use Rattle.spec_commands.specs.BasisOut.{Handed}
 

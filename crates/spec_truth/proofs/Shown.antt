@@ -4,7 +4,7 @@ use Rattle.std.proofs.Common.{◌≡◌, ℕ, List, Some, Ok, Err, refl, sym, ap
 use Rattle.spec_exact.specs.Fraction.{ℚ}
 use Rattle.spec_exact.specs.Limit.{add}
 use Rattle.spec_exact.specs.Answer.{told}
-use Rattle.spec_exact.specs.Narrow.{IsNarrow}
+use Rattle.spec_exact.specs.Narrow.{IsNarrow, number_limit}
 use Rattle.spec_exact.specs.declared.past.Op.TheVariants.{Add}
 use Rattle.spec_exact.proofs.Results.{ok_same}
 use Rattle.spec_model.specs.Model.{Model, width, height}
@@ -29,7 +29,7 @@ use Rattle.spec_check.proofs.UnboundedSound.{unbounded_ok}
 use Rattle.spec_check.proofs.StepsSound.{after_ok, step_ok}
 use Rattle.spec_check.specs.declared.solve_end.SolveEnd.TheVariants as outcome
 use Rattle.spec_cold.specs.Cold.{ExactSolveEnd}
-use Rattle.spec_solve.specs.Answers.{number_limit, MayAnswer}
+use Rattle.spec_solve.specs.Answers.{MayAnswer}
 use Rattle.spec_solve.proofs.NarrowRuns.{sum_narrow}
 use Rattle.spec_server.specs.declared.answer.Answer.{Answer}
 use Rattle.spec_server.specs.declared.answer.Answer.TheVariants as answer

@@ -3,6 +3,7 @@ use Rattle.std.proofs.Common.{◌≡◌, ℕ, zero, suc, Bool, true, false, List
 use Rattle.std.proofs.Common.{Result, Ok, refl, sym, ap, ◌∙◌, subst, ◌⊎◌, inl, inr}
 use Rattle.spec_text.proofs.WordLemmas.{same_is_equal}
 use Rattle.spec_exact.specs.Fraction.{ℚ}
+use Rattle.spec_exact.specs.Narrow.{number_limit}
 use Rattle.spec_model.specs.Model.{Model}
 use Rattle.spec_model.specs.Kept.{IsModel}
 use Rattle.spec_check.specs.declared.certificate.Known.TheVariants as known
@@ -11,7 +12,6 @@ use Rattle.spec_simplex.specs.Form.{Form, IsForm, form_of}
 use Rattle.spec_simplex.specs.Eliminate.{IsBasisOf}
 use Rattle.spec_check.specs.declared.solve_end.SolveEnd.TheVariants.{Ended, Past, Spent}
 use Rattle.spec_cold.specs.Cold.{ExactSolveEnd}
-use Rattle.spec_solve.specs.Answers.{number_limit}
 use Rattle.spec_solve.proofs.Left.{solved_left}
 use Rattle.spec_shape.specs.Words.{shape_of, packed, IsWellFormed}
 use Rattle.spec_shape.proofs.Bases.{packed_fits, unpacked_fits}

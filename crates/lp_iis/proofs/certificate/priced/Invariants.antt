@@ -3,11 +3,11 @@ use Rattle.std.proofs.Common.{◌≡◌, Some, Ok}
 use Rattle.spec_exact.specs.Fraction.{0ℚ}
 use Rattle.spec_model.specs.Model.{coefficient, part}
 use Rattle.spec_exact.specs.Run.{steps}
+use Rattle.spec_exact.specs.Narrow.{number_limit}
 use Rattle.spec_check.specs.Run as run
-use Rattle.lp_frac.specs.Narrow.{largest}
 use Rattle.lp_iis.proofs.certificate.priced.Given as goal
 
 -- the sum so far
 abbrev pub invariant-loop-i : goal.invariant-loop-i
 invariant-loop-i l =
-    steps l.i (λ k s. run.plus_product (Some largest) (part l.y k) (coefficient l.model k l.j) s) 0ℚ ≡ Ok l.sum
+    steps l.i (λ k s. run.plus_product (Some number_limit) (part l.y k) (coefficient l.model k l.j) s) 0ℚ ≡ Ok l.sum

@@ -1,9 +1,9 @@
 -- One side more, that is left out or kept.
 use Rattle.std.proofs.Common.{Some, ◌<◌, ◌+◌, ◌++◌, ◌∷◌, length, drop, sym, ◌∙◌, subst, subst₂, arith}
 use Rattle.std.specs.Prelude.{All}
+use Rattle.spec_exact.specs.Narrow.{number_limit}
 use Rattle.spec_iis.specs.Sides.{IsSide}
 use Rattle.spec_iis.specs.Rule.{IsRead, IsClash}
-use Rattle.lp_frac.specs.Narrow.{largest}
 use Rattle.lp_iis.specs.Ways.{IsSeen}
 use Rattle.lp_iis.proofs.Steps.{ahead_first, ahead_at, others_present, others_read, others_reached}
 use Rattle.lp_iis.proofs.Steps.{ahead_without, ahead_kept, ahead_same}
@@ -26,7 +26,7 @@ look_without-requires-clause-present c =
 pub look_without-requires-clause-read : goal.look_without-requires-clause-read
 look_without-requires-clause-read c =
     let l : c.loop-i.i < length c.args.sides.now = omega (arith, c.loop-i-test.true, c.len-i-end.ensures) in
-    subst (λ rest. All (IsRead (Some largest) c.args.model.now) (c.loop-i.kept ++ rest)) (sym c.behind.ensures)
+    subst (λ rest. All (IsRead (Some number_limit) c.args.model.now) (c.loop-i.kept ++ rest)) (sym c.behind.ensures)
     (others_read c.args.model.now c.args.sides.now c.loop-i.kept c.at-side.result _ c.loop-i.points c.loop-i.clash
     (ahead_at c.args.model.now c.args.sides.now c.loop-i.kept c.loop-i.points c.loop-i.clash c.loop-i.i c.at-side.result l
     c.at-side.ensures c.loop-i.invariant))

@@ -1,11 +1,11 @@
 use Rattle.std.proofs.Common.{sym, subst, Some}
 use Rattle.std.specs.Prelude.{All}
+use Rattle.spec_exact.specs.Narrow.{number_limit}
 use Rattle.spec_model.specs.Truth.{IsInfeasible}
 use Rattle.spec_iis.specs.Sides.{IsSide}
 use Rattle.spec_iis.specs.Only.{only}
 use Rattle.spec_iis.specs.Rule.{IsRead}
 use Rattle.spec_iis.specs.Found.{MayFind}
-use Rattle.lp_frac.specs.Narrow.{largest}
 use Rattle.lp_iis.specs.Ways.{IsLeft, MayEnd}
 use Rattle.lp_iis.proofs.Steps.{begun_fits, begun_accepted, begun_clash, begun_read, stopped_at, may_find, ok_weaker}
 use Rattle.lp_iis.proofs.finding.reduced.Goals as goal
@@ -28,7 +28,7 @@ filter-requires-clause-infeasible c =
 
 pub filter-requires-clause-read : goal.filter-requires-clause-read
 filter-requires-clause-read c =
-    subst (All (IsRead (Some largest) c.args.model.now)) (sym c.in_ok-sides.ensures)
+    subst (All (IsRead (Some number_limit) c.args.model.now)) (sym c.in_ok-sides.ensures)
     (begun_read c.args.budget c.args.model.now c.args.certificate.now c.requires.begun)
 
 pub returns-in-Kept : goal.returns-in-Kept

@@ -1,8 +1,8 @@
 use Rattle.std.proofs.Common.{Some, sym, subst}
 use Rattle.std.specs.Prelude.{All}
+use Rattle.spec_exact.specs.Narrow.{number_limit}
 use Rattle.spec_iis.specs.Sides.{IsSide}
 use Rattle.spec_iis.specs.Rule.{IsRead}
-use Rattle.lp_frac.specs.Narrow.{largest}
 use Rattle.lp_iis.proofs.look.look_at_both.Goals as goal
 
 pub look_at-look-requires-clause-present : goal.look_at-look-requires-clause-present
@@ -11,4 +11,4 @@ look_at-look-requires-clause-present c =
 
 pub look_at-look-requires-clause-read : goal.look_at-look-requires-clause-read
 look_at-look-requires-clause-read c =
-    subst (All (IsRead (Some largest) c.args.model.now)) (sym c.in_ok-sides.ensures) c.requires.read
+    subst (All (IsRead (Some number_limit) c.args.model.now)) (sym c.in_ok-sides.ensures) c.requires.read

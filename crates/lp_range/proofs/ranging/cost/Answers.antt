@@ -1,40 +1,42 @@
 -- The tableau suits the model; and a range, or what stops one.
 use Rattle.std.proofs.Common.{Some}
-use Rattle.lp_frac.specs.Narrow.{largest}
+use Rattle.spec_exact.specs.Narrow.{number_limit}
 use Rattle.lp_range.proofs.Seated.{suited}
 use Rattle.lp_range.proofs.Ranged.{all_statuses, cost_ok, cost_is, cost_refused, cost_stops}
 use Rattle.lp_range.proofs.ranging.cost.Goals as goal
 
 pub start_from-requires : goal.start_from-requires
 start_from-requires c =
-    all_statuses (Some largest) c.args.model.now c.args.form.now c.args.basis.now c.requires.formed c.requires.keeps
+    all_statuses (Some number_limit) c.args.model.now c.args.form.now c.args.basis.now c.requires.formed
+    c.requires.keeps
 
 pub cost_at-range-requires-clause-wide : goal.cost_at-range-requires-clause-wide
 cost_at-range-requires-clause-wide c =
-    (suited (Some largest) c.args.model.now c.args.form.now c.args.basis.now _ c.requires.formed c.requires.keeps
+    (suited (Some number_limit) c.args.model.now c.args.form.now c.args.basis.now _ c.requires.formed c.requires.keeps
     c.in-Ok.ensures.ok).cols
 
 pub cost_at-range-requires-clause-seated : goal.cost_at-range-requires-clause-seated
 cost_at-range-requires-clause-seated c =
-    (suited (Some largest) c.args.model.now c.args.form.now c.args.basis.now _ c.requires.formed c.requires.keeps
+    (suited (Some number_limit) c.args.model.now c.args.form.now c.args.basis.now _ c.requires.formed c.requires.keeps
     c.in-Ok.ensures.ok).seated
 
 pub returns-in-Ok-clause-ok : goal.returns-in-Ok-clause-ok
 returns-in-Ok-clause-ok c =
-    cost_ok (Some largest) c.args.model.now c.args.form.now c.args.basis.now c.requires.formed c.requires.keeps
+    cost_ok (Some number_limit) c.args.model.now c.args.form.now c.args.basis.now c.requires.formed c.requires.keeps
     _ c.in-Ok.ensures.ok c.args.col _ c.cost_at-range.ensures _ c.answer.ensures
 
 pub returns-in-Ok-clause-range : goal.returns-in-Ok-clause-range
 returns-in-Ok-clause-range c =
-    cost_is (Some largest) c.args.model.now c.args.form.now c.args.basis.now c.requires.formed c.requires.keeps
+    cost_is (Some number_limit) c.args.model.now c.args.form.now c.args.basis.now c.requires.formed c.requires.keeps
     _ c.in-Ok.ensures.ok c.args.col _ c.cost_at-range.ensures c.requires.column _ c.answer.ensures
 
 pub returns-in-Ok-clause-err : goal.returns-in-Ok-clause-err
 returns-in-Ok-clause-err c =
-    cost_refused (Some largest) c.args.model.now c.args.form.now c.args.basis.now c.requires.formed c.requires.keeps
+    cost_refused (Some number_limit) c.args.model.now c.args.form.now c.args.basis.now c.requires.formed
+    c.requires.keeps
     _ c.in-Ok.ensures.ok c.args.col _ c.cost_at-range.ensures _ c.answer.ensures
 
 pub returns-in-Err-clause-err : goal.returns-in-Err-clause-err
 returns-in-Err-clause-err c =
-    cost_stops (Some largest) c.args.model.now c.args.form.now c.args.basis.now c.requires.formed c.requires.keeps
+    cost_stops (Some number_limit) c.args.model.now c.args.form.now c.args.basis.now c.requires.formed c.requires.keeps
     c.args.col c.in-Err.stop c.in-Err.ensures.err

@@ -1,9 +1,9 @@
 -- The certificate fits the model, the basis is one of the form, and the count is that of the end.
 use Rattle.std.proofs.Common.{List, Option, Some, IfSome, sym, subst, ◌∙◌}
+use Rattle.spec_exact.specs.Narrow.{number_limit}
 use Rattle.spec_check.specs.Certificate.{IsFor}
 use Rattle.spec_pivot.specs.declared.status.Status.{Status}
 use Rattle.spec_simplex.specs.Eliminate.{IsBasisOf}
-use Rattle.lp_frac.specs.Narrow.{largest}
 use Rattle.lp_solve.proofs.Solved.{finishes}
 use Rattle.lp_solve.proofs.cold.finished.Goals as goal
 
@@ -19,4 +19,4 @@ answered-requires-clause-fits c =
 pub returns-clause-answer : goal.returns-clause-answer
 returns-clause-answer c =
     rw (c.in_ok-certificate.ensures.value, c.basis_of.ensures, c.in_ok-statuses.ensures) at c.answered.ensures.answer
-    ∙ finishes (Some largest) c.args.model.now c.args.ended.now.tab c.args.ended.now.used c.args.ended.now.end
+    ∙ finishes (Some number_limit) c.args.model.now c.args.ended.now.tab c.args.ended.now.used c.args.ended.now.end

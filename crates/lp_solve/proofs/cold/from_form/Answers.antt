@@ -1,7 +1,7 @@
 -- A refusal in the start, a certificate that fits, and a basis of the form.
 use Rattle.std.proofs.Common.{◌≡◌, IfOk, Some, sym, subst}
+use Rattle.spec_exact.specs.Narrow.{number_limit}
 use Rattle.spec_cold.specs.Cold.{after_phases}
-use Rattle.lp_frac.specs.Narrow.{largest}
 use Rattle.lp_solve.proofs.Solved.{start_stop, refused_from, end_fits}
 use Rattle.lp_solve.proofs.Left.{phases_leave}
 use Rattle.lp_solve.proofs.cold.from_form.Goals as goal
@@ -20,5 +20,5 @@ finished-end-requires-clause-based c =
 
 pub returns-in-Ok-phases-clause-answer : goal.returns-in-Ok-phases-clause-answer
 returns-in-Ok-phases-clause-answer c =
-    subst (λ run. IfOk c.finished-end.result (λ s. s ≡ after_phases (Some largest) c.args.model.now run))
+    subst (λ run. IfOk c.finished-end.result (λ s. s ≡ after_phases (Some number_limit) c.args.model.now run))
     (sym c.in-Ok-phases.ensures.answer) c.finished-end.ensures.answer

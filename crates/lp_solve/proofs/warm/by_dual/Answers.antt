@@ -1,10 +1,10 @@
 -- The end of the run, its certificate and basis, and a stop.
 use Rattle.std.proofs.Common.{refl, ap, sym, ◌∙◌, subst, List, Option, Some, IfSome}
+use Rattle.spec_exact.specs.Narrow.{number_limit}
 use Rattle.spec_check.specs.Certificate.{IsFor}
 use Rattle.spec_pivot.specs.declared.status.Status.{Status}
 use Rattle.spec_simplex.specs.Eliminate.{IsBasisOf}
 use Rattle.spec_warm.specs.Warm.{after_run}
-use Rattle.lp_frac.specs.Narrow.{largest}
 use Rattle.lp_solve.proofs.WarmRuns.{can_run, dual_ends, dual_stops, dual_fits, dual_leaves}
 use Rattle.lp_solve.proofs.warm.by_dual.Goals as goal
 
@@ -29,12 +29,12 @@ pub returns-in_ok-certificate-in-Ok-clause-answer : goal.returns-in_ok-certifica
 returns-in_ok-certificate-in-Ok-clause-answer c =
     rw (c.in_ok-certificate-in-Ok.ensures.value, c.basis_of.ensures, c.in_ok-statuses-in-Ok.ensures) at
     c.answered.ensures.answer
-    ∙ ap (after_run (Some largest) c.args.model.now)
-    (sym (dual_ends (Some largest) c.args.budget c.args.tab.now
+    ∙ ap (after_run (Some number_limit) c.args.model.now)
+    (sym (dual_ends (Some number_limit) c.args.budget c.args.tab.now
     (record { end = c.in-Ok.end; tableau = c.run.new.tab; used = c.run.new.used }) c.in-Ok.ensures.runs))
 
 pub returns-in-Err-clause-answer : goal.returns-in-Err-clause-answer
 returns-in-Err-clause-answer c =
     rw c.run_stop.ensures
-    (ap (after_run (Some largest) c.args.model.now)
-    (sym (dual_stops (Some largest) c.args.budget c.args.tab.now c.in-Err.stop c.in-Err.ensures.runs)))
+    (ap (after_run (Some number_limit) c.args.model.now)
+    (sym (dual_stops (Some number_limit) c.args.budget c.args.tab.now c.in-Err.stop c.in-Err.ensures.runs)))

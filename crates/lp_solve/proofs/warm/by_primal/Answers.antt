@@ -5,7 +5,7 @@ use Rattle.spec_pivot.specs.declared.status.Status.{Status}
 use Rattle.spec_simplex.specs.Eliminate.{IsBasisOf}
 use Rattle.spec_warm.specs.Warm.{after_run}
 use native.Mathlib.Numerals.{unary_clauses}
-use Rattle.lp_frac.specs.Narrow.{largest}
+use Rattle.spec_exact.specs.Narrow.{number_limit}
 use Rattle.lp_solve.proofs.Runs.{run_inside}
 use Rattle.lp_solve.proofs.WarmRuns.{primal_ends, primal_stops, primal_fits, primal_leaves}
 use Rattle.lp_solve.proofs.warm.by_primal.Goals as goal
@@ -31,14 +31,14 @@ pub returns-in_ok-certificate-in-Ok-clause-answer : goal.returns-in_ok-certifica
 returns-in_ok-certificate-in-Ok-clause-answer c =
     rw (c.in_ok-certificate-in-Ok.ensures.value, c.basis_of.ensures, c.in_ok-statuses-in-Ok.ensures) at
     c.answered.ensures.answer
-    ∙ ap (after_run (Some largest) c.args.model.now)
-    (sym (primal_ends (Some largest) c.args.budget c.args.tab.now
+    ∙ ap (after_run (Some number_limit) c.args.model.now)
+    (sym (primal_ends (Some number_limit) c.args.budget c.args.tab.now
     (record { end = c.in-Ok.end; tableau = c.run.new.tab; used = c.run.new.used })
     (simp unary_clauses at c.in-Ok.ensures.ended)))
 
 pub returns-in-Err-clause-answer : goal.returns-in-Err-clause-answer
 returns-in-Err-clause-answer c =
     rw c.run_stop.ensures
-    (ap (after_run (Some largest) c.args.model.now)
-    (sym (primal_stops (Some largest) c.args.budget c.args.tab.now c.in-Err.stop
+    (ap (after_run (Some number_limit) c.args.model.now)
+    (sym (primal_stops (Some number_limit) c.args.budget c.args.tab.now c.in-Err.stop
     (simp unary_clauses at c.in-Err.ensures.ended))))

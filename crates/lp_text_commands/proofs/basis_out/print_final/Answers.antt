@@ -1,6 +1,6 @@
 -- The form has the model's rows and columns.
 use Rattle.std.proofs.Common.{Some}
-use Rattle.spec_solve.specs.Answers.{number_limit}
+use Rattle.spec_exact.specs.Narrow.{number_limit}
 use Rattle.spec_bas.proofs.Sizes.{sized}
 use Rattle.lp_text_commands.proofs.basis_out.print_final.Goals as goal
 
