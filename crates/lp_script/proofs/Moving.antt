@@ -17,8 +17,8 @@ use Rattle.spec_server.specs.Script as script
 use Rattle.spec_server.specs.Output.{script_out}
 use Rattle.spec_server.proofs.RunLemmas.{script_out-append}
 use Rattle.spec_server.proofs.ScriptBytes.{with_asks, script_within, script_past}
-use Rattle.spec_world.specs.Workers.{RunsBy}
-use Rattle.spec_world.proofs.ManyFromOne.{one_runs_by}
+use Rattle.spec_serve.specs.Workers.{RunsBy}
+use Rattle.spec_serve.proofs.ManyFromOne.{one_runs_by}
 use Rattle.lp_base.specs.Taking.{ReadsAll, ReadsFront, ReadsPart}
 use Rattle.lp_line.specs.declared.halt.Halt.{Halt}
 use Rattle.lp_line.specs.declared.halt.Halt.TheVariants as halts

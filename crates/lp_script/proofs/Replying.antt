@@ -15,7 +15,7 @@ use Rattle.spec_server.specs.Machine.{ExactAsk, ExactReply, opening}
 use Rattle.spec_server.specs.Exchanges.{Exchange, asked_in}
 use Rattle.spec_server.specs.Output.{script_out}
 use Rattle.spec_server.specs.Script.{Ended, Cut}
-use Rattle.spec_world.specs.Workers.{RunsBy}
+use Rattle.spec_serve.specs.Workers.{RunsBy}
 use Rattle.lp_base.specs.Beside.{Takes}
 use Rattle.lp_base.specs.Taking.{ReadsFront, ReadsPart, ReadsLittleMore}
 use Rattle.lp_workers.specs.AnswersAll.{AnswersAll}

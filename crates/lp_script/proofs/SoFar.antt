@@ -10,8 +10,8 @@ use Rattle.spec_server.specs.Script.{Pending, Between, asks_from, pending_after}
 use Rattle.spec_server.proofs.RunLemmas.{AloneRun-append, of_session-append, asked_in-append}
 use Rattle.spec_server.proofs.RunLemmas.{log_of-append, Plays-append}
 use Rattle.spec_server.proofs.ScriptLemmas.{asks_from-append, pending_after-append}
-use Rattle.spec_world.specs.Workers.{RunsBy}
-use Rattle.spec_world.proofs.ManyFromOne.{one_runs_by}
+use Rattle.spec_serve.specs.Workers.{RunsBy}
+use Rattle.spec_serve.proofs.ManyFromOne.{one_runs_by}
 use Rattle.lp_script.proofs.SomeAnswers.{SomeExchanges, some_exchanges}
 
 -- The sessions share so many places.

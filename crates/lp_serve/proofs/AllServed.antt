@@ -9,7 +9,7 @@ use Rattle.spec_reads.specs.Orders.{InPairs, AreInOrder}
 use Rattle.spec_serve.specs.Links.{exchanges_of_links}
 use Rattle.spec_serve.proofs.Apart.{links_run_alone, links_reads}
 use Rattle.spec_server.specs.Exchanges.{Exchange}
-use Rattle.spec_world.specs.Workers.{reads_in_all, HasServedAlone}
+use Rattle.spec_serve.specs.Workers.{reads_in_all, HasServedAlone}
 use Rattle.basis_board.specs.declared.board.Board.{Board}
 use Rattle.basis_board.specs.Known.{Known}
 use Rattle.basis_board.specs.Moments.{NotesMore, WereTrue}

@@ -12,8 +12,8 @@ use Rattle.std.proofs.lemmas.List.Elements.{All-from_recursion}
 use Rattle.spec_server.specs.Machine.{opening}
 use Rattle.spec_serve.specs.Lines.{serve_out}
 use Rattle.spec_serve.specs.Links.{exchanges_from}
-use Rattle.spec_world.specs.Workers.{RunsBy}
-use Rattle.spec_world.proofs.ManyFromOne.{one_runs_by}
+use Rattle.spec_serve.specs.Workers.{RunsBy}
+use Rattle.spec_serve.proofs.ManyFromOne.{one_runs_by}
 use Rattle.basis_board.specs.declared.board.Board.{Board}
 use Rattle.basis_board.specs.Known.{Known}
 use Rattle.lp_base.specs.Beside.{Takes}

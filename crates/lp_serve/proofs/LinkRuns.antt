@@ -4,7 +4,7 @@ use Rattle.std.specs.List.{flat_map, AllByRecursion}
 use Rattle.std.proofs.lemmas.List.{append_assoc}
 use Rattle.spec_server.specs.Machine.{State, opening}
 use Rattle.spec_server.specs.Exchanges.{Exchange, AloneRun}
-use Rattle.spec_world.specs.Workers.{reads_in_all}
+use Rattle.spec_serve.specs.Workers.{reads_in_all}
 use Rattle.basis_board.specs.declared.seats.View.{View}
 use Rattle.basis_board.specs.Rule.{Consistent}
 use Rattle.board_reads.specs.Orderly.{IsOrderly}

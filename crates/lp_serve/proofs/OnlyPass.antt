@@ -6,7 +6,7 @@ use Rattle.spec_reads.specs.Places.{ExactPlace, Logged, logged, Plays}
 use Rattle.spec_server.specs.Machine.{State, opening}
 use Rattle.spec_server.specs.Exchanges.{Exchange, log_of}
 use Rattle.spec_serve.specs.Links.{session_of_link, as_session, exchanges_of_links}
-use Rattle.spec_world.proofs.Places.{Plays-append}
+use Rattle.spec_serve.proofs.Places.{Plays-append}
 use Rattle.basis_board.specs.declared.seats.View.{View}
 use Rattle.basis_board.specs.declared.board.Look.{Look}
 use Rattle.basis_board.specs.declared.board.Look.TheVariants.{Found, NoneReady}

@@ -13,9 +13,9 @@ use Rattle.spec_server.specs.Exchanges.{Exchange, RunAlone, RunFits, log_of}
 use Rattle.spec_server.specs.Machine.{opening}
 use Rattle.spec_serve.specs.Links.{exchanges_of_links, exchanges_from, RunsOver}
 use Rattle.spec_serve.proofs.Apart.{worker_has_own, all_reads}
-use Rattle.spec_world.specs.Workers.{reads_in_all, exchanges_of_worker, logs_of, HasServedAlone, RunsBy}
-use Rattle.spec_world.proofs.Interleaving.{many_fit}
-use Rattle.spec_world.proofs.ManyFromOne.{one_runs_by, log_reads}
+use Rattle.spec_serve.specs.Workers.{reads_in_all, exchanges_of_worker, logs_of, HasServedAlone, RunsBy}
+use Rattle.spec_serve.proofs.Interleaving.{many_fit}
+use Rattle.spec_serve.proofs.ManyFromOne.{one_runs_by, log_reads}
 use Rattle.basis_board.specs.declared.board.Board.{Board}
 use Rattle.basis_board.specs.Known.{Known}
 use Rattle.basis_board.specs.Moments.{ComeAfter, IsOneLog}

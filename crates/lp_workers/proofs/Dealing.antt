@@ -12,7 +12,7 @@ use Rattle.basis_board.specs.Known.{Known}
 use Rattle.spec_server.specs.declared.asks.Asked.{Asked}
 use Rattle.spec_server.specs.Machine.{ExactAsk, ExactReply}
 use Rattle.spec_server.specs.Exchanges.{Exchange}
-use Rattle.spec_world.specs.Workers.{asks_of_worker, exchanges_of_worker}
+use Rattle.spec_serve.specs.Workers.{asks_of_worker, exchanges_of_worker}
 use Rattle.lp_workers.specs.declared.worker.Worker.{Worker}
 use Rattle.lp_workers.specs.Workers.{HaveHad, IsReady}
 use Rattle.lp_workers.specs.Dealt.{AreDealt, AreHeld, pass_of, passes_of}

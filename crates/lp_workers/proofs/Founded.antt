@@ -12,10 +12,10 @@ use Rattle.spec_server.specs.Machine.{ExactReply, State}
 use Rattle.spec_server.specs.Step.{Begun, Looks, Worked, Ends, Publishes, Concludes, GoesOn, AloneStep}
 use Rattle.spec_server.specs.Step as step
 use Rattle.spec_server.specs.Exchanges.{Exchange, AloneRun, of_session, log_of}
-use Rattle.spec_world.specs.Workers.{exchanges_of_worker}
-use Rattle.spec_world.proofs.AllDone.{after_one}
-use Rattle.spec_world.proofs.OneWorker.{own_part}
-use Rattle.spec_world.proofs.Places.{logged-append}
+use Rattle.spec_serve.specs.Workers.{exchanges_of_worker}
+use Rattle.spec_serve.proofs.AllDone.{after_one}
+use Rattle.spec_serve.proofs.OwnPart.{own_part}
+use Rattle.spec_serve.proofs.Places.{logged-append}
 use Rattle.board_reads.specs.Played.{of_read, Supposes, AreFounded, IsOfWorker}
 
 abbrev AreAmong : List Logged → List Logged → Type 0

@@ -17,9 +17,9 @@ use Rattle.spec_reads.specs.Reads.{ExactRead}
 use Rattle.spec_server.specs.declared.asks.Asked.{Asked}
 use Rattle.spec_server.specs.Machine.{ExactAsk, ExactReply, State, opening}
 use Rattle.spec_server.specs.Exchanges.{Exchange, asked_in, AloneRun, of_session, RunAlone}
-use Rattle.spec_world.specs.Workers.{reads_in_all, exchanges_of_worker, logs_of, asks_of_worker, Interleaves}
-use Rattle.spec_world.proofs.ManyFromOne.{log_reads}
-use Rattle.spec_world.proofs.Interleaving.{interleaved, many_fit}
+use Rattle.spec_serve.specs.Workers.{reads_in_all, exchanges_of_worker, logs_of, asks_of_worker, Interleaves}
+use Rattle.spec_serve.proofs.ManyFromOne.{log_reads}
+use Rattle.spec_serve.proofs.Interleaving.{interleaved, many_fit}
 use Rattle.basis_board.specs.declared.board.Board.{Board}
 use Rattle.basis_board.specs.declared.seats.View.{View}
 use Rattle.basis_board.specs.Known.{Known}

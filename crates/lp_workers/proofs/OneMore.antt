@@ -14,7 +14,7 @@ use Rattle.spec_server.specs.Machine.{ExactAsk, ExactReply, State, opening}
 use Rattle.spec_server.specs.Step.{AloneStep}
 use Rattle.spec_server.specs.Exchanges.{Exchange, AloneRun, of_session}
 use Rattle.spec_server.proofs.RunLemmas.{AloneRun-append, of_session-append, asked_in-append}
-use Rattle.spec_world.specs.Workers.{reads_in_all}
+use Rattle.spec_serve.specs.Workers.{reads_in_all}
 use Rattle.basis_board.specs.declared.board.Board.{Board}
 use Rattle.basis_board.specs.declared.seats.View.{View}
 use Rattle.basis_board.specs.Known.{Known}

@@ -3,7 +3,7 @@ use Rattle.std.specs.Prelude.{ℕ, ◌≡◌, List, map}
 use Rattle.spec_server.specs.declared.asks.Asked.{Asked}
 use Rattle.spec_server.specs.Machine.{ExactAsk, ExactReply}
 use Rattle.spec_server.specs.Exchanges.{Exchange, asked_in}
-use Rattle.spec_world.specs.Workers.{ManyFits}
+use Rattle.spec_serve.specs.Workers.{ManyFits}
 
 -- the replies are those of exchanges of the asks, in their order, that so many workers may have had
 pub record AnswersAll (workers places : ℕ) (asks : List (Asked ExactAsk)) (replies : List ExactReply) : Type 0 where

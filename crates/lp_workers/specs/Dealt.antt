@@ -5,7 +5,7 @@ use Rattle.spec_reads.specs.Reads.{ExactRead}
 use Rattle.spec_server.specs.declared.asks.Asked.{Asked}
 use Rattle.spec_server.specs.Machine.{ExactAsk}
 use Rattle.spec_server.specs.Exchanges.{Exchange}
-use Rattle.spec_world.specs.Workers.{asks_of_worker, exchanges_of_worker}
+use Rattle.spec_serve.specs.Workers.{asks_of_worker, exchanges_of_worker}
 use Rattle.basis_board.specs.declared.board.Board.{Board}
 use Rattle.basis_board.specs.declared.seats.View.{View}
 use Rattle.basis_board.specs.Id.{id_of}

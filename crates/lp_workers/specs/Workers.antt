@@ -5,7 +5,7 @@ use Rattle.spec_server.specs.declared.asks.Asked.{Asked}
 use Rattle.spec_server.specs.Halves.{Standing, Nothing}
 use Rattle.spec_server.specs.Machine.{ExactAsk, ExactReply, State, opening}
 use Rattle.spec_server.specs.Exchanges.{Exchange, asked_in, of_session, AloneRun}
-use Rattle.spec_world.specs.Workers.{reads_in_all}
+use Rattle.spec_serve.specs.Workers.{reads_in_all}
 use Rattle.basis_board.specs.declared.board.Board.{Board}
 use Rattle.basis_board.specs.declared.seats.View.{View}
 use Rattle.basis_board.specs.Id.{id_of}

@@ -8,7 +8,7 @@ use Rattle.std.proofs.lemmas.List.Elements.{filter-append}
 use Rattle.std.proofs.lemmas.Nat.{mod-mul-add}
 use Rattle.spec_server.specs.Machine.{State, opening}
 use Rattle.spec_server.specs.Exchanges.{Exchange, AloneRun, of_session, RunAlone}
-use Rattle.spec_world.specs.Workers.{reads_in_all, exchanges_of_worker}
+use Rattle.spec_serve.specs.Workers.{reads_in_all, exchanges_of_worker}
 use Rattle.spec_serve.specs.Links.{session_of_link, as_session, exchanges_of_links, exchanges_from}
 
 -- ---- exchanges as those of a session

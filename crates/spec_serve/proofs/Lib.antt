@@ -1,4 +1,12 @@
 -- Lemmas.
+pub mod Places
+pub mod Stays
+pub mod InOrder
+pub mod OwnPart
+pub mod AllDone
+pub mod ManyFromOne
+pub mod Interleaving
+pub mod WorkersAgree
 pub mod Apart
 pub mod UpToQuit
 pub mod AloneAsks

@@ -1,3 +1,4 @@
+pub mod Workers
 pub mod Link
 pub mod Lines
 pub mod Links

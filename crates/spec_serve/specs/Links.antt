@@ -1,7 +1,7 @@
 -- The exchanges of the links that workers served beside each other, each link a session of its own.
 use Rattle.std.specs.Prelude.{ℕ, suc, ◌+◌, ◌*◌, ◌++◌, List, [], ◌∷◌, length, map}
 use Rattle.spec_server.specs.Exchanges.{Exchange}
-use Rattle.spec_world.specs.Workers.{RunsBy}
+use Rattle.spec_serve.specs.Workers.{RunsBy}
 
 -- Link k of worker i, both counted from 0, is this session of so many workers: it is its worker's by its number.
 abbrev pub session_of_link : ℕ → ℕ → ℕ → ℕ

@@ -1,8 +1,10 @@
-//! Sessions over links: what a link asks, what is written to it, and what a server that shares one board says at its
-//! end.
+//! Many sessions: what workers may reply that share places, what a link asks and what is written to it, and what a
+//! server that shares one board says at its end.
 //!
 //! | Item | What it is | Where |
 //! |---|---|---|
+//! | `ManyFits`, `RunsBy` | what sessions may reply that workers serve | specs/Workers |
+//! | `Interleaves` | what workers had, in the order of the asks | specs/Workers |
 //! | `link_asks_of` | what the bytes of a link ask, up to the first QUIT, and how it ends | specs/Link |
 //! | `link_out` | what is written to it of the replies | specs/Link |
 //! | `LinkEnd` | how the service of a link ended | src/link_end |
@@ -11,18 +13,23 @@
 //! | `RunsOver` | the exchanges of many links, each a session of its own | specs/Links |
 #![tactic(auto)]
 
-ghost use Rattle.std.specs.Prelude.{◌≡◌, ◌≤◌, ◌<◌, ℕ, List, [], ◌∷◌, ◌++◌, length, take, map, Some};
-ghost use Rattle.std.specs.List.{filter};
+ghost use Rattle.std.specs.Prelude.{◌≡◌, ◌≤◌, ◌<◌, ℕ, Bool, List, [], ◌∷◌, ◌++◌, length, take, map, Some};
+ghost use Rattle.std.specs.List.{filter, flat_map};
 ghost use Rattle.spec_text.specs.Lines.{lines_of, ended_lines_of, input_limit};
 ghost use Rattle.spec_model.specs.Model.{Model};
+ghost use Rattle.spec_reads.specs.Places.{ExactPlace, Logged, Plays};
+ghost use Rattle.spec_reads.specs.Orders.{InPairs, AreInOrder, AreBacked, HaveOneOrder, published_by};
 ghost use Rattle.spec_server.specs.declared.addressing.Addressing.TheVariants.{Alone};
 ghost use Rattle.spec_server.specs.declared.asks.Ask.TheVariants as ask;
 ghost use Rattle.spec_server.specs.declared.asks.Asked.{Asked};
 ghost use Rattle.spec_server.specs.Machine.{ExactAsk, AreKept, is_memory};
-ghost use Rattle.spec_server.specs.Exchanges.{Exchange, asked_in, RunAlone};
+ghost use Rattle.spec_server.specs.Exchanges.{Exchange, asked_in, of_session, RunAlone, RunFits};
 ghost use Rattle.spec_server.specs.Streams.{Streams, streams};
+ghost use Rattle.spec_truth.specs.Agree.{HasMemory, RepliesAgree};
 ghost use Rattle.spec_truth.specs.LoadedFrom.{IsLoadedFrom};
 ghost use Rattle.spec_serve.specs.declared.link_end.LinkEnd.{LinkEnd as link_end_of};
+ghost use Rattle.spec_serve.specs.Workers.{RunsBy, ManyFits, reads_in_all, exchanges_of_worker, asks_of_worker};
+ghost use Rattle.spec_serve.specs.Workers.{Interleaves, HasServedAlone, logs_of};
 ghost use Rattle.spec_serve.specs.Link.{ended_link_asks_of, link_asks_of, link_out, LinkMoves, ServesLink};
 
 mod link_end;
@@ -73,4 +80,42 @@ pub fn models_of_links_are_spelled()
         (moves : LinkMoves places s (before ++ x ∷ behind)) → x.ask ≡ ask.Loaded m →
         input_limit < length moves.read →
         IsLoadedFrom Alone (ended_lines_of (take input_limit moves.read)) (map asked_in before) x.session m }
+{}
+
+/// Whatever sessions a worker serves: of what it reads, a count never falls, and a place that was done, or that it
+/// published, is below each later count and read as done ever after. No place is published twice.
+pub fn reads_stay_in_order()
+    ensures order { (places : ℕ) (now last : List ExactPlace) (log : List Logged) (serves : ℕ → Bool) →
+        Plays places now log last →
+        InPairs AreInOrder (map (λ (x : Logged). x.read) (filter (λ x. serves x.session) log)) }
+    ensures once { (places : ℕ) (now last : List ExactPlace) (log : List Logged) →
+        Plays places now log last →
+        InPairs (λ (j k : ℕ). j ≡ k → ⊥) (flat_map (λ (x : Logged). published_by x.read) log) }
+{}
+
+/// What one worker may reply, with its reads, so many may.
+pub fn one_worker_is_many()
+    ensures { (places workers : ℕ) (xs : List Exchange) → RunFits places xs → RunsBy workers places xs }
+{}
+
+/// What workers had beside each other, each with its own asks, stands in the order of the asks; and then it is what
+/// many workers may reply, if each answered its own asks alone and in order, and all that was read is backed and stands
+/// in one order.
+pub fn workers_are_many()
+    ensures interleave { (workers : ℕ) (asks : List (Asked ExactAsk)) (had : ℕ → List Exchange) →
+        ((worker : ℕ) → map asked_in (had worker) ≡ asks_of_worker workers worker asks) →
+        Interleaves workers asks had }
+    ensures fits { (places workers : ℕ) (xs : List Exchange) → 0 < workers →
+        ((worker : ℕ) → worker < workers → HasServedAlone places (exchanges_of_worker workers worker xs)) →
+        AreBacked (reads_in_all xs) → HaveOneOrder places workers (logs_of workers xs) → ManyFits places workers xs }
+{}
+
+/// Two runs of the same asks, by any numbers of workers and with any numbers of places, give each session the same
+/// replies, but for how answers were found, the lines of certificates, and answers in place of a refused operation or
+/// of a spent budget.
+pub fn workers_agree()
+    ensures { (workers workers' places places' session : ℕ) (xs ys : List Exchange) →
+        RunsBy workers places xs → RunsBy workers' places' ys → map asked_in xs ≡ map asked_in ys →
+        HasMemory (of_session session xs) → HasMemory (of_session session ys) →
+        RepliesAgree (of_session session xs) (of_session session ys) }
 {}

@@ -11,12 +11,12 @@ use Rattle.spec_server.specs.Machine.{ExactAsk, State, opening}
 use Rattle.spec_server.specs.Step.{Begun, Looks, Begins, Worked, Ends, Publishes, Works}
 use Rattle.spec_server.specs.Step as step
 use Rattle.spec_server.specs.Exchanges.{Exchange, AloneRun}
+use Rattle.spec_serve.proofs.Places.{place_some}
 use Rattle.spec_world.specs.declared.event.Act.TheVariants as act
 use Rattle.spec_world.specs.World.{Server, ExactAct, Stage, Idle, Counts, Sees, Solving, Puts, Claims, Writes}
 use Rattle.spec_world.specs.World.{Session, Left, solve, begun_left, looking, counted_left, read_of, seen_left}
 use Rattle.spec_world.specs.World.{worked_left, Leaves}
 use Rattle.spec_world.specs.Sound.{going, reads_so_far}
-use Rattle.spec_world.proofs.Places.{place_some}
 use Rattle.spec_world.proofs.Stages.{looks_begin, looks_past, looks_find, looks_over, IsSeeing, IsSolving}
 use Rattle.spec_world.proofs.Stages.{StageFits, looking_fits}
 use Rattle.spec_world.proofs.Asked.{only_solve_looks}

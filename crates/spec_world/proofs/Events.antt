@@ -6,11 +6,11 @@ use Rattle.std.proofs.lemmas.List.{append-nil}
 use Rattle.spec_reads.specs.declared.place.Place.TheVariants as place
 use Rattle.spec_reads.specs.Places.{place_at, Plays, logged}
 use Rattle.spec_server.specs.Machine.{ExactReply}
+use Rattle.spec_serve.proofs.Places.{plays_keep_done}
 use Rattle.spec_world.specs.declared.event.StepEnd.TheVariants.{Not}
 use Rattle.spec_world.specs.World.{Server, ExactEvent, ExactEnd, Session, World, opening_world, is_enabled, end_of}
 use Rattle.spec_world.specs.World.{Takes, StepBy, WorldStep, WorldRun}
 use Rattle.spec_world.specs.Sound.{reads_of, ReadsNow, EndFits}
-use Rattle.spec_world.proofs.Places.{plays_keep_done}
 use Rattle.spec_world.proofs.Moves.{Grows}
 use Rattle.spec_world.proofs.Worlds.{IsGood, opening_good, taken, step_good, run_good}
 

@@ -18,6 +18,7 @@ use Rattle.spec_server.specs.Step.{Begun, Answers, Looks, Begins, Pending, Worke
 use Rattle.spec_server.specs.Step.{answered, with_answer, how_by, words_of_end, worked_with, Works}
 use Rattle.spec_server.specs.Exchanges.{Exchange}
 use Rattle.spec_server.proofs.Sessions.{step_keeps}
+use Rattle.spec_serve.proofs.Places.{place_before, with_same, with_other, some_same}
 use Rattle.spec_world.specs.declared.event.Act.TheVariants as act
 use Rattle.spec_world.specs.World.{Server, ExactAct, ExactEvent, ExactEnd, Stage, Idle, Counts, Sees, Solving, Puts}
 use Rattle.spec_world.specs.World.{Claims, Writes, Session, World, opening_world, is_enabled, Left, begun_left, looking}
@@ -25,7 +26,6 @@ use Rattle.spec_world.specs.World.{read_of, seen_stage, worked_left, put_left}
 use Rattle.spec_world.specs.World.{put_counted_left, claimed_left, done_left, Leaves, Takes, StepBy}
 use Rattle.spec_world.specs.World.{WorldRun}
 use Rattle.spec_world.specs.Sound.{IsKeptAct, AreKeptEvents}
-use Rattle.spec_world.proofs.Places.{place_before, with_same, with_other, some_same}
 use Rattle.spec_world.proofs.Stages.{IsSolving, IsWriting, StageFits}
 use Rattle.spec_world.proofs.Acts.{shown_all}
 use Rattle.spec_world.proofs.Worlds.{IsGood, opening_good, step_good}

@@ -9,11 +9,11 @@ use Rattle.spec_reads.specs.Reads.{ExactRead}
 use Rattle.spec_reads.specs.Places.{Plays, logged}
 use Rattle.spec_server.specs.Machine.{opening}
 use Rattle.spec_server.specs.Exchanges.{Exchange, AloneRun, of_session, log_of, RunFits}
+use Rattle.spec_serve.proofs.Places.{logged-append, Plays-append}
 use Rattle.spec_world.specs.declared.event.Act.TheVariants as act
 use Rattle.spec_world.specs.World.{Server, ExactAct, Idle, Session, World, opening_world, WorldRun}
 use Rattle.spec_world.specs.Sound.{reads_so_far, reads_of}
 use Rattle.spec_world.specs.Together.{by_session, AskRuns, Together}
-use Rattle.spec_world.proofs.Places.{logged-append, Plays-append}
 use Rattle.spec_world.proofs.Worlds.{IsGood, opening_good, step_good}
 use Rattle.spec_world.proofs.Events.{step_reads}
 

@@ -14,14 +14,14 @@ use Rattle.spec_reads.specs.Places.{ExactPlace, place_at, with_place, IsShown, L
 use Rattle.spec_server.specs.Machine.{ExactReply, State}
 use Rattle.spec_server.specs.Step.{Pending, answered, after_put, Worked, Ends, Publishes, Works, Concludes}
 use Rattle.spec_server.specs.Exchanges.{Exchange}
+use Rattle.spec_serve.proofs.Places.{logged-append, Plays-split}
+use Rattle.spec_serve.proofs.Stays.{sees_stay}
 use Rattle.spec_world.specs.declared.event.Act.TheVariants as act
 use Rattle.spec_world.specs.World.{Server, ExactAct, Stage, Idle, Counts, Sees, Solving, Puts, Claims, Writes}
 use Rattle.spec_world.specs.World.{Session, World, has_session, fits_stage, Left, Leaves, solve, ended, looking}
 use Rattle.spec_world.specs.World.{read_of, seen_left, done_left, counted_left, worked_left}
-use Rattle.spec_world.proofs.Places.{logged-append, Plays-split}
 use Rattle.spec_world.proofs.Acts.{front_front}
 use Rattle.spec_world.proofs.Held.{Leads, leads_nowhere, leads_by}
-use Rattle.spec_world.proofs.Stays.{sees_stay}
 
 -- ---- what is shown of a place
 

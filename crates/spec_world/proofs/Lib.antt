@@ -1,5 +1,4 @@
 -- Lemmas.
-pub mod Places
 pub mod Stages
 pub mod Moves
 pub mod Bases
@@ -16,12 +15,6 @@ pub mod Leading
 pub mod Running
 pub mod OneWorker
 pub mod FromTogether
-pub mod InOrder
-pub mod Stays
-pub mod AllDone
-pub mod ManyFromOne
-pub mod Interleaving
-pub mod WorkersAgree
 pub mod FormWords
 pub mod FormedWords
 pub mod FormedWorlds

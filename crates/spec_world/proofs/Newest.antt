@@ -8,9 +8,9 @@ use Rattle.spec_reads.specs.declared.read.Read.TheVariants.{Count, NotDone, Seen
 use Rattle.spec_reads.specs.Reads.{Words, ExactRead, Looked, front, has_shape, SeenBy, SeesDown, LookReads}
 use Rattle.spec_reads.specs.Places.{ExactPlace, place_at, IsShown, Answers, Logged, Plays}
 use Rattle.spec_text.specs.Words.{same}
+use Rattle.spec_serve.proofs.Places.{place_below, some_same, answers_keep}
 use Rattle.spec_world.specs.Sound.{reads_in}
 use Rattle.spec_world.specs.Newest.{FindsFrom}
-use Rattle.spec_world.proofs.Places.{place_below, some_same, answers_keep}
 
 -- ---- words in front
 

@@ -1,15 +1,16 @@
 -- What one worker may reply is what a world replies in which the events of each ask stand together.
 use Rattle.std.proofs.Common.{◌≡◌, ℕ, Bool, true, false, List, [], ◌∷◌, ◌++◌, map, refl, sym, ap, subst, nat_eq}
 use Rattle.std.proofs.Common.{eqb-true, cond}
-use Rattle.std.proofs.lemmas.Bool.{eqb-false, eq-eqb, ne_eqb}
+use Rattle.std.proofs.lemmas.Bool.{eqb-false}
 use Rattle.spec_reads.specs.Places.{ExactPlace, Plays, logged}
 use Rattle.spec_server.specs.Machine.{State}
 use Rattle.spec_server.specs.Exchanges.{Exchange, AloneRun, of_session, log_of, RunFits}
+use Rattle.spec_serve.proofs.Places.{Plays-split}
+use Rattle.spec_serve.proofs.OwnPart.{own_part, other_part}
 use Rattle.spec_world.specs.declared.event.Act.TheVariants as act
 use Rattle.spec_world.specs.World.{Server, Idle, Session, World, opening_world, ended}
 use Rattle.spec_world.specs.Together.{by_session, AskRuns, Together, HaveSessions}
 use Rattle.spec_world.proofs.Held.{holding, holds_own, holds_other}
-use Rattle.spec_world.proofs.Places.{Plays-split}
 use Rattle.spec_world.proofs.Running.{RunsTo, step_runs}
 
 -- the world after the ask of this exchange
@@ -51,20 +52,6 @@ record IsReady (server : Server) (old : World) (xs : List Exchange) (last : List
   alone : (session : ℕ) →
       (end : State) × AloneRun server.places (old.sessions session).state (of_session session xs) end
   played : Plays server.places old.places (log_of xs) last
-
--- its own part of the exchanges begins with this one
-pub own_part : (places : ℕ) (state : State) (x : Exchange) (xs : List Exchange) (end : State) →
-    AloneRun places state (of_session x.session (x ∷ xs)) end → AloneRun places state (x ∷ of_session x.session xs) end
-own_part places state x xs end run =
-    subst (λ t. AloneRun places state (cond t (x ∷ of_session x.session xs) (of_session x.session xs)) end)
-    (eq-eqb x.session x.session refl) run
-
-pub other_part : (places : ℕ) (state : State) (x : Exchange) (xs : List Exchange) (session : ℕ) (end : State) →
-    (x.session ≡ session → ⊥) → AloneRun places state (of_session session (x ∷ xs)) end →
-    AloneRun places state (of_session session xs) end
-other_part places state x xs session end apart run =
-    subst (λ t. AloneRun places state (cond t (x ∷ of_session session xs) (of_session session xs)) end)
-    (ne_eqb x.session session apart) run
 
 module _ (server : Server) (old : World) (x : Exchange) (xs : List Exchange) (last middle : List ExactPlace)
     (state end : State) (ready : IsReady server old (x ∷ xs) last)

@@ -13,12 +13,12 @@ use Rattle.spec_server.specs.Machine.{ExactReply, State, opening}
 use Rattle.spec_server.specs.Step.{Looks, Pending, Publishes, answered, after_put}
 use Rattle.spec_server.specs.Step.{AloneStep}
 use Rattle.spec_server.specs.Exchanges.{Exchange, AloneRun}
+use Rattle.spec_serve.proofs.Places.{place_last}
 use Rattle.spec_world.specs.declared.event.Act.TheVariants as act
 use Rattle.spec_world.specs.World.{Server, Stage, Idle, Puts, Claims, Writes}
 use Rattle.spec_world.specs.World.{Session, solve}
 use Rattle.spec_world.specs.World.{put_left, put_counted_left, claimed_left, done_left}
 use Rattle.spec_world.specs.Sound.{IsPublisher}
-use Rattle.spec_world.proofs.Places.{place_last}
 use Rattle.spec_world.proofs.Stages.{HasLooked}
 use Rattle.spec_world.proofs.Stages.{IsClaiming, IsWriting}
 use Rattle.spec_world.proofs.Moves.{Moved, goes_on, ends}

@@ -1,5 +1,4 @@
 pub mod World
 pub mod Sound
-pub mod Workers
 pub mod Together
 pub mod Newest

@@ -11,8 +11,6 @@
 //! | `PutsBasis` | that a session published the basis of its solve | specs/Sound |
 //! | `AreKeptEvents` | events whose models and edits may be kept | specs/Sound |
 //! | `ReadsNow`, `EndFits` | what holds of each event | specs/Sound |
-//! | `ManyFits`, `RunsBy` | what sessions may reply that workers serve | specs/Workers |
-//! | `Interleaves` | what workers had, in the order of the asks | specs/Workers |
 //! | `LooksFindTheNewest` | what a look finds while others publish | specs/Newest |
 //! | `Together` | worlds in which the events of each ask stand together | specs/Together |
 //!
@@ -21,23 +19,17 @@
 //! at the same time.
 #![tactic(auto)]
 
-ghost use Rattle.std.specs.Prelude.{◌≡◌, ◌↔◌, ◌<◌, ℕ, Bool, List, map, Some, false};
-ghost use Rattle.std.specs.List.{filter, flat_map};
+ghost use Rattle.std.specs.Prelude.{◌≡◌, ◌↔◌, ℕ, List, map, Some, false};
 ghost use Rattle.spec_shape.specs.Words.{IsWellFormed};
 ghost use Rattle.spec_reads.specs.declared.place.Place.TheVariants as place;
 ghost use Rattle.spec_reads.specs.Reads.{Words};
-ghost use Rattle.spec_reads.specs.Places.{ExactPlace, place_at, Logged, Plays};
-ghost use Rattle.spec_reads.specs.Orders.{InPairs, AreInOrder, AreBacked, HaveOneOrder, published_by};
-ghost use Rattle.spec_server.specs.declared.asks.Asked.{Asked};
-ghost use Rattle.spec_server.specs.Machine.{ExactAsk};
-ghost use Rattle.spec_server.specs.Exchanges.{Exchange, asked_in, of_session, RunFits};
+ghost use Rattle.spec_reads.specs.Places.{place_at};
+ghost use Rattle.spec_server.specs.Exchanges.{Exchange, RunFits};
 ghost use Rattle.spec_truth.specs.Agree.{HasMemory, RepliesAgree};
 ghost use Rattle.spec_world.specs.declared.event.StepEnd.TheVariants.{Not};
 ghost use Rattle.spec_world.specs.World.{Server, ExactEvent, ExactEnd, World, opening_world, is_enabled};
 ghost use Rattle.spec_world.specs.World.{WorldStep, WorldRun};
 ghost use Rattle.spec_world.specs.Sound.{IsSound, AreKeptEvents, ReadsNow, EndFits};
-ghost use Rattle.spec_world.specs.Workers.{RunsBy, ManyFits, reads_in_all, exchanges_of_worker, asks_of_worker};
-ghost use Rattle.spec_world.specs.Workers.{Interleaves, HasServedAlone, logs_of};
 ghost use Rattle.spec_world.specs.Together.{Together, HaveSessions};
 ghost use Rattle.spec_world.specs.Newest.{LooksFindTheNewest};
 
@@ -109,46 +101,8 @@ pub fn one_worker_is_a_world()
         RunFits server.places xs }
 {}
 
-/// Whatever sessions a worker serves: of what it reads, a count never falls, and a place that was done, or that it
-/// published, is below each later count and read as done ever after. No place is published twice.
-pub fn reads_stay_in_order()
-    ensures order { (places : ℕ) (now last : List ExactPlace) (log : List Logged) (serves : ℕ → Bool) →
-        Plays places now log last →
-        InPairs AreInOrder (map (λ (x : Logged). x.read) (filter (λ x. serves x.session) log)) }
-    ensures once { (places : ℕ) (now last : List ExactPlace) (log : List Logged) →
-        Plays places now log last →
-        InPairs (λ (j k : ℕ). j ≡ k → ⊥) (flat_map (λ (x : Logged). published_by x.read) log) }
-{}
-
-/// What one worker may reply, with its reads, so many may.
-pub fn one_worker_is_many()
-    ensures { (places workers : ℕ) (xs : List Exchange) → RunFits places xs → RunsBy workers places xs }
-{}
-
-/// What workers had beside each other, each with its own asks, stands in the order of the asks; and then it is what
-/// many workers may reply, if each answered its own asks alone and in order, and all that was read is backed and stands
-/// in one order.
-pub fn workers_are_many()
-    ensures interleave { (workers : ℕ) (asks : List (Asked ExactAsk)) (had : ℕ → List Exchange) →
-        ((worker : ℕ) → map asked_in (had worker) ≡ asks_of_worker workers worker asks) →
-        Interleaves workers asks had }
-    ensures fits { (places workers : ℕ) (xs : List Exchange) → 0 < workers →
-        ((worker : ℕ) → worker < workers → HasServedAlone places (exchanges_of_worker workers worker xs)) →
-        AreBacked (reads_in_all xs) → HaveOneOrder places workers (logs_of workers xs) → ManyFits places workers xs }
-{}
-
 /// A look finds a place that is done with its shape when it begins, or a newer one, whatever other sessions do
 /// meanwhile.
 pub fn looks_find_the_newest()
     ensures { LooksFindTheNewest }
-{}
-
-/// Two runs of the same asks, by any numbers of workers and with any numbers of places, give each session the same
-/// replies, but for how answers were found, the lines of certificates, and answers in place of a refused operation or
-/// of a spent budget.
-pub fn workers_agree()
-    ensures { (workers workers' places places' session : ℕ) (xs ys : List Exchange) →
-        RunsBy workers places xs → RunsBy workers' places' ys → map asked_in xs ≡ map asked_in ys →
-        HasMemory (of_session session xs) → HasMemory (of_session session ys) →
-        RepliesAgree (of_session session xs) (of_session session ys) }
 {}

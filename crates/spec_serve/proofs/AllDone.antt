@@ -12,10 +12,10 @@ use Rattle.spec_server.specs.Machine.{ExactReply, State}
 use Rattle.spec_server.specs.Step.{Begun, Looks, Worked, Ends, Publishes, Concludes, GoesOn}
 use Rattle.spec_server.specs.Step as step
 use Rattle.spec_server.specs.Exchanges.{Exchange, AloneRun, of_session, log_of}
-use Rattle.spec_world.proofs.Places.{with_same, with_other, logged-append}
-use Rattle.spec_world.proofs.Stays.{look_stays}
-use Rattle.spec_world.proofs.Places.{Plays-split}
-use Rattle.spec_world.proofs.OneWorker.{own_part, other_part}
+use Rattle.spec_serve.proofs.Places.{with_same, with_other, logged-append}
+use Rattle.spec_serve.proofs.Stays.{look_stays}
+use Rattle.spec_serve.proofs.Places.{Plays-split}
+use Rattle.spec_serve.proofs.OwnPart.{own_part, other_part}
 
 abbrev pub NoneClaimed : List ExactPlace → Type 0
 NoneClaimed now = (k owner : ℕ) → place_at now k ≡ Some (place.Claimed owner) → ⊥

@@ -6,8 +6,8 @@ use Rattle.spec_reads.specs.Orders.{InPairs, AreInOrder, AreBacked, HaveOneOrder
 use Rattle.spec_server.specs.declared.asks.Asked.{Asked}
 use Rattle.spec_server.specs.Machine.{ExactAsk, opening}
 use Rattle.spec_server.specs.Exchanges.{Exchange, asked_in, AloneRun, of_session}
-use Rattle.spec_world.specs.Workers.{reads_in_all, reads_of_worker, exchanges_of_worker, asks_of_worker, Interleaves}
-use Rattle.spec_world.specs.Workers.{HasServedAlone, ManyFits, logs_of}
+use Rattle.spec_serve.specs.Workers.{reads_in_all, reads_of_worker, exchanges_of_worker, asks_of_worker, Interleaves}
+use Rattle.spec_serve.specs.Workers.{HasServedAlone, ManyFits, logs_of}
 
 module _ (workers : ℕ) where
   -- ---- the exchanges in one order

@@ -1,6 +1,6 @@
 use Rattle.std.proofs.Common.{arith}
-use Rattle.spec_world.proofs.Interleaving.{interleaved, many_fit}
-use Rattle.spec_world.proofs.workers_are_many.Goals as goal
+use Rattle.spec_serve.proofs.Interleaving.{interleaved, many_fit}
+use Rattle.spec_serve.proofs.workers_are_many.Goals as goal
 
 pub returns : goal.returns
 returns c = record {

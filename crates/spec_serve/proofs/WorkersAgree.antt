@@ -6,7 +6,7 @@ use Rattle.spec_server.specs.Machine.{ExactAsk}
 use Rattle.spec_server.specs.Exchanges.{Exchange, asked_in, of_session}
 use Rattle.spec_truth.specs.Agree.{HasMemory, RepliesAgree}
 use Rattle.spec_truth.proofs.Agreement.{runs_agree}
-use Rattle.spec_world.specs.Workers.{RunsBy}
+use Rattle.spec_serve.specs.Workers.{RunsBy}
 
 -- what a session is asked
 abbrev asks_of : ℕ → List (Asked ExactAsk) → List ExactAsk

@@ -7,7 +7,7 @@ use Rattle.spec_reads.specs.declared.read.Read.TheVariants.{Count, NotDone, Seen
 use Rattle.spec_reads.specs.Reads.{ExactRead}
 use Rattle.spec_reads.specs.Places.{ExactPlace, place_at, Answers, Logged, Plays}
 use Rattle.spec_reads.specs.Orders.{InPairs, AreInOrder, published_by}
-use Rattle.spec_world.proofs.Places.{place_below, with_same, answers_keep, answers_grow}
+use Rattle.spec_serve.proofs.Places.{place_below, with_same, answers_keep, answers_grow}
 
 -- ---- what a later read is, once so many places are claimed
 

@@ -1,5 +1,0 @@
-use Rattle.spec_world.proofs.ManyFromOne.{one_runs_by}
-use Rattle.spec_world.proofs.one_worker_is_many.Goals as goal
-
-pub returns : goal.returns
-returns c = one_runs_by

@@ -1,5 +1,0 @@
-use Rattle.spec_world.proofs.InOrder.{served_in_order, published_once}
-use Rattle.spec_world.proofs.reads_stay_in_order.Goals as goal
-
-pub returns : goal.returns
-returns c = record { order = served_in_order; once = published_once }
