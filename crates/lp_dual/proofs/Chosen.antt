@@ -4,7 +4,7 @@ use Rattle.spec_exact.specs.Fraction.{ℚ}
 use Rattle.spec_simplex.specs.Step.{NamesBound}
 use Rattle.spec_simplex.specs.Tableau.{Tableau, basic_at, lower_at, upper_at}
 use Rattle.spec_path.specs.Tables.{way}
-use Rattle.spec_dual.specs.Dual.{IsPast}
+use Rattle.spec_pivot.specs.Dual.{IsPast}
 use Rattle.spec_simplex.specs.declared.ends.Leaving.{Leaving}
 use Rattle.spec_simplex.specs.declared.ends.Cheapest.{Cheapest}
 use Rattle.spec_simplex.specs.Dual.{place_of, passed_bound, cheapest_run}

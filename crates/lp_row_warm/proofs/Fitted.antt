@@ -20,7 +20,7 @@ use Rattle.spec_simplex.specs.Tableau.{Tableau, all_columns, form_columns, basic
 use Rattle.spec_path.specs.Begins.{IsProper}
 use Rattle.spec_path.specs.Tables.{way, bounds_of, IsTableauOf, IsWithinBounds}
 use Rattle.spec_path.proofs.Lists.{by_lt}
-use Rattle.spec_dual.specs.Dual.{IsOrdered, IsPast}
+use Rattle.spec_pivot.specs.Dual.{IsOrdered, IsPast}
 use Rattle.spec_warm.specs.Based.{equations, BeginsFrom}
 use Rattle.spec_warm.proofs.Fits.{IsLeaving, leaving_is}
 use Rattle.spec_warm.proofs.Fitted.{primal_fit}

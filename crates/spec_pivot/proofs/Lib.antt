@@ -16,3 +16,9 @@ pub mod Stays
 pub mod Steps
 pub mod Unique
 pub mod Values
+pub mod Signs
+pub mod Step
+pub mod Feasible
+pub mod Refuted
+pub mod Optimal
+pub mod DualInstance

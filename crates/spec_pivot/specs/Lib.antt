@@ -1,3 +1,4 @@
 pub mod Tableau
 pub mod Simplex
 pub mod Ratio
+pub mod Dual

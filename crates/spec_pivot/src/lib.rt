@@ -18,6 +18,7 @@
 //! | `room`, `best_of` | how far a bound lets a column go; the ratio test | specs/Ratio |
 //! | `HasRoom`, `GoesOn` | there is room for a move; nothing ever stops it | specs/Ratio |
 //! | `bound_ahead`, `way_of` | the bound at which a column ends; the way of a column that moves along | specs/Ratio |
+//! | `IsDualFeasible`, `Leaves`, `IsCheapest`, `after_dual`, `Refutes` | the dual method on the same tableaus, with laws of its own | src/dual, specs/Dual |
 //!
 //! A tableau has m positions, each with a basic column and a row, and n columns; a row means that the sum of its
 //! entries times the columns' values is 0. The cost is to be least. The method with bounds is that of Chvátal, Linear
@@ -25,6 +26,7 @@
 //! ends, are by Bland, New finite pivoting rules for the simplex method (1977).
 #![tactic(auto)]
 
+mod dual;
 mod status;
 
 ghost use Rattle.std.specs.Prelude.{◌≡◌, ◌<◌, ◌^◌, ℕ, Some, None};
@@ -36,6 +38,10 @@ ghost use Rattle.spec_pivot.specs.Simplex.{Bounds, Table, IsTableau, IsWithin, E
 ghost use Rattle.spec_pivot.specs.Simplex.{Pivots, Flips, Pivot, Label, IsStep, IsRun, SameStatuses, SameTableau};
 ghost use Rattle.spec_pivot.specs.Ratio.{Best, GoesOn, HasRoom, NoWorse, best_of, room_at, way_of, bound_ahead};
 
+pub use dual::{
+    dual_ends_are_optimal, dual_ratio_test, dual_steps_keep_tableaus, some_dual_step_exists,
+    stuck_rows_refute,
+};
 pub use status::{Status, Way};
 
 /// A pivot keeps the span of the rows, and makes the entering column a unit column beside the others

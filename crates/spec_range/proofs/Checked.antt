@@ -25,8 +25,8 @@ use Rattle.spec_cold.proofs.Formed.{cost_structural}
 use Rattle.spec_cold.proofs.EndTight.{weight_at, column_at, logical_is_row}
 use Rattle.spec_cold.proofs.EndOptimal.{optimal_checks}
 use Rattle.spec_cold.proofs.Shown as shown
-use Rattle.spec_dual.specs.Dual.{Suits, IsDualFeasible}
-use Rattle.spec_dual.proofs.Optimal.{none_eligible, within_where_basic}
+use Rattle.spec_pivot.specs.Dual.{Suits, IsDualFeasible}
+use Rattle.spec_pivot.proofs.Optimal.{none_eligible, within_where_basic}
 use Rattle.spec_warm.specs.Based.{equations, BeginsFrom}
 use Rattle.spec_range.proofs.Started.{IsOf, form_bounds, IsFor, begun, of, is_for, bounded, fixed_after, ordered}
 use Rattle.spec_range.proofs.Started.{status_after}

@@ -22,7 +22,7 @@ use Rattle.spec_path.specs.Tables.{table_of}
 use Rattle.spec_path.proofs.Enters.{fixed_means, fixed_test}
 use Rattle.spec_path.proofs.Runs.{then_ok, steps_ok, sum_ok, difference_ok, quotient_ok}
 use Rattle.spec_warm.proofs.Counts.{basic_if, basic_test}
-use Rattle.spec_dual.specs.Dual.{Suits}
+use Rattle.spec_pivot.specs.Dual.{Suits}
 use Rattle.spec_range.specs.declared.range.Ends.{Ends}
 use Rattle.spec_range.specs.Span.{IsIn}
 use Rattle.spec_range.specs.Rule.{no_ends, ends_by, falls_by, own_number, own_ends, is_moved, moved_ends, basic_ends}

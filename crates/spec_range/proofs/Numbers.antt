@@ -7,7 +7,7 @@ use Rattle.spec_exact.proofs.Ruleset.{ring}
 use Rattle.spec_exact.proofs.Strict.{*ℚ_mono_back, neg_mono, neg_mono_back, neg_strict}
 use Rattle.spec_pivot.specs.declared.status.Status.{Status}
 use Rattle.spec_pivot.specs.declared.status.Status.TheVariants.{Basic, AtLower, AtUpper, AtZero}
-use Rattle.spec_dual.specs.Dual.{Suits}
+use Rattle.spec_pivot.specs.Dual.{Suits}
 use Rattle.spec_path.proofs.Runs.{then_ok}
 use Rattle.spec_range.specs.declared.range.Ends.{Ends}
 use Rattle.spec_range.specs.Rule.{at_least, at_most, ends_by}

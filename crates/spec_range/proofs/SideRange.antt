@@ -39,7 +39,7 @@ use Rattle.spec_cold.specs.Cold.{point, multipliers}
 use Rattle.spec_warm.specs.Based.{equations}
 use Rattle.spec_warm.proofs.Chosen.{place_is}
 use Rattle.spec_warm.proofs.Counts.{basic_if, basic_test}
-use Rattle.spec_dual.specs.Dual.{Suits}
+use Rattle.spec_pivot.specs.Dual.{Suits}
 use Rattle.spec_range.specs.declared.range.Ends.{Ends}
 use Rattle.spec_range.specs.declared.range.Range.{Range}
 use Rattle.spec_range.specs.Span.{Keeps, IsIn, IsRange}

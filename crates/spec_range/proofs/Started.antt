@@ -19,7 +19,7 @@ use Rattle.spec_path.specs.Begins.{IsProper}
 use Rattle.spec_path.proofs.Formed.{HasBounds}
 use Rattle.spec_path.proofs.Lists.{by_lt}
 use Rattle.spec_path.proofs.Runs.{then_ok, refused_ok}
-use Rattle.spec_dual.specs.Dual.{IsOrdered}
+use Rattle.spec_pivot.specs.Dual.{IsOrdered}
 use Rattle.spec_warm.specs.Based.{equations, BeginsFrom}
 use Rattle.spec_warm.proofs.Started.{start_begins_from}
 

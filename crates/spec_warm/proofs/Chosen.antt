@@ -21,7 +21,7 @@ use Rattle.spec_simplex.specs.Tableau.{reduced_at, status_at, lower_at, upper_at
 use Rattle.spec_path.specs.Tables.{way, table_of}
 use Rattle.spec_path.proofs.Runs.{then_ok, quotient_ok, order_ok, steps_ok}
 use Rattle.spec_path.proofs.Flips.{directed_is}
-use Rattle.spec_dual.specs.Dual.{Helps, row_of, ratio, IsCandidate, IsCheapest}
+use Rattle.spec_pivot.specs.Dual.{Helps, row_of, ratio, IsCandidate, IsCheapest}
 use Rattle.spec_simplex.specs.declared.ends.Cheapest.{Cheapest}
 use Rattle.spec_warm.specs.Based.{IsBased}
 use Rattle.spec_simplex.specs.Dual.{place_below, dual_way_at, cheaper_by, cheaper_run}

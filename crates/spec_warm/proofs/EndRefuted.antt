@@ -15,7 +15,7 @@ use Rattle.spec_path.proofs.Formed.{Limited}
 use Rattle.spec_cold.proofs.EndInfeasible.{checks_by_values}
 use Rattle.spec_path.proofs.Formed.{HasBounds}
 use Rattle.spec_cold.proofs.EndTight.{limits_at, bounds_structural, bounds_logical, weight_at, column_at}
-use Rattle.spec_dual.specs.Dual.{Refutes}
+use Rattle.spec_pivot.specs.Dual.{Refutes}
 use Rattle.spec_warm.specs.Based.{equations}
 
 module _ (m : Model) (ls : List (Option ℚ × Option ℚ)) (h : Limited m ls) (b : Bounds) (bs : HasBounds (formed m ls) b)

@@ -14,7 +14,7 @@ use Rattle.spec_simplex.specs.Tableau.{is_basic}
 use Rattle.spec_path.specs.Tables.{way}
 use Rattle.spec_path.proofs.Orders.{by_order, given}
 use Rattle.spec_path.proofs.Runs.{then_ok, steps_ok}
-use Rattle.spec_dual.specs.Dual.{Suits, IsPast}
+use Rattle.spec_pivot.specs.Dual.{Suits, IsPast}
 use Rattle.spec_simplex.specs.declared.ends.Fit.{Fit}
 use Rattle.spec_simplex.specs.declared.ends.Fit.TheVariants.{Primal, Dual, Unfit}
 use Rattle.spec_simplex.specs.declared.ends.Leaving.{Leaving}

@@ -6,8 +6,8 @@ use Rattle.spec_pivot.specs.Tableau.{Matrix}
 use Rattle.spec_pivot.specs.Simplex.{Bounds, IsInside}
 use Rattle.spec_simplex.specs.Tableau.{Tableau, status_at, value_at}
 use Rattle.spec_path.specs.Tables.{table_of, IsTableauOf, IsWithinBounds}
-use Rattle.spec_dual.specs.Dual.{IsOrdered}
-use Rattle.spec_dual.proofs.Optimal.{within_where_basic}
+use Rattle.spec_pivot.specs.Dual.{IsOrdered}
+use Rattle.spec_pivot.proofs.Optimal.{within_where_basic}
 use Rattle.spec_simplex.specs.declared.ends.Fit.TheVariants.{Primal, Dual}
 use Rattle.spec_warm.specs.Based.{IsBased, IsReady}
 use Rattle.spec_simplex.specs.Dual.{Reached, flips_run}

@@ -25,7 +25,7 @@ use Rattle.spec_path.proofs.Runs.{then_ok, refused_ok, steps_ok}
 use Rattle.spec_path.proofs.Pivots.{Leaves}
 use Rattle.spec_path.proofs.Flips.{flip_leaves}
 use Rattle.spec_path.proofs.Steps.{ahead_is}
-use Rattle.spec_dual.specs.Dual.{Suits}
+use Rattle.spec_pivot.specs.Dual.{Suits}
 use Rattle.spec_warm.specs.Based.{IsBased, IsReady}
 use Rattle.spec_simplex.specs.Dual.{Reached, one_more, flip_by, flip_next, flips_run}
 use Rattle.spec_simplex.specs.Fit.{needs_flip, is_there, meets_need, needs_flip_at, meets_need_at}

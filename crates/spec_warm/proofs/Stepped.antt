@@ -15,9 +15,9 @@ use Rattle.spec_path.proofs.Runs.{then_ok, difference_ok, quotient_ok}
 use Rattle.spec_path.proofs.Pivots.{pivot_leaves}
 use Rattle.spec_path.proofs.Pivots as step
 use Rattle.spec_path.proofs.Tables.{stand_is}
-use Rattle.spec_dual.specs.Dual.{IsDualFeasible, IsPast, bound_behind, Leaves, shift, after_dual}
-use Rattle.spec_dual.proofs.Step.{behind_nonbasic, behind_stands, dual_exchanges, dual_kept}
-use Rattle.spec_dual.proofs.Feasible.{feasible_kept}
+use Rattle.spec_pivot.specs.Dual.{IsDualFeasible, IsPast, bound_behind, Leaves, shift, after_dual}
+use Rattle.spec_pivot.proofs.Step.{behind_nonbasic, behind_stands, dual_exchanges, dual_kept}
+use Rattle.spec_pivot.proofs.Feasible.{feasible_kept}
 use Rattle.spec_simplex.specs.declared.ends.Leaving.{Leaving}
 use Rattle.spec_simplex.specs.declared.ends.Cheapest.{Cheapest}
 use Rattle.spec_simplex.specs.declared.ends.DualEnd.TheVariants.{Optimal}

@@ -30,9 +30,9 @@ use Rattle.spec_path.proofs.Formed.{Limited, cost_length, formed_proper}
 use Rattle.spec_path.proofs.Formed.{HasBounds}
 use Rattle.spec_cold.proofs.Shown.{Shows, primal_shows}
 use Rattle.spec_path.proofs.Walks.{run_ends}
-use Rattle.spec_dual.specs.Dual.{IsOrdered, row_of}
-use Rattle.spec_dual.proofs.Optimal.{none_eligible, within_where_basic}
-use Rattle.spec_dual.proofs.Refuted.{stops, row_refutes}
+use Rattle.spec_pivot.specs.Dual.{IsOrdered, row_of}
+use Rattle.spec_pivot.proofs.Optimal.{none_eligible, within_where_basic}
+use Rattle.spec_pivot.proofs.Refuted.{stops, row_refutes}
 use Rattle.spec_simplex.specs.declared.ends.DualEnd.{DualEnd}
 use Rattle.spec_simplex.specs.declared.ends.DualEnd.TheVariants.{Optimal, Infeasible}
 use Rattle.spec_simplex.specs.declared.ends.DualChoice.TheVariants.{End}

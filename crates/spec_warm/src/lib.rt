@@ -14,7 +14,7 @@
 //! their contracts. Each law holds at every limit: a run at a limit that gives a result gives the exact one.
 //!
 //! The elimination, the fit and the steps are those of `spec_simplex`, the dual steps on functions of an index those of
-//! `spec_dual`, and the certificates and their checker those of `spec_check`.
+//! `spec_pivot`, and the certificates and their checker those of `spec_check`.
 #![tactic(auto)]
 
 mod ends;
@@ -37,7 +37,7 @@ ghost use Rattle.spec_cold.specs.Accepted.{IsAccepted};
 ghost use Rattle.spec_cold.specs.Cold.{basis_of};
 ghost use Rattle.spec_path.specs.Begins.{IsProper};
 ghost use Rattle.spec_path.specs.Tables.{way, table_of, IsTableauOf, IsWithinBounds};
-ghost use Rattle.spec_dual.specs.Dual.{IsOrdered, after_dual};
+ghost use Rattle.spec_pivot.specs.Dual.{IsOrdered, after_dual};
 ghost use Rattle.spec_simplex.specs.declared.ends.DualChoice.{DualChoice};
 ghost use Rattle.spec_simplex.specs.declared.ends.Fit.TheVariants as fit;
 ghost use Rattle.spec_simplex.specs.declared.ends.StartStop.TheVariants as start;

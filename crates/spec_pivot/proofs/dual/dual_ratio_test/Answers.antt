@@ -1,5 +1,5 @@
-use Rattle.spec_dual.proofs.Feasible.{feasible_kept, flip_suits}
-use Rattle.spec_dual.proofs.dual_ratio_test.Goals as goal
+use Rattle.spec_pivot.proofs.Feasible.{feasible_kept, flip_suits}
+use Rattle.spec_pivot.proofs.dual.dual_ratio_test.Goals as goal
 
 pub returns : goal.returns
 returns c = record {

@@ -11,7 +11,7 @@ use Rattle.spec_pivot.specs.Tableau.{Matrix}
 use Rattle.spec_pivot.specs.Simplex.{Bounds, Table, IsTableau}
 use Rattle.spec_pivot.proofs.OneRow
 use Rattle.spec_pivot.proofs.OneRow.{entries, costs, lowest, bounds}
-use Rattle.spec_dual.specs.Dual.{IsDualFeasible, Leaves, IsCandidate, ratio, IsCheapest, Refutes}
+use Rattle.spec_pivot.specs.Dual.{IsDualFeasible, Leaves, IsCandidate, ratio, IsCheapest, Refutes}
 
 abbrev pub f : Matrix
 f = entries (neg_ℚ 1ℚ)

@@ -19,7 +19,7 @@ use Rattle.spec_pivot.specs.Simplex.{Bounds, IsFixed, Stands, Table, sign, IsTab
 use Rattle.spec_pivot.proofs.Fixed.{fixed_or_not}
 use Rattle.spec_pivot.proofs.Pivot.{by_eq, delta_same, delta_other, sum_below-delta}
 use Rattle.spec_pivot.proofs.Values.{combined}
-use Rattle.spec_dual.specs.Dual.{Helps, IsPast, Leaves, row_of, IsCandidate, IsSolution, Refutes}
+use Rattle.spec_pivot.specs.Dual.{Helps, IsPast, Leaves, row_of, IsCandidate, IsSolution, Refutes}
 
 -- ---- a value that stands fixed stands at both bounds
 pub fixed_lower : (l u : Option ℚ) (s : Status) (v x : ℚ) → l ≡ Some x → u ≡ Some x → ¬ (s ≡ Basic) → Stands s l u v →

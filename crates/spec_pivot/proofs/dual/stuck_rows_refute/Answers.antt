@@ -1,5 +1,5 @@
-use Rattle.spec_dual.proofs.Refuted.{stops, row_refutes, refuted}
-use Rattle.spec_dual.proofs.stuck_rows_refute.Goals as goal
+use Rattle.spec_pivot.proofs.Refuted.{stops, row_refutes, refuted}
+use Rattle.spec_pivot.proofs.dual.stuck_rows_refute.Goals as goal
 
 pub returns : goal.returns
 returns c = record {

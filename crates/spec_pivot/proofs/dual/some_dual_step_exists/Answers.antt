@@ -1,7 +1,7 @@
 use Rattle.spec_exact.specs.Fraction.{1ℚ}
 use Rattle.spec_pivot.specs.declared.status.Way.TheVariants.{Up}
-use Rattle.spec_dual.proofs.Instance.{f, cost, b, opening, is_tableau, feasible, leaves, cheapest, stops, refutes}
-use Rattle.spec_dual.proofs.some_dual_step_exists.Goals as goal
+use Rattle.spec_pivot.proofs.DualInstance.{f, cost, b, opening, is_tableau, feasible, leaves, cheapest, stops, refutes}
+use Rattle.spec_pivot.proofs.dual.some_dual_step_exists.Goals as goal
 
 pub returns : goal.returns
 returns c = record {

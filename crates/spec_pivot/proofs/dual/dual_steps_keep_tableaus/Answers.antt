@@ -1,6 +1,6 @@
 use Rattle.spec_pivot.proofs.Moves.{flip_kept}
-use Rattle.spec_dual.proofs.Step.{dual_kept, lands_at}
-use Rattle.spec_dual.proofs.dual_steps_keep_tableaus.Goals as goal
+use Rattle.spec_pivot.proofs.Step.{dual_kept, lands_at}
+use Rattle.spec_pivot.proofs.dual.dual_steps_keep_tableaus.Goals as goal
 
 pub returns : goal.returns
 returns c = record {

@@ -14,8 +14,8 @@ use Rattle.spec_pivot.specs.Simplex.{Bounds, IsFixed, IsInside, IsWithin, Stands
 use Rattle.spec_pivot.specs.Simplex.{CanMove, Improves, IsEligible, Table, IsTableau}
 use Rattle.spec_pivot.proofs.Fixed.{fixed_or_not, costs_agree}
 use Rattle.spec_pivot.proofs.Values.{by_basic, zero_at_basic}
-use Rattle.spec_dual.specs.Dual.{Suits, IsDualFeasible, IsOrdered, IsSolution, IsComplementary}
-use Rattle.spec_dual.proofs.Refuted.{fixed_lower, fixed_upper, term_least}
+use Rattle.spec_pivot.specs.Dual.{Suits, IsDualFeasible, IsOrdered, IsSolution, IsComplementary}
+use Rattle.spec_pivot.proofs.Refuted.{fixed_lower, fixed_upper, term_least}
 
 -- ---- a column with the sign that belongs to its status is not eligible
 not_improving : (way : Way) (s : Status) (d : ℚ) → Suits s d → CanMove way s → Improves way d → ⊥

@@ -11,10 +11,10 @@ use Rattle.spec_pivot.specs.Tableau.{Matrix}
 use Rattle.spec_pivot.specs.Simplex.{Bounds, IsFixed, Table, sign, IsTableau, after_flip, Exchanges}
 use Rattle.spec_pivot.proofs.Moves.{set_at, set_off, status_j, status_left, status_other}
 use Rattle.spec_pivot.proofs.Pivot.{by_eq, delta_same}
-use Rattle.spec_dual.specs.Dual.{Suits, IsDualFeasible, bound_behind, Leaves}
-use Rattle.spec_dual.specs.Dual.{row_of, ratio, IsCheapest, shift, after_dual}
-use Rattle.spec_dual.proofs.Signs.{ratio_is, ratio_least, by_ratio, suits_after}
-use Rattle.spec_dual.proofs.Step.{entry_nonzero, dual_exchanges}
+use Rattle.spec_pivot.specs.Dual.{Suits, IsDualFeasible, bound_behind, Leaves}
+use Rattle.spec_pivot.specs.Dual.{row_of, ratio, IsCheapest, shift, after_dual}
+use Rattle.spec_pivot.proofs.Signs.{ratio_is, ratio_least, by_ratio, suits_after}
+use Rattle.spec_pivot.proofs.Step.{entry_nonzero, dual_exchanges}
 
 module _ (m n : ℕ) (f : Matrix) (cost : ℕ → ℚ) (b : Bounds) (t : Table)
     (g : IsTableau m n f cost b t) (feasible : IsDualFeasible n b t)

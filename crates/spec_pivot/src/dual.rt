@@ -1,9 +1,6 @@
 //! Steps of the dual simplex method with bounds on the variables, over functions of an index: definitions, and the laws
 //! that they meet. There are no lists here, no model, and no limit on numbers.
 //!
-//! A reader has to believe the definitions in `specs/` and those of `spec_pivot`; each law is the contract of a
-//! function below, which does nothing.
-//!
 //! | Item | What it is | Where |
 //! |---|---|---|
 //! | `Suits`, `IsDualFeasible` | the sign of a reduced cost that belongs to a status; each column has it | specs/Dual |
@@ -16,7 +13,6 @@
 //! The dual method begins with a tableau whose reduced costs have their signs and some of whose values are outside
 //! their bounds, and keeps the former until none of the latter is left. With bounds on the variables it is that of
 //! Chvátal, Linear Programming (1983), chapters 8 and 10.
-#![tactic(auto)]
 
 ghost use Rattle.std.specs.Prelude.{◌≡◌, ◌≢◌, ◌<◌, ℕ};
 ghost use Rattle.spec_exact.specs.Fraction.{ℚ, ◌*ℚ◌, ◌≤ℚ◌};
@@ -27,8 +23,8 @@ ghost use Rattle.spec_pivot.specs.declared.status.Way.{Way};
 ghost use Rattle.spec_pivot.specs.Tableau.{Matrix};
 ghost use Rattle.spec_pivot.specs.Simplex.{Bounds, Table, IsFixed, IsInside, IsTableau};
 ghost use Rattle.spec_pivot.specs.Simplex.{IsWithin, IsEligible, Crosses, moved, after_flip};
-ghost use Rattle.spec_dual.specs.Dual.{Suits, IsDualFeasible, IsOrdered, Leaves, row_of, IsCandidate};
-ghost use Rattle.spec_dual.specs.Dual.{IsCheapest, shift, after_dual, IsSolution, Refutes, IsComplementary};
+ghost use Rattle.spec_pivot.specs.Dual.{Suits, IsDualFeasible, IsOrdered, Leaves, row_of, IsCandidate};
+ghost use Rattle.spec_pivot.specs.Dual.{IsCheapest, shift, after_dual, IsSolution, Refutes, IsComplementary};
 
 /// A dual step leaves a tableau of the same rows, costs and bounds, in which the column that leaves is at the bound
 /// that it had passed; and a flip does (Chvátal, Linear Programming, chapters 8 and 10).

@@ -12,7 +12,7 @@ use Rattle.spec_pivot.specs.declared.status.Status.TheVariants.{Basic, AtLower, 
 use Rattle.spec_pivot.specs.declared.status.Way.{Way}
 use Rattle.spec_pivot.specs.declared.status.Way.TheVariants.{Up, Down}
 use Rattle.spec_pivot.specs.Simplex.{sign}
-use Rattle.spec_dual.specs.Dual.{Suits, Helps}
+use Rattle.spec_pivot.specs.Dual.{Suits, Helps}
 
 -- ---- the sign of a way
 up_is : (e : ℚ) → sign Up *ℚ e ≡ e

@@ -1,6 +1,0 @@
-pub mod Signs
-pub mod Step
-pub mod Feasible
-pub mod Refuted
-pub mod Optimal
-pub mod Instance

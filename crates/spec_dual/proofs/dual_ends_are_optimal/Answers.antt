@@ -1,6 +1,0 @@
-use Rattle.spec_dual.proofs.Optimal.{within_where_basic, none_eligible, complementary, least_cost}
-use Rattle.spec_dual.proofs.dual_ends_are_optimal.Goals as goal
-
-pub returns : goal.returns
-returns c =
-    record { within = within_where_basic; eligible = none_eligible; complementary = complementary; least = least_cost }
