@@ -11,7 +11,7 @@ use Rattle.spec_simplex.specs.Step.{directed, other_bound, is_place, moved_at, m
 use Rattle.spec_exact.proofs.Stops.{steps_stop}
 use Rattle.spec_exact.specs.Narrow.{number_limit}
 use Rattle.spec_factor.specs.Revised.{Revised, bare_of, seen, flip_over_run}
-use Rattle.spec_revised.proofs.Selection.{steps_same}
+use Rattle.spec_factor.proofs.Selection.{steps_same}
 use Rattle.lp_tableau.proofs.Flips.{range_stops, flip_stops, flip_made}
 use Rattle.lp_revised.specs.Moved.{WithValues, moved_by, moves_by}
 use Rattle.lp_revised.proofs.Seen.{seen_at}

@@ -9,8 +9,8 @@ use Rattle.spec_simplex.specs.declared.ends.RunStop.TheVariants as cause
 use Rattle.spec_simplex.specs.Form.{Form, form_of}
 use Rattle.spec_simplex.specs.Phases.{PhasesEnd, phases_run}
 use Rattle.spec_factor.specs.Over.{OverEnd, over_run, answer_of, answer_in}
-use Rattle.spec_revised.proofs.OverCold.{run_is}
-use Rattle.spec_revised.proofs.OverLimits.{over_agrees}
+use Rattle.spec_factor.proofs.OverCold.{run_is}
+use Rattle.spec_factor.proofs.OverLimits.{over_agrees}
 use Rattle.lp_revised.specs.declared.cold_run.RunEnd.{RunEnd}
 use Rattle.lp_frac.specs.declared.stop.Stop.{Stop}
 use Rattle.lp_revised.specs.declared.stop.Spent.{Spent}

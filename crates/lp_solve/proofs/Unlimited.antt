@@ -19,7 +19,7 @@ use Rattle.spec_simplex.specs.Phases.{PhasesEnd, phases_run}
 use Rattle.spec_cold.specs.Accepted.{IsAccepted}
 use Rattle.spec_cold.specs.Cold.{ExactSolveEnd, checked, answered, after_phases}
 use Rattle.spec_factor.specs.Over.{OverEnd, answer_of, answer_in}
-use Rattle.spec_revised.proofs.OverCold.{form_without}
+use Rattle.spec_factor.proofs.OverCold.{form_without}
 use Rattle.spec_warm.specs.declared.ends.Route.{Route}
 use Rattle.spec_warm.specs.declared.ends.Route.TheVariants as found
 use Rattle.spec_warm.specs.declared.ends.Warm.TheVariants as start

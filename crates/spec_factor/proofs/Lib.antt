@@ -5,3 +5,16 @@ pub mod Solves
 pub mod Choosing
 pub mod Factored
 pub mod FactorLimits
+pub mod SameScan
+pub mod SameChoices
+pub mod Whole
+pub mod Selection
+pub mod Next
+pub mod Refactor
+pub mod OverSteps
+pub mod OverLimits
+pub mod SameEnds
+pub mod OverRuns
+pub mod OverPhases
+pub mod OverCold
+pub mod StateSteps

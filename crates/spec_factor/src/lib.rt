@@ -13,6 +13,7 @@
 //! | `Selection`, `selection_run` | what a step sees and chooses | specs/Revised |
 //! | `flip_over_run`, `pivot_over_run` | the flip and the pivot of a step | specs/Revised |
 //! | `over_run`, `over_factors` | the cold run over factors; the same with the check of its certificate | specs/Over |
+//! | `GoesWith`, `SameChoice` | a state over factors goes with a tableau, and takes the same step; the laws of the run | src/revised, specs/Same |
 //!
 //! All runs take a limit: `Some m` refuses numbers past m, `None` refuses nothing. The functions here have the laws as
 //! their contracts. Each law holds at every limit: a run at a limit that gives a result gives the exact one.
@@ -21,6 +22,7 @@
 //! the simplex method (1954); the revised method is that of Chvátal, Linear Programming (1983), chapter 7.
 #![tactic(auto)]
 
+mod revised;
 mod stop;
 
 ghost use Rattle.std.specs.Prelude.{◌≡◌, ◌≢◌, ◌⊎◌, ◌+◌, ◌<◌, ℕ, List, length, get_or, slice_set, Option, None, Ok, Err};
@@ -34,6 +36,10 @@ ghost use Rattle.spec_factor.specs.declared.stop.NoFactors.TheVariants as stop;
 ghost use Rattle.spec_factor.specs.Factors.{Pair, Factors, ftran_run, btran_run, factor_run, replace_run};
 ghost use Rattle.spec_factor.specs.Basis.{StandsFor, SolvesColumns, SolvesRows, with_column, AreFactors, AreDependent};
 
+pub use revised::{
+    factors_end_as_tableaus, factors_solve_as_without_a_limit, factors_step_as_tableaus,
+    one_basis_one_step,
+};
 pub use stop::NoFactors;
 
 /// Where pairs stand for a basis, ftran gives the one list z with basis * z = v, and btran the one list y with

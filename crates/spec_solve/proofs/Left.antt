@@ -23,7 +23,7 @@ use Rattle.spec_warm.specs.Warm as warms
 use Rattle.spec_warm.specs.Warm.{WarmEnd, WarmResult, warm_run, warm_certificate, warm_basis, warm_pivots, warm}
 use Rattle.spec_warm.specs.Solve.{SolveEnd}
 use Rattle.spec_warm.proofs.TrueEnds.{run_left, phases_left}
-use Rattle.spec_revised.proofs.OverCold.{form_without}
+use Rattle.spec_factor.proofs.OverCold.{form_without}
 use Rattle.spec_solve.specs.Answers.{ColdFits, WarmFits, IsSolved}
 
 module _ (known : Known ℚ) (c : Certificate (List ℚ)) (left : List Status) (pivots : ℕ) where

@@ -27,7 +27,7 @@ use Rattle.spec_warm.specs.declared.ends.Warm.TheVariants as warms
 use Rattle.spec_warm.specs.Warm.{WarmResult, warm}
 use Rattle.spec_warm.specs.Solve.{SolveEnd, fall_of, solved_by, solve}
 use Rattle.spec_factor.specs.Over.{OverEnd, over_run, after_over, over_factors}
-use Rattle.spec_revised.proofs.OverCold.{form_without, over_same}
+use Rattle.spec_factor.proofs.OverCold.{form_without, over_same}
 use Rattle.spec_solve.specs.Order.{GivesUp, IsChecked, MayEndCold, Answered, GaveUp, MayEndBy, MayEnd}
 use Rattle.spec_solve.specs.Order.{or_tableaus, cold_by, cold_over}
 

@@ -25,8 +25,8 @@ use Rattle.spec_path.proofs.Runs.{then_ok}
 use Rattle.spec_path.proofs.Lists.{by_lt}
 use Rattle.spec_path.proofs.Enters.{an_entering}
 use Rattle.spec_path.proofs.Tests.{plain, no_best, a_best, best_ahead}
-use Rattle.spec_revised.specs.Same.{SameChoice}
-use Rattle.spec_revised.proofs.SameScan.{SamePositions, SameBest, none_same, same_best}
+use Rattle.spec_factor.specs.Same.{SameChoice}
+use Rattle.spec_factor.proofs.SameScan.{SamePositions, SameBest, none_same, same_best}
 
 -- ---- a tableau by its own count of positions and columns
 module _ (m n : ℕ) (f : Matrix) (cost : ℕ → ℚ) (b : Bounds) (t : Tableau) (s : IsTableauOf m n f cost b t) where

@@ -10,7 +10,6 @@
 //!
 //! The functions here have the laws as their contracts. Both runs take the same steps, since a basis fixes everything
 //! but the positions (`one_basis_one_tableau` of `spec_pivot`), and the rule of the least index names columns alone.
-#![tactic(auto)]
 
 ghost use Rattle.std.specs.Prelude.{◌≡◌, ◌⊎◌, ◌+◌, ◌≤◌, ℕ, List, length, Option, None, Ok, Err};
 ghost use Rattle.spec_exact.specs.Fraction.{ℚ};
@@ -35,7 +34,7 @@ ghost use Rattle.spec_cold.specs.Cold.{cold};
 ghost use Rattle.spec_factor.specs.Revised.{Revised, Selection, selection_run};
 ghost use Rattle.spec_factor.specs.Revised.{flip_over_run, refreshed_run, exchange_run};
 ghost use Rattle.spec_factor.specs.Over.{over_run, answer_in, over_factors};
-ghost use Rattle.spec_revised.specs.Same.{SameChoice, GoesWith};
+ghost use Rattle.spec_factor.specs.Same.{SameChoice, GoesWith};
 
 /// Two tableaus of the same rows, costs and bounds with the same statuses have the same values, reduced costs and rows
 /// by their basic columns; the same step is chosen from both, named by its columns; and after it they have the same

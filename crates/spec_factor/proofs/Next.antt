@@ -15,8 +15,8 @@ use Rattle.spec_simplex.specs.Step.{shifted_run, turned_run, repriced_run, excha
 use Rattle.spec_simplex.specs.Phases.{done_run}
 use Rattle.spec_path.specs.Tables.{table_of, IsTableauOf}
 use Rattle.spec_path.proofs.Runs.{then_ok}
-use Rattle.spec_revised.specs.Same.{SameChoice, bare_with}
-use Rattle.spec_revised.proofs.SameChoices.{both, same_lower, same_upper, columns_are}
+use Rattle.spec_factor.specs.Same.{SameChoice, bare_with}
+use Rattle.spec_factor.proofs.SameChoices.{both, same_lower, same_upper, columns_are}
 
 -- ---- what a flip and a pivot leave
 pub record Flipped (limit : Option ℕ) (t : Tableau) (j : ℕ) (u : Tableau) : Type 0 where

@@ -1,5 +1,5 @@
-use Rattle.spec_revised.proofs.StateSteps.{goes_on, state_choice, state_flip, state_pivot}
-use Rattle.spec_revised.proofs.factors_step_as_tableaus.Goals as goal
+use Rattle.spec_factor.proofs.StateSteps.{goes_on, state_choice, state_flip, state_pivot}
+use Rattle.spec_factor.proofs.revised.factors_step_as_tableaus.Goals as goal
 
 pub returns : goal.returns
 returns c = record {

@@ -34,10 +34,10 @@ use Rattle.spec_factor.specs.Revised.{Selection}
 use Rattle.spec_factor.specs.Over.{negatives, over_certificate}
 use Rattle.spec_factor.proofs.RunLists.{Reads}
 use Rattle.spec_factor.proofs.Solves.{delta_sym}
-use Rattle.spec_revised.specs.Same.{Places, bare_with}
-use Rattle.spec_revised.proofs.SameChoices.{both}
-use Rattle.spec_revised.proofs.Whole.{multiplier, price, price_is}
-use Rattle.spec_revised.proofs.Selection.{SameColumn, W, W_is, Sees, SeesFor, SelectionRuns}
+use Rattle.spec_factor.specs.Same.{Places, bare_with}
+use Rattle.spec_factor.proofs.SameChoices.{both}
+use Rattle.spec_factor.proofs.Whole.{multiplier, price, price_is}
+use Rattle.spec_factor.proofs.Selection.{SameColumn, W, W_is, Sees, SeesFor, SelectionRuns}
 
 made_same : {A : Type 0} (n : ℕ) (f g : ℕ → A) → ((i : ℕ) → i < n → f i ≡ g i) → made n f ≡ made n g
 made_same zero f g h = refl

@@ -22,9 +22,9 @@ use Rattle.spec_path.proofs.LimitStart.{form_agrees}
 use Rattle.spec_path.proofs.Formed.{form_proper}
 use Rattle.spec_cold.proofs.Solved.{same_or_refused, end_accepted}
 use Rattle.spec_factor.specs.Over.{over_run, answer_in, after_over, over_factors}
-use Rattle.spec_revised.specs.Same.{HasCosts}
-use Rattle.spec_revised.proofs.OverLimits.{over_agrees}
-use Rattle.spec_revised.proofs.OverPhases.{over_is}
+use Rattle.spec_factor.specs.Same.{HasCosts}
+use Rattle.spec_factor.proofs.OverLimits.{over_agrees}
+use Rattle.spec_factor.proofs.OverPhases.{over_is}
 
 -- the form of a model has its costs
 pub form_costs : (limit : Option ℕ) (m : Model) (f : Form) → form_of limit m ≡ Ok f → HasCosts f

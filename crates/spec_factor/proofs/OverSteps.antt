@@ -41,12 +41,12 @@ use Rattle.spec_factor.specs.Revised.{Revised, bare_of, factor_column, sign_of}
 use Rattle.spec_factor.specs.Revised.{seen, flip_over_run, factors_at, exchange_run}
 use Rattle.spec_factor.proofs.RunLists.{read}
 use Rattle.spec_factor.proofs.Solves.{ftran_solves, replaced}
-use Rattle.spec_revised.specs.Same.{SameChoice, Places, bare_with, state, GoesWith}
-use Rattle.spec_revised.proofs.SameChoices.{own_table, columns_are}
-use Rattle.spec_revised.proofs.Whole.{plain_column}
-use Rattle.spec_revised.proofs.Selection.{steps_same, SameColumn, W, W_is, Sees, seen_at}
-use Rattle.spec_revised.proofs.Next.{Flipped, flip_out, Pivoted, pivot_out, next_statuses, bare_same}
-use Rattle.spec_revised.proofs.Refactor.{stands_as}
+use Rattle.spec_factor.specs.Same.{SameChoice, Places, bare_with, state, GoesWith}
+use Rattle.spec_factor.proofs.SameChoices.{own_table, columns_are}
+use Rattle.spec_factor.proofs.Whole.{plain_column}
+use Rattle.spec_factor.proofs.Selection.{steps_same, SameColumn, W, W_is, Sees, seen_at}
+use Rattle.spec_factor.proofs.Next.{Flipped, flip_out, Pivoted, pivot_out, next_statuses, bare_same}
+use Rattle.spec_factor.proofs.Refactor.{stands_as}
 
 -- without a limit there is a result
 pub there_is : {A : Type 0} (o : Run A) → Agrees as_it_is o o → (a : A) × (o ≡ Ok a)

@@ -30,7 +30,7 @@ use Rattle.spec_factor.specs.Revised.{sign_of, factor_column}
 use Rattle.spec_factor.proofs.Forward.{forward_combines}
 use Rattle.spec_factor.proofs.Backward.{backward}
 use Rattle.spec_factor.proofs.Solves.{columns_solved, rows_solved}
-use Rattle.spec_revised.specs.Same.{Places}
+use Rattle.spec_factor.specs.Same.{Places}
 
 sign_square : (s : RowStart ℚ) → logical_sign s *ℚ logical_sign s ≡ 1ℚ
 sign_square (Within v) = *ℚ_one 1ℚ

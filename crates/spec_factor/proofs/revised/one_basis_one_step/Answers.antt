@@ -1,6 +1,6 @@
-use Rattle.spec_revised.proofs.SameChoices.{both, same_choice}
-use Rattle.spec_revised.proofs.Next.{next_same}
-use Rattle.spec_revised.proofs.one_basis_one_step.Goals as goal
+use Rattle.spec_factor.proofs.SameChoices.{both, same_choice}
+use Rattle.spec_factor.proofs.Next.{next_same}
+use Rattle.spec_factor.proofs.revised.one_basis_one_step.Goals as goal
 
 pub returns : goal.returns
 returns c = record {

@@ -17,11 +17,11 @@ use Rattle.spec_path.specs.Begins.{form_rows, signs_of}
 use Rattle.spec_path.proofs.Steps.{choice_is_meant}
 use Rattle.spec_factor.specs.Revised.{Revised, Selection, selection_run, flip_over_run}
 use Rattle.spec_factor.specs.Revised.{replacements, refactor_run, refreshed_run, exchange_run}
-use Rattle.spec_revised.specs.Same.{SameChoice, bare_with, GoesWith}
-use Rattle.spec_revised.proofs.SameChoices.{same_choice}
-use Rattle.spec_revised.proofs.Selection.{W, W_is, SelectionRuns, selection_ok, SeesFor}
-use Rattle.spec_revised.proofs.OverSteps.{flip_goes, pivot_goes}
-use Rattle.spec_revised.proofs.Refactor.{refactored_goes}
+use Rattle.spec_factor.specs.Same.{SameChoice, bare_with, GoesWith}
+use Rattle.spec_factor.proofs.SameChoices.{same_choice}
+use Rattle.spec_factor.proofs.Selection.{W, W_is, SelectionRuns, selection_ok, SeesFor}
+use Rattle.spec_factor.proofs.OverSteps.{flip_goes, pivot_goes}
+use Rattle.spec_factor.proofs.Refactor.{refactored_goes}
 
 pub goes_on : (f : Form) (t : Tableau) (s : Revised) → t.rows ≡ f.rows → t.cols ≡ f.cols → GoesWith f t s →
     (v : Revised) × (refreshed_run None f s ≡ Ok v) × GoesWith f t v

@@ -23,13 +23,13 @@ use Rattle.spec_path.proofs.Steps.{choice_is_meant}
 use Rattle.spec_factor.specs.Factors.{Pair}
 use Rattle.spec_factor.specs.Revised.{Revised, replacements, refreshed_run, refactor_run, Selection, selection_run}
 use Rattle.spec_factor.specs.Over.{RevisedEnded, over_or_spent, over_or_next, over_from, negatives, over_certificate}
-use Rattle.spec_revised.specs.Same.{SameChoice, Places, state, GoesWith}
-use Rattle.spec_revised.proofs.SameChoices.{same_choice}
-use Rattle.spec_revised.proofs.Selection.{W, W_is, SelectionRuns, selection_ok, SeesFor}
-use Rattle.spec_revised.proofs.OverSteps.{there_is, flip_goes, pivot_goes}
-use Rattle.spec_revised.proofs.OverLimits.{selection_agrees}
-use Rattle.spec_revised.proofs.Refactor.{refactored_goes}
-use Rattle.spec_revised.proofs.SameEnds.{negatives_are, certificate_same}
+use Rattle.spec_factor.specs.Same.{SameChoice, Places, state, GoesWith}
+use Rattle.spec_factor.proofs.SameChoices.{same_choice}
+use Rattle.spec_factor.proofs.Selection.{W, W_is, SelectionRuns, selection_ok, SeesFor}
+use Rattle.spec_factor.proofs.OverSteps.{there_is, flip_goes, pivot_goes}
+use Rattle.spec_factor.proofs.OverLimits.{selection_agrees}
+use Rattle.spec_factor.proofs.Refactor.{refactored_goes}
+use Rattle.spec_factor.proofs.SameEnds.{negatives_are, certificate_same}
 
 module _ (f : Form) (starts : List (RowStart ℚ)) (costs : List ℚ)
     (b : Bounds) (few : length costs ≤ f.cols + f.rows + f.rows)

@@ -30,7 +30,7 @@ use Rattle.spec_factor.proofs.Solves.{columns_solved}
 use Rattle.spec_factor.proofs.Choosing.{chosen_column, Took, took_all, basic_if}
 use Rattle.spec_factor.proofs.Factored.{are_factors, all_dependent, independent}
 use Rattle.spec_factor.proofs.FactorLimits.{choose_agrees}
-use Rattle.spec_revised.specs.Same.{Places, bare_with, state, GoesWith}
+use Rattle.spec_factor.specs.Same.{Places, bare_with, state, GoesWith}
 
 one-not-zero : ¬ (1ℚ ≡ 0ℚ)
 one-not-zero e = <ℚ_irrefl 0ℚ (subst (λ a. 0ℚ <ℚ a) e zero-lt-one)
