@@ -5,3 +5,7 @@ pub mod Parts
 pub mod Spelling
 pub mod Files
 pub mod Fitting
+pub mod Chosen
+pub mod Places
+pub mod Meaning
+pub mod Lines

@@ -9,6 +9,7 @@
 //! | `HasSizeOf`, `IsMarking` | that a form has a model's size, and what was read gives a basis of it | specs/Fits |
 //! | `SpellsBasis` | which basis a file spells, by its cards alone | specs/Spelled |
 //! | `bas_text` | the file that a basis is written as | specs/Written |
+//! | `written_files_spell_their_basis` | what a written file spells | src/written |
 //!
 //! The format is that of the basis files of MPS (IBM Mathematical Programming System Extended, Program Reference
 //! Manual, 1971), read by words: docs/FORMATS.md. The functions here have the laws as their contracts.
@@ -16,6 +17,7 @@
 
 mod card;
 mod fault;
+mod written;
 
 ghost use Rattle.std.specs.Prelude.{◌≡◌, ◌⊎◌, ◌↔◌, ℕ, List, Option, Ok};
 ghost use Rattle.spec_text.specs.declared.line.Line.{Line};
@@ -30,6 +32,7 @@ ghost use Rattle.spec_bas.specs.Spelled.{SpellsBasis};
 
 pub use card::{Card, Reading};
 pub use fault::{BasCode, BasFault};
+pub use written::written_files_spell_their_basis;
 
 /// The form of a model has its rows and columns.
 pub fn forms_have_the_size_of_models()

@@ -1,11 +1,4 @@
 //! MPS basis files as they are written: their lines spell the basis that they are written from.
-//!
-//! | Item | What it is | Where |
-//! |---|---|---|
-//! | `written_files_spell_their_basis` | what a written file spells | src/lib |
-//!
-//! The file, its cards and what they spell are those of `spec_bas`.
-#![tactic(auto)]
 
 ghost use Rattle.std.specs.Prelude.{◌≡◌, ◌↔◌, ℕ, List, Option, Ok};
 ghost use Rattle.spec_text.specs.Lines.{lines_of};

@@ -37,8 +37,8 @@ use Rattle.spec_bas.specs.Written.{fields_on, written_card, written_cards, cards
 use Rattle.spec_bas.specs.Written.{upper_card, basic_columns, other_rows, upper_columns}
 use Rattle.spec_bas.proofs.Sizes.{sized}
 use Rattle.spec_bas.proofs.Fitting.{one_basis}
-use Rattle.spec_bas_text.proofs.Chosen.{all_zip, chosen_all}
-use Rattle.spec_bas_text.proofs.Meaning.{cards_mean}
+use Rattle.spec_bas.proofs.Chosen.{all_zip, chosen_all}
+use Rattle.spec_bas.proofs.Meaning.{cards_mean}
 
 -- ---- names
 
