@@ -5,8 +5,8 @@ use Rattle.spec_exact.proofs.Order.{≤ℚ_refl, ≤ℚ_antisym, le_if_not, not_
 use Rattle.spec_exact.proofs.Same.{eq_if, eq_test}
 use Rattle.spec_mps.specs.declared.number.NumFault.{NumFault}
 use Rattle.spec_mps.specs.NumberText.{NumberReading, Is, Shape, Wide, answer}
-use Rattle.spec_wide_text.specs.WideText.{WideReading}
-use Rattle.spec_wide_text.specs.WideText as wide
+use Rattle.spec_mps.specs.WideText.{WideReading}
+use Rattle.spec_mps.specs.WideText as wide
 use Rattle.spec_certificate.specs.NarrowText.{value_in}
 use Rattle.spec_certificate.specs.WideText.{wide_in}
 

@@ -8,7 +8,7 @@ use Rattle.spec_exact.specs.Fraction.{ℚ}
 use Rattle.spec_model.specs.Model.{Model}
 use Rattle.spec_check.specs.declared.certificate.Known.TheVariants as known
 use Rattle.spec_check.specs.declared.certificate.Verdict.TheVariants as verdict
-use Rattle.spec_wide_text.specs.WideWritten.{wide_text}
+use Rattle.spec_mps.specs.WideWritten.{wide_text}
 use Rattle.spec_server.specs.declared.asks.Reply.TheVariants as reply
 use Rattle.spec_mps.specs.Steps as text
 use Rattle.spec_certificate.specs.declared.progress.Progress.TheVariants as progress

@@ -6,7 +6,7 @@
 //! | `WideFault` | why a text is not read as a number | src/reading |
 //! | `wide_text` | the text of a fraction | src/writing |
 //!
-//! The contracts cite `wide_of` and `wide_text` of spec_wide_text. A number of 127 bits is read and written as
+//! The contracts cite `wide_of` and `wide_text` of spec_mps. A number of 127 bits is read and written as
 //! lp_numtext does, by that crate's laws.
 #![tactic(auto)]
 

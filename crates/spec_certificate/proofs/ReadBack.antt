@@ -14,8 +14,8 @@ use Rattle.spec_model.proofs.NamePlaces.{column_name, row_name, column_at}
 use Rattle.spec_mps.specs.NumberWritten.{number_text, IsWord}
 use Rattle.spec_mps.proofs.RoundTrip.{read_written}
 use Rattle.spec_mps.proofs.WrittenNumbers.{number_word}
-use Rattle.spec_wide_text.specs.WideWritten.{wide_text}
-use Rattle.spec_wide_text.proofs.ReadBack.{read_again}
+use Rattle.spec_mps.specs.WideWritten.{wide_text}
+use Rattle.spec_mps.proofs.ReadBack.{read_again}
 use Rattle.spec_mps.proofs.WrittenWords.{parts_word, parts_word_then}
 use Rattle.spec_check.specs.declared.certificate.Letter.{Letter}
 use Rattle.spec_check.specs.declared.certificate.Letter.TheVariants.{X, Y, R}

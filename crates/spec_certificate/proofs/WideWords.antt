@@ -12,9 +12,9 @@ use Rattle.spec_model.specs.Kept.{is_printable}
 use Rattle.spec_mps.specs.NumberWritten.{IsWord}
 use Rattle.spec_mps.proofs.DigitLemmas.{digit_is}
 use Rattle.spec_mps.proofs.WrittenNumbers.{number_word}
-use Rattle.spec_wide_text.specs.WideWritten.{all_digits, past_text, is_within, wide_text}
-use Rattle.spec_wide_text.proofs.AllDigits.{spelled_all}
-use Rattle.spec_wide_text.proofs.ReadBack.{text_is}
+use Rattle.spec_mps.specs.WideWritten.{all_digits, past_text, is_within, wide_text}
+use Rattle.spec_mps.proofs.AllDigits.{spelled_all}
+use Rattle.spec_mps.proofs.ReadBack.{text_is}
 
 printed_digit : (b : ℕ) → is_ascii_digit b ≡ true → is_printable b ≡ true
 printed_digit b h =

@@ -8,8 +8,8 @@ use Rattle.spec_exact.specs.Fraction.{ℚ}
 use Rattle.spec_model.specs.Model.{Name}
 use Rattle.spec_mps.specs.NumberText.{NumberReading, number_of}
 use Rattle.spec_mps.specs.NumberText as number
-use Rattle.spec_wide_text.specs.WideText.{wide_of}
-use Rattle.spec_wide_text.proofs.Agree.{same_reading}
+use Rattle.spec_mps.specs.WideText.{wide_of}
+use Rattle.spec_mps.proofs.Agree.{same_reading}
 use Rattle.spec_check.specs.declared.certificate.Letter.{Letter}
 use Rattle.spec_check.specs.Raw.{PartOf, RawOf, ExactKind, ExactRaw}
 use Rattle.spec_certificate.specs.declared.progress.Progress.TheVariants.{More, Done, Unfit}

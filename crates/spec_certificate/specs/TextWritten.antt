@@ -3,7 +3,7 @@ use Rattle.std.specs.Prelude.{ℕ, zero, suc, Bool, List, [], ◌∷◌, ◌++�
 use Rattle.spec_exact.specs.Fraction.{ℚ, 0ℚ, eq_ℚ}
 use Rattle.spec_model.specs.Model.{Model, Name, width, height, row, column}
 use Rattle.spec_mps.specs.NumberWritten.{number_text}
-use Rattle.spec_wide_text.specs.WideWritten.{wide_text}
+use Rattle.spec_mps.specs.WideWritten.{wide_text}
 use Rattle.spec_check.specs.declared.certificate.Letter.{Letter}
 use Rattle.spec_check.specs.declared.certificate.Letter.TheVariants.{X, Y, R}
 use Rattle.spec_check.specs.declared.certificate.Certificate.{Certificate}

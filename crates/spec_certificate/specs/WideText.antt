@@ -1,7 +1,7 @@
 -- The text of a certificate whose numbers may have any width.
 use Rattle.std.specs.Prelude.{Option, Some, None}
 use Rattle.spec_exact.specs.Fraction.{ℚ}
-use Rattle.spec_wide_text.specs.WideText.{WideReading, Is, Shape, Far, wide_of}
+use Rattle.spec_mps.specs.WideText.{WideReading, Is, Shape, Far, wide_of}
 use Rattle.spec_certificate.specs.Text.{Reading}
 
 -- the number that a text is; one with too far an exponent is none

@@ -48,3 +48,6 @@ pub mod WrittenRoom
 pub mod WrittenColumnCards
 pub mod WrittenEntries
 pub mod WrittenColumnsRead
+pub mod Agree
+pub mod AllDigits
+pub mod ReadBack

@@ -10,3 +10,5 @@ pub mod Shapes
 pub mod Sides
 pub mod Steps
 pub mod Written
+pub mod WideText
+pub mod WideWritten

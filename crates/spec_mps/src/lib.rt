@@ -18,6 +18,7 @@
 //! | `cards_of`, `free`, `fixed`, `too_wide` | the cards and the text that a model is written as | specs/Written |
 //! | `step`, `Spells`, `Refuses` | the step of a line, and what a whole text is | specs/Steps |
 //! | `is_skipped` | the lines that count for nothing | specs/Cards |
+//! | `wide_of`, `wide_text` | numbers of any width as text, both ways, with their laws | src/wide, specs/WideText |
 //!
 //! The format is MPS (IBM Mathematical Programming System Extended, Program Reference Manual, 1971, and the free form
 //! of later readers): docs/FORMATS.md.
@@ -30,6 +31,7 @@ mod number;
 mod section;
 mod style;
 mod target;
+mod wide;
 
 ghost use Rattle.std.specs.Prelude.{◌≡◌, ◌≤◌, ◌↔◌, List, ℕ, None, unsigned_abs};
 ghost use Rattle.spec_text.specs.Lines.{lines_of};
@@ -53,6 +55,10 @@ pub use number::{BoundValue, NumFault};
 pub use section::{Section, Seen};
 pub use style::Style;
 pub use target::Target;
+pub use wide::{
+    narrow_numbers_are_read_the_same, narrow_numbers_are_written_the_same,
+    written_wide_numbers_are_read,
+};
 
 /// Each text spells one model, or one line refuses it with one fault.
 pub fn texts_are_judged()

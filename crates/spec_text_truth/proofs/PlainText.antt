@@ -9,7 +9,7 @@ use Rattle.std.proofs.lemmas.List.Elements.{All-nil, All-cons, All-append}
 use Rattle.spec_exact.specs.Fraction.{ℚ}
 use Rattle.spec_exact.specs.Narrow.{IsNarrow}
 use Rattle.spec_mps.specs.NumberWritten.{number_text}
-use Rattle.spec_wide_text.specs.WideWritten.{all_digits, past_text, is_within, wide_text}
+use Rattle.spec_mps.specs.WideWritten.{all_digits, past_text, is_within, wide_text}
 use Rattle.spec_truth.proofs.AnswerLines.{number_no_feed}
 use Rattle.spec_text_truth.specs.TrueOutput.{HasNoFeed}
 

@@ -5,9 +5,9 @@ use Rattle.spec_text.specs.declared.line.Line.{Line}
 use Rattle.spec_exact.specs.Fraction.{ℚ}
 use Rattle.spec_model.specs.Truth.{IsOptimal, IsInfeasible, IsUnbounded}
 use Rattle.spec_mps.specs.declared.style.Style.{Style}
-use Rattle.spec_wide_text.specs.WideText.{most_zeros, Is, wide_of}
-use Rattle.spec_wide_text.specs.WideWritten.{wide_text}
-use Rattle.spec_wide_text.proofs.ReadBack.{read_again}
+use Rattle.spec_mps.specs.WideText.{most_zeros, Is, wide_of}
+use Rattle.spec_mps.specs.WideWritten.{wide_text}
+use Rattle.spec_mps.proofs.ReadBack.{read_again}
 use Rattle.spec_check.specs.declared.certificate.Known.TheVariants as known
 use Rattle.spec_check.specs.declared.certificate.Verdict.TheVariants as verdict
 use Rattle.spec_server.specs.declared.asks.Reply.TheVariants as reply

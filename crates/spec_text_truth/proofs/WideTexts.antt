@@ -9,9 +9,9 @@ use Rattle.spec_model.specs.Truth.{IsOptimal, IsInfeasible, IsUnbounded}
 use Rattle.spec_mps.specs.declared.style.Style.{Style}
 use Rattle.spec_mps.specs.NumberWritten.{number_text}
 use Rattle.spec_mps.specs.Steps.{Spells}
-use Rattle.spec_wide_text.specs.WideText.{most_zeros, Is, wide_of}
-use Rattle.spec_wide_text.specs.WideWritten.{wide_text}
-use Rattle.spec_wide_text.proofs.ReadBack.{same_text, read_again}
+use Rattle.spec_mps.specs.WideText.{most_zeros, Is, wide_of}
+use Rattle.spec_mps.specs.WideWritten.{wide_text}
+use Rattle.spec_mps.proofs.ReadBack.{same_text, read_again}
 use Rattle.spec_check.specs.declared.certificate.Known.{Known}
 use Rattle.spec_check.specs.declared.certificate.Known.TheVariants as known
 use Rattle.spec_check.specs.Certificate.{Holds}

@@ -15,7 +15,7 @@ use Rattle.spec_gen.specs.Generated.{generated}
 use Rattle.spec_mps.specs.NumberText.{Is, number_of}
 use Rattle.spec_mps.specs.Reader.{start}
 use Rattle.spec_mps.specs.Steps.{Verdict, Spelled, Refused, judge, Spells}
-use Rattle.spec_wide_text.specs.WideWritten.{wide_text}
+use Rattle.spec_mps.specs.WideWritten.{wide_text}
 use Rattle.spec_iis.specs.declared.side.Side.{Side}
 use Rattle.spec_iis.specs.Sides.{IsSide, MeetsAll}
 use Rattle.spec_program.specs.declared.command_line.CommandLine.TheVariants.{Run, Read, Generate, Serve}

@@ -7,8 +7,8 @@ use Rattle.spec_exact.specs.Fraction.{ℚ}
 use Rattle.spec_exact.specs.Narrow.{number_limit}
 use Rattle.spec_mps.specs.NumberText.{NumberParts, Decimal, Quotient, is_narrow, number_by, number_of, value_of, parts_of}
 use Rattle.spec_mps.specs.NumberText as number
-use Rattle.spec_wide_text.specs.WideText.{is_near, wide_by, wide_of}
-use Rattle.spec_wide_text.specs.WideText as wide
+use Rattle.spec_mps.specs.WideText.{is_near, wide_by, wide_of}
+use Rattle.spec_mps.specs.WideText as wide
 
 small_power : (e : ℕ) → 10 ^ e ≤ number_limit → e < 39
 small_power e h = by (cases_lt e 39)

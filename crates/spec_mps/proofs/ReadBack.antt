@@ -16,10 +16,10 @@ use Rattle.spec_mps.specs.NumberWritten.{number_text}
 use Rattle.spec_mps.proofs.SplitLemmas.{whole as whole_text, split}
 use Rattle.spec_mps.proofs.DigitLemmas.{no_mark, no_point, no_slash, no_sign, no_minus, none_pass, are_some, cut}
 use Rattle.spec_mps.proofs.RoundTrip.{over-one, read_written}
-use Rattle.spec_wide_text.specs.WideText.{Is, is_near, wide_by, wide_of, most_zeros}
-use Rattle.spec_wide_text.specs.WideWritten.{all_digits, past_text, is_within, wide_text}
-use Rattle.spec_wide_text.proofs.AllDigits.{spelled_all}
-use Rattle.spec_wide_text.proofs.Agree.{same_reading}
+use Rattle.spec_mps.specs.WideText.{Is, is_near, wide_by, wide_of, most_zeros}
+use Rattle.spec_mps.specs.WideWritten.{all_digits, past_text, is_within, wide_text}
+use Rattle.spec_mps.proofs.AllDigits.{spelled_all}
+use Rattle.spec_mps.proofs.Agree.{same_reading}
 
 -- ---- digits that are a whole number
 

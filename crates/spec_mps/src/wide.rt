@@ -7,7 +7,6 @@
 //!
 //! The rule of the text is that of numbers of 127 bits, `parts_of` and `value_of` of spec_mps (specs/NumberText), and the
 //! laws here say that both agree on those. They are the contracts of the functions.
-#![tactic(auto)]
 
 ghost use Rattle.std.specs.Prelude.{◌≡◌, ◌≤◌, ℕ, List, length};
 ghost use Rattle.spec_exact.specs.Fraction.{ℚ};
@@ -15,9 +14,9 @@ ghost use Rattle.spec_exact.specs.Narrow.{IsNarrow};
 ghost use Rattle.spec_mps.specs.NumberText.{number_of};
 ghost use Rattle.spec_mps.specs.NumberText as number;
 ghost use Rattle.spec_mps.specs.NumberWritten.{number_text};
-ghost use Rattle.spec_wide_text.specs.WideText.{most_zeros, wide_of};
-ghost use Rattle.spec_wide_text.specs.WideText as wide;
-ghost use Rattle.spec_wide_text.specs.WideWritten.{wide_text};
+ghost use Rattle.spec_mps.specs.WideText.{most_zeros, wide_of};
+ghost use Rattle.spec_mps.specs.WideText as wide;
+ghost use Rattle.spec_mps.specs.WideWritten.{wide_text};
 
 /// What is read as a number of at most 127 bits is read as the same number here.
 pub fn narrow_numbers_are_read_the_same()

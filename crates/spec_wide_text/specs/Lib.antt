@@ -1,2 +1,0 @@
-pub mod WideText
-pub mod WideWritten
