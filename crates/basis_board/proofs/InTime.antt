@@ -10,7 +10,7 @@ use lib.Seq.{set-get_or}
 use prog.Atomic.{either}
 use Rattle.atomic_table.specs.Table.{State, Me, Act, stepped, step, Allows, Splits, Joins, opening, homes_after}
 use Rattle.atomic_table.specs.Table.{carried_after}
-use Rattle.spec_shape.specs.Words.{IsWellFormed}
+use Rattle.spec_board.specs.Words.{IsWellFormed}
 use Rattle.atomic_table.proofs.Lists.{at_set}
 use Rattle.basis_board.specs.declared.seats.View.{View}
 use Rattle.basis_board.specs.declared.seats.Sight.{Sight}

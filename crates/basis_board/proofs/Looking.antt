@@ -9,7 +9,7 @@ use Rattle.std.proofs.lemmas.Slice.Eq.{slice_eq-Decides}
 use Rattle.std.specs.Cmp.Lexicographic.{pointwise}
 use Rattle.std.proofs.lemmas.List.{get_or_append_left, get_or_push, take_more_set, length-take, take_all, take-set-le}
 use Rattle.basis_board.specs.declared.seats.View.{View}
-use Rattle.spec_shape.specs.Words.{IsWellFormed}
+use Rattle.spec_board.specs.Words.{IsWellFormed}
 use Rattle.basis_board.specs.Board.{Each, seeing, reading, head_words}
 use Rattle.basis_board.specs.Rule.{HasAt, WordRead}
 use Rattle.basis_board.specs.Calls.{AgreesWith, PassesBy, other, IsReading, IsReadingRest}

@@ -8,7 +8,7 @@ use lib.ListN.{get_elem?}
 use Rattle.basis_board.specs.declared.seats.View.{View}
 use Rattle.basis_board.specs.declared.seats.Read.{Read}
 use Rattle.basis_board.specs.declared.seats.Read.TheVariants.{Count, Open, See, Claim, Lost, Done}
-use Rattle.spec_shape.specs.Words.{IsWellFormed}
+use Rattle.spec_board.specs.Words.{IsWellFormed}
 use Rattle.basis_board.specs.Board.{Each, Has, count, owning, noted, finished, opening_place, grown_seen}
 use Rattle.basis_board.specs.Board.{grown_reads, reading, met}
 use Rattle.basis_board.specs.Rule.{SeenFits, ReadFits, Fits, Kept, Agree, published_places}

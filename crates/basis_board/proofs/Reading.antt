@@ -10,7 +10,7 @@ use Rattle.atomic_table.specs.Table.{Me, step, keeps, Allows}
 use Rattle.basis_board.specs.declared.seats.View.{View}
 use Rattle.basis_board.specs.declared.seats.Read.{Read}
 use Rattle.basis_board.specs.declared.seats.Read.TheVariants.{Open, See}
-use Rattle.spec_shape.specs.Words.{IsWellFormed}
+use Rattle.spec_board.specs.Words.{IsWellFormed}
 use Rattle.basis_board.specs.Board.{Each, Has, count, done, Shows, noted, opening_place}
 use Rattle.basis_board.specs.Board.{grown_seen, grown_reads, reading, head_words}
 use Rattle.basis_board.specs.Rule.{SeenFits, OwnFits, ReadFits, Kept, saw, HasAt, word_read}

@@ -9,7 +9,7 @@ use mathlib.Core.Option.{none, some}
 use lib.ListN.{get_elem?}
 use Rattle.atomic_table.specs.Table.{Me, step, keeps, stepped, Allows}
 use Rattle.basis_board.specs.declared.seats.View.{View}
-use Rattle.spec_shape.specs.Words.{IsWellFormed}
+use Rattle.spec_board.specs.Words.{IsWellFormed}
 use Rattle.basis_board.specs.Board.{total, times, one_if, count, done, Shows, holding_in}
 use Rattle.basis_board.specs.Board.{holding, owning, share_of, grown_held, writing, finished}
 use Rattle.basis_board.specs.Rule.{HeldFits, SeenFits, OwnFits, ReadFits, Fits, Kept, wrote, published}

@@ -9,7 +9,7 @@ use Rattle.spec_reads.specs.declared.read.Put.{Put}
 use Rattle.spec_reads.specs.declared.read.Put.TheVariants.{Published, Full, Raced}
 use Rattle.basis_board.specs.declared.board.Look.{Look}
 use Rattle.basis_board.specs.declared.board.Look.TheVariants.{Found, NoneReady}
-use Rattle.spec_shape.specs.Words.{IsWellFormed}
+use Rattle.spec_board.specs.Words.{IsWellFormed}
 use Rattle.basis_board.specs.Board.{Each, noted, seeing, publishing, met}
 use Rattle.basis_board.specs.Rule.{OwnsBelow, Consistent}
 pub use Rattle.basis_board.specs.Rule.{CountTells}

@@ -4,7 +4,7 @@ use mathlib.Core.Option.{some}
 use lib.ListN.{get_elem?}
 use Rattle.atomic_table.specs.Table.{State}
 use Rattle.basis_board.specs.declared.seats.View.{View}
-use Rattle.spec_shape.specs.Words.{IsWellFormed}
+use Rattle.spec_board.specs.Words.{IsWellFormed}
 use Rattle.basis_board.specs.Board.{Has, times, count, done, Shows, holding}
 use Rattle.basis_board.specs.Rule.{Kept}
 

@@ -1,6 +1,6 @@
 // The board: places on which bases are published, and found again.
 ghost use Rattle.std.specs.Prelude.{◌≡◌, ◌<◌, ◌≤◌, ◌*◌, ◌+◌, ◌++◌, [], Some, None, IfOk, IfSome, IfNone};
-ghost use Rattle.spec_shape.specs.Words.{IsWellFormed};
+ghost use Rattle.spec_board.specs.Words.{IsWellFormed};
 ghost use Rattle.basis_board.specs.Board.{first_view, cut_left, cut_right, storing};
 
 use crate::seats::{Pass, Sight, Words};

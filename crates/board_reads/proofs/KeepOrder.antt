@@ -1,7 +1,7 @@
 -- Looks and puts keep the reads of a pass in order.
 use Rattle.std.proofs.Common.{◌≡◌, ◌≢◌, ℕ, ◌+◌, ◌<◌, List, [], ◌∷◌, ◌++◌, sym, subst, inl, inr, arith}
 use Rattle.std.specs.List.{AllByRecursion}
-use Rattle.spec_shape.specs.Words.{IsWellFormed}
+use Rattle.spec_board.specs.Words.{IsWellFormed}
 use Rattle.spec_reads.specs.declared.read.Read.TheVariants as read
 use Rattle.spec_reads.specs.Orders.{InPairs, AreInOrder}
 use Rattle.basis_board.specs.declared.seats.View.{View}

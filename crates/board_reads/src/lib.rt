@@ -14,7 +14,7 @@
 ghost use Rattle.std.specs.Prelude.{◌≡◌, ℕ, List, length};
 ghost use Rattle.std.specs.List.{AllByRecursion};
 ghost use Rattle.std.specs.List.Sorted.{IsPermutation};
-ghost use Rattle.spec_shape.specs.Words.{IsWellFormed};
+ghost use Rattle.spec_board.specs.Words.{IsWellFormed};
 ghost use Rattle.spec_reads.specs.Reads.{Words, ExactRead};
 ghost use Rattle.spec_reads.specs.Places.{ExactPlace, Answers};
 ghost use Rattle.spec_reads.specs.Orders.{AreBacked};

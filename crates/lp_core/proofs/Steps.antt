@@ -2,7 +2,7 @@
 use Rattle.std.proofs.Common.{◌≡◌, ℕ, ◌-◌, Bool, true, false, nat_eq, cond, List, [], ◌∷◌, ◌++◌, length, Option, Some}
 use Rattle.std.proofs.Common.{None, refl, sym, ap, ◌∙◌, subst}
 use Rattle.spec_text.proofs.WordLemmas.{same_is_equal}
-use Rattle.spec_shape.specs.Words.{IsWellFormed}
+use Rattle.spec_board.specs.Words.{IsWellFormed}
 use Rattle.spec_reads.specs.declared.place.Place.TheVariants as place
 use Rattle.spec_reads.specs.declared.read.Put.{Put}
 use Rattle.spec_reads.specs.declared.read.Put.TheVariants.{Published, Full, Raced}

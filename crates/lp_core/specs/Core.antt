@@ -1,6 +1,6 @@
 -- What the code holds of a world, and what its events do.
 use Rattle.std.specs.Prelude.{ℕ, ◌≡◌, ◌<◌, ◌-◌, Bool, true, false, Some, List, length, get_or}
-use Rattle.spec_shape.specs.Words.{IsWellFormed}
+use Rattle.spec_board.specs.Words.{IsWellFormed}
 use Rattle.spec_reads.specs.declared.place.Place.TheVariants as place
 use Rattle.spec_reads.specs.Reads.{Words, Looked}
 use Rattle.spec_reads.specs.Places.{ExactPlace, place_at}

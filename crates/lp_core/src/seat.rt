@@ -1,7 +1,7 @@
 // A session and where it is in its ask.
 ghost use Rattle.std.specs.Prelude.{◌≡◌, ◌≤◌, length, IfSome};
 ghost use Rattle.std.specs.Vec.{vec_capacity};
-ghost use Rattle.spec_shape.specs.Words.{IsWellFormed};
+ghost use Rattle.spec_board.specs.Words.{IsWellFormed};
 ghost use Rattle.spec_reads.specs.declared.place.Place.TheVariants as place_is;
 ghost use Rattle.spec_reads.specs.Reads as reads;
 ghost use Rattle.spec_reads.specs.Places.{with_place};

@@ -8,8 +8,8 @@ use Rattle.spec_simplex.specs.Eliminate.{IsBasisOf}
 use Rattle.spec_check.specs.declared.solve_end.SolveEnd.TheVariants.{Ended, Past, Spent}
 use Rattle.spec_cold.specs.Cold.{ExactSolveEnd}
 use Rattle.spec_solve.specs.Answers.{MayAnswer}
-use Rattle.spec_shape.specs.Words.{IsWellFormed, packed, unpacked}
-use Rattle.spec_shape.proofs.Bases.{packed_fits, unpacked_fits}
+use Rattle.spec_board.specs.Words.{IsWellFormed, packed, unpacked}
+use Rattle.spec_board.proofs.Bases.{packed_fits, unpacked_fits}
 use Rattle.spec_reads.specs.declared.read.Found.{Found}
 use Rattle.spec_reads.specs.Reads.{Words, Looked}
 use Rattle.spec_server.specs.Step.{handed_by, words_of_end}

@@ -1,6 +1,6 @@
 -- A step of a session over a board, which others may look at and publish on at the same time.
 use Rattle.std.specs.Prelude.{◌≡◌, ◌⊎◌, ◌++◌, List}
-use Rattle.spec_shape.specs.Words.{IsWellFormed}
+use Rattle.spec_board.specs.Words.{IsWellFormed}
 use Rattle.spec_reads.specs.Reads.{Words, ExactRead}
 use Rattle.spec_server.specs.Machine.{ExactAsk, ExactReply, State}
 use Rattle.spec_server.specs.Step.{AloneStep}

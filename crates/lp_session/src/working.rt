@@ -3,7 +3,7 @@ ghost use Rattle.std.specs.Prelude.{◌≡◌, IfOk, IfSome, Ok, Some};
 ghost use Rattle.spec_exact.specs.Narrow.{number_limit};
 ghost use Rattle.spec_simplex.specs.Form.{form_of};
 ghost use Rattle.spec_solve.specs.Answers.{IsSolved};
-ghost use Rattle.spec_shape.specs.Words.{IsWellFormed};
+ghost use Rattle.spec_board.specs.Words.{IsWellFormed};
 ghost use Rattle.spec_server.specs.Step as step;
 ghost use Rattle.lp_solve.specs.Fit.{LeavesBasis};
 ghost use Rattle.lp_session.specs.Stages.{FitsForm};

@@ -1,6 +1,6 @@
 -- The bits of columns, of a form or of a basis.
 use Rattle.std.specs.Prelude.{ℕ}
-use Rattle.spec_shape.specs.Words.{form_code, basis_code}
+use Rattle.spec_board.specs.Words.{form_code, basis_code}
 use Rattle.lp_shape.specs.declared.packing.Coded.{Coded}
 use Rattle.lp_shape.specs.declared.packing.Coded.TheVariants.{Bounds, Statuses}
 

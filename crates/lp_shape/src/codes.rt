@@ -1,7 +1,7 @@
 // The two bits of a column.
 ghost use Rattle.std.specs.Prelude.{◌≡◌, ◌+◌, ◌<◌, ◌/◌};
 ghost use Rattle.spec_simplex.specs.Tableau as tableau;
-ghost use Rattle.spec_shape.specs.Words as shape;
+ghost use Rattle.spec_board.specs.Words as shape;
 
 use lp_form::{Basis, Form, Status};
 

@@ -1,7 +1,7 @@
 // Whether words are those of a basis.
 ghost use Rattle.std.specs.Prelude.{◌≡◌, ◌+◌, ◌<◌, ◌≤◌, ◌↔◌, IsTrue, length};
 ghost use Rattle.spec_simplex.specs.Eliminate.{basics_below};
-ghost use Rattle.spec_shape.specs.Words.{columns_of, places, unpacked, AllSuit, RestIsZero, IsWellFormed};
+ghost use Rattle.spec_board.specs.Words.{columns_of, places, unpacked, AllSuit, RestIsZero, IsWellFormed};
 
 use crate::codes::{bounds_at, code_at, cols_of, is_basic, rows_of, status_at, suits};
 

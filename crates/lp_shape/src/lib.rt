@@ -6,7 +6,7 @@
 //! | `pack`, `unpack` | the 49 words of a basis, which begin with its form's shape; the basis in words | src/packing, src/unpacking |
 //! | `well_formed` | whether 49 words are those of some basis | src/formed |
 //!
-//! Each is exactly its definition in spec_shape's specs/Words, where the words are described.
+//! Each is exactly its definition in spec_board's specs/Words, where the words are described.
 //! Only `unpack` takes memory.
 #![tactic(auto)]
 

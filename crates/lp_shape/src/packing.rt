@@ -1,6 +1,6 @@
 // The words of shapes and bases.
 ghost use Rattle.std.specs.Prelude.{◌≡◌, ◌+◌, ◌<◌, ◌≤◌, ◌↔◌, IsTrue, length};
-ghost use Rattle.spec_shape.specs.Words.{word_from, shape_of, packed};
+ghost use Rattle.spec_board.specs.Words.{word_from, shape_of, packed};
 ghost use Rattle.lp_shape.specs.Coded.{code_of};
 
 use crate::codes::{basis_code, form_code};
@@ -36,7 +36,7 @@ fn word_of(columns: &Coded, first: u32) -> u64
 }
 
 /// The shape of the form.
-#[tactic(auto, unfolding(spec_shape::specs::Words::shape_of))]
+#[tactic(auto, unfolding(spec_board::specs::Words::shape_of))]
 pub fn shape(form: &Form) -> [u64; 25]
     ensures { result ≡ shape_of form.now }
 {

@@ -1,13 +1,13 @@
 // The basis in words.
 ghost use Rattle.std.specs.Prelude.{◌≡◌, IfOk};
-ghost use Rattle.spec_shape.specs.Words.{IsWellFormed, unpacked};
+ghost use Rattle.spec_board.specs.Words.{IsWellFormed, unpacked};
 
 use crate::codes::{cols_of, rows_of, status_at};
 use lp_form::Basis;
 use std::alloc::{AllocError, Global};
 
 /// The basis that the words are of.
-#[tactic(auto, unfolding(spec_shape::specs::Words::unpacked))]
+#[tactic(auto, unfolding(spec_board::specs::Words::unpacked))]
 pub fn unpack(alloc: Global, words: &[u64; 49]) -> Result<Basis, AllocError>
     requires { IsWellFormed words.now }
     ensures { IfOk result (λ basis. basis ≡ unpacked words.now) }

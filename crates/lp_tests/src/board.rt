@@ -1,7 +1,7 @@
 // Passes of one board on two threads.
 ghost use Rattle.std.specs.Prelude.{◌≡◌};
 ghost use Rattle.basis_board.specs.Id.{id_of};
-ghost use Rattle.spec_shape.specs.Words.{IsWellFormed};
+ghost use Rattle.spec_board.specs.Words.{IsWellFormed};
 
 use basis_board::{Board, Look, Pass, Put};
 use lp_shape::well_formed;

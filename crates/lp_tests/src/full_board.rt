@@ -1,7 +1,7 @@
 // Sixteen passes that publish on one place, each on a thread of its own.
 ghost use Rattle.std.specs.Prelude.{◌≡◌, All, IfOk};
 ghost use Rattle.basis_board.specs.Id.{id_of};
-ghost use Rattle.spec_shape.specs.Words.{IsWellFormed};
+ghost use Rattle.spec_board.specs.Words.{IsWellFormed};
 
 use basis_board::{Board, Look, Pass, Put};
 use lp_shape::well_formed;

@@ -17,7 +17,7 @@ use Rattle.spec_warm.specs.declared.ends.Route.{Route}
 use Rattle.spec_warm.specs.declared.ends.Route.TheVariants as route
 use Rattle.spec_warm.specs.Solve.{SolveEnd}
 use Rattle.spec_solve.specs.Answers.{IsSolved}
-use Rattle.spec_shape.specs.Words.{shape_of, packed, unpacked}
+use Rattle.spec_board.specs.Words.{shape_of, packed, unpacked}
 use Rattle.spec_reads.specs.declared.read.Put.{Put}
 use Rattle.spec_reads.specs.Reads.{Words, ExactRead, Looked, LookReads, PutReads}
 use Rattle.spec_server.specs.declared.answer.How.{How}

@@ -9,7 +9,7 @@ use Rattle.spec_check.specs.declared.solve_end.SolveEnd.TheVariants.{Ended, Past
 use Rattle.spec_cold.specs.Cold.{ExactSolveEnd}
 use Rattle.spec_warm.specs.Solve.{SolveEnd}
 use Rattle.spec_solve.specs.Answers.{IsSolved}
-use Rattle.spec_shape.specs.Words.{packed}
+use Rattle.spec_board.specs.Words.{packed}
 use Rattle.spec_reads.specs.declared.read.Read.TheVariants as read
 use Rattle.spec_reads.specs.Reads.{Words, ExactRead, Looked, LookReads}
 use Rattle.spec_server.specs.declared.asks.Reply.TheVariants as reply

@@ -13,8 +13,8 @@ use Rattle.spec_simplex.specs.Eliminate.{IsBasisOf}
 use Rattle.spec_check.specs.declared.solve_end.SolveEnd.TheVariants.{Ended, Past, Spent}
 use Rattle.spec_cold.specs.Cold.{ExactSolveEnd}
 use Rattle.spec_solve.proofs.Left.{solved_left}
-use Rattle.spec_shape.specs.Words.{shape_of, packed, IsWellFormed}
-use Rattle.spec_shape.proofs.Bases.{packed_fits, unpacked_fits}
+use Rattle.spec_board.specs.Words.{shape_of, packed, IsWellFormed}
+use Rattle.spec_board.proofs.Bases.{packed_fits, unpacked_fits}
 use Rattle.spec_reads.specs.declared.read.Read.TheVariants as read
 use Rattle.spec_reads.specs.Reads.{Words, ExactRead, Looked, front, has_shape, SeenBy, SeesDown, LookReads}
 use Rattle.spec_server.specs.declared.asks.Reply.TheVariants as reply

@@ -11,7 +11,7 @@ use Rattle.spec_simplex.specs.Form.{Form, form_of}
 use Rattle.spec_check.specs.declared.solve_end.SolveEnd.TheVariants as outcome
 use Rattle.spec_warm.specs.Solve.{SolveEnd}
 use Rattle.spec_solve.specs.Answers.{IsSolved}
-use Rattle.spec_shape.specs.Words.{packed}
+use Rattle.spec_board.specs.Words.{packed}
 use Rattle.spec_reads.specs.declared.place.Place.TheVariants as place
 use Rattle.spec_reads.specs.declared.read.Read.TheVariants as read
 use Rattle.spec_reads.specs.Reads.{Words, ExactRead, Looked, LookReads}

@@ -20,7 +20,7 @@
 #![tactic(auto)]
 
 ghost use Rattle.std.specs.Prelude.{◌≡◌, ◌↔◌, ℕ, List, map, Some, false};
-ghost use Rattle.spec_shape.specs.Words.{IsWellFormed};
+ghost use Rattle.spec_board.specs.Words.{IsWellFormed};
 ghost use Rattle.spec_reads.specs.declared.place.Place.TheVariants as place;
 ghost use Rattle.spec_reads.specs.Reads.{Words};
 ghost use Rattle.spec_reads.specs.Places.{place_at};

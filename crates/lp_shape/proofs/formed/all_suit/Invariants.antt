@@ -1,6 +1,6 @@
 -- The loop over the columns.
 use Rattle.std.proofs.Common.{◌≡◌, ◌<◌, ℕ, true}
-use Rattle.spec_shape.specs.Words.{suits, status_at, bounds_at}
+use Rattle.spec_board.specs.Words.{suits, status_at, bounds_at}
 use Rattle.lp_shape.proofs.formed.all_suit.Given as goal
 
 -- the statuses so far suit

@@ -1,7 +1,7 @@
 -- The loop over the columns.
 use Rattle.std.proofs.Common.{◌≡◌, ◌≤◌}
 use Rattle.spec_simplex.specs.Eliminate.{basics_below}
-use Rattle.spec_shape.specs.Words.{unpacked}
+use Rattle.spec_board.specs.Words.{unpacked}
 use Rattle.lp_shape.proofs.formed.count_basic.Given as goal
 
 -- the columns so far are counted

@@ -1,6 +1,6 @@
 -- The loop over the columns.
 use Rattle.std.proofs.Common.{◌≡◌, ◌<◌, ◌≤◌, ℕ}
-use Rattle.spec_shape.specs.Words.{columns_of, code_at, bounds_at}
+use Rattle.spec_board.specs.Words.{columns_of, code_at, bounds_at}
 use Rattle.lp_shape.proofs.formed.rest_is_zero.Given as goal
 
 -- the bits so far are 0

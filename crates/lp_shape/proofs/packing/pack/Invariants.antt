@@ -1,7 +1,7 @@
 -- The loops over the words of the shape and of the statuses.
 use Rattle.std.proofs.Common.{◌≡◌, ◌+◌, ◌*◌, ◌++◌, length, take}
 use Rattle.spec_exact.specs.Run.{made}
-use Rattle.spec_shape.specs.Words.{basis_code, word_from, shape_of}
+use Rattle.spec_board.specs.Words.{basis_code, word_from, shape_of}
 use Rattle.lp_shape.proofs.packing.pack.Given as goal
 
 -- the words of the shape so far are there

@@ -2,7 +2,7 @@
 use Rattle.std.proofs.Common.{◌≡◌, ◌+◌, ◌*◌, [], ◌∷◌, ◌++◌, ap, ◌∙◌, refl, arith}
 use Rattle.std.proofs.lemmas.List.{length-set}
 use Rattle.spec_exact.specs.Run.{made}
-use Rattle.spec_shape.specs.Words.{form_code, word_from, shape_of}
+use Rattle.spec_board.specs.Words.{form_code, word_from, shape_of}
 use Rattle.lp_shape.proofs.Steps.{word_more, all_put}
 use Rattle.lp_shape.proofs.packing.shape.Goals as goal
 

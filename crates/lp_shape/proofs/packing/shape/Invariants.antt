@@ -1,7 +1,7 @@
 -- The loop over the words.
 use Rattle.std.proofs.Common.{◌≡◌, ◌+◌, ◌*◌, [], ◌∷◌, ◌++◌, length, take}
 use Rattle.spec_exact.specs.Run.{made}
-use Rattle.spec_shape.specs.Words.{form_code, word_from}
+use Rattle.spec_board.specs.Words.{form_code, word_from}
 use Rattle.lp_shape.proofs.packing.shape.Given as goal
 
 -- the words so far are there

@@ -1,6 +1,6 @@
 -- The loop over the columns, from the last to the first.
 use Rattle.std.proofs.Common.{◌≡◌, ◌+◌, ◌-◌}
-use Rattle.spec_shape.specs.Words.{word_from}
+use Rattle.spec_board.specs.Words.{word_from}
 use Rattle.lp_shape.specs.Coded.{code_of}
 use Rattle.lp_shape.proofs.packing.word_of.Given as goal
 

@@ -1,7 +1,7 @@
 -- The loop over the columns.
 use Rattle.std.proofs.Common.{◌≡◌}
 use Rattle.spec_exact.specs.Run.{made}
-use Rattle.spec_shape.specs.Words.{status_at}
+use Rattle.spec_board.specs.Words.{status_at}
 use Rattle.lp_shape.proofs.unpacking.unpack.Given as goal
 
 -- the columns so far are there

@@ -1,7 +1,7 @@
 -- What a solve ended with is kept, or its basis is published first.
 use Rattle.std.proofs.Common.{◌≡◌, Some, IfSome, sym, ap, ◌∙◌, subst, refl}
 use Rattle.spec_solve.specs.Answers.{IsSolved}
-use Rattle.spec_shape.specs.Words.{IsWellFormed}
+use Rattle.spec_board.specs.Words.{IsWellFormed}
 use Rattle.spec_server.specs.Machine.{State}
 use Rattle.spec_server.specs.Step.{handed_by}
 use Rattle.lp_session.specs.Stages.{IsEndOf}

@@ -1,5 +1,5 @@
-use Rattle.spec_shape.proofs.Places.{packed_rows, packed_cols, packed_small, front_bits, basis_bits}
-use Rattle.spec_shape.proofs.bits_stand_at_their_columns.Goals as goal
+use Rattle.spec_board.proofs.Places.{packed_rows, packed_cols, packed_small, front_bits, basis_bits}
+use Rattle.spec_board.proofs.bits_stand_at_their_columns.Goals as goal
 
 pub returns : goal.returns
 returns c =

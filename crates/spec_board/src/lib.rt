@@ -14,8 +14,8 @@ ghost use Rattle.std.specs.Prelude.{◌≡◌, ◌+◌, ◌<◌, ◌^◌, ℕ, L
 ghost use Rattle.spec_pivot.specs.declared.status.Status.{Status};
 ghost use Rattle.spec_simplex.specs.Form.{Form, IsForm};
 ghost use Rattle.spec_simplex.specs.Eliminate.{IsBasisOf};
-ghost use Rattle.spec_shape.specs.Words.{shape_of, packed, unpacked, IsWellFormed, SameShape, places};
-ghost use Rattle.spec_shape.specs.Words.{rows_of, cols_of, bounds_at, form_code, basis_code, code_at};
+ghost use Rattle.spec_board.specs.Words.{shape_of, packed, unpacked, IsWellFormed, SameShape, places};
+ghost use Rattle.spec_board.specs.Words.{rows_of, cols_of, bounds_at, form_code, basis_code, code_at};
 
 /// The words of a basis give it back.
 pub fn words_give_the_basis()

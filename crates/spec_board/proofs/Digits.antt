@@ -1,7 +1,7 @@
 -- The bits of each column of a word.
 use Rattle.std.proofs.Common.{◌≡◌, ℕ, zero, suc, ◌+◌, ◌*◌, ◌/◌, ◌%◌, ◌^◌, ◌<◌, sym, ap, ◌∙◌, arith}
 use Rattle.std.proofs.lemmas.Nat.{pow-add, shr-shr}
-use Rattle.spec_shape.specs.Words.{word_from}
+use Rattle.spec_board.specs.Words.{word_from}
 
 pub next_power : (n : ℕ) → 2 ^ (2 * suc n) ≡ 4 * 2 ^ (2 * n)
 next_power n = (let z : 2 * suc n ≡ 2 + 2 * n = omega arith in ap (λ k. 2 ^ k) z) ∙ pow-add 2 2 (2 * n)

@@ -1,0 +1,5 @@
+use Rattle.spec_board.proofs.Bases.{same_bases}
+use Rattle.spec_board.proofs.one_shape_takes_the_same_bases.Goals as goal
+
+pub returns : goal.returns
+returns c = same_bases

@@ -1,5 +1,0 @@
-use Rattle.spec_shape.proofs.Bases.{same_bases}
-use Rattle.spec_shape.proofs.one_shape_takes_the_same_bases.Goals as goal
-
-pub returns : goal.returns
-returns c = same_bases

@@ -1,5 +1,0 @@
-use Rattle.spec_shape.proofs.Bases.{unpacked_packed}
-use Rattle.spec_shape.proofs.words_give_the_basis.Goals as goal
-
-pub returns : goal.returns
-returns c = λ f basis is all. unpacked_packed f is basis all
