@@ -6,7 +6,7 @@ ghost use Rattle.basis_board.specs.Board.{first_view, cut_left, cut_right, stori
 use crate::seats::{Pass, Sight, Words};
 use crate::steps::{Claims, Counts, Finishes, Joins, Learns, Parts, Reads, Sees, Writes};
 use atomic_table::Seat;
-use spec_reads::Put;
+use spec_board::Put;
 use std::alloc::{AllocError, Global};
 
 /// A fixed number of places, each of which takes the words of one basis and never changes afterwards.

@@ -5,7 +5,7 @@
 //! | `Board` | a fixed number of places, each of which takes one basis and keeps it | src/board |
 //! | `Pass` | the right to look at a board and to publish on it, with what was seen so far | src/seats |
 //! | `Look` | what a look found | src/board |
-//! | `Put` | what a publication came to | spec_reads |
+//! | `Put` | what a publication came to | spec_board |
 //! | `View`, `Read` | what contracts see of a pass: what it has seen, published and read | src/seats |
 //! | `Looks`, `Puts`, `Meets` | what the calls promise | specs/Calls |
 //! | `Kept` | the rule of the board's words, which each atomic step keeps | specs/Rule |
@@ -31,4 +31,4 @@ pub use laws::{
     steps_are_events, whole_passes_own_all,
 };
 pub use seats::{Pass, Read, Sight, View};
-pub use spec_reads::Put;
+pub use spec_board::Put;

@@ -1,6 +1,6 @@
 -- A read that is so of the words is answered by the places that they spell.
 use Rattle.std.proofs.Common.{ℕ, List, subst}
-use Rattle.spec_reads.specs.Places.{ExactPlace}
+use Rattle.spec_board.specs.Places.{ExactPlace}
 use Rattle.atomic_table.specs.Table.{State}
 use Rattle.basis_board.specs.declared.seats.View.{View}
 use Rattle.basis_board.specs.declared.seats.Read.{Read}

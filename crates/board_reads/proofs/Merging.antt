@@ -3,7 +3,7 @@ use Rattle.std.proofs.Common.{◌≡◌, ℕ, zero, suc, ◌+◌, ◌<◌, ◌�
 use Rattle.std.proofs.Common.{nat_eq, eqb, eqb-true, eq-eqb, cond, refl, sym, ap, ◌∙◌, subst, ⊎_elim, arith}
 use Rattle.std.specs.List.{filter, AllByRecursion}
 use Rattle.std.proofs.lemmas.Bool.{cases_eq, eqb-false}
-use Rattle.spec_reads.specs.Places.{Logged}
+use Rattle.spec_board.specs.Places.{Logged}
 use Rattle.basis_board.specs.declared.seats.Read.{Read}
 use Rattle.basis_board.specs.Board.{total, one_if}
 use Rattle.basis_board.proofs.Totals.{times_here, times_else}

@@ -2,7 +2,7 @@
 use Rattle.std.proofs.Common.{◌≡◌, ℕ, zero, suc, ◌+◌, ◌<◌, ◌≤◌, List, [], ◌∷◌, ◌++◌, eqb, sym, ap, ◌∙◌, ⊎_elim, arith}
 use Rattle.std.specs.List.{AllByRecursion, Contains}
 use Rattle.std.proofs.lemmas.Bool.{cases_eq}
-use Rattle.spec_reads.specs.Orders.{InPairs}
+use Rattle.spec_board.specs.Orders.{InPairs}
 use Rattle.basis_board.specs.Board.{times, one_if}
 use Rattle.basis_board.proofs.Totals.{times_here, times_else}
 

@@ -5,15 +5,15 @@ use Rattle.std.specs.Prelude.{reverse}
 use Rattle.std.proofs.lemmas.List.{append_assoc, append-nil, map-append, reverse-append, take_all}
 use Rattle.spec_text.specs.Words.{same}
 use Rattle.spec_text.proofs.WordLemmas.{same_true, same-refl}
-use Rattle.spec_reads.specs.declared.read.Read.TheVariants as read
-use Rattle.spec_reads.specs.Reads.{ExactRead, Looked, shape_words, front, has_shape, SeenBy, SeesDown}
+use Rattle.spec_board.specs.declared.read.Read.TheVariants as read
+use Rattle.spec_board.specs.Reads.{ExactRead, Looked, shape_words, front, has_shape, SeenBy, SeesDown}
 use Rattle.basis_board.specs.declared.seats.View.{View}
 use Rattle.basis_board.specs.declared.seats.Read.{Read}
 use Rattle.basis_board.specs.declared.seats.Read.TheVariants.{Count, Open, See, Claim, Lost, Done}
 use Rattle.basis_board.specs.declared.board.Look.{Look}
 use Rattle.basis_board.specs.declared.board.Look.TheVariants.{Found, NoneReady}
-use Rattle.spec_reads.specs.declared.read.Put.{Put}
-use Rattle.spec_reads.specs.declared.read.Put.TheVariants.{Published, Full, Raced}
+use Rattle.spec_board.specs.declared.read.Put.{Put}
+use Rattle.spec_board.specs.declared.read.Put.TheVariants.{Published, Full, Raced}
 use Rattle.basis_board.specs.Calls.{SeesOther, Passed, Looks, Puts, IsDownTo}
 use Rattle.board_reads.specs.PassReads.{exact_read, reads_of, AddsLook, AddsPut}
 

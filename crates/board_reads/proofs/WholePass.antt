@@ -7,10 +7,10 @@ use Rattle.std.proofs.lemmas.Grind.{flat_map-append}
 use Rattle.std.proofs.lemmas.List.{append-nil, same_lists, get_or_default, length-take, get_or-take}
 use Rattle.std.proofs.lemmas.List.Elements.{All-contains, All-from_recursion}
 use Rattle.std.proofs.lemmas.List.Elements.{Contains-append_right, Contains-append_cases}
-use Rattle.spec_reads.specs.declared.read.Read.TheVariants as read
-use Rattle.spec_reads.specs.Reads.{Words, ExactRead}
-use Rattle.spec_reads.specs.Places.{IsShown}
-use Rattle.spec_reads.specs.Orders.{published_by, published_in, IsBacked, AreBacked}
+use Rattle.spec_board.specs.declared.read.Read.TheVariants as read
+use Rattle.spec_board.specs.Reads.{Words, ExactRead}
+use Rattle.spec_board.specs.Places.{IsShown}
+use Rattle.spec_board.specs.Orders.{published_by, published_in, IsBacked, AreBacked}
 use Rattle.basis_board.specs.declared.seats.View.{View}
 use Rattle.basis_board.specs.declared.seats.Read.{Read}
 use Rattle.basis_board.specs.declared.seats.Read.TheVariants.{Count, Open, See, Claim, Lost, Done}

@@ -2,7 +2,7 @@
 use Rattle.std.specs.Prelude.{ℕ, ◌≡◌, ◌<◌, List, ◌∷◌, slice_index}
 use mathlib.Core.Option.{some}
 use lib.ListN.{get_elem?}
-use Rattle.spec_reads.specs.Places.{ExactPlace, IsShown}
+use Rattle.spec_board.specs.Places.{ExactPlace, IsShown}
 use Rattle.atomic_table.specs.Table.{State, Act, stepped}
 use Rattle.basis_board.specs.declared.seats.Sight.{Sight}
 use Rattle.basis_board.specs.declared.seats.Read.{Read}

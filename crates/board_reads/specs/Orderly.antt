@@ -1,9 +1,9 @@
 -- What holds of the reads of a pass, whatever it was called for.
 use Rattle.std.specs.Prelude.{◌≡◌, ◌⊎◌, length}
 use Rattle.std.specs.List.{AllByRecursion}
-use Rattle.spec_reads.specs.declared.read.Read.TheVariants.{Seen, Done}
-use Rattle.spec_reads.specs.Reads.{ExactRead, basis_words, shape_words}
-use Rattle.spec_reads.specs.Orders.{InPairs, AreInOrder}
+use Rattle.spec_board.specs.declared.read.Read.TheVariants.{Seen, Done}
+use Rattle.spec_board.specs.Reads.{ExactRead, basis_words, shape_words}
+use Rattle.spec_board.specs.Orders.{InPairs, AreInOrder}
 use Rattle.basis_board.specs.declared.seats.View.{View}
 use Rattle.board_reads.specs.PassReads.{reads_of}
 

@@ -1,8 +1,8 @@
 -- What a pass of a board reads, as the reads of places that sessions share.
 use Rattle.std.specs.Prelude.{◌≡◌, ◌++◌, List, map, reverse, Some, None}
-use Rattle.spec_reads.specs.declared.read.Put.{Put}
-use Rattle.spec_reads.specs.declared.read.Read.TheVariants as read
-use Rattle.spec_reads.specs.Reads.{Words, ExactRead, Looked, LookReads, PutReads}
+use Rattle.spec_board.specs.declared.read.Put.{Put}
+use Rattle.spec_board.specs.declared.read.Read.TheVariants as read
+use Rattle.spec_board.specs.Reads.{Words, ExactRead, Looked, LookReads, PutReads}
 use Rattle.basis_board.specs.declared.seats.View.{View}
 use Rattle.basis_board.specs.declared.seats.Read.{Read}
 use Rattle.basis_board.specs.declared.seats.Read.TheVariants.{Count, Open, See, Claim, Lost, Done}

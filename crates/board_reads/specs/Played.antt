@@ -1,10 +1,10 @@
 -- What the reads of all passes of a board have to be so that places answer them in one order.
 use Rattle.std.specs.Prelude.{ℕ, ◌≡◌, ◌%◌, ◌<◌, List, [], ◌∷◌, length, map, slice_index_or}
 use Rattle.std.specs.List.{flat_map, Contains, AllByRecursion}
-use Rattle.spec_reads.specs.declared.read.Read.TheVariants.{Count, NotDone, Claim, Done}
-use Rattle.spec_reads.specs.Reads.{ExactRead}
-use Rattle.spec_reads.specs.Places.{Logged}
-use Rattle.spec_reads.specs.Orders.{AreBacked, HaveOneOrder}
+use Rattle.spec_board.specs.declared.read.Read.TheVariants.{Count, NotDone, Claim, Done}
+use Rattle.spec_board.specs.Reads.{ExactRead}
+use Rattle.spec_board.specs.Places.{Logged}
+use Rattle.spec_board.specs.Orders.{AreBacked, HaveOneOrder}
 use Rattle.basis_board.specs.Known.{Known, notes_of}
 use Rattle.basis_board.specs.Moments.{ComeAfter, WereTrue, IsOneLog}
 use Rattle.board_reads.specs.PassReads.{reads_of}

@@ -3,11 +3,11 @@ use Rattle.std.proofs.Common.{◌≡◌, ℕ, zero, suc, ◌-◌, Bool, true, fa
 use Rattle.std.proofs.Common.{None, refl, sym, ap, ◌∙◌, subst, nat_eq, cond, arith}
 use Rattle.std.proofs.lemmas.Bool.{eq-eqb, ne_eqb}
 use Rattle.spec_text.specs.Words.{same}
-use Rattle.spec_reads.specs.declared.place.Place.TheVariants as place
-use Rattle.spec_reads.specs.declared.read.Put.TheVariants.{Published, Full, Raced}
-use Rattle.spec_reads.specs.declared.read.Read.TheVariants as read
-use Rattle.spec_reads.specs.Places.{ExactPlace, place_at, with_place}
-use Rattle.spec_reads.specs.Reads.{ExactRead, Looked, front, has_shape, shown}
+use Rattle.spec_board.specs.declared.place.Place.TheVariants as place
+use Rattle.spec_board.specs.declared.read.Put.TheVariants.{Published, Full, Raced}
+use Rattle.spec_board.specs.declared.read.Read.TheVariants as read
+use Rattle.spec_board.specs.Places.{ExactPlace, place_at, with_place}
+use Rattle.spec_board.specs.Reads.{ExactRead, Looked, front, has_shape, shown}
 use Rattle.spec_server.specs.Machine.{ExactAsk}
 use Rattle.spec_server.specs.Halves.{Awaits}
 use Rattle.spec_server.specs.Machine.{ExactReply, State}

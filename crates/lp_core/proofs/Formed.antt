@@ -1,9 +1,9 @@
 -- The words of places stay well formed.
 use Rattle.std.proofs.Common.{◌≡◌, ℕ, zero, suc, List, [], ◌∷◌, ◌++◌, Some, sym, subst, ◌⊎◌, inl, inr}
 use Rattle.spec_board.specs.Words.{IsWellFormed}
-use Rattle.spec_reads.specs.declared.place.Place.TheVariants as place
-use Rattle.spec_reads.specs.Reads.{Words}
-use Rattle.spec_reads.specs.Places.{ExactPlace, place_at, with_place}
+use Rattle.spec_board.specs.declared.place.Place.TheVariants as place
+use Rattle.spec_board.specs.Reads.{Words}
+use Rattle.spec_board.specs.Places.{ExactPlace, place_at, with_place}
 use Rattle.spec_serve.proofs.Places.{place_before, some_same}
 use Rattle.lp_core.specs.Core.{AreFormed}
 

@@ -2,8 +2,8 @@
 use Rattle.std.proofs.Common.{◌≡◌, ℕ, ◌-◌, List, [], length, Some, sym, ap, subst, arith}
 use Rattle.std.specs.Prelude.{get_or}
 use Rattle.std.specs.List.{All}
-use Rattle.spec_reads.specs.declared.place.Place.TheVariants as place
-use Rattle.spec_reads.specs.Places.{ExactPlace, place_at}
+use Rattle.spec_board.specs.declared.place.Place.TheVariants as place
+use Rattle.spec_board.specs.Places.{ExactPlace, place_at}
 use Rattle.spec_world.specs.World.{opening_world}
 use Rattle.lp_core.specs.Core.{Kept, opening_kept, IsBelow, AreFormed, Shows}
 use Rattle.lp_core.proofs.Whole.{first_part, last_part}

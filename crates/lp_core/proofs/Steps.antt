@@ -3,11 +3,11 @@ use Rattle.std.proofs.Common.{◌≡◌, ℕ, ◌-◌, Bool, true, false, nat_eq
 use Rattle.std.proofs.Common.{None, refl, sym, ap, ◌∙◌, subst}
 use Rattle.spec_text.proofs.WordLemmas.{same_is_equal}
 use Rattle.spec_board.specs.Words.{IsWellFormed}
-use Rattle.spec_reads.specs.declared.place.Place.TheVariants as place
-use Rattle.spec_reads.specs.declared.read.Put.{Put}
-use Rattle.spec_reads.specs.declared.read.Put.TheVariants.{Published, Full, Raced}
-use Rattle.spec_reads.specs.Places.{ExactPlace, place_at, with_place}
-use Rattle.spec_reads.specs.Reads.{Words, Looked, front, has_shape}
+use Rattle.spec_board.specs.declared.place.Place.TheVariants as place
+use Rattle.spec_board.specs.declared.read.Put.{Put}
+use Rattle.spec_board.specs.declared.read.Put.TheVariants.{Published, Full, Raced}
+use Rattle.spec_board.specs.Places.{ExactPlace, place_at, with_place}
+use Rattle.spec_board.specs.Reads.{Words, Looked, front, has_shape}
 use Rattle.spec_server.specs.declared.halves.Started.TheVariants as started
 use Rattle.spec_server.specs.declared.halves.Next.TheVariants as goes
 use Rattle.spec_server.specs.Machine.{ExactAsk}

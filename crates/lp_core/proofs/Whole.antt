@@ -5,7 +5,7 @@ use Rattle.std.specs.Prelude.{get_or, set, ◌&&◌, nat_lt, nat_le}
 use Rattle.std.proofs.lemmas.Bool.{eqb-false, lt-ltb, le-leb, ltb-true, leb-true}
 use Rattle.std.proofs.Math.Bool.{and-false}
 use Rattle.std.proofs.lemmas.List.{length-set, get_or-set_same, get_or-set_other, get_or_read, set-get_or}
-use Rattle.spec_reads.specs.Places.{ExactPlace}
+use Rattle.spec_board.specs.Places.{ExactPlace}
 use Rattle.spec_world.specs.World.{ExactAct, ExactEvent, ExactEnd, World, has_session, fits_stage, is_enabled, Leaves}
 use Rattle.spec_world.specs.World.{StepBy, WorldStep}
 use Rattle.spec_world.specs.World.{Server}

@@ -1,7 +1,7 @@
 -- Places by their numbers, as the code reads and writes them.
 use Rattle.std.proofs.Common.{◌≡◌, ℕ, zero, suc, ◌<◌, ◌≤◌, List, [], ◌∷◌, length, Some, None, refl, sym, ap, ◌∙◌, arith}
 use Rattle.std.specs.Prelude.{get_or, set}
-use Rattle.spec_reads.specs.Places.{ExactPlace, place_at, with_place}
+use Rattle.spec_board.specs.Places.{ExactPlace, place_at, with_place}
 use Rattle.lp_core.specs.Looks.{words_in, words_at}
 
 place_get : (ps : List ExactPlace) (k : ℕ) (d : ExactPlace) → k < length ps → place_at ps k ≡ Some (get_or ps k d)

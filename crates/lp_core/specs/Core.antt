@@ -1,9 +1,9 @@
 -- What the code holds of a world, and what its events do.
 use Rattle.std.specs.Prelude.{ℕ, ◌≡◌, ◌<◌, ◌-◌, Bool, true, false, Some, List, length, get_or}
 use Rattle.spec_board.specs.Words.{IsWellFormed}
-use Rattle.spec_reads.specs.declared.place.Place.TheVariants as place
-use Rattle.spec_reads.specs.Reads.{Words, Looked}
-use Rattle.spec_reads.specs.Places.{ExactPlace, place_at}
+use Rattle.spec_board.specs.declared.place.Place.TheVariants as place
+use Rattle.spec_board.specs.Reads.{Words, Looked}
+use Rattle.spec_board.specs.Places.{ExactPlace, place_at}
 use Rattle.spec_server.specs.Machine.{State, opening}
 use Rattle.spec_server.specs.Step.{Pending}
 use Rattle.spec_server.specs.Halves.{Awaits, Nothing, WhatIsFound, WhatBecameOf, MayBeFound}

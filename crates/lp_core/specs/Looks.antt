@@ -1,8 +1,8 @@
 -- What a look finds at a place.
 use Rattle.std.specs.Prelude.{ℕ, Option, Some, None, List, if◌then◌else◌}
-use Rattle.spec_reads.specs.declared.place.Place.TheVariants as place
-use Rattle.spec_reads.specs.Reads.{Words, has_shape}
-use Rattle.spec_reads.specs.Places.{ExactPlace, place_at}
+use Rattle.spec_board.specs.declared.place.Place.TheVariants as place
+use Rattle.spec_board.specs.Reads.{Words, has_shape}
+use Rattle.spec_board.specs.Places.{ExactPlace, place_at}
 use Rattle.lp_core.specs.declared.stage.Stage.{Stage}
 use Rattle.lp_core.specs.declared.stage.Stage.TheVariants.{Solving}
 use Rattle.lp_core.specs.Stages.{looking_at}

@@ -1,6 +1,6 @@
 -- Where a look goes on.
 use Rattle.std.specs.Prelude.{ℕ, ◌-◌, ◌==◌, None, if◌then◌else◌}
-use Rattle.spec_reads.specs.Reads.{Words}
+use Rattle.spec_board.specs.Reads.{Words}
 use Rattle.lp_core.specs.declared.stage.Stage.{Stage}
 use Rattle.lp_core.specs.declared.stage.Stage.TheVariants.{Sees, Solving}
 

@@ -2,7 +2,7 @@
 ghost use Rattle.std.specs.Prelude.{◌≡◌};
 ghost use Rattle.lp_core.specs.Stages.{looking_at};
 
-use spec_reads::Found;
+use spec_board::Found;
 
 /// Where a session is in its ask.
 #[derive(Clone, Copy)]

@@ -5,7 +5,7 @@ ghost use Rattle.lp_core.specs.Core.{StepFits, Follows};
 
 use crate::seat::Seat;
 use lp_line::{Ask, Reply};
-use spec_reads::Place;
+use spec_board::Place;
 use spec_world::{Event, StepEnd};
 use std::alloc::{AllocError, Global};
 use std::marker::Model;

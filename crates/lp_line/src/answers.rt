@@ -7,7 +7,7 @@ use crate::asks::Answer;
 use lp_base::Bytes;
 use lp_check::{Known, Verdict};
 use lp_frac::{Op, Past};
-use spec_reads::Put;
+use spec_board::Put;
 use spec_server::{How, Publication};
 use spec_warm::Fall;
 use std::alloc::{AllocError, Global};

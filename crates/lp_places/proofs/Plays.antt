@@ -2,8 +2,8 @@
 use Rattle.std.proofs.Common.{◌≡◌, ℕ, List, [], ◌∷◌, ◌++◌, map, refl, sym, ap, ◌∙◌, subst, inl}
 use Rattle.std.specs.Prelude.{reverse}
 use Rattle.std.proofs.lemmas.List.{map-append, reverse-append, append_cancel_left}
-use Rattle.spec_reads.specs.Reads.{Words, ExactRead}
-use Rattle.spec_reads.specs.Places.{ExactPlace, Logged, logged, Answers, Plays}
+use Rattle.spec_board.specs.Reads.{Words, ExactRead}
+use Rattle.spec_board.specs.Places.{ExactPlace, Logged, logged, Answers, Plays}
 use Rattle.basis_board.specs.declared.seats.View.{View}
 use Rattle.basis_board.specs.declared.seats.Read.{Read}
 use Rattle.basis_board.specs.Board.{Each, Has}

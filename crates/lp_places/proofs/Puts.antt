@@ -1,14 +1,14 @@
 -- What the only pass of a board reads of a put, which places that are all done answer.
 use Rattle.std.proofs.Common.{◌≡◌, ℕ, ◌<◌, Some, List, [], ◌∷◌, ◌++◌, length, refl, sym, ap, ◌∙◌, subst}
 use Rattle.std.proofs.lemmas.List.{length-map}
-use Rattle.spec_reads.specs.declared.place.Place.TheVariants as place
-use Rattle.spec_reads.specs.Reads.{Words, basis_words}
-use Rattle.spec_reads.specs.Places.{ExactPlace, place_at, with_place}
+use Rattle.spec_board.specs.declared.place.Place.TheVariants as place
+use Rattle.spec_board.specs.Reads.{Words, basis_words}
+use Rattle.spec_board.specs.Places.{ExactPlace, place_at, with_place}
 use Rattle.basis_board.specs.declared.seats.View.{View}
 use Rattle.basis_board.specs.declared.seats.Read.{Read}
 use Rattle.basis_board.specs.declared.seats.Read.TheVariants.{Count, Claim, Lost, Done}
-use Rattle.spec_reads.specs.declared.read.Put.{Put}
-use Rattle.spec_reads.specs.declared.read.Put.TheVariants.{Published, Full, Raced}
+use Rattle.spec_board.specs.declared.read.Put.{Put}
+use Rattle.spec_board.specs.declared.read.Put.TheVariants.{Published, Full, Raced}
 use Rattle.basis_board.specs.Calls.{Puts}
 use Rattle.lp_places.specs.Only.{published_words, AreInOrder}
 use Rattle.lp_places.specs.Sharing.{as_places}

@@ -6,11 +6,11 @@ use Rattle.spec_simplex.specs.Form.{Form}
 use Rattle.spec_check.specs.declared.solve_end.SolveEnd.TheVariants.{Ended, Past, Spent}
 use Rattle.spec_cold.specs.Cold.{ExactSolveEnd}
 use Rattle.spec_board.proofs.Places.{packed_length}
-use Rattle.spec_reads.specs.declared.read.Put.{Put}
-use Rattle.spec_reads.specs.declared.read.Put.TheVariants.{Published, Full, Raced}
-use Rattle.spec_reads.specs.declared.read.Read.TheVariants.{Count, NotDone, Seen, Claim, Lost, Done}
-use Rattle.spec_reads.specs.Reads.{Words, ExactRead, Looked, basis_words, has_shape, SeenBy, SeesDown, LookReads}
-use Rattle.spec_reads.specs.Reads.{PutReads}
+use Rattle.spec_board.specs.declared.read.Put.{Put}
+use Rattle.spec_board.specs.declared.read.Put.TheVariants.{Published, Full, Raced}
+use Rattle.spec_board.specs.declared.read.Read.TheVariants.{Count, NotDone, Seen, Claim, Lost, Done}
+use Rattle.spec_board.specs.Reads.{Words, ExactRead, Looked, basis_words, has_shape, SeenBy, SeesDown, LookReads}
+use Rattle.spec_board.specs.Reads.{PutReads}
 use Rattle.spec_server.specs.declared.answer.How.{How}
 use Rattle.spec_server.specs.declared.answer.Publication.TheVariants as publication
 use Rattle.spec_server.specs.Machine.{ExactAsk, ExactReply, State}

@@ -1,15 +1,15 @@
 -- What the only pass of a board reads in a step of a session is as the places are.
 use Rattle.std.proofs.Common.{◌≡◌, ℕ, inl, inr, List, [], ◌∷◌, ◌++◌, length, refl, sym, ap, ◌∙◌, subst}
 use Rattle.std.proofs.lemmas.List.{append_assoc}
-use Rattle.spec_reads.specs.declared.read.Read.TheVariants as read
-use Rattle.spec_reads.specs.Reads.{Words, basis_words}
-use Rattle.spec_reads.specs.Places.{logged, Plays}
+use Rattle.spec_board.specs.declared.read.Read.TheVariants as read
+use Rattle.spec_board.specs.Reads.{Words, basis_words}
+use Rattle.spec_board.specs.Places.{logged, Plays}
 use Rattle.spec_server.specs.Machine.{ExactAsk, ExactReply, State}
 use Rattle.basis_board.specs.declared.seats.View.{View}
 use Rattle.basis_board.specs.declared.seats.Read.{Read}
 use Rattle.basis_board.specs.declared.seats.Read.TheVariants.{Count, Claim, Done}
 use Rattle.basis_board.specs.declared.board.Look.{Look}
-use Rattle.spec_reads.specs.declared.read.Put.{Put}
+use Rattle.spec_board.specs.declared.read.Put.{Put}
 use Rattle.basis_board.specs.Board.{Has}
 use Rattle.basis_board.specs.Rule.{Consistent}
 use Rattle.basis_board.specs.Calls.{Looks, Puts}

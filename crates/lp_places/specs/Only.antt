@@ -1,7 +1,7 @@
 -- What holds of places as the code keeps them: a board with the only pass of it.
 use Rattle.std.specs.Prelude.{◌≡◌, ◌++◌, List, [], ◌∷◌, length}
 use Rattle.atomic_table.specs.Seated.{TableId}
-use Rattle.spec_reads.specs.Reads.{Words, basis_words}
+use Rattle.spec_board.specs.Reads.{Words, basis_words}
 use Rattle.basis_board.specs.declared.seats.View.{View}
 use Rattle.basis_board.specs.declared.seats.Read.{Read}
 use Rattle.basis_board.specs.declared.seats.Read.TheVariants.{Done}

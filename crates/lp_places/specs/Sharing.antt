@@ -1,8 +1,8 @@
 -- Places that the sessions of one script share, and nobody else.
 use Rattle.std.specs.Prelude.{ℕ, ◌≡◌, List, map}
-use Rattle.spec_reads.specs.declared.place.Place.TheVariants as place
-use Rattle.spec_reads.specs.Reads.{Words, ExactRead}
-use Rattle.spec_reads.specs.Places.{ExactPlace, logged, Plays}
+use Rattle.spec_board.specs.declared.place.Place.TheVariants as place
+use Rattle.spec_board.specs.Reads.{Words, ExactRead}
+use Rattle.spec_board.specs.Places.{ExactPlace, logged, Plays}
 use Rattle.spec_server.specs.Machine.{ExactAsk, ExactReply, State}
 use Rattle.spec_server.specs.Step.{AloneStep}
 

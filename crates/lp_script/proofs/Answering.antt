@@ -1,8 +1,8 @@
 -- The exchange of one ask.
 use Rattle.std.proofs.Common.{◌≡◌, ℕ, List, [], ◌∷◌, Bool, true, false, nat_eq, cond, eqb-true}
 use Rattle.std.proofs.Common.{append-nil, refl, subst}
-use Rattle.spec_reads.specs.Reads.{ExactRead}
-use Rattle.spec_reads.specs.Places.{logged}
+use Rattle.spec_board.specs.Reads.{ExactRead}
+use Rattle.spec_board.specs.Places.{logged}
 use Rattle.spec_server.specs.declared.addressing.Addressing.TheVariants.{Numbered}
 use Rattle.spec_server.specs.declared.asks.Asked.{Asked}
 use Rattle.spec_server.specs.Machine.{ExactAsk, ExactReply, State}

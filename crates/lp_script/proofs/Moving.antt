@@ -6,7 +6,7 @@ use Rattle.std.specs.Io.KnownBytes.{Appends}
 use Rattle.std.proofs.KnownBytes.{Consumes-nil, Appends-nil}
 use Rattle.spec_text.specs.Lines.{lines_of, ended_lines_of, input_limit, IsPrefixOf}
 use Rattle.spec_text.specs.declared.line.Line.{Line}
-use Rattle.spec_reads.specs.Places.{ExactPlace}
+use Rattle.spec_board.specs.Places.{ExactPlace}
 use Rattle.spec_server.specs.declared.addressing.Addressing.TheVariants.{Numbered}
 use Rattle.spec_server.specs.declared.asks.Asked.{Asked}
 use Rattle.spec_server.specs.Machine.{ExactAsk, State, opening}

@@ -1,7 +1,7 @@
 -- The exchanges of the lines that were read so far, and those of more lines.
 use Rattle.std.proofs.Common.{◌≡◌, ℕ, List, [], ◌++◌, map, ap, sym, ◌∙◌, append-nil, refl, subst}
 use Rattle.spec_text.specs.declared.line.Line.{Line}
-use Rattle.spec_reads.specs.Places.{ExactPlace, Logged, Plays}
+use Rattle.spec_board.specs.Places.{ExactPlace, Logged, Plays}
 use Rattle.spec_server.specs.declared.addressing.Addressing.TheVariants.{Numbered}
 use Rattle.spec_server.specs.declared.asks.Asked.{Asked}
 use Rattle.spec_server.specs.Machine.{ExactAsk, State, opening}

@@ -5,7 +5,7 @@ use Rattle.std.proofs.Common.{refl, sym, ap, ◌∙◌, subst, arith}
 use Rattle.std.specs.Prelude.{◌||◌}
 use Rattle.std.specs.List.{All, AllByRecursion, flat_map, list_any}
 use Rattle.std.proofs.lemmas.List.Elements.{All-append, All-nil, All-from_recursion}
-use Rattle.spec_reads.specs.Orders.{InPairs, AreInOrder}
+use Rattle.spec_board.specs.Orders.{InPairs, AreInOrder}
 use Rattle.spec_serve.specs.Links.{exchanges_of_links}
 use Rattle.spec_serve.proofs.Apart.{links_run_alone, links_reads}
 use Rattle.spec_server.specs.Exchanges.{Exchange}

@@ -1,6 +1,6 @@
 -- The steps of a session, one after the other.
 use Rattle.std.proofs.Common.{◌≡◌, ℕ, List, [], ◌∷◌, ◌++◌, refl, ap, ◌∙◌, subst, inl, inr}
-use Rattle.spec_reads.specs.Reads.{Words}
+use Rattle.spec_board.specs.Reads.{Words}
 use Rattle.spec_server.specs.Exchanges.{Exchange, AloneRun}
 use Rattle.spec_server.specs.Machine.{ExactAsk, ExactReply, State}
 use Rattle.basis_board.specs.declared.seats.View.{View}

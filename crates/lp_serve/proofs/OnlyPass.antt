@@ -1,8 +1,8 @@
 -- What the only pass of a board reads in the steps of links is as the places are.
 use Rattle.std.proofs.Common.{◌≡◌, ℕ, suc, List, [], ◌∷◌, ◌++◌, refl, sym, ap, ◌∙◌, subst, inl, inr}
 use Rattle.std.proofs.lemmas.Grind.{flat_map-append}
-use Rattle.spec_reads.specs.Reads.{Words}
-use Rattle.spec_reads.specs.Places.{ExactPlace, Logged, logged, Plays}
+use Rattle.spec_board.specs.Reads.{Words}
+use Rattle.spec_board.specs.Places.{ExactPlace, Logged, logged, Plays}
 use Rattle.spec_server.specs.Machine.{State, opening}
 use Rattle.spec_server.specs.Exchanges.{Exchange, log_of}
 use Rattle.spec_serve.specs.Links.{session_of_link, as_session, exchanges_of_links}
@@ -10,8 +10,8 @@ use Rattle.spec_serve.proofs.Places.{Plays-append}
 use Rattle.basis_board.specs.declared.seats.View.{View}
 use Rattle.basis_board.specs.declared.board.Look.{Look}
 use Rattle.basis_board.specs.declared.board.Look.TheVariants.{Found, NoneReady}
-use Rattle.spec_reads.specs.declared.read.Put.{Put}
-use Rattle.spec_reads.specs.declared.read.Put.TheVariants.{Published, Full, Raced}
+use Rattle.spec_board.specs.declared.read.Put.{Put}
+use Rattle.spec_board.specs.declared.read.Put.TheVariants.{Published, Full, Raced}
 use Rattle.basis_board.specs.Rule.{Consistent}
 use Rattle.basis_board.specs.Calls.{Looks, Puts}
 use Rattle.lp_session.specs.Boarding.{StepCalls, MayPut}

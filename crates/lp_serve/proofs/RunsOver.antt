@@ -7,8 +7,8 @@ use Rattle.std.proofs.lemmas.Bool.{cases_lt}
 use Rattle.std.proofs.lemmas.List.{length-map}
 use Rattle.std.proofs.lemmas.List.Elements.{recursion_from_All}
 use Rattle.std.proofs.lemmas.List.Sorted.{All-permutation, IsPermutation-sym}
-use Rattle.spec_reads.specs.Orders.{AreBacked, HaveOneOrder}
-use Rattle.spec_reads.specs.Places.{Plays}
+use Rattle.spec_board.specs.Orders.{AreBacked, HaveOneOrder}
+use Rattle.spec_board.specs.Places.{Plays}
 use Rattle.spec_server.specs.Exchanges.{Exchange, RunAlone, RunFits, log_of}
 use Rattle.spec_server.specs.Machine.{opening}
 use Rattle.spec_serve.specs.Links.{exchanges_of_links, exchanges_from, RunsOver}

@@ -2,8 +2,8 @@
 use Rattle.std.proofs.Common.{◌≡◌, List, ◌++◌, refl, sym, ap, ◌∙◌, subst, inl, inr}
 use Rattle.std.proofs.lemmas.List.{append_assoc}
 use Rattle.spec_board.specs.Words.{IsWellFormed}
-use Rattle.spec_reads.specs.declared.read.Put.{Put}
-use Rattle.spec_reads.specs.Reads.{Words, ExactRead, Looked, LookReads, PutReads}
+use Rattle.spec_board.specs.declared.read.Put.{Put}
+use Rattle.spec_board.specs.Reads.{Words, ExactRead, Looked, LookReads, PutReads}
 use Rattle.spec_server.specs.declared.halves.Next.{Next}
 use Rattle.spec_server.specs.declared.halves.Next.TheVariants as next
 use Rattle.spec_server.specs.declared.halves.Started.{Started}

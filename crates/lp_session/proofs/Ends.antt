@@ -10,8 +10,8 @@ use Rattle.spec_cold.specs.Cold.{ExactSolveEnd}
 use Rattle.spec_solve.specs.Answers.{MayAnswer}
 use Rattle.spec_board.specs.Words.{IsWellFormed, packed, unpacked}
 use Rattle.spec_board.proofs.Bases.{packed_fits, unpacked_fits}
-use Rattle.spec_reads.specs.declared.read.Found.{Found}
-use Rattle.spec_reads.specs.Reads.{Words, Looked}
+use Rattle.spec_board.specs.declared.read.Found.{Found}
+use Rattle.spec_board.specs.Reads.{Words, Looked}
 use Rattle.spec_server.specs.Step.{handed_by, words_of_end}
 use Rattle.lp_solve.specs.Fit.{LeavesBasis}
 use Rattle.lp_session.specs.Stages.{IsEndOf, FitsForm}

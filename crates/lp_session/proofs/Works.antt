@@ -4,7 +4,7 @@ use Rattle.spec_model.specs.Model.{Model}
 use Rattle.spec_simplex.specs.Form.{Form}
 use Rattle.spec_warm.specs.Solve.{SolveEnd}
 use Rattle.spec_solve.specs.Answers.{IsSolved}
-use Rattle.spec_reads.specs.Reads.{Words, Looked}
+use Rattle.spec_board.specs.Reads.{Words, Looked}
 use Rattle.spec_server.specs.declared.answer.How.{How}
 use Rattle.spec_server.specs.declared.answer.Publication.TheVariants as publication
 use Rattle.spec_server.specs.Machine.{ExactReply, State}

@@ -1,12 +1,12 @@
 -- A step of a session over a board, which others may look at and publish on at the same time.
 use Rattle.std.specs.Prelude.{◌≡◌, ◌⊎◌, ◌++◌, List}
 use Rattle.spec_board.specs.Words.{IsWellFormed}
-use Rattle.spec_reads.specs.Reads.{Words, ExactRead}
+use Rattle.spec_board.specs.Reads.{Words, ExactRead}
 use Rattle.spec_server.specs.Machine.{ExactAsk, ExactReply, State}
 use Rattle.spec_server.specs.Step.{AloneStep}
 use Rattle.basis_board.specs.declared.seats.View.{View}
 use Rattle.basis_board.specs.declared.board.Look.{Look}
-use Rattle.spec_reads.specs.declared.read.Put.{Put}
+use Rattle.spec_board.specs.declared.read.Put.{Put}
 use Rattle.basis_board.specs.Calls.{Looks, Puts}
 use Rattle.basis_board.specs.Known.{Known}
 use Rattle.basis_board.specs.Moments.{NotesMore, WereTrue}

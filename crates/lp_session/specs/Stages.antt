@@ -7,7 +7,7 @@ use Rattle.spec_cold.specs.Cold.{ExactSolveEnd}
 use Rattle.spec_warm.specs.Solve.{SolveEnd}
 use Rattle.spec_solve.specs.Answers.{MayAnswer, IsSolved}
 use Rattle.spec_board.specs.Words.{IsWellFormed, shape_of}
-use Rattle.spec_reads.specs.Reads.{Looked, front}
+use Rattle.spec_board.specs.Reads.{Looked, front}
 use Rattle.spec_server.specs.declared.asks.Reply.TheVariants as reply
 use Rattle.spec_server.specs.Machine.{ExactAsk, ExactReply, State, edit_refusal}
 use Rattle.spec_server.specs.Step as step

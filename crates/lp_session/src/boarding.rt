@@ -3,7 +3,7 @@ ghost use Rattle.std.specs.Prelude.{◌≡◌};
 ghost use Rattle.board_reads.specs.PassReads.{looked_by};
 
 use basis_board::Look;
-use spec_reads::Found;
+use spec_board::Found;
 
 // What a look found.
 pub(crate) fn found_by(look: Look) -> Option<Found<[u64; 49]>>

@@ -12,7 +12,7 @@ use crate::stage::{Begun, Stage, Worked};
 use basis_board::{Board, Pass};
 use lp_line::{Ask, Reply};
 use lp_shape::shape;
-use spec_reads::{Found, Put};
+use spec_board::{Found, Put};
 use spec_server::{Next, Publication, Started};
 use std::alloc::Global;
 use std::marker::Model;

@@ -13,7 +13,7 @@ use lp_form::Form;
 use lp_model::Model;
 use lp_shape::{pack, unpack};
 use lp_solve::{End, Route, Solved, solve_formed};
-use spec_reads::Found;
+use spec_board::Found;
 use spec_server::How;
 use std::alloc::{AllocError, Global};
 

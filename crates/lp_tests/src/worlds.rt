@@ -2,7 +2,7 @@
 use lp_core::World;
 use lp_gen::make;
 use lp_line::{Ask, Plain, Reply};
-use spec_reads::Put;
+use spec_board::Put;
 use spec_server::Publication;
 use spec_world::{Act, Event, StepEnd};
 use std::alloc::Global;

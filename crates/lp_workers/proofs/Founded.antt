@@ -3,11 +3,11 @@ use Rattle.std.proofs.Common.{◌≡◌, ℕ, zero, suc, ◌<◌, ◌≤◌, ◌
 use Rattle.std.proofs.Common.{nat_eq, eqb-true, cond, refl, sym, ap, ◌∙◌, subst, ⊎_elim, arith}
 use Rattle.std.specs.List.{Contains, AllByRecursion}
 use Rattle.std.proofs.lemmas.List.Elements.{Contains-append_left, Contains-append_right, Contains-append_cases}
-use Rattle.spec_reads.specs.declared.read.Put.{Put}
-use Rattle.spec_reads.specs.declared.read.Put.TheVariants.{Published, Full, Raced}
-use Rattle.spec_reads.specs.declared.read.Read.TheVariants as read
-use Rattle.spec_reads.specs.Reads.{Words, ExactRead, Looked, has_shape, SeenBy, SeesDown, LookReads, PutReads}
-use Rattle.spec_reads.specs.Places.{Logged, logged}
+use Rattle.spec_board.specs.declared.read.Put.{Put}
+use Rattle.spec_board.specs.declared.read.Put.TheVariants.{Published, Full, Raced}
+use Rattle.spec_board.specs.declared.read.Read.TheVariants as read
+use Rattle.spec_board.specs.Reads.{Words, ExactRead, Looked, has_shape, SeenBy, SeesDown, LookReads, PutReads}
+use Rattle.spec_board.specs.Places.{Logged, logged}
 use Rattle.spec_server.specs.Machine.{ExactReply, State}
 use Rattle.spec_server.specs.Step.{Begun, Looks, Worked, Ends, Publishes, Concludes, GoesOn, AloneStep}
 use Rattle.spec_server.specs.Step as step

@@ -20,8 +20,8 @@ use Rattle.basis_board.specs.Board.{cut_right, met}
 use Rattle.board_reads.specs.Orderly.{IsWhole}
 use Rattle.board_reads.specs.PassReads.{reads_of}
 use Rattle.board_reads.proofs.Tying.{reads_more}
-use Rattle.spec_reads.specs.Orders.{InPairs, AreInOrder}
-use Rattle.spec_reads.specs.Reads.{ExactRead}
+use Rattle.spec_board.specs.Orders.{InPairs, AreInOrder}
+use Rattle.spec_board.specs.Reads.{ExactRead}
 use Rattle.spec_server.specs.declared.asks.Asked.{Asked}
 use Rattle.spec_server.specs.Halves.{Standing, Nothing, at_rest}
 use Rattle.spec_server.specs.Machine.{ExactAsk, opening}

@@ -1,7 +1,7 @@
 -- How asks are dealt to workers, and how their replies stand in the order of the asks.
 use Rattle.std.specs.Prelude.{ℕ, ◌≡◌, ◌<◌, List, map, reverse, slice_index_or}
 use Rattle.std.specs.List.{flat_map}
-use Rattle.spec_reads.specs.Reads.{ExactRead}
+use Rattle.spec_board.specs.Reads.{ExactRead}
 use Rattle.spec_server.specs.declared.asks.Asked.{Asked}
 use Rattle.spec_server.specs.Machine.{ExactAsk}
 use Rattle.spec_server.specs.Exchanges.{Exchange}

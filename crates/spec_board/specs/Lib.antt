@@ -1,1 +1,4 @@
 pub mod Words
+pub mod Reads
+pub mod Places
+pub mod Orders

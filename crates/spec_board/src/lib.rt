@@ -1,4 +1,5 @@
-//! Words in which the shape of a form, and a basis of it, are passed on: their definitions, and laws.
+//! What sessions share: the words in which the shape of a form, and a basis of it, are passed on, and the places in which
+//! such words stand, with what is read and written of these.
 //!
 //! | Item | What it is | Where |
 //! |---|---|---|
@@ -6,9 +7,24 @@
 //! | `packed` | these, and 24 words with the status of each column | specs/Words |
 //! | `IsWellFormed` | what holds of 49 words that have a basis | specs/Words |
 //! | `unpacked` | the basis in words | specs/Words |
+//! | `Place` | a place that is claimed | src/place |
+//! | `Read` | one read or write of the places | src/read |
+//! | `Found` | a place that a look found | src/read |
+//! | `Put` | what became of words that were to be published | src/read |
+//! | `LookReads`, `PutReads` | a look and a put, by what they read | specs/Reads |
+//! | `Answers`, `Plays` | reads that the places answer, one and all in one order | specs/Places |
+//! | `AreInOrder`, `AreBacked` | what the reads of one say of each other, and those of all | specs/Orders |
+//! | `HaveOneOrder` | that the reads of all stand in one order, which the places answer | specs/Orders |
 //!
 //! The functions here have the laws as their contracts.
+//!
+//! The places are claimed one after the other, and each is written once. A look reads how many are claimed, and goes
+//! over them from the newest down to the first whose words have a shape. A put claims one place in one try, and writes
+//! it.
 #![tactic(auto)]
+
+mod place;
+mod read;
 
 ghost use Rattle.std.specs.Prelude.{◌≡◌, ◌+◌, ◌<◌, ◌^◌, ℕ, List, length, take, All};
 ghost use Rattle.spec_pivot.specs.declared.status.Status.{Status};
@@ -16,6 +32,9 @@ ghost use Rattle.spec_simplex.specs.Form.{Form, IsForm};
 ghost use Rattle.spec_simplex.specs.Eliminate.{IsBasisOf};
 ghost use Rattle.spec_board.specs.Words.{shape_of, packed, unpacked, IsWellFormed, SameShape, places};
 ghost use Rattle.spec_board.specs.Words.{rows_of, cols_of, bounds_at, form_code, basis_code, code_at};
+
+pub use place::Place;
+pub use read::{Found, Put, Read};
 
 /// The words of a basis give it back.
 pub fn words_give_the_basis()

@@ -2,11 +2,11 @@
 use Rattle.std.proofs.Common.{◌≡◌, ℕ, ◌<◌, ◌≤◌, Bool, true, false, List, [], ◌∷◌, ◌++◌, length, map, Option, Some}
 use Rattle.std.proofs.Common.{sym, ap, ◌∙◌, subst, cond, arith}
 use Rattle.std.specs.List.{filter, flat_map, AllByRecursion}
-use Rattle.spec_reads.specs.declared.place.Place.TheVariants as place
-use Rattle.spec_reads.specs.declared.read.Read.TheVariants.{Count, NotDone, Seen, Claim, Lost, Done}
-use Rattle.spec_reads.specs.Reads.{ExactRead}
-use Rattle.spec_reads.specs.Places.{ExactPlace, place_at, Answers, Logged, Plays}
-use Rattle.spec_reads.specs.Orders.{InPairs, AreInOrder, published_by}
+use Rattle.spec_board.specs.declared.place.Place.TheVariants as place
+use Rattle.spec_board.specs.declared.read.Read.TheVariants.{Count, NotDone, Seen, Claim, Lost, Done}
+use Rattle.spec_board.specs.Reads.{ExactRead}
+use Rattle.spec_board.specs.Places.{ExactPlace, place_at, Answers, Logged, Plays}
+use Rattle.spec_board.specs.Orders.{InPairs, AreInOrder, published_by}
 use Rattle.spec_serve.proofs.Places.{place_below, with_same, answers_keep, answers_grow}
 
 -- ---- what a later read is, once so many places are claimed

@@ -5,11 +5,11 @@ use Rattle.std.specs.List.{filter, flat_map, Contains, AllByRecursion}
 use Rattle.std.proofs.lemmas.List.{map-append}
 use Rattle.std.proofs.lemmas.List.Elements.{All-contains, All-from_recursion, Contains-append_left}
 use Rattle.std.proofs.lemmas.List.Elements.{Contains-append_right, filter-append}
-use Rattle.spec_reads.specs.declared.place.Place.TheVariants as place
-use Rattle.spec_reads.specs.declared.read.Read.TheVariants.{Count, NotDone, Seen, Claim, Lost, Done}
-use Rattle.spec_reads.specs.Reads.{ExactRead}
-use Rattle.spec_reads.specs.Places.{ExactPlace, place_at, Answers, Logged, Plays, logged}
-use Rattle.spec_reads.specs.Orders.{InPairs, AreInOrder, published_by, published_in, IsBacked, log_of_worker}
+use Rattle.spec_board.specs.declared.place.Place.TheVariants as place
+use Rattle.spec_board.specs.declared.read.Read.TheVariants.{Count, NotDone, Seen, Claim, Lost, Done}
+use Rattle.spec_board.specs.Reads.{ExactRead}
+use Rattle.spec_board.specs.Places.{ExactPlace, place_at, Answers, Logged, Plays, logged}
+use Rattle.spec_board.specs.Orders.{InPairs, AreInOrder, published_by, published_in, IsBacked, log_of_worker}
 use Rattle.spec_server.specs.Machine.{opening}
 use Rattle.spec_server.specs.Exchanges.{Exchange, log_of, RunFits}
 use Rattle.spec_serve.specs.Workers.{reads_in_all, reads_of_worker, exchanges_of_worker, logs_of, ManyFits, RunsBy}

@@ -3,10 +3,10 @@ use Rattle.std.proofs.Common.{◌≡◌, ℕ, zero, suc, ◌<◌, ◌≤◌, Boo
 use Rattle.std.proofs.Common.{Some, refl, sym, ap, ◌∙◌, subst, ◌⊎◌, inl, inr, nat_eq, eqb-true, ◌+◌, arith}
 use Rattle.std.proofs.lemmas.Bool.{eqb-false}
 use Rattle.std.proofs.lemmas.List.{length_push, map-append}
-use Rattle.spec_reads.specs.declared.place.Place.TheVariants.{Claimed, Done}
-use Rattle.spec_reads.specs.declared.read.Read.TheVariants as read
-use Rattle.spec_reads.specs.Reads.{ExactRead}
-use Rattle.spec_reads.specs.Places.{ExactPlace, place_at, with_place, Answers, Logged, logged, Plays}
+use Rattle.spec_board.specs.declared.place.Place.TheVariants.{Claimed, Done}
+use Rattle.spec_board.specs.declared.read.Read.TheVariants as read
+use Rattle.spec_board.specs.Reads.{ExactRead}
+use Rattle.spec_board.specs.Places.{ExactPlace, place_at, with_place, Answers, Logged, logged, Plays}
 
 -- ---- one more place
 

@@ -1,8 +1,8 @@
 -- What a session reads in a look leaves the places as they are.
 use Rattle.std.proofs.Common.{◌≡◌, ℕ, zero, suc, Bool, true, false, List, [], ◌∷◌, ◌∙◌, subst}
-use Rattle.spec_reads.specs.declared.read.Read.TheVariants as read
-use Rattle.spec_reads.specs.Reads.{ExactRead, Looked, has_shape, SeenBy, SeesDown, LookReads}
-use Rattle.spec_reads.specs.Places.{ExactPlace, Logged, Plays, logged}
+use Rattle.spec_board.specs.declared.read.Read.TheVariants as read
+use Rattle.spec_board.specs.Reads.{ExactRead, Looked, has_shape, SeenBy, SeesDown, LookReads}
+use Rattle.spec_board.specs.Places.{ExactPlace, Logged, Plays, logged}
 
 module _ (places me : ℕ) where
   abbrev log : List ExactRead → List Logged

@@ -1,9 +1,9 @@
 -- What the replies to asks may be that workers answer, with the reads that were made for them.
 use Rattle.std.specs.Prelude.{ℕ, ◌≡◌, ◌==◌, ◌%◌, ◌<◌, List, [], map, if◌then◌else◌}
 use Rattle.std.specs.List.{filter, flat_map}
-use Rattle.spec_reads.specs.Reads.{ExactRead}
-use Rattle.spec_reads.specs.Orders.{InPairs, AreInOrder, AreBacked, HaveOneOrder}
-use Rattle.spec_reads.specs.Places.{Logged}
+use Rattle.spec_board.specs.Reads.{ExactRead}
+use Rattle.spec_board.specs.Orders.{InPairs, AreInOrder, AreBacked, HaveOneOrder}
+use Rattle.spec_board.specs.Places.{Logged}
 use Rattle.spec_server.specs.declared.asks.Asked.{Asked}
 use Rattle.spec_server.specs.Machine.{ExactAsk}
 use Rattle.spec_server.specs.Exchanges.{Exchange, asked_in, log_of, RunAlone, RunFits}

@@ -17,8 +17,8 @@ ghost use Rattle.std.specs.Prelude.{◌≡◌, ◌≤◌, ◌<◌, ℕ, Bool, Li
 ghost use Rattle.std.specs.List.{filter, flat_map};
 ghost use Rattle.spec_text.specs.Lines.{lines_of, ended_lines_of, input_limit};
 ghost use Rattle.spec_model.specs.Model.{Model};
-ghost use Rattle.spec_reads.specs.Places.{ExactPlace, Logged, Plays};
-ghost use Rattle.spec_reads.specs.Orders.{InPairs, AreInOrder, AreBacked, HaveOneOrder, published_by};
+ghost use Rattle.spec_board.specs.Places.{ExactPlace, Logged, Plays};
+ghost use Rattle.spec_board.specs.Orders.{InPairs, AreInOrder, AreBacked, HaveOneOrder, published_by};
 ghost use Rattle.spec_server.specs.declared.addressing.Addressing.TheVariants.{Alone};
 ghost use Rattle.spec_server.specs.declared.asks.Ask.TheVariants as ask;
 ghost use Rattle.spec_server.specs.declared.asks.Asked.{Asked};

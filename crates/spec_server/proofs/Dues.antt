@@ -22,9 +22,9 @@ use Rattle.spec_cold.specs.Cold.{ExactSolveEnd}
 use Rattle.spec_warm.specs.declared.ends.Route.TheVariants as route
 use Rattle.spec_solve.specs.Order.{cold_by}
 use Rattle.spec_solve.proofs.Stated.{part_is_solved}
-use Rattle.spec_reads.specs.declared.read.Put.TheVariants.{Full}
-use Rattle.spec_reads.specs.declared.read.Read.TheVariants.{Count}
-use Rattle.spec_reads.specs.Reads.{Words, ExactRead}
+use Rattle.spec_board.specs.declared.read.Put.TheVariants.{Full}
+use Rattle.spec_board.specs.declared.read.Read.TheVariants.{Count}
+use Rattle.spec_board.specs.Reads.{Words, ExactRead}
 use Rattle.spec_server.specs.declared.answer.How.TheVariants as how
 use Rattle.spec_server.specs.declared.answer.Publication.{Publication}
 use Rattle.spec_server.specs.declared.answer.Publication.TheVariants as publication

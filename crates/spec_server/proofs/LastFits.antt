@@ -2,7 +2,7 @@
 use Rattle.std.proofs.Common.{◌≡◌, ℕ, List, Option, Some, None, Ok, Err, refl, sym, subst, ◌⊎◌, inl, inr}
 use Rattle.spec_model.specs.Model.{Model}
 use Rattle.spec_edit.specs.Edited.{ExactEdit, OrFault, edited}
-use Rattle.spec_reads.specs.Reads.{ExactRead}
+use Rattle.spec_board.specs.Reads.{ExactRead}
 use Rattle.spec_server.specs.declared.asks.Ask.TheVariants as ask
 use Rattle.spec_server.specs.declared.command.Plain.TheVariants as command
 use Rattle.spec_server.specs.Machine.{ExactAsk, ExactReply, State, solve_due, edit_due, change_due, due}

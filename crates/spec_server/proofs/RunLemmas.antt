@@ -3,7 +3,7 @@ use Rattle.std.proofs.Common.{◌≡◌, ℕ, Bool, true, false, List, [], ◌�
 use Rattle.std.proofs.Common.{nat_eq, eqb-true}
 use Rattle.std.proofs.lemmas.List.Elements.{filter-append}
 use Rattle.std.proofs.lemmas.Grind.{flat_map-append}
-use Rattle.spec_reads.specs.Places.{ExactPlace, Logged, logged, Plays}
+use Rattle.spec_board.specs.Places.{ExactPlace, Logged, logged, Plays}
 use Rattle.spec_server.specs.Machine.{State}
 use Rattle.spec_server.specs.Step.{AloneStep}
 use Rattle.spec_server.specs.Exchanges.{Exchange, asked_in, AloneRun, of_session, log_of}

@@ -10,7 +10,7 @@ use Rattle.spec_simplex.specs.Form.{Form, form_of}
 use Rattle.spec_cold.specs.Cold.{ExactSolveEnd, cold}
 use Rattle.spec_solve.specs.Answers.{MayAnswer}
 use Rattle.spec_solve.proofs.Solves.{formless_solved}
-use Rattle.spec_reads.specs.Reads.{Words, ExactRead, Looked}
+use Rattle.spec_board.specs.Reads.{Words, ExactRead, Looked}
 use Rattle.spec_server.specs.declared.answer.How.{How}
 use Rattle.spec_server.specs.declared.answer.How.TheVariants as how
 use Rattle.spec_server.specs.declared.answer.Publication.{Publication}

@@ -1,8 +1,8 @@
 -- A step of a session in parts, between which it is told what was found, and what became of what it published.
 use Rattle.std.specs.Prelude.{◌≡◌, IfSome}
 use Rattle.spec_board.specs.Words.{IsWellFormed}
-use Rattle.spec_reads.specs.declared.read.Put.{Put}
-use Rattle.spec_reads.specs.Reads.{Words, Looked, front}
+use Rattle.spec_board.specs.declared.read.Put.{Put}
+use Rattle.spec_board.specs.Reads.{Words, Looked, front}
 use Rattle.spec_server.specs.declared.halves.Next.{Next}
 use Rattle.spec_server.specs.declared.halves.Next.TheVariants as next
 use Rattle.spec_server.specs.declared.halves.Started.{Started}

@@ -1,7 +1,7 @@
 // What a solve answers, over the type F of numbers, L of lists of numbers and B of bases.
+use spec_board::Put;
 use spec_check::{Known, SolveEnd};
 use spec_exact::Past;
-use spec_reads::Put;
 use spec_warm::Fall;
 use std::fmt::Debug;
 

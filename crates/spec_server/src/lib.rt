@@ -48,7 +48,7 @@ ghost use Rattle.spec_server.specs.declared.asks.Reply.TheVariants as reply;
 ghost use Rattle.spec_server.specs.declared.command.Plain.TheVariants as command;
 ghost use Rattle.spec_server.specs.HandedBack.{IsAcceptedBack};
 ghost use Rattle.spec_server.specs.LastFits.{LastFits};
-ghost use Rattle.spec_reads.specs.Reads.{ExactRead};
+ghost use Rattle.spec_board.specs.Reads.{ExactRead};
 ghost use Rattle.spec_server.specs.Machine.{ExactAsk, ExactReply, IsKeptAsk, AreKept};
 ghost use Rattle.spec_server.specs.Machine.{is_memory, State, opening};
 ghost use Rattle.spec_server.specs.Step.{AloneStep};

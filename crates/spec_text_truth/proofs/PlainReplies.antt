@@ -27,9 +27,9 @@ use Rattle.spec_check.specs.Raw.{ExactRaw}
 use Rattle.spec_check.specs.Settle.{Settled, certificate_for}
 use Rattle.spec_warm.specs.declared.ends.Fall.{Fall}
 use Rattle.spec_warm.specs.declared.ends.Fall.TheVariants as fall
-use Rattle.spec_reads.specs.declared.read.Put.{Put}
-use Rattle.spec_reads.specs.declared.read.Put.TheVariants as puts
-use Rattle.spec_reads.specs.Reads.{ExactRead}
+use Rattle.spec_board.specs.declared.read.Put.{Put}
+use Rattle.spec_board.specs.declared.read.Put.TheVariants as puts
+use Rattle.spec_board.specs.Reads.{ExactRead}
 use Rattle.spec_server.specs.declared.answer.How.{How}
 use Rattle.spec_server.specs.declared.answer.How.TheVariants.{Cold, Basis, Fell}
 use Rattle.spec_server.specs.declared.answer.Publication.{Publication}

@@ -25,7 +25,7 @@ use Rattle.spec_check.specs.declared.solve_end.SolveEnd.TheVariants as outcome
 use Rattle.spec_cold.specs.Cold.{ExactSolveEnd}
 use Rattle.spec_solve.specs.Answers.{MayAnswer}
 use Rattle.spec_certificate.specs.TextWritten.{certificate_lines}
-use Rattle.spec_reads.specs.Reads.{ExactRead}
+use Rattle.spec_board.specs.Reads.{ExactRead}
 use Rattle.spec_server.specs.declared.addressing.Addressing.{Addressing}
 use Rattle.spec_server.specs.declared.asks.Ask.TheVariants as ask
 use Rattle.spec_server.specs.declared.asks.Reply.TheVariants as reply

@@ -7,7 +7,7 @@ use Rattle.spec_edit.specs.Edited.{ExactEdit, OrFault, edited}
 use Rattle.spec_server.specs.declared.asks.Ask.TheVariants as ask
 use Rattle.spec_server.specs.declared.asks.Reply.TheVariants as reply
 use Rattle.spec_server.specs.declared.command.Plain.TheVariants as command
-use Rattle.spec_reads.specs.Reads.{ExactRead}
+use Rattle.spec_board.specs.Reads.{ExactRead}
 use Rattle.spec_server.specs.Machine.{ExactAsk, ExactReply, State, opening, solve_due, edit_refusal, edit_due}
 use Rattle.spec_server.specs.Machine.{change_due, due}
 use Rattle.spec_server.specs.Step.{AloneStep}

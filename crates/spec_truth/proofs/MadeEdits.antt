@@ -9,7 +9,7 @@ use Rattle.spec_server.specs.declared.asks.Ask.TheVariants as ask
 use Rattle.spec_server.specs.declared.asks.Reply.TheVariants as reply
 use Rattle.spec_server.specs.declared.asks.Refusal.TheVariants as refusal
 use Rattle.spec_server.specs.declared.command.Plain.TheVariants as command
-use Rattle.spec_reads.specs.Reads.{ExactRead}
+use Rattle.spec_board.specs.Reads.{ExactRead}
 use Rattle.spec_server.specs.Machine.{ExactAsk, ExactReply, State, edit_due, change_due, edit_refusal}
 use Rattle.spec_server.specs.Step.{AloneStep}
 use Rattle.spec_server.specs.Exchanges.{Exchange, of_session, RunAlone}

@@ -21,7 +21,7 @@ use Rattle.spec_server.specs.declared.asks.Ask.TheVariants as ask
 use Rattle.spec_server.specs.declared.asks.Reply.TheVariants as reply
 use Rattle.spec_server.specs.declared.asks.Refusal.TheVariants as refusal
 use Rattle.spec_server.specs.declared.command.Plain.TheVariants as command
-use Rattle.spec_reads.specs.Reads.{ExactRead}
+use Rattle.spec_board.specs.Reads.{ExactRead}
 use Rattle.spec_server.specs.Machine.{ExactAsk, ExactReply, ExactLastAnswer, State, verdict_on, check_reply}
 use Rattle.spec_server.specs.Machine.{fixed_reply, write_reply, cert_reply, how_reply, Due, Replies, Solves}
 use Rattle.spec_server.specs.Machine.{answer_of, due, solve_due, edit_refusal, edit_due, change_due}

@@ -6,7 +6,7 @@ use Rattle.spec_model.specs.Model.{Model}
 use Rattle.spec_check.specs.declared.certificate.Known.{Known}
 use Rattle.spec_check.specs.Certificate.{Holds}
 use Rattle.spec_server.specs.Machine.{ExactAsk, ExactReply, State, opening}
-use Rattle.spec_reads.specs.Reads.{ExactRead}
+use Rattle.spec_board.specs.Reads.{ExactRead}
 use Rattle.spec_server.specs.Step.{AloneStep}
 use Rattle.spec_server.specs.Exchanges.{Exchange, AloneRun, of_session, RunAlone}
 use Rattle.spec_server.proofs.RunLemmas.{of_session-append}

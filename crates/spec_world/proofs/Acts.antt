@@ -3,10 +3,10 @@ use Rattle.std.proofs.Common.{◌≡◌, ℕ, zero, suc, ◌≤◌, Bool, true, 
 use Rattle.std.proofs.Common.{refl, sym, ap, ◌∙◌, subst, inl, inr, cond, arith}
 use Rattle.std.proofs.lemmas.List.{append-nil, take-take}
 use Rattle.spec_text.specs.Words.{same}
-use Rattle.spec_reads.specs.declared.place.Place.TheVariants as place
-use Rattle.spec_reads.specs.declared.read.Read.TheVariants as read
-use Rattle.spec_reads.specs.Reads.{ExactRead, Looked, basis_words, shape_words, front, has_shape, shown}
-use Rattle.spec_reads.specs.Places.{ExactPlace, place_at, IsShown}
+use Rattle.spec_board.specs.declared.place.Place.TheVariants as place
+use Rattle.spec_board.specs.declared.read.Read.TheVariants as read
+use Rattle.spec_board.specs.Reads.{ExactRead, Looked, basis_words, shape_words, front, has_shape, shown}
+use Rattle.spec_board.specs.Places.{ExactPlace, place_at, IsShown}
 use Rattle.spec_server.specs.Machine.{ExactAsk, State, opening}
 use Rattle.spec_server.specs.Step.{Begun, Looks, Begins, Worked, Ends, Publishes, Works}
 use Rattle.spec_server.specs.Step as step

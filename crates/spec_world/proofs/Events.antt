@@ -3,8 +3,8 @@ use Rattle.std.proofs.Common.{◌≡◌, ℕ, Bool, true, false, List, [], ◌�
 use Rattle.std.proofs.Common.{◌∙◌, subst, nat_eq, eqb-true, ◌↔◌, arith}
 use Rattle.std.proofs.lemmas.Bool.{eqb-false}
 use Rattle.std.proofs.lemmas.List.{append-nil}
-use Rattle.spec_reads.specs.declared.place.Place.TheVariants as place
-use Rattle.spec_reads.specs.Places.{place_at, Plays, logged}
+use Rattle.spec_board.specs.declared.place.Place.TheVariants as place
+use Rattle.spec_board.specs.Places.{place_at, Plays, logged}
 use Rattle.spec_server.specs.Machine.{ExactReply}
 use Rattle.spec_serve.proofs.Places.{plays_keep_done}
 use Rattle.spec_world.specs.declared.event.StepEnd.TheVariants.{Not}

@@ -15,8 +15,8 @@ use Rattle.spec_cold.specs.Cold.{ExactSolveEnd}
 use Rattle.spec_solve.proofs.Left.{solved_left}
 use Rattle.spec_board.specs.Words.{shape_of, packed, IsWellFormed}
 use Rattle.spec_board.proofs.Bases.{packed_fits, unpacked_fits}
-use Rattle.spec_reads.specs.declared.read.Read.TheVariants as read
-use Rattle.spec_reads.specs.Reads.{Words, ExactRead, Looked, front, has_shape, SeenBy, SeesDown, LookReads}
+use Rattle.spec_board.specs.declared.read.Read.TheVariants as read
+use Rattle.spec_board.specs.Reads.{Words, ExactRead, Looked, front, has_shape, SeenBy, SeesDown, LookReads}
 use Rattle.spec_server.specs.declared.asks.Reply.TheVariants as reply
 use Rattle.spec_server.specs.Machine.{State, solve_due}
 use Rattle.spec_server.specs.Step.{Begun, Answers, Looks, solve_begun, begun_by, Begins, Pending, Ends}

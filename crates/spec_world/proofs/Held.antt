@@ -3,7 +3,7 @@ use Rattle.std.proofs.Common.{◌≡◌, ℕ, Bool, true, List, [], ◌∷◌, �
 use Rattle.std.specs.Prelude.{◌&&◌}
 use Rattle.std.proofs.lemmas.Bool.{eq-eqb, ne_eqb}
 use Rattle.std.proofs.lemmas.List.{append_assoc, append-nil}
-use Rattle.spec_reads.specs.Places.{ExactPlace}
+use Rattle.spec_board.specs.Places.{ExactPlace}
 use Rattle.spec_world.specs.World.{Server, ExactAct, ExactEvent, ExactEnd, Session, World, fits_stage, has_session}
 use Rattle.spec_world.specs.World.{is_enabled, Left, Leaves, end_of, Takes, StepBy, WorldStep, WorldRun}
 use Rattle.spec_world.specs.Together.{by_session}

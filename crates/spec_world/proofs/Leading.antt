@@ -4,13 +4,13 @@ use Rattle.std.proofs.Common.{sym, ap, ◌∙◌, subst, inl, inr, nat_eq, cond,
 use Rattle.std.proofs.lemmas.Bool.{eq-eqb, ne_eqb}
 use Rattle.std.proofs.lemmas.List.{append_assoc, append-nil, length-take}
 use Rattle.spec_text.specs.Words.{same}
-use Rattle.spec_reads.specs.declared.place.Place.TheVariants as place
-use Rattle.spec_reads.specs.declared.read.Put.{Put}
-use Rattle.spec_reads.specs.declared.read.Put.TheVariants.{Published, Full, Raced}
-use Rattle.spec_reads.specs.declared.read.Read.TheVariants as read
-use Rattle.spec_reads.specs.Reads.{ExactRead, Looked, basis_words, shape_words, front, has_shape, shown, SeenBy}
-use Rattle.spec_reads.specs.Reads.{SeesDown, PutReads, LookReads}
-use Rattle.spec_reads.specs.Places.{ExactPlace, place_at, with_place, IsShown, Logged, Plays, logged}
+use Rattle.spec_board.specs.declared.place.Place.TheVariants as place
+use Rattle.spec_board.specs.declared.read.Put.{Put}
+use Rattle.spec_board.specs.declared.read.Put.TheVariants.{Published, Full, Raced}
+use Rattle.spec_board.specs.declared.read.Read.TheVariants as read
+use Rattle.spec_board.specs.Reads.{ExactRead, Looked, basis_words, shape_words, front, has_shape, shown, SeenBy}
+use Rattle.spec_board.specs.Reads.{SeesDown, PutReads, LookReads}
+use Rattle.spec_board.specs.Places.{ExactPlace, place_at, with_place, IsShown, Logged, Plays, logged}
 use Rattle.spec_server.specs.Machine.{ExactReply, State}
 use Rattle.spec_server.specs.Step.{Pending, answered, after_put, Worked, Ends, Publishes, Works, Concludes}
 use Rattle.spec_server.specs.Exchanges.{Exchange}

@@ -2,11 +2,11 @@
 use Rattle.std.proofs.Common.{◌≡◌, ℕ, zero, suc, ◌<◌, ◌≤◌, Bool, true, false, List, [], ◌∷◌, ◌++◌, length, take, Option}
 use Rattle.std.proofs.Common.{Some, nat_eq, eqb-true, cond, refl, sym, ap, ◌∙◌, subst, ⊎_elim, ◌⊎◌, inl, inr, arith}
 use Rattle.std.proofs.lemmas.Bool.{cases_eq}
-use Rattle.spec_reads.specs.declared.place.Place.TheVariants as place
-use Rattle.spec_reads.specs.declared.read.Found.{Found}
-use Rattle.spec_reads.specs.declared.read.Read.TheVariants.{Count, NotDone, Seen, Claim, Lost, Done}
-use Rattle.spec_reads.specs.Reads.{Words, ExactRead, Looked, front, has_shape, SeenBy, SeesDown, LookReads}
-use Rattle.spec_reads.specs.Places.{ExactPlace, place_at, IsShown, Answers, Logged, Plays}
+use Rattle.spec_board.specs.declared.place.Place.TheVariants as place
+use Rattle.spec_board.specs.declared.read.Found.{Found}
+use Rattle.spec_board.specs.declared.read.Read.TheVariants.{Count, NotDone, Seen, Claim, Lost, Done}
+use Rattle.spec_board.specs.Reads.{Words, ExactRead, Looked, front, has_shape, SeenBy, SeesDown, LookReads}
+use Rattle.spec_board.specs.Places.{ExactPlace, place_at, IsShown, Answers, Logged, Plays}
 use Rattle.spec_text.specs.Words.{same}
 use Rattle.spec_serve.proofs.Places.{place_below, some_same, answers_keep}
 use Rattle.spec_world.specs.Sound.{reads_in}

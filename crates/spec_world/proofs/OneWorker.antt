@@ -2,7 +2,7 @@
 use Rattle.std.proofs.Common.{◌≡◌, ℕ, Bool, true, false, List, [], ◌∷◌, ◌++◌, map, refl, sym, ap, subst, nat_eq}
 use Rattle.std.proofs.Common.{eqb-true, cond}
 use Rattle.std.proofs.lemmas.Bool.{eqb-false}
-use Rattle.spec_reads.specs.Places.{ExactPlace, Plays, logged}
+use Rattle.spec_board.specs.Places.{ExactPlace, Plays, logged}
 use Rattle.spec_server.specs.Machine.{State}
 use Rattle.spec_server.specs.Exchanges.{Exchange, AloneRun, of_session, log_of, RunFits}
 use Rattle.spec_serve.proofs.Places.{Plays-split}

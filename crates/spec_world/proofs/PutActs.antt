@@ -3,12 +3,12 @@ use Rattle.std.proofs.Common.{◌≡◌, ℕ, ◌≤◌, Bool, true, false, List
 use Rattle.std.proofs.Common.{refl, sym, ap, ◌∙◌, subst, nat_eq, eqb-true, cond, arith}
 use Rattle.std.proofs.lemmas.Bool.{eqb-false}
 use Rattle.std.proofs.lemmas.List.{append_assoc}
-use Rattle.spec_reads.specs.declared.place.Place.TheVariants as place
-use Rattle.spec_reads.specs.declared.read.Put.{Put}
-use Rattle.spec_reads.specs.declared.read.Put.TheVariants.{Published, Full, Raced}
-use Rattle.spec_reads.specs.declared.read.Read.TheVariants as read
-use Rattle.spec_reads.specs.Reads.{ExactRead, PutReads}
-use Rattle.spec_reads.specs.Places.{ExactPlace, place_at, with_place}
+use Rattle.spec_board.specs.declared.place.Place.TheVariants as place
+use Rattle.spec_board.specs.declared.read.Put.{Put}
+use Rattle.spec_board.specs.declared.read.Put.TheVariants.{Published, Full, Raced}
+use Rattle.spec_board.specs.declared.read.Read.TheVariants as read
+use Rattle.spec_board.specs.Reads.{ExactRead, PutReads}
+use Rattle.spec_board.specs.Places.{ExactPlace, place_at, with_place}
 use Rattle.spec_server.specs.Machine.{ExactReply, State, opening}
 use Rattle.spec_server.specs.Step.{Looks, Pending, Publishes, answered, after_put}
 use Rattle.spec_server.specs.Step.{AloneStep}

@@ -1,7 +1,7 @@
 -- An ask whose reads the places answer is a run of its session's events.
 use Rattle.std.proofs.Common.{◌≡◌, ℕ, true, List, [], ◌∷◌, map, refl, sym, ap, subst}
-use Rattle.spec_reads.specs.Reads.{ExactRead}
-use Rattle.spec_reads.specs.Places.{ExactPlace, Plays, logged}
+use Rattle.spec_board.specs.Reads.{ExactRead}
+use Rattle.spec_board.specs.Places.{ExactPlace, Plays, logged}
 use Rattle.spec_server.specs.Machine.{ExactAsk, ExactReply, State}
 use Rattle.spec_server.specs.Step.{Begun, Looks, Begins}
 use Rattle.spec_server.specs.Step.{LookStep, GoesOn, AloneStep}

@@ -2,10 +2,10 @@
 use Rattle.std.proofs.Common.{◌≡◌, ℕ, zero, suc, ◌<◌, ◌≤◌, true, false, List, [], ◌∷◌, ◌++◌, length, Some, None, refl}
 use Rattle.std.proofs.Common.{sym, subst, arith}
 use Rattle.std.proofs.lemmas.List.{append_assoc, append-nil}
-use Rattle.spec_reads.specs.declared.place.Place.TheVariants.{Claimed}
-use Rattle.spec_reads.specs.declared.read.Read.TheVariants as read
-use Rattle.spec_reads.specs.Reads.{ExactRead, Looked, basis_words, has_shape, front, SeenBy, SeesDown, LookReads}
-use Rattle.spec_reads.specs.Places.{ExactPlace, place_at}
+use Rattle.spec_board.specs.declared.place.Place.TheVariants.{Claimed}
+use Rattle.spec_board.specs.declared.read.Read.TheVariants as read
+use Rattle.spec_board.specs.Reads.{ExactRead, Looked, basis_words, has_shape, front, SeenBy, SeesDown, LookReads}
+use Rattle.spec_board.specs.Places.{ExactPlace, place_at}
 use Rattle.spec_server.specs.Machine.{State}
 use Rattle.spec_server.specs.Step.{Looks, Begins, Pending, Publishes, Works, AloneStep}
 use Rattle.spec_server.specs.Exchanges.{Exchange, AloneRun}

@@ -5,10 +5,10 @@ use Rattle.std.proofs.lemmas.Bool.{eqb-false, eq-eqb, ne_eqb}
 use Rattle.std.proofs.lemmas.List.{append-nil}
 use Rattle.std.proofs.lemmas.Grind.{flat_map-append}
 use Rattle.spec_board.proofs.Places.{packed_length}
-use Rattle.spec_reads.specs.declared.place.Place.TheVariants as place
-use Rattle.spec_reads.specs.declared.read.Read.TheVariants as read
-use Rattle.spec_reads.specs.Reads.{ExactRead, basis_words}
-use Rattle.spec_reads.specs.Places.{ExactPlace, place_at, Logged, Plays, logged}
+use Rattle.spec_board.specs.declared.place.Place.TheVariants as place
+use Rattle.spec_board.specs.declared.read.Read.TheVariants as read
+use Rattle.spec_board.specs.Reads.{ExactRead, basis_words}
+use Rattle.spec_board.specs.Places.{ExactPlace, place_at, Logged, Plays, logged}
 use Rattle.spec_server.specs.Machine.{opening}
 use Rattle.spec_server.specs.Exchanges.{AloneRun}
 use Rattle.spec_serve.proofs.Places.{answers_keep, answers_grow, answers_bounded, answers_before, Plays-append}

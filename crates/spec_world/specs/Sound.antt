@@ -12,10 +12,10 @@ use Rattle.spec_check.specs.declared.solve_end.SolveEnd.TheVariants as outcome
 use Rattle.spec_warm.specs.Solve.{SolveEnd}
 use Rattle.spec_solve.specs.Answers.{IsSolved}
 use Rattle.spec_board.specs.Words.{packed}
-use Rattle.spec_reads.specs.declared.place.Place.TheVariants as place
-use Rattle.spec_reads.specs.declared.read.Read.TheVariants as read
-use Rattle.spec_reads.specs.Reads.{Words, ExactRead, Looked, LookReads}
-use Rattle.spec_reads.specs.Places.{place_at, Logged, logged, Plays}
+use Rattle.spec_board.specs.declared.place.Place.TheVariants as place
+use Rattle.spec_board.specs.declared.read.Read.TheVariants as read
+use Rattle.spec_board.specs.Reads.{Words, ExactRead, Looked, LookReads}
+use Rattle.spec_board.specs.Places.{place_at, Logged, logged, Plays}
 use Rattle.spec_server.specs.Machine.{ExactAsk, ExactReply, IsKeptAsk, State, opening}
 use Rattle.spec_server.specs.Step.{Looks, Begins, handed_by}
 use Rattle.spec_server.specs.Exchanges.{Exchange, AloneRun}

@@ -21,9 +21,9 @@
 
 ghost use Rattle.std.specs.Prelude.{◌≡◌, ◌↔◌, ℕ, List, map, Some, false};
 ghost use Rattle.spec_board.specs.Words.{IsWellFormed};
-ghost use Rattle.spec_reads.specs.declared.place.Place.TheVariants as place;
-ghost use Rattle.spec_reads.specs.Reads.{Words};
-ghost use Rattle.spec_reads.specs.Places.{place_at};
+ghost use Rattle.spec_board.specs.declared.place.Place.TheVariants as place;
+ghost use Rattle.spec_board.specs.Reads.{Words};
+ghost use Rattle.spec_board.specs.Places.{place_at};
 ghost use Rattle.spec_server.specs.Exchanges.{Exchange, RunFits};
 ghost use Rattle.spec_truth.specs.Agree.{HasMemory, RepliesAgree};
 ghost use Rattle.spec_world.specs.declared.event.StepEnd.TheVariants.{Not};

@@ -1,9 +1,9 @@
 -- Places, and how they answer what is read of them.
 use Rattle.std.specs.Prelude.{ℕ, suc, zero, ◌≡◌, ◌⊎◌, ◌<◌, ◌++◌, Option, Some, None, List, [], ◌∷◌, length, map}
-use Rattle.spec_reads.specs.declared.place.Place.{Place}
-use Rattle.spec_reads.specs.declared.place.Place.TheVariants as place
-use Rattle.spec_reads.specs.declared.read.Read.TheVariants.{Count, NotDone, Seen, Claim, Lost, Done}
-use Rattle.spec_reads.specs.Reads.{Words, ExactRead, front}
+use Rattle.spec_board.specs.declared.place.Place.{Place}
+use Rattle.spec_board.specs.declared.place.Place.TheVariants as place
+use Rattle.spec_board.specs.declared.read.Read.TheVariants.{Count, NotDone, Seen, Claim, Lost, Done}
+use Rattle.spec_board.specs.Reads.{Words, ExactRead, front}
 
 -- the places that are claimed, in the order in which they were
 abbrev pub ExactPlace : Type 0

@@ -2,9 +2,9 @@
 -- and in one order.
 use Rattle.std.specs.Prelude.{ℕ, ◌≡◌, ◌==◌, ◌%◌, ◌<◌, ◌≤◌, ◌↔◌, List, [], ◌∷◌}
 use Rattle.std.specs.List.{filter, flat_map, Contains, AllByRecursion}
-use Rattle.spec_reads.specs.declared.read.Read.TheVariants.{Count, NotDone, Seen, Lost, Done}
-use Rattle.spec_reads.specs.Reads.{Words, ExactRead}
-use Rattle.spec_reads.specs.Places.{ExactPlace, IsShown, Logged, Plays}
+use Rattle.spec_board.specs.declared.read.Read.TheVariants.{Count, NotDone, Seen, Lost, Done}
+use Rattle.spec_board.specs.Reads.{Words, ExactRead}
+use Rattle.spec_board.specs.Places.{ExactPlace, IsShown, Logged, Plays}
 
 -- ---- the reads of one
 
