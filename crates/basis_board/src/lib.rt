@@ -12,6 +12,7 @@
 //! | `Timed`, `NotesMore` | when each read was noted, and that it was so then | specs/Moments |
 //! | `Turns`, `IsOneLog` | what befell the places at each note, and the notes of all passes in one order | specs/Moments |
 //! | `board_of` | the places that the board's words spell | specs/Places |
+//! | `reads_of`, `spelled`, `IsOrderly`, `IsLogOf` | what a pass reads, as reads of places that sessions share, and its laws | src/reads, specs/PassReads, specs/Spelled, specs/Orderly, specs/Played |
 //!
 //! Every place that a pass has read as done shows it, and every other pass, the same well-formed words for good,
 //! whatever other threads do. Nothing is claimed of which of two publications wins a place, or when.
@@ -22,6 +23,7 @@
 
 mod board;
 mod laws;
+mod reads;
 mod seats;
 mod steps;
 
@@ -29,6 +31,10 @@ pub use board::{Board, Look};
 pub use laws::{
     meaning, notes_are_made_then, only_what_is_so_is_noted, rule_is_kept, seen_words_stay,
     steps_are_events, whole_passes_own_all,
+};
+pub use reads::{
+    any_kind_is_answered, backed_in_any_order, calls_keep_order, looks_are_read, puts_are_read,
+    reads_change_the_board, steps_are_reads, whole_logs_are_played, whole_passes_are_backed,
 };
 pub use seats::{Pass, Read, Sight, View};
 pub use spec_board::Put;

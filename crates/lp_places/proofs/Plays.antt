@@ -8,7 +8,7 @@ use Rattle.basis_board.specs.declared.seats.View.{View}
 use Rattle.basis_board.specs.declared.seats.Read.{Read}
 use Rattle.basis_board.specs.Board.{Each, Has}
 use Rattle.basis_board.proofs.Totals.{has_right}
-use Rattle.board_reads.specs.PassReads.{exact_read, reads_of}
+use Rattle.basis_board.specs.PassReads.{exact_read, reads_of}
 use Rattle.lp_places.specs.Sharing.{as_places}
 
 plays_append : (places : ℕ) (now middle last : List ExactPlace) (xs ys : List Logged) → Plays places now xs middle →

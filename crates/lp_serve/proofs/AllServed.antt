@@ -13,8 +13,8 @@ use Rattle.spec_serve.specs.Workers.{reads_in_all, HasServedAlone}
 use Rattle.basis_board.specs.declared.board.Board.{Board}
 use Rattle.basis_board.specs.Known.{Known}
 use Rattle.basis_board.specs.Moments.{NotesMore, WereTrue}
-use Rattle.board_reads.specs.Orderly.{IsOrderly, IsWhole}
-use Rattle.board_reads.specs.PassReads.{reads_of}
+use Rattle.basis_board.specs.Orderly.{IsOrderly, IsWhole}
+use Rattle.basis_board.specs.PassReads.{reads_of}
 use Rattle.lp_base.specs.Causes.{Rose}
 use Rattle.lp_link.specs.Listening.{ListenerState}
 use Rattle.lp_workers.specs.Dealt.{reads_of_all}

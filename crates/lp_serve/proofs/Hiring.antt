@@ -15,7 +15,7 @@ use Rattle.basis_board.specs.Id.{id_of}
 use Rattle.basis_board.specs.Known.{Known, notes_of}
 use Rattle.basis_board.specs.Moments.{WereTrue, IsOneLog}
 use Rattle.basis_board.specs.Rule.{Consistent}
-use Rattle.board_reads.specs.PassReads.{reads_of}
+use Rattle.basis_board.specs.PassReads.{reads_of}
 use Rattle.lp_workers.specs.Dealt.{reads_of_all}
 use Rattle.lp_workers.proofs.Gathering.{met_reads, met_notes}
 use Rattle.lp_serve.specs.declared.gather.Desk.{Desk}

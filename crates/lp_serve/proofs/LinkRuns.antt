@@ -7,8 +7,8 @@ use Rattle.spec_server.specs.Exchanges.{Exchange, AloneRun}
 use Rattle.spec_serve.specs.Workers.{reads_in_all}
 use Rattle.basis_board.specs.declared.seats.View.{View}
 use Rattle.basis_board.specs.Rule.{Consistent}
-use Rattle.board_reads.specs.Orderly.{IsOrderly}
-use Rattle.board_reads.specs.PassReads.{reads_of}
+use Rattle.basis_board.specs.Orderly.{IsOrderly}
+use Rattle.basis_board.specs.PassReads.{reads_of}
 use Rattle.lp_workers.proofs.OneMore.{calls_places, calls_orderly}
 use Rattle.lp_serve.specs.Service.{Steps}
 use Rattle.lp_serve.specs.Serving.{Served}

@@ -19,12 +19,12 @@ use Rattle.spec_serve.proofs.ManyFromOne.{one_runs_by, log_reads}
 use Rattle.basis_board.specs.declared.board.Board.{Board}
 use Rattle.basis_board.specs.Known.{Known}
 use Rattle.basis_board.specs.Moments.{ComeAfter, IsOneLog}
-use Rattle.board_reads.specs.Orderly.{IsWhole}
-use Rattle.board_reads.specs.PassReads.{reads_of}
-use Rattle.board_reads.proofs.WholePass.{whole_backed}
-use Rattle.board_reads.specs.Played.{IsLogOf}
-use Rattle.board_reads.proofs.AnyOrder.{any_order}
-use Rattle.board_reads.proofs.Played.{all_played}
+use Rattle.basis_board.specs.Orderly.{IsWhole}
+use Rattle.basis_board.specs.PassReads.{reads_of}
+use Rattle.basis_board.proofs.WholePass.{whole_backed}
+use Rattle.basis_board.specs.Played.{IsLogOf}
+use Rattle.basis_board.proofs.AnyOrder.{any_order}
+use Rattle.basis_board.proofs.Played.{all_played}
 use Rattle.lp_link.specs.Listening.{ListenerState}
 use Rattle.lp_places.specs.Only.{published_words, AreInOrder}
 use Rattle.lp_places.specs.Sharing.{as_places}

@@ -6,7 +6,7 @@ use Rattle.basis_board.specs.Id.{id_of}
 use Rattle.basis_board.specs.Known.{Known, notes_of}
 use Rattle.basis_board.specs.Moments.{WereTrue, IsOneLog}
 use Rattle.basis_board.specs.Rule.{Consistent}
-use Rattle.board_reads.specs.PassReads.{reads_of}
+use Rattle.basis_board.specs.PassReads.{reads_of}
 use Rattle.lp_workers.specs.Dealt.{KnowsWhole, notes_of_all, reads_of_all}
 use Rattle.lp_serve.specs.declared.gather.Desk.{Desk}
 use Rattle.lp_serve.specs.declared.worker.Worker.{Worker}

@@ -10,7 +10,7 @@ use Rattle.spec_serve.specs.declared.link_end.LinkEnd.TheVariants as end
 use Rattle.spec_serve.specs.Link.{ServesLink}
 use Rattle.basis_board.specs.declared.seats.View.{View}
 use Rattle.basis_board.specs.Rule.{Consistent}
-use Rattle.board_reads.specs.PassReads.{reads_of}
+use Rattle.basis_board.specs.PassReads.{reads_of}
 use Rattle.lp_base.specs.LinesState.{LinesState}
 use Rattle.lp_base.specs.declared.lines.LineStop.TheVariants as stop
 use Rattle.lp_line.specs.Takes.{TakesNext, TakesMore}

@@ -16,8 +16,8 @@ use Rattle.basis_board.specs.declared.board.Look.{Look}
 use Rattle.basis_board.specs.declared.board.Look.TheVariants.{Found, NoneReady}
 use Rattle.basis_board.specs.Calls.{Looks, Puts}
 use Rattle.basis_board.specs.Rule.{Consistent}
-use Rattle.board_reads.specs.PassReads.{reads_of, looked_by, AddsLook, AddsPut}
-use Rattle.board_reads.proofs.Tying.{looks_read, puts_read}
+use Rattle.basis_board.specs.PassReads.{reads_of, looked_by, AddsLook, AddsPut}
+use Rattle.basis_board.proofs.ReadTying.{looks_read, puts_read}
 use Rattle.lp_session.specs.Boarding.{AddsStep, StepCalls}
 
 -- ---- a look

@@ -11,7 +11,7 @@ use Rattle.basis_board.specs.Calls.{Looks, Puts}
 use Rattle.basis_board.specs.Known.{Known}
 use Rattle.basis_board.specs.Moments.{NotesMore, WereTrue}
 use Rattle.basis_board.specs.Rule.{Consistent}
-use Rattle.board_reads.specs.PassReads.{reads_of}
+use Rattle.basis_board.specs.PassReads.{reads_of}
 
 -- the pass reads what the step does, and nothing else
 pub record AddsStep (before : State) (asked : ExactAsk) (old : View) (replied : ExactReply) (after : State)

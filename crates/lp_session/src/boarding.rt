@@ -1,6 +1,6 @@
 // What a look at a board comes to, as sessions are told it.
 ghost use Rattle.std.specs.Prelude.{◌≡◌};
-ghost use Rattle.board_reads.specs.PassReads.{looked_by};
+ghost use Rattle.basis_board.specs.PassReads.{looked_by};
 
 use basis_board::Look;
 use spec_board::Found;

@@ -16,7 +16,7 @@ use Rattle.spec_serve.specs.Workers.{exchanges_of_worker}
 use Rattle.spec_serve.proofs.AllDone.{after_one}
 use Rattle.spec_serve.proofs.OwnPart.{own_part}
 use Rattle.spec_serve.proofs.Places.{logged-append}
-use Rattle.board_reads.specs.Played.{of_read, Supposes, AreFounded, IsOfWorker}
+use Rattle.basis_board.specs.Played.{of_read, Supposes, AreFounded, IsOfWorker}
 
 abbrev AreAmong : List Logged → List Logged → Type 0
 AreAmong xs ys = (x : Logged) → Contains xs x → Contains ys x

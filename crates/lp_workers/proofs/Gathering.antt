@@ -17,9 +17,9 @@ use Rattle.basis_board.specs.Moments.{Moment, notes, NotesMore, WereTrue, IsOneL
 use Rattle.basis_board.proofs.Timing.{notes_none, notes_join}
 use Rattle.basis_board.specs.Rule.{Consistent}
 use Rattle.basis_board.specs.Board.{cut_right, met}
-use Rattle.board_reads.specs.Orderly.{IsWhole}
-use Rattle.board_reads.specs.PassReads.{reads_of}
-use Rattle.board_reads.proofs.Tying.{reads_more}
+use Rattle.basis_board.specs.Orderly.{IsWhole}
+use Rattle.basis_board.specs.PassReads.{reads_of}
+use Rattle.basis_board.proofs.ReadTying.{reads_more}
 use Rattle.spec_board.specs.Orders.{InPairs, AreInOrder}
 use Rattle.spec_board.specs.Reads.{ExactRead}
 use Rattle.spec_server.specs.declared.asks.Asked.{Asked}

@@ -25,12 +25,12 @@ use Rattle.basis_board.specs.declared.seats.View.{View}
 use Rattle.basis_board.specs.Known.{Known}
 use Rattle.basis_board.specs.Moments.{ComeAfter, IsOneLog}
 use Rattle.basis_board.specs.Rule.{Consistent}
-use Rattle.board_reads.specs.Orderly.{IsWhole}
-use Rattle.board_reads.specs.PassReads.{exact_read, reads_of}
-use Rattle.board_reads.proofs.WholePass.{whole_backed}
-use Rattle.board_reads.specs.Played.{IsLogOf}
-use Rattle.board_reads.proofs.AnyOrder.{any_order}
-use Rattle.board_reads.proofs.Played.{all_played}
+use Rattle.basis_board.specs.Orderly.{IsWhole}
+use Rattle.basis_board.specs.PassReads.{exact_read, reads_of}
+use Rattle.basis_board.proofs.WholePass.{whole_backed}
+use Rattle.basis_board.specs.Played.{IsLogOf}
+use Rattle.basis_board.proofs.AnyOrder.{any_order}
+use Rattle.basis_board.proofs.Played.{all_played}
 use Rattle.lp_workers.specs.declared.worker.Worker.{Worker}
 use Rattle.lp_workers.specs.AnswersAll.{AnswersAll}
 use Rattle.lp_workers.specs.Workers.{states_of, state_at, IsServing, HasServed}

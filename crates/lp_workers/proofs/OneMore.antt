@@ -25,9 +25,9 @@ use Rattle.spec_board.specs.declared.read.Put.TheVariants.{Published, Full, Race
 use Rattle.basis_board.specs.Calls.{Looks, Puts}
 use Rattle.basis_board.specs.Moments.{NotesMore, WereTrue}
 use Rattle.basis_board.specs.Rule.{Consistent}
-use Rattle.board_reads.specs.Orderly.{IsOrderly}
-use Rattle.board_reads.specs.PassReads.{reads_of}
-use Rattle.board_reads.proofs.KeepOrder.{looks_keep, puts_keep}
+use Rattle.basis_board.specs.Orderly.{IsOrderly}
+use Rattle.basis_board.specs.PassReads.{reads_of}
+use Rattle.basis_board.proofs.KeepOrder.{looks_keep, puts_keep}
 use Rattle.lp_session.specs.Boarding.{AddsStep, MayPut, StepCalls}
 use Rattle.lp_workers.specs.declared.worker.Worker.{Worker}
 use Rattle.lp_workers.specs.Workers.{states_of, state_at, IsHired, HaveHad, IsServing, IsReady}

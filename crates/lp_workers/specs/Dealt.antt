@@ -13,7 +13,7 @@ use Rattle.basis_board.specs.Known.{Known, notes_of}
 use Rattle.basis_board.specs.Moments.{Note, WereTrue}
 use Rattle.basis_board.specs.Rule.{OwnsBelow}
 use Rattle.basis_board.specs.Calls.{CountTells}
-use Rattle.board_reads.specs.PassReads.{reads_of}
+use Rattle.basis_board.specs.PassReads.{reads_of}
 use Rattle.lp_workers.specs.declared.worker.Worker.{Worker}
 
 -- each of so many workers holds its own of the asks, the last one first

@@ -11,8 +11,8 @@ use Rattle.basis_board.specs.declared.seats.View.{View}
 use Rattle.basis_board.specs.Id.{id_of}
 use Rattle.basis_board.specs.Moments.{NotesMore, WereTrue}
 use Rattle.basis_board.specs.Rule.{Consistent}
-use Rattle.board_reads.specs.Orderly.{IsOrderly}
-use Rattle.board_reads.specs.PassReads.{reads_of}
+use Rattle.basis_board.specs.Orderly.{IsOrderly}
+use Rattle.basis_board.specs.PassReads.{reads_of}
 use Rattle.lp_workers.specs.declared.worker.Worker.{Worker}
 
 abbrev pub states_of : List Standing → List State

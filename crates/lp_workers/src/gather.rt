@@ -5,7 +5,7 @@ ghost use Rattle.basis_board.specs.Id.{id_of};
 ghost use Rattle.basis_board.specs.Known.{notes_of};
 ghost use Rattle.basis_board.specs.Moments.{IsOneLog};
 ghost use Rattle.basis_board.specs.Rule.{Consistent};
-ghost use Rattle.board_reads.specs.PassReads.{reads_of};
+ghost use Rattle.basis_board.specs.PassReads.{reads_of};
 ghost use Rattle.lp_workers.specs.Dealt.{HasPart, KnowsWhole, notes_of_all, part_of, passes_of, reads_of_all};
 ghost use Rattle.lp_workers.specs.Workers.{IsReady};
 

@@ -5,7 +5,7 @@ use Rattle.std.specs.List.Sorted.{IsPermutation}
 use Rattle.basis_board.specs.Known.{notes_of}
 use Rattle.basis_board.specs.Moments.{IsOneLog}
 use Rattle.basis_board.specs.Rule.{Consistent}
-use Rattle.board_reads.specs.PassReads.{reads_of}
+use Rattle.basis_board.specs.PassReads.{reads_of}
 use Rattle.lp_workers.specs.Dealt.{HasPart, KnowsWhole, notes_of_all, passes_of, reads_of_all}
 use Rattle.lp_workers.proofs.gather.gather.Given as goal
 

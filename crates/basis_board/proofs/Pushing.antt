@@ -1,0 +1,55 @@
+-- Reads one after the other: what holds of each of them, and of each two.
+use Rattle.std.proofs.Common.{List, [], ◌∷◌, ◌++◌, map, sym, subst}
+use Rattle.std.specs.Prelude.{reverse}
+use Rattle.std.specs.List.{AllByRecursion}
+use Rattle.spec_board.specs.Reads.{ExactRead}
+use Rattle.spec_board.specs.Orders.{InPairs}
+use Rattle.basis_board.specs.declared.seats.Read.{Read}
+use Rattle.basis_board.specs.Board.{Each}
+use Rattle.basis_board.specs.PassReads.{exact_read}
+use Rattle.basis_board.proofs.ReadTying.{reads_more}
+
+-- these reads, of which the newest stands first, with the first one first
+abbrev pub in_turn : List Read → List ExactRead
+in_turn reads = map exact_read (reverse reads)
+
+module _ {X : Type 0} where
+  pub all_push : (P : X → Type 0) (xs : List X) (x : X) → AllByRecursion P xs → P x → AllByRecursion P (xs ++ x ∷ [])
+  all_push P [] x h p = (p, tt)
+  all_push P (y ∷ xs) x h p = (h.0, all_push P xs x h.1 p)
+
+  all_pop : (P : X → Type 0) (xs : List X) (x : X) → AllByRecursion P (xs ++ x ∷ []) → AllByRecursion P xs × P x
+  all_pop P [] x h = (tt, h.0)
+  all_pop P (y ∷ xs) x h = let more = all_pop P xs x h.1 in ((h.0, more.0), more.1)
+
+  pairs_push : (R : X → X → Type 0) (xs : List X) (x : X) → InPairs R xs → AllByRecursion (λ y. R y x) xs →
+      InPairs R (xs ++ x ∷ [])
+  pairs_push R [] x h p = (tt, tt)
+  pairs_push R (y ∷ xs) x h p = (all_push (R y) xs x h.0 p.0, pairs_push R xs x h.1 p.1)
+
+-- ---- each
+
+module _ (P : ExactRead → Type 0) where
+  pub all_more : (r : Read) (reads : List Read) → AllByRecursion P (in_turn reads) → P (exact_read r) →
+      AllByRecursion P (in_turn (r ∷ reads))
+  all_more r reads h p =
+      subst (AllByRecursion P) (sym (reads_more (r ∷ []) reads)) (all_push P (in_turn reads) (exact_read r) h p)
+
+  pub each_all : (reads : List Read) → Each (λ r. P (exact_read r)) reads → AllByRecursion P (in_turn reads)
+  each_all [] e = tt
+  each_all (r ∷ reads) e = all_more r reads (each_all reads e.1) e.0
+
+  pub all_each : (reads : List Read) → AllByRecursion P (in_turn reads) → Each (λ r. P (exact_read r)) reads
+  all_each [] h = tt
+  all_each (r ∷ reads) h =
+      let last = all_pop P (in_turn reads) (exact_read r)
+      (subst (AllByRecursion P) (reads_more (r ∷ []) reads) h) in
+      (last.1, all_each reads last.0)
+
+-- ---- each two
+
+pub pairs_more : (R : ExactRead → ExactRead → Type 0) (r : Read) (reads : List Read) → InPairs R (in_turn reads) →
+    Each (λ q. R (exact_read q) (exact_read r)) reads → InPairs R (in_turn (r ∷ reads))
+pairs_more R r reads h e =
+    subst (InPairs R) (sym (reads_more (r ∷ []) reads))
+    (pairs_push R (in_turn reads) (exact_read r) h (each_all (λ q. R q (exact_read r)) reads e))

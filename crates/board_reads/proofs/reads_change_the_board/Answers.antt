@@ -1,5 +1,0 @@
-use Rattle.board_reads.proofs.Changing.{reads_change}
-use Rattle.board_reads.proofs.reads_change_the_board.Goals as goal
-
-pub returns : goal.returns
-returns c = λ places session now next made. reads_change places session now next made

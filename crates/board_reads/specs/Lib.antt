@@ -1,5 +1,0 @@
-pub mod PassReads
-pub mod Spelled
-pub mod Orderly
-pub mod Noted
-pub mod Played
