@@ -1,2 +1,13 @@
 pub mod Lasts
 pub mod Tried
+pub mod Firsts
+pub mod Copies
+pub mod ByZero
+pub mod OldBounds
+pub mod Walk
+pub mod ChosenOne
+pub mod Far
+pub mod Shifts
+pub mod Shrunk
+pub mod Overs
+pub mod Reached

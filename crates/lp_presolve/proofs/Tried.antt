@@ -29,9 +29,9 @@ use Rattle.spec_presolve.proofs.Carried.{carries}
 use Rattle.spec_presolve.proofs.Ends.{ends_well}
 use Rattle.lp_frac.specs.declared.stop.Stop.{Stop}
 use Rattle.lp_frac.specs.declared.stop.Stop.TheVariants as stop
-use Rattle.lp_reduction.specs.declared.step.Step.{Step}
-use Rattle.lp_reduction.specs.Clash.{clash_of}
-use Rattle.lp_reduction.specs.Tells.{Tells}
+use Rattle.lp_presolve.specs.declared.step.Step.{Step}
+use Rattle.lp_presolve.specs.Clash.{clash_of}
+use Rattle.lp_presolve.specs.Tells.{Tells}
 use Rattle.lp_presolve.specs.Tries.{Accepts, Led, Falls, Tries}
 use Rattle.lp_presolve.proofs.Lasts.{Fits, last_fits}
 

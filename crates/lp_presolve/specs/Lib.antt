@@ -1,1 +1,5 @@
 pub mod Tries
+pub mod Kept
+pub mod Tells
+pub mod Sums
+pub mod Clash

@@ -17,8 +17,8 @@ use Rattle.spec_presolve.specs.Carry.{ExactCertificate}
 use Rattle.spec_presolve.specs.Presolved.{ExactWhy, ExactPresolved, IsLast, IsPlain, IsPresolved}
 use Rattle.lp_frac.specs.declared.stop.Stop.{Stop}
 use Rattle.lp_frac.specs.declared.stop.Stop.TheVariants.{Cause, Past, NoMemory}
-use Rattle.lp_reduction.specs.declared.step.Step.{Step}
-use Rattle.lp_reduction.specs.Kept.{all_kept}
+use Rattle.lp_presolve.specs.declared.step.Step.{Step}
+use Rattle.lp_presolve.specs.Kept.{all_kept}
 
 -- the last model ends so, or memory was wanting; the one cause is that the budget is spent
 abbrev pub LastTells : {C : Type 0} → Model → ℕ → Option ExactCertificate → Result (ExactCertificate × ℕ) (Stop C) → Type 0

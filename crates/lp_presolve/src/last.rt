@@ -3,10 +3,11 @@ ghost use Rattle.std.specs.Prelude.{◌≡◌, IfOk};
 ghost use Rattle.spec_presolve.specs.Carry as carry;
 ghost use Rattle.lp_presolve.specs.Tries.{LastTells};
 
+use crate::carrying::alone_at;
+use crate::reductions::Spent;
 use lp_check::Certificate;
 use lp_frac::{Stop, neg, one};
 use lp_model::Model;
-use lp_reduction::{Spent, alone_at};
 use lp_solve::{End, solve};
 use spec_presolve::Halt;
 use std::alloc::{AllocError, Global};

@@ -8,12 +8,15 @@ ghost use Rattle.spec_model.specs.Kept.{IsModel};
 ghost use Rattle.spec_presolve.specs.Presolved.{IsPlain, IsPresolved};
 ghost use Rattle.lp_presolve.specs.Tries.{Accepts, Led, Tries};
 
+use crate::carrying::carry;
+use crate::copying::copied;
 use crate::last::last_certificate;
+use crate::reductions::{Spent, reduce};
+use crate::step::{Step, Steps};
 use lp_check::{Certificate, Verdict, check};
 use lp_form::Basis;
 use lp_frac::{Frac, Fracs, Past, Stop, all_within};
 use lp_model::Model;
-use lp_reduction::{Spent, Step, Steps, carry, copied, reduce};
 use lp_solve::{End, solve};
 use spec_presolve::Halt;
 use std::alloc::{AllocError, Global};

@@ -1,4 +1,0 @@
-pub mod Kept
-pub mod Tells
-pub mod Sums
-pub mod Clash
