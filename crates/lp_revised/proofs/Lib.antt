@@ -12,3 +12,10 @@ pub mod OneStep
 pub mod TwoPhases
 pub mod Begun
 pub mod Whole
+pub mod Gaps
+pub mod EtaRuns
+pub mod EtaLoops
+pub mod PairItems
+pub mod Solving
+pub mod Opens
+pub mod Columns

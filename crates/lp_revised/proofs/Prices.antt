@@ -15,8 +15,8 @@ use Rattle.spec_simplex.specs.Start.{cost_at}
 use Rattle.spec_exact.proofs.Stops.{steps_more, steps_stop}
 use Rattle.spec_factor.specs.Factors.{column_entry}
 use Rattle.spec_factor.specs.Revised.{price_run}
-use Rattle.lp_factor.proofs.Gaps.{Entries, row_at, value_at, bound, less_zero_right, entry_there, row_inside, bound_at}
-use Rattle.lp_factor.proofs.Gaps.{bound_end, bound_least, next_bound, none_first, none_between, steps_to}
+use Rattle.lp_revised.proofs.Gaps.{Entries, row_at, value_at, bound, less_zero_right, entry_there, row_inside, bound_at}
+use Rattle.lp_revised.proofs.Gaps.{bound_end, bound_least, next_bound, none_first, none_between, steps_to}
 
 abbrev pub price_at : Form → List ℚ → ℕ → ℕ → ℚ → Run ℚ
 price_at f y k i d = less_product (Some number_limit) (get_or y i 0ℚ) (column_entry f i k) d

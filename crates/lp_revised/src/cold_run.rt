@@ -15,10 +15,10 @@ ghost use Rattle.lp_revised.specs.Runs.{RunsFirst, EndsOver, EndsWith, EndsWhole
 ghost use Rattle.lp_revised.specs.Runs.{second_run, after_one_run, begun_run};
 
 use crate::ends::{Certificate, negatives_of};
+use crate::factors::Factors;
 use crate::state::{Revised, RowStart};
 use crate::steps::StepsEnd;
 use crate::stop::RevisedStop;
-use lp_factor::Factors;
 use lp_form::{Form, StatusList};
 use lp_frac::{Fracs, Stop};
 use lp_tableau::{PrimalEnd, start};

@@ -5,9 +5,9 @@ ghost use Rattle.spec_simplex.specs.Start.{cost_at};
 ghost use Rattle.spec_factor.specs.Revised.{basic_costs, multipliers_run};
 ghost use Rattle.lp_revised.specs.Answer.{TellsRevised};
 
+use crate::items::tell_narrow;
 use crate::state::{Revised, RowStart};
 use crate::stop::RevisedStop;
-use lp_factor::tell_narrow;
 use lp_frac::{Frac, Fracs, zero};
 use std::alloc::{AllocError, Global};
 

@@ -4,7 +4,7 @@ ghost use Rattle.spec_exact.specs.Narrow.{number_limit};
 ghost use Rattle.spec_simplex.specs.Tableau.{all_columns};
 ghost use Rattle.spec_simplex.specs.Step.{flipped};
 ghost use Rattle.spec_factor.specs.Revised.{seen, flip_over_run};
-ghost use Rattle.lp_factor.specs.Answer.{GivesRun};
+ghost use Rattle.lp_revised.specs.FactorAnswer.{GivesRun};
 ghost use Rattle.lp_revised.specs.Moved.{WithValues, moved_by, moves_by};
 
 use crate::state::{Revised, RowStart};

@@ -8,7 +8,7 @@ ghost use Rattle.spec_simplex.specs.declared.ends.RunStop.TheVariants as cause;
 ghost use Rattle.spec_simplex.specs.Step.{shifted_run, exchanged};
 ghost use Rattle.spec_factor.specs.Factors.{with_pair};
 ghost use Rattle.spec_factor.specs.Revised.{seen, pivot_over_run, replacements};
-ghost use Rattle.lp_factor.specs.Answer.{GivesRun};
+ghost use Rattle.lp_revised.specs.FactorAnswer.{GivesRun};
 ghost use Rattle.lp_revised.specs.Answer.{LeavesRevised};
 ghost use Rattle.lp_revised.specs.Moved.{WithValues, exchanged_by};
 ghost use Rattle.lp_revised.specs.Selecting.{IsSolved};

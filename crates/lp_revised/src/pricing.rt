@@ -5,8 +5,8 @@ ghost use Rattle.spec_simplex.specs.Tableau.{all_columns};
 ghost use Rattle.spec_factor.specs.Revised.{price_run, way_run, entering_run};
 
 use crate::costs::cost;
+use crate::items::narrow;
 use crate::state::Revised;
-use lp_factor::narrow;
 use lp_form::{Form, is_basic};
 use lp_frac::{Frac, Past, less_product, neg, one};
 use lp_primal::{is_fixed, way};

@@ -9,9 +9,10 @@ ghost use Rattle.spec_factor.specs.Revised.{standing as standing_of, factor_basi
 ghost use Rattle.spec_factor.specs.Revised.{refreshed_run, replacements};
 ghost use Rattle.lp_revised.specs.Answer.{AnswersRevised, LeavesRevised};
 
+use crate::choose::factor;
+use crate::factors::Factors;
 use crate::state::Revised;
 use crate::stop::{RevisedStop, Spent};
-use lp_factor::{Factors, factor};
 use lp_form::{Form, Status, StatusList, is_basic};
 use lp_frac::Stop;
 use std::alloc::{AllocError, Global};

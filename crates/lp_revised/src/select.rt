@@ -7,9 +7,9 @@ ghost use Rattle.spec_factor.specs.Revised.{selection_run};
 ghost use Rattle.lp_revised.specs.Answer.{TellsRevised};
 ghost use Rattle.lp_revised.specs.Selecting.{choice_seen, MayDo, CanDo, Selects};
 
+use crate::choose::column_of;
 use crate::state::{Revised, RowStart};
 use crate::stop::RevisedStop;
-use lp_factor::column_of;
 use lp_form::Form;
 use lp_frac::{Frac, Fracs, Past};
 use lp_primal::chosen;

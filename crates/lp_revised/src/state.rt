@@ -5,7 +5,7 @@ ghost use Rattle.spec_simplex.specs.Tableau.{all_columns, form_columns as form_c
 ghost use Rattle.spec_simplex.specs.Tableau.{status_at, lower_at, upper_at};
 ghost use Rattle.spec_factor.specs.Revised.{sign_of};
 
-use lp_factor::Factors;
+use crate::factors::Factors;
 use lp_form::Status;
 use lp_frac::{Frac, neg};
 use std::marker::Model;

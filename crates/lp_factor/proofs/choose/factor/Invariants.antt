@@ -1,7 +1,0 @@
--- The loop over the columns.
-use Rattle.lp_factor.proofs.Opens.{ChosenTo}
-use Rattle.lp_factor.proofs.choose.factor.Given as goal
-
--- the basic columns so far have places
-abbrev pub invariant-loop-k : goal.invariant-loop-k
-invariant-loop-k l = ChosenTo l.form l.basis l.k l.chosen
