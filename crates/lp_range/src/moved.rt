@@ -11,7 +11,7 @@ use crate::ends::{Ends, at_least, at_most, at_side, no_ends};
 use lp_form::{Status, is_basic};
 use lp_frac::{Frac, Past, add, div, is_positive, neg, one, sub};
 use lp_model::Sense;
-use lp_primal::is_fixed;
+use lp_simplex::primal::is_fixed;
 use lp_tableau::Tableau;
 
 // The ends that a column of this status asks for, whose reduced cost is 0 where the cost is `v`.

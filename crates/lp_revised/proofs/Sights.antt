@@ -19,7 +19,7 @@ use Rattle.spec_simplex.specs.Step.{best_run, choice_at, choice_by}
 use Rattle.spec_factor.specs.Factors.{column_of, ftran_run}
 use Rattle.spec_factor.specs.Revised.{Revised, sign_of, seen, multipliers_run, entering_run, Selection, selection_with}
 use Rattle.spec_factor.specs.Revised.{selection_run}
-use Rattle.lp_primal.proofs.Ratios.{StopsBy, best_is}
+use Rattle.lp_simplex.proofs.Ratios.{StopsBy, best_is}
 use Rattle.lp_frac.specs.declared.stop.Stop.{Stop}
 use Rattle.lp_revised.specs.declared.stop.Spent.{Spent}
 use Rattle.lp_frac.specs.declared.stop.Stop.TheVariants as stop

@@ -9,7 +9,7 @@ use crate::items::narrow;
 use crate::state::Revised;
 use lp_form::{Form, is_basic};
 use lp_frac::{Frac, Past, less_product, neg, one};
-use lp_primal::{is_fixed, way};
+use lp_simplex::primal::{is_fixed, way};
 use spec_simplex::Entering;
 
 // The reduced cost of structural column `k`, over its entries.

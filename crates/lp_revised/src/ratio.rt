@@ -7,7 +7,7 @@ ghost use Rattle.spec_factor.specs.Revised.{seen_entry, seen};
 
 use crate::state::{Revised, RowStart};
 use lp_frac::{Frac, Past};
-use lp_primal::{Best, Position, best_at, range};
+use lp_simplex::primal::{Best, Position, best_at, range};
 use spec_simplex::Entering;
 
 impl Revised {

@@ -12,7 +12,7 @@ use crate::state::{Revised, RowStart};
 use crate::stop::RevisedStop;
 use lp_form::Form;
 use lp_frac::{Frac, Fracs, Past};
-use lp_primal::chosen;
+use lp_simplex::primal::chosen;
 use lp_tableau::PrimalEnd;
 use spec_simplex::Entering;
 use std::alloc::Global;

@@ -17,7 +17,7 @@ use Rattle.spec_simplex.specs.Step.{choice_run, moved_run, flip_way, flipped, fl
 use Rattle.spec_simplex.specs.Step.{repriced_run, turned, exchanged, pivot_run}
 use Rattle.spec_simplex.specs.Phases.{PrimalEnded, end_or_spent, end_or_next, run_from}
 use Rattle.spec_path.proofs.Runs.{then_ok, refused_ok}
-use Rattle.lp_primal.proofs.Enters.{MayEnter, may_enter}
+use Rattle.lp_simplex.proofs.Entering.{MayEnter, may_enter}
 use Rattle.lp_solve.specs.Ends.{IsInside}
 
 -- as many positions and columns

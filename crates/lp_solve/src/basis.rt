@@ -6,8 +6,8 @@ ghost use Rattle.spec_simplex.specs.Tableau.{form_columns};
 ghost use Rattle.spec_cold.specs.Cold as cold;
 ghost use Rattle.spec_warm.specs.Warm as warm;
 
-use lp_dual::DualEnd;
 use lp_form::{Basis, Form, Status, StatusList, is_basic};
+use lp_simplex::dual::DualEnd;
 use lp_tableau::{PrimalEnd, Tableau};
 use std::alloc::{AllocError, Global};
 

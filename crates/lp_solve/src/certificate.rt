@@ -6,12 +6,12 @@ ghost use Rattle.spec_check.specs.Certificate.{IsNarrowCertificate};
 ghost use Rattle.spec_simplex.specs.Tableau.{all_columns};
 ghost use Rattle.spec_cold.specs.Cold as cold;
 ghost use Rattle.spec_warm.specs.Warm as warm;
-ghost use Rattle.lp_dual.specs.Starts.{IsPlace};
+ghost use Rattle.lp_simplex.specs.Starts.{IsPlace};
 ghost use Rattle.lp_solve.specs.Ends.{IsInside};
 
 use lp_check::Certificate;
-use lp_dual::DualEnd;
 use lp_frac::{Frac, Fracs, LARGEST, den, neg, num, one, zero};
+use lp_simplex::dual::DualEnd;
 use lp_tableau::{PrimalEnd, Tableau, directed};
 use std::alloc::{AllocError, Global};
 

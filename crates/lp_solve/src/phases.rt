@@ -3,11 +3,11 @@ ghost use Rattle.std.specs.Prelude.{◌≡◌, IfOk, Ok, Some};
 ghost use Rattle.spec_exact.specs.Narrow.{number_limit};
 ghost use Rattle.spec_simplex.specs.Start.{start_of};
 ghost use Rattle.spec_simplex.specs.Phases as phases;
-ghost use Rattle.lp_primal.specs.Answer.{Runs};
+ghost use Rattle.lp_simplex.specs.PrimalAnswer.{Runs};
 ghost use Rattle.lp_solve.specs.Ends.{Ends, EndsAt, IsInside};
 
 use lp_form::Form;
-use lp_primal::run;
+use lp_simplex::primal::run;
 use lp_tableau::{PrimalEnd, RunStop, Tableau};
 
 /// How both phases ended: the last tableau, and the count of pivots and flips.

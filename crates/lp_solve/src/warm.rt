@@ -13,10 +13,10 @@ ghost use Rattle.lp_solve.specs.Fit.{IsWarmFit};
 use crate::basis::{basis_at, basis_of, dual_basis};
 use crate::certificate::{certificate_at, dual_certificate};
 use lp_check::{Certificate, Verdict, check};
-use lp_dual::{Fit, fit};
 use lp_form::{Basis, Form};
 use lp_frac::{Frac, Fracs, Stop};
 use lp_model::Model;
+use lp_simplex::dual::{Fit, fit};
 use lp_tableau::{RunStop, Tableau, start_from};
 use std::alloc::{AllocError, Global};
 
@@ -79,7 +79,7 @@ fn by_primal(
     ensures narrow { IfOk result (IsWarmFit model.now) }
 {
     let mut used = 0;
-    match lp_primal::run(tab, &mut used, budget) {
+    match lp_simplex::primal::run(tab, &mut used, budget) {
         Ok(end) => {
             let statuses = basis_at(alloc, tab, end)?;
             let certificate = certificate_at(alloc, tab, end)?;
@@ -105,7 +105,7 @@ fn by_dual(
     ensures narrow { IfOk result (IsWarmFit model.now) }
 {
     let mut used = 0;
-    match lp_dual::run(tab, &mut used, budget) {
+    match lp_simplex::dual::run(tab, &mut used, budget) {
         Ok(end) => {
             let statuses = dual_basis(alloc, tab, end)?;
             let certificate = dual_certificate(alloc, tab, end)?;

@@ -5,7 +5,7 @@ use Rattle.spec_simplex.specs.Step.{best_with}
 use Rattle.spec_exact.proofs.Stops.{steps_more}
 use Rattle.spec_exact.specs.Narrow.{number_limit}
 use Rattle.spec_factor.specs.Revised.{seen}
-use Rattle.lp_primal.proofs.Ratios.{best_refused}
+use Rattle.lp_simplex.proofs.Ratios.{best_refused}
 use Rattle.lp_revised.proofs.state.Revised.best.Goals as goal
 
 pub returns-in_err-best-2 : goal.returns-in_err-best-2

@@ -2,7 +2,7 @@
 use Rattle.std.proofs.Common.{◌∙◌, ap, sym}
 use Rattle.spec_simplex.specs.Tableau.{lower_at, upper_at, value_at}
 use Rattle.spec_factor.specs.Revised.{seen}
-use Rattle.lp_primal.proofs.Positions.{position_is}
+use Rattle.lp_simplex.proofs.Positions.{position_is}
 use Rattle.lp_revised.proofs.Seen.{seen_at}
 use Rattle.lp_revised.proofs.state.Revised.best_with.Goals as goal
 

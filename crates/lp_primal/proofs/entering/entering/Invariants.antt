@@ -1,8 +1,0 @@
--- The loop over the columns.
-use Rattle.std.proofs.Common.{◌≡◌, None}
-use Rattle.spec_simplex.specs.Step.{entering_below}
-use Rattle.lp_primal.proofs.entering.entering.Given as goal
-
--- no column so far may enter
-abbrev pub invariant-loop-col : goal.invariant-loop-col
-invariant-loop-col l = entering_below l.tab l.col ≡ None

@@ -1,0 +1,47 @@
+-- A pivot that is chosen may be made.
+use Rattle.std.proofs.Common.{◌≡◌, ℕ, ◌+◌, ◌<◌, Option, Some, Ok, Bool, true, false, sym, subst}
+use Rattle.spec_exact.specs.Fraction.{ℚ}
+use Rattle.spec_simplex.specs.Step.{NamesBound}
+use Rattle.spec_simplex.specs.Tableau.{Tableau, basic_at, lower_at, upper_at}
+use Rattle.spec_path.specs.Tables.{way}
+use Rattle.spec_pivot.specs.Dual.{IsPast}
+use Rattle.spec_simplex.specs.declared.ends.Leaving.{Leaving}
+use Rattle.spec_simplex.specs.declared.ends.Cheapest.{Cheapest}
+use Rattle.spec_simplex.specs.Dual.{place_of, passed_bound, cheapest_run}
+use Rattle.spec_simplex.specs.Fit.{leaving_run}
+use Rattle.spec_warm.proofs.Chosen.{place_is}
+use Rattle.spec_warm.proofs.Fits.{IsLeaving, leaving_is}
+use Rattle.lp_simplex.specs.Starts.{HasPlace, IsSeated, CanEnter}
+use Rattle.lp_simplex.proofs.DualEntering.{MayEnter, best_enters}
+
+passed : (below : Bool) (lower upper : Option ℚ) (v c : ℚ) → IsPast (way below) lower upper v c →
+    NamesBound (passed_bound below) lower upper c
+passed true lower upper v c h = h.0
+passed false lower upper v c h = h.0
+
+module _ (limit : Option ℕ) (t : Tableau) (s : IsSeated t) (x : Leaving) (h : leaving_run limit t ≡ Ok (Some x)) where
+  out : IsLeaving t (t.cols + t.rows + t.rows) x
+  out = leaving_is limit t (Some x) h
+
+  there : (place_of t x.col < t.rows) × (basic_at t (place_of t x.col) ≡ x.col)
+  there =
+      let p : HasPlace t x.col = s.places x.col out.inside out.basic in place_is t x.col t.rows p.place p.inside p.holds
+
+  pub place_inside : place_of t x.col < t.rows
+  place_inside = there.0
+
+  pub can_enter : (best : Cheapest ℚ) → cheapest_run limit t (place_of t x.col) x.below ≡ Ok (Some best) →
+      CanEnter t (place_of t x.col) best.col (passed_bound x.below)
+  can_enter best g =
+      let m : MayEnter t (place_of t x.col) x.below best.col = best_enters limit t (place_of t x.col) x.below best g in
+      record {
+        place = there.0;
+        column = m.inside;
+        nonbasic = m.nonbasic;
+        entry = m.entry;
+        bound = (
+          out.bound,
+          subst (λ k. NamesBound (passed_bound x.below) (lower_at t k) (upper_at t k) out.bound)
+              (sym there.1) (passed x.below _ _ _ out.bound out.past),
+        );
+      }

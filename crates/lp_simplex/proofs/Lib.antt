@@ -1,0 +1,12 @@
+pub mod Choices
+pub mod Entering
+pub mod Positions
+pub mod Ratios
+pub mod Runs
+pub mod Signs
+pub mod Chosen
+pub mod DualEntering
+pub mod Fitted
+pub mod Seats
+pub mod Turned
+pub mod Walk

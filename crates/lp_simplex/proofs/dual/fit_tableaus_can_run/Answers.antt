@@ -1,0 +1,5 @@
+use Rattle.lp_simplex.proofs.Fitted.{can_start}
+use Rattle.lp_simplex.proofs.dual.fit_tableaus_can_run.Goals as goal
+
+pub returns : goal.returns
+returns c = can_start

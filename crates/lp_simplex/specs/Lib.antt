@@ -1,0 +1,4 @@
+pub mod PrimalAnswer
+pub mod Ratio
+pub mod DualAnswer
+pub mod Starts

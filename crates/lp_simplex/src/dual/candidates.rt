@@ -1,0 +1,72 @@
+// Which column enters: the dual ratio test.
+ghost use Rattle.std.specs.Prelude.{◌≡◌, ◌≢◌, ◌<◌, Some};
+ghost use Rattle.spec_exact.specs.Fraction.{0ℚ};
+ghost use Rattle.spec_exact.specs.Narrow.{number_limit};
+ghost use Rattle.spec_simplex.specs.Tableau.{all_columns};
+ghost use Rattle.spec_simplex.specs.Dual as dual;
+
+use crate::primal::{is_fixed, way};
+use lp_frac::{Frac, Past, abs, cmp, div};
+use lp_tableau::{Tableau, directed};
+use std::cmp::Ordering;
+
+// The least ratio so far.
+pub(crate) type Cheapest = spec_simplex::Cheapest<Frac>;
+
+// Whether column `k` rises or falls as it enters, if it may bring back the one at position `p`.
+fn column_way(tab: &Tableau, p: u32, below: bool, k: u32) -> Option<bool>
+    requires place { p < tab.now.rows }
+    requires column { k < all_columns tab.now }
+    ensures { result ≡ dual.dual_way_at tab.now p below k }
+{
+    if is_fixed(tab.lower(k), tab.upper(k)) {
+        return None;
+    }
+    way(tab.status(k), directed(below, tab.entry(p, k)))
+}
+
+// The one with the lesser ratio, and of equal ones the first.
+fn cheaper(new: Cheapest, best: Option<Cheapest>) -> Result<Option<Cheapest>, Past>
+    ensures { result ≡ dual.cheaper_run (Some number_limit) new best }
+{
+    let Some(best) = best else {
+        return Ok(Some(new));
+    };
+    match cmp(new.ratio, best.ratio)? {
+        Ordering::Less => Ok(Some(new)),
+        Ordering::Equal | Ordering::Greater => Ok(Some(best)),
+    }
+}
+
+// The best so far, with column `k`.
+fn cheapest_with(
+    tab: &Tableau,
+    p: u32,
+    below: bool,
+    k: u32,
+    best: Option<Cheapest>,
+) -> Result<Option<Cheapest>, Past>
+    requires place { p < tab.now.rows }
+    requires column { k < all_columns tab.now }
+    ensures { result ≡ dual.cheapest_with (Some number_limit) tab.now p below k best }
+{
+    match column_way(tab, p, below, k) {
+        None => Ok(best),
+        Some(_) => {
+            let ratio = div(abs(tab.reduced(k)), abs(tab.entry(p, k)))?;
+            cheaper(Cheapest { ratio, col: k }, best)
+        }
+    }
+}
+
+// The least ratio of all, if any column may enter.
+pub(crate) fn cheapest(tab: &Tableau, p: u32, below: bool) -> Result<Option<Cheapest>, Past>
+    requires { p < tab.now.rows }
+    ensures { result ≡ dual.cheapest_run (Some number_limit) tab.now p below }
+{
+    let mut best = None;
+    for k in 0..tab.width() {
+        best = cheapest_with(tab, p, below, k, best)?;
+    }
+    Ok(best)
+}

@@ -1,0 +1,57 @@
+// What a dual step does.
+ghost use Rattle.std.specs.Prelude.{◌≡◌, IfOk, Some};
+ghost use Rattle.spec_exact.specs.Narrow.{number_limit};
+ghost use Rattle.spec_simplex.specs.Dual as dual;
+ghost use Rattle.lp_simplex.specs.Starts.{IsSeated, CanTake};
+
+use crate::dual::candidates::cheapest;
+use crate::dual::leaving::leaving;
+use lp_form::Status;
+use lp_frac::Past;
+use lp_tableau::Tableau;
+use spec_simplex::{DualChoice, DualEnd};
+
+// The position of column `k`: the last at which it is basic.
+pub(crate) fn place(tab: &Tableau, k: u32) -> u32
+    ensures { result ≡ dual.place_of tab.now k }
+{
+    let mut place = 0;
+    for i in 0..tab.rows() {
+        if tab.basic(i) == k {
+            place = i;
+        }
+    }
+    place
+}
+
+// The bound that the leaving column has passed.
+fn passed_bound(below: bool) -> Status
+    ensures { result ≡ dual.passed_bound below }
+{
+    if below {
+        Status::AtLower
+    } else {
+        Status::AtUpper
+    }
+}
+
+// The pivot that comes next, or the end.
+#[tactic(auto, unfolding(spec_simplex::specs::Dual::dual_choice_run))]
+pub(crate) fn choice(tab: &Tableau) -> Result<DualChoice, Past>
+    requires { IsSeated tab.now }
+    ensures value { result ≡ dual.dual_choice_run (Some number_limit) tab.now }
+    ensures possible { IfOk result (CanTake tab.now) }
+{
+    let Some(out) = leaving(tab)? else {
+        return Ok(DualChoice::End(DualEnd::Optimal));
+    };
+    let (place, below) = (place(tab, out.col), out.below);
+    match cheapest(tab, place, below)? {
+        None => Ok(DualChoice::End(DualEnd::Infeasible { place, below })),
+        Some(best) => Ok(DualChoice::Pivot {
+            place,
+            col: best.col,
+            to: passed_bound(below),
+        }),
+    }
+}

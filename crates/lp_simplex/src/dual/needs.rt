@@ -1,0 +1,100 @@
+// Which method a tableau is fit for.
+ghost use Rattle.std.specs.Prelude.{◌≡◌, ◌<◌, Some};
+ghost use Rattle.spec_exact.specs.Fraction.{0ℚ, eq_ℚ};
+ghost use Rattle.spec_exact.specs.Narrow.{number_limit};
+ghost use Rattle.spec_simplex.specs.Tableau.{all_columns};
+ghost use Rattle.spec_simplex.specs.Fit as spec;
+
+use crate::dual::leaving::leaving;
+use crate::primal::is_fixed;
+use lp_form::Status;
+use lp_frac::{Frac, Past, are_same, is_negative, is_positive, zero};
+use lp_tableau::Tableau;
+use spec_simplex::{Fit, Leaving};
+
+fn is_zero(v: Frac) -> bool
+    ensures { result ≡ eq_ℚ v 0ℚ }
+{
+    are_same(v, zero())
+}
+
+fn is_there(bound: Option<Frac>) -> bool
+    ensures { result ≡ spec.is_there bound }
+{
+    match bound {
+        Some(_) => true,
+        None => false,
+    }
+}
+
+// Whether a column of this status and reduced cost needs its other bound.
+fn needs_flip(status: Status, reduced: Frac) -> bool
+    ensures { result ≡ spec.needs_flip status reduced }
+{
+    match status {
+        Status::AtLower => is_negative(reduced),
+        Status::AtUpper => is_positive(reduced),
+        Status::Basic | Status::AtZero => false,
+    }
+}
+
+// Whether it has that bound. A column without bounds needs the reduced cost 0.
+fn meets_need(status: Status, reduced: Frac, lower: Option<Frac>, upper: Option<Frac>) -> bool
+    ensures { result ≡ spec.meets_need status reduced lower upper }
+{
+    match status {
+        Status::Basic => true,
+        Status::AtLower => !is_negative(reduced) || is_there(upper),
+        Status::AtUpper => !is_positive(reduced) || is_there(lower),
+        Status::AtZero => is_zero(reduced),
+    }
+}
+
+// Whether column `k` needs its other bound. A fixed one needs nothing.
+pub(crate) fn needs_flip_at(tab: &Tableau, k: u32) -> bool
+    requires { k < all_columns tab.now }
+    ensures { result ≡ spec.needs_flip_at tab.now k }
+{
+    !is_fixed(tab.lower(k), tab.upper(k)) && needs_flip(tab.status(k), tab.reduced(k))
+}
+
+fn meets_need_at(tab: &Tableau, k: u32) -> bool
+    requires { k < all_columns tab.now }
+    ensures { result ≡ spec.meets_need_at tab.now k }
+{
+    is_fixed(tab.lower(k), tab.upper(k))
+        || meets_need(tab.status(k), tab.reduced(k), tab.lower(k), tab.upper(k))
+}
+
+// Whether each column has the bound that it needs.
+fn all_meet(tab: &Tableau) -> bool
+    ensures { result ≡ spec.all_meet tab.now (all_columns tab.now) }
+{
+    let mut met = true;
+    for k in 0..tab.width() {
+        met = met && meets_need_at(tab, k);
+    }
+    met
+}
+
+fn fit_by(tab: &Tableau, outside: Option<Leaving>) -> Fit
+    ensures { result ≡ spec.fit_by tab.now outside }
+{
+    match outside {
+        None => Fit::Primal,
+        Some(_) if all_meet(tab) => Fit::Dual,
+        Some(_) => Fit::Unfit,
+    }
+}
+
+/// The method that a tableau is fit for: the primal one where each basic value is within its bounds;
+/// else the dual one where each reduced cost has the sign that it needs, or gets it when its column
+/// goes to its other bound. The values are compared with their bounds in order, up to the first one
+/// outside them.
+#[tactic(auto, unfolding(spec_simplex::specs::Fit::fit_run))]
+pub fn fit(tab: &Tableau) -> Result<Fit, Past>
+    ensures { result ≡ spec.fit_run (Some number_limit) tab.now }
+{
+    let outside = leaving(tab)?;
+    Ok(fit_by(tab, outside))
+}

@@ -1,0 +1,64 @@
+// The flips, and then steps up to an end.
+ghost use Rattle.std.specs.Prelude.{◌≡◌, ◌-◌, IfOk, Some};
+ghost use Rattle.spec_exact.specs.Narrow.{number_limit};
+ghost use Rattle.spec_simplex.specs.Dual as dual;
+ghost use Rattle.lp_tableau.specs.Answer.{GivesRun};
+ghost use Rattle.lp_simplex.specs.Starts.{IsDualStart, IsSeated, CanEnter, IsPlace};
+ghost use Rattle.lp_simplex.specs.DualAnswer.{DualRuns};
+
+use crate::dual::choice::choice;
+use crate::dual::flips::flips;
+use lp_form::Status;
+use lp_frac::{Past, div, sub};
+use lp_tableau::{RunStop, Tableau, stand};
+use spec_simplex::{DualChoice, DualEnd};
+
+// Column `col` moves by what brings the one at the position to its bound `to`, and takes the position.
+#[tactic(auto, unfolding(spec_simplex::specs::Dual::dual_pivot_run))]
+fn pivot(tab: &mut Tableau, place: u32, col: u32, to: Status) -> Result<(), Past>
+    requires { CanEnter tab.old place col to }
+    ensures { GivesRun (dual.dual_pivot_run (Some number_limit) tab.old place col to) tab.new result }
+{
+    let out = tab.basic(place);
+    let gap = sub(tab.value(out), stand(to, tab.lower(out), tab.upper(out)))?;
+    let theta = div(gap, tab.entry(place, col))?;
+    tab.pivot(place, col, theta, to)
+}
+
+// Steps up to an end.
+fn steps(tab: &mut Tableau, used: &mut u64, budget: u64) -> Result<DualEnd, RunStop>
+    requires { IsSeated tab.old }
+    ensures runs { DualRuns (dual.dual_from (Some number_limit) (budget - used.old) used.old tab.old)
+        tab.new used.new result }
+    ensures inside { IfOk result (IsPlace tab.new) }
+{
+    loop {
+        match choice(tab)? {
+            DualChoice::End(end) => return Ok(end),
+            DualChoice::Pivot { place, col, to } => {
+                if *used >= budget {
+                    return Err(RunStop::Spent);
+                }
+                pivot(tab, place, col, to)?;
+                *used += 1;
+            }
+        }
+    }
+}
+
+/// GivesRun each reduced cost the sign that it needs by flips, and then takes dual steps until each value
+/// is within its bounds (`Optimal`), one is not and no column can bring it back (`Infeasible`), an
+/// operation is past 127 bits (`Past`), or `budget` flips and pivots were made (`Spent`). `used` counts
+/// them. After `Past` the tableau is spent.
+///
+/// `IsDualStart` holds of the tableau of a basis that is fit for the dual method.
+#[tactic(auto, unfolding(spec_simplex::specs::Dual::dual_run))]
+pub fn run(tab: &mut Tableau, used: &mut u64, budget: u64) -> Result<DualEnd, RunStop>
+    requires none_used { used.old ≡ 0 }
+    requires ready { IsDualStart tab.old }
+    ensures runs { DualRuns (dual.dual_run (Some number_limit) budget tab.old) tab.new used.new result }
+    ensures inside { IfOk result (IsPlace tab.new) }
+{
+    flips(tab, used, budget)?;
+    steps(tab, used, budget)
+}

@@ -1,0 +1,44 @@
+// What a step does.
+ghost use Rattle.std.specs.Prelude.{◌≡◌, IfOk, Some};
+ghost use Rattle.spec_exact.specs.Narrow.{number_limit};
+ghost use Rattle.spec_simplex.specs.Step.{choice_by, choice_run, CanMake};
+
+use crate::primal::entering::entering;
+use crate::primal::ratio::{Best, best};
+use lp_frac::{Frac, Past};
+use lp_tableau::{PrimalEnd, Tableau, directed};
+use spec_simplex::Entering;
+
+/// What a step does.
+pub type Choice = spec_simplex::Choice<Frac>;
+
+/// What is done with the column that enters, where this is the least ratio.
+pub fn chosen(e: Entering, best: Option<Best>) -> Choice
+    ensures { result ≡ choice_by e best }
+{
+    let Some(best) = best else {
+        let (col, up) = (e.col, e.up);
+        return Choice::End(PrimalEnd::Unbounded { col, up });
+    };
+    match best.place {
+        None => Choice::Flip { col: e.col },
+        Some(place) => Choice::Pivot {
+            place,
+            col: e.col,
+            theta: directed(e.up, best.ratio),
+            to: best.to,
+        },
+    }
+}
+
+// The flip or the pivot that comes next, or the end.
+#[tactic(auto, unfolding(spec_simplex::specs::Step::choice_run))]
+pub(crate) fn choice(tab: &Tableau) -> Result<Choice, Past>
+    ensures value { result ≡ choice_run (Some number_limit) tab.now }
+    ensures possible { IfOk result (CanMake tab.now) }
+{
+    let Some(e) = entering(tab) else {
+        return Ok(Choice::End(PrimalEnd::Optimal));
+    };
+    Ok(chosen(e, best(tab, e)?))
+}
