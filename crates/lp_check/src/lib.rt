@@ -6,6 +6,7 @@
 //! | `Certificate` | what is given to show something of one model | src/certificate |
 //! | `part` | a number of a certificate's list | src/steps |
 //! | `Verdict`, `Known` | what a check says, and what a certificate shows | src/certificate |
+//! | `wide` | the same for certificates whose numbers have any width | src/wide |
 //!
 //! That an accepted certificate is true is a law of `spec_check`; the contract here is an equation with what the law
 //! speaks of.
@@ -18,6 +19,7 @@ mod multipliers;
 mod point;
 mod ray;
 mod steps;
+pub mod wide;
 
 pub use certificate::{Certificate, Known, Verdict};
 pub use conditions::check;

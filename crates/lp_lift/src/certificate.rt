@@ -8,7 +8,7 @@ ghost use Rattle.spec_solve.specs.OfBasis.{IsOfBasis};
 
 use crate::guess::guess;
 use crate::stands::stands;
-use lp_check_wide::Certificate;
+use lp_check::wide::Certificate;
 use lp_form::{Form, Status};
 use lp_model::Model;
 use std::alloc::{AllocError, Global};

@@ -9,7 +9,7 @@ use crate::kernel::{Kernel, count, kernel_of, place_at, standing};
 use crate::lifting::{System, lifted};
 use crate::size::lengths;
 use crate::whole::on_one_denominator;
-use lp_check_wide::Ratios;
+use lp_check::wide::Ratios;
 use lp_form::{Form, Status};
 use lp_frac::{Frac, num, one};
 use lp_natural::Natural;

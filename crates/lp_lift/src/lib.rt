@@ -13,7 +13,7 @@
 //!
 //! The systems are solved by p-adic lifting (Dixon, "Exact solution of linear equations using p-adic expansions", 1982).
 //! Nothing is claimed of the numbers that the guess finds: what is used of them is what `stands` checks, with the exact
-//! sums of lp_check_wide.
+//! sums of lp_check.
 #![tactic(auto)]
 
 mod certificate;

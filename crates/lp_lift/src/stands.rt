@@ -8,7 +8,7 @@ ghost use Rattle.spec_simplex.specs.Eliminate.{basis_at};
 ghost use Rattle.spec_solve.specs.OfBasis.{ColumnStands, RowStands, StandsAt};
 
 use crate::kernel::status_at;
-use lp_check_wide::{
+use lp_check::wide::{
     Ratios, activity, limit_of, lower_limit, part, reduced, stands_at, upper_limit,
 };
 use lp_form::Status;

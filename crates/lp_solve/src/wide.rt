@@ -16,7 +16,7 @@ use crate::cold::End;
 use crate::rows::{WORK, over_rows};
 use crate::solving::{Solved, cold, cold_after, cold_within, solve, warm};
 use crate::warm::{Warm, WarmStop, from_basis};
-use lp_check_wide::{Ratios, Verdict, check};
+use lp_check::wide::{Ratios, Verdict, check};
 use lp_form::{Basis, Form, StatusList};
 use lp_frac::Stop;
 use lp_lift::certificate_of_basis;

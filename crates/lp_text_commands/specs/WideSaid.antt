@@ -2,8 +2,8 @@
 use Rattle.spec_check.specs.declared.certificate.Verdict.TheVariants as verdict
 use Rattle.spec_server.specs.declared.asks.Reply.TheVariants as reply
 use Rattle.spec_server.specs.Machine.{ExactReply}
-use Rattle.lp_check_wide.specs.declared.certificate.Verdict.{Verdict}
-use Rattle.lp_check_wide.specs.declared.certificate.Verdict.TheVariants as wide
+use Rattle.lp_check.specs.declared.wide.certificate.Verdict.{Verdict}
+use Rattle.lp_check.specs.declared.wide.certificate.Verdict.TheVariants as wide
 use Rattle.lp_text_commands.specs.declared.check_wide.WideSaid.{WideSaid}
 use Rattle.lp_text_commands.specs.declared.check_wide.WideSaid.TheVariants as said
 

@@ -14,7 +14,7 @@ use crate::exit_status::ExitStatus;
 use crate::hearing::Output;
 use lp_base::{Bytes, Feed, Line};
 use lp_certificate::{RawOf, ReaderOf, SettleError, SettleFault, settle};
-use lp_check_wide::{Known, Verdict, check};
+use lp_check::wide::{Known, Verdict, check};
 use lp_line::{Refusal, Reply, Stage, Step};
 use lp_model::Model;
 use lp_ratio::Ratio;

@@ -13,7 +13,7 @@ use crate::solve::print_end;
 use lp_answer::{OPENING_BUDGET, wide_solved_within};
 use lp_base::Bytes;
 use lp_certificate::cert_text;
-use lp_check_wide::{Certificate, Known};
+use lp_check::wide::{Certificate, Known};
 use lp_line::print_lines;
 use lp_model::Model;
 use lp_ratio::Ratio;

@@ -19,7 +19,7 @@ use crate::wide::{print_known, print_wide_certificate};
 use lp_answer::{OPENING_BUDGET, wide_solved_from_basis};
 use lp_bas::write;
 use lp_base::Bytes;
-use lp_check_wide::Known;
+use lp_check::wide::Known;
 use lp_form::Form;
 use lp_model::Model;
 use lp_solve::{WideAnswer, WideBased};

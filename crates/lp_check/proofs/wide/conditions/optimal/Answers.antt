@@ -1,0 +1,31 @@
+use Rattle.lp_check.proofs.Gives.{passes, fails, no_first, no_second, no_third, no_fourth, all_pass}
+use Rattle.lp_check.proofs.wide.conditions.optimal.Goals as goal
+
+pub returns-then-not-branch : goal.returns-then-not-branch
+returns-then-not-branch c =
+    no_first c.args.model.now c.args.x.now c.args.y.now (fails 1 _ _ c.in_ok-columns_within.ensures c.if-not-branch.true)
+
+pub returns-then-not-branch-2 : goal.returns-then-not-branch-2
+returns-then-not-branch-2 c =
+    no_second c.args.model.now c.args.x.now c.args.y.now (passes 1 _ _ c.in_ok-columns_within.ensures c.if-not-branch.false)
+    (fails 2 _ _ c.in_ok-rows_within.ensures c.if-not-branch-2.true)
+
+pub returns-then-not-branch-3 : goal.returns-then-not-branch-3
+returns-then-not-branch-3 c =
+    no_third c.args.model.now c.args.x.now c.args.y.now (passes 1 _ _ c.in_ok-columns_within.ensures c.if-not-branch.false)
+    (passes 2 _ _ c.in_ok-rows_within.ensures c.if-not-branch-2.false)
+    (fails 3 _ _ c.in_ok-columns_tight.ensures c.if-not-branch-3.true)
+
+pub returns-then-not-branch-4 : goal.returns-then-not-branch-4
+returns-then-not-branch-4 c =
+    no_fourth c.args.model.now c.args.x.now c.args.y.now (passes 1 _ _ c.in_ok-columns_within.ensures c.if-not-branch.false)
+    (passes 2 _ _ c.in_ok-rows_within.ensures c.if-not-branch-2.false)
+    (passes 3 _ _ c.in_ok-columns_tight.ensures c.if-not-branch-3.false)
+    (fails 4 _ _ c.in_ok-rows_tight.ensures c.if-not-branch-4.true)
+
+pub returns : goal.returns
+returns c =
+    all_pass c.args.model.now c.args.x.now c.args.y.now _ (passes 1 _ _ c.in_ok-columns_within.ensures c.if-not-branch.false)
+    (passes 2 _ _ c.in_ok-rows_within.ensures c.if-not-branch-2.false)
+    (passes 3 _ _ c.in_ok-columns_tight.ensures c.if-not-branch-3.false)
+    (passes 4 _ _ c.in_ok-rows_tight.ensures c.if-not-branch-4.false) c.in_ok-value.ensures

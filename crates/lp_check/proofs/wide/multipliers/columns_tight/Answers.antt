@@ -1,0 +1,9 @@
+use Rattle.spec_check.proofs.Stops.{each_stops}
+use Rattle.lp_check.proofs.Gives.{fails}
+use Rattle.lp_check.proofs.wide.multipliers.columns_tight.Goals as goal
+
+pub returns-then-not-branch : goal.returns-then-not-branch
+returns-then-not-branch c =
+    rw (← c.cols-j-end.ensures.value)
+    (each_stops _ _ _ _ c.loop-j-test.true c.loop-j.invariant
+    (fails 3 _ _ c.in_ok-column_tight.ensures c.if-not-branch.true))

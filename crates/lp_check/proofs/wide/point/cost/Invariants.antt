@@ -1,0 +1,12 @@
+-- The loop over the columns.
+use Rattle.std.proofs.Common.{◌≡◌, None, Ok}
+use Rattle.spec_exact.specs.Fraction.{0ℚ}
+use Rattle.spec_model.specs.Model.{cost, part}
+use Rattle.spec_exact.specs.Run.{steps}
+use Rattle.spec_check.specs.Run as run
+use Rattle.lp_check.proofs.wide.point.cost.Given as goal
+
+-- the sum so far
+abbrev pub invariant-loop-j : goal.invariant-loop-j
+invariant-loop-j l =
+    steps l.j (λ k s. run.plus_product None (cost l.model k) (part l.x k) s) 0ℚ ≡ Ok l.sum

@@ -1,0 +1,114 @@
+// The check of a certificate: the conditions in their order.
+ghost use Rattle.std.specs.Prelude.{◌≡◌, IfOk, length};
+ghost use Rattle.spec_model.specs.Model.{width, height};
+ghost use Rattle.lp_check.specs.Said.{Says};
+ghost use Rattle.spec_check.specs.declared.certificate.Certificate.TheVariants.{Optimal, Infeasible, Unbounded};
+ghost use Rattle.spec_check.specs.Certificate.{IsFor};
+
+use crate::wide::certificate::{Certificate, Known, Ratios, Verdict};
+use crate::wide::common::brought;
+use crate::wide::farkas::{clash, infeasible};
+use crate::wide::multipliers::{columns_tight, rows_tight};
+use crate::wide::point::{columns_within, rows_within, value};
+use crate::wide::ray::{better, columns_allow, rows_allow};
+use lp_model::Model;
+use std::alloc::{AllocError, Global};
+
+// What a certificate of an optimum shows.
+fn optimal(alloc: Global, model: &Model, x: &Ratios, y: &Ratios) -> Result<Verdict, AllocError>
+    requires point { length x.now ≡ width model.now }
+    requires multipliers { length y.now ≡ height model.now }
+    ensures { IfOk result (Says model.now (Optimal x.now y.now)) }
+{
+    if !columns_within(alloc, model, x)? {
+        return Ok(Verdict::No(1));
+    }
+    if !rows_within(alloc, model, x)? {
+        return Ok(Verdict::No(2));
+    }
+    if !columns_tight(alloc, model, x, y)? {
+        return Ok(Verdict::No(3));
+    }
+    if !rows_tight(alloc, model, x, y)? {
+        return Ok(Verdict::No(4));
+    }
+    let value = value(alloc, model, x)?;
+    Ok(Verdict::Yes(Known::Optimal(value)))
+}
+
+// What a certificate of a ray shows.
+fn unbounded(alloc: Global, model: &Model, x: &Ratios, r: &Ratios) -> Result<Verdict, AllocError>
+    requires point { length x.now ≡ width model.now }
+    requires ray { length r.now ≡ width model.now }
+    ensures { IfOk result (Says model.now (Unbounded x.now r.now)) }
+{
+    if !columns_within(alloc, model, x)? {
+        return Ok(Verdict::No(1));
+    }
+    if !rows_within(alloc, model, x)? {
+        return Ok(Verdict::No(2));
+    }
+    if !columns_allow(model, r) {
+        return Ok(Verdict::No(3));
+    }
+    if !rows_allow(alloc, model, r)? {
+        return Ok(Verdict::No(4));
+    }
+    if !better(alloc, model, r)? {
+        return Ok(Verdict::No(5));
+    }
+    Ok(Verdict::Yes(Known::Unbounded))
+}
+
+// The same of lists that are over one denominator each.
+fn optimal_brought(
+    alloc: Global,
+    model: &Model,
+    x: &Ratios,
+    y: &Ratios,
+) -> Result<Verdict, AllocError>
+    requires point { length x.now ≡ width model.now }
+    requires multipliers { length y.now ≡ height model.now }
+    ensures { IfOk result (Says model.now (Optimal x.now y.now)) }
+{
+    let point = brought(alloc, model, x)?;
+    let multipliers = brought(alloc, model, y)?;
+    optimal(alloc, model, &point, &multipliers)
+}
+
+fn infeasible_brought(alloc: Global, model: &Model, y: &Ratios) -> Result<Verdict, AllocError>
+    requires { length y.now ≡ height model.now }
+    ensures { IfOk result (Says model.now (Infeasible y.now)) }
+{
+    let multipliers = brought(alloc, model, y)?;
+    infeasible(alloc, model, &multipliers)
+}
+
+fn unbounded_brought(
+    alloc: Global,
+    model: &Model,
+    x: &Ratios,
+    r: &Ratios,
+) -> Result<Verdict, AllocError>
+    requires point { length x.now ≡ width model.now }
+    requires ray { length r.now ≡ width model.now }
+    ensures { IfOk result (Says model.now (Unbounded x.now r.now)) }
+{
+    let point = brought(alloc, model, x)?;
+    let ray = brought(alloc, model, r)?;
+    unbounded(alloc, model, &point, &ray)
+}
+
+/// Whether the certificate shows something of the model: `Yes` with what it shows, or `No` with the number of the first
+/// condition that fails. The conditions are those of `lp_check`, without a limit on any number.
+pub fn check(alloc: Global, model: &Model, cert: &Certificate) -> Result<Verdict, AllocError>
+    requires { IsFor model.now cert.now }
+    ensures { IfOk result (Says model.now cert.now) }
+{
+    match cert {
+        Certificate::Optimal { x, y } => optimal_brought(alloc, model, x, y),
+        Certificate::Infeasible { y } => infeasible_brought(alloc, model, y),
+        Certificate::Clash(j) => clash(alloc, model, *j),
+        Certificate::Unbounded { x, r } => unbounded_brought(alloc, model, x, r),
+    }
+}

@@ -1,0 +1,178 @@
+// Certificates that no point is feasible: multipliers with which the rows ask for more than the bounds give, and bounds
+// that clash.
+ghost use Rattle.std.specs.Prelude.{◌≡◌, ◌<◌, ℕ, Ok, None, IfOk, ok_or, length};
+ghost use Rattle.spec_model.specs.Model.{width, height};
+ghost use Rattle.spec_check.specs.declared.certificate.CheckStop.TheVariants as stop;
+ghost use Rattle.spec_check.specs.declared.certificate.Certificate.TheVariants.{Infeasible, Clash};
+ghost use Rattle.spec_check.specs.Run as run;
+ghost use Rattle.lp_check.specs.Said.{Says};
+
+use crate::wide::certificate::{Known, Ratios, Verdict};
+use crate::wide::limits::{limit_of, lower_limit, upper_limit};
+use crate::wide::steps::{part, plus_wide_product, product_onto};
+use lp_model::Model;
+use lp_ratio::Ratio;
+use std::alloc::{AllocError, Global};
+
+// `d` times a limit that a condition asks for, onto `s`; nothing where the limit is not there.
+fn weighed_at(
+    alloc: Global,
+    d: &Ratio,
+    limit: Option<Ratio>,
+    s: Ratio,
+) -> Result<Option<Ratio>, AllocError>
+    ensures { IfOk result (λ o. (n : ℕ) → run.weighed_at n None d.now limit s ≡ ok_or o (stop.No n)) }
+{
+    match limit {
+        None => Ok(None),
+        Some(k) => {
+            let sum = plus_wide_product(alloc, d, &k, s)?;
+            Ok(Some(sum))
+        }
+    }
+}
+
+// What row `i` asks for with its multiplier, onto `sum`.
+fn row_asks(
+    alloc: Global,
+    model: &Model,
+    y: &Ratios,
+    i: u32,
+    sum: Ratio,
+) -> Result<Option<Ratio>, AllocError>
+    requires inside { i < height model.now }
+    requires multipliers { length y.now ≡ height model.now }
+    ensures { IfOk result (λ o. run.row_asks_run None model.now y.now i sum ≡ ok_or o (stop.No 1)) }
+{
+    let multiplier = part(y, i);
+    let row = model.row(i);
+    if multiplier.is_positive() {
+        let lower = lower_limit(alloc, row)?;
+        weighed_at(alloc, multiplier, lower, sum)
+    } else if multiplier.is_negative() {
+        let upper = upper_limit(alloc, row)?;
+        weighed_at(alloc, multiplier, upper, sum)
+    } else {
+        Ok(Some(sum))
+    }
+}
+
+// Condition 1: what all rows ask for.
+fn rows_ask(alloc: Global, model: &Model, y: &Ratios) -> Result<Option<Ratio>, AllocError>
+    requires { length y.now ≡ height model.now }
+    ensures { IfOk result (λ o. run.rows_ask_run None model.now y.now ≡ ok_or o (stop.No 1)) }
+{
+    let mut sum = Ratio::zero(alloc)?;
+    for i in 0..model.rows() {
+        match row_asks(alloc, model, y, i, sum)? {
+            Some(next) => sum = next,
+            None => return Ok(None),
+        }
+    }
+    Ok(Some(sum))
+}
+
+// The multipliers' part in column `j`.
+fn priced(alloc: Global, model: &Model, y: &Ratios, j: u32) -> Result<Ratio, AllocError>
+    requires inside { j < width model.now }
+    requires multipliers { length y.now ≡ height model.now }
+    ensures { IfOk result (λ g. run.priced_run None model.now y.now j ≡ Ok g) }
+{
+    let mut sum = Ratio::zero(alloc)?;
+    for i in 0..model.rows() {
+        sum = product_onto(alloc, part(y, i), model.entry(i, j), sum)?;
+    }
+    Ok(sum)
+}
+
+// The most that column `j` gives, onto `sum`.
+fn column_gives(
+    alloc: Global,
+    model: &Model,
+    y: &Ratios,
+    j: u32,
+    sum: Ratio,
+) -> Result<Option<Ratio>, AllocError>
+    requires inside { j < width model.now }
+    requires multipliers { length y.now ≡ height model.now }
+    ensures { IfOk result (λ o. run.column_gives_run None model.now y.now j sum ≡ ok_or o (stop.No 2)) }
+{
+    let column = model.col(j);
+    let priced = priced(alloc, model, y, j)?;
+    if priced.is_positive() {
+        let upper = limit_of(alloc, column.upper)?;
+        weighed_at(alloc, &priced, upper, sum)
+    } else if priced.is_negative() {
+        let lower = limit_of(alloc, column.lower)?;
+        weighed_at(alloc, &priced, lower, sum)
+    } else {
+        Ok(Some(sum))
+    }
+}
+
+// Condition 2: the most that all columns give.
+fn columns_give(alloc: Global, model: &Model, y: &Ratios) -> Result<Option<Ratio>, AllocError>
+    requires { length y.now ≡ height model.now }
+    ensures { IfOk result (λ o. run.columns_give_run None model.now y.now ≡ ok_or o (stop.No 2)) }
+{
+    let mut sum = Ratio::zero(alloc)?;
+    for j in 0..model.cols() {
+        match column_gives(alloc, model, y, j, sum)? {
+            Some(next) => sum = next,
+            None => return Ok(None),
+        }
+    }
+    Ok(Some(sum))
+}
+
+// What multipliers show with which the columns give less than the rows ask for.
+pub(crate) fn infeasible(alloc: Global, model: &Model, y: &Ratios) -> Result<Verdict, AllocError>
+    requires { length y.now ≡ height model.now }
+    ensures { IfOk result (Says model.now (Infeasible y.now)) }
+{
+    let asked = match rows_ask(alloc, model, y)? {
+        Some(asked) => asked,
+        None => return Ok(Verdict::No(1)),
+    };
+    let given = match columns_give(alloc, model, y)? {
+        Some(given) => given,
+        None => return Ok(Verdict::No(2)),
+    };
+    let order = given.compare(alloc, &asked)?;
+    if order.is_lt() {
+        Ok(Verdict::Yes(Known::Infeasible))
+    } else {
+        Ok(Verdict::No(3))
+    }
+}
+
+// Condition 1: both bounds are there, and the lower one is above the upper one.
+fn is_crossed(alloc: Global, lower: Option<Ratio>, upper: Option<Ratio>) -> Result<bool, AllocError>
+    ensures { IfOk result (λ b. run.crossed_run None lower upper ≡ run.need 1 b) }
+{
+    match lower {
+        None => Ok(false),
+        Some(low) => match upper {
+            None => Ok(false),
+            Some(high) => {
+                let order = low.compare(alloc, &high)?;
+                Ok(order.is_gt())
+            }
+        },
+    }
+}
+
+// What a column shows whose bounds clash.
+pub(crate) fn clash(alloc: Global, model: &Model, j: u32) -> Result<Verdict, AllocError>
+    requires { j < width model.now }
+    ensures { IfOk result (Says model.now (Clash j)) }
+{
+    let column = model.col(j);
+    let lower = limit_of(alloc, column.lower)?;
+    let upper = limit_of(alloc, column.upper)?;
+    if is_crossed(alloc, lower, upper)? {
+        Ok(Verdict::Yes(Known::Infeasible))
+    } else {
+        Ok(Verdict::No(1))
+    }
+}

@@ -1,0 +1,105 @@
+// Conditions 1 and 2: a point is feasible. And its value.
+ghost use Rattle.std.specs.Prelude.{◌≡◌, ◌<◌, Ok, None, IfOk, length};
+ghost use Rattle.spec_model.specs.Model.{width, height};
+ghost use Rattle.spec_check.specs.Run as run;
+
+use crate::wide::certificate::Ratios;
+use crate::wide::limits::{limit_of, lower_limit, upper_limit};
+use crate::wide::steps::{is_at_least, is_at_most, part, plus_product};
+use lp_model::Model;
+use lp_ratio::Ratio;
+use std::alloc::{AllocError, Global};
+
+// The value of column `j` is within the column's bounds.
+fn column_within(alloc: Global, model: &Model, x: &Ratios, j: u32) -> Result<bool, AllocError>
+    requires inside { j < width model.now }
+    requires point { length x.now ≡ width model.now }
+    ensures { IfOk result (λ b. run.column_within_run None model.now x.now j ≡ run.need 1 b) }
+{
+    let column = model.col(j);
+    let value = part(x, j);
+    let lower = limit_of(alloc, column.lower)?;
+    if !is_at_least(alloc, lower, value)? {
+        return Ok(false);
+    }
+    let upper = limit_of(alloc, column.upper)?;
+    is_at_most(alloc, upper, value)
+}
+
+// Each column's value is within its bounds.
+pub(crate) fn columns_within(alloc: Global, model: &Model, x: &Ratios) -> Result<bool, AllocError>
+    requires { length x.now ≡ width model.now }
+    ensures { IfOk result (λ b. run.columns_run None model.now x.now ≡ run.need 1 b) }
+{
+    for j in 0..model.cols() {
+        if !column_within(alloc, model, x, j)? {
+            return Ok(false);
+        }
+    }
+    Ok(true)
+}
+
+/// The sum of row `i`.
+pub fn activity(alloc: Global, model: &Model, x: &Ratios, i: u32) -> Result<Ratio, AllocError>
+    requires inside { i < height model.now }
+    requires point { length x.now ≡ width model.now }
+    ensures { IfOk result (λ s. run.activity_run None model.now x.now i ≡ Ok s) }
+{
+    let mut sum = Ratio::zero(alloc)?;
+    for j in 0..model.cols() {
+        sum = plus_product(alloc, model.entry(i, j), part(x, j), sum)?;
+    }
+    Ok(sum)
+}
+
+// The sum of row `i` is within the row's limits.
+fn row_within(alloc: Global, model: &Model, x: &Ratios, i: u32) -> Result<bool, AllocError>
+    requires inside { i < height model.now }
+    requires point { length x.now ≡ width model.now }
+    ensures { IfOk result (λ b. run.row_within_run None model.now x.now i ≡ run.need 2 b) }
+{
+    let sum = activity(alloc, model, x, i)?;
+    let row = model.row(i);
+    let lower = lower_limit(alloc, row)?;
+    if !is_at_least(alloc, lower, &sum)? {
+        return Ok(false);
+    }
+    let upper = upper_limit(alloc, row)?;
+    is_at_most(alloc, upper, &sum)
+}
+
+// Each row's sum is within the row's limits.
+pub(crate) fn rows_within(alloc: Global, model: &Model, x: &Ratios) -> Result<bool, AllocError>
+    requires { length x.now ≡ width model.now }
+    ensures { IfOk result (λ b. run.rows_run None model.now x.now ≡ run.need 2 b) }
+{
+    for i in 0..model.rows() {
+        if !row_within(alloc, model, x, i)? {
+            return Ok(false);
+        }
+    }
+    Ok(true)
+}
+
+// The sum of the costs.
+pub(crate) fn cost(alloc: Global, model: &Model, x: &Ratios) -> Result<Ratio, AllocError>
+    requires { length x.now ≡ width model.now }
+    ensures { IfOk result (λ s. run.cost_run None model.now x.now ≡ Ok s) }
+{
+    let mut sum = Ratio::zero(alloc)?;
+    for j in 0..model.cols() {
+        sum = plus_product(alloc, model.col(j).cost, part(x, j), sum)?;
+    }
+    Ok(sum)
+}
+
+// What the objective is at the point.
+pub(crate) fn value(alloc: Global, model: &Model, x: &Ratios) -> Result<Ratio, AllocError>
+    requires { length x.now ≡ width model.now }
+    ensures { IfOk result (λ s. run.value_run None model.now x.now ≡ Ok s) }
+{
+    let cost = cost(alloc, model, x)?;
+    let offset = Ratio::new(alloc, model.offset())?;
+    let value = cost.plus(alloc, &offset)?;
+    Ok(value)
+}

@@ -1,0 +1,126 @@
+// Conditions 3 to 5 of a ray: points stay feasible along it, and get better.
+ghost use Rattle.std.specs.Prelude.{◌≡◌, ◌<◌, None, IfOk, length};
+ghost use Rattle.spec_exact.specs.Fraction.{ℚ, 0ℚ, lt_ℚ};
+ghost use Rattle.spec_model.specs.Model.{width, height};
+ghost use Rattle.spec_check.specs.Checks.{signed as signed_by};
+ghost use Rattle.spec_check.specs.Run as run;
+
+use crate::wide::certificate::Ratios;
+use crate::wide::limits::{lower_limit, upper_limit};
+use crate::wide::point::{activity, cost};
+use crate::wide::steps::part;
+use lp_frac::Frac;
+use lp_model::{Model, Sense};
+use lp_ratio::Ratio;
+use std::alloc::{AllocError, Global};
+
+// `r` is not below 0, where a lower limit is there.
+fn not_below(limit: &Option<Frac>, r: &Ratio) -> bool
+    ensures { result ≡ run.not_below limit.now r.now }
+{
+    match limit {
+        None => true,
+        Some(_) => !r.is_negative(),
+    }
+}
+
+// `r` is not above 0, where an upper limit is there.
+fn not_above(limit: &Option<Frac>, r: &Ratio) -> bool
+    ensures { result ≡ run.not_above limit.now r.now }
+{
+    match limit {
+        None => true,
+        Some(_) => !r.is_positive(),
+    }
+}
+
+// The same of a row's limit.
+fn is_not_below(limit: &Option<Ratio>, r: &Ratio) -> bool
+    ensures { result ≡ run.not_below limit.now r.now }
+{
+    match limit {
+        None => true,
+        Some(_) => !r.is_negative(),
+    }
+}
+
+fn is_not_above(limit: &Option<Ratio>, r: &Ratio) -> bool
+    ensures { result ≡ run.not_above limit.now r.now }
+{
+    match limit {
+        None => true,
+        Some(_) => !r.is_positive(),
+    }
+}
+
+// Condition 3 at column `j`.
+fn column_allows(model: &Model, r: &Ratios, j: u32) -> bool
+    requires inside { j < width model.now }
+    requires ray { length r.now ≡ width model.now }
+    ensures { run.column_allows_run model.now r.now j ≡ run.need 3 result }
+{
+    let column = model.col(j);
+    let value = part(r, j);
+    not_below(&column.lower, value) && not_above(&column.upper, value)
+}
+
+// Each column's bounds allow the ray.
+pub(crate) fn columns_allow(model: &Model, r: &Ratios) -> bool
+    requires { length r.now ≡ width model.now }
+    ensures { run.each (width model.now) (run.column_allows_run model.now r.now) ≡ run.need 3 result }
+{
+    for j in 0..model.cols() {
+        if !column_allows(model, r, j) {
+            return false;
+        }
+    }
+    true
+}
+
+// Condition 4 at row `i`.
+fn row_allows(alloc: Global, model: &Model, r: &Ratios, i: u32) -> Result<bool, AllocError>
+    requires inside { i < height model.now }
+    requires ray { length r.now ≡ width model.now }
+    ensures { IfOk result (λ b. run.row_allows_run None model.now r.now i ≡ run.need 4 b) }
+{
+    let sum = activity(alloc, model, r, i)?;
+    let row = model.row(i);
+    let lower = lower_limit(alloc, row)?;
+    if !is_not_below(&lower, &sum) {
+        return Ok(false);
+    }
+    let upper = upper_limit(alloc, row)?;
+    Ok(is_not_above(&upper, &sum))
+}
+
+// Each row's limits allow the ray.
+pub(crate) fn rows_allow(alloc: Global, model: &Model, r: &Ratios) -> Result<bool, AllocError>
+    requires { length r.now ≡ width model.now }
+    ensures { IfOk result (λ b. run.each (height model.now) (run.row_allows_run None model.now r.now) ≡ run.need 4 b) }
+{
+    for i in 0..model.rows() {
+        if !row_allows(alloc, model, r, i)? {
+            return Ok(false);
+        }
+    }
+    Ok(true)
+}
+
+// Whether a cost to be made least is below 0.
+fn gets_better(sense: Sense, cost: &Ratio) -> bool
+    ensures { result ≡ lt_ℚ (signed_by sense cost.now) 0ℚ }
+{
+    match sense {
+        Sense::Min => cost.is_negative(),
+        Sense::Max => cost.is_positive(),
+    }
+}
+
+// Condition 5: the objective gets better along the ray.
+pub(crate) fn better(alloc: Global, model: &Model, r: &Ratios) -> Result<bool, AllocError>
+    requires { length r.now ≡ width model.now }
+    ensures { IfOk result (λ b. run.better_run None model.now r.now ≡ run.need 5 b) }
+{
+    let cost = cost(alloc, model, r)?;
+    Ok(gets_better(model.sense(), &cost))
+}

@@ -1,0 +1,119 @@
+// The steps of a run: sums of products, and tests against one limit.
+ghost use Rattle.std.specs.Prelude.{◌≡◌, ◌<◌, ℕ, Ok, None, IfOk, length};
+ghost use Rattle.spec_model.specs.Model.{part as part_of};
+ghost use Rattle.spec_check.specs.Run as run;
+
+use crate::wide::certificate::Ratios;
+use lp_frac::{Frac, is_zero, neg};
+use lp_ratio::Ratio;
+use std::alloc::{AllocError, Global};
+
+/// The number of a certificate's list at `k`, counted from 0.
+pub fn part(z: &Ratios, k: u32) -> &Ratio
+    requires { k < length z.now }
+    ensures { result.now ≡ part_of z.now k }
+{
+    z.get(k as usize)
+}
+
+// `v * w` onto `s`.
+pub(crate) fn plus_product(alloc: Global, v: Frac, w: &Ratio, s: Ratio) -> Result<Ratio, AllocError>
+    ensures { IfOk result (λ r. run.plus_product None v w.now s ≡ Ok r) }
+{
+    if is_zero(v) {
+        return Ok(s);
+    }
+    if w.is_zero() {
+        return Ok(s);
+    }
+    let product = w.scaled(alloc, v)?;
+    let sum = s.plus(alloc, &product)?;
+    Ok(sum)
+}
+
+// `v * w` onto `s`, of two numbers of any width.
+pub(crate) fn plus_wide_product(
+    alloc: Global,
+    v: &Ratio,
+    w: &Ratio,
+    s: Ratio,
+) -> Result<Ratio, AllocError>
+    ensures { IfOk result (λ r. run.plus_product None v.now w.now s ≡ Ok r) }
+{
+    let product = v.times(alloc, w)?;
+    let sum = s.plus(alloc, &product)?;
+    Ok(sum)
+}
+
+// `v * w` onto `s`, of which the second is narrow.
+pub(crate) fn product_onto(alloc: Global, v: &Ratio, w: Frac, s: Ratio) -> Result<Ratio, AllocError>
+    ensures { IfOk result (λ r. run.plus_product None v.now w s ≡ Ok r) }
+{
+    if is_zero(w) {
+        return Ok(s);
+    }
+    if v.is_zero() {
+        return Ok(s);
+    }
+    let product = v.scaled(alloc, w)?;
+    let sum = s.plus(alloc, &product)?;
+    Ok(sum)
+}
+
+// `v * w` off `s`.
+pub(crate) fn less_product(alloc: Global, v: &Ratio, w: Frac, s: Ratio) -> Result<Ratio, AllocError>
+    ensures { IfOk result (λ r. run.less_product None v.now w s ≡ Ok r) }
+{
+    if is_zero(w) {
+        return Ok(s);
+    }
+    if v.is_zero() {
+        return Ok(s);
+    }
+    let product = v.scaled(alloc, neg(w))?;
+    let sum = s.plus(alloc, &product)?;
+    Ok(sum)
+}
+
+// `v` is at least the limit, if there is one.
+pub(crate) fn is_at_least(
+    alloc: Global,
+    limit: Option<Ratio>,
+    v: &Ratio,
+) -> Result<bool, AllocError>
+    ensures { IfOk result (λ b. (n : ℕ) → run.at_least n None limit v.now ≡ run.need n b) }
+{
+    match limit {
+        None => Ok(true),
+        Some(k) => {
+            let order = v.compare(alloc, &k)?;
+            Ok(!order.is_lt())
+        }
+    }
+}
+
+// `v` is at most the limit, if there is one.
+pub(crate) fn is_at_most(alloc: Global, limit: Option<Ratio>, v: &Ratio) -> Result<bool, AllocError>
+    ensures { IfOk result (λ b. (n : ℕ) → run.at_most n None limit v.now ≡ run.need n b) }
+{
+    match limit {
+        None => Ok(true),
+        Some(k) => {
+            let order = v.compare(alloc, &k)?;
+            Ok(!order.is_gt())
+        }
+    }
+}
+
+/// The limit is there, and `v` stands at it.
+pub fn stands_at(alloc: Global, limit: Option<Ratio>, v: &Ratio) -> Result<bool, AllocError>
+    ensures { IfOk result (λ b. b ≡ run.stands_at limit v.now) }
+{
+    match limit {
+        None => Ok(false),
+        Some(k) => {
+            let order = k.compare(alloc, v)?;
+            Ok(order.is_eq())
+        }
+    }
+}

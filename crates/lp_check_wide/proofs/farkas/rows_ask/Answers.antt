@@ -1,9 +1,0 @@
-use Rattle.spec_exact.proofs.Stops.{steps_stop}
-use Rattle.lp_check_wide.proofs.Gives.{missing}
-use Rattle.lp_check_wide.proofs.farkas.rows_ask.Goals as goal
-
-pub returns-in-None : goal.returns-in-None
-returns-in-None c =
-    rw (← c.rows-i-end.ensures.value)
-    (steps_stop _ _ _ _ _ _ c.loop-i-test.true c.loop-i.invariant
-    (missing 1 _ _ c.in_ok-next.ensures c.in-None.is))

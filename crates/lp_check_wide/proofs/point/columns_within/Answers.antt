@@ -1,9 +1,0 @@
-use Rattle.spec_check.proofs.Stops.{each_stops}
-use Rattle.lp_check_wide.proofs.Gives.{fails}
-use Rattle.lp_check_wide.proofs.point.columns_within.Goals as goal
-
-pub returns-then-not-branch : goal.returns-then-not-branch
-returns-then-not-branch c =
-    rw (← c.cols-j-end.ensures.value)
-    (each_stops _ _ _ _ c.loop-j-test.true c.loop-j.invariant
-    (fails 1 _ _ c.in_ok-column_within.ensures c.if-not-branch.true))

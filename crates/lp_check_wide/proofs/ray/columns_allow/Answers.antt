@@ -1,9 +1,0 @@
-use Rattle.spec_check.proofs.Stops.{each_stops}
-use Rattle.lp_check_wide.proofs.Gives.{fails}
-use Rattle.lp_check_wide.proofs.ray.columns_allow.Goals as goal
-
-pub returns-then-not-column_allows : goal.returns-then-not-column_allows
-returns-then-not-column_allows c =
-    rw (← c.cols-j-end.ensures.value)
-    (each_stops _ _ _ _ c.loop-j-test.true c.loop-j.invariant
-    (fails 3 _ _ c.column_allows.ensures c.if-not-column_allows.true))

@@ -1,5 +1,0 @@
-use Rattle.lp_check_wide.proofs.Gives.{better_above}
-use Rattle.lp_check_wide.proofs.ray.gets_better.Goals as goal
-
-pub returns-in-Max : goal.returns-in-Max
-returns-in-Max c = rw c.in-Max.is (better_above c.args.cost.now _ c.is_positive.ensures)
