@@ -5,8 +5,8 @@ ghost use Rattle.spec_certificate.specs.WideText as wide_reading;
 
 use crate::number::Number;
 use lp_base::Bytes;
+use lp_numtext::{WideFault, read_wide, wide_text};
 use lp_ratio::Ratio;
-use lp_wide_text::{WideFault, read_wide, wide_text};
 use std::alloc::{AllocError, Global};
 
 impl Number for Ratio {

@@ -5,3 +5,5 @@ pub mod SizeSteps
 pub mod BoundSteps
 pub mod ValueSteps
 pub mod WriteSteps
+pub mod WideSteps
+pub mod WideWriteSteps

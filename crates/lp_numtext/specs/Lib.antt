@@ -3,3 +3,5 @@ pub mod Near
 pub mod Seen
 pub mod Separates
 pub mod Within
+pub mod Reading
+pub mod Writing

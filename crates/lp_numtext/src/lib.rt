@@ -9,6 +9,7 @@
 //! | `shifted`, `without_zeros` | a decimal as a whole number and a power of ten | src/reading |
 //! | `number_text` | the text of a fraction | src/writing |
 //! | `write` | the same, after other text | src/writing |
+//! | `read_wide`, `WideFault`, `wide_text` | the same for fractions of any width | src/wide |
 //!
 //! The contracts cite the rule of the text in spec_mps: number_of (specs/NumberText), bound_of (specs/BoundText) and
 //! number_text (specs/NumberWritten). Its laws, such as that what is written is read again, are spec_mps's.
@@ -19,6 +20,7 @@ mod digits;
 mod parts;
 mod pieces;
 mod reading;
+mod wide;
 mod width;
 mod writing;
 
@@ -27,4 +29,5 @@ pub use digits::Digits;
 pub use parts::{Decimal, Exponent, Parts, Quotient};
 pub use reading::{read, shifted, signed, without_zeros};
 pub use spec_mps::{BoundValue, NumFault};
+pub use wide::{WideFault, read_wide, wide_text};
 pub use writing::{number_text, write};

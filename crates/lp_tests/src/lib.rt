@@ -10,6 +10,7 @@
 //! | `workers` | a script that two workers run beside each other | src/workers |
 //! | `links` | two links in memory that one worker serves, a listener without a link, and links that fail | src/links |
 //! | `tcp` | two links over loopback, each served by a worker of its own | src/tcp |
+//! | `wide_numbers` | texts of numbers past 127 bits | src/wide_numbers |
 #![tactic(auto)]
 
 #[cfg(test)]
@@ -22,6 +23,8 @@ mod links;
 mod shapes;
 #[cfg(test)]
 mod tcp;
+#[cfg(test)]
+mod wide_numbers;
 #[cfg(test)]
 mod workers;
 #[cfg(test)]

@@ -17,8 +17,8 @@ use lp_certificate::{RawOf, ReaderOf, SettleError, SettleFault, settle};
 use lp_check::wide::{Known, Verdict, check};
 use lp_line::{Refusal, Reply, Stage, Step};
 use lp_model::Model;
+use lp_numtext::wide_text;
 use lp_ratio::Ratio;
-use lp_wide_text::wide_text;
 use mps_read::Reader;
 use std::alloc::{AllocError, Global};
 

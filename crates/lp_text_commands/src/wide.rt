@@ -16,9 +16,9 @@ use lp_certificate::cert_text;
 use lp_check::wide::{Certificate, Known};
 use lp_line::print_lines;
 use lp_model::Model;
+use lp_numtext::wide_text;
 use lp_ratio::Ratio;
 use lp_solve::WideSolved;
-use lp_wide_text::wide_text;
 use std::alloc::{AllocError, Global};
 
 /// Writes what a wide solve of the model ends with.

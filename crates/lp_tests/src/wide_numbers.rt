@@ -1,0 +1,59 @@
+// Texts of numbers past 127 bits.
+use lp_base::are_same;
+use lp_numtext::{WideFault, read_wide, wide_text};
+use std::alloc::Global;
+
+// A text is read as a number that is written so.
+fn is_written(alloc: Global, text: &[u8], wanted: &[u8]) -> bool {
+    let Ok(v) = read_wide(alloc, text) else {
+        return false;
+    };
+    match wide_text(alloc, &v) {
+        Ok(written) => are_same(written.as_slice(), wanted),
+        Err(_) => false,
+    }
+}
+
+#[test]
+fn wide_numbers(rt: HostRuntime) {
+    let alloc = rt.alloc();
+    assert!(rt;
+        is_written(
+            alloc,
+            b"-3092265124392067986218766778593727636212645132006/10307550414640226620729222595312425454042150440020",
+            b"-0.3",
+        )
+    );
+    assert!(rt;
+        is_written(
+            alloc,
+            b"+7000000000000000000000000000000000000000000000000000000000000/21",
+            b"1000000000000000000000000000000000000000000000000000000000000/3",
+        )
+    );
+    assert!(rt;
+        is_written(
+            alloc,
+            b"12.5e40",
+            b"125000000000000000000000000000000000000000"
+        )
+    );
+    assert!(rt;
+        is_written(
+            alloc,
+            b"-15D-41",
+            b"-3/20000000000000000000000000000000000000000"
+        )
+    );
+    assert!(rt; is_written(alloc, b"0e99999", b"0"));
+}
+
+#[test]
+fn no_numbers(rt: HostRuntime) {
+    let alloc = rt.alloc();
+    assert!(rt; matches!(read_wide(alloc, b"1e16384"), Ok(_)));
+    assert!(rt; matches!(read_wide(alloc, b"10e16384"), Err(WideFault::Far)));
+    assert!(rt; matches!(read_wide(alloc, b"1e-16385"), Err(WideFault::Far)));
+    assert!(rt; matches!(read_wide(alloc, b"1/0"), Err(WideFault::Shape)));
+    assert!(rt; matches!(read_wide(alloc, b"1x"), Err(WideFault::Shape)));
+}

@@ -1,2 +1,0 @@
-pub mod WideSteps
-pub mod WriteSteps
