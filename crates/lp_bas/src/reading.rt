@@ -4,7 +4,7 @@ ghost use Rattle.spec_mps.specs.Fields.{texts_of};
 ghost use Rattle.spec_bas.specs.Cards as cards;
 
 use lp_base::{Line, Name, are_same, by_word};
-use mps_card::{CardFault, Field, Fields, free};
+use lp_mps::card::{CardFault, Field, Fields, free};
 use spec_bas::BasCode;
 use std::alloc::{AllocError, Global};
 
@@ -87,9 +87,9 @@ fn text_reading(alloc: Global, bytes: &[u8]) -> Result<Reading, AllocError>
     ensures { IfOk result (λ reading. reading ≡ cards.text_reading bytes.now) }
 {
     match free(alloc, bytes) {
-        Ok(mps_card::Card::Skip) => Ok(Reading::Skipped),
-        Ok(mps_card::Card::Section(words)) => Ok(section_reading(words.as_slice())),
-        Ok(mps_card::Card::Given(words)) => data_reading(alloc, &words),
+        Ok(lp_mps::card::Card::Skip) => Ok(Reading::Skipped),
+        Ok(lp_mps::card::Card::Section(words)) => Ok(section_reading(words.as_slice())),
+        Ok(lp_mps::card::Card::Given(words)) => data_reading(alloc, &words),
         Err(CardFault::NoMemory) => Err(AllocError),
         Err(CardFault::Misplaced(_)) => unreachable!(),
     }

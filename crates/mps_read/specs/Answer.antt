@@ -1,8 +1,8 @@
 -- What steps answer. Want of memory says nothing.
 use Rattle.std.specs.Prelude.{◌≡◌, Result, Ok, Err}
 use Rattle.std.specs.Bool.{⊤}
-use Rattle.mps_card.specs.declared.fault.CardFault.{CardFault}
-use Rattle.mps_card.specs.declared.fault.CardFault.TheVariants as card_fault
+use Rattle.lp_mps.specs.declared.card.fault.CardFault.{CardFault}
+use Rattle.lp_mps.specs.declared.card.fault.CardFault.TheVariants as card_fault
 use Rattle.spec_mps.specs.declared.fault.Code.TheVariants as code
 use Rattle.spec_mps.specs.Checks.{Check}
 use Rattle.spec_mps.specs.Reader.{State}

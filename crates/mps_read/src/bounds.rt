@@ -16,7 +16,7 @@ use crate::fault::Fault;
 use crate::sets::is_used;
 use crate::shapes::has_bound_shape;
 use crate::words::bound_kind_of;
-use mps_card::{Field, Fields};
+use lp_mps::card::{Field, Fields};
 use spec_mps::{BoundKind, Code, Style};
 use std::alloc::Global;
 

@@ -1,5 +1,5 @@
 // The cards of lines, by the section that they stand in.
-ghost use Rattle.mps_card.specs.Answer as card;
+ghost use Rattle.lp_mps.specs.CardAnswer as card;
 ghost use Rattle.spec_mps.specs.Steps as steps;
 ghost use Rattle.mps_read.specs.Answer.{GivesState, Goes};
 ghost use Rattle.mps_read.specs.Draft.{state_of};
@@ -8,7 +8,7 @@ use crate::draft::Draft;
 use crate::fault::{Fault, Went};
 use crate::numbers::Numbers;
 use lp_base::Line;
-use mps_card::{Card, CardFault, Fields, fixed, free};
+use lp_mps::card::{Card, CardFault, Fields, fixed, free};
 use spec_mps::{Code, Section, Style};
 use std::alloc::Global;
 

@@ -13,7 +13,7 @@ use crate::numbers::Numbers;
 use crate::shapes::has_shape;
 use lp_base::are_same;
 use lp_model::is_name;
-use mps_card::{Field, Fields};
+use lp_mps::card::{Field, Fields};
 use spec_mps::{Code, Section, Style};
 use std::alloc::{AllocError, Global};
 

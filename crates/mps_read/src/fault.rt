@@ -4,7 +4,7 @@ ghost use Rattle.spec_mps.specs.Checks.{fault_code};
 ghost use Rattle.mps_read.specs.declared.fault.Fault.TheVariants as fault;
 ghost use Rattle.mps_read.specs.Answer.{fault_of};
 
-use mps_card::CardFault;
+use lp_mps::card::CardFault;
 use spec_mps::Code;
 use std::alloc::AllocError;
 

@@ -10,7 +10,7 @@ ghost use Rattle.mps_read.specs.Numbers as numbers;
 use crate::draft::{Draft, number_in};
 use crate::fault::Fault;
 use lp_frac::{Frac, neg};
-use mps_card::Field;
+use lp_mps::card::Field;
 use spec_mps::{Code, Section, Target};
 use std::alloc::AllocError;
 

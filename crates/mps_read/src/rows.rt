@@ -11,7 +11,7 @@ use crate::row_list::make_row;
 use crate::shapes::has_shape;
 use crate::words::row_type_of;
 use lp_model::{Kind, is_free, is_row_name};
-use mps_card::Fields;
+use lp_mps::card::Fields;
 use spec_mps::{Code, Section, Style};
 use std::alloc::Global;
 

@@ -9,7 +9,7 @@ use crate::draft::{Draft, set_name};
 use crate::fault::{Fault, Went};
 use crate::words::section_of;
 use lp_model::is_model_name;
-use mps_card::Fields;
+use lp_mps::card::Fields;
 use spec_mps::{Code, Section, Seen};
 use std::alloc::{AllocError, Global};
 

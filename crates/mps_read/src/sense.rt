@@ -7,7 +7,7 @@ use crate::draft::Draft;
 use crate::fault::Fault;
 use crate::shapes::has_shape;
 use crate::words::sense_of;
-use mps_card::Fields;
+use lp_mps::card::Fields;
 use spec_mps::{Code, Section, Style};
 
 impl Draft {

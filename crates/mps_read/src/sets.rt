@@ -8,7 +8,7 @@ ghost use Rattle.mps_read.specs.Sets.{card_seen};
 
 use crate::draft::Draft;
 use lp_base::{Name, are_same};
-use mps_card::Field;
+use lp_mps::card::Field;
 use std::alloc::{AllocError, Global};
 
 /// A set or none, and pairs of a row's name and a number.

@@ -5,7 +5,7 @@ ghost use Rattle.spec_mps.specs.declared.section.Section.TheVariants as part;
 ghost use Rattle.spec_mps.specs.Fields.{numbers_of};
 ghost use Rattle.spec_mps.specs.Shapes as shapes;
 
-use mps_card::Field;
+use lp_mps::card::Field;
 use spec_mps::{BoundKind, Section, Style};
 
 /// Whether the fields have these numbers.

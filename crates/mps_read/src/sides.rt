@@ -8,7 +8,7 @@ use crate::fault::Fault;
 use crate::numbers::Numbers;
 use crate::sets::{SetAndPairs, is_used};
 use crate::shapes::has_shape;
-use mps_card::Fields;
+use lp_mps::card::Fields;
 use spec_mps::{Code, Style};
 use std::alloc::Global;
 

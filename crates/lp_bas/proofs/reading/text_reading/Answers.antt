@@ -1,7 +1,7 @@
 use Rattle.std.specs.Prelude.{IfOk}
 use Rattle.std.proofs.Common.{◌≡◌, Err, sym, subst, ap, ◌∙◌}
 use Rattle.spec_mps.specs.Fields.{Is, free_fields, texts_of}
-use Rattle.mps_card.specs.Answer.{GivesCard}
+use Rattle.lp_mps.specs.CardAnswer.{GivesCard}
 use Rattle.spec_bas.specs.Cards.{section_reading}
 use Rattle.lp_bas.proofs.Readings.{skip_reading, section_is, given_is, none_misplaced}
 use Rattle.lp_bas.proofs.reading.text_reading.Goals as goal

@@ -1,0 +1,4 @@
+pub mod Ends
+pub mod Numbered
+pub mod AddSteps
+pub mod FieldSteps

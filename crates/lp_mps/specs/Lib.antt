@@ -1,0 +1,3 @@
+pub mod CardAnswer
+pub mod Adds
+pub mod RowNumbers

@@ -1,0 +1,115 @@
+// Fields by columns.
+ghost use Rattle.std.specs.Prelude.{◌≡◌, ◌+◌, ◌<◌, ◌≤◌, IfOk, OnOk, [], take, drop};
+ghost use Rattle.spec_mps.specs.Fields as field;
+
+use crate::card::Fields;
+use std::alloc::{AllocError, Global};
+
+/// The column after the last field, from which on nothing is read.
+const LAST_COLUMN: u32 = 62;
+
+fn is_beside(column: u32) -> bool
+    ensures { result ≡ field.is_beside column }
+{
+    matches!(
+        column,
+        1 | 4 | 13 | 14 | 23 | 24 | 37 | 38 | 39 | 48 | 49 | 62
+    )
+}
+
+fn is_misplaced(column: u32, byte: u8) -> bool
+    ensures { result ≡ field.is_misplaced column byte }
+{
+    column <= LAST_COLUMN && (byte == b'\t' || (is_beside(column) && byte != b' '))
+}
+
+/// The first column where such a byte may not stand.
+pub(crate) fn misplaced(line: &[u8]) -> Option<u32>
+    ensures { result ≡ field.misplaced_from 1 line.now }
+{
+    let mut column = 1;
+    for byte in line {
+        if column > LAST_COLUMN {
+            return None;
+        }
+        if is_misplaced(column, *byte) {
+            return Some(column);
+        }
+        column += 1;
+    }
+    None
+}
+
+fn without_front(text: &[u8]) -> &[u8]
+    ensures { result.now ≡ field.without_front text.now }
+{
+    for (at, byte) in text.iter().enumerate() {
+        if *byte != b' ' {
+            return &text[at..];
+        }
+    }
+    &[]
+}
+
+fn without_end(text: &[u8]) -> &[u8]
+    ensures { result.now ≡ field.without_end text.now }
+{
+    for len in (1..=text.len()).rev() {
+        if text[len - 1] != b' ' {
+            return &text[..len];
+        }
+    }
+    &[]
+}
+
+fn first_bytes(line: &[u8], count: usize) -> &[u8]
+    ensures { result.now ≡ take count line.now }
+{
+    if count < line.len() {
+        &line[..count]
+    } else {
+        line
+    }
+}
+
+fn behind(line: &[u8], count: usize) -> &[u8]
+    ensures { result.now ≡ drop count line.now }
+{
+    if count < line.len() {
+        &line[count..]
+    } else {
+        &[]
+    }
+}
+
+/// What stands in some columns, from the first to the last.
+#[tactic(auto, unfolding(spec_mps::specs::Fields::in_columns))]
+fn in_columns(line: &[u8], first: usize, last: usize) -> &[u8]
+    requires { 0 < first }
+    ensures { result.now ≡ field.in_columns first last line.now }
+{
+    without_end(without_front(behind(first_bytes(line, last), first - 1)))
+}
+
+// Adds the fields of a card to fields of which there are none.
+#[tactic(auto, unfolding(spec_mps::specs::Fields::column_fields))]
+fn push_columns(alloc: Global, line: &[u8], fields: &mut Fields) -> Result<(), AllocError>
+    requires { fields.old ≡ [] }
+    ensures { OnOk result (fields.new ≡ field.column_fields line.now) }
+{
+    fields.push(alloc, 1, in_columns(line, 2, 3))?;
+    fields.push(alloc, 2, in_columns(line, 5, 12))?;
+    fields.push(alloc, 3, in_columns(line, 15, 22))?;
+    fields.push(alloc, 4, in_columns(line, 25, 36))?;
+    fields.push(alloc, 5, in_columns(line, 40, 47))?;
+    fields.push(alloc, 6, in_columns(line, 50, 61))
+}
+
+/// The fields of a card, none of whose bytes is misplaced.
+pub(crate) fn column_fields(alloc: Global, line: &[u8]) -> Result<Fields, AllocError>
+    ensures { IfOk result (λ fields. fields ≡ field.column_fields line.now) }
+{
+    let mut fields = Fields::new(alloc);
+    push_columns(alloc, line, &mut fields)?;
+    Ok(fields)
+}

@@ -1,0 +1,119 @@
+// The lines of cards.
+ghost use Rattle.std.specs.Prelude.{◌≡◌, ◌++◌, ◌-◌, [], ◌∷◌, OnOk, length, replicate};
+ghost use Rattle.spec_mps.specs.Written as written;
+ghost use Rattle.lp_mps.specs.Adds.{Adds, IsAdded, PutsFields, fields_of, is_wide_in};
+
+use crate::write::fault::WriteFault;
+use lp_base::Bytes;
+use spec_mps::Style;
+use std::alloc::{AllocError, Global};
+
+/// The column of fixed form in which a field begins.
+fn first_column(number: u32) -> usize
+    ensures { result ≡ written.first_column number }
+{
+    match number {
+        1 => 2,
+        2 => 5,
+        3 => 15,
+        4 => 25,
+        5 => 40,
+        _ => 50,
+    }
+}
+
+/// The most bytes of a field of fixed form.
+fn field_width(number: u32) -> usize
+    ensures { result ≡ written.field_width number }
+{
+    match number {
+        1 => 2,
+        4 | 6 => 12,
+        _ => 8,
+    }
+}
+
+/// Blanks after a line until it has this many bytes.
+fn pad(width: usize, line: &mut Bytes) -> Result<(), AllocError>
+    ensures { OnOk result (line.new ≡ line.old ++ replicate (width - length line.old) 32) }
+{
+    for done in 0..width.saturating_sub(line.len()) {
+        line.push(b' ')?;
+    }
+    Ok(())
+}
+
+// A line after a text.
+fn add_line(line: &[u8], to: &mut Bytes) -> Result<(), AllocError>
+    ensures { OnOk result (to.new ≡ to.old ++ (line.now ++ 10 ∷ [])) }
+{
+    to.extend(line)?;
+    to.push(b'\n')
+}
+
+/// What cards are written in, and where their memory comes from.
+#[derive(Drop)]
+pub(crate) struct Writer {
+    pub alloc: Global,
+    pub style: Style,
+}
+
+impl Writer {
+    // A field after a line, whatever its width.
+    fn place(&self, number: u32, text: &[u8], line: &mut Bytes) -> Result<(), AllocError>
+        ensures { OnOk result (line.new ≡ written.padded self.now.style number line.old ++ text.now) }
+    {
+        match self.style {
+            Style::Free => line.push(b' ')?,
+            Style::Fixed => pad(first_column(number) - 1, line)?,
+        }
+        line.extend(text)
+    }
+
+    fn is_wide(&self, number: u32, text: &[u8]) -> bool
+        ensures { result ≡ is_wide_in self.now.style (written.field_at number text.now) }
+    {
+        self.style == Style::Fixed && text.len() > field_width(number)
+    }
+
+    // Fields after a line, each with its number in fixed form.
+    fn fields(&self, fields: &[(u32, &[u8])], line: &mut Bytes) -> Result<(), WriteFault>
+        ensures { PutsFields self.now.style (fields_of fields.now) line.old line.new result }
+    {
+        for (number, text) in fields {
+            if self.is_wide(*number, text) {
+                return Err(WriteFault::TooWide(Bytes::from_slice(self.alloc, text)?));
+            }
+            self.place(*number, text, line)?;
+        }
+        Ok(())
+    }
+
+    /// A data card of these fields, each with its number in fixed form.
+    pub fn data(&self, fields: &[(u32, &[u8])], to: &mut Bytes) -> Result<(), WriteFault>
+        ensures { Adds self.now.style (written.Data (fields_of fields.now) ∷ []) to.old to.new result }
+    {
+        let mut line = Bytes::new(self.alloc);
+        self.fields(fields, &mut line)?;
+        add_line(line.as_slice(), to)?;
+        Ok(())
+    }
+
+    /// A section card of one word.
+    pub fn section(&self, word: &[u8], to: &mut Bytes) -> Result<(), AllocError>
+        ensures { OnOk result (IsAdded self.now.style (written.section_card word.now ∷ []) to.old to.new) }
+    {
+        add_line(word, to)
+    }
+
+    /// The card of a model's name.
+    pub fn name(&self, name: &[u8], to: &mut Bytes) -> Result<(), AllocError>
+        ensures { OnOk result (IsAdded self.now.style (written.name_card name.now ∷ []) to.old to.new) }
+    {
+        let mut line = Bytes::from_slice(self.alloc, b"NAME")?;
+        if !name.is_empty() {
+            self.place(3, name, &mut line)?;
+        }
+        add_line(line.as_slice(), to)
+    }
+}

@@ -1,0 +1,321 @@
+// The sections of a text.
+ghost use Rattle.std.specs.Prelude.{◌≡◌, ◌<◌, [], ◌∷◌, All, IfOk, map};
+ghost use Rattle.std.specs.List.{flat_map, list_any};
+ghost use Rattle.spec_model.specs.Model.{row, column, width, height};
+ghost use Rattle.spec_mps.specs.NumberWritten as number_written;
+ghost use Rattle.spec_mps.specs.Written as written;
+ghost use Rattle.lp_mps.specs.Adds.{Adds};
+ghost use Rattle.lp_mps.specs.RowNumbers.{number_cards};
+
+use crate::write::fault::WriteFault;
+use crate::write::line::Writer;
+use crate::write::signs::{is_up_from_zero, is_zero};
+use lp_base::Bytes;
+use lp_frac::{Frac, are_same, neg};
+use lp_model::{Kind, Model, Row};
+use lp_numtext::number_text;
+use std::alloc::{AllocError, Global};
+
+/// A number that a row has besides its entries.
+#[derive(Clone, Copy)]
+pub(crate) enum RowNumber {
+    Side,
+    Range,
+}
+
+/// The word of a kind of rows.
+fn kind_word(kind: Kind) -> &'static [u8]
+    ensures { result.now ≡ written.kind_word kind }
+{
+    match kind {
+        Kind::L => b"L",
+        Kind::G => b"G",
+        Kind::E => b"E",
+        Kind::N => b"N",
+    }
+}
+
+impl Writer {
+    fn type_card(&self, word: &[u8], name: &[u8], to: &mut Bytes) -> Result<(), WriteFault>
+        ensures { Adds self.now.style (written.type_card word.now name.now ∷ []) to.old to.new result }
+    {
+        self.data(&[(1, word), (2, name)], to)
+    }
+
+    fn number_card(
+        &self,
+        group: &[u8],
+        name: &[u8],
+        value: &Frac,
+        to: &mut Bytes,
+    ) -> Result<(), WriteFault>
+        ensures { Adds self.now.style (written.number_card group.now name.now value.now ∷ []) to.old to.new result }
+    {
+        let text = number_text(self.alloc, *value)?;
+        self.data(&[(2, group), (3, name), (4, text.as_slice())], to)
+    }
+
+    fn unbound_card<'a>(
+        &self,
+        kind: &'a [u8],
+        name: &'a [u8],
+        to: &mut Bytes,
+    ) -> Result<(), WriteFault>
+        ensures { Adds self.now.style (written.unbound_card kind.now name.now ∷ []) to.old to.new result }
+    {
+        self.data(&[(1, kind), (2, b"BND"), (3, name)], to)
+    }
+
+    fn bound_card(
+        &self,
+        kind: &[u8],
+        name: &[u8],
+        value: &Frac,
+        to: &mut Bytes,
+    ) -> Result<(), WriteFault>
+        ensures { Adds self.now.style (written.bound_card kind.now name.now value.now ∷ []) to.old to.new result }
+    {
+        let text = number_text(self.alloc, *value)?;
+        self.data(
+            &[(1, kind), (2, b"BND"), (3, name), (4, text.as_slice())],
+            to,
+        )
+    }
+
+    /// `ROWS`: the objective and the rows.
+    pub fn rows(&self, model: &Model, to: &mut Bytes) -> Result<(), WriteFault>
+        ensures { Adds self.now.style (written.rows_cards model.now) to.old to.new result }
+    {
+        self.section(b"ROWS", to)?;
+        self.type_card(b"N", model.objective().as_slice(), to)?;
+        self.row_cards(model, to)
+    }
+
+    fn row_cards(&self, model: &Model, to: &mut Bytes) -> Result<(), WriteFault>
+        ensures { Adds self.now.style (map written.row_card model.now.rows) to.old to.new result }
+    {
+        for i in 0..model.rows() {
+            self.row_card(model.row(i), to)?;
+        }
+        Ok(())
+    }
+
+    fn row_card(&self, row: &Row, to: &mut Bytes) -> Result<(), WriteFault>
+        ensures { Adds self.now.style (written.row_card row.now ∷ []) to.old to.new result }
+    {
+        self.type_card(kind_word(row.kind), row.name.as_slice(), to)
+    }
+
+    /// `COLUMNS`: each column's cost and its entries.
+    pub fn columns(&self, model: &Model, to: &mut Bytes) -> Result<(), WriteFault>
+        ensures { Adds self.now.style (written.columns_cards model.now) to.old to.new result }
+    {
+        self.section(b"COLUMNS", to)?;
+        self.column_cards(model, to)
+    }
+
+    fn column_cards(&self, model: &Model, to: &mut Bytes) -> Result<(), WriteFault>
+        ensures { Adds self.now.style
+            (flat_map (written.column_cards model.now) model.now.columns) to.old to.new result }
+    {
+        for j in 0..model.cols() {
+            self.column(model, j, to)?;
+        }
+        Ok(())
+    }
+
+    fn column(&self, model: &Model, j: u32, to: &mut Bytes) -> Result<(), WriteFault>
+        requires { j < width model.now }
+        ensures { Adds self.now.style (written.column_cards model.now (column model.now j)) to.old to.new result }
+    {
+        let column = model.col(j);
+        let name = column.name.as_slice();
+        self.number_card(name, model.objective().as_slice(), &column.cost, to)?;
+        self.entries(model, name, model.entries(j), to)
+    }
+
+    fn entries(
+        &self,
+        model: &Model,
+        name: &[u8],
+        entries: &[(u32, Frac)],
+        to: &mut Bytes,
+    ) -> Result<(), WriteFault>
+        requires { All (λ e. e.0 < height model.now) entries.now }
+        ensures { Adds self.now.style
+            (map (λ e. written.number_card name.now (row model.now e.0).name e.1) entries.now) to.old to.new result }
+    {
+        for (i, value) in entries {
+            self.number_card(name, model.row(*i).name.as_slice(), value, to)?;
+        }
+        Ok(())
+    }
+
+    /// `RHS`: the right sides that are not 0.
+    pub fn sides(&self, model: &Model, to: &mut Bytes) -> Result<(), WriteFault>
+        ensures { Adds self.now.style (written.sides_cards model.now) to.old to.new result }
+    {
+        self.section(b"RHS", to)?;
+        self.side(model.objective().as_slice(), &neg(model.offset()), to)?;
+        self.row_numbers(RowNumber::Side, model, to)
+    }
+
+    // The numbers of all rows.
+    fn row_numbers(&self, which: RowNumber, model: &Model, to: &mut Bytes) -> Result<(), WriteFault>
+        ensures { Adds self.now.style (flat_map (λ r. number_cards which r) model.now.rows) to.old to.new result }
+    {
+        for i in 0..model.rows() {
+            self.row_number(which, model.row(i), to)?;
+        }
+        Ok(())
+    }
+
+    fn row_number(&self, which: RowNumber, row: &Row, to: &mut Bytes) -> Result<(), WriteFault>
+        ensures { Adds self.now.style (number_cards which row.now) to.old to.new result }
+    {
+        match which {
+            RowNumber::Side => self.side(row.name.as_slice(), &row.rhs, to),
+            RowNumber::Range => self.range(row.name.as_slice(), row.range, to),
+        }
+    }
+
+    fn side(&self, name: &[u8], value: &Frac, to: &mut Bytes) -> Result<(), WriteFault>
+        ensures { Adds self.now.style (written.side_cards name.now value.now) to.old to.new result }
+    {
+        if is_zero(*value) {
+            return Ok(());
+        }
+        self.number_card(b"RHS", name, value, to)
+    }
+
+    /// `RANGES`, where a row has one.
+    pub fn ranges(&self, model: &Model, to: &mut Bytes) -> Result<(), WriteFault>
+        ensures { Adds self.now.style (written.ranges_cards model.now) to.old to.new result }
+    {
+        if !has_ranges(model) {
+            return Ok(());
+        }
+        self.section(b"RANGES", to)?;
+        self.row_numbers(RowNumber::Range, model, to)
+    }
+
+    fn range(&self, name: &[u8], range: Option<Frac>, to: &mut Bytes) -> Result<(), WriteFault>
+        ensures { Adds self.now.style (written.range_cards name.now range) to.old to.new result }
+    {
+        match range {
+            None => Ok(()),
+            Some(value) => self.number_card(b"RNG", name, &value, to),
+        }
+    }
+
+    /// `BOUNDS`, where a column has others than 0 and none.
+    pub fn bounds(&self, model: &Model, to: &mut Bytes) -> Result<(), WriteFault>
+        ensures { Adds self.now.style (written.bounds_cards model.now) to.old to.new result }
+    {
+        if !has_bounds(model) {
+            return Ok(());
+        }
+        self.section(b"BOUNDS", to)?;
+        self.column_bounds(model, to)
+    }
+
+    fn column_bounds(&self, model: &Model, to: &mut Bytes) -> Result<(), WriteFault>
+        ensures { Adds self.now.style
+            (flat_map (λ c. written.bound_cards c.name c.lower c.upper) model.now.columns) to.old to.new result }
+    {
+        for j in 0..model.cols() {
+            let column = model.col(j);
+            self.bound_cards(column.name.as_slice(), column.lower, column.upper, to)?;
+        }
+        Ok(())
+    }
+
+    fn bound_cards(
+        &self,
+        name: &[u8],
+        lower: Option<Frac>,
+        upper: Option<Frac>,
+        to: &mut Bytes,
+    ) -> Result<(), WriteFault>
+        ensures { Adds self.now.style (written.bound_cards name.now lower upper) to.old to.new result }
+    {
+        match lower {
+            None => self.upper_cards(name, upper, to),
+            Some(l) => match upper {
+                None if is_zero(l) => Ok(()),
+                None => self.bound_card(b"LO", name, &l, to),
+                Some(u) => self.both_cards(name, l, u, to),
+            },
+        }
+    }
+
+    // No lower bound, and an upper one, if there is one.
+    fn upper_cards(
+        &self,
+        name: &[u8],
+        upper: Option<Frac>,
+        to: &mut Bytes,
+    ) -> Result<(), WriteFault>
+        ensures { Adds self.now.style (written.bound_cards name.now None upper) to.old to.new result }
+    {
+        match upper {
+            None => self.unbound_card(b"FR", name, to),
+            Some(u) => {
+                self.unbound_card(b"MI", name, to)?;
+                self.bound_card(b"UP", name, &u, to)
+            }
+        }
+    }
+
+    fn both_cards(
+        &self,
+        name: &[u8],
+        lower: Frac,
+        upper: Frac,
+        to: &mut Bytes,
+    ) -> Result<(), WriteFault>
+        ensures { Adds self.now.style (written.bound_cards name.now (Some lower) (Some upper)) to.old to.new result }
+    {
+        if are_same(lower, upper) {
+            return self.bound_card(b"FX", name, &lower, to);
+        }
+        if is_up_from_zero(lower, upper) {
+            return self.bound_card(b"UP", name, &upper, to);
+        }
+        self.bound_card(b"LO", name, &lower, to)?;
+        self.bound_card(b"UP", name, &upper, to)
+    }
+}
+
+fn has_ranges(model: &Model) -> bool
+    ensures { result ≡ list_any written.has_range model.now.rows }
+{
+    for i in 0..model.rows() {
+        if model.row(i).range.is_some() {
+            return true;
+        }
+    }
+    false
+}
+
+fn has_bounds(model: &Model) -> bool
+    ensures { result ≡ list_any written.has_bounds model.now.columns }
+{
+    for j in 0..model.cols() {
+        let column = model.col(j);
+        if !is_usual(column.lower, column.upper) {
+            return true;
+        }
+    }
+    false
+}
+
+/// A lower bound 0 and no upper one.
+fn is_usual(lower: Option<Frac>, upper: Option<Frac>) -> bool
+    ensures { result ≡ written.is_usual lower upper }
+{
+    match (lower, upper) {
+        (Some(l), None) => is_zero(l),
+        _ => false,
+    }
+}

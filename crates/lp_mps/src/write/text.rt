@@ -1,0 +1,83 @@
+// Whole texts.
+ghost use Rattle.std.specs.Prelude.{◌≡◌, ◌∷◌, IfOk};
+ghost use Rattle.spec_mps.specs.Written as written;
+ghost use Rattle.lp_mps.specs.Adds.{Adds, GivesText, IsFixed, front_cards, back_cards};
+
+use crate::write::fault::WriteFault;
+use crate::write::line::Writer;
+use lp_base::Bytes;
+use lp_model::{Model, Sense};
+use spec_mps::Style;
+use std::alloc::{AllocError, Global};
+
+impl Writer {
+    fn sense(&self, sense: Sense, to: &mut Bytes) -> Result<(), WriteFault>
+        ensures { Adds self.now.style (written.sense_cards sense) to.old to.new result }
+    {
+        if sense == Sense::Max {
+            self.section(b"OBJSENSE MAX", to)?;
+        }
+        Ok(())
+    }
+
+    // What stands before `ROWS`.
+    fn start(&self, model: &Model, to: &mut Bytes) -> Result<(), WriteFault>
+        ensures { Adds self.now.style
+            (written.name_card model.now.name ∷ written.sense_cards model.now.sense) to.old to.new result }
+    {
+        self.name(model.name().as_slice(), to)?;
+        self.sense(model.sense(), to)
+    }
+
+    fn front(&self, model: &Model, to: &mut Bytes) -> Result<(), WriteFault>
+        ensures { Adds self.now.style (front_cards model.now) to.old to.new result }
+    {
+        self.start(model, to)?;
+        self.rows(model, to)?;
+        self.columns(model, to)
+    }
+
+    // What follows `COLUMNS`.
+    fn back(&self, model: &Model, to: &mut Bytes) -> Result<(), WriteFault>
+        ensures { Adds self.now.style (back_cards model.now) to.old to.new result }
+    {
+        self.sides(model, to)?;
+        self.ranges(model, to)?;
+        self.bounds(model, to)?;
+        self.section(b"ENDATA", to)?;
+        Ok(())
+    }
+
+    fn cards(&self, model: &Model, to: &mut Bytes) -> Result<(), WriteFault>
+        ensures { Adds self.now.style (written.cards_of model.now) to.old to.new result }
+    {
+        self.front(model, to)?;
+        self.back(model, to)
+    }
+}
+
+fn text_of(alloc: Global, style: Style, model: &Model) -> Result<Bytes, WriteFault>
+    ensures { GivesText style (written.cards_of model.now) result }
+{
+    let mut text = Bytes::new(alloc);
+    Writer { alloc, style }.cards(model, &mut text)?;
+    Ok(text)
+}
+
+/// The text of a model in free form.
+pub fn free(alloc: Global, model: &Model) -> Result<Bytes, AllocError>
+    ensures { IfOk result (λ text. text ≡ written.free model.now) }
+{
+    match text_of(alloc, Style::Free, model) {
+        Ok(text) => Ok(text),
+        Err(WriteFault::NoMemory) => Err(AllocError),
+        Err(WriteFault::TooWide(_)) => unreachable!(),
+    }
+}
+
+/// The text of a model in fixed form, where each name and each number has room in its field.
+pub fn fixed(alloc: Global, model: &Model) -> Result<Bytes, WriteFault>
+    ensures { IsFixed model.now result }
+{
+    text_of(alloc, Style::Fixed, model)
+}

@@ -1,2 +1,0 @@
-pub mod AddSteps
-pub mod FieldSteps
