@@ -21,7 +21,7 @@ use Rattle.spec_server.specs.TextSaid.{TextSaid, behind_line, text_step}
 use Rattle.spec_server.specs.Script.{Pending, Between, Text, Certificate, ends_text, ends_certificate, ask_of_verdict}
 use Rattle.spec_server.specs.Script.{ask_of_judgement}
 use Rattle.spec_server.specs.Script.{begun_by, asks_by, pending_after_line, asks_of_line}
-use Rattle.mps_read.specs.TextRead.{TextRead}
+use Rattle.lp_mps.specs.TextRead.{TextRead}
 use Rattle.lp_line.specs.declared.body.Body.{Body}
 use Rattle.lp_line.specs.declared.hearing.Step as code
 use Rattle.lp_line.specs.declared.hearing.Step.TheVariants as step

@@ -12,8 +12,8 @@ use Rattle.spec_certificate.specs.Text.{step_by}
 use Rattle.spec_certificate.specs.NarrowText as certificate
 use Rattle.spec_server.specs.Said.{follow, said_by}
 use Rattle.spec_server.specs.TextSaid.{behind_line, text_step}
-use Rattle.mps_read.specs.Feeds as feeds
-use Rattle.mps_read.specs.TextRead.{TextRead}
+use Rattle.lp_mps.specs.Feeds as feeds
+use Rattle.lp_mps.specs.TextRead.{TextRead}
 use Rattle.lp_certificate.specs.Feeds as certificate_feeds
 use Rattle.lp_line.specs.declared.hearing.Step.TheVariants.{On, Says}
 use Rattle.lp_line.specs.Hearing.{Leads}

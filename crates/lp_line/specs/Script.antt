@@ -14,7 +14,7 @@ use Rattle.spec_server.specs.Said.{Step, On, Says, said_by}
 use Rattle.spec_server.specs.TextSaid.{TextSaid, text_step}
 use Rattle.spec_server.specs.Script.{Pending, Between, Text, Certificate, Ending, Ended, Cut, Over, ending_by, begun}
 use Rattle.spec_server.specs.Script.{asks_of_command, pending_after_line, asks_of_line}
-use Rattle.mps_read.specs.TextRead as text_reading
+use Rattle.lp_mps.specs.TextRead as text_reading
 use Rattle.lp_line.specs.declared.body.Body.{Body}
 use Rattle.lp_line.specs.declared.hearing.Step as code
 use Rattle.lp_line.specs.declared.hearing.Step.TheVariants as step

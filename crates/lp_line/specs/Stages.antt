@@ -6,7 +6,7 @@ use Rattle.spec_certificate.specs.declared.progress.Progress.TheVariants as prog
 use Rattle.spec_certificate.specs.NarrowText as certificate
 use Rattle.spec_server.specs.Said.{Step, On, Says, said_by}
 use Rattle.spec_server.specs.TextSaid.{TextSaid, text_step}
-use Rattle.mps_read.specs.TextRead as text
+use Rattle.lp_mps.specs.TextRead as text
 use Rattle.lp_certificate.specs.CertificateRead.{CertificateRead}
 
 -- after a reader of a text

@@ -20,7 +20,7 @@ use crate::stages::{CertificateSaid, TextSaid};
 use crate::taking::Taken;
 use lp_base::Line;
 use lp_certificate::CertReader;
-use mps_read::Reader;
+use lp_mps::read::Reader;
 use spec_server::Addressing;
 use std::alloc::{AllocError, Global};
 

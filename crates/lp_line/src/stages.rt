@@ -5,7 +5,7 @@ use crate::hearing::{Stage, Step};
 use lp_base::{Feed, Line};
 use lp_certificate::{CertReader, RawCertificate};
 use lp_model::Model;
-use mps_read::Reader;
+use lp_mps::read::Reader;
 use spec_mps::MpsFault;
 use std::alloc::{AllocError, Global};
 

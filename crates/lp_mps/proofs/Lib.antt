@@ -2,3 +2,14 @@ pub mod Ends
 pub mod Numbered
 pub mod AddSteps
 pub mod FieldSteps
+pub mod Adding
+pub mod ColumnPlaces
+pub mod EntryOrder
+pub mod Feeding
+pub mod Lists
+pub mod MarkLists
+pub mod NewNames
+pub mod Opening
+pub mod Runs
+pub mod SameNumbers
+pub mod TextLists

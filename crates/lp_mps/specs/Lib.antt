@@ -1,3 +1,16 @@
 pub mod CardAnswer
 pub mod Adds
 pub mod RowNumbers
+pub mod Advances
+pub mod Answer
+pub mod BoundSeen
+pub mod Draft
+pub mod Feeds
+pub mod Finished
+pub mod Leads
+pub mod Marks
+pub mod Named
+pub mod Numbers
+pub mod Parts
+pub mod TextRead
+pub mod Sets

@@ -19,7 +19,7 @@ use Rattle.spec_commands.specs.CheckWideOut.{wide_said, WideCheckOut}
 use Rattle.spec_server.specs.TextSaid.{TextSaid, text_said}
 use Rattle.spec_commands.specs.SolveOut.{SolveOut, solve_code}
 use Rattle.lp_base.specs.Beside.{Takes}
-use Rattle.mps_read.specs.TextRead.{TextRead}
+use Rattle.lp_mps.specs.TextRead.{TextRead}
 use Rattle.lp_line.specs.Stages.{TextSays}
 use Rattle.lp_text_commands.specs.declared.check.CheckStage.TheVariants as stage
 use Rattle.lp_text_commands.specs.declared.exit_status.ExitStatus.{ExitStatus}

@@ -10,7 +10,7 @@ use Rattle.spec_mps.specs.Steps as text
 use Rattle.spec_mps.proofs.SpelledKept.{spelled_kept}
 use Rattle.spec_server.specs.Said.{said_by, follow}
 use Rattle.spec_server.specs.TextSaid.{TextSaid, text_said, text_step, behind_line}
-use Rattle.mps_read.specs.TextRead.{TextRead}
+use Rattle.lp_mps.specs.TextRead.{TextRead}
 use Rattle.lp_line.specs.Stages.{TextSays}
 use Rattle.lp_text_commands.specs.Hearing.{Agrees, Hears}
 use Rattle.lp_text_commands.specs.Tasked.{MayBeKept}

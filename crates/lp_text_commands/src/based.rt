@@ -16,7 +16,7 @@ use crate::hearing::{Output, hear_input, write_said};
 use crate::wide_basis::print_wide_handed;
 use lp_base::{Bytes, Sink, Source};
 use lp_line::Halt;
-use mps_read::Reader;
+use lp_mps::read::Reader;
 use std::alloc::{AllocError, Global};
 
 /// What a text and the basis file after it say, where a wide solve is asked for.

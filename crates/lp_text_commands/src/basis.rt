@@ -13,8 +13,8 @@ use lp_form::Form;
 use lp_frac::Stop;
 use lp_line::{Stage, Step};
 use lp_model::Model;
+use lp_mps::read::Reader;
 use lp_standard::form;
-use mps_read::Reader;
 use spec_commands::BasisFault;
 use std::alloc::{AllocError, Global};
 

@@ -12,7 +12,7 @@ use lp_base::{Bytes, Feed, Line};
 use lp_certificate::{CertReader, RawCertificate};
 use lp_line::{Refusal, Reply, Stage, Step, print_said};
 use lp_model::Model;
-use mps_read::Reader;
+use lp_mps::read::Reader;
 use std::alloc::{AllocError, Global};
 
 type CheckStep = Step<CheckStage, Reply>;

@@ -17,9 +17,9 @@ use lp_certificate::{RawOf, ReaderOf, SettleError, SettleFault, settle};
 use lp_check::wide::{Known, Verdict, check};
 use lp_line::{Refusal, Reply, Stage, Step};
 use lp_model::Model;
+use lp_mps::read::Reader;
 use lp_numtext::wide_text;
 use lp_ratio::Ratio;
-use mps_read::Reader;
 use std::alloc::{AllocError, Global};
 
 type WideStep = Step<WideStage, WideReply>;

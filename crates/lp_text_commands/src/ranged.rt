@@ -16,7 +16,7 @@ use crate::range_out::print_ranged;
 use lp_base::{Bytes, Sink, Source};
 use lp_line::{Halt, Refusal, Reply, TextSaid};
 use lp_model::Model;
-use mps_read::Reader;
+use lp_mps::read::Reader;
 use spec_program::Moved;
 use std::alloc::{AllocError, Global};
 

@@ -17,7 +17,7 @@ use crate::wide::print_wide_solved;
 use lp_base::{Bytes, Sink, Source};
 use lp_line::{Halt, Refusal, Reply, TextSaid};
 use lp_model::Model;
-use mps_read::Reader;
+use lp_mps::read::Reader;
 use std::alloc::{AllocError, Global};
 
 /// What is done with the model of a text.

@@ -15,7 +15,7 @@ use crate::ranged::say_range;
 use crate::tasked::{Task, say_tasked};
 use lp_base::{Sink, Source};
 use lp_line::Halt;
-use mps_read::Reader;
+use lp_mps::read::Reader;
 use spec_mps::Style;
 use spec_program::TextCommand;
 use std::alloc::Global;

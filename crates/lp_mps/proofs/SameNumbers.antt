@@ -1,0 +1,90 @@
+-- What is said once of the numbers of rows is what the definition says of those of each section.
+use Rattle.std.proofs.Common.{◌≡◌, ℕ, Bool, true, false, Some, None, Ok, Err, List, [], ◌∷◌, get_or, cond, refl, ap, ◌∙◌}
+use Rattle.spec_model.specs.Model.{Name, no_row, is_free}
+use Rattle.spec_mps.specs.declared.fault.Code.TheVariants as code
+use Rattle.spec_mps.specs.declared.style.Style.{Style}
+use Rattle.spec_mps.specs.declared.section.Section.TheVariants as section
+use Rattle.spec_mps.specs.Shapes.{shaped}
+use Rattle.spec_mps.specs.declared.target.Target.TheVariants.{Objective, Row}
+use Rattle.spec_mps.specs.declared.target.Target.{Target}
+use Rattle.spec_mps.specs.Fields.{Fields}
+use Rattle.spec_mps.specs.Checks.{Check, ◌>>=◌, need}
+use Rattle.spec_mps.specs.Reader.{State, place_of, number_in, enter, column_pair, column_pairs}
+use Rattle.spec_mps.specs.Sides.{SetAndPairs, put_side, side_pair, side_pairs, rhs_by, rhs_card, ranged_row}
+use Rattle.spec_mps.specs.Sides.{is_used, set_and_pairs, new_range, put_range, range_pair, range_pairs, ranges_by, ranges_card}
+use Rattle.lp_mps.specs.declared.read.numbers.Numbers.TheVariants.{Entries, Sides, Ranges}
+use Rattle.lp_mps.specs.Numbers.{put_if, place_by, pair_by, pairs_by, set_by, set_card}
+
+-- two checks in turn
+next : {A : Type 0} (a b : Check A) (f g : A → Check State) → a ≡ b → ((x : A) → f x ≡ g x) → (a >>= f) ≡ (b >>= g)
+next (Ok x) b f g e h = h x ∙ ap (λ c. c >>= g) e
+next (Err code) b f g e h = ap (λ c. c >>= g) e
+
+-- ---- one by one
+
+entry_is : (s : State) (name : Name) (text : List ℕ) → pair_by Entries s name text ≡ column_pair s name text
+unfolding column_pair enter
+entry_is s name text = next (need (place_of s name) code.UnknownRow) _ _ _ refl by
+  where
+    by : (t : Target) → place_by Entries s text t ≡ (number_in text >>= λ v. enter s t v)
+    by t = refl
+
+side_is : (s : State) (name : Name) (text : List ℕ) → pair_by Sides s name text ≡ side_pair s name text
+unfolding side_pair put_side
+side_is s name text = next (need (place_of s name) code.UnknownRow) _ _ _ refl by
+  where
+    by : (t : Target) → place_by Sides s text t ≡ (number_in text >>= λ v. put_side s t v)
+    by Objective = refl
+    by (Row i) = refl
+
+range_is : (s : State) (name : Name) (text : List ℕ) → pair_by Ranges s name text ≡ range_pair s name text
+unfolding range_pair put_range new_range
+range_is s name text = next (need (place_of s name) code.UnknownRow) _ _ _ refl by
+  where
+    row_by : (i : ℕ) (b : Bool) →
+        (number_in text >>= λ v. put_if Ranges s (cond b None (Some (Row i))) v)
+        ≡ (number_in text >>= λ v. cond b (Ok s) (new_range s i v))
+    row_by i true = refl
+    row_by i false = refl
+
+    by : (t : Target) → place_by Ranges s text t ≡ (ranged_row t >>= λ row. number_in text >>= λ v. put_range s row v)
+    by Objective = refl
+    by (Row i) = row_by i (is_free (get_or s.rows i no_row).kind)
+
+-- ---- in turn
+
+pub entries_are : (s : State) (ps : List (List ℕ × List ℕ)) → pairs_by Entries s ps ≡ column_pairs s ps
+entries_are s [] = refl
+entries_are s (p ∷ ps) = next _ _ _ _ (entry_is s p.0 p.1) (λ t. entries_are t ps)
+
+sides_are : (s : State) (ps : List (List ℕ × List ℕ)) → pairs_by Sides s ps ≡ side_pairs s ps
+sides_are s [] = refl
+sides_are s (p ∷ ps) = next _ _ _ _ (side_is s p.0 p.1) (λ t. sides_are t ps)
+
+ranges_are : (s : State) (ps : List (List ℕ × List ℕ)) → pairs_by Ranges s ps ≡ range_pairs s ps
+ranges_are s [] = refl
+ranges_are s (p ∷ ps) = next _ _ _ _ (range_is s p.0 p.1) (λ t. ranges_are t ps)
+
+-- ---- on cards
+
+side_set : (s : State) (card : SetAndPairs) → set_by Sides s card ≡ rhs_by s card
+unfolding rhs_by
+side_set s card =
+    ap (λ c. cond (is_used s.set card.set) c (Ok s)) (sides_are (record s { set = Some card.set }) card.pairs)
+
+range_set : (s : State) (card : SetAndPairs) → set_by Ranges s card ≡ ranges_by s card
+unfolding ranges_by
+range_set s card =
+    ap (λ c. cond (is_used s.set card.set) c (Ok s)) (ranges_are (record s { set = Some card.set }) card.pairs)
+
+pub rhs_card_is : (style : Style) (s : State) (fields : Fields) →
+    set_card Sides style s fields ≡ rhs_card style s fields
+unfolding rhs_card
+rhs_card_is style s fields =
+    next (shaped style section.RightSides fields) _ _ _ refl (λ texts. side_set s (set_and_pairs texts))
+
+pub ranges_card_is : (style : Style) (s : State) (fields : Fields) →
+    set_card Ranges style s fields ≡ ranges_card style s fields
+unfolding ranges_card
+ranges_card_is style s fields =
+    next (shaped style section.Ranges fields) _ _ _ refl (λ texts. range_set s (set_and_pairs texts))

@@ -1,0 +1,8 @@
+use Rattle.lp_mps.specs.Draft.{state_of}
+use Rattle.lp_mps.proofs.Runs.{end_kept}
+use Rattle.lp_mps.proofs.read.draft.Draft.advance.Goals as goal
+
+pub finish-requires : goal.finish-requires
+finish-requires c =
+    end_kept c.args.style (state_of c.args.self.now)
+    (state_of c.step.new.self) c.args.line.now c.requires (rw c.in-ToEnd.is at c.in_ok-step.ensures)

@@ -1,0 +1,73 @@
+-- The numbers that cards give rows: those of a column, right sides, and ranges. Said once for all three.
+use Rattle.std.specs.Prelude.{ℕ, not, Option, Some, None, Ok, Err, List, [], ◌∷◌, get_or, option_map, if◌then◌else◌}
+use Rattle.spec_exact.specs.Fraction.{ℚ}
+use Rattle.spec_model.specs.Model.{Name, no_row, is_free}
+use Rattle.spec_mps.specs.declared.fault.Code.TheVariants as code
+use Rattle.spec_mps.specs.declared.style.Style.{Style}
+use Rattle.spec_mps.specs.declared.section.Section.{Section}
+use Rattle.spec_mps.specs.declared.section.Section.TheVariants as section
+use Rattle.spec_mps.specs.declared.target.Target.{Target}
+use Rattle.spec_mps.specs.declared.target.Target.TheVariants.{Objective, Row}
+use Rattle.spec_mps.specs.Fields.{Fields}
+use Rattle.spec_mps.specs.Checks.{Check, ◌>>=◌, must, need}
+use Rattle.spec_mps.specs.Shapes.{shaped}
+use Rattle.spec_mps.specs.Reader.{State, place_of, number_in, is_among, with_number}
+use Rattle.spec_mps.specs.Sides.{SetAndPairs, set_and_pairs, is_used, changed_at, with_side}
+use Rattle.lp_mps.specs.declared.read.numbers.Numbers.{Numbers}
+use Rattle.lp_mps.specs.declared.read.numbers.Numbers.TheVariants.{Entries, Sides, Ranges}
+
+abbrev pub section_of : Numbers → Section
+section_of Entries = section.Columns
+section_of Sides = section.RightSides
+section_of Ranges = section.Ranges
+
+-- what a number belongs to: the objective has no range, and that of a free row is forgotten
+abbrev pub target_of : Numbers → State → Target → Check (Option Target)
+target_of Entries s t = Ok (Some t)
+target_of Sides s t = Ok (Some t)
+target_of Ranges s Objective = Err code.RangeOnObjective
+target_of Ranges s (Row i) = Ok (if is_free (get_or s.rows i no_row).kind then None else Some (Row i))
+
+abbrev pub with_range : State → Target → ℚ → State
+with_range s Objective v = s
+with_range s (Row i) v = record s { rows = changed_at i (λ r. record r { range = Some v }) s.rows }
+
+abbrev pub with_by : Numbers → State → Target → ℚ → State
+with_by Entries s t v = record s { column = option_map (λ c. with_number c t v) s.column }
+with_by Sides s t v = with_side s t v
+with_by Ranges s t v = with_range s t v
+
+-- a number at a target that had none
+abbrev pub put_by : Numbers → State → Target → ℚ → Check State
+put_by numbers s t v = do
+  _ ← must (not (is_among t s.paired)) code.EntryRepeated
+  Ok (with_by numbers (record s { paired = t ∷ s.paired }) t v)
+
+abbrev pub put_if : Numbers → State → Option Target → ℚ → Check State
+put_if numbers s None v = Ok s
+put_if numbers s (Some t) v = put_by numbers s t v
+
+-- a number beside a row's name that stands for this target
+abbrev pub place_by : Numbers → State → List ℕ → Target → Check State
+place_by numbers s text t = do
+  target ← target_of numbers s t
+  v ← number_in text
+  put_if numbers s target v
+
+abbrev pub pair_by : Numbers → State → Name → List ℕ → Check State
+pair_by numbers s name text = need (place_of s name) code.UnknownRow >>= place_by numbers s text
+
+abbrev pub pairs_by : Numbers → State → List (List ℕ × List ℕ) → Check State
+pairs_by numbers s [] = Ok s
+pairs_by numbers s (pair ∷ pairs) = pair_by numbers s pair.0 pair.1 >>= λ t. pairs_by numbers t pairs
+
+-- ---- with a set, or none, before them
+
+abbrev pub set_by : Numbers → State → SetAndPairs → Check State
+set_by numbers s card =
+    if is_used s.set card.set then pairs_by numbers (record s { set = Some card.set }) card.pairs else Ok s
+
+abbrev pub set_card : Numbers → Style → State → Fields → Check State
+set_card numbers style s fields = do
+  texts ← shaped style (section_of numbers) fields
+  set_by numbers s (set_and_pairs texts)

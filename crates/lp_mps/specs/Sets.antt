@@ -1,0 +1,9 @@
+-- Sets and pairs as the code holds them.
+use Rattle.std.specs.Option.{option_copied}
+use Rattle.spec_mps.specs.Fields.{texts_of}
+use Rattle.spec_mps.specs.Reader.{pairs_of}
+use Rattle.spec_mps.specs.Sides as sides
+use Rattle.lp_mps.specs.declared.read.sets.SetAndPairs.{SetAndPairs}
+
+abbrev pub card_seen : SetAndPairs → sides.SetAndPairs
+card_seen card = record { set = option_copied card.set; pairs = pairs_of (texts_of card.pairs.now) }

@@ -1,0 +1,116 @@
+// What a card of BOUNDS does.
+ghost use Rattle.std.specs.Prelude.{◌≡◌, Option, None};
+ghost use Rattle.spec_exact.specs.Fraction.{ℚ};
+ghost use Rattle.spec_mps.specs.Bounds as bounds;
+ghost use Rattle.spec_mps.specs.Sides.{changed_at};
+ghost use Rattle.lp_mps.specs.BoundSeen.{bound_seen, bound_made};
+
+use lp_frac::{Frac, is_negative};
+use lp_model::Column;
+use lp_numtext::{BoundValue, read_bound};
+use spec_mps::{BoundKind, Code};
+
+/// What a card does to the bounds of a column. `None` is no bound.
+#[derive(Clone, Copy)]
+pub(crate) enum BoundCard {
+    SetsUpper(Option<Frac>),
+    SetsLower(Option<Frac>),
+    SetsBoth(Option<Frac>, Option<Frac>),
+}
+
+#[tactic(auto, unfolding(spec_mps::specs::Bounds::bound_in))]
+fn bound_in(text: &[u8]) -> Result<BoundValue<Frac>, Code>
+    ensures { result ≡ bounds.bound_in text.now }
+{
+    Ok(read_bound(text)?)
+}
+
+fn upper_card(value: BoundValue<Frac>) -> Result<BoundCard, Code>
+    ensures { bound_made result ≡ bounds.upper_card value }
+{
+    match value {
+        BoundValue::Finite(upper) => Ok(BoundCard::SetsUpper(Some(upper))),
+        BoundValue::PlusInf => Ok(BoundCard::SetsUpper(None)),
+        BoundValue::MinusInf => Err(Code::BoundKind),
+    }
+}
+
+fn lower_card(value: BoundValue<Frac>) -> Result<BoundCard, Code>
+    ensures { bound_made result ≡ bounds.lower_card value }
+{
+    match value {
+        BoundValue::Finite(lower) => Ok(BoundCard::SetsLower(Some(lower))),
+        BoundValue::PlusInf => Err(Code::BoundKind),
+        BoundValue::MinusInf => Ok(BoundCard::SetsLower(None)),
+    }
+}
+
+fn both_card(value: BoundValue<Frac>) -> Result<BoundCard, Code>
+    ensures { bound_made result ≡ bounds.both_card value }
+{
+    match value {
+        BoundValue::Finite(v) => Ok(BoundCard::SetsBoth(Some(v), Some(v))),
+        BoundValue::PlusInf | BoundValue::MinusInf => Err(Code::BoundKind),
+    }
+}
+
+/// The card of a kind, with its value where it takes one.
+#[tactic(auto, unfolding(spec_mps::specs::Bounds::bound_card))]
+pub(crate) fn bound_card(kind: BoundKind, text: &[u8]) -> Result<BoundCard, Code>
+    ensures { bound_made result ≡ bounds.bound_card kind text.now }
+{
+    match kind {
+        BoundKind::Up => upper_card(bound_in(text)?),
+        BoundKind::Lo => lower_card(bound_in(text)?),
+        BoundKind::Fx => both_card(bound_in(text)?),
+        BoundKind::Fr => Ok(BoundCard::SetsBoth(None, None)),
+        BoundKind::Mi => Ok(BoundCard::SetsLower(None)),
+        BoundKind::Pl => Ok(BoundCard::SetsUpper(None)),
+    }
+}
+
+fn is_below_zero(bound: &Option<Frac>) -> bool
+    ensures { result ≡ bounds.is_negative bound.now }
+{
+    match bound {
+        Some(bound) => is_negative(*bound),
+        None => false,
+    }
+}
+
+fn bound_column(column: &mut Column, lowered: bool, card: &BoundCard)
+    ensures { column.new ≡ bounds.bounded lowered (bound_seen card.now) column.old }
+{
+    match card {
+        BoundCard::SetsUpper(upper) => {
+            if is_below_zero(upper) && !lowered {
+                column.lower = None;
+            }
+            column.upper = *upper;
+        }
+        BoundCard::SetsLower(lower) => column.lower = *lower,
+        BoundCard::SetsBoth(lower, upper) => {
+            column.lower = *lower;
+            column.upper = *upper;
+        }
+    }
+}
+
+/// Lets a card act on the column at a place. Past the end there is none.
+pub(crate) fn bound_at(columns: &mut [Column], place: usize, lowered: bool, card: &BoundCard)
+    ensures { columns.new ≡ changed_at place (bounds.bounded lowered (bound_seen card.now)) columns.old }
+{
+    if place < columns.len() {
+        bound_column(&mut columns[place], lowered, card);
+    }
+}
+
+/// Whether a card sets the lower bound.
+pub(crate) fn sets_lower(card: &BoundCard) -> bool
+    ensures { result ≡ bounds.sets_lower (bound_seen card.now) }
+{
+    match card {
+        BoundCard::SetsUpper(_) => false,
+        BoundCard::SetsLower(_) | BoundCard::SetsBoth(..) => true,
+    }
+}

@@ -1,0 +1,97 @@
+// The cards of COLUMNS.
+ghost use Rattle.std.specs.Prelude.{◌≡◌, ◌∷◌, ◌++◌, [], Bool, false, None, Some, OnOk};
+ghost use Rattle.std.specs.List.{list_any};
+ghost use Rattle.spec_text.specs.Words.{same};
+ghost use Rattle.spec_mps.specs.Fields.{texts_of};
+ghost use Rattle.spec_mps.specs.Reader as reader;
+ghost use Rattle.lp_mps.specs.Answer.{GivesState};
+ghost use Rattle.lp_mps.specs.Draft.{state_of};
+
+use crate::card::{Field, Fields};
+use crate::read::draft::Draft;
+use crate::read::fault::Fault;
+use crate::read::numbers::Numbers;
+use crate::read::shapes::has_shape;
+use lp_base::are_same;
+use lp_model::is_name;
+use spec_mps::{Code, Section, Style};
+use std::alloc::{AllocError, Global};
+
+const MAX_COLUMNS: usize = 512;
+
+// The field that says 'MARKER' on a card that marks whole columns.
+fn marker_field(style: Style) -> u32
+    ensures { result ≡ reader.marker_field style }
+{
+    match style {
+        Style::Free => 2,
+        Style::Fixed => 3,
+    }
+}
+
+impl Draft {
+    #[tactic(auto, unfolding(spec_mps::specs::Reader::columns_card, spec_mps::specs::Shapes::shaped))]
+    pub(crate) fn columns_card(
+        &mut self,
+        alloc: Global,
+        style: Style,
+        fields: &Fields,
+    ) -> Result<(), Fault>
+        ensures { GivesState (reader.columns_card style (state_of self.old) fields.now) (state_of self.new) result }
+    {
+        if are_same(fields.text_at(marker_field(style)), b"'MARKER'") {
+            return Err(Fault::Code(Code::Integer));
+        }
+        if !has_shape(style, Section::Columns, fields.as_slice()) {
+            return Err(Fault::Code(Code::CardShape));
+        }
+        self.column_by(alloc, fields.as_slice())
+    }
+
+    // A column's name, and pairs of a row's name and a number.
+    fn column_by(&mut self, alloc: Global, fields: &[Field]) -> Result<(), Fault>
+        ensures { GivesState (reader.column_by (state_of self.old) (texts_of fields.now)) (state_of self.new) result }
+    {
+        let Some((name, pairs)) = fields.split_first() else {
+            return Err(Fault::Code(Code::CardShape));
+        };
+        if !is_name(name.text()) {
+            return Err(Fault::Code(Code::Name));
+        }
+        self.open(alloc, name.text())?;
+        self.pairs(Numbers::Entries, pairs)
+    }
+
+    // Cards of this column are read, or of none that is there already.
+    #[tactic(auto, unfolding(spec_mps::specs::Reader::opened))]
+    fn open(&mut self, alloc: Global, name: &[u8]) -> Result<(), Fault>
+        ensures { GivesState (reader.opened (state_of self.old) name.now) (state_of self.new) result }
+    {
+        if self.columns.is_open(name) {
+            return Ok(());
+        }
+        self.columns.close()?;
+        if self.columns.has(name) {
+            return Err(Fault::Code(Code::ColumnTaken));
+        }
+        if self.columns.len() >= MAX_COLUMNS {
+            return Err(Fault::Code(Code::Limit));
+        }
+        self.begin_column(alloc, name)?;
+        Ok(())
+    }
+
+    fn begin_column(&mut self, alloc: Global, name: &[u8]) -> Result<(), AllocError>
+        requires closed { (state_of self.old).column ≡ None }
+        requires new { list_any (λ c. same c.name name.now) (state_of self.old).columns ≡ false }
+        ensures { OnOk result (state_of self.new ≡ record (state_of self.old) {
+          column = Some (reader.new_column name.now);
+          lowered = (state_of self.old).lowered ++ false ∷ [];
+          paired = [];
+        }) }
+    {
+        self.paired.clear();
+        self.lowered.push(false)?;
+        self.columns.begin(alloc, name)
+    }
+}

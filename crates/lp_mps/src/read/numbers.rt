@@ -1,0 +1,116 @@
+// The numbers that cards give rows: those of a column, right sides and ranges.
+ghost use Rattle.std.specs.Prelude.{◌≡◌, OnOk};
+ghost use Rattle.spec_mps.specs.Fields.{texts_of};
+ghost use Rattle.spec_mps.specs.Reader as reader;
+ghost use Rattle.spec_mps.specs.Sides as side;
+ghost use Rattle.lp_mps.specs.Answer.{GivesState};
+ghost use Rattle.lp_mps.specs.Draft.{state_of};
+ghost use Rattle.lp_mps.specs.Numbers as numbers;
+
+use crate::card::Field;
+use crate::read::draft::{Draft, number_in};
+use crate::read::fault::Fault;
+use lp_frac::{Frac, neg};
+use spec_mps::{Code, Section, Target};
+use std::alloc::AllocError;
+
+/// What the numbers of a section are.
+#[derive(Clone, Copy)]
+pub(crate) enum Numbers {
+    Entries,
+    Sides,
+    Ranges,
+}
+
+impl Numbers {
+    /// The section in which they stand.
+    pub(crate) fn section(self) -> Section
+        ensures { result ≡ numbers.section_of self }
+    {
+        match self {
+            Numbers::Entries => Section::Columns,
+            Numbers::Sides => Section::RightSides,
+            Numbers::Ranges => Section::Ranges,
+        }
+    }
+}
+
+impl Draft {
+    /// Pairs of a row's name and a number.
+    pub(crate) fn pairs(&mut self, what: Numbers, fields: &[Field]) -> Result<(), Fault>
+        ensures { GivesState (numbers.pairs_by what (state_of self.old) (reader.pairs_of (texts_of fields.now)))
+            (state_of self.new) result }
+    {
+        let mut fields = fields;
+        while let [row, value, more @ ..] = fields {
+            self.pair(what, row.text(), value.text())?;
+            fields = more;
+        }
+        Ok(())
+    }
+
+    // What a number belongs to: the objective has no range, and that of a free row is forgotten.
+    fn target_of(&self, what: Numbers, target: Target) -> Result<Option<Target>, Code>
+        ensures { result ≡ numbers.target_of what (state_of self.now) target }
+    {
+        match (what, target) {
+            (Numbers::Ranges, Target::Objective) => Err(Code::RangeOnObjective),
+            (Numbers::Ranges, Target::Row(row)) if self.rows.is_free(row) => Ok(None),
+            _ => Ok(Some(target)),
+        }
+    }
+
+    fn pair(&mut self, what: Numbers, name: &[u8], text: &[u8]) -> Result<(), Fault>
+        ensures { GivesState (numbers.pair_by what (state_of self.old) name.now text.now) (state_of self.new) result }
+    {
+        let Some(named) = self.place_of(name) else {
+            return Err(Fault::Code(Code::UnknownRow));
+        };
+        let target = self.target_of(what, named)?;
+        let value = number_in(text)?;
+        match target {
+            None => Ok(()),
+            Some(target) => self.put(what, target, value),
+        }
+    }
+
+    // A number at a target that had none.
+    fn put(&mut self, what: Numbers, target: Target, value: Frac) -> Result<(), Fault>
+        ensures { GivesState (numbers.put_by what (state_of self.old) target value) (state_of self.new) result }
+    {
+        if !self.paired.insert(target)? {
+            return Err(Fault::Code(Code::EntryRepeated));
+        }
+        self.give(what, target, value)?;
+        Ok(())
+    }
+
+    fn give(&mut self, what: Numbers, target: Target, value: Frac) -> Result<(), AllocError>
+        ensures { OnOk result (state_of self.new ≡ numbers.with_by what (state_of self.old) target value) }
+    {
+        match what {
+            Numbers::Entries => return self.columns.put_number(target, value),
+            Numbers::Sides => self.set_side(target, value),
+            Numbers::Ranges => self.set_range(target, value),
+        }
+        Ok(())
+    }
+
+    // A right side of the objective is subtracted from its value.
+    fn set_side(&mut self, target: Target, value: Frac)
+        ensures { state_of self.new ≡ side.with_side (state_of self.old) target value }
+    {
+        match target {
+            Target::Objective => self.offset = neg(value),
+            Target::Row(row) => self.rows.set_rhs(row, value),
+        }
+    }
+
+    fn set_range(&mut self, target: Target, value: Frac)
+        ensures { state_of self.new ≡ numbers.with_range (state_of self.old) target value }
+    {
+        if let Target::Row(row) = target {
+            self.rows.set_range(row, value);
+        }
+    }
+}

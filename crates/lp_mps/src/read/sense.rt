@@ -1,0 +1,47 @@
+// The sense of the objective.
+ghost use Rattle.spec_mps.specs.Steps as steps;
+ghost use Rattle.lp_mps.specs.Answer.{GivesState};
+ghost use Rattle.lp_mps.specs.Draft.{state_of};
+
+use crate::card::Fields;
+use crate::read::draft::Draft;
+use crate::read::fault::Fault;
+use crate::read::shapes::has_shape;
+use crate::read::words::sense_of;
+use spec_mps::{Code, Section, Style};
+
+impl Draft {
+    #[tactic(auto, unfolding(spec_mps::specs::Steps::take_sense))]
+    fn take_sense(&mut self, text: &[u8]) -> Result<(), Fault>
+        ensures { GivesState (steps.take_sense (state_of self.old) text.now) (state_of self.new) result }
+    {
+        let Some(sense) = sense_of(text) else {
+            return Err(Fault::Code(Code::CardShape));
+        };
+        if self.sense.is_some() {
+            return Err(Fault::Code(Code::CardShape));
+        }
+        self.sense = Some(sense);
+        Ok(())
+    }
+
+    /// A sense that stands beside OBJSENSE, if one does.
+    pub(crate) fn sense_beside(&mut self, word: &[u8]) -> Result<(), Fault>
+        ensures { GivesState (steps.sense_beside (state_of self.old) word.now) (state_of self.new) result }
+    {
+        if word.is_empty() {
+            return Ok(());
+        }
+        self.take_sense(word)
+    }
+
+    #[tactic(auto, unfolding(spec_mps::specs::Steps::sense_card, spec_mps::specs::Shapes::shaped))]
+    pub(crate) fn sense_card(&mut self, style: Style, fields: &Fields) -> Result<(), Fault>
+        ensures { GivesState (steps.sense_card style (state_of self.old) fields.now) (state_of self.new) result }
+    {
+        if !has_shape(style, Section::Sense, fields.as_slice()) {
+            return Err(Fault::Code(Code::CardShape));
+        }
+        self.take_sense(fields.text_at(1))
+    }
+}

@@ -1,0 +1,78 @@
+// The sets of RHS, RANGES and BOUNDS: that of a section's first card is used, and cards of other sets are skipped.
+ghost use Rattle.std.specs.Prelude.{◌≡◌, Some, OnOk};
+ghost use Rattle.std.specs.Option.{option_copied};
+ghost use Rattle.spec_mps.specs.Fields.{texts_of};
+ghost use Rattle.spec_mps.specs.Sides as sides;
+ghost use Rattle.lp_mps.specs.Draft.{state_of};
+ghost use Rattle.lp_mps.specs.Sets.{card_seen};
+
+use crate::card::Field;
+use crate::read::draft::Draft;
+use lp_base::{Name, are_same};
+use std::alloc::{AllocError, Global};
+
+/// A set or none, and pairs of a row's name and a number.
+#[derive(Clone, Copy)]
+pub(crate) struct SetAndPairs<'a> {
+    pub(crate) set: Option<&'a [u8]>,
+    pub(crate) pairs: &'a [Field],
+}
+
+impl<'a> SetAndPairs<'a> {
+    /// An odd number of fields begins with a set.
+    #[tactic(auto, unfolding(spec_mps::specs::Sides::set_and_pairs))]
+    pub(crate) fn new(fields: &'a [Field]) -> Self
+        ensures { card_seen result ≡ sides.set_and_pairs (texts_of fields.now) }
+    {
+        if fields.len() % 2 == 0 {
+            return SetAndPairs {
+                set: None,
+                pairs: fields,
+            };
+        }
+        match fields.split_first() {
+            Some((set, pairs)) => SetAndPairs {
+                set: Some(set.text()),
+                pairs,
+            },
+            None => SetAndPairs {
+                set: None,
+                pairs: fields,
+            },
+        }
+    }
+}
+
+fn is_set(first: &Option<Name>, set: Option<&[u8]>) -> bool
+    ensures { result ≡ sides.same_set first.now (option_copied set.entry) }
+{
+    match (first, set) {
+        (None, None) => true,
+        (Some(first), Some(set)) => are_same(first.as_slice(), set),
+        _ => false,
+    }
+}
+
+/// Whether the cards of a set are used.
+pub(crate) fn is_used(first: &Option<Option<Name>>, set: Option<&[u8]>) -> bool
+    ensures { result ≡ sides.is_used first.now (option_copied set.entry) }
+{
+    match first {
+        None => true,
+        Some(first) => is_set(first, set),
+    }
+}
+
+impl Draft {
+    /// This set is used from here on.
+    pub(crate) fn use_set(&mut self, alloc: Global, set: Option<&[u8]>) -> Result<(), AllocError>
+        ensures { OnOk result
+            (state_of self.new ≡ record (state_of self.old) { set = Some (option_copied set.entry) }) }
+    {
+        self.set = Some(match set {
+            Some(name) => Some(Name::from_slice(alloc, name)?),
+            None => None,
+        });
+        Ok(())
+    }
+}

@@ -1,8 +1,0 @@
-use Rattle.std.proofs.Common.{◌∙◌, sym}
-use Rattle.mps_read.specs.Draft.{state_of}
-use Rattle.mps_read.proofs.Adding.{objective_put, row_put, row_full}
-use Rattle.mps_read.proofs.NewNames.{rows_new}
-use Rattle.mps_read.proofs.draft.Draft.put_row.Goals as goal
-
-pub push-requires-clause-new : goal.push-requires-clause-new
-push-requires-clause-new c = rw c.in_ok-row.ensures (rows_new (state_of c.args.self.now) c.args.name.now c.requires)
