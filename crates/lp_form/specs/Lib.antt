@@ -1,1 +1,5 @@
 pub mod Count
+pub mod Answer
+pub mod Bounds
+pub mod Fault
+pub mod Coded

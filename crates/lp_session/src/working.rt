@@ -9,9 +9,8 @@ ghost use Rattle.lp_solve.specs.Fit.{LeavesBasis};
 ghost use Rattle.lp_session.specs.Stages.{FitsForm};
 
 use lp_check::Known;
-use lp_form::Form;
+use lp_form::{Form, pack, unpack};
 use lp_model::Model;
-use lp_shape::{pack, unpack};
 use lp_solve::{End, Route, Solved, solve_formed};
 use spec_board::Found;
 use spec_server::How;

@@ -19,9 +19,9 @@ use Rattle.spec_cold.specs.Cold.{ExactSolveEnd, certificate_of, basis_of, answer
 use Rattle.spec_cold.proofs.Solved.{end_accepted, clash_accepted}
 use Rattle.spec_solve.specs.Order.{MayEndCold}
 use Rattle.spec_solve.proofs.Orders.{formless_may}
-use Rattle.lp_standard.specs.Answer.{IsFaultOf}
+use Rattle.lp_form.specs.Answer.{IsFaultOf}
 use Rattle.lp_frac.specs.declared.stop.Stop.{Stop}
-use Rattle.lp_standard.specs.declared.fault.Clash.{Clash}
+use Rattle.lp_form.specs.declared.fault.Clash.{Clash}
 use Rattle.lp_tableau.specs.Answer.{Stops}
 use Rattle.std.specs.declared.convert.Infallible.{Infallible}
 use Rattle.lp_frac.specs.declared.stop.Stop.TheVariants as stop

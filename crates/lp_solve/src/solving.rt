@@ -14,10 +14,9 @@ use crate::factors::cold_part;
 use crate::rows::WORK;
 use crate::warm::{Warm, WarmStop, from_basis};
 use lp_check::Certificate;
-use lp_form::{Basis, Form};
+use lp_form::{Basis, Form, form};
 use lp_frac::{Frac, Fracs, Stop};
 use lp_model::Model;
-use lp_standard::form;
 use spec_warm::{Fall, Route};
 use std::alloc::{AllocError, Global};
 

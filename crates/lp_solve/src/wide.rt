@@ -17,7 +17,7 @@ use crate::rows::{WORK, over_rows};
 use crate::solving::{Solved, cold, cold_after, cold_within, solve, warm};
 use crate::warm::{Warm, WarmStop, from_basis};
 use lp_check::wide::{Ratios, Verdict, check};
-use lp_form::{Basis, Form, StatusList};
+use lp_form::{Basis, Form, StatusList, form};
 use lp_frac::Stop;
 use lp_lift::certificate_of_basis;
 use lp_model::Model;
@@ -25,7 +25,6 @@ use lp_ratio::Ratio;
 use lp_rough::rough_basis;
 use lp_row_cold::{RowEnd, wide_cold};
 use lp_row_warm::wide_warm;
-use lp_standard::form;
 use spec_warm::Route;
 use std::alloc::{AllocError, Global};
 

@@ -4,7 +4,7 @@ ghost use Rattle.basis_board.specs.Id.{id_of};
 ghost use Rattle.spec_board.specs.Words.{IsWellFormed};
 
 use basis_board::{Board, Look, Pass, Put};
-use lp_shape::well_formed;
+use lp_form::well_formed;
 use std::alloc::{AllocError, Global};
 use std::test::Fail;
 use std::thread;

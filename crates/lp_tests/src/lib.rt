@@ -3,7 +3,7 @@
 //!
 //! | Item | What it tests | Where |
 //! |---|---|---|
-//! | `shapes` | words and shapes that `lp_shape` tells apart | src/shapes |
+//! | `shapes` | words and shapes that `lp_form` tells apart | src/shapes |
 //! | `board` | passes of one board on two threads | src/board |
 //! | `full_board` | sixteen passes on threads that publish on one place | src/full_board |
 //! | `worlds` | sessions of a world that publish at the same time | src/worlds |

@@ -1,5 +1,5 @@
 // Words and shapes of one column and one row.
-use lp_shape::{same_shape, well_formed};
+use lp_form::{same_shape, well_formed};
 
 #[test]
 fn other_words_and_shapes_are_told_apart(rt: HostRuntime) {

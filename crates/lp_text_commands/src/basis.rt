@@ -9,12 +9,11 @@ use crate::basis_file::FileStage;
 use crate::basis_start::{Handed, Start};
 use lp_bas::BasReader;
 use lp_base::{Feed, Line};
-use lp_form::Form;
+use lp_form::{Form, form};
 use lp_frac::Stop;
 use lp_line::{Stage, Step};
 use lp_model::Model;
 use lp_mps::read::Reader;
-use lp_standard::form;
 use spec_commands::BasisFault;
 use std::alloc::{AllocError, Global};
 

@@ -1,7 +1,0 @@
-use Rattle.std.proofs.Common.{◌≡◌, drop}
-use Rattle.spec_model.specs.Model.{entry_of}
-use Rattle.lp_form.proofs.form.entry_at.Given as goal
-
--- the entries that were passed over are of other rows
-abbrev pub invariant-loop-row : goal.invariant-loop-row
-invariant-loop-row l = entry_of (drop l.row-index l.entries) l.i ≡ entry_of l.entries l.i

@@ -1,9 +1,0 @@
--- The loop over the columns, from the last to the first.
-use Rattle.std.proofs.Common.{◌≡◌, ◌+◌, ◌-◌}
-use Rattle.spec_board.specs.Words.{word_from}
-use Rattle.lp_shape.specs.Coded.{code_of}
-use Rattle.lp_shape.proofs.packing.word_of.Given as goal
-
--- the columns from k on are there
-abbrev pub invariant-loop-k : goal.invariant-loop-k
-invariant-loop-k l = l.word ≡ word_from (code_of l.columns) (l.first + l.k) (32 - l.k)
