@@ -1,9 +1,8 @@
 // What sessions are asked and reply, with the models, names and numbers of the code.
 use lp_base::{Bytes, Name, Texts};
 use lp_certificate::RawCertificate;
-use lp_edit::Edit;
 use lp_frac::Frac;
-use lp_model::Model;
+use lp_model::{Edit, Model};
 
 /// What the words of a line ask.
 pub type Command = spec_server::Command<Edit>;

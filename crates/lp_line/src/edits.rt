@@ -9,9 +9,8 @@ ghost use Rattle.lp_line.specs.NewRow as new_row;
 ghost use Rattle.lp_line.specs.declared.edits.EditStop.TheVariants.{Fault, NoMemory};
 
 use lp_base::{Bytes, Name, are_same, look_up};
-use lp_edit::{ColumnBounds, Edit, Pairs};
 use lp_frac::Frac;
-use lp_model::{Kind, Sense, is_free};
+use lp_model::{ColumnBounds, Edit, Kind, Pairs, Sense, is_free};
 use lp_numtext::{BoundValue, NumFault, read_bound};
 use spec_server::{EditWord, LineFault};
 use std::alloc::{AllocError, Global};

@@ -6,7 +6,7 @@ ghost use Rattle.spec_server.specs.Output as output;
 use crate::answers::push_numbered;
 use crate::asks::Refusal;
 use lp_base::Bytes;
-use lp_edit::Which;
+use lp_model::Which;
 use spec_mps::{Code, MpsFault};
 use spec_server::LineFault;
 use std::alloc::{AllocError, Global};

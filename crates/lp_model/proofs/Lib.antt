@@ -5,3 +5,5 @@ pub mod Places
 pub mod Lowered
 pub mod Columns
 pub mod Kept
+pub mod NewColumn
+pub mod PairSteps

@@ -1,2 +1,4 @@
 pub mod Indexed
 pub mod Place
+pub mod Answer
+pub mod Named

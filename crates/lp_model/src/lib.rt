@@ -11,11 +11,20 @@
 //! | `put_entry` | puts a coefficient among the entries of a column | src/entries |
 //! | `NameIndex` | distinct names that are found by their hashes | src/name_index |
 //! | `is_name`, `is_row_name`, `is_model_name` | whether a text may be a name | src/names |
+//! | `apply` | changes a model by an edit, or refuses the edit and leaves the model | src/edits |
+//! | `Edit` | an edit, whose rows and columns are named | src/edit |
+//! | `Pairs`, `ColumnBounds` | the numbers of a new column, and the bounds of a column | src/edit |
+//! | `EditError`, `EditFault`, `Which` | why an edit is not applied | src/edit, `spec_edit` |
 //!
 //! A model is read by the methods of src/model and changed by those of src/changes, which keep it in order.
+//!
+//! What an edit leaves, and which fault it has, is `edited` of `spec_edit`.
 #![tactic(auto)]
 
 mod changes;
+mod column;
+mod edit;
+mod edits;
 mod entries;
 mod indexed;
 mod limits;
@@ -24,9 +33,12 @@ mod name_index;
 mod names;
 mod narrow;
 
+pub use edit::{ColumnBounds, Edit, EditError, EditFault, Pairs};
+pub use edits::apply;
 pub use entries::put_entry;
 pub use limits::{RowLimit, is_free, lower_limit, lower_of, upper_limit, upper_of};
 pub use model::{Column, Model, Row};
 pub use name_index::NameIndex;
 pub use names::{is_model_name, is_name, is_row_name};
+pub use spec_edit::Which;
 pub use spec_model::{Kind, Sense};

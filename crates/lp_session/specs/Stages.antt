@@ -12,8 +12,8 @@ use Rattle.spec_server.specs.declared.asks.Reply.TheVariants as reply
 use Rattle.spec_server.specs.Machine.{ExactAsk, ExactReply, State, edit_refusal}
 use Rattle.spec_server.specs.Step as step
 use Rattle.spec_server.specs.Halves.{Awaits, Nothing, WhatIsFound, WhatBecameOf}
-use Rattle.lp_edit.specs.declared.edit.EditError.{EditError}
-use Rattle.lp_edit.specs.declared.edit.EditError.TheVariants as edits
+use Rattle.lp_model.specs.declared.edit.EditError.{EditError}
+use Rattle.lp_model.specs.declared.edit.EditError.TheVariants as edits
 use Rattle.lp_session.specs.declared.stage.Begun.{Begun}
 use Rattle.lp_session.specs.declared.stage.Begun.TheVariants as begun
 use Rattle.lp_session.specs.declared.stage.Pending.{Pending}

@@ -8,8 +8,8 @@ use Rattle.spec_model.specs.Kept.{AreEntries}
 use Rattle.spec_edit.specs.Edited.{entries_of}
 use Rattle.spec_edit.specs.Changes.{with_entry}
 use Rattle.spec_edit.proofs.Keeping.{with_entry-kept, with_entry-narrow}
-use Rattle.lp_edit.proofs.PairSteps.{unknown_read, repeated_read, read_on, given_so}
-use Rattle.lp_edit.proofs.column.entries_of.Goals as goal
+use Rattle.lp_model.proofs.PairSteps.{unknown_read, repeated_read, read_on, given_so}
+use Rattle.lp_model.proofs.column.entries_of.Goals as goal
 
 pub bounds-as_slice-place : goal.bounds-as_slice-place
 bounds-as_slice-place c = rw (c.as_slice.ensures, c.loop-place.invariant.pairs) (omega arith)

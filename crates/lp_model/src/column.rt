@@ -4,12 +4,13 @@ ghost use Rattle.spec_exact.specs.Narrow.{IsNarrow};
 ghost use Rattle.spec_model.specs.Model.{height};
 ghost use Rattle.spec_model.specs.Kept.{AreEntries};
 ghost use Rattle.spec_edit.specs.Edited as edited;
-ghost use Rattle.lp_edit.specs.Answer.{GivesEdited};
+ghost use Rattle.lp_model.specs.Answer.{GivesEdited};
 
 use crate::edit::{EditError, EditFault, Pairs};
+use crate::entries::put_entry;
+use crate::model::Model;
 use lp_base::{Name, are_same};
 use lp_frac::{Entries, Frac};
-use lp_model::{Model, put_entry};
 use std::alloc::Global;
 
 // Whether one of the pairs has this name.

@@ -1,7 +1,7 @@
 -- The pair that is taken out is the one at the place.
 use Rattle.std.proofs.Common.{◌≡◌, Some, IfSome, get_or, refl, sym, ap, ◌∙◌, subst}
 use Rattle.std.proofs.lemmas.Option.{slice_get-get_or}
-use Rattle.lp_edit.proofs.edit.Pairs.take_name.Goals as goal
+use Rattle.lp_model.proofs.edit.Pairs.take_name.Goals as goal
 
 pub returns : goal.returns
 returns c =

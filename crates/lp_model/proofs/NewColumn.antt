@@ -7,9 +7,9 @@ use Rattle.spec_model.specs.Model.{Model, Name, width}
 use Rattle.spec_model.specs.Kept.{is_name, column_limit, column_place}
 use Rattle.spec_edit.specs.Changes.{with_column}
 use Rattle.spec_edit.specs.Edited.{Pairs, ◌>>=◌, is_column_taken, entries_of, column_of, new_column}
-use Rattle.lp_edit.specs.declared.edit.EditError.{EditError}
-use Rattle.lp_edit.specs.declared.edit.EditError.TheVariants.{Fault, NoMemory}
-use Rattle.lp_edit.specs.Answer.{Leaves, GivesEdited}
+use Rattle.lp_model.specs.declared.edit.EditError.{EditError}
+use Rattle.lp_model.specs.declared.edit.EditError.TheVariants.{Fault, NoMemory}
+use Rattle.lp_model.specs.Answer.{Leaves, GivesEdited}
 
 -- the name was read as seen, and asked of by calls
 pub is_good : (name seen : Name) (good : Bool) → seen ≡ name → good ≡ is_name seen → good ≡ true → is_name name ≡ true

@@ -1,7 +1,7 @@
 // Edits, with names and numbers as the code holds them.
 ghost use Rattle.std.specs.Prelude.{◌≡◌, ◌==◌, ◌<◌, [], ◌∷◌, ◌++◌, length, slice_get, IfSome, OnOk, OnErr};
 ghost use Rattle.spec_model.specs.Kept.{IsBound};
-ghost use Rattle.lp_edit.specs.declared.edit.EditError.TheVariants.{Fault, NoMemory};
+ghost use Rattle.lp_model.specs.declared.edit.EditError.TheVariants.{Fault, NoMemory};
 
 use lp_base::Name;
 use lp_frac::Frac;

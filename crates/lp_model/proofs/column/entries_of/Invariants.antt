@@ -3,7 +3,7 @@ use Rattle.spec_exact.specs.Narrow.{IsNarrow}
 use Rattle.spec_model.specs.Model.{height}
 use Rattle.spec_model.specs.Kept.{AreEntries}
 use Rattle.spec_edit.specs.Edited as edited
-use Rattle.lp_edit.proofs.column.entries_of.Given as goal
+use Rattle.lp_model.proofs.column.entries_of.Given as goal
 
 -- the pairs that were passed over are in the entries
 abbrev pub invariant-loop-place : goal.invariant-loop-place

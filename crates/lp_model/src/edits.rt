@@ -3,15 +3,18 @@ ghost use Rattle.std.specs.Prelude.{◌≡◌, ◌<◌, true, false, IfOk};
 ghost use Rattle.spec_model.specs.Model.{width, height};
 ghost use Rattle.spec_edit.specs.Changes as changes;
 ghost use Rattle.spec_edit.specs.Edited as edited;
-ghost use Rattle.lp_edit.specs.Answer.{Applies, Leaves};
-ghost use Rattle.lp_edit.specs.Named.{at_row, at_column, at_entry};
+ghost use Rattle.lp_model.specs.Answer.{Applies, Leaves};
+ghost use Rattle.lp_model.specs.Named.{at_row, at_column, at_entry};
 
 use crate::column::entries_of;
 use crate::edit::{ColumnBounds, Edit, EditError, EditFault, Pairs};
+use crate::limits::is_free;
+use crate::model::{Column, Model, Row};
+use crate::names::{is_name, is_row_name};
 use lp_base::{Name, are_same};
 use lp_frac::{Frac, neg, zero};
-use lp_model::{Column, Kind, Model, Row, is_free, is_name, is_row_name};
 use spec_edit::Which;
+use spec_model::Kind;
 use std::alloc::Global;
 
 const MAX_ROWS: u32 = 256;

@@ -3,8 +3,8 @@ use Rattle.std.proofs.Common.{sym}
 use Rattle.std.proofs.lemmas.Result.{err_from_is_err_and}
 use Rattle.spec_model.specs.Model.{height}
 use Rattle.spec_edit.proofs.NewColumns.{column_of-kept}
-use Rattle.lp_edit.proofs.NewColumn.{is_good, is_free, pushed, stopped}
-use Rattle.lp_edit.proofs.edits.add_column.Goals as goal
+use Rattle.lp_model.proofs.NewColumn.{is_good, is_free, pushed, stopped}
+use Rattle.lp_model.proofs.edits.add_column.Goals as goal
 
 pub push_col-requires-clause-kept : goal.push_col-requires-clause-kept
 push_col-requires-clause-kept c =

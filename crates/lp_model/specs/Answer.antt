@@ -2,8 +2,8 @@
 use Rattle.std.specs.Prelude.{◌≡◌, ⊤, Bool, IsTrue, Result, Ok, Err}
 use Rattle.spec_model.specs.Model.{Model}
 use Rattle.spec_edit.specs.Edited.{ExactEdit, OrFault, edited, takes_memory}
-use Rattle.lp_edit.specs.declared.edit.EditError.{EditError}
-use Rattle.lp_edit.specs.declared.edit.EditError.TheVariants.{Fault, NoMemory}
+use Rattle.lp_model.specs.declared.edit.EditError.{EditError}
+use Rattle.lp_model.specs.declared.edit.EditError.TheVariants.{Fault, NoMemory}
 
 -- The answer's model stands in place of m, or the answer is this fault. There may be no memory only where some is
 -- taken. After a fault, and where there is no memory, m stays.

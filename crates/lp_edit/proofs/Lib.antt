@@ -1,2 +1,0 @@
-pub mod NewColumn
-pub mod PairSteps
