@@ -7,3 +7,5 @@ mod PieceLemmas
 mod RunSteps
 mod SoFar
 pub mod TakingLemmas
+pub mod Logs
+pub mod Remembered

@@ -8,3 +8,7 @@ pub mod NextLine
 pub mod Pieces
 pub mod Tables
 pub mod Taking
+pub mod LinkState
+pub mod Listening
+pub mod MemListening
+pub mod LinkMemory

@@ -16,21 +16,39 @@
 //! | `ReadsLines` | the lines that several calls took, and of which bytes | specs/Taking |
 //! | `ReadsAll`, `ReadsFront` | what was read in all, where a reader stops | specs/Taking |
 //! | `ReadsLittleMore` | how little was read beyond the lines that were taken | specs/Taking |
+//! | `Link` | a source and a sink on one object | src/link |
+//! | `Listen` | what gives links, one after the other, and takes them back | src/listen |
+//! | `LinkReport`, `LinkWork` | what is told of a link that has ended | src/report |
+//! | `MemLink` | a link in memory, which fails at the calls that are listed | src/mem_link |
+//! | `MemListen` | gives links in memory, and keeps those that come back | src/mem_listen |
+//! | `LinkState` | what is known of a link | specs/LinkState |
+//! | `LinkEvent` | that a link was given, or that it came back | specs/Listening |
 #![tactic(auto)]
 
 mod bytes;
 mod calls;
 mod feed;
 mod lines;
+mod link;
+mod listen;
+mod mem_event;
+mod mem_link;
+mod mem_listen;
 mod memory;
 mod outside;
 mod part;
+mod report;
 mod word;
 
 pub use bytes::{Bytes, Name, Texts, are_same};
 pub use calls::Calls;
 pub use feed::Feed;
 pub use lines::{Line, LineStop, Lines};
+pub use link::Link;
+pub use listen::Listen;
+pub use mem_link::MemLink;
+pub use mem_listen::MemListen;
 pub use memory::{MemSink, MemSource};
 pub use outside::{Failed, Sink, Source, WriteFault, send};
+pub use report::{LinkReport, LinkWork};
 pub use word::{is_blank, look_up, words};

@@ -1,10 +1,9 @@
 // A TCP stream as a link. It counts its faults and its bytes, and tells nothing of what these are.
 ghost use Rattle.std.specs.Prelude.{None, refl};
-ghost use Rattle.lp_link.specs.LinkState.{sink_of, source_of};
+ghost use Rattle.lp_base.specs.LinkState.{sink_of, source_of};
 
 use crate::again::{counted, read_again, write_again};
-use lp_base::{Failed, Sink, Source};
-use lp_link::Link;
+use lp_base::{Failed, Link, Sink, Source};
 use std::io;
 use std::io::{ErrorKind, Read};
 use std::net::{Shutdown, SocketAddr, TcpStream};

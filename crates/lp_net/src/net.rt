@@ -3,8 +3,7 @@ ghost use Rattle.std.specs.Prelude.{None};
 
 use crate::TcpLink;
 use crate::said::LinkLine;
-use lp_base::Failed;
-use lp_link::{LinkReport, Listen};
+use lp_base::{Failed, LinkReport, Listen};
 use std::io::ErrorKind;
 use std::net::TcpListener;
 use std::time::{Clock, Instant};

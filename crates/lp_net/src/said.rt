@@ -1,7 +1,7 @@
 // What is said of a link on standard error, in logfmt. No contract speaks of it.
 use crate::TcpLink;
 use jiff::Timestamp;
-use lp_link::LinkReport;
+use lp_base::LinkReport;
 use std::fmt;
 use std::net::SocketAddr;
 use std::time::{Clock, Duration};

@@ -16,7 +16,7 @@ use Rattle.basis_board.specs.Moments.{NotesMore, WereTrue}
 use Rattle.basis_board.specs.Orderly.{IsOrderly, IsWhole}
 use Rattle.basis_board.specs.PassReads.{reads_of}
 use Rattle.lp_base.specs.Causes.{Rose}
-use Rattle.lp_link.specs.Listening.{ListenerState}
+use Rattle.lp_base.specs.Listening.{ListenerState}
 use Rattle.lp_workers.specs.Dealt.{reads_of_all}
 use Rattle.lp_serve.specs.declared.worker.Worker.{Worker}
 use Rattle.lp_serve.specs.Gathering.{passes_of, nets_of, shares_of, IsOf}

@@ -17,7 +17,7 @@ use Rattle.spec_serve.proofs.ManyFromOne.{one_runs_by}
 use Rattle.basis_board.specs.declared.board.Board.{Board}
 use Rattle.basis_board.specs.Known.{Known}
 use Rattle.lp_base.specs.Beside.{Takes}
-use Rattle.lp_link.specs.Listening.{ListenerState}
+use Rattle.lp_base.specs.Listening.{ListenerState}
 use Rattle.lp_serve.specs.declared.fault.ServeFault.{ServeFault}
 use Rattle.lp_serve.specs.declared.fault.ServeFault.TheVariants as fault
 use Rattle.lp_serve.specs.declared.worker.Worker.{Worker}

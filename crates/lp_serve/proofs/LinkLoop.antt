@@ -14,7 +14,7 @@ use Rattle.basis_board.specs.Rule.{Consistent}
 use Rattle.lp_base.specs.Beside.{Takes, SinkState, SourceState}
 use Rattle.lp_base.specs.LinesState.{LinesState}
 use Rattle.lp_line.specs.Takes as lines
-use Rattle.lp_link.specs.LinkState.{sink_of, source_of}
+use Rattle.lp_base.specs.LinkState.{sink_of, source_of}
 use Rattle.lp_session.specs.Boarding.{AddsStep, StepCalls}
 use Rattle.lp_serve.specs.Service.{TakesAsk, ServesBy}
 use Rattle.lp_serve.proofs.LinkTurns.{Turn, stopped, cut_off, quit, turn_on}

@@ -25,7 +25,7 @@ use Rattle.basis_board.proofs.WholePass.{whole_backed}
 use Rattle.basis_board.specs.Played.{IsLogOf}
 use Rattle.basis_board.proofs.AnyOrder.{any_order}
 use Rattle.basis_board.proofs.Played.{all_played}
-use Rattle.lp_link.specs.Listening.{ListenerState}
+use Rattle.lp_base.specs.Listening.{ListenerState}
 use Rattle.lp_places.specs.Only.{published_words, AreInOrder}
 use Rattle.lp_places.specs.Sharing.{as_places}
 use Rattle.lp_workers.specs.Dealt.{KnowsWhole, reads_of_all}

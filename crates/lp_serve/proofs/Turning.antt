@@ -14,9 +14,9 @@ use Rattle.basis_board.specs.Id.{id_of}
 use Rattle.basis_board.specs.Known.{Known}
 use Rattle.basis_board.specs.Rule.{Consistent}
 use Rattle.lp_base.specs.Causes.{Rose}
-use Rattle.lp_link.specs.LinkState.{LinkState, IsNothing}
-use Rattle.lp_link.specs.Listening.{ListenerState, Given, Returned, Grows}
-use Rattle.lp_link.proofs.Logs.{grows_none, grows_more}
+use Rattle.lp_base.specs.LinkState.{LinkState, IsNothing}
+use Rattle.lp_base.specs.Listening.{ListenerState, Given, Returned, Grows}
+use Rattle.lp_base.proofs.Logs.{grows_none, grows_more}
 use Rattle.spec_serve.specs.Link.{ServesLink}
 use Rattle.lp_serve.specs.Service.{ServesBy}
 use Rattle.lp_serve.specs.Serving.{Served, IsServed, streams_of, events_of}

@@ -12,8 +12,8 @@ use Rattle.spec_serve.specs.Link.{ServesLink}
 use Rattle.spec_serve.specs.Links.{RunsOver}
 use Rattle.lp_base.specs.Beside.{Takes}
 use Rattle.lp_base.specs.Causes.{Rose}
-use Rattle.lp_link.specs.LinkState.{LinkState, IsNothing}
-use Rattle.lp_link.specs.Listening.{Grows, LinkEvent, Given, Returned, ListenerState}
+use Rattle.lp_base.specs.LinkState.{LinkState, IsNothing}
+use Rattle.lp_base.specs.Listening.{Grows, LinkEvent, Given, Returned, ListenerState}
 use Rattle.lp_serve.specs.declared.fault.ServeFault.{ServeFault}
 use Rattle.lp_serve.specs.declared.fault.ServeFault.TheVariants as fault
 

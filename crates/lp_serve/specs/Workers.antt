@@ -7,7 +7,7 @@ use Rattle.basis_board.specs.Id.{id_of}
 use Rattle.basis_board.specs.Rule.{Consistent}
 use Rattle.basis_board.specs.declared.seats.View.{View}
 use Rattle.lp_base.specs.Causes.{Rose}
-use Rattle.lp_link.specs.Listening.{ListenerState}
+use Rattle.lp_base.specs.Listening.{ListenerState}
 use Rattle.lp_session.specs.Boarding.{NotesOn}
 use Rattle.lp_serve.specs.Service.{Steps}
 use Rattle.lp_serve.specs.Serving.{Served, Listened}

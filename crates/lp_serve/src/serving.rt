@@ -2,7 +2,7 @@
 ghost use Rattle.std.specs.Prelude.{◌≡◌, ◌≤◌, ◌<◌, ℕ, All, IsErrOf, length, map, slice_index_or, vec_len};
 ghost use Rattle.std.specs.List.{list_any};
 ghost use Rattle.lp_base.specs.Causes.{Rose};
-ghost use Rattle.lp_link.specs.Listening.{listener_of};
+ghost use Rattle.lp_base.specs.Listening.{listener_of};
 ghost use Rattle.lp_serve.specs.Gathering.{passes_of, IsOf};
 ghost use Rattle.lp_serve.specs.Serving.{Serves, ended_with};
 ghost use Rattle.lp_serve.specs.Workers.{IsReady, HasServed};
@@ -13,8 +13,7 @@ use crate::fault::ServeFault;
 use crate::gather::{desks, dismiss, hire};
 use crate::worker::Worker;
 use basis_board::Board;
-use lp_base::Sink;
-use lp_link::Listen;
+use lp_base::{Listen, Sink};
 use std::alloc::Global;
 use std::sync::Wait;
 use std::thread;

@@ -1,12 +1,12 @@
 // What one thread has, and its turn.
 ghost use Rattle.std.specs.Prelude.{◌≤◌};
-ghost use Rattle.lp_link.specs.Listening.{listener_of};
+ghost use Rattle.lp_base.specs.Listening.{listener_of};
 ghost use Rattle.lp_serve.specs.Workers.{IsReady, HasServed};
 
 use crate::ends::word;
 use crate::link::serve_link;
 use basis_board::{Board, Pass};
-use lp_link::{LinkReport, LinkWork, Listen};
+use lp_base::{LinkReport, LinkWork, Listen};
 use spec_serve::LinkEnd;
 use std::alloc::Global;
 

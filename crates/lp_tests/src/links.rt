@@ -1,10 +1,9 @@
 // Two links before one worker, none, and links that fail at each of their reads and writes.
 ghost use Rattle.std.specs.Prelude.{◌≡◌, All, IfOk};
 ghost use Rattle.std.specs.Vec.{vec_len};
-ghost use Rattle.lp_link.specs.Memory.{IsUnwritten};
+ghost use Rattle.lp_base.specs.LinkMemory.{IsUnwritten};
 
-use lp_base::{Bytes, MemSink, Texts};
-use lp_link::{MemLink, MemListen};
+use lp_base::{Bytes, MemLink, MemListen, MemSink, Texts};
 use lp_serve::{ServeFault, serve};
 use std::alloc::{AllocError, Global};
 use std::sync::Wait;

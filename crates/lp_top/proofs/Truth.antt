@@ -27,7 +27,7 @@ use Rattle.spec_text_truth.proofs.TrueTexts.{said_true, none_true, no_seed_true}
 use Rattle.spec_serve.specs.Link.{is_quit, up_to_quit, link_asks_of, link_out, LinkMoves, HoldsOfAll}
 use Rattle.spec_serve.specs.Link as serving
 use Rattle.spec_serve.proofs.LinksAlone.{links_run}
-use Rattle.lp_link.specs.Listening.{LinkEvent, Grows, ListenerState}
+use Rattle.lp_base.specs.Listening.{LinkEvent, Grows, ListenerState}
 use Rattle.spec_serve.specs.Lines.{serve_out}
 use Rattle.lp_serve.specs.declared.fault.ServeFault.{ServeFault}
 use Rattle.lp_serve.specs.declared.fault.ServeFault.TheVariants as fault

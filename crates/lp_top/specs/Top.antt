@@ -7,7 +7,7 @@ use Rattle.spec_commands.specs.GenOut.{GenOut}
 use Rattle.spec_server.specs.Script.{Ended, Cut}
 use Rattle.spec_server.specs.Script as script
 use Rattle.lp_text_commands.specs.Generating.{TellsOfWriting}
-use Rattle.lp_link.specs.Listening.{ListenerState}
+use Rattle.lp_base.specs.Listening.{ListenerState}
 use Rattle.lp_script.specs.Run.{Moves, EndsInput, EndsWith, BreaksOff}
 use Rattle.lp_serve.specs.Serving.{Serves}
 use Rattle.lp_serve.specs.declared.fault.ServeFault.{ServeFault}

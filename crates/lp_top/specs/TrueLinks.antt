@@ -6,8 +6,8 @@ use Rattle.spec_server.specs.Streams.{Streams, streams}
 use Rattle.spec_program.specs.declared.command_line.CommandLine.TheVariants.{Serve}
 use Rattle.spec_program.specs.CommandLine.{ExactLine}
 use Rattle.spec_text_truth.specs.TrueOutput.{AreTrueReplies, Tells}
-use Rattle.lp_link.specs.LinkState.{LinkState}
-use Rattle.lp_link.specs.Listening.{LinkEvent, Given, Returned, Grows, ListenerState}
+use Rattle.lp_base.specs.LinkState.{LinkState}
+use Rattle.lp_base.specs.Listening.{LinkEvent, Given, Returned, Grows, ListenerState}
 use Rattle.lp_serve.specs.Serving.{no_listener}
 
 -- a link, as it was given and as it came back

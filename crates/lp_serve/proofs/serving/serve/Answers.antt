@@ -6,7 +6,7 @@ use Rattle.std.proofs.lemmas.List.{length-map}
 use Rattle.spec_serve.specs.Lines.{serve_out}
 use Rattle.basis_board.specs.declared.seats.View.{View}
 use Rattle.lp_base.specs.Beside.{Takes}
-use Rattle.lp_link.specs.Listening.{listener_of}
+use Rattle.lp_base.specs.Listening.{listener_of}
 use Rattle.lp_serve.specs.declared.worker.Worker.{Worker}
 use Rattle.lp_serve.specs.Gathering.{shares_of}
 use Rattle.lp_serve.specs.Workers.{ends_in}

@@ -1,7 +1,7 @@
 -- The workers stand in their list again.
 use Rattle.std.proofs.Common.{length, take, drop, ◌++◌, sym, subst}
 use Rattle.std.specs.List.{All}
-use Rattle.lp_link.specs.Listening.{listener_of}
+use Rattle.lp_base.specs.Listening.{listener_of}
 use Rattle.lp_serve.specs.Workers.{IsReady}
 use Rattle.lp_serve.proofs.Finishing.{served_now, are_of}
 use Rattle.lp_serve.proofs.serving.work_all.Goals as goal

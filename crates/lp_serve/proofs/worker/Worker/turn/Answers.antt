@@ -1,9 +1,9 @@
 -- One more link is served.
 use Rattle.std.proofs.Common.{length, ap, arith, refl}
 use Rattle.std.proofs.lemmas.List.{length-map}
-use Rattle.lp_link.specs.LinkState.{state_of}
-use Rattle.lp_link.specs.Listening.{listener_of}
-use Rattle.lp_link.proofs.Logs.{one_out}
+use Rattle.lp_base.specs.LinkState.{state_of}
+use Rattle.lp_base.specs.Listening.{listener_of}
+use Rattle.lp_base.proofs.Logs.{one_out}
 use Rattle.lp_serve.specs.Serving.{Served}
 use Rattle.lp_serve.proofs.Turning.{turn_begins, turn_more, turn_fails}
 use Rattle.lp_serve.proofs.worker.Worker.turn.Goals as goal

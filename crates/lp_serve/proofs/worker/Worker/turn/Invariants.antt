@@ -1,5 +1,5 @@
 -- The links so far.
-use Rattle.lp_link.specs.Listening.{listener_of}
+use Rattle.lp_base.specs.Listening.{listener_of}
 use Rattle.lp_serve.proofs.Turning.{Turning}
 use Rattle.lp_serve.proofs.worker.Worker.turn.Given as goal
 

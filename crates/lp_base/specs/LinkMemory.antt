@@ -1,12 +1,12 @@
 -- What the links in memory show.
 use Rattle.std.specs.Prelude.{◌≡◌, List, [], Some, map}
 use Rattle.lp_base.specs.Memory.{unread, source_faults, bytes_taken, sink_faults}
-use Rattle.lp_link.specs.LinkState.{LinkState, source_of, sink_of}
-use Rattle.lp_link.specs.Listening.{LinkEvent}
-use Rattle.lp_link.specs.Listening as links
-use Rattle.lp_link.specs.declared.mem_event.MemEvent.{MemEvent}
-use Rattle.lp_link.specs.declared.mem_event.MemEvent.TheVariants.{Given, Returned}
-use Rattle.lp_link.specs.declared.mem_link.MemLink.{MemLink}
+use Rattle.lp_base.specs.LinkState.{LinkState, source_of, sink_of}
+use Rattle.lp_base.specs.Listening.{LinkEvent}
+use Rattle.lp_base.specs.Listening as links
+use Rattle.lp_base.specs.declared.mem_event.MemEvent.{MemEvent}
+use Rattle.lp_base.specs.declared.mem_event.MemEvent.TheVariants.{Given, Returned}
+use Rattle.lp_base.specs.declared.mem_link.MemLink.{MemLink}
 
 -- what is known of a link in memory
 abbrev pub mem_link_state : MemLink → LinkState

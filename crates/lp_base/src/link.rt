@@ -1,8 +1,8 @@
 // What sends and receives on one object.
 ghost use Rattle.std.specs.Prelude.{◌≡◌};
-ghost use Rattle.lp_link.specs.LinkState.{sink_of, source_of};
+ghost use Rattle.lp_base.specs.LinkState.{sink_of, source_of};
 
-use lp_base::{Sink, Source};
+use crate::outside::{Sink, Source};
 
 /// A source and a sink on one object: neither a read nor a write changes what is known of the other side.
 pub trait Link: Source + Sink {

@@ -8,10 +8,12 @@ ghost use Rattle.lp_base.specs.Causes.{HasCause};
 ghost use Rattle.lp_base.specs.Memory.{unread, unread_pieces, next_read, failing_reads, source_faults};
 ghost use Rattle.lp_base.specs.Memory.{bytes_taken, next_write, failing_writes, sink_faults};
 ghost use Rattle.lp_base.specs.Pieces.{filled, bytes_of, first_given, left_behind};
-ghost use Rattle.lp_link.specs.LinkState.{sink_of, source_of};
+ghost use Rattle.lp_base.specs.LinkState.{sink_of, source_of};
 
-use crate::Link;
-use lp_base::{Failed, MemSink, MemSource, Sink, Source, Texts};
+use crate::bytes::Texts;
+use crate::link::Link;
+use crate::memory::{MemSink, MemSource};
+use crate::outside::{Failed, Sink, Source};
 use std::alloc::Global;
 
 /// Gives some pieces, and keeps what is written to it. The reads and the writes whose number is listed fail.

@@ -1,10 +1,10 @@
 -- How many links of a listener in memory are out.
 use Rattle.std.proofs.Common.{◌≡◌, List, [], ◌∷◌, ◌++◌, ap, ◌∙◌}
 use Rattle.std.proofs.lemmas.List.{map-append}
-use Rattle.lp_link.specs.Listening.{links_out}
-use Rattle.lp_link.specs.Memory.{event_of, events_of}
-use Rattle.lp_link.specs.declared.mem_event.MemEvent.{MemEvent}
-use Rattle.lp_link.proofs.Logs.{out-append}
+use Rattle.lp_base.specs.Listening.{links_out}
+use Rattle.lp_base.specs.LinkMemory.{event_of, events_of}
+use Rattle.lp_base.specs.declared.mem_event.MemEvent.{MemEvent}
+use Rattle.lp_base.proofs.Logs.{out-append}
 
 -- after one event more
 pub out_after : (log now : List MemEvent) (event : MemEvent) → now ≡ log ++ event ∷ [] →

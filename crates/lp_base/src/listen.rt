@@ -1,11 +1,12 @@
 // What gives links, one after the other, and takes them back.
 ghost use Rattle.std.specs.Prelude.{◌≡◌, ℕ, List, [], ◌∷◌, Option};
 ghost use Rattle.lp_base.specs.Causes.{HasCause};
-ghost use Rattle.lp_link.specs.LinkState.{state_of};
-ghost use Rattle.lp_link.specs.Listening.{LinkEvent, Returned, HandsOver, HasOneOut, Grows};
+ghost use Rattle.lp_base.specs.LinkState.{state_of};
+ghost use Rattle.lp_base.specs.Listening.{LinkEvent, Returned, HandsOver, HasOneOut, Grows};
 
-use crate::{Link, LinkReport};
-use lp_base::Failed;
+use crate::link::Link;
+use crate::outside::Failed;
+use crate::report::LinkReport;
 
 /// Gives links, and takes them back when they have ended.
 pub trait Listen {

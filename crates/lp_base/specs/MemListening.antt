@@ -1,9 +1,9 @@
 -- What the listener in memory shows.
 use Rattle.std.specs.Prelude.{ℕ, List}
-use Rattle.lp_link.specs.Listening.{LinkEvent}
-use Rattle.lp_link.specs.Memory.{events_of}
-use Rattle.lp_link.specs.declared.mem_link.MemLink.{MemLink}
-use Rattle.lp_link.specs.declared.mem_listen.MemListen.{MemListen}
+use Rattle.lp_base.specs.Listening.{LinkEvent}
+use Rattle.lp_base.specs.LinkMemory.{events_of}
+use Rattle.lp_base.specs.declared.mem_link.MemLink.{MemLink}
+use Rattle.lp_base.specs.declared.mem_listen.MemListen.{MemListen}
 
 -- the links that it will give, in their order
 abbrev pub links_waiting : MemListen → List MemLink

@@ -2,8 +2,8 @@
 use Rattle.std.proofs.Common.{◌≡◌, ℕ, ◌+◌, ◌-◌, List, [], ◌∷◌, ◌++◌, Option, Some, None}
 use Rattle.std.proofs.Common.{refl, sym, ap, ◌∙◌, subst, arith, append-nil}
 use Rattle.std.proofs.lemmas.List.{append_assoc}
-use Rattle.lp_link.specs.LinkState.{LinkState}
-use Rattle.lp_link.specs.Listening.{LinkEvent, Given, Returned, Grows, HasOneOut, links_out}
+use Rattle.lp_base.specs.LinkState.{LinkState}
+use Rattle.lp_base.specs.Listening.{LinkEvent, Given, Returned, Grows, HasOneOut, links_out}
 
 -- ---- what grows
 

@@ -1,8 +1,8 @@
 -- One fewer is out.
 use Rattle.std.proofs.Common.{arith}
-use Rattle.lp_link.specs.declared.mem_event.MemEvent.TheVariants.{Returned}
-use Rattle.lp_link.proofs.Remembered.{out_after}
-use Rattle.lp_link.proofs.mem_listen.MemListenListen.give_back.Goals as goal
+use Rattle.lp_base.specs.declared.mem_event.MemEvent.TheVariants.{Returned}
+use Rattle.lp_base.proofs.Remembered.{out_after}
+use Rattle.lp_base.proofs.mem_listen.MemListenListen.give_back.Goals as goal
 
 pub invariant_of-self-clause-room_to_log : goal.invariant_of-self-clause-room_to_log
 invariant_of-self-clause-room_to_log c =

@@ -2,11 +2,11 @@
 use Rattle.std.proofs.Common.{ℕ, List, take, drop, arith}
 use Rattle.std.proofs.lemmas.List.Elements.{All-drop, All-take}
 use Rattle.std.specs.List.{All}
-use Rattle.lp_link.specs.Memory.{IsUnwritten}
-use Rattle.lp_link.specs.declared.mem_event.MemEvent.TheVariants.{Given}
-use Rattle.lp_link.specs.declared.mem_link.MemLink.{MemLink}
-use Rattle.lp_link.proofs.Remembered.{out_after}
-use Rattle.lp_link.proofs.mem_listen.MemListenListen.accept.Goals as goal
+use Rattle.lp_base.specs.LinkMemory.{IsUnwritten}
+use Rattle.lp_base.specs.declared.mem_event.MemEvent.TheVariants.{Given}
+use Rattle.lp_base.specs.declared.mem_link.MemLink.{MemLink}
+use Rattle.lp_base.proofs.Remembered.{out_after}
+use Rattle.lp_base.proofs.mem_listen.MemListenListen.accept.Goals as goal
 
 unwritten_in_drop : (n : ℕ) (links : List MemLink) → All IsUnwritten links → All IsUnwritten (drop n links)
 unwritten_in_drop = All-drop IsUnwritten

@@ -1,5 +1,5 @@
 // What a listener in memory remembers.
-use crate::MemLink;
+use crate::mem_link::MemLink;
 use std::snapshot::Snapshot;
 
 /// A link was given or came back, as it was then.

@@ -1,7 +1,7 @@
 -- What a listener gives and takes back.
 use Rattle.std.specs.Prelude.{ℕ, ◌≡◌, ◌<◌, ◌+◌, ◌-◌, ◌++◌, List, [], ◌∷◌, Option, Some, None, Result, Ok, Err}
 use Rattle.lp_base.specs.declared.outside.Failed.{Failed}
-use Rattle.lp_link.specs.LinkState.{LinkState, IsNothing}
+use Rattle.lp_base.specs.LinkState.{LinkState, IsNothing}
 
 -- a link was given or came back, as it then was
 pub data LinkEvent : Type 0 where

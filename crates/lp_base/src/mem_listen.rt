@@ -6,12 +6,15 @@ ghost use Rattle.std.specs.Vec.{vec_len, vec_capacity};
 ghost use Rattle.std.specs.VecDeque.{deque_len};
 ghost use Rattle.std.proofs.Props.{props};
 ghost use Rattle.lp_base.specs.Causes.{HasCause};
-ghost use Rattle.lp_link.specs.Listening.{HandsOver, Returned, links_out};
-ghost use Rattle.lp_link.specs.Memory.{mem_link_state, events_of, IsUnwritten};
+ghost use Rattle.lp_base.specs.Listening.{HandsOver, Returned, links_out};
+ghost use Rattle.lp_base.specs.LinkMemory.{mem_link_state, events_of, IsUnwritten};
 
+use crate::calls::Calls;
+use crate::listen::Listen;
 use crate::mem_event::MemEvent;
-use crate::{LinkReport, Listen, MemLink};
-use lp_base::{Calls, Failed};
+use crate::mem_link::MemLink;
+use crate::outside::Failed;
+use crate::report::LinkReport;
 use std::alloc::{AllocError, Global};
 use std::collections::VecDeque;
 use std::snapshot::Snapshot;
@@ -31,8 +34,8 @@ pub struct MemListen {
 }
 
 impl MemListen {
-    ghost use Rattle.lp_link.specs.MemListening.{links_waiting, links_returned, link_log};
-    ghost use Rattle.lp_link.specs.MemListening.{next_accept, failing_accepts, listen_faults};
+    ghost use Rattle.lp_base.specs.MemListening.{links_waiting, links_returned, link_log};
+    ghost use Rattle.lp_base.specs.MemListening.{next_accept, failing_accepts, listen_faults};
 
     /// Listens for these links, to none of which anything was written yet.
     pub fn new(alloc: Global, links: Vec<MemLink>, fails: Vec<u64>) -> Result<Self, AllocError>
@@ -63,8 +66,8 @@ impl MemListen {
 }
 
 impl Listen for MemListen {
-    ghost use Rattle.lp_link.specs.MemListening.{links_waiting, links_returned, link_log};
-    ghost use Rattle.lp_link.specs.MemListening.{next_accept, failing_accepts, listen_faults};
+    ghost use Rattle.lp_base.specs.MemListening.{links_waiting, links_returned, link_log};
+    ghost use Rattle.lp_base.specs.MemListening.{next_accept, failing_accepts, listen_faults};
 
     type Link = MemLink;
 

@@ -1,3 +1,0 @@
--- Lemmas.
-pub mod Logs
-pub mod Remembered
