@@ -2,7 +2,7 @@
 ghost use Rattle.std.specs.Prelude.{◌≡◌, ◌↔◌, ℕ, List, IsTrue, IfOk};
 ghost use Rattle.spec_text.specs.Words.{same};
 
-use lp_list::Items;
+use crate::list::Items;
 use std::alloc::{AllocError, Global};
 use std::fmt;
 use std::marker::Model;

@@ -1,4 +1,5 @@
-//! The outside: where bytes come from and go to, counting faults, and the lines of what is read.
+//! The outside: where bytes come from and go to, counting faults, links and listeners, and the lines of what is read; and the
+//! list that contracts see as a plain one.
 //!
 //! | Item | What it is | Where |
 //! |---|---|---|
@@ -23,6 +24,7 @@
 //! | `MemListen` | gives links in memory, and keeps those that come back | src/mem_listen |
 //! | `LinkState` | what is known of a link | specs/LinkState |
 //! | `LinkEvent` | that a link was given, or that it came back | specs/Listening |
+//! | `Items` | a list of items of one type, which a contract sees as the plain list of them | src/list |
 #![tactic(auto)]
 
 mod bytes;
@@ -30,6 +32,7 @@ mod calls;
 mod feed;
 mod lines;
 mod link;
+mod list;
 mod listen;
 mod mem_event;
 mod mem_link;
@@ -45,6 +48,7 @@ pub use calls::Calls;
 pub use feed::Feed;
 pub use lines::{Line, LineStop, Lines};
 pub use link::Link;
+pub use list::Items;
 pub use listen::Listen;
 pub use mem_link::MemLink;
 pub use mem_listen::MemListen;

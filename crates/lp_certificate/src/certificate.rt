@@ -1,7 +1,6 @@
 // Certificates as texts have them, with names and numbers as the code holds them.
-use lp_base::Name;
+use lp_base::{Items, Name};
 use lp_frac::Frac;
-use lp_list::Items;
 
 /// One number of a certificate, for the column or the row with a name.
 pub type PartOf<N> = spec_check::Part<Name, N>;

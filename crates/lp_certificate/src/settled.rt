@@ -7,8 +7,7 @@ ghost use Rattle.lp_certificate.specs.declared.settled.SettleError.TheVariants.{
 
 use crate::certificate::{CertificateKind, CertificateOf, PartOf, RawOf, SettleFault};
 use crate::number::Number;
-use lp_base::{Name, are_same};
-use lp_list::Items;
+use lp_base::{Items, Name, are_same};
 use lp_model::Model;
 use spec_check::{Certificate, Letter};
 use std::alloc::{AllocError, Global};

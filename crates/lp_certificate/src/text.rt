@@ -7,8 +7,7 @@ ghost use Rattle.lp_certificate.specs.Letters.{count_of, name_at, value_lines};
 
 use crate::certificate::CertificateOf;
 use crate::number::Number;
-use lp_base::{Bytes, Texts};
-use lp_list::Items;
+use lp_base::{Bytes, Items, Texts};
 use lp_model::Model;
 use spec_check::{Certificate, Letter};
 use std::alloc::{AllocError, Global};

@@ -1,6 +1,6 @@
 // Lists that contracts see as plain lists: of bounds, of the entries of columns, and of statuses.
+use lp_base::Items;
 use lp_frac::{Entries, Frac};
-use lp_list::Items;
 use spec_pivot::Status;
 
 /// A list of bounds, each of which may be absent.

@@ -4,7 +4,7 @@ ghost use Rattle.spec_exact.specs.Fraction.{0ℚ};
 
 use crate::frac::Frac;
 use crate::readers::zero;
-use lp_list::Items;
+use lp_base::Items;
 use std::alloc::{AllocError, Global};
 
 /// A list of fractions.

@@ -1,7 +1,7 @@
 // Lists of sides and of points, and what a search ends with.
+use lp_base::Items;
 use lp_check::Certificate;
 use lp_frac::Fracs;
-use lp_list::Items;
 use lp_solve::End;
 use spec_iis::Side;
 

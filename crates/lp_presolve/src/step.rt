@@ -3,8 +3,8 @@ ghost use Rattle.std.specs.Prelude.{◌≡◌, IfOk};
 ghost use Rattle.lp_presolve.specs.Kept.{kept, HasColumn};
 
 use crate::choosing::Reduction;
+use lp_base::Items;
 use lp_frac::{Entries, Frac, zero};
-use lp_list::Items;
 use lp_model::{Model, Sense};
 use std::alloc::{AllocError, Global};
 

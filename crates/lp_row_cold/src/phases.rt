@@ -9,8 +9,8 @@ ghost use Rattle.lp_row_cold.specs.Phases.{rest_run, end_by, HasCosts, IsReady, 
 ghost use Rattle.lp_row_cold.specs.Phases.{HasFit, EndsWith, IsOver};
 
 use crate::steps::{StepsPause, run};
+use lp_base::Items;
 use lp_form::{Form, StatusList};
-use lp_list::Items;
 use lp_row_tableau::{RowTableau, basis, certificate, is_stuck, phase_two};
 use lp_rows::Listed;
 use lp_tableau::PrimalEnd;

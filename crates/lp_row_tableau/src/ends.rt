@@ -15,8 +15,8 @@ ghost use Rattle.lp_row_tableau.specs.Shows.{IsRow, IsWhole, IsReached, Shows, h
 ghost use Rattle.lp_row_tableau.specs.Ends.{certificate_as, basis_by, AllFit, IsInside, point_as, multipliers_as, direction_as};
 
 use crate::tableau::RowTableau;
+use lp_base::Items;
 use lp_form::{Status, StatusList, is_basic};
-use lp_list::Items;
 use lp_rows::{Listed, Row, RowFraction, directed, negated, one, zero};
 use lp_tableau::PrimalEnd;
 use lp_wide::{Signed, Words};

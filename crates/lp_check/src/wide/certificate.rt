@@ -1,5 +1,5 @@
 // Certificates and verdicts, with numbers of any width.
-use lp_list::Items;
+use lp_base::Items;
 use lp_ratio::Ratio;
 
 /// A list of numbers of any width.

@@ -2,8 +2,8 @@
 ghost use Rattle.std.specs.Prelude.{◌≡◌, IfOk};
 
 use crate::wide::certificate::Ratios;
+use lp_base::Items;
 use lp_frac::{Frac, den};
-use lp_list::Items;
 use lp_model::Model;
 use lp_ratio::on_one_denominator;
 use std::alloc::{AllocError, Global};

@@ -2,10 +2,9 @@
 //!
 //! | Item | What it is | Where |
 //! |---|---|---|
-//! | `Items` | a list of items of one type, which a contract sees as the plain list of them | src/lib |
+//! | `Items` | a list of items of one type, which a contract sees as the plain list of them | src/list |
 //!
 //! The lists of the crates above are this one at the type of their items, under names of their own.
-#![tactic(auto)]
 
 ghost use Rattle.std.specs.Prelude.{◌≡◌, ◌==◌, ◌<◌, ◌≤◌, [], ◌∷◌, ◌++◌, length, slice_get, slice_set};
 ghost use Rattle.std.specs.Prelude.{IfOk, OnOk, OnErr};
