@@ -11,7 +11,7 @@ use Rattle.spec_factor.specs.Over.{answer_in}
 use Rattle.spec_solve.specs.Order.{GivesUp, MayEndCold}
 use Rattle.lp_revised.specs.declared.cold_run.RunEnd.{RunEnd}
 use Rattle.lp_revised.specs.Runs.{over_end}
-use Rattle.lp_row_cold.specs.declared.phases.RowEnd.{RowEnd}
+use Rattle.lp_row_runs.specs.declared.phases.RowEnd.{RowEnd}
 use Rattle.lp_solve.proofs.Factored.{other_may}
 
 abbrev pub run_end : RowEnd ℚ → RunEnd

@@ -30,8 +30,8 @@ use Rattle.spec_warm.proofs.TrueEnds.{run_accepted}
 use Rattle.spec_solve.specs.Answers.{IsSolved}
 use Rattle.spec_solve.specs.Wide.{ExactAnswer, IsPastFrom, IsWarmEnd, IsColdEnd, IsWideAnswer}
 use Rattle.lp_revised.specs.Runs.{over_end}
-use Rattle.lp_row_cold.specs.declared.phases.RowEnd.{RowEnd}
-use Rattle.lp_row_warm.specs.Warm.{EndsFromBasis}
+use Rattle.lp_row_runs.specs.declared.phases.RowEnd.{RowEnd}
+use Rattle.lp_row_runs.specs.Warm.{EndsFromBasis}
 use Rattle.lp_solve.specs.Wide.{AcceptsEnd, IsCertified, IsCertifiedAt}
 use Rattle.lp_solve.proofs.FromRows.{run_end}
 use Rattle.lp_solve.proofs.Left.{warm_leaves}

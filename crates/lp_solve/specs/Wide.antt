@@ -9,7 +9,7 @@ use Rattle.spec_warm.specs.declared.ends.Route.{Route}
 use Rattle.spec_warm.specs.declared.ends.Route.TheVariants as routes
 use Rattle.spec_solve.specs.OfBasis.{IsOfBasis}
 use Rattle.spec_solve.specs.Wide.{ExactAnswer}
-use Rattle.lp_row_cold.specs.declared.phases.RowEnd.{RowEnd}
+use Rattle.lp_row_runs.specs.declared.phases.RowEnd.{RowEnd}
 
 -- its certificate is one for the model, to which the checker says yes
 pub record IsCertified (m : Model) (a : ExactAnswer) : Type 0 where

@@ -23,8 +23,7 @@ use lp_lift::certificate_of_basis;
 use lp_model::Model;
 use lp_ratio::Ratio;
 use lp_rough::rough_basis;
-use lp_row_cold::{RowEnd, wide_cold};
-use lp_row_warm::wide_warm;
+use lp_row_runs::{RowEnd, wide_cold, wide_warm};
 use spec_warm::Route;
 use std::alloc::{AllocError, Global};
 

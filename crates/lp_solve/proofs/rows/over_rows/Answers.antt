@@ -1,5 +1,5 @@
 -- The run ends as the stated one without a limit: so its certificate fits, and its basis is one of the form.
-use Rattle.lp_row_cold.proofs.BothPhases.{of_some}
+use Rattle.lp_row_runs.proofs.BothPhases.{of_some}
 use Rattle.lp_solve.proofs.Factored.{over_fits, over_leaves}
 use Rattle.lp_solve.proofs.FromRows.{run_end, rows_may}
 use Rattle.lp_solve.proofs.rows.over_rows.Goals as goal

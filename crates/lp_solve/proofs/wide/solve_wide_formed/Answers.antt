@@ -1,7 +1,7 @@
 -- A solve has ended with an operation that is past the limit.
 use Rattle.std.proofs.Common.{None, inr, sym, subst}
 use Rattle.spec_solve.specs.Wide.{IsWideSolved}
-use Rattle.lp_row_cold.proofs.BothPhases.{of_some}
+use Rattle.lp_row_runs.proofs.BothPhases.{of_some}
 use Rattle.lp_solve.proofs.Unlimited.{is_past}
 use Rattle.lp_solve.proofs.wide.solve_wide_formed.Goals as goal
 

@@ -1,5 +1,5 @@
 -- The run ends as the stated one without a limit: so its certificate fits.
-use Rattle.lp_row_cold.proofs.BothPhases.{of_some}
+use Rattle.lp_row_runs.proofs.BothPhases.{of_some}
 use Rattle.lp_solve.proofs.Factored.{over_fits, over_leaves}
 use Rattle.lp_solve.proofs.FromRows.{run_end}
 use Rattle.lp_solve.proofs.Unlimited.{cold_known}

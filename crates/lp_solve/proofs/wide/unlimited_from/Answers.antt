@@ -1,5 +1,5 @@
 -- The run ends as the stated one from the basis without a limit: so its certificate fits.
-use Rattle.lp_row_cold.proofs.BothPhases.{of_some}
+use Rattle.lp_row_runs.proofs.BothPhases.{of_some}
 use Rattle.lp_solve.proofs.Unlimited.{warm_fits, warm_based, warm_known}
 use Rattle.lp_solve.proofs.wide.unlimited_from.Goals as goal
 

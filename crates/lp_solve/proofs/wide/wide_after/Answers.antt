@@ -1,6 +1,6 @@
 -- The cold part has ended, perhaps with an operation that is past the limit.
 use Rattle.std.proofs.Common.{Some}
-use Rattle.lp_row_cold.proofs.BothPhases.{of_some}
+use Rattle.lp_row_runs.proofs.BothPhases.{of_some}
 use Rattle.lp_solve.proofs.Unlimited.{is_answer}
 use Rattle.lp_solve.proofs.wide.wide_after.Goals as goal
 

@@ -1,4 +1,0 @@
-pub mod Reached
-pub mod OneStep
-pub mod BothPhases
-pub mod Widths

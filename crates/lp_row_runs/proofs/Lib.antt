@@ -1,0 +1,10 @@
+pub mod Reached
+pub mod OneStep
+pub mod BothPhases
+pub mod Widths
+pub mod Unsolved
+pub mod Placed
+pub mod Solving
+pub mod Started
+pub mod Fitted
+pub mod Ended

@@ -1,0 +1,132 @@
+-- Steps by the first of them.
+use Rattle.std.proofs.Common.{◌≡◌, ◌≢◌, ℕ, zero, suc, ◌+◌, ◌-◌, ◌<◌, Option, Some, None, Result, Ok, refl}
+use Rattle.std.proofs.Common.{sym, ap, ◌∙◌, subst, arith}
+use Rattle.spec_exact.specs.Fraction.{ℚ}
+use Rattle.spec_simplex.specs.declared.ends.Choice.{Choice}
+use Rattle.spec_simplex.specs.declared.ends.Choice.TheVariants as choice
+use Rattle.spec_simplex.specs.declared.ends.PrimalEnd.{PrimalEnd}
+use Rattle.spec_simplex.specs.declared.ends.RunStop.{RunStop}
+use Rattle.spec_simplex.specs.declared.ends.RunStop.TheVariants as stop
+use Rattle.spec_exact.specs.Run.{◌>>=◌, refused_as}
+use Rattle.spec_simplex.specs.Step.{choice_run}
+use Rattle.spec_simplex.specs.Tableau.{Tableau}
+use Rattle.spec_simplex.specs.Phases.{PrimalEnded, end_or_spent, end_or_next, done_run, run_from}
+use Rattle.lp_row_tableau.specs.declared.choice.Step.{Step}
+use Rattle.lp_row_tableau.specs.declared.choice.Step.TheVariants.{End, Flip, Pivot}
+use Rattle.lp_row_tableau.specs.declared.tableau.RowTableau.{RowTableau}
+use Rattle.lp_row_tableau.specs.Shows.{IsReached, Shows}
+use Rattle.lp_row_tableau.specs.Steps.{step_of}
+use Rattle.lp_row_runs.specs.declared.steps.StepsPause.{StepsPause}
+use Rattle.lp_row_runs.specs.declared.steps.StepsPause.TheVariants.{Ended, Narrow, GaveUp}
+use Rattle.lp_row_runs.specs.Steps.{steps_from, ComesTo, EndsAt, PausesAt, StepsTo, Advances}
+use Rattle.lp_row_runs.specs.Steps.{Keeps, KeepsAt, KeepsStep, KeepsAdvance}
+use Rattle.lp_row_runs.proofs.Reached.{done_given, step_reached}
+
+-- a step that is no end
+abbrev pub GoesOn : Step → Type 0
+GoesOn step = (end : PrimalEnd) → step ≢ End end
+
+-- a choice of an end is that end
+end_of : (c : Choice ℚ) (end : PrimalEnd) → step_of c ≡ End end → c ≡ choice.End end
+end_of (choice.End x) end e = let z : x ≡ end = cc in ap choice.End z
+end_of (choice.Flip j) end e = let z : ◌≡◌ {A = Step} (Flip j) (End end) = e in cc
+end_of (choice.Pivot p j theta to) end e = let z : ◌≡◌ {A = Step} (Pivot p j to) (End end) = e in cc
+
+module _ (t : Tableau) (c : Choice ℚ) (h : choice_run None t ≡ Ok c) where
+  ends_by : (left used : ℕ) (end : PrimalEnd) → c ≡ choice.End end →
+      run_from None left used t ≡ Ok (record { end = end; tableau = t; used = used })
+  unfolding run_from
+  ends_by zero used end e = ap (λ o. refused_as stop.Past o >>= end_or_spent t used) (h ∙ ap Ok e)
+  ends_by (suc left) used end e =
+      ap (λ o. refused_as stop.Past o >>= end_or_next None t used (λ u. run_from None left (used + 1) u)) (h ∙ ap Ok e)
+
+  next_by : (used : ℕ) (next : Tableau → Result PrimalEnded (RunStop ℚ)) (c : Choice ℚ) → GoesOn (step_of c) →
+      end_or_next None t used next c ≡ (refused_as stop.Past (done_run None t c) >>= next)
+  next_by used next (choice.End end) n = absurd (n end refl)
+  next_by used next (choice.Flip j) n = refl
+  next_by used next (choice.Pivot p j theta to) n = refl
+
+  on_by : (left used : ℕ) (u : Tableau) → GoesOn (step_of c) → done_run None t c ≡ Ok u →
+      run_from None (suc left) used t ≡ run_from None left (used + 1) u
+  unfolding run_from
+  on_by left used u n d =
+      ap (λ o. refused_as stop.Past o >>= end_or_next None t used (λ u. run_from None left (used + 1) u)) h
+      ∙ next_by used (λ u. run_from None left (used + 1) u) c n
+      ∙ ap (λ o. refused_as stop.Past o >>= (λ u. run_from None left (used + 1) u)) d
+
+  one_step : (budget used : ℕ) (u : Tableau) → GoesOn (step_of c) → used < budget → done_run None t c ≡ Ok u →
+      steps_from budget used t ≡ steps_from budget (used + 1) u
+  one_step budget used u n l d =
+      let z : budget - used ≡ suc (budget - (used + 1)) = omega (arith, l) in
+      ap (λ left. run_from None left used t) z ∙ on_by (budget - (used + 1)) used u n d
+
+-- ---- with rows, of which some step is chosen
+module _ {T : Type 0} (value : T → ℕ) (budget used : ℕ) (t : Tableau) (r : RowTableau T) (reached : IsReached t)
+    (shown : Shows value r t) where
+  -- where nothing is made, the steps are the same
+  pub stays : ComesTo value budget used t r used
+  stays = record { tableau = t; reached = reached; shown = shown; same = refl }
+
+  module _ (step : Step) (chosen : (c : Choice ℚ) × (choice_run None t ≡ Ok c) × (step_of c ≡ step)) where
+    pub ends : (end : PrimalEnd) → step ≡ End end → EndsAt value budget used t r used end
+    ends end e = record {
+      tableau = t;
+      reached = reached;
+      shown = shown;
+      ends = ends_by t chosen.0 chosen.1 (budget - used) used end (end_of chosen.0 end (chosen.2 ∙ e));
+    }
+
+    -- the step is made, or there is a pause before it
+    pub advanced : (s : RowTableau T) (result : Option StepsPause) → GoesOn step → used < budget →
+        ((u : Tableau) (c : Choice ℚ) → choice_run None t ≡ Ok c → step_of c ≡ step → done_run None t c ≡ Ok u →
+        Advances value t u s result) → StepsTo value budget used t s result
+    advanced s result n l more = by result (more u chosen.0 chosen.1 chosen.2 done)
+      where
+        u : Tableau
+        u = (done_given t chosen.0).0
+
+        done : done_run None t chosen.0 ≡ Ok u
+        done = (done_given t chosen.0).1
+
+        by : (result : Option StepsPause) → Advances value t u s result → StepsTo value budget used t s result
+        by None a = record {
+          tableau = u;
+          reached = step_reached t u chosen.0 reached chosen.1 done;
+          shown = a;
+          same = one_step t chosen.0 chosen.1 budget used u (subst GoesOn (sym chosen.2) n) l done;
+        }
+        by (Some (Ended end)) a = absurd a
+        by (Some Narrow) a = record { tableau = t; reached = reached; shown = a; same = refl }
+        by (Some GaveUp) a = tt
+
+-- ---- one after the other
+module _ {T : Type 0} (value : T → ℕ) (budget used : ℕ) (t : Tableau) (r : RowTableau T) (now : ℕ)
+    (c : ComesTo value budget used t r now) where
+  pub then_comes : (s : RowTableau T) (later : ℕ) → ComesTo value budget now c.tableau s later →
+      ComesTo value budget used t s later
+  then_comes s later d =
+      record { tableau = d.tableau; reached = d.reached; shown = d.shown; same = c.same ∙ d.same }
+
+  pub then_pauses : (s : RowTableau T) (later : ℕ) (pause : StepsPause) →
+      PausesAt value budget now c.tableau s later pause → PausesAt value budget used t s later pause
+  then_pauses s later (Ended end) d =
+      record { tableau = d.tableau; reached = d.reached; shown = d.shown; ends = c.same ∙ d.ends }
+  then_pauses s later Narrow d = then_comes s later d
+  then_pauses s later GaveUp d = tt
+
+-- ---- the rows are whole, and as many
+module _ {T : Type 0} (value : T → ℕ) (r s v : RowTableau T) where
+  pub kept : Keeps value r s → Keeps value s v → Keeps value r v
+  kept h k = record { whole = k.whole; rows = k.rows ∙ h.rows; cols = k.cols ∙ h.cols }
+
+  pub kept_pause : (pause : StepsPause) → Keeps value r s → KeepsAt value s v pause → KeepsAt value r v pause
+  kept_pause (Ended end) h k = (kept h k.0, k.1)
+  kept_pause Narrow h k = kept h k
+  kept_pause GaveUp h k = tt
+
+pub kept_step : {T : Type 0} (value : T → ℕ) (r s : RowTableau T) (result : Option StepsPause) →
+    KeepsAdvance value r s result → KeepsStep value r s result
+kept_step value r s None h = h
+kept_step value r s (Some (Ended end)) h = absurd h
+kept_step value r s (Some Narrow) h = h
+kept_step value r s (Some GaveUp) h = tt

@@ -1,0 +1,72 @@
+-- What steps over rows come to, by the tableaus of exact fractions that the rows are.
+use Rattle.std.specs.Prelude.{◌≡◌, ℕ, ◌+◌, ◌-◌, Option, Some, None, Result, Ok}
+use Rattle.spec_exact.specs.Fraction.{ℚ}
+use Rattle.spec_simplex.specs.declared.ends.PrimalEnd.{PrimalEnd}
+use Rattle.spec_simplex.specs.declared.ends.RunStop.{RunStop}
+use Rattle.spec_simplex.specs.Tableau.{Tableau}
+use Rattle.spec_simplex.specs.Phases.{PrimalEnded, run_from}
+use Rattle.lp_row_tableau.specs.declared.tableau.RowTableau.{RowTableau}
+use Rattle.lp_row_tableau.specs.Shows.{height, IsWhole, IsReached, Shows}
+use Rattle.lp_row_tableau.specs.Ends.{IsInside}
+use Rattle.lp_row_runs.specs.declared.steps.StepsPause.{StepsPause}
+use Rattle.lp_row_runs.specs.declared.steps.StepsPause.TheVariants.{Ended, Narrow, GaveUp}
+
+-- the stated steps from a tableau, before which `used` of the budget were made, with no limit on numbers
+abbrev pub steps_from : ℕ → ℕ → Tableau → Result PrimalEnded (RunStop ℚ)
+steps_from budget used t = run_from None (budget - used) used t
+
+-- the rows are a reached tableau from which the steps are those from t
+pub record ComesTo {T : Type 0} (value : T → ℕ) (budget used : ℕ) (t : Tableau) (r : RowTableau T) (now : ℕ) :
+    Type 0 where
+  pub tableau : Tableau
+  pub reached : IsReached tableau
+  pub shown : Shows value r tableau
+  pub same : steps_from budget used t ≡ steps_from budget now tableau
+
+-- the rows are the reached tableau that the steps from t end with
+pub record EndsAt {T : Type 0} (value : T → ℕ) (budget used : ℕ) (t : Tableau) (r : RowTableau T) (now : ℕ)
+    (end : PrimalEnd) : Type 0 where
+  pub tableau : Tableau
+  pub reached : IsReached tableau
+  pub shown : Shows value r tableau
+  pub ends : steps_from budget used t ≡ Ok (record { end = end; tableau = tableau; used = now })
+
+-- steps pause so, with these rows and this count
+abbrev pub PausesAt : {T : Type 0} → (T → ℕ) → ℕ → ℕ → Tableau → RowTableau T → ℕ → StepsPause → Type 0
+PausesAt value budget used t r now (Ended end) = EndsAt value budget used t r now end
+PausesAt value budget used t r now Narrow = ComesTo value budget used t r now
+PausesAt value budget used t r now GaveUp = Unit {0}
+
+-- one step more was made, or there is a pause before it
+abbrev pub StepsTo : {T : Type 0} → (T → ℕ) → ℕ → ℕ → Tableau → RowTableau T → Option StepsPause → Type 0
+StepsTo value budget used t r None = ComesTo value budget used t r (used + 1)
+StepsTo value budget used t r (Some pause) = PausesAt value budget used t r used pause
+
+-- rows that are whole, and as many as before
+pub record Keeps {T : Type 0} (value : T → ℕ) (r s : RowTableau T) : Type 0 where
+  pub whole : IsWhole value s
+  pub rows : height s ≡ height r
+  pub cols : s.cols ≡ r.cols
+
+-- but where a run gives up; and a column that is never stopped is structural or logical
+abbrev pub KeepsAt : {T : Type 0} → (T → ℕ) → RowTableau T → RowTableau T → StepsPause → Type 0
+KeepsAt value r s (Ended end) = Keeps value r s × IsInside s (Some end)
+KeepsAt value r s Narrow = Keeps value r s
+KeepsAt value r s GaveUp = Unit {0}
+
+abbrev pub KeepsStep : {T : Type 0} → (T → ℕ) → RowTableau T → RowTableau T → Option StepsPause → Type 0
+KeepsStep value r s None = Keeps value r s
+KeepsStep value r s (Some pause) = KeepsAt value r s pause
+
+-- the rows are u, which the step makes of t; or still t
+abbrev pub Advances : {T : Type 0} → (T → ℕ) → Tableau → Tableau → RowTableau T → Option StepsPause → Type 0
+Advances value t u r None = Shows value r u
+Advances value t u r (Some (Ended end)) = ⊥
+Advances value t u r (Some Narrow) = Shows value r t
+Advances value t u r (Some GaveUp) = Unit {0}
+
+abbrev pub KeepsAdvance : {T : Type 0} → (T → ℕ) → RowTableau T → RowTableau T → Option StepsPause → Type 0
+KeepsAdvance value r s None = Keeps value r s
+KeepsAdvance value r s (Some (Ended end)) = ⊥
+KeepsAdvance value r s (Some Narrow) = Keeps value r s
+KeepsAdvance value r s (Some GaveUp) = Unit {0}

@@ -1,0 +1,195 @@
+// Rows that are solved for columns, one after the other.
+ghost use Rattle.std.specs.Prelude.{◌≡◌, ◌<◌, ◌+◌, ℕ, pos, IfSome, IsTrue, Some, List, length, slice_set, true};
+ghost use Rattle.spec_exact.specs.Fraction.{0ℚ, eq_ℚ};
+ghost use Rattle.spec_pivot.specs.declared.status.Status.{Status as statuses};
+ghost use Rattle.spec_pivot.specs.declared.status.Status.TheVariants.{Basic};
+ghost use Rattle.spec_simplex.specs.Form.{Form as forms};
+ghost use Rattle.spec_simplex.specs.Eliminate as stated;
+ghost use Rattle.lp_wide.specs.Whole.{whole};
+ghost use Rattle.lp_row_tableau.specs.Shows.{height, width};
+ghost use Rattle.lp_row_tableau.specs.Moves.{number_in};
+ghost use Rattle.lp_row_runs.specs.Rows.{IsSolvedBelow, IsComplete, IfDone};
+
+use lp_form::{Status, is_basic};
+use lp_row_tableau::{RowTableau, Step, Turn, effort_of, turn_rows};
+use lp_wide::{Signed, Words};
+
+/// Equations as rows, and which positions have a basic column.
+#[derive(Drop)]
+pub(crate) struct Elimination<T: Words> {
+    pub(crate) tab: RowTableau<T>,
+    pub(crate) taken: Vec<bool>,
+}
+
+/// What comes of solving equations for columns.
+#[derive(Clone, Copy)]
+pub(crate) enum Progress {
+    Done,
+    /// A number is past the width.
+    Narrow,
+    /// The columns depend on each other, or the work is spent.
+    Stopped,
+}
+
+// 0.
+fn none<T: Words>() -> Signed<T>
+    ensures { whole result.negative (T.value result.size) ≡ pos 0 }
+{
+    Signed {
+        negative: false,
+        size: T::zero(),
+    }
+}
+
+// Whether what a step takes is within the work that is left, off which it is taken.
+fn spend(work: &mut u64, takes: u64) -> bool {
+    match work.checked_sub(takes) {
+        Some(left) => {
+            *work = left;
+            true
+        }
+        None => false,
+    }
+}
+
+impl<T: Words> Elimination<T> {
+    // Whether row `i` has no entry in column `j`.
+    fn has_none(&self, j: usize, i: usize) -> bool
+        requires complete { IsComplete T.value self.now }
+        requires column { j < width self.now.tab }
+        requires place { i < height self.now.tab }
+        ensures { result ≡ eq_ℚ (number_in T.value self.now.tab.rows.items i j) 0ℚ }
+    {
+        self.tab.rows[i].numbers[j].size.is_zero()
+    }
+
+    // Whether position `i` has no column yet, and its entry in column `j` is not 0.
+    fn is_open(&self, j: usize, i: usize) -> bool
+        requires complete { IsComplete T.value self.now }
+        requires column { j < width self.now.tab }
+        requires place { i < height self.now.tab }
+        ensures { (f : forms) (basis : List statuses) (c : ℕ) → (s : IsSolvedBelow T.value f basis c self.now) →
+            result ≡ stated.is_open s.now j i }
+    {
+        if self.taken[i] {
+            return false;
+        }
+        !self.has_none(j, i)
+    }
+
+    // The least such position.
+    fn open(&self, j: usize) -> Option<usize>
+        requires complete { IsComplete T.value self.now }
+        requires column { j < width self.now.tab }
+        ensures least { (f : forms) (basis : List statuses) (c : ℕ) → (s : IsSolvedBelow T.value f basis c self.now) →
+            IfSome result (λ p. stated.open_below s.now j f.rows ≡ Some p) }
+        ensures place { IfSome result (λ p. p < height self.now.tab) }
+    {
+        for i in 0..self.tab.rows.len() {
+            if self.is_open(j, i) {
+                return Some(i);
+            }
+        }
+        None
+    }
+
+    // Position `p` has the basic column `j`.
+    fn mark(&mut self, p: usize, j: u32)
+        requires basic { p < length self.old.tab.basic.items }
+        requires taken { p < length self.old.taken.items }
+        ensures basic { self.new.tab.basic.items ≡ slice_set self.old.tab.basic.items p j }
+        ensures taken { self.new.taken.items ≡ slice_set self.old.taken.items p true }
+        ensures rest { self.new.tab ≡ record self.old.tab { basic = self.new.tab.basic } }
+    {
+        self.tab.basic[p] = j;
+        self.taken[p] = true;
+    }
+
+    // Column `j` takes the position `p`: the rows change as in a pivot there, and their last numbers as the others.
+    fn solve_at(&mut self, p: usize, j: usize) -> bool
+        requires complete { IsComplete T.value self.old }
+        requires place { p < height self.old.tab }
+        requires column { j < width self.old.tab }
+        ensures complete { IsTrue result → IsComplete T.value self.new }
+        ensures size { IsTrue result → width self.new.tab ≡ width self.old.tab }
+        ensures solved { IsTrue result → (f : forms) (basis : List statuses) → stated.basis_at basis j ≡ Basic →
+            (s : IsSolvedBelow T.value f basis j self.old) → stated.open_below s.now j f.rows ≡ Some p →
+            IsSolvedBelow T.value f basis (j + 1) self.new }
+    {
+        let n = self.tab.width();
+        let turn = Turn {
+            place: p,
+            col: j,
+            leaves_at: none(),
+            enters_from: none(),
+        };
+        if !turn_rows(&mut self.tab.rows, &mut self.tab.costs, n, turn) {
+            return false;
+        }
+        self.mark(p, j as u32);
+        true
+    }
+
+    // Column `j` takes the least open position.
+    fn solve(&mut self, j: usize, work: &mut u64) -> Progress
+        requires complete { IsComplete T.value self.old }
+        requires column { j < width self.old.tab }
+        ensures complete { IfDone result (IsComplete T.value self.new) }
+        ensures size { IfDone result (width self.new.tab ≡ width self.old.tab) }
+        ensures solved { IfDone result ((f : forms) (basis : List statuses) → stated.basis_at basis j ≡ Basic →
+            IsSolvedBelow T.value f basis j self.old → IsSolvedBelow T.value f basis (j + 1) self.new) }
+    {
+        let Some(p) = self.open(j) else {
+            return Progress::Stopped;
+        };
+        let step = Step::Pivot {
+            place: p as u32,
+            col: j as u32,
+            to: Status::AtLower,
+        };
+        if !spend(work, effort_of(&self.tab, step)) {
+            return Progress::Stopped;
+        }
+        if self.solve_at(p, j) {
+            Progress::Done
+        } else {
+            Progress::Narrow
+        }
+    }
+
+    // The same, where column `j` is basic.
+    fn take(&mut self, basis: &[Status], j: usize, work: &mut u64) -> Progress
+        requires complete { IsComplete T.value self.old }
+        requires all { length basis.now ≡ width self.old.tab }
+        requires column { j < width self.old.tab }
+        ensures complete { IfDone result (IsComplete T.value self.new) }
+        ensures size { IfDone result (width self.new.tab ≡ width self.old.tab) }
+        ensures solved { IfDone result ((f : forms) →
+            IsSolvedBelow T.value f basis.now j self.old → IsSolvedBelow T.value f basis.now (j + 1) self.new) }
+    {
+        if is_basic(basis[j]) {
+            self.solve(j, work)
+        } else {
+            Progress::Done
+        }
+    }
+
+    /// Each basic column takes a position, in order: the least that has none and where its entry is not 0.
+    pub(crate) fn run(&mut self, basis: &[Status], work: &mut u64) -> Progress
+        requires complete { IsComplete T.value self.old }
+        requires all { length basis.now ≡ width self.old.tab }
+        ensures complete { IfDone result (IsComplete T.value self.new) }
+        ensures size { IfDone result (width self.new.tab ≡ width self.old.tab) }
+        ensures solved { IfDone result ((f : forms) → IsSolvedBelow T.value f basis.now 0 self.old →
+            IsSolvedBelow T.value f basis.now (length basis.now) self.new) }
+    {
+        for j in 0..basis.len() {
+            match self.take(basis, j, work) {
+                Progress::Done => {}
+                Progress::Narrow => return Progress::Narrow,
+                Progress::Stopped => return Progress::Stopped,
+            }
+        }
+        Progress::Done
+    }
+}

@@ -1,0 +1,38 @@
+//! Runs over rows of whole numbers, cold and from a basis, in words of 64 bits, and where a number does not fit in words of
+//! 128 and 256, and then of up to 512, 1,024 and 2,048: the cold run goes on from where it stands, and the run from a basis,
+//! which solves the form's equations for the columns of the basis, begins anew.
+//!
+//! | Item | What it is | Where |
+//! |---|---|---|
+//! | `cold`, `wide_cold`, `RowEnd` | the run of a form within a budget, with numbers of 127 bits or of any width in the certificate, and what it ends with | src/cold_run, src/phases |
+//! | `State`, `Phase` | where a run stands | src/phases |
+//! | `from_64`, `from_128`, `from_256`, `from_512`, `from_1024`, `from_2048` | both phases from where they stand, in words of that width and in wider ones | src/cold_run |
+//! | `go_on` | both phases at one width, from where they stand | src/phases |
+//! | `run` | steps at one width | src/steps |
+//! | `wide_warm` | the run from a basis of a form within a budget | src/warm_run |
+//! | `from_basis` | the rows of the tableau that a form has for a basis | src/based |
+//! | `is_fit` | whether each basic value is within its bounds | src/fit |
+//! | `Elimination` | equations that are solved for one column after the other | src/elimination |
+//! | `unsolved`, `place_values` | the form's equations, and the values of the columns that are not basic | src/equations |
+//! | `EndsFromBasis` | what the run ends with | specs/Warm |
+//! | `IsSolvedBelow` | which elimination of exact fractions the rows are | specs/Rows |
+//!
+//! What the run ends with is the end of spec_simplex's `phases_run` without a limit. That it ends is not promised:
+//! numbers past the widest words, the budget and a bound on the work let it give up.
+//!
+//! What it ends with is the end of spec_warm's `warm_run` without a limit, by the primal method. That it ends is not
+//! promised.
+#![tactic(auto)]
+
+mod based;
+mod cold_run;
+mod elimination;
+mod equations;
+mod fit;
+mod phases;
+mod steps;
+mod warm_run;
+
+pub use cold_run::{cold, from_64, from_128, from_256, from_512, from_1024, from_2048, wide_cold};
+pub use phases::{Phase, RowEnd, State};
+pub use warm_run::wide_warm;
