@@ -9,7 +9,7 @@ use Rattle.spec_server.specs.Exchanges.{Exchange, asked_in}
 use Rattle.spec_server.specs.Script.{Ending, Ended, Cut, script_of, ended_asks_of}
 use Rattle.spec_server.specs.Script as script
 use Rattle.spec_server.specs.Output.{script_out}
-pub use Rattle.spec_program.specs.Fits.{IsPlaces, IsWorkers}
+pub use Rattle.spec_server.specs.Shared.{IsPlaces, IsWorkers}
 use Rattle.spec_serve.specs.Workers.{RunsBy}
 use Rattle.lp_line.specs.declared.halt.Halt.{Halt}
 use Rattle.lp_line.specs.declared.halt.Halt.TheVariants as halts

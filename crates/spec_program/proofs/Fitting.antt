@@ -19,7 +19,8 @@ use Rattle.spec_program.specs.CommandLine.{command_line_of}
 use Rattle.spec_program.specs.declared.command_line.CommandLine.TheVariants.{Run, Read, Generate, Serve}
 use Rattle.spec_program.specs.declared.command_line.Moved.{Moved}
 use Rattle.spec_program.specs.declared.command_line.TextCommand.TheVariants.{Solve, SolveWide, Check, CheckWide, Basis, BasisWide, Presolve, Iis, Range}
-use Rattle.spec_program.specs.Fits.{IsWorkers, IsPlaces, IsLinks, Fits}
+use Rattle.spec_server.specs.Shared.{IsWorkers, IsPlaces}
+use Rattle.spec_program.specs.Fits.{IsLinks, Fits}
 
 -- ---- numbers
 

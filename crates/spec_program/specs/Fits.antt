@@ -1,16 +1,9 @@
 -- The numbers that a command line may have.
 use Rattle.std.specs.Prelude.{ℕ, ◌≤◌}
 use Rattle.spec_model.specs.Kept.{row_limit, column_limit}
+use Rattle.spec_server.specs.Shared.{IsWorkers, IsPlaces}
 use Rattle.spec_program.specs.CommandLine.{ExactLine}
 use Rattle.spec_program.specs.declared.command_line.CommandLine.TheVariants.{Run, Read, Generate, Serve}
-
--- so many workers there may be
-abbrev pub IsWorkers : ℕ → Type 0
-IsWorkers workers = (1 ≤ workers) × (workers ≤ 16)
-
--- so many places they may share
-abbrev pub IsPlaces : ℕ → Type 0
-IsPlaces places = (1 ≤ places) × (places ≤ 1024)
 
 -- so many links each of them may serve
 abbrev pub IsLinks : ℕ → Type 0

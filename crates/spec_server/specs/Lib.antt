@@ -12,3 +12,4 @@ pub mod Streams
 pub mod Said
 pub mod TextSaid
 pub mod Halves
+pub mod Shared

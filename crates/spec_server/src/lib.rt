@@ -20,6 +20,7 @@
 //! | `RunAlone` | the exchanges of many sessions, each on its own | specs/Exchanges |
 //! | `RunFits` | those, with what they read of the places that they share | specs/Exchanges |
 //! | `script_of` | the asks of a script and how it ends, by its bytes and by whether its lines name sessions | specs/Script |
+//! | `IsWorkers`, `IsPlaces` | how many workers serve sessions, and how many places these share | specs/Shared |
 //! | `Streams` | what a source has left and a sink has taken, before a call and after it | specs/Streams |
 //! | `said_by`, `text_said` | what a step from line to line says of lines, and what the reader of texts says | specs/Said, specs/TextSaid |
 //! | `script_out` | what is written of the replies | specs/Output |
