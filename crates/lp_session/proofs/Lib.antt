@@ -2,3 +2,4 @@
 pub mod Ends
 pub mod Works
 pub mod Boards
+pub mod Formless

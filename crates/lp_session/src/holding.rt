@@ -9,14 +9,12 @@ ghost use Rattle.lp_session.specs.Stages.{IsFormHeld, IsEndOf, FitsForm, BeginsS
 
 use crate::stage::{Begun, LastAnswer, Pending, Worked};
 use crate::working::{how_by, is_found, solved_from, words_of_end};
-use lp_answer::{OPENING_BUDGET, answer_of, certificate_lines, solved_within, verdict_on};
 use lp_certificate::RawCertificate;
 use lp_form::{Form, form};
-use lp_frac::Stop;
-use lp_line::{Ask, Refusal, Reply};
+use lp_line::{Ask, Refusal, Reply, answer_of, certificate_lines, verdict_on};
 use lp_model::{Edit, EditError, EditFault, Model, apply};
 use lp_mps::write::{WriteFault, fixed, free};
-use lp_solve::End;
+use lp_solve::{End, OPENING_BUDGET, solve_formless};
 use spec_board::Found;
 use spec_mps::Style;
 use spec_server::{How, Plain, Publication};
@@ -124,13 +122,10 @@ impl Holding {
         };
         match form(alloc, model) {
             Ok(form) => Begun::Look(form),
-            Err(Stop::NoMemory) => Begun::Reply(Reply::Memory),
-            Err(Stop::Cause(_) | Stop::Past(_)) => {
-                let Ok(solved) = solved_within(alloc, model, self.budget) else {
-                    return Begun::Reply(Reply::Memory);
-                };
-                Begun::Reply(self.keep(solved.end, How::Cold, Publication::Nothing))
-            }
+            Err(stop) => match solve_formless(model, stop) {
+                Ok(solved) => Begun::Reply(self.keep(solved.end, How::Cold, Publication::Nothing)),
+                Err(_) => Begun::Reply(Reply::Memory),
+            },
         }
     }
 

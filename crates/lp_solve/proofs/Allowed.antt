@@ -16,14 +16,15 @@ use Rattle.spec_cold.specs.Cold.{ExactSolveEnd}
 use Rattle.spec_warm.specs.declared.ends.Route.TheVariants as route
 use Rattle.spec_warm.specs.declared.ends.Warm.TheVariants as warm
 use Rattle.spec_warm.specs.Warm.{WarmResult, after_form}
-use Rattle.spec_warm.specs.Solve.{SolveEnd, fall_of}
+use Rattle.spec_warm.specs.Solve.{SolveEnd, HasBasis, fall_of}
 use Rattle.spec_solve.specs.Order.{MayEndCold, MayEnd}
 use Rattle.spec_solve.specs.Answers.{IsSolved}
 use Rattle.spec_solve.proofs.Solves.{HasFitEnd, cold_solved, is_solved}
 use Rattle.spec_solve.proofs.Left.{solved_left}
 use Rattle.lp_solve.specs.Fit.{IsFit, IsWarmFit, LeavesBasis}
+use Rattle.lp_solve.specs.Formless.{HasNoForm}
 use Rattle.lp_solve.specs.Stopped.{IsAfterStop}
-use Rattle.lp_solve.proofs.WarmRuns.{ends_warm, falls}
+use Rattle.lp_solve.proofs.WarmRuns.{ends_warm, falls, nothing_handed}
 
 fit_end : (m : Model) (end : ExactSolveEnd) → IsFit m end → HasFitEnd m end
 fit_end m end fit = λ known c basis pivots is. subst (IsFit m) is fit
@@ -72,12 +73,15 @@ pub unhanded_solved : (budget : ℕ) (m : Model) (end : ExactSolveEnd) (s : Solv
 unhanded_solved budget m end s is may fit =
     subst (IsSolved m budget None) (sym is) (cold_solved m budget end may (fit_end m end fit))
 
-pub nothing_solved : {B : Type 0} (budget : ℕ) (m : Model) (view : B → List Status) (handed : Option B)
-    (end : ExactSolveEnd) (s : SolveEnd) → handed ≡ None → s ≡ record { end = end; route = route.Cold } →
-    MayEndCold (Some number_limit) budget m end → IsFit m end → IsSolved m budget (option_map view handed) s
-nothing_solved budget m view handed end s e is may fit =
-    subst (λ handed. IsSolved m budget (option_map view handed) s) (sym e)
-    (unhanded_solved budget m end s is may fit)
+-- a model without a form has no basis, so that none is handed
+pub formless_solved : {B E : Type 0} (budget : ℕ) (m : Model) (view : B → List Status) (handed : Option B)
+    (ended : Result SolveEnd E) → IfSome handed (λ basis. HasBasis (Some number_limit) m (view basis)) →
+    IfOk ended (λ s. (budget : ℕ) → IsSolved m budget None s) → IfOk ended (λ _. HasNoForm m) →
+    IfOk ended (IsSolved m budget (option_map view handed))
+formless_solved budget m view handed (Err why) fits solved formless = tt
+formless_solved budget m view handed (Ok s) fits solved formless =
+    subst (λ handed. IsSolved m budget (option_map view handed) s)
+    (sym (nothing_handed (Some number_limit) m view handed formless.0 formless.1 fits)) (solved budget)
 
 -- ---- the basis that is left
 handed_fits : {B : Type 0} (view : B → List Status) (f : Form) (handed : Option B) →

@@ -1,5 +1,6 @@
 pub mod Begun
 pub mod Ends
 pub mod Fit
+pub mod Formless
 pub mod Stopped
 pub mod Wide

@@ -19,7 +19,10 @@
 //! | `solve`, `Solved` | the solve of a model, and how it ends | src/solving |
 //! | `solve_wide`, `WideSolved` | the same, and where it is refused an operation an answer with numbers of any width | src/wide |
 //! | `solve_wide_from`, `WideBased`, `WideAnswer` | the same from a basis of the form that is at hand | src/wide |
-//! | `solve_formed` | the same by the model's form | src/solving |
+//! | `solve_formed`, `solve_formless` | the same by the model's form, or by why it has none | src/solving |
+//! | `solved_within`, `wide_solved_within` | solves within a budget as commands state it, cold | src/within |
+//! | `solved_from_basis`, `wide_solved_from_basis` | the same from a basis | src/within |
+//! | `OPENING_BUDGET` | the budget of a new session, and of the commands that solve | src/within |
 //! | `cold_part` | the cold part: over factors, over whole tableaus and over rows | src/factors |
 //! | `over_rows` | the answer that the run over rows of whole numbers wins | src/rows |
 //! | `End`, `from_form` | what a solve ends with, and the run over whole tableaus from a form | src/cold |
@@ -27,6 +30,7 @@
 //! | `Ended` | how both phases of a cold solve ended | src/phases |
 //! | `certificate_at`, `basis_at` | the certificate and the basis of an end | src/certificate, src/basis |
 //! | `IsFit`, `LeavesBasis` | what holds of the certificate of an answer, and of its basis | specs/Fit |
+//! | `HasNoForm` | that a model has no form | specs/Formless |
 //! | `IsAfterStop` | how a solve ends where the start from the basis has stopped | specs/Stopped |
 #![tactic(auto)]
 
@@ -39,8 +43,12 @@ mod rows;
 mod solving;
 mod warm;
 mod wide;
+mod within;
 
 pub use cold::End;
-pub use solving::{Solved, solve, solve_formed};
+pub use solving::{Solved, solve, solve_formed, solve_formless};
 pub use spec_warm::{Fall, Route};
 pub use wide::{WideAnswer, WideBased, WideSolved, solve_wide, solve_wide_from};
+pub use within::{
+    OPENING_BUDGET, solved_from_basis, solved_within, wide_solved_from_basis, wide_solved_within,
+};

@@ -1,12 +1,14 @@
 // The solve of a model, of which a basis may be handed.
-ghost use Rattle.std.specs.Prelude.{◌≡◌, IfOk, IfSome, Ok, Some, None, option_map};
+ghost use Rattle.std.specs.Prelude.{◌≡◌, ℕ, IfOk, IfSome, Ok, Some, None, option_map};
 ghost use Rattle.spec_exact.specs.Narrow.{number_limit};
 ghost use Rattle.spec_simplex.specs.Eliminate.{IsBasisOf};
 ghost use Rattle.spec_simplex.specs.Form.{form_of};
 ghost use Rattle.spec_warm.specs.declared.ends.Route.TheVariants as route;
 ghost use Rattle.spec_warm.specs.Solve as solve;
 ghost use Rattle.spec_solve.specs.Answers.{IsSolved};
+ghost use Rattle.lp_form.specs.Answer.{IsFaultOf};
 ghost use Rattle.lp_solve.specs.Fit.{LeavesBasis};
+ghost use Rattle.lp_solve.specs.Formless.{HasNoForm};
 ghost use Rattle.lp_solve.specs.Stopped.{IsAfterStop};
 
 use crate::cold::{End, answered};
@@ -14,7 +16,7 @@ use crate::factors::cold_part;
 use crate::rows::WORK;
 use crate::warm::{Warm, WarmStop, from_basis};
 use lp_check::Certificate;
-use lp_form::{Basis, Form, form};
+use lp_form::{Basis, Form, FormStop, form};
 use lp_frac::{Frac, Fracs, Stop};
 use lp_model::Model;
 use spec_warm::{Fall, Route};
@@ -133,6 +135,23 @@ pub fn solve_formed(
     }
 }
 
+/// The same solve of a model that has no form, by why it has none: bounds that clash are their own certificate. Memory
+/// is wanting only where the form's was.
+pub fn solve_formless(model: &Model, stop: FormStop) -> Result<Solved, AllocError>
+    requires { IsFaultOf (form_of (Some number_limit) model.now) stop }
+    ensures solved { IfOk result (λ s. (budget : ℕ) → IsSolved model.now budget None s) }
+    ensures formless { IfOk result (λ _. HasNoForm model.now) }
+{
+    match stop {
+        Stop::Cause(clash) => {
+            let certificate = Certificate::Clash(clash.column);
+            Ok(cold(answered(model, certificate, None, 0)))
+        }
+        Stop::Past(past) => Ok(cold(End::Past(past))),
+        Stop::NoMemory => Err(AllocError),
+    }
+}
+
 /// Solves the model within a budget of pivots and flips, and has the certificate of the end checked: from the basis
 /// that is handed to it, if one is, by the method that this is fit for; and where nothing is handed, or the start from
 /// the basis stops, from the start that each model has: over rows of whole numbers, over whole tableaus and over factors,
@@ -153,11 +172,6 @@ pub fn solve(
             drop(form);
             solved
         }
-        Err(Stop::Cause(clash)) => {
-            let certificate = Certificate::Clash(clash.column);
-            Ok(cold(answered(model, certificate, None, 0)))
-        }
-        Err(Stop::Past(past)) => Ok(cold(End::Past(past))),
-        Err(Stop::NoMemory) => Err(AllocError),
+        Err(stop) => solve_formless(model, stop),
     }
 }

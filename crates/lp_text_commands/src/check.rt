@@ -7,10 +7,9 @@ ghost use Rattle.lp_text_commands.specs.Stage.{step_of, count_of, CheckSays};
 
 use crate::exit_status::ExitStatus;
 use crate::hearing::Output;
-use lp_answer::verdict_on;
 use lp_base::{Bytes, Feed, Line};
 use lp_certificate::{CertReader, RawCertificate};
-use lp_line::{Refusal, Reply, Stage, Step, print_said};
+use lp_line::{Refusal, Reply, Stage, Step, print_said, verdict_on};
 use lp_model::Model;
 use lp_mps::read::Reader;
 use std::alloc::{AllocError, Global};

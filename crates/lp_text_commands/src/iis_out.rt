@@ -15,14 +15,13 @@ ghost use Rattle.lp_text_commands.specs.Prints.{Prints};
 use crate::points::print_points;
 use crate::sides::print_sides;
 use crate::solve::print_answer;
-use lp_answer::OPENING_BUDGET;
 use lp_base::Bytes;
 use lp_certificate::cert_text;
 use lp_check::Certificate;
 use lp_iis::{Iis, Points, Sides, find, only};
 use lp_line::print_lines;
 use lp_model::Model;
-use lp_solve::End;
+use lp_solve::{End, OPENING_BUDGET};
 use std::alloc::{AllocError, Global};
 
 /// Writes what a search of the model ends with, within the budget of a new session for each solve.

@@ -9,12 +9,11 @@ ghost use Rattle.spec_server.specs.Output.{pivots_text};
 ghost use Rattle.lp_text_commands.specs.Generating.{Writes};
 
 use crate::solve::print_answer;
-use lp_answer::{OPENING_BUDGET, solved_within};
 use lp_base::{Bytes, Sink, send};
 use lp_gen::make;
 use lp_line::Halt;
 use lp_model::Model;
-use lp_solve::End;
+use lp_solve::{End, OPENING_BUDGET, solved_within};
 use std::alloc::{AllocError, Global};
 
 /// Makes the model of this seed, with so many rows and columns, and writes its size and what a solve of it ends with.

@@ -8,11 +8,10 @@ ghost use Rattle.spec_solve.specs.Answers.{MayAnswer};
 ghost use Rattle.lp_text_commands.specs.Prints.{Prints};
 
 use crate::solve::{print_answer, print_end};
-use lp_answer::OPENING_BUDGET;
 use lp_base::Bytes;
 use lp_model::Model;
 use lp_presolve::{Presolved, Way, Why, presolve};
-use lp_solve::End;
+use lp_solve::{End, OPENING_BUDGET};
 use std::alloc::{AllocError, Global};
 
 /// Writes which model a solve by a smaller one solved, and what it ends with.

@@ -12,7 +12,6 @@ ghost use Rattle.lp_text_commands.specs.Prints.{Prints};
 ghost use Rattle.lp_text_commands.specs.RangeEnds.{count_by, KeepsAtEnd};
 
 use crate::solve::print_answer;
-use lp_answer::{OPENING_BUDGET, solved_within};
 use lp_base::Bytes;
 use lp_check::Known;
 use lp_form::{Basis, BasisStop, Form, form};
@@ -21,7 +20,7 @@ use lp_line::{Reply, print_said};
 use lp_model::Model;
 use lp_numtext::write;
 use lp_range::{Range, cost, side};
-use lp_solve::End;
+use lp_solve::{End, OPENING_BUDGET, solved_within};
 use spec_program::Moved;
 use spec_server::Answer;
 use std::alloc::{AllocError, Global};

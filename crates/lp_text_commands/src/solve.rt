@@ -7,11 +7,10 @@ ghost use Rattle.spec_commands.specs.SolveOut.{SolveOut, solved_lines};
 ghost use Rattle.spec_server.specs.declared.asks.Reply.TheVariants as replies;
 ghost use Rattle.lp_text_commands.specs.Prints.{Prints};
 
-use lp_answer::{OPENING_BUDGET, answer_of, certificate_lines, solved_within};
 use lp_base::Bytes;
-use lp_line::{Reply, print_lines, print_said};
+use lp_line::{Reply, answer_of, certificate_lines, print_lines, print_said};
 use lp_model::Model;
-use lp_solve::End;
+use lp_solve::{End, OPENING_BUDGET, solved_within};
 use std::alloc::{AllocError, Global};
 
 /// Writes what a solve of the model ends with.

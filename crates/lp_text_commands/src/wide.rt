@@ -10,7 +10,6 @@ ghost use Rattle.spec_commands.specs.SolveWideOut.{SolveWideOut, wide_known_line
 ghost use Rattle.lp_text_commands.specs.Prints.{Prints};
 
 use crate::solve::print_end;
-use lp_answer::{OPENING_BUDGET, wide_solved_within};
 use lp_base::Bytes;
 use lp_certificate::cert_text;
 use lp_check::wide::{Certificate, Known};
@@ -18,7 +17,7 @@ use lp_line::print_lines;
 use lp_model::Model;
 use lp_numtext::wide_text;
 use lp_ratio::Ratio;
-use lp_solve::WideSolved;
+use lp_solve::{OPENING_BUDGET, WideSolved, wide_solved_within};
 use std::alloc::{AllocError, Global};
 
 /// Writes what a wide solve of the model ends with.

@@ -16,13 +16,12 @@ use crate::bases::print_route;
 use crate::basis_out::{print_formless, print_whole};
 use crate::basis_start::{Handed, Start};
 use crate::wide::{print_known, print_wide_certificate};
-use lp_answer::{OPENING_BUDGET, wide_solved_from_basis};
 use lp_bas::write;
 use lp_base::Bytes;
 use lp_check::wide::Known;
 use lp_form::Form;
 use lp_model::Model;
-use lp_solve::{WideAnswer, WideBased};
+use lp_solve::{OPENING_BUDGET, WideAnswer, WideBased, wide_solved_from_basis};
 use std::alloc::{AllocError, Global};
 
 /// Writes what a wide solve of the model ends with. Of a model without a form it is what a solve ends with.

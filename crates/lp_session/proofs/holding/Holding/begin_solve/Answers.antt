@@ -1,11 +1,21 @@
--- The end of a model without a form is one that it may have.
-use Rattle.std.proofs.Common.{subst}
+-- The end of a model without a form is one that it may have, and that of the cold solve.
+use Rattle.std.proofs.Common.{◌≡◌, Some, sym, ap, ◌∙◌, subst}
 use Rattle.spec_server.specs.Machine.{State}
 use Rattle.lp_session.specs.Stages.{IsEndOf}
 use Rattle.lp_session.proofs.Ends.{end_of}
+use Rattle.lp_session.proofs.Formless.{formless_begins}
 use Rattle.lp_session.proofs.holding.Holding.begin_solve.Goals as goal
 
 pub keep-requires : goal.keep-requires
 keep-requires c =
-    subst (λ (s : State). IsEndOf s.model c.in-Ok-solved_within.solved.end) c.self.view_is
-    (end_of _ _ _ _ c.in-Some.is c.in-Ok-solved_within.ensures.may_answer)
+    let solved = c.in-Ok-solve_formless.ensures.solved 0 in
+    subst (λ (s : State). IsEndOf s.model c.in-Ok-solve_formless.solved.end) c.self.view_is
+    (end_of _ _ _ _ c.in-Some.is solved.may_answer)
+
+pub returns-in-Ok-solve_formless : goal.returns-in-Ok-solve_formless
+returns-in-Ok-solve_formless c =
+    let old = c.args.self.now in
+    let held : old.model ≡ Some c.in-Some.model = sym (ap (λ (s : State). s.model) c.self.view_is) ∙ c.in-Some.is in
+    formless_begins old c.in-Some.model c.in-Ok-solve_formless.solved _ _ held
+    c.in-Ok-solve_formless.ensures.formless (c.in-Ok-solve_formless.ensures.solved old.budget) c.keep.ensures.reply
+    c.keep.ensures.kept

@@ -5,11 +5,13 @@ ghost use Rattle.spec_server.specs.Machine as machine;
 
 use lp_base::Texts;
 use lp_certificate::cert_text;
-use lp_frac::Frac;
+use lp_form::Basis;
+use lp_frac::{Frac, Fracs};
 use lp_model::Model;
-use lp_solve::End;
 use spec_server::Answer;
 use std::alloc::{AllocError, Global};
+
+type End = spec_check::SolveEnd<Frac, Fracs, Basis>;
 
 /// What is answered of a solve within a budget.
 pub fn answer_of(budget: u32, solved: &End) -> Answer<Frac>

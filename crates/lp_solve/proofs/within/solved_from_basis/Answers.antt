@@ -1,7 +1,7 @@
 -- With the basis that is handed.
 use Rattle.std.proofs.Common.{Some, IfOk, subst}
 use Rattle.spec_solve.specs.Answers.{IsSolved}
-use Rattle.lp_answer.proofs.solved.solved_from_basis.Goals as goal
+use Rattle.lp_solve.proofs.within.solved_from_basis.Goals as goal
 
 pub returns-clause-solved : goal.returns-clause-solved
 returns-clause-solved c =

@@ -3,9 +3,9 @@ ghost use Rattle.std.specs.Prelude.{◌≡◌, IfOk};
 ghost use Rattle.spec_check.specs.Settle.{certificate_for};
 ghost use Rattle.spec_server.specs.Machine as machine;
 
+use crate::asks::{Refusal, Reply};
 use lp_certificate::{RawCertificate, SettleError, SettleFault, settle};
 use lp_check::check;
-use lp_line::{Refusal, Reply};
 use lp_model::Model;
 use std::alloc::{AllocError, Global};
 

@@ -1,7 +1,7 @@
 -- Nothing is handed.
 use Rattle.std.proofs.Common.{None, IfOk, subst}
 use Rattle.spec_solve.specs.Answers.{IsSolved}
-use Rattle.lp_answer.proofs.solved.solved_within.Goals as goal
+use Rattle.lp_solve.proofs.within.solved_within.Goals as goal
 
 pub returns : goal.returns
 returns c =

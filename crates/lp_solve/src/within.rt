@@ -7,9 +7,10 @@ ghost use Rattle.spec_solve.specs.Answers.{IsSolved};
 ghost use Rattle.spec_solve.specs.Wide.{IsWideSolved, IsWideFrom};
 ghost use Rattle.lp_solve.specs.Fit.{LeavesBasis};
 
+use crate::solving::{Solved, solve, solve_formed};
+use crate::wide::{WideBased, WideSolved, solve_wide, solve_wide_from};
 use lp_form::{Basis, Form};
 use lp_model::Model;
-use lp_solve::{Solved, WideBased, WideSolved, solve, solve_formed, solve_wide, solve_wide_from};
 use std::alloc::{AllocError, Global};
 
 /// The pivots and flips that a solve of a new session may make.

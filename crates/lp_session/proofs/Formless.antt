@@ -1,0 +1,27 @@
+-- How the solve of a model without a form ends.
+use Rattle.std.proofs.Common.{◌≡◌, Some, None, Err, sym, ap, ap₂, ◌∙◌, inl}
+use Rattle.spec_exact.specs.Narrow.{number_limit}
+use Rattle.spec_model.specs.Model.{Model}
+use Rattle.spec_cold.specs.Cold.{cold}
+use Rattle.spec_warm.specs.Solve.{SolveEnd}
+use Rattle.spec_solve.specs.Answers.{IsSolved}
+use Rattle.spec_server.specs.declared.answer.How.TheVariants as how
+use Rattle.spec_server.specs.declared.answer.Publication.TheVariants as publication
+use Rattle.spec_server.specs.declared.asks.Ask.TheVariants as ask
+use Rattle.spec_server.specs.declared.command.Plain.TheVariants as command
+use Rattle.spec_server.specs.Machine.{ExactReply, State, Solves, due, solve_due}
+use Rattle.spec_server.specs.Step.{Answers, Begins, answered, with_answer, solve_begun, begun_by}
+use Rattle.lp_solve.specs.Formless.{HasNoForm}
+
+-- as the cold solve does, with the budget of the session
+pub formless_begins : (old : State) (m : Model) (solved : SolveEnd) (replied : ExactReply) (new : State) →
+    old.model ≡ Some m → HasNoForm m → IsSolved m old.budget None solved → replied ≡ answered old solved.end →
+    new ≡ with_answer old solved.end how.Cold publication.Nothing →
+    Begins old (ask.Plain command.Solve) (Answers replied new)
+formless_begins old m solved replied new held formless is r n =
+    let end : solved.end ≡ cold (Some number_limit) old.budget m = is.without_form formless.0 formless.1 in
+    let asked : due old (ask.Plain command.Solve) ≡ Solves m = ap (solve_due old) held in
+    let begun : begun_by old (due old (ask.Plain command.Solve)) ≡ solve_begun old m (Err formless.0) =
+    ap (begun_by old) asked ∙ ap (solve_begun old m) formless.1 in
+    inl (ap₂ Answers (r ∙ ap (answered old) end)
+    (n ∙ ap (λ e. with_answer old e how.Cold publication.Nothing) end) ∙ sym begun)
