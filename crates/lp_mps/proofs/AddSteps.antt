@@ -14,8 +14,8 @@ use Rattle.spec_mps.specs.Fields.{Field}
 use Rattle.spec_mps.specs.Written.{cards_of, name_card, sense_cards, rows_cards, columns_cards}
 use Rattle.spec_mps.specs.Written.{sides_cards, ranges_cards, bounds_cards, section_card, fixed, too_wide}
 use Rattle.spec_mps.specs.Written.{WrittenCard, WrittenCards, cards_text, line_text, is_wide, data_fields}
-use Rattle.lp_mps.specs.declared.write.fault.WriteFault.{WriteFault}
-use Rattle.lp_mps.specs.declared.write.fault.WriteFault.TheVariants.{TooWide, NoMemory}
+use Rattle.lp_mps.specs.declared.write.stop.WriteStop.{WriteStop}
+use Rattle.lp_mps.specs.declared.write.stop.WriteStop.TheVariants.{TooWide, NoMemory}
 use Rattle.lp_mps.specs.Adds.{Adds, IsAdded, Names, wide_in, GivesText, IsFixed, front_cards, back_cards}
 
 -- the first of two lists that has a wide field has the first wide one
@@ -71,20 +71,20 @@ joined style cs ds a b c h k =
           ∙ ap (λ t. a ++ t) (sym (cards_text-append style cs ds));
     }
 
-pub behind : (style : Style) (cs ds : WrittenCards) (a b : List ℕ) (fault : WriteFault) → IsAdded style cs a b →
-    Names (wide_in style ds) fault → Names (wide_in style (cs ++ ds)) fault
+pub behind : (style : Style) (cs ds : WrittenCards) (a b : List ℕ) (stop : WriteStop) → IsAdded style cs a b →
+    Names (wide_in style ds) stop → Names (wide_in style (cs ++ ds)) stop
 behind style cs ds a b (TooWide item) h k = wide_behind style cs ds h.narrow ∙ k
 behind style cs ds a b NoMemory h k = tt
 
-pub first : (style : Style) (cs ds : WrittenCards) (fault : WriteFault) → Names (wide_in style cs) fault →
-    Names (wide_in style (cs ++ ds)) fault
+pub first : (style : Style) (cs ds : WrittenCards) (stop : WriteStop) → Names (wide_in style cs) stop →
+    Names (wide_in style (cs ++ ds)) stop
 first style cs ds (TooWide item) h = wide_first style cs ds item h
 first style cs ds NoMemory h = tt
 
-pub goes_on : (style : Style) (cs ds : WrittenCards) (a b c : List ℕ) (result : Result ⊤ WriteFault) →
+pub goes_on : (style : Style) (cs ds : WrittenCards) (a b c : List ℕ) (result : Result ⊤ WriteStop) →
     IsAdded style cs a b → Adds style ds b c result → Adds style (cs ++ ds) a c result
 goes_on style cs ds a b c (Ok done) h k = joined style cs ds a b c h k
-goes_on style cs ds a b c (Err fault) h k = behind style cs ds a b fault h k
+goes_on style cs ds a b c (Err stop) h k = behind style cs ds a b stop h k
 
 -- ---- a section that is written only where it is wanted, which a call has answered by r
 
@@ -93,7 +93,7 @@ pub section_none : {style : Style} {a : List ℕ} {r wanted : Bool} (cards : Wri
 section_none {style} {a} cards same is = rw (sym same ∙ is) (nothing style a)
 
 pub section_some : {style : Style} {a b : List ℕ} {r wanted : Bool} {card : WrittenCard} (cards : WrittenCards)
-    (c : List ℕ) (result : Result ⊤ WriteFault) → r ≡ wanted → r ≡ true →
+    (c : List ℕ) (result : Result ⊤ WriteStop) → r ≡ wanted → r ≡ true →
     IsAdded style (card ∷ []) a b → Adds style cards b c result →
     Adds style (if wanted then card ∷ cards else []) a c result
 section_some {style} {a} {b} {card = card} cards c result same is h k =
@@ -116,12 +116,12 @@ module _ {X : Type 0} (style : Style) (f : X → WrittenCards)
   all_cards =
       ap (flat_map f) (sym (take-append-drop (i + 1) xs)) ∙ flat_map-append f (take (i + 1) xs) (drop (i + 1) xs)
 
-  pub each_stops : (a b : List ℕ) (fault : WriteFault) → IsAdded style (flat_map f (take i xs)) a b →
-      Names (wide_in style (f (get_or xs i d))) fault → Names (wide_in style (flat_map f xs)) fault
-  each_stops a b fault h k =
-      let P : WrittenCards → Type 0 = λ cs. Names (wide_in style cs) fault in
-      subst P (sym all_cards) (first style (flat_map f (take (i + 1) xs)) (flat_map f (drop (i + 1) xs)) fault
-      (subst P (sym next_cards) (behind style (flat_map f (take i xs)) (f (get_or xs i d)) a b fault h k)))
+  pub each_stops : (a b : List ℕ) (stop : WriteStop) → IsAdded style (flat_map f (take i xs)) a b →
+      Names (wide_in style (f (get_or xs i d))) stop → Names (wide_in style (flat_map f xs)) stop
+  each_stops a b stop h k =
+      let P : WrittenCards → Type 0 = λ cs. Names (wide_in style cs) stop in
+      subst P (sym all_cards) (first style (flat_map f (take (i + 1) xs)) (flat_map f (drop (i + 1) xs)) stop
+      (subst P (sym next_cards) (behind style (flat_map f (take i xs)) (f (get_or xs i d)) a b stop h k)))
 
 pub each_done : {X : Type 0} (style : Style) (f : X → WrittenCards) (xs : List X) (n : ℕ) (a b : List ℕ) →
     length xs ≤ n → IsAdded style (flat_map f (take n xs)) a b → IsAdded style (flat_map f xs) a b
@@ -139,8 +139,8 @@ all_cards_of m =
 
 -- ---- whole texts
 
-pub fixed_given : (m : Model) (result : Result (List ℕ) WriteFault) → GivesText Fixed (cards_of m) result →
+pub fixed_given : (m : Model) (result : Result (List ℕ) WriteStop) → GivesText Fixed (cards_of m) result →
     IsFixed m result
 unfolding fixed too_wide
 fixed_given m (Ok text) h = h
-fixed_given m (Err fault) h = h
+fixed_given m (Err stop) h = h

@@ -8,8 +8,8 @@ use Rattle.spec_mps.specs.declared.style.Style.{Style}
 use Rattle.spec_mps.specs.declared.style.Style.TheVariants.{Free, Fixed}
 use Rattle.spec_mps.specs.Fields.{Field, Fields}
 use Rattle.spec_mps.specs.Written.{Data, with_fields, padded}
-use Rattle.lp_mps.specs.declared.write.fault.WriteFault.{WriteFault}
-use Rattle.lp_mps.specs.declared.write.fault.WriteFault.TheVariants.{TooWide, NoMemory}
+use Rattle.lp_mps.specs.declared.write.stop.WriteStop.{WriteStop}
+use Rattle.lp_mps.specs.declared.write.stop.WriteStop.TheVariants.{TooWide, NoMemory}
 use Rattle.lp_mps.specs.Adds.{IsAdded, Names, fields_of, is_wide_in, wide_field, wide_in}
 use Rattle.lp_mps.proofs.AddSteps.{first_none, first_some}
 
@@ -87,8 +87,8 @@ pub wide_card : (style : Style) (fs : Fields) → wide_in style (Data fs ∷ [])
 wide_card Free fs = sym (free_narrow fs)
 wide_card Fixed fs = ap (λ gs. wide_field Fixed gs) (append-nil fs)
 
-pub card_stops : (style : Style) (fs : Fields) (fault : WriteFault) → Names (wide_field style fs) fault →
-    Names (wide_in style (Data fs ∷ [])) fault
+pub card_stops : (style : Style) (fs : Fields) (stop : WriteStop) → Names (wide_field style fs) stop →
+    Names (wide_in style (Data fs ∷ [])) stop
 card_stops style fs (TooWide item) h = wide_card style fs ∙ h
 card_stops style fs NoMemory h = tt
 

@@ -9,8 +9,8 @@ use Rattle.spec_mps.specs.Fields.{Field, Fields}
 use Rattle.spec_mps.specs.Written.{WrittenCards, cards_text, with_fields, is_wide, first_wide}
 use Rattle.spec_mps.specs.Written.{name_card, sense_cards, rows_cards, columns_cards, sides_cards}
 use Rattle.spec_mps.specs.Written.{ranges_cards, bounds_cards, section_card, too_wide, fixed}
-use Rattle.lp_mps.specs.declared.write.fault.WriteFault.{WriteFault}
-use Rattle.lp_mps.specs.declared.write.fault.WriteFault.TheVariants.{TooWide, NoMemory}
+use Rattle.lp_mps.specs.declared.write.stop.WriteStop.{WriteStop}
+use Rattle.lp_mps.specs.declared.write.stop.WriteStop.TheVariants.{TooWide, NoMemory}
 
 -- numbers and texts as fields
 abbrev pub fields_of : List (ℕ × Bor (List ℕ)) → Fields
@@ -25,16 +25,16 @@ is_wide_in Fixed f = is_wide f
 abbrev pub wide_field : Style → Fields → Option (List ℕ)
 wide_field style fields = option_map (λ f. f.text) (find (is_wide_in style) fields)
 
--- the fault names the item that has no room; that there is no memory says nothing
-abbrev pub Names : Option (List ℕ) → WriteFault → Type 0
+-- the stop names the item that has no room; that there is no memory says nothing
+abbrev pub Names : Option (List ℕ) → WriteStop → Type 0
 Names wide (TooWide item) = wide ≡ Some item
 Names wide NoMemory = Unit {0}
 
--- all fields follow the line, or the first that has no room is the fault
-abbrev pub PutsFields : Style → Fields → List ℕ → List ℕ → Result ⊤ WriteFault → Type 0
+-- all fields follow the line, or it stops at the first that has no room
+abbrev pub PutsFields : Style → Fields → List ℕ → List ℕ → Result ⊤ WriteStop → Type 0
 PutsFields style fields before after (Ok done) =
     (wide_field style fields ≡ None) × (after ≡ with_fields style before fields)
-PutsFields style fields before after (Err fault) = Names (wide_field style fields) fault
+PutsFields style fields before after (Err stop) = Names (wide_field style fields) stop
 
 -- the first field of cards that has no room
 abbrev pub wide_in : Style → WrittenCards → Option (List ℕ)
@@ -46,10 +46,10 @@ pub record IsAdded (style : Style) (cards : WrittenCards) (before after : List �
   pub narrow : wide_in style cards ≡ None
   pub text : after ≡ before ++ cards_text style cards
 
--- so it is, or the first field that has no room is the fault
-abbrev pub Adds : Style → WrittenCards → List ℕ → List ℕ → Result ⊤ WriteFault → Type 0
+-- so it is, or it stops at the first field that has no room
+abbrev pub Adds : Style → WrittenCards → List ℕ → List ℕ → Result ⊤ WriteStop → Type 0
 Adds style cards before after (Ok done) = IsAdded style cards before after
-Adds style cards before after (Err fault) = Names (wide_in style cards) fault
+Adds style cards before after (Err stop) = Names (wide_in style cards) stop
 
 -- the cards up to those of COLUMNS, and those after them
 abbrev pub front_cards : Model → WrittenCards
@@ -59,11 +59,11 @@ abbrev pub back_cards : Model → WrittenCards
 back_cards m = sides_cards m ++ ranges_cards m ++ bounds_cards m ++ section_card (codes "ENDATA") ∷ []
 
 -- the lines of the cards, or the first item that has no room
-abbrev pub GivesText : Style → WrittenCards → Result (List ℕ) WriteFault → Type 0
+abbrev pub GivesText : Style → WrittenCards → Result (List ℕ) WriteStop → Type 0
 GivesText style cards (Ok text) = (wide_in style cards ≡ None) × (text ≡ cards_text style cards)
-GivesText style cards (Err fault) = Names (wide_in style cards) fault
+GivesText style cards (Err stop) = Names (wide_in style cards) stop
 
 -- the text of a model in fixed form, where all items have room, or else the first that has none
-abbrev pub IsFixed : Model → Result (List ℕ) WriteFault → Type 0
+abbrev pub IsFixed : Model → Result (List ℕ) WriteStop → Type 0
 IsFixed m (Ok text) = (too_wide m ≡ None) × (text ≡ fixed m)
-IsFixed m (Err fault) = Names (too_wide m) fault
+IsFixed m (Err stop) = Names (too_wide m) stop

@@ -13,7 +13,7 @@ use lp_certificate::RawCertificate;
 use lp_form::{Form, form};
 use lp_line::{Ask, Refusal, Reply, answer_of, certificate_lines, verdict_on};
 use lp_model::{Edit, EditError, EditFault, Model, apply};
-use lp_mps::write::{WriteFault, fixed, free};
+use lp_mps::write::{WriteStop, fixed, free};
 use lp_solve::{End, OPENING_BUDGET, solve_formless};
 use spec_board::Found;
 use spec_mps::Style;
@@ -224,8 +224,8 @@ impl Holding {
             },
             Style::Fixed => match fixed(alloc, model) {
                 Ok(text) => Reply::Written(text),
-                Err(WriteFault::TooWide(item)) => Reply::Refused(Refusal::FixedWide(item)),
-                Err(WriteFault::NoMemory) => Reply::Memory,
+                Err(WriteStop::TooWide(item)) => Reply::Refused(Refusal::FixedWide(item)),
+                Err(WriteStop::NoMemory) => Reply::Memory,
             },
         }
     }

@@ -3,7 +3,7 @@ ghost use Rattle.std.specs.Prelude.{◌≡◌, ◌++◌, ◌-◌, [], ◌∷◌,
 ghost use Rattle.spec_mps.specs.Written as written;
 ghost use Rattle.lp_mps.specs.Adds.{Adds, IsAdded, PutsFields, fields_of, is_wide_in};
 
-use crate::write::fault::WriteFault;
+use crate::write::stop::WriteStop;
 use lp_base::Bytes;
 use spec_mps::Style;
 use std::alloc::{AllocError, Global};
@@ -77,12 +77,12 @@ impl Writer {
     }
 
     // Fields after a line, each with its number in fixed form.
-    fn fields(&self, fields: &[(u32, &[u8])], line: &mut Bytes) -> Result<(), WriteFault>
+    fn fields(&self, fields: &[(u32, &[u8])], line: &mut Bytes) -> Result<(), WriteStop>
         ensures { PutsFields self.now.style (fields_of fields.now) line.old line.new result }
     {
         for (number, text) in fields {
             if self.is_wide(*number, text) {
-                return Err(WriteFault::TooWide(Bytes::from_slice(self.alloc, text)?));
+                return Err(WriteStop::TooWide(Bytes::from_slice(self.alloc, text)?));
             }
             self.place(*number, text, line)?;
         }
@@ -90,7 +90,7 @@ impl Writer {
     }
 
     /// A data card of these fields, each with its number in fixed form.
-    pub fn data(&self, fields: &[(u32, &[u8])], to: &mut Bytes) -> Result<(), WriteFault>
+    pub fn data(&self, fields: &[(u32, &[u8])], to: &mut Bytes) -> Result<(), WriteStop>
         ensures { Adds self.now.style (written.Data (fields_of fields.now) ∷ []) to.old to.new result }
     {
         let mut line = Bytes::new(self.alloc);

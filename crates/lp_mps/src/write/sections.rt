@@ -7,9 +7,9 @@ ghost use Rattle.spec_mps.specs.Written as written;
 ghost use Rattle.lp_mps.specs.Adds.{Adds};
 ghost use Rattle.lp_mps.specs.RowNumbers.{number_cards};
 
-use crate::write::fault::WriteFault;
 use crate::write::line::Writer;
 use crate::write::signs::{is_up_from_zero, is_zero};
+use crate::write::stop::WriteStop;
 use lp_base::Bytes;
 use lp_frac::{Frac, are_same, neg};
 use lp_model::{Kind, Model, Row};
@@ -36,7 +36,7 @@ fn kind_word(kind: Kind) -> &'static [u8]
 }
 
 impl Writer {
-    fn type_card(&self, word: &[u8], name: &[u8], to: &mut Bytes) -> Result<(), WriteFault>
+    fn type_card(&self, word: &[u8], name: &[u8], to: &mut Bytes) -> Result<(), WriteStop>
         ensures { Adds self.now.style (written.type_card word.now name.now ∷ []) to.old to.new result }
     {
         self.data(&[(1, word), (2, name)], to)
@@ -48,7 +48,7 @@ impl Writer {
         name: &[u8],
         value: &Frac,
         to: &mut Bytes,
-    ) -> Result<(), WriteFault>
+    ) -> Result<(), WriteStop>
         ensures { Adds self.now.style (written.number_card group.now name.now value.now ∷ []) to.old to.new result }
     {
         let text = number_text(self.alloc, *value)?;
@@ -60,7 +60,7 @@ impl Writer {
         kind: &'a [u8],
         name: &'a [u8],
         to: &mut Bytes,
-    ) -> Result<(), WriteFault>
+    ) -> Result<(), WriteStop>
         ensures { Adds self.now.style (written.unbound_card kind.now name.now ∷ []) to.old to.new result }
     {
         self.data(&[(1, kind), (2, b"BND"), (3, name)], to)
@@ -72,7 +72,7 @@ impl Writer {
         name: &[u8],
         value: &Frac,
         to: &mut Bytes,
-    ) -> Result<(), WriteFault>
+    ) -> Result<(), WriteStop>
         ensures { Adds self.now.style (written.bound_card kind.now name.now value.now ∷ []) to.old to.new result }
     {
         let text = number_text(self.alloc, *value)?;
@@ -83,7 +83,7 @@ impl Writer {
     }
 
     /// `ROWS`: the objective and the rows.
-    pub fn rows(&self, model: &Model, to: &mut Bytes) -> Result<(), WriteFault>
+    pub fn rows(&self, model: &Model, to: &mut Bytes) -> Result<(), WriteStop>
         ensures { Adds self.now.style (written.rows_cards model.now) to.old to.new result }
     {
         self.section(b"ROWS", to)?;
@@ -91,7 +91,7 @@ impl Writer {
         self.row_cards(model, to)
     }
 
-    fn row_cards(&self, model: &Model, to: &mut Bytes) -> Result<(), WriteFault>
+    fn row_cards(&self, model: &Model, to: &mut Bytes) -> Result<(), WriteStop>
         ensures { Adds self.now.style (map written.row_card model.now.rows) to.old to.new result }
     {
         for i in 0..model.rows() {
@@ -100,21 +100,21 @@ impl Writer {
         Ok(())
     }
 
-    fn row_card(&self, row: &Row, to: &mut Bytes) -> Result<(), WriteFault>
+    fn row_card(&self, row: &Row, to: &mut Bytes) -> Result<(), WriteStop>
         ensures { Adds self.now.style (written.row_card row.now ∷ []) to.old to.new result }
     {
         self.type_card(kind_word(row.kind), row.name.as_slice(), to)
     }
 
     /// `COLUMNS`: each column's cost and its entries.
-    pub fn columns(&self, model: &Model, to: &mut Bytes) -> Result<(), WriteFault>
+    pub fn columns(&self, model: &Model, to: &mut Bytes) -> Result<(), WriteStop>
         ensures { Adds self.now.style (written.columns_cards model.now) to.old to.new result }
     {
         self.section(b"COLUMNS", to)?;
         self.column_cards(model, to)
     }
 
-    fn column_cards(&self, model: &Model, to: &mut Bytes) -> Result<(), WriteFault>
+    fn column_cards(&self, model: &Model, to: &mut Bytes) -> Result<(), WriteStop>
         ensures { Adds self.now.style
             (flat_map (written.column_cards model.now) model.now.columns) to.old to.new result }
     {
@@ -124,7 +124,7 @@ impl Writer {
         Ok(())
     }
 
-    fn column(&self, model: &Model, j: u32, to: &mut Bytes) -> Result<(), WriteFault>
+    fn column(&self, model: &Model, j: u32, to: &mut Bytes) -> Result<(), WriteStop>
         requires { j < width model.now }
         ensures { Adds self.now.style (written.column_cards model.now (column model.now j)) to.old to.new result }
     {
@@ -140,7 +140,7 @@ impl Writer {
         name: &[u8],
         entries: &[(u32, Frac)],
         to: &mut Bytes,
-    ) -> Result<(), WriteFault>
+    ) -> Result<(), WriteStop>
         requires { All (λ e. e.0 < height model.now) entries.now }
         ensures { Adds self.now.style
             (map (λ e. written.number_card name.now (row model.now e.0).name e.1) entries.now) to.old to.new result }
@@ -152,7 +152,7 @@ impl Writer {
     }
 
     /// `RHS`: the right sides that are not 0.
-    pub fn sides(&self, model: &Model, to: &mut Bytes) -> Result<(), WriteFault>
+    pub fn sides(&self, model: &Model, to: &mut Bytes) -> Result<(), WriteStop>
         ensures { Adds self.now.style (written.sides_cards model.now) to.old to.new result }
     {
         self.section(b"RHS", to)?;
@@ -161,7 +161,7 @@ impl Writer {
     }
 
     // The numbers of all rows.
-    fn row_numbers(&self, which: RowNumber, model: &Model, to: &mut Bytes) -> Result<(), WriteFault>
+    fn row_numbers(&self, which: RowNumber, model: &Model, to: &mut Bytes) -> Result<(), WriteStop>
         ensures { Adds self.now.style (flat_map (λ r. number_cards which r) model.now.rows) to.old to.new result }
     {
         for i in 0..model.rows() {
@@ -170,7 +170,7 @@ impl Writer {
         Ok(())
     }
 
-    fn row_number(&self, which: RowNumber, row: &Row, to: &mut Bytes) -> Result<(), WriteFault>
+    fn row_number(&self, which: RowNumber, row: &Row, to: &mut Bytes) -> Result<(), WriteStop>
         ensures { Adds self.now.style (number_cards which row.now) to.old to.new result }
     {
         match which {
@@ -179,7 +179,7 @@ impl Writer {
         }
     }
 
-    fn side(&self, name: &[u8], value: &Frac, to: &mut Bytes) -> Result<(), WriteFault>
+    fn side(&self, name: &[u8], value: &Frac, to: &mut Bytes) -> Result<(), WriteStop>
         ensures { Adds self.now.style (written.side_cards name.now value.now) to.old to.new result }
     {
         if is_zero(*value) {
@@ -189,7 +189,7 @@ impl Writer {
     }
 
     /// `RANGES`, where a row has one.
-    pub fn ranges(&self, model: &Model, to: &mut Bytes) -> Result<(), WriteFault>
+    pub fn ranges(&self, model: &Model, to: &mut Bytes) -> Result<(), WriteStop>
         ensures { Adds self.now.style (written.ranges_cards model.now) to.old to.new result }
     {
         if !has_ranges(model) {
@@ -199,7 +199,7 @@ impl Writer {
         self.row_numbers(RowNumber::Range, model, to)
     }
 
-    fn range(&self, name: &[u8], range: Option<Frac>, to: &mut Bytes) -> Result<(), WriteFault>
+    fn range(&self, name: &[u8], range: Option<Frac>, to: &mut Bytes) -> Result<(), WriteStop>
         ensures { Adds self.now.style (written.range_cards name.now range) to.old to.new result }
     {
         match range {
@@ -209,7 +209,7 @@ impl Writer {
     }
 
     /// `BOUNDS`, where a column has others than 0 and none.
-    pub fn bounds(&self, model: &Model, to: &mut Bytes) -> Result<(), WriteFault>
+    pub fn bounds(&self, model: &Model, to: &mut Bytes) -> Result<(), WriteStop>
         ensures { Adds self.now.style (written.bounds_cards model.now) to.old to.new result }
     {
         if !has_bounds(model) {
@@ -219,7 +219,7 @@ impl Writer {
         self.column_bounds(model, to)
     }
 
-    fn column_bounds(&self, model: &Model, to: &mut Bytes) -> Result<(), WriteFault>
+    fn column_bounds(&self, model: &Model, to: &mut Bytes) -> Result<(), WriteStop>
         ensures { Adds self.now.style
             (flat_map (λ c. written.bound_cards c.name c.lower c.upper) model.now.columns) to.old to.new result }
     {
@@ -236,7 +236,7 @@ impl Writer {
         lower: Option<Frac>,
         upper: Option<Frac>,
         to: &mut Bytes,
-    ) -> Result<(), WriteFault>
+    ) -> Result<(), WriteStop>
         ensures { Adds self.now.style (written.bound_cards name.now lower upper) to.old to.new result }
     {
         match lower {
@@ -250,12 +250,7 @@ impl Writer {
     }
 
     // No lower bound, and an upper one, if there is one.
-    fn upper_cards(
-        &self,
-        name: &[u8],
-        upper: Option<Frac>,
-        to: &mut Bytes,
-    ) -> Result<(), WriteFault>
+    fn upper_cards(&self, name: &[u8], upper: Option<Frac>, to: &mut Bytes) -> Result<(), WriteStop>
         ensures { Adds self.now.style (written.bound_cards name.now None upper) to.old to.new result }
     {
         match upper {
@@ -273,7 +268,7 @@ impl Writer {
         lower: Frac,
         upper: Frac,
         to: &mut Bytes,
-    ) -> Result<(), WriteFault>
+    ) -> Result<(), WriteStop>
         ensures { Adds self.now.style (written.bound_cards name.now (Some lower) (Some upper)) to.old to.new result }
     {
         if are_same(lower, upper) {

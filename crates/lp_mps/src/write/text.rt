@@ -3,15 +3,15 @@ ghost use Rattle.std.specs.Prelude.{◌≡◌, ◌∷◌, IfOk};
 ghost use Rattle.spec_mps.specs.Written as written;
 ghost use Rattle.lp_mps.specs.Adds.{Adds, GivesText, IsFixed, front_cards, back_cards};
 
-use crate::write::fault::WriteFault;
 use crate::write::line::Writer;
+use crate::write::stop::WriteStop;
 use lp_base::Bytes;
 use lp_model::{Model, Sense};
 use spec_mps::Style;
 use std::alloc::{AllocError, Global};
 
 impl Writer {
-    fn sense(&self, sense: Sense, to: &mut Bytes) -> Result<(), WriteFault>
+    fn sense(&self, sense: Sense, to: &mut Bytes) -> Result<(), WriteStop>
         ensures { Adds self.now.style (written.sense_cards sense) to.old to.new result }
     {
         if sense == Sense::Max {
@@ -21,7 +21,7 @@ impl Writer {
     }
 
     // What stands before `ROWS`.
-    fn start(&self, model: &Model, to: &mut Bytes) -> Result<(), WriteFault>
+    fn start(&self, model: &Model, to: &mut Bytes) -> Result<(), WriteStop>
         ensures { Adds self.now.style
             (written.name_card model.now.name ∷ written.sense_cards model.now.sense) to.old to.new result }
     {
@@ -29,7 +29,7 @@ impl Writer {
         self.sense(model.sense(), to)
     }
 
-    fn front(&self, model: &Model, to: &mut Bytes) -> Result<(), WriteFault>
+    fn front(&self, model: &Model, to: &mut Bytes) -> Result<(), WriteStop>
         ensures { Adds self.now.style (front_cards model.now) to.old to.new result }
     {
         self.start(model, to)?;
@@ -38,7 +38,7 @@ impl Writer {
     }
 
     // What follows `COLUMNS`.
-    fn back(&self, model: &Model, to: &mut Bytes) -> Result<(), WriteFault>
+    fn back(&self, model: &Model, to: &mut Bytes) -> Result<(), WriteStop>
         ensures { Adds self.now.style (back_cards model.now) to.old to.new result }
     {
         self.sides(model, to)?;
@@ -48,7 +48,7 @@ impl Writer {
         Ok(())
     }
 
-    fn cards(&self, model: &Model, to: &mut Bytes) -> Result<(), WriteFault>
+    fn cards(&self, model: &Model, to: &mut Bytes) -> Result<(), WriteStop>
         ensures { Adds self.now.style (written.cards_of model.now) to.old to.new result }
     {
         self.front(model, to)?;
@@ -56,7 +56,7 @@ impl Writer {
     }
 }
 
-fn text_of(alloc: Global, style: Style, model: &Model) -> Result<Bytes, WriteFault>
+fn text_of(alloc: Global, style: Style, model: &Model) -> Result<Bytes, WriteStop>
     ensures { GivesText style (written.cards_of model.now) result }
 {
     let mut text = Bytes::new(alloc);
@@ -70,13 +70,13 @@ pub fn free(alloc: Global, model: &Model) -> Result<Bytes, AllocError>
 {
     match text_of(alloc, Style::Free, model) {
         Ok(text) => Ok(text),
-        Err(WriteFault::NoMemory) => Err(AllocError),
-        Err(WriteFault::TooWide(_)) => unreachable!(),
+        Err(WriteStop::NoMemory) => Err(AllocError),
+        Err(WriteStop::TooWide(_)) => unreachable!(),
     }
 }
 
 /// The text of a model in fixed form, where each name and each number has room in its field.
-pub fn fixed(alloc: Global, model: &Model) -> Result<Bytes, WriteFault>
+pub fn fixed(alloc: Global, model: &Model) -> Result<Bytes, WriteStop>
     ensures { IsFixed model.now result }
 {
     text_of(alloc, Style::Fixed, model)

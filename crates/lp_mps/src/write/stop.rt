@@ -7,7 +7,7 @@ use thiserror::Error;
 
 /// Why a model is not written.
 #[derive(Debug, Drop, Error)]
-pub enum WriteFault {
+pub enum WriteStop {
     /// The first name or number that has no room in a field of fixed form.
     #[error("expected a text that its field of fixed form has room for, but found {0:?}")]
     TooWide(Bytes),
@@ -15,12 +15,12 @@ pub enum WriteFault {
     NoMemory,
 }
 
-impl From<AllocError> for WriteFault {
-    ghost use Rattle.lp_mps.specs.declared.write.fault.WriteFault.TheVariants.{NoMemory};
+impl From<AllocError> for WriteStop {
+    ghost use Rattle.lp_mps.specs.declared.write.stop.WriteStop.TheVariants.{NoMemory};
 
-    ghost from_gives = { λ fault out. out ≡ NoMemory };
+    ghost from_gives = { λ _ stop. stop ≡ NoMemory };
 
-    fn from(_fault: AllocError) -> Self {
-        WriteFault::NoMemory
+    fn from(_: AllocError) -> Self {
+        WriteStop::NoMemory
     }
 }
