@@ -3,8 +3,8 @@ use Rattle.std.proofs.Common.{ℕ, List, subst}
 use Rattle.spec_board.specs.Places.{ExactPlace}
 use Rattle.atomic_table.specs.Table.{State}
 use Rattle.basis_board.specs.declared.seats.View.{View}
-use Rattle.basis_board.specs.declared.seats.Read.{Read}
-use Rattle.basis_board.specs.declared.seats.Read.TheVariants.{Count, Open, See, Claim, Lost, Done}
+use Rattle.basis_board.specs.declared.seats.RawRead.{RawRead}
+use Rattle.basis_board.specs.declared.seats.RawRead.TheVariants.{Count, Open, See, Claim, Lost, Done}
 use Rattle.basis_board.specs.Rule.{Kept}
 use Rattle.basis_board.specs.Moments.{viewed, IsTrueOf}
 use Rattle.basis_board.proofs.InTime.{only_so}
@@ -13,7 +13,7 @@ use Rattle.basis_board.specs.Spelled.{AreSpelled, IsAnswered}
 use Rattle.basis_board.specs.Noted.{IsOfClaimed, AnyKindIsAnswered}
 use Rattle.basis_board.proofs.StepLemmas.{steps_read}
 
-answered : (places session : ℕ) (s : State ℕ View) (now : List ExactPlace) (r : Read) → Kept places s →
+answered : (places session : ℕ) (s : State ℕ View) (now : List ExactPlace) (r : RawRead) → Kept places s →
     AreSpelled s.words now → IsTrueOf s.words r → IsOfClaimed s.words r →
     IsAnswered places now session (exact_read r) s.words
 answered places session s now (Count c) kept is t of =

@@ -14,8 +14,8 @@ use Rattle.spec_board.specs.Words.{IsWellFormed}
 use Rattle.atomic_table.proofs.Lists.{at_set}
 use Rattle.basis_board.specs.declared.seats.View.{View}
 use Rattle.basis_board.specs.declared.seats.Sight.{Sight}
-use Rattle.basis_board.specs.declared.seats.Read.{Read}
-use Rattle.basis_board.specs.declared.seats.Read.TheVariants.{Count, Open, See, Claim, Lost, Done}
+use Rattle.basis_board.specs.declared.seats.RawRead.{RawRead}
+use Rattle.basis_board.specs.declared.seats.RawRead.TheVariants.{Count, Open, See, Claim, Lost, Done}
 use Rattle.basis_board.specs.Moments.{IsBetween, IsOneLog, learned_in_time, Note, notes, notes_in}
 use Rattle.basis_board.specs.Moments.{Turns, IsLike, ClaimsPlace, FinishesPlace}
 use Rattle.basis_board.specs.Board.{Each, Has, count, done, grown_read, grown_reads, finished, spent, cut_right}
@@ -60,13 +60,13 @@ like_is ws us e = record { counted = ap count e; dones = λ k. ap (λ l. done l 
 grows_back : (ws us : List ℕ) → us ≡ ws → Grows us ws
 grows_back ws us e = subst (λ l. Grows l ws) (sym e) (grows_same ws)
 
-true_grown : (ms : List Moment) (rs : List Read) (b : ℕ) → WereTrue ms rs → WereTrue ms (grown_reads rs b)
+true_grown : (ms : List Moment) (rs : List RawRead) (b : ℕ) → WereTrue ms rs → WereTrue ms (grown_reads rs b)
 true_grown [] [] b h = tt
 true_grown [] (r ∷ rs) b h = absurd h
 true_grown (m ∷ ms) [] b h = absurd h
 true_grown (m ∷ ms) (r ∷ rs) b h = (one r h.0, h.1)
   where
-    one : (r : Read) → IsTrueOf m.1 r → IsTrueOf m.1 (grown_read r b)
+    one : (r : RawRead) → IsTrueOf m.1 r → IsTrueOf m.1 (grown_read r b)
     one (Count c) t = t
     one (Open k) t = t
     one (See k xs) t = t
@@ -75,7 +75,7 @@ true_grown (m ∷ ms) (r ∷ rs) b h = (one r h.0, h.1)
     one (Done k xs) t = t
 
 -- a read that has one word more
-alike_grown : (r : Read) (b : ℕ) (ws us : List ℕ) → Turns r ws us → Turns (grown_read r b) ws us
+alike_grown : (r : RawRead) (b : ℕ) (ws us : List ℕ) → Turns r ws us → Turns (grown_read r b) ws us
 alike_grown (Count c) b ws us t = t
 alike_grown (Open k) b ws us t = t
 alike_grown (See k xs) b ws us t = t
@@ -83,7 +83,7 @@ alike_grown (Claim k) b ws us t = t
 alike_grown (Lost c) b ws us t = t
 alike_grown (Done k xs) b ws us t = t
 
-grown_notes : (ms : List Moment) (rs : List Read) (b : ℕ) (n : Note) → Has (notes ms (grown_reads rs b)) n →
+grown_notes : (ms : List Moment) (rs : List RawRead) (b : ℕ) (n : Note) → Has (notes ms (grown_reads rs b)) n →
     HadAlike (notes ms rs) n
 grown_notes [] rs b n h = absurd h
 grown_notes (m ∷ ms) [] b n h = absurd h
@@ -132,7 +132,7 @@ module _ (places : ℕ) where
       (ap count same)))
 
   -- kind 2
-  pub claims : (slots id : ℕ) (me : Me ℕ Sight) (c new : ℕ) (rest : List Read) →
+  pub claims : (slots id : ℕ) (me : Me ℕ Sight) (c new : ℕ) (rest : List RawRead) →
       me.0.view.held ≡ None → 0 < me.0.view.share → c < places → new ≡ c + 1 → me.0.view.reads ≡ Count c ∷ rest →
       Allows (KeptInTime places) slots id me 0 (λ n. either (eqb n c) new n)
       (in_time claimed (step slots 0 c new none) me)
@@ -320,7 +320,7 @@ module _ (places : ℕ) where
 
 -- ---- what no kind of step can do
 
-true_alike : (ws us : List ℕ) (r : Read) → Grows ws us → Grows us ws → IsTrueOf us r → IsTrueOf ws r
+true_alike : (ws us : List ℕ) (r : RawRead) → Grows ws us → Grows us ws → IsTrueOf us r → IsTrueOf ws r
 true_alike ws us (Count c) a b t = let x = a.counted in let y = b.counted in omega arith
 true_alike ws us (Open k) a b t = let x = a.dones k in let y = b.dones k in omega arith
 true_alike ws us (See k xs) a b t = let x = a.dones k in let y = b.dones k in omega arith
@@ -329,7 +329,7 @@ true_alike ws us (Lost c) a b t = let x = a.counted in let y = b.counted in omeg
 true_alike ws us (Done k xs) a b t = let x = a.dones k in let y = b.dones k in omega arith
 
 -- of notes that lie between words which are alike, the newest is so of them
-newest_is : (ws us : List ℕ) (r : Read) (rs : List Read) (more old : List Moment) → us ≡ ws →
+newest_is : (ws us : List ℕ) (r : RawRead) (rs : List RawRead) (more old : List Moment) → us ≡ ws →
     Each (IsBetween ws us) more → WereTrue (more ++ old) (r ∷ rs) → WereTrue old rs → IsTrueOf ws r
 newest_is ws us r rs [] old same between now was =
     absurd (let a = true_long old (r ∷ rs) now in let b = true_long old rs was in omega arith)
@@ -337,7 +337,7 @@ newest_is ws us r rs (m ∷ ms) old same between now was =
     true_alike ws m.1 r between.0.after (subst (Grows m.1) same between.0.before) now.0
 
 pub only_so : (places i n id : ℕ) (s : State ℕ Sight) (v w : Sight) (slots : List (ℕ × ℕ)) (act : Act ℕ)
-    (read : Read) → KeptInTime places s → get_elem? s.views id ≡ some v → n ≡ get_or s.words i 0 →
+    (read : RawRead) → KeptInTime places s → get_elem? s.views id ≡ some v → n ≡ get_or s.words i 0 →
     KeptInTime places (stepped s i n id slots w act) → Later v w → w.view.reads ≡ read ∷ v.view.reads →
     IsTrueOf s.words read
 only_so places i n id s v w slots act read r at left r' l more =
@@ -349,7 +349,7 @@ only_so places i n id s v w slots act read r at left r' l more =
     (subst (λ (x : List Moment). WereTrue x w.view.reads) l.notes.all l.were_true))
     (r.timed.were_true id v at)
 
-pub allowed_so : (places slots id i : ℕ) (me : Me ℕ Sight) (f : ℕ → ℕ) (read : ℕ → Read) →
+pub allowed_so : (places slots id i : ℕ) (me : Me ℕ Sight) (f : ℕ → ℕ) (read : ℕ → RawRead) →
     Allows (KeptInTime places) slots id me i f
     (λ n m. (m.0.view.reads ≡ read n ∷ me.0.view.reads) × Later me.0 m.0) →
     (s : State ℕ Sight) → KeptInTime places s → length s.homes ≡ slots → get_elem? s.views id ≡ some me.0 →

@@ -5,8 +5,8 @@ use Rattle.spec_board.specs.Words.{IsWellFormed}
 use Rattle.spec_board.specs.declared.read.Read.TheVariants as read
 use Rattle.spec_board.specs.Orders.{InPairs, AreInOrder}
 use Rattle.basis_board.specs.declared.seats.View.{View}
-use Rattle.basis_board.specs.declared.seats.Read.{Read}
-use Rattle.basis_board.specs.declared.seats.Read.TheVariants.{Count, Open, See, Claim, Lost, Done}
+use Rattle.basis_board.specs.declared.seats.RawRead.{RawRead}
+use Rattle.basis_board.specs.declared.seats.RawRead.TheVariants.{Count, Open, See, Claim, Lost, Done}
 use Rattle.basis_board.specs.declared.board.Look.{Look}
 use Rattle.basis_board.specs.declared.board.Look.TheVariants.{Found, NoneReady}
 use Rattle.spec_board.specs.declared.read.Put.{Put}
@@ -23,16 +23,16 @@ use Rattle.basis_board.proofs.Pushing.{in_turn, all_more, pairs_more}
 -- ---- what an earlier read says of one more
 
 -- the read is in order after these
-abbrev IsAfter : Read → List Read → Type 0
+abbrev IsAfter : RawRead → List RawRead → Type 0
 IsAfter r earlier = Each (λ q. AreInOrder (exact_read q) (exact_read r)) earlier
 
-after_all : (r : Read) → ((q : Read) → AreInOrder (exact_read q) (exact_read r)) → (earlier : List Read) →
+after_all : (r : RawRead) → ((q : RawRead) → AreInOrder (exact_read q) (exact_read r)) → (earlier : List RawRead) →
     IsAfter r earlier
 after_all r h [] = tt
 after_all r h (q ∷ earlier) = (h q, after_all r h earlier)
 
 -- all that was read as done, or published, is below the count
-before_count : (seen : List (ℕ × List ℕ)) (c : ℕ) → Each (λ p. p.0 < c) seen → (q : Read) → StandsIn seen q →
+before_count : (seen : List (ℕ × List ℕ)) (c : ℕ) → Each (λ p. p.0 < c) seen → (q : RawRead) → StandsIn seen q →
     IsAtMost c q → AreInOrder (exact_read q) (read.Count c)
 before_count seen c below (Count d) stands most = most
 before_count seen c below (Open k) stands most = tt
@@ -43,7 +43,7 @@ before_count seen c below (Lost d) stands most = most
 before_count seen c below (Done k words) stands most =
     each_has (λ (p : ℕ × List ℕ). p.0 < c) seen (k, stands.0) below stands.1
 
-before_lost : (c : ℕ) (q : Read) → IsAtMost c q → AreInOrder (exact_read q) (read.Lost c)
+before_lost : (c : ℕ) (q : RawRead) → IsAtMost c q → AreInOrder (exact_read q) (read.Lost c)
 before_lost c (Count d) most = most
 before_lost c (Open k) most = tt
 before_lost c (See k words) most = tt
@@ -51,7 +51,7 @@ before_lost c (Claim k) most = tt
 before_lost c (Lost d) most = most
 before_lost c (Done k words) most = tt
 
-before_open : (seen : List (ℕ × List ℕ)) (j : ℕ) → Each (λ p. p.0 ≢ j) seen → (q : Read) → StandsIn seen q →
+before_open : (seen : List (ℕ × List ℕ)) (j : ℕ) → Each (λ p. p.0 ≢ j) seen → (q : RawRead) → StandsIn seen q →
     AreInOrder (exact_read q) (read.NotDone j)
 before_open seen j unseen (Count d) stands = tt
 before_open seen j unseen (Open k) stands = tt
@@ -62,7 +62,7 @@ before_open seen j unseen (Lost d) stands = tt
 before_open seen j unseen (Done k words) stands =
     each_has (λ (p : ℕ × List ℕ). p.0 ≢ j) seen (k, stands.0) unseen stands.1
 
-before_see : (j : ℕ) (new : List ℕ) (q : Read) → AreInOrder (exact_read q) (read.Seen j new)
+before_see : (j : ℕ) (new : List ℕ) (q : RawRead) → AreInOrder (exact_read q) (read.Seen j new)
 before_see j new (Count d) = tt
 before_see j new (Open k) = tt
 before_see j new (See k words) = tt
@@ -70,7 +70,7 @@ before_see j new (Claim k) = tt
 before_see j new (Lost d) = tt
 before_see j new (Done k words) = tt
 
-before_claim : (j : ℕ) (q : Read) → AreInOrder (exact_read q) (read.Claim j)
+before_claim : (j : ℕ) (q : RawRead) → AreInOrder (exact_read q) (read.Claim j)
 before_claim j (Count d) = tt
 before_claim j (Open k) = tt
 before_claim j (See k words) = tt
@@ -78,7 +78,7 @@ before_claim j (Claim k) = tt
 before_claim j (Lost d) = tt
 before_claim j (Done k words) = tt
 
-before_done : (j : ℕ) (new : List ℕ) (q : Read) → AreInOrder (exact_read q) (read.Done j new)
+before_done : (j : ℕ) (new : List ℕ) (q : RawRead) → AreInOrder (exact_read q) (read.Done j new)
 before_done j new (Count d) = tt
 before_done j new (Open k) = tt
 before_done j new (See k words) = tt
@@ -87,7 +87,7 @@ before_done j new (Lost d) = tt
 before_done j new (Done k words) = tt
 
 -- places that are passed over above this one
-passed_above : (shape : List ℕ) (c k : ℕ) (added : List Read) → Passed shape c k added → (j : ℕ) → j < k →
+passed_above : (shape : List ℕ) (c k : ℕ) (added : List RawRead) → Passed shape c k added → (j : ℕ) → j < k →
     IsAfter (Open j) added
 passed_above shape c k [] p j l = tt
 passed_above shape c k (Open i ∷ added) p j l = (tt, passed_above shape c (k + 1) added p.1 j (omega arith))
@@ -102,11 +102,11 @@ passed_above shape c k (Done i words ∷ added) p j l = absurd p.0
 -- ---- one read more
 
 -- the newest first
-record AreOrderly (reads : List Read) : Type 0 where
+record AreOrderly (reads : List RawRead) : Type 0 where
   ordered : InPairs AreInOrder (in_turn reads)
   whole : AllByRecursion IsWhole (in_turn reads)
 
-one_more : (r : Read) (reads : List Read) → AreOrderly reads → IsAfter r reads → IsWhole (exact_read r) →
+one_more : (r : RawRead) (reads : List RawRead) → AreOrderly reads → IsAfter r reads → IsWhole (exact_read r) →
     AreOrderly (r ∷ reads)
 one_more r reads h after whole = record {
   ordered = pairs_more AreInOrder r reads h.ordered after;
@@ -127,7 +127,7 @@ module _ (v : View) (now : Consistent v) (orderly : IsOrderly v) where
 
   -- ---- a look
 
-  passed_orderly : (shape : List ℕ) (c k : ℕ) (added : List Read) → CountTells v c → Passed shape c k added →
+  passed_orderly : (shape : List ℕ) (c k : ℕ) (added : List RawRead) → CountTells v c → Passed shape c k added →
       Each (OpenUnseen v.seen) added → AreOrderly (added ++ Count c ∷ v.reads)
   passed_orderly shape c k [] tells p unseen = counted c tells
   passed_orderly shape c k (Open j ∷ added) tells p unseen =

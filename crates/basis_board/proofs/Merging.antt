@@ -4,7 +4,7 @@ use Rattle.std.proofs.Common.{nat_eq, eqb, eqb-true, eq-eqb, cond, refl, sym, ap
 use Rattle.std.specs.List.{filter, AllByRecursion}
 use Rattle.std.proofs.lemmas.Bool.{cases_eq, eqb-false}
 use Rattle.spec_board.specs.Places.{Logged}
-use Rattle.basis_board.specs.declared.seats.Read.{Read}
+use Rattle.basis_board.specs.declared.seats.RawRead.{RawRead}
 use Rattle.basis_board.specs.Board.{total, one_if}
 use Rattle.basis_board.proofs.Totals.{times_here, times_else}
 use Rattle.basis_board.specs.PassReads.{exact_read}
@@ -15,7 +15,7 @@ pub record Mark : Type 0 where
   pub number : ℕ
   pub words : List ℕ
   pub session : ℕ
-  pub read : Read
+  pub read : RawRead
 
 abbrev pub logged_of : Mark → Logged
 logged_of x = of_read x.session (exact_read x.read)

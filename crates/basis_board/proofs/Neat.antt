@@ -6,8 +6,8 @@ use Rattle.std.proofs.lemmas.Bool.{cases_lt}
 use mathlib.Core.Option.{some, some-ne-none}
 use lib.ListN.{get_elem?}
 use Rattle.basis_board.specs.declared.seats.View.{View}
-use Rattle.basis_board.specs.declared.seats.Read.{Read}
-use Rattle.basis_board.specs.declared.seats.Read.TheVariants.{Count, Open, See, Claim, Lost, Done}
+use Rattle.basis_board.specs.declared.seats.RawRead.{RawRead}
+use Rattle.basis_board.specs.declared.seats.RawRead.TheVariants.{Count, Open, See, Claim, Lost, Done}
 use Rattle.spec_board.specs.Words.{IsWellFormed}
 use Rattle.basis_board.specs.Board.{Each, Has, count, owning, noted, finished, opening_place, grown_seen}
 use Rattle.basis_board.specs.Board.{grown_reads, reading, met}
@@ -16,7 +16,7 @@ use Rattle.basis_board.specs.Rule.{StandsIn, Neat, ReadAgrees, Consistent}
 use Rattle.basis_board.proofs.Totals.{total_at, each_map, each_append, has_left, has_right}
 use Rattle.basis_board.proofs.Frames.{St, shows_same}
 
-stands_in : (seen more : List (ℕ × List ℕ)) → ((p : ℕ × List ℕ) → Has seen p → Has more p) → (r : Read) →
+stands_in : (seen more : List (ℕ × List ℕ)) → ((p : ℕ × List ℕ) → Has seen p → Has more p) → (r : RawRead) →
     StandsIn seen r → StandsIn more r
 stands_in seen more into (Count c) h = tt
 stands_in seen more into (Open k) h = tt
@@ -25,12 +25,12 @@ stands_in seen more into (Claim k) h = tt
 stands_in seen more into (Lost c) h = tt
 stands_in seen more into (Done k xs) h = (h.0, into (k, h.0) h.1, h.2)
 
-neat_noted : (v : View) (r : Read) → published_places (r ∷ v.reads) ≡ published_places v.reads → StandsIn v.seen r →
+neat_noted : (v : View) (r : RawRead) → published_places (r ∷ v.reads) ≡ published_places v.reads → StandsIn v.seen r →
     Neat v → Neat (noted v r)
 neat_noted v r same stands n = record { published = n.published ∙ sym same; stands = (stands, n.stands) }
 
 -- a read that fits the words, and stands in no place
-pub fits_noted : (places : ℕ) (ws : List ℕ) (v : View) (r : Read) → 0 < v.share → ReadFits ws r →
+pub fits_noted : (places : ℕ) (ws : List ℕ) (v : View) (r : RawRead) → 0 < v.share → ReadFits ws r →
     published_places (r ∷ v.reads) ≡ published_places v.reads → StandsIn v.seen r → Fits places ws v →
     Fits places ws (noted v r)
 fits_noted places ws v r share fits same stands f =
@@ -77,7 +77,7 @@ longer_in k b xs rest j n h = ⊎_elim
     (λ (g : Has rest (j, h.0)). (h.0, inr g, h.2))
     h.1
 
-stands_longer : (k b : ℕ) (xs : List ℕ) (rest : List (ℕ × List ℕ)) (r : Read) → StandsIn ((k, xs) ∷ rest) r →
+stands_longer : (k b : ℕ) (xs : List ℕ) (rest : List (ℕ × List ℕ)) (r : RawRead) → StandsIn ((k, xs) ∷ rest) r →
     StandsIn ((k, xs ++ b ∷ []) ∷ rest) r
 stands_longer k b xs rest (Count c) h = tt
 stands_longer k b xs rest (Open j) h = tt
@@ -86,24 +86,24 @@ stands_longer k b xs rest (Claim j) h = tt
 stands_longer k b xs rest (Lost c) h = tt
 stands_longer k b xs rest (Done j ys) h = longer_in k b xs rest j (length ys) h
 
-pub neat_reading : (v : View) (k b : ℕ) (xs : List ℕ) (rest : List (ℕ × List ℕ)) (old : List Read) →
+pub neat_reading : (v : View) (k b : ℕ) (xs : List ℕ) (rest : List (ℕ × List ℕ)) (old : List RawRead) →
     v.seen ≡ (k, xs) ∷ rest → v.reads ≡ See k xs ∷ old → Neat v → Neat (reading v b)
 neat_reading v k b xs rest old top last n =
     let now : grown_seen v.seen b ≡ (k, xs ++ b ∷ []) ∷ rest = ap (λ (l : List (ℕ × List ℕ)). grown_seen l b) top in
-    let noted_now : grown_reads v.reads b ≡ See k (xs ++ b ∷ []) ∷ old = ap (λ (l : List Read). grown_reads l b) last in
+    let noted_now : grown_reads v.reads b ≡ See k (xs ++ b ∷ []) ∷ old = ap (λ (l : List RawRead). grown_reads l b) last in
     let was : Each (StandsIn ((k, xs) ∷ rest)) (See k xs ∷ old) =
-    subst (λ (z : List (ℕ × List ℕ) × List Read). Each (StandsIn z.0) z.1) (λ i. (top i, last i)) n.stands in
+    subst (λ (z : List (ℕ × List ℕ) × List RawRead). Each (StandsIn z.0) z.1) (λ i. (top i, last i)) n.stands in
     record {
       published = n.published ∙ (ap published_places last ∙ ap published_places (sym noted_now));
       stands =
-          subst (λ (z : List (ℕ × List ℕ) × List Read). Each (StandsIn z.0) z.1) (λ i. (sym now i, sym noted_now i)) (
+          subst (λ (z : List (ℕ × List ℕ) × List RawRead). Each (StandsIn z.0) z.1) (λ i. (sym now i, sym noted_now i)) (
             (xs ++ b ∷ [], inl refl, omega arith),
             each_map (StandsIn ((k, xs) ∷ rest)) (StandsIn ((k, xs ++ b ∷ []) ∷ rest))
                 (stands_longer k b xs rest) old was.1,
           );
     }
 
-published-append : (xs ys : List Read) → published_places (xs ++ ys) ≡ published_places ys ++ published_places xs
+published-append : (xs ys : List RawRead) → published_places (xs ++ ys) ≡ published_places ys ++ published_places xs
 published-append [] ys = sym (append-nil (published_places ys))
 published-append (Count c ∷ xs) ys = published-append xs ys
 published-append (Open k ∷ xs) ys = published-append xs ys
@@ -128,7 +128,7 @@ neat_met v w n m = record {
 agree : (ws : List ℕ) (p q : ℕ × List ℕ) → SeenFits ws p → SeenFits ws q → Agree p q
 agree ws p q a b e i l m = sym (a.1.same i l) ∙ (ap (λ (z : ℕ). get_or ws (50 * z + 1 + i) 0) e ∙ b.1.same i m)
 
-read_agrees : (ws : List ℕ) (seen : List (ℕ × List ℕ)) → Each (SeenFits ws) seen → (r : Read) → ReadFits ws r →
+read_agrees : (ws : List ℕ) (seen : List (ℕ × List ℕ)) → Each (SeenFits ws) seen → (r : RawRead) → ReadFits ws r →
     ReadAgrees seen r
 read_agrees ws seen all (Count c) h = tt
 read_agrees ws seen all (Open k) h = tt

@@ -9,8 +9,8 @@ use Rattle.spec_board.specs.declared.read.Read.TheVariants as read
 use Rattle.spec_board.specs.Reads.{ExactRead}
 use Rattle.spec_board.specs.Places.{Logged}
 use Rattle.spec_board.specs.Orders.{AreBacked, HaveOneOrder, log_of_worker}
-use Rattle.basis_board.specs.declared.seats.Read.{Read}
-use Rattle.basis_board.specs.declared.seats.Read.TheVariants.{Count, Open, See, Claim, Lost, Done}
+use Rattle.basis_board.specs.declared.seats.RawRead.{RawRead}
+use Rattle.basis_board.specs.declared.seats.RawRead.TheVariants.{Count, Open, See, Claim, Lost, Done}
 use Rattle.basis_board.specs.Board.{Each, Has, one_if, count}
 use Rattle.basis_board.specs.Known.{Known, notes_of}
 use Rattle.basis_board.specs.Moments.{Moment, Note, notes, numbered, ComeAfter, WereTrue, IsTrueOf, IsOneLog}
@@ -83,7 +83,7 @@ contains_flat f (x ∷ xs) (suc i) d y l h =
 -- ---- the notes of one pass, with the sessions of its reads
 
 -- the newest first
-marks : List Moment → List Read → List Logged → List Mark
+marks : List Moment → List RawRead → List Logged → List Mark
 marks [] rs ls = []
 marks (m ∷ ms) [] ls = []
 marks (m ∷ ms) (r ∷ rs) [] = []
@@ -94,13 +94,13 @@ abbrev note_of : Mark → Note
 note_of x = record { number = x.number; words = x.words; read = x.read }
 
 -- the reads are those of the log
-abbrev AreReads : List Read → List Logged → Type 0
+abbrev AreReads : List RawRead → List Logged → Type 0
 AreReads rs ls = map (λ (x : Logged). x.read) ls ≡ map exact_read rs
 
-one_logged : (l : Logged) (r : Read) → l.read ≡ exact_read r → of_read l.session (exact_read r) ≡ l
+one_logged : (l : Logged) (r : RawRead) → l.read ≡ exact_read r → of_read l.session (exact_read r) ≡ l
 one_logged l r e = ap (of_read l.session) (sym e)
 
-logged_are : (ms : List Moment) (rs : List Read) (ls : List Logged) → WereTrue ms rs → AreReads rs ls →
+logged_are : (ms : List Moment) (rs : List RawRead) (ls : List Logged) → WereTrue ms rs → AreReads rs ls →
     map logged_of (marks ms rs ls) ≡ ls
 unfolding marks
 logged_are [] [] [] h e = refl
@@ -114,7 +114,7 @@ logged_are (m ∷ ms) (r ∷ rs) (l ∷ ls) h e =
     ap (λ (x : Logged). x ∷ map logged_of (marks ms rs ls)) (one_logged l r first)
     ∙ ap (λ xs. l ∷ xs) (logged_are ms rs ls h.1 rest)
 
-marked_are : (t : ℕ) (ms : List Moment) (rs : List Read) (ls : List Logged) → WereTrue ms rs → AreReads rs ls →
+marked_are : (t : ℕ) (ms : List Moment) (rs : List RawRead) (ls : List Logged) → WereTrue ms rs → AreReads rs ls →
     marked t (marks ms rs ls) ≡ numbered t (notes ms rs)
 unfolding marks
 marked_are t [] rs ls h e = refl
@@ -124,7 +124,7 @@ marked_are t (m ∷ ms) (r ∷ rs) (l ∷ ls) h e =
     let rest : AreReads rs ls = cc in
     ap (λ n. one_if (eqb m.0 t) + n) (marked_are t ms rs ls h.1 rest)
 
-mark_noted : (ms : List Moment) (rs : List Read) (ls : List Logged) (x : Mark) → Has (marks ms rs ls) x →
+mark_noted : (ms : List Moment) (rs : List RawRead) (ls : List Logged) (x : Mark) → Has (marks ms rs ls) x →
     Has (notes ms rs) (note_of x)
 unfolding marks
 mark_noted [] rs ls x h = absurd h
@@ -140,7 +140,7 @@ abbrev Falls : List Mark → Type 0
 Falls [] = Unit {0}
 Falls (x ∷ xs) = AllByRecursion (λ (y : Mark). y.number < x.number) xs × Falls xs
 
-below_first : (n : ℕ) (ms old : List Moment) (rs : List Read) (ls : List Logged) →
+below_first : (n : ℕ) (ms old : List Moment) (rs : List RawRead) (ls : List Logged) →
     Each (λ (m : Moment). m.0 < n) (ms ++ old) → AllByRecursion (λ (y : Mark). y.number < n) (marks ms rs ls)
 unfolding marks
 below_first n [] old rs ls e = tt
@@ -148,7 +148,7 @@ below_first n (m ∷ ms) old [] ls e = tt
 below_first n (m ∷ ms) old (r ∷ rs) [] e = tt
 below_first n (m ∷ ms) old (r ∷ rs) (l ∷ ls) e = (e.0, below_first n ms old rs ls e.1)
 
-marks_fall : (ms : List Moment) (rs : List Read) (ls : List Logged) → ComeAfter ms [] → Falls (marks ms rs ls)
+marks_fall : (ms : List Moment) (rs : List RawRead) (ls : List Logged) → ComeAfter ms [] → Falls (marks ms rs ls)
 unfolding marks
 marks_fall [] rs ls c = tt
 marks_fall (m ∷ ms) [] ls c = tt
@@ -181,7 +181,7 @@ marked_back t (x ∷ xs) =
 
 -- ---- what is supposed was so
 
-count_back : (r : Read) (c : ℕ) → exact_read r ≡ read.Count c → r ≡ Count c
+count_back : (r : RawRead) (c : ℕ) → exact_read r ≡ read.Count c → r ≡ Count c
 count_back (Count d) c e = let z : d ≡ c = cc in ap Count z
 count_back (Open k) c e = cc
 count_back (See k words) c e = cc
@@ -189,7 +189,7 @@ count_back (Claim k) c e = cc
 count_back (Lost d) c e = cc
 count_back (Done k words) c e = cc
 
-claim_back : (r : Read) (k : ℕ) → exact_read r ≡ read.Claim k → r ≡ Claim k
+claim_back : (r : RawRead) (k : ℕ) → exact_read r ≡ read.Claim k → r ≡ Claim k
 claim_back (Count d) k e = cc
 claim_back (Open j) k e = cc
 claim_back (See j words) k e = cc
@@ -210,7 +210,7 @@ module _ (places : ℕ) (all : List Mark) (so : (x : Mark) → Has all x → IsT
         let early = before y.0 y.1 in
         let more = grow y.0 x (inside y.0 y.1) here (omega arith) in omega arith
 
-    founded_one : (r : Read) → Supposes places (map logged_of made) x.session (exact_read r) → IsFounded places all x r
+    founded_one : (r : RawRead) → Supposes places (map logged_of made) x.session (exact_read r) → IsFounded places all x r
     founded_one (Count c) s = tt
     founded_one (Open k) s = counted_before s.0 s.1 k s.2 s.3
     founded_one (See k words) s = tt

@@ -1,7 +1,7 @@
 -- What a publish comes to.
 use Rattle.std.proofs.Common.{◌≢◌, ℕ, ◌<◌, ap, ◌∙◌, subst, arith}
 use Rattle.basis_board.specs.declared.seats.View.{View}
-use Rattle.basis_board.specs.declared.seats.Read.TheVariants.{Lost}
+use Rattle.basis_board.specs.declared.seats.RawRead.TheVariants.{Lost}
 use Rattle.basis_board.specs.Board.{noted}
 use Rattle.basis_board.specs.Rule.{OwnsBelow, CountTells, Counted, Claimed}
 use Rattle.basis_board.specs.Calls.{IsRaced}

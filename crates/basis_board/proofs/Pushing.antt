@@ -4,13 +4,13 @@ use Rattle.std.specs.Prelude.{reverse}
 use Rattle.std.specs.List.{AllByRecursion}
 use Rattle.spec_board.specs.Reads.{ExactRead}
 use Rattle.spec_board.specs.Orders.{InPairs}
-use Rattle.basis_board.specs.declared.seats.Read.{Read}
+use Rattle.basis_board.specs.declared.seats.RawRead.{RawRead}
 use Rattle.basis_board.specs.Board.{Each}
 use Rattle.basis_board.specs.PassReads.{exact_read}
 use Rattle.basis_board.proofs.ReadTying.{reads_more}
 
 -- these reads, of which the newest stands first, with the first one first
-abbrev pub in_turn : List Read → List ExactRead
+abbrev pub in_turn : List RawRead → List ExactRead
 in_turn reads = map exact_read (reverse reads)
 
 module _ {X : Type 0} where
@@ -30,16 +30,16 @@ module _ {X : Type 0} where
 -- ---- each
 
 module _ (P : ExactRead → Type 0) where
-  pub all_more : (r : Read) (reads : List Read) → AllByRecursion P (in_turn reads) → P (exact_read r) →
+  pub all_more : (r : RawRead) (reads : List RawRead) → AllByRecursion P (in_turn reads) → P (exact_read r) →
       AllByRecursion P (in_turn (r ∷ reads))
   all_more r reads h p =
       subst (AllByRecursion P) (sym (reads_more (r ∷ []) reads)) (all_push P (in_turn reads) (exact_read r) h p)
 
-  pub each_all : (reads : List Read) → Each (λ r. P (exact_read r)) reads → AllByRecursion P (in_turn reads)
+  pub each_all : (reads : List RawRead) → Each (λ r. P (exact_read r)) reads → AllByRecursion P (in_turn reads)
   each_all [] e = tt
   each_all (r ∷ reads) e = all_more r reads (each_all reads e.1) e.0
 
-  pub all_each : (reads : List Read) → AllByRecursion P (in_turn reads) → Each (λ r. P (exact_read r)) reads
+  pub all_each : (reads : List RawRead) → AllByRecursion P (in_turn reads) → Each (λ r. P (exact_read r)) reads
   all_each [] h = tt
   all_each (r ∷ reads) h =
       let last = all_pop P (in_turn reads) (exact_read r)
@@ -48,7 +48,7 @@ module _ (P : ExactRead → Type 0) where
 
 -- ---- each two
 
-pub pairs_more : (R : ExactRead → ExactRead → Type 0) (r : Read) (reads : List Read) → InPairs R (in_turn reads) →
+pub pairs_more : (R : ExactRead → ExactRead → Type 0) (r : RawRead) (reads : List RawRead) → InPairs R (in_turn reads) →
     Each (λ q. R (exact_read q) (exact_read r)) reads → InPairs R (in_turn (r ∷ reads))
 pairs_more R r reads h e =
     subst (InPairs R) (sym (reads_more (r ∷ []) reads))

@@ -8,8 +8,8 @@ use Rattle.spec_text.proofs.WordLemmas.{same_true, same-refl}
 use Rattle.spec_board.specs.declared.read.Read.TheVariants as read
 use Rattle.spec_board.specs.Reads.{ExactRead, Looked, shape_words, front, has_shape, SeenBy, SeesDown}
 use Rattle.basis_board.specs.declared.seats.View.{View}
-use Rattle.basis_board.specs.declared.seats.Read.{Read}
-use Rattle.basis_board.specs.declared.seats.Read.TheVariants.{Count, Open, See, Claim, Lost, Done}
+use Rattle.basis_board.specs.declared.seats.RawRead.{RawRead}
+use Rattle.basis_board.specs.declared.seats.RawRead.TheVariants.{Count, Open, See, Claim, Lost, Done}
 use Rattle.basis_board.specs.declared.board.Look.{Look}
 use Rattle.basis_board.specs.declared.board.Look.TheVariants.{Found, NoneReady}
 use Rattle.spec_board.specs.declared.read.Put.{Put}
@@ -20,7 +20,7 @@ use Rattle.basis_board.specs.PassReads.{exact_read, reads_of, AddsLook, AddsPut}
 -- ---- lists
 
 -- some reads more, the newest first
-pub reads_more : (more old : List Read) →
+pub reads_more : (more old : List RawRead) →
     map exact_read (reverse (more ++ old)) ≡ map exact_read (reverse old) ++ map exact_read (reverse more)
 reads_more more old = ap (map exact_read) (reverse-append more old) ∙ map-append exact_read (reverse old) (reverse more)
 
@@ -34,7 +34,7 @@ other_shape shape words size other = by (has_shape shape words) refl
     by false e = refl
 
 -- a place that is passed over
-sees_past : (shape : List ℕ) (k : ℕ) (r : Read) (rest : List ExactRead) (found : Looked) → SeesOther shape k r →
+sees_past : (shape : List ℕ) (k : ℕ) (r : RawRead) (rest : List ExactRead) (found : Looked) → SeesOther shape k r →
     SeesDown shape k rest found → SeesDown shape (suc k) (exact_read r ∷ rest) found
 sees_past shape k (Open j) rest found o d = (o, d)
 sees_past shape k (See j words) rest found o d = (
@@ -49,7 +49,7 @@ sees_past shape k (Lost c) rest found o d = absurd o
 sees_past shape k (Done j words) rest found o d = absurd o
 
 -- places that are passed over, the newest read first
-sees_passed : (shape : List ℕ) (c k : ℕ) (added : List Read) (rest : List ExactRead) (found : Looked) →
+sees_passed : (shape : List ℕ) (c k : ℕ) (added : List RawRead) (rest : List ExactRead) (found : Looked) →
     Passed shape c k added → SeesDown shape k rest found →
     SeesDown shape c (map exact_read (reverse added) ++ rest) found
 sees_passed shape c k [] rest found p d = subst (λ n. SeesDown shape n rest found) p d

@@ -8,8 +8,8 @@ use Rattle.std.proofs.lemmas.List.{get_or_append_left, get_or_push, length-take}
 use mathlib.Core.Option.{none}
 use Rattle.atomic_table.specs.Table.{Me, step, keeps, Allows}
 use Rattle.basis_board.specs.declared.seats.View.{View}
-use Rattle.basis_board.specs.declared.seats.Read.{Read}
-use Rattle.basis_board.specs.declared.seats.Read.TheVariants.{Open, See}
+use Rattle.basis_board.specs.declared.seats.RawRead.{RawRead}
+use Rattle.basis_board.specs.declared.seats.RawRead.TheVariants.{Open, See}
 use Rattle.spec_board.specs.Words.{IsWellFormed}
 use Rattle.basis_board.specs.Board.{Each, Has, count, done, Shows, noted, opening_place}
 use Rattle.basis_board.specs.Board.{grown_seen, grown_reads, reading, head_words}
@@ -96,7 +96,7 @@ module _ (places : ℕ) where
   )
 
   -- kind 6
-  reads : (slots id : ℕ) (me : Me ℕ View) (i k : ℕ) (xs : List ℕ) (rest : List (ℕ × List ℕ)) (old : List Read) →
+  reads : (slots id : ℕ) (me : Me ℕ View) (i k : ℕ) (xs : List ℕ) (rest : List (ℕ × List ℕ)) (old : List RawRead) →
       me.0.seen ≡ (k, xs) ∷ rest → me.0.reads ≡ See k xs ∷ old →
       0 < me.0.share → length xs < 49 → i ≡ 50 * k + 1 + length xs
       → Allows (Kept places) slots id me i (λ n. n) (word_read (step slots i 0 0 none) me)
@@ -113,7 +113,7 @@ module _ (places : ℕ) where
       let word : get_or ws (50 * k + 1 + m) 0 ≡ n = ap (λ (z : ℕ). get_or ws z 0) (sym is) in
       let longer : Shows ws k (xs ++ n ∷ []) = shows_more ws k xs n short word seen.0.1 in
       let now : w.seen ≡ (k, xs ++ n ∷ []) ∷ rest = ap (λ (l : List (ℕ × List ℕ)). grown_seen l n) top in
-      let noted_now : w.reads ≡ See k (xs ++ n ∷ []) ∷ old = ap (λ (l : List Read). grown_reads l n) last in
+      let noted_now : w.reads ≡ See k (xs ++ n ∷ []) ∷ old = ap (λ (l : List RawRead). grown_reads l n) last in
       let new : SeenFits ws (k, xs ++ n ∷ []) = (seen.0.0, longer) in
       let older = subst (Each (ReadFits ws)) last fits.reads in
       let head : head_words w.seen ≡ xs ++ n ∷ [] = ap head_words now in

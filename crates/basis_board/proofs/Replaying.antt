@@ -11,8 +11,8 @@ use Rattle.spec_board.specs.declared.read.Read.TheVariants as read
 use Rattle.spec_board.specs.Reads.{ExactRead}
 use Rattle.spec_board.specs.Places.{ExactPlace, place_at, with_place, Answers, Plays}
 use Rattle.spec_board.specs.Orders.{InPairs, published_by, published_in, IsBacked, AreBacked}
-use Rattle.basis_board.specs.declared.seats.Read.{Read}
-use Rattle.basis_board.specs.declared.seats.Read.TheVariants.{Count, Open, See, Claim, Lost, Done}
+use Rattle.basis_board.specs.declared.seats.RawRead.{RawRead}
+use Rattle.basis_board.specs.declared.seats.RawRead.TheVariants.{Count, Open, See, Claim, Lost, Done}
 use Rattle.basis_board.specs.Board.{Has, count, done}
 use Rattle.basis_board.specs.Moments.{Turns, IsTrueOf, IsLike}
 use Rattle.basis_board.specs.PassReads.{exact_read}
@@ -96,7 +96,7 @@ done_alike (r ∷ rs) once k a b (suc i, l, e) (suc j, m, f) =
 
 -- A place that is not done is one that is claimed, there is a place for each claim, and a place that is done was
 -- claimed before by the same session.
-abbrev pub IsFounded : ℕ → List Mark → Mark → Read → Type 0
+abbrev pub IsFounded : ℕ → List Mark → Mark → RawRead → Type 0
 IsFounded places all x (Open k) = k < count x.words
 IsFounded places all x (Claim k) = k < places
 IsFounded places all x (Done k words) =
@@ -118,7 +118,7 @@ module _ (places : ℕ) (rs : List ExactRead) (backed : AreBacked rs) (all : Lis
     claimed : (y : Mark) → Has made y → (k : ℕ) → y.read ≡ Claim k →
         (place_at now k ≡ Some (place.Claimed y.session)) ⊎ IsDoneAt now k
 
-  record Stepped (x : Mark) (r : Read) (now : List ExactPlace) (made : List Mark) : Type 0 where
+  record Stepped (x : Mark) (r : RawRead) (now : List ExactPlace) (made : List Mark) : Type 0 where
     next : List ExactPlace
     answers : Answers places now x.session (exact_read r) next
     stands : Stands x.words next (x ∷ made)
@@ -172,7 +172,7 @@ module _ (places : ℕ) (rs : List ExactRead) (backed : AreBacked rs) (all : Lis
                 (λ (e : new ≡ place.Done words). absurd (cc)) (place_before now j (place.Done words) new at);
             claimed = λ y h j c. ⊎_elim
                 (λ (e : x ≡ y).
-                let same : ◌≡◌ {A = Read} (Claim k) (Claim j) = sym is ∙ ap (λ (z : Mark). z.read) e ∙ c in
+                let same : ◌≡◌ {A = RawRead} (Claim k) (Claim j) = sym is ∙ ap (λ (z : Mark). z.read) e ∙ c in
                 let place_is : length now ≡ j = (let z : k ≡ j = cc in omega arith) in
                 inl (subst (λ (z : Mark). place_at (now ++ new ∷ []) j ≡ Some (place.Claimed z.session)) e
                 (subst (λ i. place_at (now ++ new ∷ []) i ≡ Some new) place_is (place_last now new))))
@@ -216,7 +216,7 @@ module _ (places : ℕ) (rs : List ExactRead) (backed : AreBacked rs) (all : Lis
                 (λ (n : j ≡ k → ⊥). t.others j n ∙ s.so_done j others (sym (apart j n) ∙ at)) (cases_eq j k);
             claimed = λ y h j c. ⊎_elim
                 (λ (e : x ≡ y).
-                let same : ◌≡◌ {A = Read} (Done k words) (Claim j) = sym is ∙ ap (λ (z : Mark). z.read) e ∙ c in
+                let same : ◌≡◌ {A = RawRead} (Done k words) (Claim j) = sym is ∙ ap (λ (z : Mark). z.read) e ∙ c in
                 absurd (cc))
                 (λ (m : Has made y). ⊎_elim
                 (λ (e : j ≡ k). inr (words, ap (place_at (with_place now k new)) e ∙ after))
@@ -227,11 +227,11 @@ module _ (places : ℕ) (rs : List ExactRead) (backed : AreBacked rs) (all : Lis
           };
         }
 
-    not_claim : (r : Read) → x.read ≡ r → ((k : ℕ) → r ≡ Claim k → ⊥) → (k : ℕ) → x.read ≡ Claim k → ⊥
+    not_claim : (r : RawRead) → x.read ≡ r → ((k : ℕ) → r ≡ Claim k → ⊥) → (k : ℕ) → x.read ≡ Claim k → ⊥
     not_claim r is n k c = n k (sym is ∙ c)
 
     -- every note that has an earlier number has been made
-    stepped : (r : Read) → x.read ≡ r → Turns r ws x.words → IsTrueOf x.words r → IsFounded places all x r →
+    stepped : (r : RawRead) → x.read ≡ r → Turns r ws x.words → IsTrueOf x.words r → IsFounded places all x r →
         Contains rs (exact_read r) → ((y : Mark) → Has all y → y.number < x.number → Has made y) →
         Stepped x r now made
     stepped (Count c) is t so f there before = record {

@@ -7,8 +7,8 @@ use lib.ListN.{get_elem?}
 use Rattle.atomic_table.proofs.Lists.{at_set, at_snoc}
 use Rattle.basis_board.specs.declared.seats.View.{View}
 use Rattle.basis_board.specs.declared.seats.Sight.{Sight}
-use Rattle.basis_board.specs.declared.seats.Read.{Read}
-use Rattle.basis_board.specs.declared.seats.Read.TheVariants.{Count, Open, See, Claim, Lost, Done}
+use Rattle.basis_board.specs.declared.seats.RawRead.{RawRead}
+use Rattle.basis_board.specs.declared.seats.RawRead.TheVariants.{Count, Open, See, Claim, Lost, Done}
 use Rattle.basis_board.specs.Board.{Each, Has, total, one_if, done, spent}
 use Rattle.basis_board.specs.Moments.{Moment, sight, Grows, IsTrueOf, WereTrue, stamped_in, stamped, IsNoted, Timed}
 use Rattle.basis_board.specs.Moments.{ComeAfter, NotesMore, Later, left_sight, right_sight, met_sight, spent_sight}
@@ -38,7 +38,7 @@ like_grows : (ws us : List ℕ) → IsLike ws us → Grows ws us
 like_grows ws us a =
     let x = a.counted in record { counted = omega arith; dones = λ k. (let p = a.dones k in omega arith) }
 
-turns_grow : (r : Read) (ws us : List ℕ) → Turns r ws us → Grows ws us
+turns_grow : (r : RawRead) (ws us : List ℕ) → Turns r ws us → Grows ws us
 turns_grow (Count c) ws us t = like_grows ws us t
 turns_grow (Open k) ws us t = like_grows ws us t
 turns_grow (See k xs) ws us t = like_grows ws us t
@@ -55,7 +55,7 @@ turns_grow (Done k xs) ws us t =
     }
 
 -- the same, from words that are alike
-turns_from : (vs ws us : List ℕ) (r : Read) → IsLike vs ws → Turns r ws us → Turns r vs us
+turns_from : (vs ws us : List ℕ) (r : RawRead) → IsLike vs ws → Turns r ws us → Turns r vs us
 turns_from vs ws us (Count c) a t = like_on vs ws us a t
 turns_from vs ws us (Open k) a t = like_on vs ws us a t
 turns_from vs ws us (See k xs) a t = like_on vs ws us a t
@@ -102,7 +102,7 @@ has_either {X} (z ∷ xs) ys x h =
     ⊎_elim (λ (a : Has xs x). inl (inr a)) (λ (b : Has ys x). inr b) (has_either xs ys x q)) h
 
 -- the moment of a note
-has_moment : (ms : List Moment) (rs : List Read) (n : Note) → Has (notes ms rs) n → Has ms (n.number, n.words)
+has_moment : (ms : List Moment) (rs : List RawRead) (n : Note) → Has (notes ms rs) n → Has ms (n.number, n.words)
 has_moment [] rs n h = absurd h
 has_moment (m ∷ ms) [] n h = absurd h
 has_moment (m ∷ ms) (r ∷ rs) n h =
@@ -113,15 +113,15 @@ note_noted : (vs : List Sight) (n : Note) → HasNote vs n → IsNoted vs (n.num
 note_noted vs n h = (h.0, h.1, h.2, has_moment h.1.moments h.1.view.reads n h.3)
 
 -- a read of which the same befell the places
-abbrev TurnsAlike : Read → Read → Type 0
+abbrev TurnsAlike : RawRead → RawRead → Type 0
 TurnsAlike q r = (ws us : List ℕ) → Turns q ws us → Turns r ws us
 
 -- the note stood here, perhaps with such a read
 abbrev pub HadAlike : List Note → Note → Type 0
-HadAlike old n = (q : Read) × Has old (record n { read = q }) × TurnsAlike q n.read
+HadAlike old n = (q : RawRead) × Has old (record n { read = q }) × TurnsAlike q n.read
 
 abbrev WasNote : List Sight → Note → Type 0
-WasNote vs n = (q : Read) × HasNote vs (record n { read = q }) × TurnsAlike q n.read
+WasNote vs n = (q : RawRead) × HasNote vs (record n { read = q }) × TurnsAlike q n.read
 
 noted_total : (vs : List Sight) (m : Moment) → IsNoted vs m → 1 ≤ total (stamped m.0) vs
 noted_total vs m n =
@@ -223,7 +223,7 @@ timed_quiet ws us vs id v w r at more less same had true_then =
     (sights_stay (λ u. WereTrue u.moments u.view.reads) vs id w true_then r.were_true)
 
 -- a step that notes one read
-pub timed_note : (ws us : List ℕ) (vs : List Sight) (id : ℕ) (v w : Sight) (read : Read) (r : Timed ws vs) →
+pub timed_note : (ws us : List ℕ) (vs : List Sight) (id : ℕ) (v w : Sight) (read : RawRead) (r : Timed ws vs) →
     get_elem? vs id ≡ some v → Turns read ws us → w.moments ≡ (r.now, us) ∷ v.moments →
     w.view.reads ≡ read ∷ v.view.reads → WereTrue w.moments w.view.reads → Timed us (set vs id w)
 timed_note ws us vs id v w read r at turns new is_read true_then =
@@ -316,7 +316,7 @@ pub notes_none : (ms ns : List Moment) → ns ≡ ms → NotesMore ms ns
 notes_none ms ns e = record { more = []; all = e; later = tt }
 
 -- what a step that notes one read comes to
-pub note : (ws us : List ℕ) (vs : List Sight) (id : ℕ) (v : Sight) (w : View) (read : Read) → Timed ws vs →
+pub note : (ws us : List ℕ) (vs : List Sight) (id : ℕ) (v : Sight) (w : View) (read : RawRead) → Timed ws vs →
     get_elem? vs id ≡ some v → Turns read ws us → w.reads ≡ read ∷ v.view.reads → IsTrueOf us read →
     (ms : List Moment) × Timed us (set vs id (sight w ms)) × Later v (sight w ms)
 note ws us vs id v w read r at turns new is =
@@ -348,7 +348,7 @@ hush ws us vs id v w r at more less had on =
     )
 
 -- the same reads
-pub same_notes : (ms : List Moment) (rs qs : List Read) → qs ≡ rs → (n : Note) → Has (notes ms qs) n →
+pub same_notes : (ms : List Moment) (rs qs : List RawRead) → qs ≡ rs → (n : Note) → Has (notes ms qs) n →
     HadAlike (notes ms rs) n
 same_notes ms rs qs e n h = (n.read, subst (λ l. Has (notes ms l) n) e h, λ ws us t. t)
 
@@ -395,7 +395,7 @@ timed_splits ws vs id v r at =
     (λ (q : right ≡ u). subst (λ (u : Sight). WereTrue u.moments u.view.reads) q tt)
     (at_snoc us right u j e))
 
-pub true_join : (ms ns : List Moment) (rs qs : List Read) → WereTrue ms rs → WereTrue ns qs →
+pub true_join : (ms ns : List Moment) (rs qs : List RawRead) → WereTrue ms rs → WereTrue ns qs →
     WereTrue (ms ++ ns) (rs ++ qs)
 true_join [] ns [] qs a b = b
 true_join [] ns (r ∷ rs) qs a b = absurd a
@@ -403,7 +403,7 @@ true_join (m ∷ ms) ns [] qs a b = absurd a
 true_join (m ∷ ms) ns (r ∷ rs) qs a b = (a.0, true_join ms ns rs qs a.1 b)
 
 -- the notes of both
-pub notes_join : (ms ns : List Moment) (rs qs : List Read) → WereTrue ms rs →
+pub notes_join : (ms ns : List Moment) (rs qs : List RawRead) → WereTrue ms rs →
     notes (ms ++ ns) (rs ++ qs) ≡ notes ms rs ++ notes ns qs
 notes_join [] ns [] qs h = refl
 notes_join [] ns (r ∷ rs) qs h = absurd h
@@ -411,14 +411,14 @@ notes_join (m ∷ ms) ns [] qs h = absurd h
 notes_join (m ∷ ms) ns (r ∷ rs) qs h =
     ap (λ l. record { number = m.0; words = m.1; read = r } ∷ l) (notes_join ms ns rs qs h.1)
 
-pub true_long : (ms : List Moment) (rs : List Read) → WereTrue ms rs → length ms ≡ length rs
+pub true_long : (ms : List Moment) (rs : List RawRead) → WereTrue ms rs → length ms ≡ length rs
 true_long [] [] h = refl
 true_long [] (r ∷ rs) h = absurd h
 true_long (m ∷ ms) [] h = absurd h
 true_long (m ∷ ms) (r ∷ rs) h = let l = true_long ms rs h.1 in omega arith
 
 -- where the reads are those that there were, nothing was noted
-pub notes_nothing : (v w : Sight) (old : List Moment) (rs : List Read) → Later v w → v.moments ≡ old →
+pub notes_nothing : (v w : Sight) (old : List Moment) (rs : List RawRead) → Later v w → v.moments ≡ old →
     w.view.reads ≡ rs → WereTrue old rs → w.moments ≡ old
 notes_nothing v w old rs l is same were =
     let a : length old ≡ length rs = true_long old rs were in
@@ -490,13 +490,13 @@ timed_first ws places none =
         subst (λ (u : Sight). WereTrue u.moments u.view.reads) (some-injective (first_sight places) v e) tt
     one (suc j) v e = absurd (some-ne-none v (sym e))
 
-numbered_is : (t : ℕ) (ms : List Moment) (rs : List Read) → WereTrue ms rs →
+numbered_is : (t : ℕ) (ms : List Moment) (rs : List RawRead) → WereTrue ms rs →
     numbered t (notes ms rs) ≡ stamped_in t ms
 numbered_is t [] rs h = refl
 numbered_is t (m ∷ ms) [] h = absurd h
 numbered_is t (m ∷ ms) (r ∷ rs) h = ap (λ x. one_if (eqb m.0 t) + x) (numbered_is t ms rs h.1)
 
-pub note_true : (ms : List Moment) (rs : List Read) → WereTrue ms rs → (n : Note) → Has (notes ms rs) n →
+pub note_true : (ms : List Moment) (rs : List RawRead) → WereTrue ms rs → (n : Note) → Has (notes ms rs) n →
     IsTrueOf n.words n.read
 note_true [] rs h n x = absurd x
 note_true (m ∷ ms) [] h n x = absurd x

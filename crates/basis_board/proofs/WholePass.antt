@@ -12,8 +12,8 @@ use Rattle.spec_board.specs.Reads.{Words, ExactRead}
 use Rattle.spec_board.specs.Places.{IsShown}
 use Rattle.spec_board.specs.Orders.{published_by, published_in, IsBacked, AreBacked}
 use Rattle.basis_board.specs.declared.seats.View.{View}
-use Rattle.basis_board.specs.declared.seats.Read.{Read}
-use Rattle.basis_board.specs.declared.seats.Read.TheVariants.{Count, Open, See, Claim, Lost, Done}
+use Rattle.basis_board.specs.declared.seats.RawRead.{RawRead}
+use Rattle.basis_board.specs.declared.seats.RawRead.TheVariants.{Count, Open, See, Claim, Lost, Done}
 use Rattle.basis_board.specs.Board.{Each, Has, times, IsAtMost}
 use Rattle.basis_board.specs.Rule.{Agree, published_places, StandsIn, ReadAgrees, Consistent, OwnsBelow}
 use Rattle.basis_board.specs.Calls.{CountTells}
@@ -27,21 +27,21 @@ use Rattle.basis_board.proofs.Pushing.{in_turn, each_all, all_each}
 
 -- ---- the published places
 
-published_more : (r : Read) (reads : List Read) →
+published_more : (r : RawRead) (reads : List RawRead) →
     published_in (in_turn (r ∷ reads)) ≡ published_in (in_turn reads) ++ published_by (exact_read r)
 published_more r reads =
     ap published_in (reads_more (r ∷ []) reads)
     ∙ flat_map-append published_by (in_turn reads) (exact_read r ∷ [])
     ∙ ap (λ ks. published_in (in_turn reads) ++ ks) (append-nil (published_by (exact_read r)))
 
-no_more : (r : Read) (reads : List Read) → published_by (exact_read r) ≡ [] →
+no_more : (r : RawRead) (reads : List RawRead) → published_by (exact_read r) ≡ [] →
     published_in (in_turn reads) ≡ published_places reads →
     published_in (in_turn (r ∷ reads)) ≡ published_places reads
 no_more r reads none h =
     published_more r reads ∙ ap (λ ks. published_in (in_turn reads) ++ ks) none
     ∙ append-nil (published_in (in_turn reads)) ∙ h
 
-published_is : (reads : List Read) → published_in (in_turn reads) ≡ published_places reads
+published_is : (reads : List RawRead) → published_in (in_turn reads) ≡ published_places reads
 published_is [] = refl
 published_is (Count c ∷ reads) = no_more (Count c) reads refl (published_is reads)
 published_is (Open k ∷ reads) = no_more (Open k) reads refl (published_is reads)
@@ -89,7 +89,7 @@ IsKept seen (read.Done k payload) =
     (words : List ℕ) × Has seen (k, words) × (length payload ≤ length words) × Each (Agree (k, payload)) seen
 IsKept seen other = Unit {0}
 
-done_kept : (seen : List (ℕ × List ℕ)) (r : Read) → StandsIn seen r → ReadAgrees seen r → IsKept seen (exact_read r)
+done_kept : (seen : List (ℕ × List ℕ)) (r : RawRead) → StandsIn seen r → ReadAgrees seen r → IsKept seen (exact_read r)
 done_kept seen (Count c) s a = tt
 done_kept seen (Open k) s a = tt
 done_kept seen (See k words) s a = tt
@@ -156,7 +156,7 @@ module _ (v : View) (n : ℕ) (now : Consistent v) (owns : OwnsBelow v n) (tells
             (λ i l m. (let h : i < length all.0 = omega arith in first refl i l h ∙ sym (other refl i m h))) size,
       )
 
-  one_backed : (r : Read) → StandsIn v.seen r × ReadAgrees v.seen r → IsAtMost n r × IsWhole (exact_read r) →
+  one_backed : (r : RawRead) → StandsIn v.seen r × ReadAgrees v.seen r → IsAtMost n r × IsWhole (exact_read r) →
       IsBacked (reads_of v) n (exact_read r)
   one_backed (Count c) s a = a.0
   one_backed (Open k) s a = tt

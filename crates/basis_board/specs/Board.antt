@@ -2,8 +2,8 @@
 use Rattle.std.specs.Prelude.{◌≡◌, ℕ, ◌+◌, ◌-◌, ◌*◌, ◌<◌, ◌≤◌, ◌==◌, ◌⊎◌, Bool, true, false}
 use Rattle.std.specs.Prelude.{List, [], ◌∷◌, ◌++◌, length, slice_index, Option, Some, None}
 use Rattle.basis_board.specs.declared.seats.View.{View}
-use Rattle.basis_board.specs.declared.seats.Read.{Read}
-use Rattle.basis_board.specs.declared.seats.Read.TheVariants.{Count, See, Claim, Lost, Done}
+use Rattle.basis_board.specs.declared.seats.RawRead.{RawRead}
+use Rattle.basis_board.specs.declared.seats.RawRead.TheVariants.{Count, See, Claim, Lost, Done}
 
 -- P of each element, by recursion
 abbrev pub Each : {X : Type 0} → (X → Type 0) → List X → Type 0
@@ -61,7 +61,7 @@ spent = record { places = 0; share = 0; held = None; seen = []; own = []; reads 
 abbrev pub first_view : ℕ → View
 first_view places = record { places = places; share = 64; held = None; seen = []; own = []; reads = [] }
 
-abbrev pub noted : View → Read → View
+abbrev pub noted : View → RawRead → View
 noted v r = record v { reads = r ∷ v.reads }
 
 abbrev pub claiming : View → ℕ → View
@@ -86,11 +86,11 @@ abbrev pub grown_seen : List (ℕ × List ℕ) → ℕ → List (ℕ × List ℕ
 grown_seen [] b = []
 grown_seen (p ∷ ps) b = (p.0, p.1 ++ b ∷ []) ∷ ps
 
-abbrev pub grown_read : Read → ℕ → Read
+abbrev pub grown_read : RawRead → ℕ → RawRead
 grown_read (See k xs) b = See k (xs ++ b ∷ [])
 grown_read r b = r
 
-abbrev pub grown_reads : List Read → ℕ → List Read
+abbrev pub grown_reads : List RawRead → ℕ → List RawRead
 grown_reads [] b = []
 grown_reads (r ∷ rs) b = grown_read r b ∷ rs
 
@@ -99,7 +99,7 @@ abbrev pub reading : View → ℕ → View
 reading v b = record v { seen = grown_seen v.seen b; reads = grown_reads v.reads b }
 
 -- a Count or Lost gave at most n
-abbrev pub IsAtMost : ℕ → Read → Type 0
+abbrev pub IsAtMost : ℕ → RawRead → Type 0
 IsAtMost n (Count c) = c ≤ n
 IsAtMost n (Lost c) = c ≤ n
 IsAtMost n r = Unit {0}

@@ -3,8 +3,8 @@ use Rattle.std.specs.Prelude.{◌≡◌, ◌≢◌, ℕ, ◌+◌, ◌<◌, ◌�
 use Rattle.atomic_table.specs.declared.shared.Seat.{Seat}
 use Rattle.basis_board.specs.declared.seats.View.{View}
 use Rattle.basis_board.specs.declared.seats.Sight.{Sight}
-use Rattle.basis_board.specs.declared.seats.Read.{Read}
-use Rattle.basis_board.specs.declared.seats.Read.TheVariants.{Count, Open, See, Lost}
+use Rattle.basis_board.specs.declared.seats.RawRead.{RawRead}
+use Rattle.basis_board.specs.declared.seats.RawRead.TheVariants.{Count, Open, See, Lost}
 use Rattle.spec_board.specs.declared.read.Put.{Put}
 use Rattle.spec_board.specs.declared.read.Put.TheVariants.{Published, Full, Raced}
 use Rattle.basis_board.specs.declared.board.Look.{Look}
@@ -80,30 +80,30 @@ pub record IsReadingRest (shape : List ℕ) (k i : ℕ) (words : List ℕ) (v w 
   pub formed : i ≡ 49 → IsWellFormed words
 
 -- a read of place k that found it not done, or of another shape
-abbrev pub SeesOther : List ℕ → ℕ → Read → Type 0
+abbrev pub SeesOther : List ℕ → ℕ → RawRead → Type 0
 SeesOther shape k (Open j) = j ≡ k
 SeesOther shape k (See j xs) = (j ≡ k) × (length xs ≡ 25) × (xs ≢ shape)
 SeesOther shape k r = ⊥
 
 -- the places from k up to c were read so, from the last one down. The newest read stands first
-abbrev pub Passed : List ℕ → ℕ → ℕ → List Read → Type 0
+abbrev pub Passed : List ℕ → ℕ → ℕ → List RawRead → Type 0
 Passed shape c k [] = k ≡ c
 Passed shape c k (r ∷ rs) = SeesOther shape k r × Passed shape c (k + 1) rs
 
 abbrev pub HasShape : List ℕ → ℕ × List ℕ → Type 0
 HasShape shape p = (25 ≤ length p.1) × (take 25 p.1 ≡ shape)
 
-abbrev pub looked : View → ℕ → List Read → List (ℕ × List ℕ) → View
+abbrev pub looked : View → ℕ → List RawRead → List (ℕ × List ℕ) → View
 looked v c added more = record v { seen = more ++ v.seen; reads = added ++ Count c ∷ v.reads }
 
 -- a place that was read as not done had not been seen
-abbrev pub OpenUnseen : List (ℕ × List ℕ) → Read → Type 0
+abbrev pub OpenUnseen : List (ℕ × List ℕ) → RawRead → Type 0
 OpenUnseen seen (Open k) = Each (λ p. p.0 ≢ k) seen
 OpenUnseen seen r = Unit {0}
 
 -- a look that read the count as c and has come down to place k
 pub record IsDownTo (shape : List ℕ) (c k : ℕ) (v w : View) : Type 0 where
-  pub added : List Read
+  pub added : List RawRead
   pub more : List (ℕ × List ℕ)
   pub view : w ≡ looked v c added more
   pub passed : Passed shape c k added

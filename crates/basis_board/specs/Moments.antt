@@ -6,8 +6,8 @@ use lib.ListN.{get_elem?}
 use Rattle.atomic_table.specs.Table.{State, Me, Step, Act, stepped, Allows}
 use Rattle.basis_board.specs.declared.seats.View.{View}
 use Rattle.basis_board.specs.declared.seats.Sight.{Sight}
-use Rattle.basis_board.specs.declared.seats.Read.{Read}
-use Rattle.basis_board.specs.declared.seats.Read.TheVariants.{Count, Open, See, Claim, Lost, Done}
+use Rattle.basis_board.specs.declared.seats.RawRead.{RawRead}
+use Rattle.basis_board.specs.declared.seats.RawRead.TheVariants.{Count, Open, See, Claim, Lost, Done}
 use Rattle.basis_board.specs.Board.{Each, Has, total, one_if, count, done, first_view, cut_left, cut_right, met, spent}
 use Rattle.basis_board.specs.Rule.{Kept, learned}
 
@@ -19,10 +19,10 @@ Moment = ℕ × List ℕ
 pub record Note : Type 0 where
   pub number : ℕ
   pub words : List ℕ
-  pub read : Read
+  pub read : RawRead
 
 -- one for each read, the newest first
-abbrev pub notes : List Moment → List Read → List Note
+abbrev pub notes : List Moment → List RawRead → List Note
 notes [] rs = []
 notes (m ∷ ms) [] = []
 notes (m ∷ ms) (r ∷ rs) = record { number = m.0; words = m.1; read = r } ∷ notes ms rs
@@ -36,7 +36,7 @@ sight v ms = record { view = v; moments = ms }
 -- ---- what words say of a read
 
 -- what a read says is so of these words
-abbrev pub IsTrueOf : List ℕ → Read → Type 0
+abbrev pub IsTrueOf : List ℕ → RawRead → Type 0
 IsTrueOf ws (Count c) = count ws ≡ c
 IsTrueOf ws (Open k) = done ws k ≡ 0
 IsTrueOf ws (See k xs) = done ws k ≡ 1
@@ -45,7 +45,7 @@ IsTrueOf ws (Lost c) = count ws ≡ c
 IsTrueOf ws (Done k xs) = done ws k ≡ 1
 
 -- each read has its moment, and was so then
-abbrev pub WereTrue : List Moment → List Read → Type 0
+abbrev pub WereTrue : List Moment → List RawRead → Type 0
 WereTrue [] [] = Unit {0}
 WereTrue [] (r ∷ rs) = ⊥
 WereTrue (m ∷ ms) [] = ⊥
@@ -75,7 +75,7 @@ pub record FinishesPlace (k : ℕ) (ws us : List ℕ) : Type 0 where
   pub others : (j : ℕ) → j ≢ k → done us j ≡ done ws j
 
 -- what befell the places when the read was noted: the words before, and after
-abbrev pub Turns : Read → List ℕ → List ℕ → Type 0
+abbrev pub Turns : RawRead → List ℕ → List ℕ → Type 0
 Turns (Claim k) ws us = ClaimsPlace k ws us
 Turns (Done k xs) ws us = FinishesPlace k ws us
 Turns other ws us = IsLike ws us
@@ -203,7 +203,7 @@ NotesAreMadeThen =
 -- holds before and after it, and it notes one read more, then what it notes is so of the words that it is taken at.
 abbrev pub OnlyWhatIsSo : Type 0
 OnlyWhatIsSo =
-    (places i n id : ℕ) (s : State ℕ Sight) (v w : Sight) (slots : List (ℕ × ℕ)) (act : Act ℕ) (read : Read) →
+    (places i n id : ℕ) (s : State ℕ Sight) (v w : Sight) (slots : List (ℕ × ℕ)) (act : Act ℕ) (read : RawRead) →
     KeptInTime places s → get_elem? s.views id ≡ some v → n ≡ slice_index s.words i →
     KeptInTime places (stepped s i n id slots w act) → Later v w → w.view.reads ≡ read ∷ v.view.reads →
     IsTrueOf s.words read
@@ -213,7 +213,7 @@ OnlyWhatIsSo =
 -- leave it as it was.
 abbrev pub AllowedNotesAreSo : Type 0
 AllowedNotesAreSo =
-    (places slots id i : ℕ) (me : Me ℕ Sight) (f : ℕ → ℕ) (read : ℕ → Read) →
+    (places slots id i : ℕ) (me : Me ℕ Sight) (f : ℕ → ℕ) (read : ℕ → RawRead) →
     Allows (KeptInTime places) slots id me i f
     (λ n m. (m.0.view.reads ≡ read n ∷ me.0.view.reads) × Later me.0 m.0) →
     (s : State ℕ Sight) → KeptInTime places s → length s.homes ≡ slots → get_elem? s.views id ≡ some me.0 →

@@ -5,8 +5,8 @@ use lib.ListN.{get_elem?}
 use Rattle.spec_board.specs.Places.{ExactPlace, IsShown}
 use Rattle.atomic_table.specs.Table.{State, Act, stepped}
 use Rattle.basis_board.specs.declared.seats.Sight.{Sight}
-use Rattle.basis_board.specs.declared.seats.Read.{Read}
-use Rattle.basis_board.specs.declared.seats.Read.TheVariants.{Count, Open, See, Claim, Lost, Done}
+use Rattle.basis_board.specs.declared.seats.RawRead.{RawRead}
+use Rattle.basis_board.specs.declared.seats.RawRead.TheVariants.{Count, Open, See, Claim, Lost, Done}
 use Rattle.basis_board.specs.Board.{count}
 use Rattle.basis_board.specs.Places.{payload}
 use Rattle.basis_board.specs.Moments.{KeptInTime, Later}
@@ -14,7 +14,7 @@ use Rattle.basis_board.specs.PassReads.{exact_read}
 use Rattle.basis_board.specs.Spelled.{AreSpelled, IsAnswered}
 
 -- a read of a claimed place, or of the count, that changes no place
-abbrev pub IsOfClaimed : List ℕ → Read → Type 0
+abbrev pub IsOfClaimed : List ℕ → RawRead → Type 0
 IsOfClaimed ws (Count c) = Unit {0}
 IsOfClaimed ws (Open k) = k < count ws
 IsOfClaimed ws (See k xs) = (k < count ws) × IsShown (payload ws k) xs
@@ -26,7 +26,7 @@ IsOfClaimed ws (Done k xs) = ⊥
 -- spell answer that read, whatever kind of step it is.
 abbrev pub AnyKindIsAnswered : Type 0
 AnyKindIsAnswered =
-    (places session i n id : ℕ) (s : State ℕ Sight) (v w : Sight) (slots : List (ℕ × ℕ)) (act : Act ℕ) (read : Read)
+    (places session i n id : ℕ) (s : State ℕ Sight) (v w : Sight) (slots : List (ℕ × ℕ)) (act : Act ℕ) (read : RawRead)
     (now : List ExactPlace) → KeptInTime places s → get_elem? s.views id ≡ some v → n ≡ slice_index s.words i →
     KeptInTime places (stepped s i n id slots w act) → Later v w → w.view.reads ≡ read ∷ v.view.reads →
     AreSpelled s.words now → IsOfClaimed s.words read → IsAnswered places now session (exact_read read) s.words

@@ -4,12 +4,12 @@ use Rattle.spec_board.specs.declared.read.Put.{Put}
 use Rattle.spec_board.specs.declared.read.Read.TheVariants as read
 use Rattle.spec_board.specs.Reads.{Words, ExactRead, Looked, LookReads, PutReads}
 use Rattle.basis_board.specs.declared.seats.View.{View}
-use Rattle.basis_board.specs.declared.seats.Read.{Read}
-use Rattle.basis_board.specs.declared.seats.Read.TheVariants.{Count, Open, See, Claim, Lost, Done}
+use Rattle.basis_board.specs.declared.seats.RawRead.{RawRead}
+use Rattle.basis_board.specs.declared.seats.RawRead.TheVariants.{Count, Open, See, Claim, Lost, Done}
 use Rattle.basis_board.specs.declared.board.Look.{Look}
 use Rattle.basis_board.specs.declared.board.Look.TheVariants.{Found, NoneReady}
 
-abbrev pub exact_read : Read → ExactRead
+abbrev pub exact_read : RawRead → ExactRead
 exact_read (Count c) = read.Count c
 exact_read (Open k) = read.NotDone k
 exact_read (See k words) = read.Seen k words

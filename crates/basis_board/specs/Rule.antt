@@ -5,8 +5,8 @@ use mathlib.Core.Option.{some}
 use lib.ListN.{get_elem?}
 use Rattle.atomic_table.specs.Table.{State, Me, Step}
 use Rattle.basis_board.specs.declared.seats.View.{View}
-use Rattle.basis_board.specs.declared.seats.Read.{Read}
-use Rattle.basis_board.specs.declared.seats.Read.TheVariants.{Count, Open, See, Lost, Done}
+use Rattle.basis_board.specs.declared.seats.RawRead.{RawRead}
+use Rattle.basis_board.specs.declared.seats.RawRead.TheVariants.{Count, Open, See, Lost, Done}
 use Rattle.spec_board.specs.Words.{IsWellFormed}
 use Rattle.basis_board.specs.Board.{Each, Has, total, times, count, done, Shows, holding, owning, share_of, spent}
 use Rattle.basis_board.specs.Board.{noted, claiming, writing, finished, opening_place, reading, head_words, IsAtMost}
@@ -23,7 +23,7 @@ SeenFits ws p = (done ws p.0 ≡ 1) × Shows ws p.0 p.1
 abbrev pub OwnFits : List (ℕ × List ℕ) → ℕ → Type 0
 OwnFits seen k = (xs : List ℕ) × Has seen (k, xs) × (length xs ≡ 49)
 
-abbrev pub ReadFits : List ℕ → Read → Type 0
+abbrev pub ReadFits : List ℕ → RawRead → Type 0
 ReadFits ws (Count c) = c ≤ count ws
 ReadFits ws (Lost c) = c ≤ count ws
 ReadFits ws (See k xs) = SeenFits ws (k, xs)
@@ -35,13 +35,13 @@ abbrev pub Agree : ℕ × List ℕ → ℕ × List ℕ → Type 0
 Agree p q = p.0 ≡ q.0 → (i : ℕ) → i < length p.1 → i < length q.1 → slice_index p.1 i ≡ slice_index q.1 i
 
 -- the places of the publications, the first one first
-abbrev pub published_places : List Read → List ℕ
+abbrev pub published_places : List RawRead → List ℕ
 published_places [] = []
 published_places (Done k xs ∷ rs) = published_places rs ++ k ∷ []
 published_places (r ∷ rs) = published_places rs
 
 -- what was read or written of the place has been seen, and perhaps more of it
-abbrev pub StandsIn : List (ℕ × List ℕ) → Read → Type 0
+abbrev pub StandsIn : List (ℕ × List ℕ) → RawRead → Type 0
 StandsIn seen (See k xs) = (ys : List ℕ) × Has seen (k, ys) × (length xs ≤ length ys)
 StandsIn seen (Done k xs) = (ys : List ℕ) × Has seen (k, ys) × (length xs ≤ length ys)
 StandsIn seen r = Unit {0}
@@ -76,7 +76,7 @@ pub record Kept (places : ℕ) (s : State ℕ View) : Type 0 where
   pub each_seat : (j : ℕ) (v : View) → get_elem? s.views j ≡ some v → Fits places s.words v
   pub shares : total share_of s.views ≡ 64
 
-abbrev pub ReadAgrees : List (ℕ × List ℕ) → Read → Type 0
+abbrev pub ReadAgrees : List (ℕ × List ℕ) → RawRead → Type 0
 ReadAgrees seen (See k xs) = Each (Agree (k, xs)) seen
 ReadAgrees seen (Done k xs) = Each (Agree (k, xs)) seen
 ReadAgrees seen r = Unit {0}

@@ -6,7 +6,7 @@
 //! | `Pass` | the right to look at a board and to publish on it, with what was seen so far | src/seats |
 //! | `Look` | what a look found | src/board |
 //! | `Put` | what a publication came to | spec_board |
-//! | `View`, `Read` | what contracts see of a pass: what it has seen, published and read | src/seats |
+//! | `View`, `RawRead` | what contracts see of a pass: what it has seen, published and read | src/seats |
 //! | `Looks`, `Puts`, `Meets` | what the calls promise | specs/Calls |
 //! | `Kept` | the rule of the board's words, which each atomic step keeps | specs/Rule |
 //! | `Timed`, `NotesMore` | when each read was noted, and that it was so then | specs/Moments |
@@ -36,5 +36,5 @@ pub use reads::{
     any_kind_is_answered, backed_in_any_order, calls_keep_order, looks_are_read, puts_are_read,
     reads_change_the_board, steps_are_reads, whole_logs_are_played, whole_passes_are_backed,
 };
-pub use seats::{Pass, Read, Sight, View};
+pub use seats::{Pass, RawRead, Sight, View};
 pub use spec_board::Put;

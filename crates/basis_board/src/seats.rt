@@ -6,7 +6,7 @@ use std::marker::Model;
 
 /// What a pass read or did, one entry for each step, but for the words of a place,
 /// which stand with the entry of their place.
-pub enum Read {
+pub enum RawRead {
     /// So many places were claimed.
     Count(u64),
     /// The place was not done.
@@ -34,7 +34,7 @@ pub struct View {
     /// The places that were published, in order.
     pub own: LinkedList<u64>,
     /// The newest first.
-    pub reads: LinkedList<Read>,
+    pub reads: LinkedList<RawRead>,
 }
 
 /// What a pass knows, and when it noted each of its reads. No value of it is made.

@@ -5,8 +5,8 @@ use Rattle.std.proofs.lemmas.Bool.{cases_lt}
 use Rattle.std.proofs.lemmas.List.{get_or_push, get_or_append_left}
 use Rattle.spec_board.specs.Reads.{Words, basis_words}
 use Rattle.basis_board.specs.declared.seats.View.{View}
-use Rattle.basis_board.specs.declared.seats.Read.{Read}
-use Rattle.basis_board.specs.declared.seats.Read.TheVariants.{Count, Open, See, Claim, Lost, Done}
+use Rattle.basis_board.specs.declared.seats.RawRead.{RawRead}
+use Rattle.basis_board.specs.declared.seats.RawRead.TheVariants.{Count, Open, See, Claim, Lost, Done}
 use Rattle.basis_board.specs.declared.board.Look.{Look}
 use Rattle.basis_board.specs.declared.board.Look.TheVariants.{Found, NoneReady}
 use Rattle.basis_board.specs.Board.{Has}
@@ -16,12 +16,12 @@ use Rattle.basis_board.proofs.Whole.{length_own}
 use Rattle.lp_places.specs.Only.{published_words, AreInOrder}
 
 -- ---- each place was published with the words that stand there
-abbrev Stands : List Read → ℕ → Type 0
+abbrev Stands : List RawRead → ℕ → Type 0
 Stands reads k =
     Has reads (Done k (get_or (published_words reads) k [])) ×
     (length (get_or (published_words reads) k []) ≡ basis_words)
 
-module _ (words : Words) (reads : List Read) (j : ℕ) (place : j ≡ length (published_words reads))
+module _ (words : Words) (reads : List RawRead) (j : ℕ) (place : j ≡ length (published_words reads))
     (sized : length words ≡ basis_words) (k : ℕ) where
   stands_before : k < length (published_words reads) → Stands reads k → Stands (Done j words ∷ reads) k
   stands_before before h =
@@ -35,7 +35,7 @@ module _ (words : Words) (reads : List Read) (j : ℕ) (place : j ≡ length (pu
       get_or_push (published_words reads) words [] k (sym here) in
       (inl (ap₂ Done (place ∙ sym here) (sym e)), ap length e ∙ sized)
 
-pub stands_at : (reads : List Read) → AreInOrder reads → (k : ℕ) → k < length (published_words reads) → Stands reads k
+pub stands_at : (reads : List RawRead) → AreInOrder reads → (k : ℕ) → k < length (published_words reads) → Stands reads k
 stands_at [] order k l = absurd (omega (arith, l))
 stands_at (Done j words ∷ reads) order k l = ⊎_elim
     (λ (before : k < length (published_words reads)).
@@ -51,7 +51,7 @@ stands_at (Claim j ∷ reads) order k l = let h = stands_at reads order k l in (
 stands_at (Lost c ∷ reads) order k l = let h = stands_at reads order k l in (inr h.0, h.1)
 
 -- ---- they are as many as are owned
-as_many : (reads : List Read) → length (published_places reads) ≡ length (published_words reads)
+as_many : (reads : List RawRead) → length (published_places reads) ≡ length (published_words reads)
 as_many [] = refl
 as_many (Done k words ∷ reads) =
     omega (
@@ -76,7 +76,7 @@ pub all_published : (v : View) (n : ℕ) → OwnsAll v → OwnsBelow v n → n �
 all_published v n all owns = sym (length_own v n owns) ∙ all
 
 -- ---- a look publishes nothing
-passed_words : (shape : Words) (c k : ℕ) (added reads : List Read) → Passed shape c k added →
+passed_words : (shape : Words) (c k : ℕ) (added reads : List RawRead) → Passed shape c k added →
     published_words (added ++ reads) ≡ published_words reads
 passed_words shape c k [] reads p = refl
 passed_words shape c k (Open j ∷ added) reads p = passed_words shape c (k + 1) added reads p.1
@@ -86,7 +86,7 @@ passed_words shape c k (Claim j ∷ added) reads p = absurd p.0
 passed_words shape c k (Lost n ∷ added) reads p = absurd p.0
 passed_words shape c k (Done j words ∷ added) reads p = absurd p.0
 
-passed_order : (shape : Words) (c k : ℕ) (added reads : List Read) → Passed shape c k added → AreInOrder reads →
+passed_order : (shape : Words) (c k : ℕ) (added reads : List RawRead) → Passed shape c k added → AreInOrder reads →
     AreInOrder (added ++ reads)
 passed_order shape c k [] reads p order = order
 passed_order shape c k (Open j ∷ added) reads p order = passed_order shape c (k + 1) added reads p.1 order

@@ -5,7 +5,7 @@ use Rattle.std.proofs.lemmas.List.{map-append, reverse-append, append_cancel_lef
 use Rattle.spec_board.specs.Reads.{Words, ExactRead}
 use Rattle.spec_board.specs.Places.{ExactPlace, Logged, logged, Answers, Plays}
 use Rattle.basis_board.specs.declared.seats.View.{View}
-use Rattle.basis_board.specs.declared.seats.Read.{Read}
+use Rattle.basis_board.specs.declared.seats.RawRead.{RawRead}
 use Rattle.basis_board.specs.Board.{Each, Has}
 use Rattle.basis_board.proofs.Totals.{has_right}
 use Rattle.basis_board.specs.PassReads.{exact_read, reads_of}
@@ -18,31 +18,31 @@ plays_append places now middle last (x ∷ xs) ys first second =
     (first.0, first.1, plays_append places first.0 middle last xs ys first.2 second)
 
 -- ---- reads of a pass, of which the newest stands first
-abbrev pub in_turn : List Read → List ExactRead
+abbrev pub in_turn : List RawRead → List ExactRead
 in_turn reads = map exact_read (reverse reads)
 
-in_turn-append : (more old : List Read) → in_turn (more ++ old) ≡ in_turn old ++ in_turn more
+in_turn-append : (more old : List RawRead) → in_turn (more ++ old) ≡ in_turn old ++ in_turn more
 in_turn-append more old =
     ap (map exact_read) (reverse-append more old) ∙ map-append exact_read (reverse old) (reverse more)
 
 -- what was read since
-pub reads_since : (v u : View) (more : List Read) (reads : List ExactRead) → u.reads ≡ more ++ v.reads →
+pub reads_since : (v u : View) (more : List RawRead) (reads : List ExactRead) → u.reads ≡ more ++ v.reads →
     reads_of u ≡ reads_of v ++ reads → in_turn more ≡ reads
 reads_since v u more reads e all =
     append_cancel_left (reads_of v) (in_turn more) reads
     (sym (in_turn-append more v.reads) ∙ sym (ap in_turn e) ∙ all)
 
-pub has_newest : (r : Read) (old : List Read) → Has (in_turn (r ∷ old)) (exact_read r)
+pub has_newest : (r : RawRead) (old : List RawRead) → Has (in_turn (r ∷ old)) (exact_read r)
 has_newest r old =
     subst (λ reads. Has reads (exact_read r)) (sym (in_turn-append (r ∷ []) old))
     (has_right (in_turn old) (exact_read r ∷ []) (exact_read r) (inl refl))
 
 -- ---- they are answered, whichever session makes them
-abbrev pub Played : ℕ → List Words → List Read → List Words → Type 0
+abbrev pub Played : ℕ → List Words → List RawRead → List Words → Type 0
 Played places done reads next =
     (session : ℕ) → Plays places (as_places done) (logged session (in_turn reads)) (as_places next)
 
-pub played_on : (places : ℕ) (done middle next : List Words) (old more : List Read) → Played places done old middle →
+pub played_on : (places : ℕ) (done middle next : List Words) (old more : List RawRead) → Played places done old middle →
     Played places middle more next → Played places done (more ++ old) next
 played_on places done middle next old more first second = λ session.
     subst (λ log. Plays places (as_places done) log (as_places next))
@@ -51,10 +51,10 @@ played_on places done middle next old more first second = λ session.
     (logged session (in_turn more)) (first session) (second session))
 
 -- a read that changes nothing
-abbrev pub Stays : ℕ → List Words → Read → Type 0
+abbrev pub Stays : ℕ → List Words → RawRead → Type 0
 Stays places done r = (session : ℕ) → Answers places (as_places done) session (exact_read r) (as_places done)
 
-pub played_each : (places : ℕ) (done : List Words) (reads : List Read) → Each (Stays places done) reads →
+pub played_each : (places : ℕ) (done : List Words) (reads : List RawRead) → Each (Stays places done) reads →
     Played places done reads done
 played_each places done [] each = λ session. refl
 played_each places done (r ∷ reads) each =

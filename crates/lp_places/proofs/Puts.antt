@@ -5,8 +5,8 @@ use Rattle.spec_board.specs.declared.place.Place.TheVariants as place
 use Rattle.spec_board.specs.Reads.{Words, basis_words}
 use Rattle.spec_board.specs.Places.{ExactPlace, place_at, with_place}
 use Rattle.basis_board.specs.declared.seats.View.{View}
-use Rattle.basis_board.specs.declared.seats.Read.{Read}
-use Rattle.basis_board.specs.declared.seats.Read.TheVariants.{Count, Claim, Lost, Done}
+use Rattle.basis_board.specs.declared.seats.RawRead.{RawRead}
+use Rattle.basis_board.specs.declared.seats.RawRead.TheVariants.{Count, Claim, Lost, Done}
 use Rattle.spec_board.specs.declared.read.Put.{Put}
 use Rattle.spec_board.specs.declared.read.Put.TheVariants.{Published, Full, Raced}
 use Rattle.basis_board.specs.Calls.{Puts}
@@ -25,7 +25,7 @@ with_last [] p words = refl
 with_last (w ∷ done) p words = ap (λ ps. place.Done w ∷ ps) (with_last done p words)
 
 -- the place after the last one is counted, claimed and written
-abbrev pub publication : ℕ → Words → List Read
+abbrev pub publication : ℕ → Words → List RawRead
 publication k words = Done k words ∷ Claim k ∷ Count k ∷ []
 
 played_publication : (places k : ℕ) (done : List Words) (words : Words) → k ≡ length done → k < places →
@@ -47,7 +47,7 @@ played_publication places k done words e inside =
 
 -- ---- what was read more
 
-abbrev pub tried : (v w : View) (words : Words) (put : Put) → Puts v words put w → List Read
+abbrev pub tried : (v w : View) (words : Words) (put : Put) → Puts v words put w → List RawRead
 tried v w words (Published k) p = publication k words
 tried v w words (Full c) p = Count c ∷ []
 tried v w words (Raced e) p = Lost e ∷ Count p.count ∷ []

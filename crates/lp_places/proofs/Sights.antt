@@ -7,8 +7,8 @@ use Rattle.spec_board.specs.declared.place.Place.TheVariants as place
 use Rattle.spec_board.specs.Reads.{Words, front}
 use Rattle.spec_board.specs.Places.{place_at}
 use Rattle.basis_board.specs.declared.seats.View.{View}
-use Rattle.basis_board.specs.declared.seats.Read.{Read}
-use Rattle.basis_board.specs.declared.seats.Read.TheVariants.{Count, Open, See, Claim, Lost, Done}
+use Rattle.basis_board.specs.declared.seats.RawRead.{RawRead}
+use Rattle.basis_board.specs.declared.seats.RawRead.TheVariants.{Count, Open, See, Claim, Lost, Done}
 use Rattle.basis_board.specs.declared.board.Look.{Look}
 use Rattle.basis_board.specs.declared.board.Look.TheVariants.{Found, NoneReady}
 use Rattle.basis_board.specs.Board.{Each, Has}
@@ -28,7 +28,7 @@ place_done (words ∷ done) (suc n) l = place_done done n (omega (arith, l))
 
 -- what a pass had published when it looked, and what it has read later
 module _ (v u : View) (now : Consistent v) (order : AreInOrder v.reads) (later : Consistent u)
-    (stay : (r : Read) → Has v.reads r → Has u.reads r) where
+    (stay : (r : RawRead) → Has v.reads r → Has u.reads r) where
   abbrev done : List Words
   done = published_words v.reads
 
@@ -76,7 +76,7 @@ module _ (v u : View) (now : Consistent v) (order : AreInOrder v.reads) (later :
         (λ i l. agrees words seen i l (omega (arith, l, all, size)))
 
     -- it is passed over
-    stays_other : (shape : Words) (r : Read) → SeesOther shape k r → OpenUnseen v.seen r → Has u.reads r →
+    stays_other : (shape : Words) (r : RawRead) → SeesOther shape k r → OpenUnseen v.seen r → Has u.reads r →
         Stays v.places done r
     stays_other shape (Open j) o unseen seen =
         absurd (not_open (subst (λ j. Each (λ (p : ℕ × List ℕ). p.0 ≢ j) v.seen) o unseen))
@@ -96,12 +96,12 @@ module _ (v u : View) (now : Consistent v) (order : AreInOrder v.reads) (later :
     stays_found words all seen = λ session. (here, place_done done k inside, inl (all_is words all seen), refl)
 
   -- ---- from the newest down
-  down_inside : (shape : Words) (c k : ℕ) (added : List Read) → Passed shape c k added → k ≤ c
+  down_inside : (shape : Words) (c k : ℕ) (added : List RawRead) → Passed shape c k added → k ≤ c
   down_inside shape c k [] p = omega (arith, p)
   down_inside shape c k (r ∷ added) p = omega (arith, down_inside shape c (k + 1) added p.1)
 
-  stays_passed : (shape : Words) (c k : ℕ) (added : List Read) → c ≤ length (published_words v.reads) →
-      Passed shape c k added → Each (OpenUnseen v.seen) added → ((r : Read) → Has added r → Has u.reads r) →
+  stays_passed : (shape : Words) (c k : ℕ) (added : List RawRead) → c ≤ length (published_words v.reads) →
+      Passed shape c k added → Each (OpenUnseen v.seen) added → ((r : RawRead) → Has added r → Has u.reads r) →
       Each (Stays v.places done) added
   stays_passed shape c k [] l p unseen into = tt
   stays_passed shape c k (r ∷ added) l p unseen into =
@@ -110,8 +110,8 @@ module _ (v u : View) (now : Consistent v) (order : AreInOrder v.reads) (later :
         stays_passed shape c (k + 1) added l p.1 unseen.1 (λ s h. into s (inr h)),
       )
 
-  stays_down : (shape : Words) (c k : ℕ) (added : List Read) → c ≡ length (published_words v.reads) →
-      Passed shape c k added → Each (OpenUnseen v.seen) added → ((r : Read) → Has added r → Has u.reads r) →
+  stays_down : (shape : Words) (c k : ℕ) (added : List RawRead) → c ≡ length (published_words v.reads) →
+      Passed shape c k added → Each (OpenUnseen v.seen) added → ((r : RawRead) → Has added r → Has u.reads r) →
       Each (Stays v.places done) (added ++ Count c ∷ [])
   stays_down shape c k added all p unseen into =
       each_append (Stays v.places done) added (Count c ∷ [])
@@ -121,16 +121,16 @@ module _ (v u : View) (now : Consistent v) (order : AreInOrder v.reads) (later :
 -- ---- a look
 -- what was read more changes nothing
 pub record Sees (v w : View) : Type 0 where
-  pub more : List Read
+  pub more : List RawRead
   pub reads : w.reads ≡ more ++ v.reads
   pub stays : Each (Stays v.places (published_words v.reads)) more
 
 pub look_sees : (shape : Words) (v w u : View) (look : Look) → Looks shape v look w → Consistent v → v.share ≡ 64 →
-    AreInOrder v.reads → Consistent u → ((r : Read) → Has w.reads r → Has u.reads r) → Sees v w
+    AreInOrder v.reads → Consistent u → ((r : RawRead) → Has w.reads r → Has u.reads r) → Sees v w
 look_sees shape v w u (NoneReady c) d now whole order later stay =
     let all : c ≡ length (published_words v.reads) = all_published v c (owns_all v now.neat) (d.tells.whole whole) in
     let reads : w.reads ≡ d.added ++ Count c ∷ v.reads = ap (λ (x : View). x.reads) d.view in
-    let into : (r : Read) → Has (d.added ++ Count c ∷ v.reads) r → Has u.reads r =
+    let into : (r : RawRead) → Has (d.added ++ Count c ∷ v.reads) r → Has u.reads r =
     λ r h. stay r (subst (λ rs. Has rs r) (sym reads) h) in
     record {
       more = d.added ++ Count c ∷ [];
@@ -146,9 +146,9 @@ look_sees shape v w u (Found k words) f now whole order later stay =
     all_published v c (owns_all v now.neat) (f.down.tells.whole whole) in
     let reads : w.reads ≡ See k words ∷ added ++ Count c ∷ v.reads =
     ap (λ (x : View). x.reads) f.finds.view ∙ ap (λ (x : View). See k words ∷ x.reads) f.down.view in
-    let into : (r : Read) → Has (See k words ∷ added ++ Count c ∷ v.reads) r → Has u.reads r =
+    let into : (r : RawRead) → Has (See k words ∷ added ++ Count c ∷ v.reads) r → Has u.reads r =
     λ r h. stay r (subst (λ rs. Has rs r) (sym reads) h) in
-    let old : (r : Read) → Has v.reads r → Has u.reads r =
+    let old : (r : RawRead) → Has v.reads r → Has u.reads r =
     λ r h. into r (inr (has_right added (Count c ∷ v.reads) r (inr h))) in
     let inside : k < length (published_words v.reads) =
     omega (arith, all, down_inside v u now order later old shape c (k + 1) added f.down.passed) in

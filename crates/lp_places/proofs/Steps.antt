@@ -6,8 +6,8 @@ use Rattle.spec_board.specs.Reads.{Words, basis_words}
 use Rattle.spec_board.specs.Places.{logged, Plays}
 use Rattle.spec_server.specs.Machine.{ExactAsk, ExactReply, State}
 use Rattle.basis_board.specs.declared.seats.View.{View}
-use Rattle.basis_board.specs.declared.seats.Read.{Read}
-use Rattle.basis_board.specs.declared.seats.Read.TheVariants.{Count, Claim, Done}
+use Rattle.basis_board.specs.declared.seats.RawRead.{RawRead}
+use Rattle.basis_board.specs.declared.seats.RawRead.TheVariants.{Count, Claim, Done}
 use Rattle.basis_board.specs.declared.board.Look.{Look}
 use Rattle.spec_board.specs.declared.read.Put.{Put}
 use Rattle.basis_board.specs.Board.{Has}
@@ -25,18 +25,18 @@ use Rattle.lp_places.proofs.Sizes.{IsSized, step_sized}
 
 -- the places answer what a pass reads more, and it is still the only one
 pub record Goes (v u : View) : Type 0 where
-  pub more : List Read
+  pub more : List RawRead
   pub reads : u.reads ≡ more ++ v.reads
   pub places : u.places ≡ v.places
   pub played : Played v.places (published_words v.reads) more (published_words u.reads)
   pub order : AreInOrder u.reads
 
 module _ (v u : View) (now : Consistent v) (whole : v.share ≡ 64) (order : AreInOrder v.reads) (later : Consistent u)
-    (sized : (k : ℕ) (words : Words) (old : List Read) → u.reads ≡ (Done k words ∷ old) ++ v.reads →
+    (sized : (k : ℕ) (words : Words) (old : List RawRead) → u.reads ≡ (Done k words ∷ old) ++ v.reads →
     length words ≡ basis_words) where
   -- ---- a look
   look_goes : (shape : Words) (look : Look) (w : View) → Looks shape v look w →
-      ((r : Read) → Has w.reads r → Has u.reads r) → Goes v w
+      ((r : RawRead) → Has w.reads r → Has u.reads r) → Goes v w
   look_goes shape look w called stay =
       let rests = look_rests shape v w look called order in
       let sees = look_sees shape v w u look called now whole order later stay in
@@ -91,7 +91,7 @@ module _ (v u : View) (now : Consistent v) (whole : v.share ≡ 64) (order : Are
 module _ (before : State) (asked : ExactAsk) (v : View) (replied : ExactReply) (after : State) (u : View)
     (adds : AddsStep before asked v replied after u) where
   -- the words that it publishes
-  newest_sized : (k : ℕ) (words : Words) (old : List Read) → u.reads ≡ (Done k words ∷ old) ++ v.reads →
+  newest_sized : (k : ℕ) (words : Words) (old : List RawRead) → u.reads ≡ (Done k words ∷ old) ++ v.reads →
       length words ≡ basis_words
   newest_sized k words old e =
       each_has IsSized adds.reads (read.Done k words)

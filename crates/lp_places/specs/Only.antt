@@ -3,20 +3,20 @@ use Rattle.std.specs.Prelude.{◌≡◌, ◌++◌, List, [], ◌∷◌, length}
 use Rattle.atomic_table.specs.Seated.{TableId}
 use Rattle.spec_board.specs.Reads.{Words, basis_words}
 use Rattle.basis_board.specs.declared.seats.View.{View}
-use Rattle.basis_board.specs.declared.seats.Read.{Read}
-use Rattle.basis_board.specs.declared.seats.Read.TheVariants.{Done}
+use Rattle.basis_board.specs.declared.seats.RawRead.{RawRead}
+use Rattle.basis_board.specs.declared.seats.RawRead.TheVariants.{Done}
 use Rattle.basis_board.specs.Known.{Known}
 use Rattle.basis_board.specs.Rule.{Consistent}
 use Rattle.lp_places.specs.Sharing.{Sharing}
 
 -- the words of the publications, the first one first
-abbrev pub published_words : List Read → List Words
+abbrev pub published_words : List RawRead → List Words
 published_words [] = []
 published_words (Done k words ∷ reads) = published_words reads ++ words ∷ []
 published_words (r ∷ reads) = published_words reads
 
 -- each publication has the place after those of the earlier ones, and as many words as a basis
-abbrev pub AreInOrder : List Read → Type 0
+abbrev pub AreInOrder : List RawRead → Type 0
 AreInOrder [] = Unit {0}
 AreInOrder (Done k words ∷ reads) =
     (k ≡ length (published_words reads)) × (length words ≡ basis_words) × AreInOrder reads
