@@ -14,7 +14,7 @@ use Rattle.spec_board.specs.declared.read.Found.{Found}
 use Rattle.spec_board.specs.Reads.{Words, Looked}
 use Rattle.spec_server.specs.Step.{handed_by, words_of_end}
 use Rattle.lp_solve.specs.Fit.{LeavesBasis}
-use Rattle.lp_session.specs.Stages.{IsEndOf, FitsForm}
+use Rattle.lp_session.specs.Parts.{IsEndOf, FitsForm}
 
 pub end_of : (model : Option Model) (m : Model) (budget : ℕ) (end : ExactSolveEnd) → model ≡ Some m →
     MayAnswer m budget end →

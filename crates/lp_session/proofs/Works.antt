@@ -10,7 +10,7 @@ use Rattle.spec_server.specs.declared.answer.Publication.TheVariants as publicat
 use Rattle.spec_server.specs.Machine.{ExactReply, State}
 use Rattle.spec_server.specs.Step.{Worked, Ends, Publishes, Works, answered, with_answer}
 use Rattle.spec_server.specs.Step.{handed_by, how_by, is_found, words_of_end, worked_with}
-use Rattle.lp_session.specs.Stages.{IsFormHeld}
+use Rattle.lp_session.specs.Parts.{IsFormHeld}
 
 module _ (old : State) (found : Looked) (m : Model) (f : Form) (solved : SolveEnd) (how : How) (words : Option Words)
     (held : old.model ≡ Some m) (formed : IsFormHeld old.model f)

@@ -5,12 +5,13 @@ ghost use Rattle.spec_server.specs.Step as step;
 ghost use Rattle.spec_server.specs.declared.asks.Ask.TheVariants as asks;
 ghost use Rattle.spec_server.specs.declared.asks.Reply.TheVariants as replies;
 ghost use Rattle.spec_server.specs.declared.command.Plain.TheVariants as commands;
-ghost use Rattle.lp_session.specs.Stages.{IsFormHeld, IsEndOf, FitsForm, BeginsSo, WorksSo, reply_unapplied};
+ghost use Rattle.lp_session.specs.Parts.{IsFormHeld, IsEndOf, FitsForm, BeginsSo, WorksSo, reply_unapplied};
 
-use crate::stage::{Begun, LastAnswer, Pending, Worked};
+use crate::awaited::{Begun, Pending, Worked};
 use crate::working::{how_by, is_found, solved_from, words_of_end};
 use lp_certificate::RawCertificate;
-use lp_form::{Form, form};
+use lp_form::{Basis, Form, form};
+use lp_frac::{Frac, Fracs};
 use lp_line::{Ask, Refusal, Reply, answer_of, certificate_lines, verdict_on};
 use lp_model::{Edit, EditError, EditFault, Model, apply};
 use lp_mps::write::{WriteStop, fixed, free};
@@ -20,6 +21,9 @@ use spec_mps::Style;
 use spec_server::{How, Plain, Publication};
 use std::alloc::Global;
 use std::{marker, mem};
+
+/// What a session keeps of its last solve.
+pub type LastAnswer = spec_server::LastAnswer<Frac, Fracs, Basis>;
 
 /// What a session holds: its model once one is loaded, its budget and what its last solve ended with.
 #[derive(Drop)]

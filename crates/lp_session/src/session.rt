@@ -6,9 +6,9 @@ ghost use Rattle.basis_board.specs.Id.{id_of};
 ghost use Rattle.basis_board.specs.Rule.{Consistent};
 ghost use Rattle.lp_session.specs.Boarding.{AddsStep, StepCalls, NotesOn};
 
+use crate::awaited::{Awaited, Begun, Worked};
 use crate::boarding::found_by;
 use crate::holding::Holding;
-use crate::stage::{Begun, Stage, Worked};
 use basis_board::{Board, Pass};
 use lp_form::shape;
 use lp_line::{Ask, Reply};
@@ -18,28 +18,28 @@ use std::alloc::Global;
 use std::marker::Model;
 use std::mem;
 
-/// A session: what it holds, and where it is in its ask.
+/// A session: what it holds, and what it awaits.
 pub struct Session {
     holding: Holding,
-    stage: Stage,
+    awaited: Awaited,
 }
 
 impl Model for Session {
     ghost use Rattle.spec_server.specs.Halves.{Standing};
-    ghost use Rattle.lp_session.specs.Stages.{awaits_of, StageFits};
+    ghost use Rattle.lp_session.specs.Parts.{awaits_of, AwaitedFits};
 
     ghost Value = { Standing };
 
-    ghost view = { λ s. record { state = s.holding; awaits = awaits_of s.stage } };
+    ghost view = { λ s. record { state = s.holding; awaits = awaits_of s.awaited } };
 
-    ghost invariant = { λ s. StageFits s.holding.model s.stage };
+    ghost invariant = { λ s. AwaitedFits s.holding.model s.awaited };
 }
 
 impl Drop for Session {
     fn drop(self) {
-        let Session { holding, stage } = self;
+        let Session { holding, awaited } = self;
         drop(holding);
-        drop(stage);
+        drop(awaited);
     }
 }
 
@@ -57,7 +57,7 @@ impl Session {
     {
         Session {
             holding: Holding::new(),
-            stage: Stage::Rest,
+            awaited: Awaited::Nothing,
         }
     }
 
@@ -70,7 +70,7 @@ impl Session {
             Begun::Reply(reply) => Started::Reply(reply),
             Begun::Look(form) => {
                 let shape = shape(&form);
-                drop(mem::replace(&mut self.stage, Stage::Looking(form)));
+                drop(mem::replace(&mut self.awaited, Awaited::WhatIsFound(form)));
                 Started::Look(shape)
             }
         }
@@ -81,16 +81,16 @@ impl Session {
         requires { MayBeFound self.old.awaits found }
         ensures { NextFits self.old.state found result self.new }
     {
-        let Stage::Looking(form) = &self.stage else {
+        let Awaited::WhatIsFound(form) = &self.awaited else {
             unreachable!()
         };
         let worked = self.holding.work(alloc, form, found);
-        drop(mem::replace(&mut self.stage, Stage::Rest));
+        drop(mem::replace(&mut self.awaited, Awaited::Nothing));
         match worked {
             Worked::Reply(reply) => Next::Reply(reply),
             Worked::Publish(pending) => {
                 let words = pending.words;
-                drop(mem::replace(&mut self.stage, Stage::Publishing(pending)));
+                drop(mem::replace(&mut self.awaited, Awaited::WhatBecameOf(pending)));
                 Next::Publish(words)
             }
         }
@@ -101,7 +101,8 @@ impl Session {
         requires { IsPutAwaited self.old.awaits }
         ensures { PutFits self.old.state self.old.awaits put result self.new }
     {
-        let Stage::Publishing(pending) = mem::replace(&mut self.stage, Stage::Rest) else {
+        let Awaited::WhatBecameOf(pending) = mem::replace(&mut self.awaited, Awaited::Nothing)
+        else {
             unreachable!()
         };
         self.holding

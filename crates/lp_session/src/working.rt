@@ -6,7 +6,7 @@ ghost use Rattle.spec_solve.specs.Answers.{IsSolved};
 ghost use Rattle.spec_board.specs.Words.{IsWellFormed};
 ghost use Rattle.spec_server.specs.Step as step;
 ghost use Rattle.lp_solve.specs.Fit.{LeavesBasis};
-ghost use Rattle.lp_session.specs.Stages.{FitsForm};
+ghost use Rattle.lp_session.specs.Parts.{FitsForm};
 
 use lp_check::Known;
 use lp_form::{Form, pack, unpack};

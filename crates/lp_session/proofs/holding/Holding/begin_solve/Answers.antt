@@ -1,7 +1,7 @@
 -- The end of a model without a form is one that it may have, and that of the cold solve.
 use Rattle.std.proofs.Common.{◌≡◌, Some, sym, ap, ◌∙◌, subst}
 use Rattle.spec_server.specs.Machine.{State}
-use Rattle.lp_session.specs.Stages.{IsEndOf}
+use Rattle.lp_session.specs.Parts.{IsEndOf}
 use Rattle.lp_session.proofs.Ends.{end_of}
 use Rattle.lp_session.proofs.Formless.{formless_begins}
 use Rattle.lp_session.proofs.holding.Holding.begin_solve.Goals as goal

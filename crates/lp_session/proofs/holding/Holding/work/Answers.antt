@@ -4,7 +4,7 @@ use Rattle.spec_solve.specs.Answers.{IsSolved}
 use Rattle.spec_board.specs.Words.{IsWellFormed}
 use Rattle.spec_server.specs.Machine.{State}
 use Rattle.spec_server.specs.Step.{handed_by}
-use Rattle.lp_session.specs.Stages.{IsEndOf}
+use Rattle.lp_session.specs.Parts.{IsEndOf}
 use Rattle.lp_session.proofs.Ends.{end_of}
 use Rattle.lp_session.proofs.Works.{ends_without, ends_same, publishes}
 use Rattle.lp_session.proofs.holding.Holding.work.Goals as goal

@@ -1,12 +1,8 @@
-// Where a session is in its ask.
-use lp_form::{Basis, Form};
-use lp_frac::{Frac, Fracs};
+// What a session awaits, and how the parts of an ask end.
+use lp_form::Form;
 use lp_line::Reply;
 use lp_solve::End;
 use spec_server::How;
-
-/// What a session keeps of its last solve.
-pub type LastAnswer = spec_server::LastAnswer<Frac, Fracs, Basis>;
 
 /// An answer whose basis is to be published, in these words.
 #[derive(Drop)]
@@ -16,15 +12,15 @@ pub(crate) struct Pending {
     pub(crate) words: [u64; 49],
 }
 
-/// What is to be told to a session next.
+/// What a session awaits in its ask.
 #[derive(Drop)]
-pub(crate) enum Stage {
-    /// An ask.
-    Rest,
-    /// What a look for the shape of its model's form found.
-    Looking(Form),
-    /// What became of the words that it publishes.
-    Publishing(Pending),
+pub(crate) enum Awaited {
+    /// It is in no ask.
+    Nothing,
+    /// What a look for the shape of its model's form finds.
+    WhatIsFound(Form),
+    /// What becomes of the words that it publishes.
+    WhatBecameOf(Pending),
 }
 
 /// How an ask begins: it has ended, or the shape of the model's form is looked for.

@@ -14,13 +14,13 @@ use Rattle.spec_server.specs.Step as step
 use Rattle.spec_server.specs.Halves.{Awaits, Nothing, WhatIsFound, WhatBecameOf}
 use Rattle.lp_model.specs.declared.edit.EditError.{EditError}
 use Rattle.lp_model.specs.declared.edit.EditError.TheVariants as edits
-use Rattle.lp_session.specs.declared.stage.Begun.{Begun}
-use Rattle.lp_session.specs.declared.stage.Begun.TheVariants as begun
-use Rattle.lp_session.specs.declared.stage.Pending.{Pending}
-use Rattle.lp_session.specs.declared.stage.Stage.{Stage}
-use Rattle.lp_session.specs.declared.stage.Stage.TheVariants as stage
-use Rattle.lp_session.specs.declared.stage.Worked.{Worked}
-use Rattle.lp_session.specs.declared.stage.Worked.TheVariants as worked
+use Rattle.lp_session.specs.declared.awaited.Begun.{Begun}
+use Rattle.lp_session.specs.declared.awaited.Begun.TheVariants as begun
+use Rattle.lp_session.specs.declared.awaited.Pending.{Pending}
+use Rattle.lp_session.specs.declared.awaited.Awaited.{Awaited}
+use Rattle.lp_session.specs.declared.awaited.Awaited.TheVariants as awaited
+use Rattle.lp_session.specs.declared.awaited.Worked.{Worked}
+use Rattle.lp_session.specs.declared.awaited.Worked.TheVariants as worked
 
 -- the model that is held has this form
 abbrev pub IsFormHeld : Option Model → Form → Type 0
@@ -46,21 +46,21 @@ abbrev pub reply_unapplied : EditError → ExactReply
 reply_unapplied (edits.Fault fault) = edit_refusal fault
 reply_unapplied edits.NoMemory = reply.Memory
 
--- ---- where a session is in its ask
+-- ---- what a session awaits
 
 abbrev pub pending_of : Pending → step.Pending
 pending_of p = record { end = p.end; how = p.how; words = p.words }
 
-abbrev pub awaits_of : Stage → Awaits
-awaits_of stage.Rest = Nothing
-awaits_of (stage.Looking form) = WhatIsFound (shape_of form)
-awaits_of (stage.Publishing pending) = WhatBecameOf (pending_of pending)
+abbrev pub awaits_of : Awaited → Awaits
+awaits_of awaited.Nothing = Nothing
+awaits_of (awaited.WhatIsFound form) = WhatIsFound (shape_of form)
+awaits_of (awaited.WhatBecameOf pending) = WhatBecameOf (pending_of pending)
 
 -- a form that is kept is that of the model, and so is an end
-abbrev pub StageFits : Option Model → Stage → Type 0
-StageFits model stage.Rest = Unit {0}
-StageFits model (stage.Looking form) = IsFormHeld model form
-StageFits model (stage.Publishing pending) = IsEndOf model pending.end
+abbrev pub AwaitedFits : Option Model → Awaited → Type 0
+AwaitedFits model awaited.Nothing = Unit {0}
+AwaitedFits model (awaited.WhatIsFound form) = IsFormHeld model form
+AwaitedFits model (awaited.WhatBecameOf pending) = IsEndOf model pending.end
 
 -- ---- the parts of a step
 
