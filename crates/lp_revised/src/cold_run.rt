@@ -203,7 +203,7 @@ impl Revised {
 ///
 /// It gives up with the first operation that is past 127 bits, or where the budget is spent. For the form of a model
 /// the run on whole tableaus with unlimited fractions ends so too.
-pub fn cold(alloc: Global, form: &Form, budget: u64) -> Result<RunEnd, RevisedStop>
+pub fn cold_over_factors(alloc: Global, form: &Form, budget: u64) -> Result<RunEnd, RevisedStop>
     ensures run { EndsOver (over_run (Some number_limit) budget form.now) result }
     ensures whole { (m : Model) → form_of (Some number_limit) m ≡ Ok form.now →
         EndsWhole (phases_run None budget form.now) result }

@@ -2,7 +2,7 @@
 //!
 //! | Item | What it is | Where |
 //! |---|---|---|
-//! | `cold`, `RunEnd` | the cold run over factors within a budget, and what it ends with | src/cold_run |
+//! | `cold_over_factors`, `RunEnd` | the cold run over factors within a budget, and what it ends with | src/cold_run |
 //! | `Certificate` | the certificate of an end | src/ends |
 //! | `RevisedStop`, `Spent` | why a run does not end by itself | src/stop |
 //! | `Revised`, `RowStart` | a state of the run; how a row began, which fixes the sign of its artificial | src/state |
@@ -43,7 +43,7 @@ mod steps;
 mod stop;
 
 pub use choose::{column_of, factor};
-pub use cold_run::{RunEnd, cold};
+pub use cold_run::{RunEnd, cold_over_factors};
 pub use ends::Certificate;
 pub use factors::Factors;
 pub use items::{narrow, tell_narrow};

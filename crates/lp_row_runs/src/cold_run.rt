@@ -423,7 +423,7 @@ fn cold_run<N: Listed>(
 /// 127 bits, a number of a row past 2,048, or one of the certificate past 127, or where the budget is spent, or the bound
 /// on the work. Which of these it is, is not said, and nothing is promised of when they come. Only want of memory is an
 /// error.
-pub fn cold(
+pub fn cold_over_rows(
     alloc: Global,
     form: &Form,
     budget: u64,

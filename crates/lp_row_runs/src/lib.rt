@@ -4,7 +4,7 @@
 //!
 //! | Item | What it is | Where |
 //! |---|---|---|
-//! | `cold`, `wide_cold`, `RowEnd` | the run of a form within a budget, with numbers of 127 bits or of any width in the certificate, and what it ends with | src/cold_run, src/phases |
+//! | `cold_over_rows`, `wide_cold`, `RowEnd` | the run of a form within a budget, with numbers of 127 bits or of any width in the certificate, and what it ends with | src/cold_run, src/phases |
 //! | `State`, `Phase` | where a run stands | src/phases |
 //! | `from_64`, `from_128`, `from_256`, `from_512`, `from_1024`, `from_2048` | both phases from where they stand, in words of that width and in wider ones | src/cold_run |
 //! | `go_on` | both phases at one width, from where they stand | src/phases |
@@ -33,6 +33,8 @@ mod phases;
 mod steps;
 mod warm_run;
 
-pub use cold_run::{cold, from_64, from_128, from_256, from_512, from_1024, from_2048, wide_cold};
+pub use cold_run::{
+    cold_over_rows, from_64, from_128, from_256, from_512, from_1024, from_2048, wide_cold,
+};
 pub use phases::{Phase, RowEnd, State};
 pub use warm_run::wide_warm;

@@ -14,6 +14,7 @@ use crate::rows::over_rows;
 use lp_form::Form;
 use lp_frac::Stop;
 use lp_model::Model;
+use lp_revised::cold_over_factors;
 use std::alloc::{AllocError, Global};
 
 // The run over factors, and the check of the certificate that it ended with.
@@ -22,7 +23,7 @@ fn over_factors(alloc: Global, budget: u64, model: &Model, form: &Form) -> Resul
     ensures answer { IfOk result (λ s. s ≡ over.over_factors (Some number_limit) budget model.now form.now) }
     ensures narrow { IfOk result (IsFit model.now) }
 {
-    match lp_revised::cold(alloc, form, budget) {
+    match cold_over_factors(alloc, form, budget) {
         Ok(end) => Ok(answered(
             model,
             end.certificate,

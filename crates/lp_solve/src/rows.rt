@@ -13,7 +13,7 @@ use crate::cold::{End, answered};
 use lp_form::Form;
 use lp_frac::Frac;
 use lp_model::Model;
-use lp_row_runs::RowEnd;
+use lp_row_runs::{RowEnd, cold_over_rows};
 use std::alloc::{AllocError, Global};
 
 /// The effort of a run whose certificate has numbers of 127 bits, some seconds of it: each number that is changed counts
@@ -50,7 +50,7 @@ pub(crate) fn over_rows(
     ensures answer { IfOk result (λ o. IfSome o (order.MayEndCold (Some number_limit) budget model.now)) }
     ensures narrow { IfOk result (λ o. IfSome o (IsFit model.now)) }
 {
-    match lp_row_runs::cold(alloc, form, budget, work)? {
+    match cold_over_rows(alloc, form, budget, work)? {
         Some(end) => Ok(checked(model, form, end)),
         None => Ok(None),
     }

@@ -72,7 +72,7 @@ fn warm_first(
             certificate,
             basis,
             pivots,
-        } => Ok(warm(End::Ended {
+        } => Ok(ended_warm(End::Ended {
             answer,
             certificate,
             basis,
@@ -83,7 +83,7 @@ fn warm_first(
 }
 
 // From a basis.
-pub(crate) fn warm(end: End) -> Solved
+pub(crate) fn ended_warm(end: End) -> Solved
     ensures { result ≡ record { end = end; route = route.Warm } }
 {
     Solved {
@@ -93,7 +93,7 @@ pub(crate) fn warm(end: End) -> Solved
 }
 
 // From the start that each model has.
-pub(crate) fn cold(end: End) -> Solved
+pub(crate) fn ended_cold(end: End) -> Solved
     ensures { result ≡ record { end = end; route = route.Cold } }
 {
     Solved {
@@ -113,7 +113,7 @@ pub(crate) fn cold_within(
     requires { form_of (Some number_limit) model.now ≡ Ok form.now }
     ensures { IfOk result (IsSolved model.now budget None) }
 {
-    Ok(cold(cold_part(alloc, budget, work, model, form)?))
+    Ok(ended_cold(cold_part(alloc, budget, work, model, form)?))
 }
 
 /// The same solve of a model whose form is at hand. The basis of an optimum is one of this form.
@@ -145,9 +145,9 @@ pub fn solve_formless(model: &Model, stop: FormStop) -> Result<Solved, AllocErro
     match stop {
         Stop::Cause(clash) => {
             let certificate = Certificate::Clash(clash.column);
-            Ok(cold(answered(model, certificate, None, 0)))
+            Ok(ended_cold(answered(model, certificate, None, 0)))
         }
-        Stop::Past(past) => Ok(cold(End::Past(past))),
+        Stop::Past(past) => Ok(ended_cold(End::Past(past))),
         Stop::NoMemory => Err(AllocError),
     }
 }

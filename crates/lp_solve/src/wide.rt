@@ -14,7 +14,7 @@ ghost use Rattle.lp_solve.specs.Wide.{AcceptsEnd, IsCertified, IsCertifiedAt};
 use crate::basis::basis_of;
 use crate::cold::End;
 use crate::rows::{WORK, over_rows};
-use crate::solving::{Solved, cold, cold_after, cold_within, solve, warm};
+use crate::solving::{Solved, cold_after, cold_within, ended_cold, ended_warm, solve};
 use crate::warm::{Warm, WarmStop, from_basis};
 use lp_check::wide::{Ratios, Verdict, check};
 use lp_form::{Basis, Form, StatusList, form};
@@ -204,7 +204,7 @@ fn over_rows_in_full(
 {
     if let Some(end) = over_rows(alloc, budget, WORK, model, form)? {
         drop(refused);
-        return Ok(WideSolved::Narrow(cold(end)));
+        return Ok(WideSolved::Narrow(ended_cold(end)));
     }
     match unlimited(alloc, model, form, budget, Route::Cold)? {
         Some(found) => {
@@ -349,7 +349,7 @@ pub fn solve_wide_from(
             certificate,
             basis,
             pivots,
-        } => Ok(WideBased::Narrow(warm(End::Ended {
+        } => Ok(WideBased::Narrow(ended_warm(End::Ended {
             answer,
             certificate,
             basis,

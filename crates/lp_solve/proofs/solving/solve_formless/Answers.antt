@@ -9,7 +9,7 @@ answered-requires-clause-fits c = clash_fits _ 0 _ _ (form_clash _ _ _ c.in-Caus
 
 pub returns-in-Cause-clause-solved : goal.returns-in-Cause-clause-solved
 returns-in-Cause-clause-solved c budget =
-    unhanded_solved budget c.args.model.now _ _ c.cold.ensures
+    unhanded_solved budget c.args.model.now _ _ c.ended_cold.ensures
     (formless _ _ _ _ _ (form_clash _ _ _ c.in-Cause.is c.requires) c.answered.ensures.answer)
     c.answered.ensures.narrow
 
@@ -18,7 +18,7 @@ returns-in-Cause-clause-formless c = (_, form_clash _ _ _ c.in-Cause.is c.requir
 
 pub returns-in-Past-clause-solved : goal.returns-in-Past-clause-solved
 returns-in-Past-clause-solved c budget =
-    unhanded_solved budget c.args.model.now _ _ c.cold-in-Past.ensures
+    unhanded_solved budget c.args.model.now _ _ c.ended_cold-in-Past.ensures
     (formless _ _ _ _ _ (form_stop _ _ _ c.in-Past.is c.requires) refl) tt
 
 pub returns-in-Past-clause-formless : goal.returns-in-Past-clause-formless

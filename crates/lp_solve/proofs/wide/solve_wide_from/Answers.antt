@@ -6,7 +6,7 @@ use Rattle.lp_solve.proofs.wide.solve_wide_from.Goals as goal
 
 pub returns-in-Ended : goal.returns-in-Ended
 returns-in-Ended c =
-    subst (IsSolved c.args.model.now c.args.budget (Some c.args.basis.now)) (sym c.warm.ensures)
+    subst (IsSolved c.args.model.now c.args.budget (Some c.args.basis.now)) (sym c.ended_warm.ensures)
     (warm_solved c.args.budget c.args.model.now c.args.form.now c.args.basis.now c.requires.formed c.requires.fits _ _ _
     _ _ c.in-Ended.is c.in_ok-answer.ensures.answer c.in_ok-answer.ensures.narrow)
 

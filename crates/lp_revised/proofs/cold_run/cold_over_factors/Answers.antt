@@ -7,7 +7,7 @@ use Rattle.spec_simplex.specs.Tableau.{Tableau}
 use Rattle.spec_factor.specs.Revised.{bare_of}
 use Rattle.lp_revised.proofs.Whole.{ends_whole}
 use Rattle.lp_revised.proofs.TwoPhases.{rows_stop, runs_whole}
-use Rattle.lp_revised.proofs.cold_run.cold.Goals as goal
+use Rattle.lp_revised.proofs.cold_run.cold_over_factors.Goals as goal
 
 pub returns-in_err-starts-clause-run : goal.returns-in_err-starts-clause-run
 returns-in_err-starts-clause-run c =
