@@ -23,7 +23,7 @@ use std::alloc::{AllocError, Global};
 pub type End = spec_check::SolveEnd<Frac, Fracs, Basis>;
 
 /// The certificate with what the checker says of it. It never says no.
-pub(crate) fn answered(
+pub(crate) fn checked_cold(
     model: &Model,
     certificate: Certificate,
     basis: Option<Basis>,
@@ -86,7 +86,7 @@ fn finished(alloc: Global, model: &Model, form: &Form, ended: &Ended) -> Result<
 {
     let certificate = certificate(alloc, ended)?;
     let statuses = statuses(alloc, ended)?;
-    Ok(answered(model, certificate, basis_of(form, statuses), ended.used))
+    Ok(checked_cold(model, certificate, basis_of(form, statuses), ended.used))
 }
 
 /// Both phases from the form of the model, and the check of the certificate that they ended with.

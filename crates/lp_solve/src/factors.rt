@@ -9,7 +9,7 @@ ghost use Rattle.spec_solve.specs.Order as order;
 ghost use Rattle.lp_solve.specs.Fit.{IsFit};
 
 use crate::basis::basis_of;
-use crate::cold::{End, answered, from_form};
+use crate::cold::{End, checked_cold, from_form};
 use crate::rows::over_rows;
 use lp_form::Form;
 use lp_frac::Stop;
@@ -24,7 +24,7 @@ fn over_factors(alloc: Global, budget: u64, model: &Model, form: &Form) -> Resul
     ensures narrow { IfOk result (IsFit model.now) }
 {
     match cold_over_factors(alloc, form, budget) {
-        Ok(end) => Ok(answered(
+        Ok(end) => Ok(checked_cold(
             model,
             end.certificate,
             basis_of(form, end.basis),

@@ -9,7 +9,7 @@ ghost use Rattle.spec_solve.specs.Order as order;
 ghost use Rattle.lp_solve.specs.Fit.{IsFit};
 
 use crate::basis::basis_of;
-use crate::cold::{End, answered};
+use crate::cold::{End, checked_cold};
 use lp_form::Form;
 use lp_frac::Frac;
 use lp_model::Model;
@@ -30,7 +30,7 @@ fn checked(model: &Model, form: &Form, end: RowEnd<Frac>) -> Option<End>
     ensures narrow { IfSome result (IsFit model.now) }
 {
     let basis = basis_of(form, end.basis);
-    let answered = answered(model, end.certificate, basis, end.pivots);
+    let answered = checked_cold(model, end.certificate, basis, end.pivots);
     match answered {
         End::Ended { .. } => Some(answered),
         End::Past(_) | End::Spent => None,

@@ -11,7 +11,7 @@ ghost use Rattle.lp_solve.specs.Fit.{LeavesBasis};
 ghost use Rattle.lp_solve.specs.Formless.{HasNoForm};
 ghost use Rattle.lp_solve.specs.Stopped.{IsAfterStop};
 
-use crate::cold::{End, answered};
+use crate::cold::{End, checked_cold};
 use crate::factors::cold_part;
 use crate::rows::WORK;
 use crate::warm::{Warm, WarmStop, from_basis};
@@ -145,7 +145,7 @@ pub fn solve_formless(model: &Model, stop: FormStop) -> Result<Solved, AllocErro
     match stop {
         Stop::Cause(clash) => {
             let certificate = Certificate::Clash(clash.column);
-            Ok(ended_cold(answered(model, certificate, None, 0)))
+            Ok(ended_cold(checked_cold(model, certificate, None, 0)))
         }
         Stop::Past(past) => Ok(ended_cold(End::Past(past))),
         Stop::NoMemory => Err(AllocError),

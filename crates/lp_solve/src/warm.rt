@@ -37,7 +37,7 @@ fn run_stop(stop: RunStop) -> WarmStop
 }
 
 // The certificate with what the checker says of it. It never says no.
-fn answered(model: &Model, certificate: Certificate, basis: Option<Basis>, pivots: u64) -> Warm
+fn checked_warm(model: &Model, certificate: Certificate, basis: Option<Basis>, pivots: u64) -> Warm
     requires fits { IsFor model.now certificate }
     requires narrow { IsNarrowCertificate certificate }
     ensures answer { result ≡ warm.answered (Some number_limit) model.now certificate basis pivots }
@@ -83,7 +83,7 @@ fn by_primal(
         Ok(end) => {
             let statuses = basis_at(alloc, tab, end)?;
             let certificate = certificate_at(alloc, tab, end)?;
-            Ok(answered(model, certificate, basis_of(form, statuses), used))
+            Ok(checked_warm(model, certificate, basis_of(form, statuses), used))
         }
         Err(stop) => Ok(Warm::Stopped(run_stop(stop))),
     }
@@ -109,7 +109,7 @@ fn by_dual(
         Ok(end) => {
             let statuses = dual_basis(alloc, tab, end)?;
             let certificate = dual_certificate(alloc, tab, end)?;
-            Ok(answered(model, certificate, basis_of(form, statuses), used))
+            Ok(checked_warm(model, certificate, basis_of(form, statuses), used))
         }
         Err(stop) => Ok(Warm::Stopped(run_stop(stop))),
     }

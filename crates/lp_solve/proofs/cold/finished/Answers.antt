@@ -12,11 +12,11 @@ basis_of-requires c =
     subst (λ (o : Option (List Status)). IfSome o (λ basis. IsBasisOf c.args.form.now basis))
     (sym c.in_ok-statuses.ensures) c.requires.based
 
-pub answered-requires-clause-fits : goal.answered-requires-clause-fits
-answered-requires-clause-fits c =
+pub checked_cold-requires-clause-fits : goal.checked_cold-requires-clause-fits
+checked_cold-requires-clause-fits c =
     subst (IsFor c.args.model.now) (sym c.in_ok-certificate.ensures.value) c.requires.fits
 
 pub returns-clause-answer : goal.returns-clause-answer
 returns-clause-answer c =
-    rw (c.in_ok-certificate.ensures.value, c.basis_of.ensures, c.in_ok-statuses.ensures) at c.answered.ensures.answer
+    rw (c.in_ok-certificate.ensures.value, c.basis_of.ensures, c.in_ok-statuses.ensures) at c.checked_cold.ensures.answer
     ∙ finishes (Some number_limit) c.args.model.now c.args.ended.now.tab c.args.ended.now.used c.args.ended.now.end

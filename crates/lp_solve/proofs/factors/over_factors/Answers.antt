@@ -7,15 +7,15 @@ basis_of-requires c =
     over_leaves c.args.budget c.args.model.now c.args.form.now c.requires c.in-Ok.end
     (c.in-Ok.ensures.whole c.args.model.now c.requires)
 
-pub answered-requires-clause-fits : goal.answered-requires-clause-fits
-answered-requires-clause-fits c =
+pub checked_cold-requires-clause-fits : goal.checked_cold-requires-clause-fits
+checked_cold-requires-clause-fits c =
     over_fits c.args.budget c.args.model.now c.args.form.now c.requires c.in-Ok.end
     (c.in-Ok.ensures.whole c.args.model.now c.requires)
 
 pub returns-in-Ok-clause-answer : goal.returns-in-Ok-clause-answer
 returns-in-Ok-clause-answer c =
-    over_ends c.args.budget c.args.model.now c.args.form.now c.requires c.in-Ok.end c.answered.result
-    c.in-Ok.ensures.run (rw c.basis_of.ensures at c.answered.ensures.answer)
+    over_ends c.args.budget c.args.model.now c.args.form.now c.requires c.in-Ok.end c.checked_cold.result
+    c.in-Ok.ensures.run (rw c.basis_of.ensures at c.checked_cold.ensures.answer)
 
 pub returns-in-Err-Past-clause-answer : goal.returns-in-Err-Past-clause-answer
 returns-in-Err-Past-clause-answer c =

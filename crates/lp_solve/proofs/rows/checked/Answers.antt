@@ -6,5 +6,5 @@ use Rattle.lp_solve.proofs.rows.checked.Goals as goal
 pub returns-in-Ended-clause-answer : goal.returns-in-Ended-clause-answer
 returns-in-Ended-clause-answer c = (
   λ z. subst GivesUp c.in-Ended.is z,
-  rw c.basis_of-basis.ensures at c.answered-answered.ensures.answer,
+  rw c.basis_of-basis.ensures at c.checked_cold-answered.ensures.answer,
 )

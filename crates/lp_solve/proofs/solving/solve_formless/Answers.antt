@@ -4,14 +4,14 @@ use Rattle.lp_solve.proofs.Solved.{form_stop, form_clash, formless, clash_fits}
 use Rattle.lp_solve.proofs.Allowed.{unhanded_solved}
 use Rattle.lp_solve.proofs.solving.solve_formless.Goals as goal
 
-pub answered-requires-clause-fits : goal.answered-requires-clause-fits
-answered-requires-clause-fits c = clash_fits _ 0 _ _ (form_clash _ _ _ c.in-Cause.is c.requires)
+pub checked_cold-requires-clause-fits : goal.checked_cold-requires-clause-fits
+checked_cold-requires-clause-fits c = clash_fits _ 0 _ _ (form_clash _ _ _ c.in-Cause.is c.requires)
 
 pub returns-in-Cause-clause-solved : goal.returns-in-Cause-clause-solved
 returns-in-Cause-clause-solved c budget =
     unhanded_solved budget c.args.model.now _ _ c.ended_cold.ensures
-    (formless _ _ _ _ _ (form_clash _ _ _ c.in-Cause.is c.requires) c.answered.ensures.answer)
-    c.answered.ensures.narrow
+    (formless _ _ _ _ _ (form_clash _ _ _ c.in-Cause.is c.requires) c.checked_cold.ensures.answer)
+    c.checked_cold.ensures.narrow
 
 pub returns-in-Cause-clause-formless : goal.returns-in-Cause-clause-formless
 returns-in-Cause-clause-formless c = (_, form_clash _ _ _ c.in-Cause.is c.requires)

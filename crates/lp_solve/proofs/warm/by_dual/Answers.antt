@@ -19,8 +19,8 @@ basis_of-requires c =
     (record { end = c.in-Ok.end; tableau = c.run.new.tab; used = c.run.new.used }) c.requires.begun
     c.in-Ok.ensures.runs)
 
-pub answered-requires-clause-fits : goal.answered-requires-clause-fits
-answered-requires-clause-fits c =
+pub checked_warm-requires-clause-fits : goal.checked_warm-requires-clause-fits
+checked_warm-requires-clause-fits c =
     subst (IsFor c.args.model.now) (sym (c.in_ok-certificate-in-Ok.ensures.value))
     (dual_fits _ _ _ (record { end = c.in-Ok.end; tableau = c.run.new.tab; used = c.run.new.used }) c.requires.begun
     c.in-Ok.ensures.runs)
@@ -28,7 +28,7 @@ answered-requires-clause-fits c =
 pub returns-in_ok-certificate-in-Ok-clause-answer : goal.returns-in_ok-certificate-in-Ok-clause-answer
 returns-in_ok-certificate-in-Ok-clause-answer c =
     rw (c.in_ok-certificate-in-Ok.ensures.value, c.basis_of.ensures, c.in_ok-statuses-in-Ok.ensures) at
-    c.answered.ensures.answer
+    c.checked_warm.ensures.answer
     ∙ ap (after_run (Some number_limit) c.args.model.now)
     (sym (dual_ends (Some number_limit) c.args.budget c.args.tab.now
     (record { end = c.in-Ok.end; tableau = c.run.new.tab; used = c.run.new.used }) c.in-Ok.ensures.runs))
