@@ -6,7 +6,7 @@ ghost use Rattle.basis_board.specs.Board.{first_view, cut_left, cut_right, stori
 use crate::seats::{Pass, Sight, Words};
 use crate::steps::{Claims, Counts, Finishes, Joins, Learns, Parts, Reads, Sees, Writes};
 use atomic_table::Seat;
-use spec_board::Put;
+use spec_board::{BasisWords, Put, ShapeWords};
 use std::alloc::{AllocError, Global};
 
 /// A fixed number of places, each of which takes the words of one basis and never changes afterwards.
@@ -23,7 +23,7 @@ pub struct Board {
 #[derive(Clone, Copy, PartialEq, Eq)]
 pub enum Look {
     /// The newest done place of the shape, and its words.
-    Found(u32, [u64; 49]),
+    Found(u32, BasisWords),
     /// None of the places claimed, so many, was read as done with this shape.
     NoneReady(u32),
 }
@@ -78,7 +78,7 @@ impl Board {
     }
 
     // Stores the words of a place that was claimed.
-    fn fill(&self, seat: &mut Seat<u8, Sight>, place: u64, words: &[u64; 49])
+    fn fill(&self, seat: &mut Seat<u8, Sight>, place: u64, words: &BasisWords)
         requires board { (seat.old.table_id ≡ id_of self.now) × (place < self.now.places) }
         requires view { ((known seat.old).held ≡ Some (place, [])) × (0 < (known seat.old).share) }
         ensures stored { IsSameSeat seat.old seat.new × (known seat.new ≡ storing (known seat.old) place words.now) }
@@ -91,7 +91,7 @@ impl Board {
     }
 
     /// Claims the next place and stores the words there, if no other pass takes it in between: one try.
-    pub fn publish(&self, pass: &mut Pass, words: &[u64; 49]) -> Put
+    pub fn publish(&self, pass: &mut Pass, words: &BasisWords) -> Put
         requires board { pass.old.board ≡ id_of self.now }
         requires formed { IsWellFormed words.now }
         ensures board { pass.new.board ≡ pass.old.board }
@@ -116,7 +116,7 @@ impl Board {
     }
 
     // The words of the place, if it is done and of this shape.
-    fn see(&self, seat: &mut Seat<u8, Sight>, place: u64, shape: &[u64; 25]) -> Option<[u64; 49]>
+    fn see(&self, seat: &mut Seat<u8, Sight>, place: u64, shape: &ShapeWords) -> Option<BasisWords>
         requires board { (seat.old.table_id ≡ id_of self.now) × (place < self.now.places) }
         requires share { 0 < (known seat.old).share }
         ensures seat { IsSameSeat seat.old seat.new }
@@ -144,7 +144,7 @@ impl Board {
     }
 
     // From the newest place down to the first that is done and of this shape.
-    fn look_down(&self, seat: &mut Seat<u8, Sight>, shape: &[u64; 25]) -> Look
+    fn look_down(&self, seat: &mut Seat<u8, Sight>, shape: &ShapeWords) -> Look
         requires board { (seat.old.table_id ≡ id_of self.now) × ((known seat.old).places ≡ self.now.places) }
         requires idle { ((known seat.old).held ≡ None) × (0 < (known seat.old).share) }
         ensures seat { IsSameSeat seat.old seat.new }
@@ -164,7 +164,7 @@ impl Board {
     }
 
     /// The newest place that is read as done with this shape. It reads each place at most once.
-    pub fn look(&self, pass: &mut Pass, shape: &[u64; 25]) -> Look
+    pub fn look(&self, pass: &mut Pass, shape: &ShapeWords) -> Look
         requires { pass.old.board ≡ id_of self.now }
         ensures board { pass.new.board ≡ pass.old.board }
         ensures look { Looks shape.now pass.old.view result pass.new.view }

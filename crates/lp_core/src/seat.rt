@@ -12,7 +12,7 @@ ghost use Rattle.lp_core.specs.Looks.{words_at, seen_at};
 use crate::stage::{Stage, looking};
 use lp_line::{Ask, Reply};
 use lp_session::Session;
-use spec_board::{Found, Place, Put};
+use spec_board::{BasisWords, Found, Place, Put, ShapeWords};
 use spec_server::{Next, Started};
 use spec_world::{Act, StepEnd};
 use std::alloc::Global;
@@ -36,7 +36,7 @@ impl Model for Seat {
 }
 
 // The words of a place that is done.
-fn words_of(places: &[Place<[u64; 49]>], place: u32) -> Option<[u64; 49]>
+fn words_of(places: &[Place<BasisWords>], place: u32) -> Option<BasisWords>
     ensures { result ≡ words_at places.now place }
 {
     if place as usize >= places.len() {
@@ -49,7 +49,7 @@ fn words_of(places: &[Place<[u64; 49]>], place: u32) -> Option<[u64; 49]>
 }
 
 // Writes a place, if it is claimed.
-fn write(places: &mut Vec<Place<[u64; 49]>>, place: u32, words: [u64; 49])
+fn write(places: &mut Vec<Place<BasisWords>>, place: u32, words: BasisWords)
     ensures items { places.new.items ≡ with_place places.old.items place (place_is.Done words) }
     ensures len { length places.new.items ≡ length places.old.items }
     ensures capacity { vec_capacity places.new ≡ vec_capacity places.old }
@@ -59,14 +59,14 @@ fn write(places: &mut Vec<Place<[u64; 49]>>, place: u32, words: [u64; 49])
     }
 }
 
-fn has_shape(shape: &[u64; 25], words: &[u64; 49]) -> bool
+fn has_shape(shape: &ShapeWords, words: &BasisWords) -> bool
     ensures { result ≡ reads.has_shape shape.now words.now }
 {
     words[..25] == shape[..]
 }
 
 // Where a look goes on from a place, or ends.
-fn seen(shape: [u64; 25], place: u32, read: Option<[u64; 49]>) -> Stage
+fn seen(shape: ShapeWords, place: u32, read: Option<BasisWords>) -> Stage
     ensures { result ≡ seen_at shape place read }
 {
     match read {
@@ -92,7 +92,7 @@ impl Seat {
         alloc: Global,
         me: u32,
         limit: u32,
-        places: &mut Vec<Place<[u64; 49]>>,
+        places: &mut Vec<Place<BasisWords>>,
         act: Act<Ask>,
     ) -> StepEnd<Reply>
         requires below { IsBelow limit self.old.step }
@@ -121,7 +121,7 @@ impl Seat {
         alloc: Global,
         me: u32,
         limit: u32,
-        places: &[Place<[u64; 49]>],
+        places: &[Place<BasisWords>],
         ask: Ask,
     ) -> StepEnd<Reply>
         ensures fits { ActFits limit me self.old places.now (acts.Ask ask) result self.new places.now }
@@ -141,7 +141,7 @@ impl Seat {
     }
 
     // It reads how many places are claimed.
-    fn count(&mut self, me: u32, limit: u32, places: &[Place<[u64; 49]>]) -> StepEnd<Reply>
+    fn count(&mut self, me: u32, limit: u32, places: &[Place<BasisWords>]) -> StepEnd<Reply>
         requires { length places.now ≤ limit }
         ensures fits { ActFits limit me self.old places.now acts.Count result self.new places.now }
         ensures below { IsBelow limit self.old.step → IsBelow limit self.new.step }
@@ -166,7 +166,7 @@ impl Seat {
     }
 
     // It reads this place.
-    fn see(&mut self, me: u32, limit: u32, places: &[Place<[u64; 49]>], at: u32) -> StepEnd<Reply>
+    fn see(&mut self, me: u32, limit: u32, places: &[Place<BasisWords>], at: u32) -> StepEnd<Reply>
         requires formed { AreFormed places.now }
         ensures fits { ActFits limit me self.old places.now (acts.See at) result self.new places.now }
         ensures below { IsBelow limit self.old.step → IsBelow limit self.new.step }
@@ -187,7 +187,7 @@ impl Seat {
         alloc: Global,
         me: u32,
         limit: u32,
-        places: &[Place<[u64; 49]>],
+        places: &[Place<BasisWords>],
     ) -> StepEnd<Reply>
         ensures fits { ActFits limit me self.old places.now acts.Work result self.new places.now }
         ensures below { IsBelow limit self.old.step → IsBelow limit self.new.step }
@@ -208,7 +208,7 @@ impl Seat {
     }
 
     // It claims a place.
-    fn claim(&mut self, me: u32, limit: u32, places: &mut Vec<Place<[u64; 49]>>) -> StepEnd<Reply>
+    fn claim(&mut self, me: u32, limit: u32, places: &mut Vec<Place<BasisWords>>) -> StepEnd<Reply>
         requires below { IsBelow limit self.old.step }
         requires few { length places.old.items ≤ limit }
         requires room { limit ≤ vec_capacity places.old }
@@ -234,7 +234,7 @@ impl Seat {
     }
 
     // It writes its place.
-    fn done(&mut self, me: u32, limit: u32, places: &mut Vec<Place<[u64; 49]>>) -> StepEnd<Reply>
+    fn done(&mut self, me: u32, limit: u32, places: &mut Vec<Place<BasisWords>>) -> StepEnd<Reply>
         requires room { limit ≤ vec_capacity places.old }
         requires few { length places.old.items ≤ limit }
         requires formed { AreFormed places.old.items }

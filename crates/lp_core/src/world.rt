@@ -5,7 +5,7 @@ ghost use Rattle.lp_core.specs.Core.{StepFits, Follows};
 
 use crate::seat::Seat;
 use lp_line::{Ask, Reply};
-use spec_board::Place;
+use spec_board::{BasisWords, Place};
 use spec_world::{Event, StepEnd};
 use std::alloc::{AllocError, Global};
 use std::marker::Model;
@@ -14,7 +14,7 @@ use std::marker::Model;
 #[derive(Drop)]
 pub struct World {
     seats: Vec<Seat>,
-    places: Vec<Place<[u64; 49]>>,
+    places: Vec<Place<BasisWords>>,
     limit: u32,
 }
 

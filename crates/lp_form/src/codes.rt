@@ -5,6 +5,7 @@ ghost use Rattle.spec_board.specs.Words as shape;
 
 use crate::basis::Basis;
 use crate::forms::Form;
+use spec_board::BasisWords;
 use spec_pivot::Status;
 
 /// The bits for the bounds of column `c`, 0 where the form has no such column.
@@ -47,7 +48,7 @@ pub fn basis_code(basis: &Basis, c: u32) -> u64
 }
 
 /// The bits of column `c`, in words of which those of column 0 stand in word `first`.
-pub fn code_at(words: &[u64; 49], first: usize, c: u32) -> u64
+pub fn code_at(words: &BasisWords, first: usize, c: u32) -> u64
     requires { first + c / 32 < 49 }
     ensures value { result ≡ shape.code_at first words.now c }
     ensures small { result < 4 }
@@ -56,7 +57,7 @@ pub fn code_at(words: &[u64; 49], first: usize, c: u32) -> u64
 }
 
 /// The bits for the bounds of column `c`.
-pub fn bounds_at(words: &[u64; 49], c: u32) -> u64
+pub fn bounds_at(words: &BasisWords, c: u32) -> u64
     requires { c < shape.places }
     ensures value { result ≡ shape.bounds_at words.now c }
     ensures small { result < 4 }
@@ -65,7 +66,7 @@ pub fn bounds_at(words: &[u64; 49], c: u32) -> u64
 }
 
 /// The status of column `c`.
-pub fn status_at(words: &[u64; 49], c: u32) -> Status
+pub fn status_at(words: &BasisWords, c: u32) -> Status
     requires { c < shape.places }
     ensures { result ≡ shape.status_at words.now c }
 {
@@ -78,14 +79,14 @@ pub fn status_at(words: &[u64; 49], c: u32) -> Status
 }
 
 /// How many rows the words say that there are.
-pub fn rows_of(words: &[u64; 49]) -> u64
+pub fn rows_of(words: &BasisWords) -> u64
     ensures { result ≡ shape.rows_of words.now }
 {
     words[0] / 65536
 }
 
 /// How many structural columns the words say that there are.
-pub fn cols_of(words: &[u64; 49]) -> u64
+pub fn cols_of(words: &BasisWords) -> u64
     ensures { result ≡ shape.cols_of words.now }
 {
     words[0] % 65536

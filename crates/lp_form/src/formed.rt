@@ -4,12 +4,13 @@ ghost use Rattle.spec_simplex.specs.Eliminate.{basics_below};
 ghost use Rattle.spec_board.specs.Words.{columns_of, places, unpacked, AllSuit, RestIsZero, IsWellFormed};
 
 use crate::codes::{bounds_at, code_at, cols_of, is_basic, rows_of, status_at, suits};
+use spec_board::BasisWords;
 
 // The most columns that words have bits for.
 const PLACES: u32 = 768;
 
 // How many columns are basic.
-fn count_basic(words: &[u64; 49], columns: u32) -> u64
+fn count_basic(words: &BasisWords, columns: u32) -> u64
     requires columns { columns ≡ columns_of words.now }
     requires few { columns ≤ places }
     ensures { result ≡ basics_below (unpacked words.now) (columns_of words.now) }
@@ -23,7 +24,7 @@ fn count_basic(words: &[u64; 49], columns: u32) -> u64
     count
 }
 
-fn all_suit(words: &[u64; 49], columns: u32) -> bool
+fn all_suit(words: &BasisWords, columns: u32) -> bool
     requires columns { columns ≡ columns_of words.now }
     requires few { columns ≤ places }
     ensures { IsTrue result ↔ AllSuit words.now }
@@ -36,7 +37,7 @@ fn all_suit(words: &[u64; 49], columns: u32) -> bool
     true
 }
 
-fn rest_is_zero(words: &[u64; 49], columns: u32) -> bool
+fn rest_is_zero(words: &BasisWords, columns: u32) -> bool
     requires columns { columns ≡ columns_of words.now }
     requires few { columns ≤ places }
     ensures { IsTrue result ↔ RestIsZero words.now }
@@ -50,7 +51,7 @@ fn rest_is_zero(words: &[u64; 49], columns: u32) -> bool
 }
 
 /// Whether the words are those of some basis of some form.
-pub fn well_formed(words: &[u64; 49]) -> bool
+pub fn well_formed(words: &BasisWords) -> bool
     ensures { IsTrue result ↔ IsWellFormed words.now }
 {
     let (rows, cols) = (rows_of(words), cols_of(words));

@@ -6,6 +6,7 @@ ghost use Rattle.lp_form.specs.Coded.{code_of};
 use crate::basis::Basis;
 use crate::codes::{basis_code, form_code};
 use crate::forms::Form;
+use spec_board::{BasisWords, ShapeWords};
 
 /// What has two bits for each column: a form for the bounds, a basis for the statuses.
 #[derive(Clone, Copy)]
@@ -38,7 +39,7 @@ fn word_of(columns: &Coded, first: u32) -> u64
 
 /// The shape of the form.
 #[tactic(auto, unfolding(spec_board::specs::Words::shape_of))]
-pub fn shape(form: &Form) -> [u64; 25]
+pub fn shape(form: &Form) -> ShapeWords
     ensures { result ≡ shape_of form.now }
 {
     let columns = Coded::Bounds(form);
@@ -51,7 +52,7 @@ pub fn shape(form: &Form) -> [u64; 25]
 }
 
 /// The words of the basis, which has a status for each column of the form.
-pub fn pack(form: &Form, basis: &Basis) -> [u64; 49]
+pub fn pack(form: &Form, basis: &Basis) -> BasisWords
     requires { length basis.now ≡ form.now.cols + form.now.rows }
     ensures { result ≡ packed form.now basis.now }
 {
@@ -68,7 +69,7 @@ pub fn pack(form: &Form, basis: &Basis) -> [u64; 49]
 }
 
 /// Whether the shapes are the same.
-pub fn same_shape(a: &[u64; 25], b: &[u64; 25]) -> bool
+pub fn same_shape(a: &ShapeWords, b: &ShapeWords) -> bool
     ensures { IsTrue result ↔ a.now ≡ b.now }
 {
     a[..] == b[..]

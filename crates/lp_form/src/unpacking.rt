@@ -4,11 +4,12 @@ ghost use Rattle.spec_board.specs.Words.{IsWellFormed, unpacked};
 
 use crate::basis::Basis;
 use crate::codes::{cols_of, rows_of, status_at};
+use spec_board::BasisWords;
 use std::alloc::{AllocError, Global};
 
 /// The basis that the words are of.
 #[tactic(auto, unfolding(spec_board::specs::Words::unpacked))]
-pub fn unpack(alloc: Global, words: &[u64; 49]) -> Result<Basis, AllocError>
+pub fn unpack(alloc: Global, words: &BasisWords) -> Result<Basis, AllocError>
     requires { IsWellFormed words.now }
     ensures { IfOk result (λ basis. basis ≡ unpacked words.now) }
 {

@@ -2,6 +2,7 @@
 use lp_form::Form;
 use lp_line::Reply;
 use lp_solve::End;
+use spec_board::BasisWords;
 use spec_server::How;
 
 /// An answer whose basis is to be published, in these words.
@@ -9,7 +10,7 @@ use spec_server::How;
 pub(crate) struct Pending {
     pub(crate) end: End,
     pub(crate) how: How,
-    pub(crate) words: [u64; 49],
+    pub(crate) words: BasisWords,
 }
 
 /// What a session awaits in its ask.

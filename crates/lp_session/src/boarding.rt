@@ -3,10 +3,10 @@ ghost use Rattle.std.specs.Prelude.{◌≡◌};
 ghost use Rattle.basis_board.specs.PassReads.{looked_by};
 
 use basis_board::Look;
-use spec_board::Found;
+use spec_board::{BasisWords, Found};
 
 // What a look found.
-pub(crate) fn found_by(look: Look) -> Option<Found<[u64; 49]>>
+pub(crate) fn found_by(look: Look) -> Option<Found<BasisWords>>
     ensures { result ≡ looked_by look }
 {
     match look {

@@ -16,7 +16,7 @@ use lp_line::{Ask, Refusal, Reply, answer_of, certificate_lines, verdict_on};
 use lp_model::{Edit, EditError, EditFault, Model, apply};
 use lp_mps::write::{WriteStop, fixed, free};
 use lp_solve::{End, OPENING_BUDGET, solve_formless};
-use spec_board::Found;
+use spec_board::{BasisWords, Found};
 use spec_mps::Style;
 use spec_server::{How, Plain, Publication};
 use std::alloc::Global;
@@ -139,7 +139,7 @@ impl Holding {
         &mut self,
         alloc: Global,
         form: &Form,
-        found: Option<Found<[u64; 49]>>,
+        found: Option<Found<BasisWords>>,
     ) -> Worked
         requires held { IsFormHeld self.old.model form.now }
         requires fits { FitsForm form.now found }

@@ -12,7 +12,7 @@ use crate::holding::Holding;
 use basis_board::{Board, Pass};
 use lp_form::shape;
 use lp_line::{Ask, Reply};
-use spec_board::{Found, Put};
+use spec_board::{BasisWords, Found, Put};
 use spec_server::{Next, Publication, Started};
 use std::alloc::Global;
 use std::marker::Model;
@@ -77,7 +77,7 @@ impl Session {
     }
 
     /// Goes on with what was found. If memory runs out the reply is `Memory`, and the session holds what it did.
-    pub fn found(&mut self, alloc: Global, found: Option<Found<[u64; 49]>>) -> Next<Reply>
+    pub fn found(&mut self, alloc: Global, found: Option<Found<BasisWords>>) -> Next<Reply>
         requires { MayBeFound self.old.awaits found }
         ensures { NextFits self.old.state found result self.new }
     {

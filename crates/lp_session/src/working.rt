@@ -12,7 +12,7 @@ use lp_check::Known;
 use lp_form::{Form, pack, unpack};
 use lp_model::Model;
 use lp_solve::{End, Route, Solved, solve_formed};
-use spec_board::Found;
+use spec_board::{BasisWords, Found};
 use spec_server::How;
 use std::alloc::{AllocError, Global};
 
@@ -22,7 +22,7 @@ pub(crate) fn solved_from(
     model: &Model,
     budget: u32,
     form: &Form,
-    found: Option<Found<[u64; 49]>>,
+    found: Option<Found<BasisWords>>,
 ) -> Result<Solved, AllocError>
     requires formed { form_of (Some number_limit) model.now ≡ Ok form.now }
     requires found { FitsForm form.now found }
@@ -40,7 +40,7 @@ pub(crate) fn solved_from(
 }
 
 // How an answer was found.
-pub(crate) fn how_by(found: Option<Found<[u64; 49]>>, route: Route) -> How
+pub(crate) fn how_by(found: Option<Found<BasisWords>>, route: Route) -> How
     ensures { result ≡ step.how_by found route }
 {
     let Some(place) = found else {
@@ -54,7 +54,7 @@ pub(crate) fn how_by(found: Option<Found<[u64; 49]>>, route: Route) -> How
 }
 
 // Whether these are the words that were found.
-pub(crate) fn is_found(found: Option<Found<[u64; 49]>>, words: &[u64; 49]) -> bool
+pub(crate) fn is_found(found: Option<Found<BasisWords>>, words: &BasisWords) -> bool
     ensures { result ≡ step.is_found found words.now }
 {
     match found {
@@ -64,7 +64,7 @@ pub(crate) fn is_found(found: Option<Found<[u64; 49]>>, words: &[u64; 49]) -> bo
 }
 
 // The words of the basis of an optimum.
-pub(crate) fn words_of_end(form: &Form, end: &End) -> Option<[u64; 49]>
+pub(crate) fn words_of_end(form: &Form, end: &End) -> Option<BasisWords>
     requires { LeavesBasis form.now end.now }
     ensures value { result ≡ step.words_of_end form.now end.now }
     ensures formed { IfSome result IsWellFormed }

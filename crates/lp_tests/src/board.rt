@@ -5,13 +5,14 @@ ghost use Rattle.spec_board.specs.Words.{IsWellFormed};
 
 use basis_board::{Board, Look, Pass, Put};
 use lp_form::well_formed;
+use spec_board::{BasisWords, ShapeWords};
 use std::sync::atomic::{AtomicU64, Ordering};
 use std::test::Fail;
 use std::thread;
 
 // The words of a basis: one row with a lower limit alone, whose logical is at it,
 // and one basic column with a lower bound alone.
-fn words() -> [u64; 49] {
+fn words() -> BasisWords {
     let mut words = [0u64; 49];
     words[0] = 65537;
     words[1] = 5;
@@ -19,7 +20,7 @@ fn words() -> [u64; 49] {
     words
 }
 
-fn shape() -> [u64; 25] {
+fn shape() -> ShapeWords {
     let mut shape = [0u64; 25];
     shape[0] = 65537;
     shape[1] = 5;
@@ -29,7 +30,7 @@ fn shape() -> [u64; 25] {
 // The most turns that the second thread waits for the flag.
 const TURNS: u32 = 100_000_000;
 
-fn first(board: &Board, mut pass: Pass, words: &[u64; 49], flag: &AtomicU64) -> (Pass, Put)
+fn first(board: &Board, mut pass: Pass, words: &BasisWords, flag: &AtomicU64) -> (Pass, Put)
     requires board { pass.board ≡ id_of board.now }
     requires formed { IsWellFormed words.now }
     ensures { result.0.board ≡ pass.board }
@@ -42,7 +43,7 @@ fn first(board: &Board, mut pass: Pass, words: &[u64; 49], flag: &AtomicU64) -> 
 fn second(
     board: &Board,
     mut pass: Pass,
-    words: &[u64; 49],
+    words: &BasisWords,
     flag: &AtomicU64,
 ) -> (Pass, Look, Put, Put)
     requires board { pass.board ≡ id_of board.now }

@@ -5,6 +5,7 @@ ghost use Rattle.spec_board.specs.Words.{IsWellFormed};
 
 use basis_board::{Board, Look, Pass, Put};
 use lp_form::well_formed;
+use spec_board::BasisWords;
 use std::alloc::{AllocError, Global};
 use std::test::Fail;
 use std::thread;
@@ -31,7 +32,7 @@ impl Publisher {
         }
     }
 
-    fn publish(&mut self, board: &Board, words: &[u64; 49])
+    fn publish(&mut self, board: &Board, words: &BasisWords)
         requires board { self.old.pass.board ≡ id_of board.now }
         requires formed { IsWellFormed words.now }
         ensures { self.new.pass.board ≡ id_of board.now }
@@ -40,7 +41,7 @@ impl Publisher {
     }
 
     // Whether the words are found at place 0.
-    fn look(&mut self, board: &Board, words: &[u64; 49])
+    fn look(&mut self, board: &Board, words: &BasisWords)
         requires { self.old.pass.board ≡ id_of board.now }
         ensures { self.new.pass.board ≡ id_of board.now }
     {
@@ -73,7 +74,7 @@ fn publishers(alloc: Global, board: &Board, mut first: Pass) -> Result<Vec<Publi
     Ok(all)
 }
 
-fn publish_all<R: Threads + Sync>(rt: &R, board: &Board, words: &[u64; 49], all: &mut [Publisher])
+fn publish_all<R: Threads + Sync>(rt: &R, board: &Board, words: &BasisWords, all: &mut [Publisher])
     requires boards { All (λ one. one.pass.board ≡ id_of board.now) all.old }
     requires formed { IsWellFormed words.now }
     ensures { All (λ one. one.pass.board ≡ id_of board.now) all.new }
@@ -86,7 +87,7 @@ fn publish_all<R: Threads + Sync>(rt: &R, board: &Board, words: &[u64; 49], all:
     );
 }
 
-fn look_all<R: Threads + Sync>(rt: &R, board: &Board, words: &[u64; 49], all: &mut [Publisher])
+fn look_all<R: Threads + Sync>(rt: &R, board: &Board, words: &BasisWords, all: &mut [Publisher])
     requires { All (λ one. one.pass.board ≡ id_of board.now) all.old }
 {
     thread::for_each_mut(

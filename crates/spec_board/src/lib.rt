@@ -7,6 +7,7 @@
 //! | `packed` | these, and 24 words with the status of each column | specs/Words |
 //! | `IsWellFormed` | what holds of 49 words that have a basis | specs/Words |
 //! | `unpacked` | the basis in words | specs/Words |
+//! | `BasisWords`, `ShapeWords` | the words of a basis and of a shape in code | src/words |
 //! | `Place` | a place that is claimed | src/place |
 //! | `Read` | one read or write of the places | src/read |
 //! | `Found` | a place that a look found | src/read |
@@ -25,6 +26,7 @@
 
 mod place;
 mod read;
+mod words;
 
 ghost use Rattle.std.specs.Prelude.{◌≡◌, ◌+◌, ◌<◌, ◌^◌, ℕ, List, length, take, All};
 ghost use Rattle.spec_pivot.specs.declared.status.Status.{Status};
@@ -35,6 +37,7 @@ ghost use Rattle.spec_board.specs.Words.{rows_of, cols_of, bounds_at, form_code,
 
 pub use place::Place;
 pub use read::{Found, Put, Read};
+pub use words::{BasisWords, ShapeWords};
 
 /// The words of a basis give it back.
 pub fn words_give_the_basis()
