@@ -24,6 +24,16 @@ pub fn answer_of(budget: u32, solved: &End) -> Answer<Frac>
     }
 }
 
+/// The pivots and flips that a solve took to its answer, if it has one.
+pub fn pivots_of(solved: &End) -> Option<u64>
+    ensures { result ≡ machine.pivots_of_solved solved.now }
+{
+    match solved {
+        End::Ended { pivots, .. } => Some(*pivots),
+        End::Past(_) | End::Spent => None,
+    }
+}
+
 /// The lines of the certificate of a solve. There are none where it knows nothing of the model.
 pub fn certificate_lines(alloc: Global, model: &Model, solved: &End) -> Result<Texts, AllocError>
     requires { (budget : ℕ) × MayAnswer model.now budget solved.now }

@@ -12,7 +12,7 @@ use crate::working::{how_by, is_found, solved_from, words_of_end};
 use lp_certificate::RawCertificate;
 use lp_form::{Basis, Form, form};
 use lp_frac::{Frac, Fracs};
-use lp_line::{Ask, Refusal, Reply, answer_of, certificate_lines, verdict_on};
+use lp_line::{Ask, Refusal, Reply, answer_of, certificate_lines, pivots_of, verdict_on};
 use lp_model::{Edit, EditError, EditFault, Model, apply};
 use lp_mps::write::{WriteStop, fixed, free};
 use lp_solve::{End, OPENING_BUDGET, solve_formless};
@@ -258,14 +258,5 @@ fn reply_unapplied(error: EditError) -> Reply
         EditError::Fault(EditFault::Repeated(name)) => Reply::Refused(Refusal::Repeated(name)),
         EditError::Fault(EditFault::FreeRow(name)) => Reply::Refused(Refusal::FreeRow(name)),
         EditError::NoMemory => Reply::Memory,
-    }
-}
-
-fn pivots_of(solved: &End) -> Option<u64>
-    ensures { result ≡ machine.pivots_of_solved solved.now }
-{
-    match solved {
-        End::Ended { pivots, .. } => Some(*pivots),
-        End::Past(_) | End::Spent => None,
     }
 }

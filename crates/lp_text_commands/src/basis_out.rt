@@ -3,7 +3,7 @@ ghost use Rattle.std.specs.Prelude.{◌≡◌, ◌++◌, OnOk, Ok, Some};
 ghost use Rattle.spec_exact.specs.Narrow.{number_limit};
 ghost use Rattle.spec_simplex.specs.Form.{form_of};
 ghost use Rattle.spec_solve.specs.Answers.{MayAnswer};
-ghost use Rattle.spec_server.specs.Machine.{opening_budget, pivots_of_solved};
+ghost use Rattle.spec_server.specs.Machine.{opening_budget};
 ghost use Rattle.spec_commands.specs.BasisOut.{BasisOut, final_text};
 ghost use Rattle.spec_server.specs.Output.{check_line};
 ghost use Rattle.spec_server.specs.declared.asks.Reply.TheVariants as replies;
@@ -20,7 +20,7 @@ use lp_bas::write;
 use lp_base::Bytes;
 use lp_check::Known;
 use lp_form::Form;
-use lp_line::{Refusal, Reply, print_said};
+use lp_line::{Refusal, Reply, pivots_of, print_said};
 use lp_model::Model;
 use lp_solve::{End, OPENING_BUDGET, Solved, solved_from_basis, solved_within};
 use spec_commands::BasisFault;
@@ -97,15 +97,6 @@ pub(crate) fn print_formless(alloc: Global, model: &Model, to: &mut Bytes) -> Re
     let printed = print_end(alloc, model, &solved, to);
     drop(solved);
     printed
-}
-
-fn pivots_of(end: &End) -> Option<u64>
-    ensures { result ≡ pivots_of_solved end.now }
-{
-    match end {
-        End::Ended { pivots, .. } => Some(*pivots),
-        End::Past(_) | End::Spent => None,
-    }
 }
 
 // Writes the answer, how it was found, and its certificate.
