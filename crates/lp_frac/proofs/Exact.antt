@@ -1,7 +1,7 @@
 -- A product and a difference whose parts are short are not refused, and what they give.
-use Rattle.std.proofs.Common.{◌≡◌, ◌<◌, ◌≤◌, zero, suc, Some, None, Ok, ℕ, ◌+◌, ◌*◌, ◌/◌, ℤ, pos}
-use Rattle.std.proofs.Common.{neg_ℤ, ◌+ℤ◌, ◌-ℤ◌, ◌*ℤ◌, int_div, unsigned_abs, Bool, true, ◌&&◌}
-use Rattle.std.proofs.Common.{if◌then◌else◌, [], ◌∷◌, le-leb, refl, sym, ap, ap₂, subst, ◌∙◌, arith, SFits}
+use Rattle.std.proofs.Common.{◌≡◌, ◌<◌, ◌≤◌, zero, suc, Some, Ok, ℕ, ◌+◌, ◌*◌, ◌/◌, ℤ, pos}
+use Rattle.std.proofs.Common.{neg_ℤ, ◌+ℤ◌, ◌-ℤ◌, ◌*ℤ◌, int_div, unsigned_abs, true}
+use Rattle.std.proofs.Common.{[], ◌∷◌, le-leb, refl, sym, ap, ap₂, subst, ◌∙◌, arith, SFits}
 use mir.Syntax.{w64}
 use Rattle.std.proofs.Math.Nat.{div-mul_cancel, div-le_self, mul-le-mul}
 use Rattle.std.proofs.Math.Nat.{mul-le-mul_left, mul-le-mul_right, mul-pos, le_trans}
@@ -19,18 +19,12 @@ use Rattle.spec_exact.proofs.Whole.{by_ring}
 use Rattle.spec_exact.proofs.Fraction.{over-same, over_cross, exact_quotient}
 use Rattle.spec_exact.proofs.Limit.{product_exact, sum_exact}
 use Rattle.spec_exact.specs.Narrow.{number_limit}
+use Rattle.spec_exact.proofs.Zero.{four_pass, two_pass}
 use Rattle.lp_frac.specs.Less.{IsSmall, IsShort, IsShortProduct, IsDenominator, less_num, less_den}
 use Rattle.lp_frac.proofs.Sizes.{fitted_size}
 
 test : (n k : ℕ) → n ≤ k → k ≤ number_limit → fits (Some number_limit) n ≡ true
 test n k h g = le-leb n number_limit (le_trans h g)
-
-two_pass : (s t : Bool) (x : ℚ) → s ≡ true → t ≡ true → (if s && t then Some x else None) ≡ Some x
-two_pass s t x e f = rw (e, f) refl
-
-four_pass : (s t u w : Bool) (x : ℚ) → s ≡ true → t ≡ true → u ≡ true → w ≡ true →
-    (if s && t && u && w then Some x else None) ≡ Some x
-four_pass s t u w x e f g h = rw (e, f, g, h) refl
 
 -- ---- a product
 part_le : (a : ℤ) (g : ℕ) → unsigned_abs (int_div a (pos g)) ≤ unsigned_abs a

@@ -10,7 +10,7 @@ use Rattle.spec_exact.specs.Fraction.{ℚ, over, whole, neg_ℚ, ◌≤ℚ◌, �
 use Rattle.spec_exact.proofs.Ring.{◌⊗◌, v0, v1, v2, v3}
 use Rattle.spec_exact.proofs.Whole.{by_ring}
 use Rattle.spec_exact.proofs.Fraction.{over_cross, over-parts}
-use Rattle.spec_exact.proofs.Order.{≤ℚ-over, ≤ℤ-times, ≤ℤ_cancel, lt_test, not_lt_test}
+use Rattle.spec_exact.proofs.Order.{≤ℚ-over, ≤ℤ-times, ≤ℤ_cancel, lt_test, not_lt_test, ≤ℤ_same}
 use Rattle.spec_exact.proofs.Strict.{lt_from_not, ≤ℚ-<ℚ_trans}
 use Rattle.spec_mps.specs.BoundText.{infinite, is_at_least, is_infinity, infinity, as_bound}
 use Rattle.spec_mps.specs.BoundText.{bound_by_value, bound_by, bound_of, bound_answer}
@@ -30,10 +30,6 @@ use Rattle.lp_numtext.specs.declared.parts.Parts.TheVariants as parts
 
 -- ---- the value against 10 ^ 20
 
--- the order of two fractions is that of their cross products
-≤ℤ_by : (a a' b b' : ℤ) → a ≡ a' → b ≡ b' → a ≤ℤ b → a' ≤ℤ b'
-≤ℤ_by a a' b b' e f h = subst₂ (λ (x y : ℤ). x ≤ℤ y) e f h
-
 over_back : (n m : ℤ) (d e : ℕ) → 0 < d → 0 < e → over n d ≤ℚ over m e → (n *ℤ pos e) ≤ℤ (m *ℤ pos d)
 over_back n m d e p q h = by (over n d) (over m e) (over_cross n d p) (over_cross m e q) h
   where
@@ -41,7 +37,7 @@ over_back n m d e p q h = by (over n d) (over m e) (over_cross n d p) (over_cros
         (n *ℤ pos e) ≤ℤ (m *ℤ pos d)
     by x y a b h =
         ≤ℤ_cancel _ _ (x.den * y.den) (mul-pos x.positive y.positive)
-        (≤ℤ_by _ _ _ _
+        (≤ℤ_same _ _ _ _
         (by_ring (x.num ∷ pos y.den ∷ pos d ∷ pos e ∷ []) (v0 ⊗ v1 ⊗ (v2 ⊗ v3)) (v0 ⊗ v2 ⊗ (v1 ⊗ v3)) refl
         ∙ ap (λ z. z *ℤ pos (y.den * e)) (sym a)
         ∙ by_ring (n ∷ pos x.den ∷ pos y.den ∷ pos e ∷ []) (v0 ⊗ v1 ⊗ (v2 ⊗ v3)) (v0 ⊗ v3 ⊗ (v1 ⊗ v2)) refl)

@@ -6,6 +6,7 @@ use Rattle.std.proofs.lemmas.Bool.{le-leb, lt-leb}
 use Rattle.std.proofs.Math.Nat.{le-div_iff_mul-le, div-lt_iff_lt-mul}
 use borrow.Author.Differences.{at_most_in, below_in, lt-true, lt-false}
 use Rattle.spec_exact.specs.Fraction.{ℚ, neg_ℚ, whole, lt_ℚ}
+use Rattle.spec_exact.proofs.Signs.{above_size}
 use Rattle.spec_presolve.specs.Choose.{is_far}
 
 -- k, over d, against the whole number n
@@ -24,10 +25,6 @@ turned_is : (n : ℤ) → int_lt n (pos 0) ≡ true → neg_ℤ n ≡ pos (unsig
 turned_is (pos k) e = let h : pos k <ℤ pos 0 = below_in (pos k) (pos 0) (lt-true (pos k) (pos 0) e) in absurd (omega (arith, ints, h))
 turned_is (negsuc k) e = refl
 
-same_is : (n : ℤ) → int_lt n (pos 0) ≡ false → n ≡ pos (unsigned_abs n)
-same_is (pos k) e = refl
-same_is (negsuc k) e = let h : pos 0 ≤ℤ negsuc k = at_most_in (pos 0) (negsuc k) (lt-false (negsuc k) (pos 0) e) in absurd (omega (arith, ints, h))
-
 pub far_size : (q : ℚ) → leb q.den (unsigned_abs q.num / 100000000000000000000) ≡ is_far (Some q)
 unfolding lt_ℚ whole neg_ℚ
 far_size q = by (int_lt q.num (pos 0)) refl
@@ -39,4 +36,4 @@ far_size q = by (int_lt q.num (pos 0)) refl
         ∙ ap (λ n. not (int_lt (n *ℤ pos 1) (pos 100000000000000000000 *ℤ pos q.den))) (sym (turned_is q.num e))
     by false e =
         far_parts (unsigned_abs q.num) q.den 100000000000000000000 (omega arith)
-        ∙ ap (λ n. not (int_lt (n *ℤ pos 1) (pos 100000000000000000000 *ℤ pos q.den))) (sym (same_is q.num e))
+        ∙ ap (λ n. not (int_lt (n *ℤ pos 1) (pos 100000000000000000000 *ℤ pos q.den))) (sym (above_size q.num e))

@@ -2,13 +2,13 @@
 -- since an operand 0 is never refused.
 use Rattle.std.proofs.Common.{◌≡◌, ◌≢◌, ℕ, zero, suc, ◌+◌, ◌-◌, ◌<◌, ◌≤◌, List, [], ◌∷◌, length, take}
 use Rattle.std.proofs.Common.{get_or, set, slice_get, All, Some, Ok, Bool, true, false, cond, nat_eq, nat_lt}
-use Rattle.std.proofs.Common.{refl, sym, ap, ◌∙◌, subst, arith, eq-eqb, ne_eqb, lt-ltb, le-ltb, lit≤}
+use Rattle.std.proofs.Common.{refl, sym, ap, ◌∙◌, subst, arith, eq-eqb, ne_eqb, lt-ltb, le-ltb}
 use Rattle.std.specs.List.{AllPairs}
 use Rattle.std.proofs.lemmas.List.{take_more, take_more_set, length-set, get_or-set_other}
 use Rattle.std.proofs.lemmas.List.Elements.{All-get_or, All-more, All-head, All-tail}
 use Rattle.std.proofs.lemmas.Option.{get_or_from_slice_get}
 use Rattle.std.proofs.Math.Seq.{take-length}
-use Rattle.spec_exact.specs.Fraction.{ℚ, 0ℚ, eq_ℚ, whole}
+use Rattle.spec_exact.specs.Fraction.{ℚ, 0ℚ, eq_ℚ}
 use Rattle.spec_exact.specs.Laws.{IsWithin}
 use Rattle.spec_exact.specs.Narrow.{IsNarrow, number_limit}
 use Rattle.spec_exact.specs.Answer.{told}
@@ -20,6 +20,7 @@ use Rattle.spec_model.specs.Kept.{AreEntries}
 use Rattle.spec_pivot.proofs.Pivot.{by_eq}
 use Rattle.spec_exact.specs.Run.{Run, ◌>>=◌, difference_run, less_product, steps, list_run}
 use Rattle.spec_exact.proofs.Stops.{list_more, steps_more}
+use Rattle.spec_exact.proofs.Narrow.{zero_narrow}
 use Rattle.spec_path.proofs.Lists.{by_lt}
 
 abbrev pub Entries : Type 0
@@ -66,10 +67,6 @@ entry_there (e ∷ es) h (suc c) l =
     let first : e.0 < row_at es c = h 0 (suc c) (0, 0ℚ) (omega arith) (omega (arith, l)) in
     rw (ne_eqb e.0 (row_at es c) (λ d. let z : ⊥ = omega (arith, first, d) in z))
     (entry_there es (λ i j d lt k. h (suc i) (suc j) d (omega (arith, lt)) (omega (arith, k))) c (omega (arith, l)))
-
-zero_narrow : IsNarrow 0ℚ
-unfolding whole
-zero_narrow = record { top = lit≤ tt; bottom = lit≤ tt }
 
 pub entry_narrow : (es : Entries) → All (λ e. IsNarrow e.1) es → (i : ℕ) → IsNarrow (entry_of es i)
 entry_narrow [] h i = zero_narrow

@@ -5,9 +5,7 @@ use Rattle.std.proofs.Common.{Ok, Err, Bool, true, false, cond, int_lt, pos, nat
 use Rattle.std.proofs.Common.{Less, Equal, Greater, refl, sym, subst, ap, ◌∙◌, arith}
 use Rattle.spec_exact.specs.Fraction.{ℚ, 0ℚ, ◌+ℚ◌, ◌-ℚ◌, ◌*ℚ◌, neg_ℚ, abs_ℚ, lt_ℚ, ◌<ℚ◌}
 use Rattle.spec_exact.specs.Limit.{div, sub}
-use Rattle.spec_exact.specs.Answer.{told}
 use Rattle.spec_exact.specs.declared.past.Past.{Past}
-use Rattle.spec_exact.specs.declared.past.Op.{Op}
 use Rattle.spec_exact.specs.declared.past.Op.TheVariants.{Sub, Div}
 use Rattle.spec_exact.proofs.Limit.{sub_gives, div_exact}
 use Rattle.spec_exact.proofs.Order.{lt_if, not_lt_test, <ℚ-le}
@@ -24,16 +22,13 @@ use Rattle.spec_simplex.specs.Step.{better_by, better_run, with_gap, best_with, 
 use Rattle.spec_exact.proofs.Stops.{steps_stop}
 use Rattle.spec_exact.proofs.Signs.{negative_test}
 use Rattle.spec_exact.proofs.Sizes.{abs_below, turned_down, turned_back}
+use Rattle.spec_exact.proofs.Results.{told_ok}
 
 -- ---- results of operations
 pub then_ok : {A B E : Type 0} (o : Result A E) (next : A → Result B E) (b : B) → (o >>= next) ≡ Ok b →
     (a : A) × (o ≡ Ok a) × (next a ≡ Ok b)
 then_ok (Ok a) next b h = (a, refl, h)
 then_ok (Err e) next b h = cc
-
-told_ok : {A : Type 0} (op : Op) (v w : ℚ) (o : Option A) (a : A) → told op v w o ≡ Ok a → o ≡ Some a
-told_ok op v w (Some b) a h = cc
-told_ok op v w None a h = cc
 
 pub difference_ok : (limit : Option ℕ) (v w x : ℚ) → difference_run limit v w ≡ Ok x → x ≡ v -ℚ w
 difference_ok limit v w x h = sub_gives limit v w x (told_ok Sub v w (sub limit v w) x h)

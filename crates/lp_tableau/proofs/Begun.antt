@@ -21,7 +21,7 @@ use Rattle.spec_simplex.specs.Start.{row_start, first_costs, priced_run, with_re
 use Rattle.spec_simplex.specs.Start.{start_row, start_basic, start_entry, start_value, start_status, start_at}
 use Rattle.spec_simplex.specs.Eliminate.{equation}
 use Rattle.spec_simplex.specs.Start.{is_wanting, artificial_upper, one_at, logical_sign, structural_entry}
-use Rattle.spec_exact.proofs.Stops.{length-made, All-made, get_or-made}
+use Rattle.spec_exact.proofs.Stops.{length-made, All-made, get_or-made, made_same}
 use Rattle.lp_tableau.specs.Grid.{rows_of, flat, IsBlock}
 use Rattle.lp_tableau.specs.Parts.{tableau_of}
 use Rattle.lp_tableau.specs.Begun.{is_below, priced_start, start_front}
@@ -120,11 +120,6 @@ module _ (f : Form) (starts : List (RowStart ℚ)) (w m : ℕ) (xs : List ℚ)
 
   pub grid_block : IsForm f → IsBlock m w xs
   grid_block g = subst₂ (λ n k. IsBlock n k xs) (sym b) (sym a) (block_is f starts xs g e)
-
-made_same : {A : Type 0} (n : ℕ) (f g : ℕ → A) → ((i : ℕ) → i < n → f i ≡ g i) → made n f ≡ made n g
-made_same zero f g h = refl
-made_same (suc n) f g h =
-    ap₂ (λ xs x. xs ++ x ∷ []) (made_same n f g (λ i l. h i (omega (arith, l)))) (h n (omega arith))
 
 -- where each row is within its limits
 pub equations_are : (f : Form) (starts : List (RowStart ℚ)) → starts ≡ replicate f.rows (Within 0ℚ) →

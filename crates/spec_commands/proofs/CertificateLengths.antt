@@ -5,6 +5,7 @@ use Rattle.std.proofs.Common.{length-append, arith}
 use Rattle.std.specs.Prelude.{codes, All}
 use Rattle.spec_exact.specs.Fraction.{ℚ, 0ℚ, eq_ℚ}
 use Rattle.spec_exact.specs.Narrow.{IsNarrow}
+use Rattle.spec_exact.proofs.Narrow.{zero_narrow}
 use Rattle.spec_text.specs.Lines.{input_limit}
 use Rattle.spec_model.specs.Model.{Model, Name, width, height, row, column, part}
 use Rattle.spec_model.specs.Kept.{IsModel, is_name}
@@ -12,7 +13,6 @@ use Rattle.spec_mps.specs.declared.style.Style.{Style}
 use Rattle.spec_mps.specs.NumberWritten.{number_text}
 use Rattle.spec_mps.specs.Written.{cards_of}
 use Rattle.spec_mps.specs.Written.{cards_text}
-use Rattle.spec_mps.proofs.NarrowNumbers.{zero_narrow}
 use Rattle.spec_check.specs.declared.certificate.Letter.{Letter}
 use Rattle.spec_check.specs.declared.certificate.Letter.TheVariants.{X, Y, R}
 use Rattle.spec_check.specs.declared.certificate.Certificate.{Certificate}

@@ -9,7 +9,7 @@ use Rattle.spec_exact.specs.Fraction.{ℚ, 0ℚ, 1ℚ, neg_ℚ, lt_ℚ}
 use Rattle.spec_exact.specs.Narrow.{IsNarrow, number_limit}
 use Rattle.spec_exact.specs.Run.{Run, ◌>>=◌, refused_as, sum_run, difference_run, quotient_run, order_run}
 use Rattle.spec_exact.specs.Run.{less_product}
-use Rattle.spec_exact.proofs.Narrow.{neg_narrow}
+use Rattle.spec_exact.proofs.Narrow.{neg_narrow, zero_narrow}
 use Rattle.spec_exact.proofs.Stops.{All-made}
 use Rattle.spec_model.specs.declared.parts.Sense.{Sense}
 use Rattle.spec_model.specs.declared.parts.Sense.TheVariants.{Min, Max}
@@ -26,7 +26,7 @@ use Rattle.spec_simplex.specs.Eliminate.{position_run, valued_run, with_values, 
 use Rattle.spec_simplex.specs.Fit.{is_there}
 use Rattle.spec_simplex.specs.Dual.{place_of}
 use Rattle.spec_path.proofs.Runs.{then_ok, refused_ok, steps_ok}
-use Rattle.spec_solve.proofs.NarrowRuns.{zero_narrow, sum_narrow, difference_narrow, less_narrow}
+use Rattle.spec_solve.proofs.NarrowRuns.{sum_narrow, difference_narrow, less_narrow}
 use Rattle.spec_solve.proofs.NarrowSteps.{NarrowBound, number_at, bound_at, stand_narrow}
 use Rattle.spec_solve.proofs.NarrowStart.{IsNarrowModel, IsNarrowForm, form_narrow, priced_narrow}
 use Rattle.spec_range.specs.declared.range.Ends.{Ends}

@@ -13,13 +13,13 @@ use Rattle.spec_text.specs.Lines.{line_of, ended_lines_of}
 use Rattle.spec_text.proofs.LineLemmas.{ended_lines_of_line, line_short}
 use Rattle.spec_exact.specs.Fraction.{ℚ, 0ℚ, eq_ℚ}
 use Rattle.spec_exact.specs.Narrow.{IsNarrow}
+use Rattle.spec_exact.proofs.Narrow.{zero_narrow}
 use Rattle.spec_model.specs.declared.parts.Sense.TheVariants.{Min}
 use Rattle.spec_model.specs.Model.{Model, Name, ExactColumn, no_row, no_column, width, height, row, column, part}
 use Rattle.spec_model.specs.Kept.{IsModel, IsKeptColumn, IsNarrowRow, IsNarrowColumn, is_name, is_row_name}
 use Rattle.spec_model.specs.Kept.{is_model_name}
 use Rattle.spec_mps.specs.NumberWritten.{number_text}
 use Rattle.spec_mps.specs.Written.{cards_of, rows_cards, columns_cards, section_card}
-use Rattle.spec_mps.proofs.NarrowNumbers.{zero_narrow}
 use Rattle.spec_mps.proofs.WrittenSteps.{IsPlainLine}
 use Rattle.spec_mps.proofs.WrittenShort.{IsShort, cards_short, name_short}
 use Rattle.spec_mps.proofs.WrittenWords.{is_plain, stripped_plain}

@@ -7,6 +7,7 @@ use Rattle.std.proofs.lemmas.Int.{ints}
 use Rattle.std.proofs.lemmas.List.Elements.{All-nil, All-head, All-tail}
 use Rattle.spec_exact.specs.Fraction.{ℚ, 0ℚ, whole}
 use Rattle.spec_exact.specs.Narrow.{IsNarrow}
+use Rattle.spec_exact.proofs.Narrow.{zero_narrow}
 use Rattle.spec_model.specs.Model.{Model, Name, width, height}
 use Rattle.spec_model.specs.Kept.{IsModel, IsBound, IsKeptColumn, IsNarrowColumn}
 use Rattle.spec_model.specs.Kept.{AreEntries, is_name, column_limit, row_place}
@@ -55,10 +56,6 @@ entries_of-narrow m before (p ∷ pairs) es out h k narrow =
 pub zero_bound : IsBound (Some 0ℚ)
 unfolding whole
 zero_bound = record { below = omega (arith, ints) }
-
-pub zero_narrow : IsNarrow 0ℚ
-unfolding whole
-zero_narrow = record { top = omega arith; bottom = omega arith }
 
 no_entries : (n : ℕ) → AreEntries n []
 no_entries n =

@@ -1,6 +1,9 @@
 -- What equal results have in common, over plain variables: `cc` reads all that is in scope, which is slow beside a
 -- tableau.
-use Rattle.std.proofs.Common.{◌≡◌, Result, Ok, Err}
+use Rattle.std.proofs.Common.{◌≡◌, Result, Ok, Err, Option, Some, None}
+use Rattle.spec_exact.specs.Fraction.{ℚ}
+use Rattle.spec_exact.specs.Answer.{told}
+use Rattle.spec_exact.specs.declared.past.Op.{Op}
 
 pub ok_same : {A E : Type 0} (a b : A) → ◌≡◌ {A = Result A E} (Ok a) (Ok b) → a ≡ b
 ok_same a b h = cc
@@ -13,3 +16,7 @@ ok_not_err a e h = cc
 
 pub err_same : {A E : Type 0} (d e : E) → ◌≡◌ {A = Result A E} (Err d) (Err e) → d ≡ e
 err_same d e h = cc
+
+pub told_ok : {A : Type 0} (op : Op) (v w : ℚ) (o : Option A) (a : A) → told op v w o ≡ Ok a → o ≡ Some a
+told_ok op v w (Some b) a h = cc
+told_ok op v w None a h = cc

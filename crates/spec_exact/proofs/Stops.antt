@@ -1,7 +1,7 @@
 -- Runs over places in order, step by step: one more place, and a refusal at a place,
 -- which stays so at the places after it.
 use Rattle.std.proofs.Common.{◌≡◌, ℕ, zero, suc, ◌+◌, ◌-◌, ◌<◌, List, [], ◌∷◌, ◌++◌, length}
-use Rattle.std.proofs.Common.{get_or, Result, Ok, Err, ⊎_elim, refl, sym, subst, ap, ◌∙◌, arith, add-one}
+use Rattle.std.proofs.Common.{get_or, Result, Ok, Err, ⊎_elim, refl, sym, subst, ap, ◌∙◌, arith, add-one, ap₂}
 use Rattle.std.proofs.lemmas.Bool.{cases_eq}
 use Rattle.std.proofs.lemmas.List.{length-append}
 use Rattle.std.proofs.lemmas.List.Elements.{All-nil, All-push}
@@ -71,6 +71,11 @@ length-made (suc n) f = omega (arith, length-append (made n f) (f n ∷ []), len
 -- one more item
 pub made_more : {A : Type 0} (k : ℕ) (f : ℕ → A) (xs : List A) → xs ≡ made k f → xs ++ f k ∷ [] ≡ made (k + 1) f
 made_more k f xs h = ap (λ ys. ys ++ f k ∷ []) h ∙ ap (λ i. made i f) (sym (add-one k))
+
+pub made_same : {A : Type 0} (n : ℕ) (f g : ℕ → A) → ((i : ℕ) → i < n → f i ≡ g i) → made n f ≡ made n g
+made_same zero f g h = refl
+made_same (suc n) f g h =
+    ap₂ (λ xs x. xs ++ x ∷ []) (made_same n f g (λ i l. h i (omega (arith, l)))) (h n (omega arith))
 
 pub length-list_run : {A : Type 0} (n : ℕ) (f : ℕ → Run A) (xs : List A) → list_run n f ≡ Ok xs → length xs ≡ n
 length-list_run zero f xs e = let g : xs ≡ [] = cc in ap length g

@@ -3,9 +3,9 @@ use Rattle.std.proofs.Common.{◌≡◌, ◌≢◌, ℕ, ◌+◌, ◌-◌, ◌<�
 use Rattle.std.proofs.Common.{Ok, Err, Bool, true, false, cond, ◌&&◌, nat_le, refl, sym, ap, ◌∙◌, subst, arith}
 use Rattle.std.proofs.lemmas.Bool.{le-leb, lt-leb, leb-true, and_parts}
 use Rattle.std.proofs.lemmas.List.{length-map, get_or-map}
-use Rattle.spec_exact.specs.Fraction.{ℚ, ◌*ℚ◌, ◌<ℚ◌, 0ℚ, 1ℚ}
+use Rattle.spec_exact.specs.Fraction.{ℚ, ◌*ℚ◌, 0ℚ}
 use Rattle.spec_exact.proofs.Ruleset.{zero-*ℚ}
-use Rattle.spec_exact.proofs.Strict.{zero-lt-one, <ℚ_irrefl}
+use Rattle.spec_exact.proofs.Strict.{one-not-zero}
 use Rattle.spec_exact.proofs.Sums.{sum_below_none}
 use Rattle.spec_pivot.specs.declared.status.Status.{Status}
 use Rattle.spec_pivot.specs.declared.status.Status.TheVariants.{Basic}
@@ -31,9 +31,6 @@ use Rattle.spec_factor.proofs.Choosing.{chosen_column, Took, took_all, basic_if}
 use Rattle.spec_factor.proofs.Factored.{are_factors, all_dependent, independent}
 use Rattle.spec_factor.proofs.FactorLimits.{choose_agrees}
 use Rattle.spec_factor.specs.Same.{Places, bare_with, state, GoesWith}
-
-one-not-zero : ¬ (1ℚ ≡ 0ℚ)
-one-not-zero e = <ℚ_irrefl 0ℚ (subst (λ a. 0ℚ <ℚ a) e zero-lt-one)
 
 -- the same columns, read in another way
 pub stands_as : (m : ℕ) (pairs : List Pair) (a c : Matrix) → StandsFor m pairs a →

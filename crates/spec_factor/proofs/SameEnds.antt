@@ -1,5 +1,5 @@
 -- Where a step over factors ends the run, its certificate and its basis are the tableau's.
-use Rattle.std.proofs.Common.{◌≡◌, ◌≢◌, ⊎_elim, ℕ, zero, suc, ◌+◌, ◌<◌, ◌≤◌, List, [], ◌∷◌, ◌++◌, length, get_or}
+use Rattle.std.proofs.Common.{◌≡◌, ◌≢◌, ⊎_elim, ℕ, zero, suc, ◌+◌, ◌<◌, ◌≤◌, List, length, get_or}
 use Rattle.std.proofs.Common.{Option, None, Ok, Bool, cond, nat_eq, refl, sym, ap, ap₂, ◌∙◌, subst, arith}
 use Rattle.spec_exact.specs.Fraction.{ℚ, ◌-ℚ◌, ◌*ℚ◌, neg_ℚ, 0ℚ}
 use Rattle.spec_exact.proofs.Field.{*ℚ_comm}
@@ -19,6 +19,7 @@ use Rattle.spec_simplex.specs.declared.ends.PrimalEnd.TheVariants.{Optimal, Unbo
 use Rattle.spec_simplex.specs.declared.ends.Choice.TheVariants.{End}
 use Rattle.spec_simplex.specs.Form.{Form}
 use Rattle.spec_exact.specs.Run.{made}
+use Rattle.spec_exact.proofs.Stops.{made_same}
 use Rattle.spec_simplex.specs.Start.{cost_at}
 use Rattle.spec_simplex.specs.Step.{directed, choice_run}
 use Rattle.spec_simplex.specs.Tableau.{Tableau, basic_at, entry_at, reduced_at, status_at}
@@ -38,11 +39,6 @@ use Rattle.spec_factor.specs.Same.{Places, bare_with}
 use Rattle.spec_factor.proofs.SameChoices.{both}
 use Rattle.spec_factor.proofs.Whole.{multiplier, price, price_is}
 use Rattle.spec_factor.proofs.Selection.{SameColumn, W, W_is, Sees, SeesFor, SelectionRuns}
-
-made_same : {A : Type 0} (n : ℕ) (f g : ℕ → A) → ((i : ℕ) → i < n → f i ≡ g i) → made n f ≡ made n g
-made_same zero f g h = refl
-made_same (suc n) f g h =
-    ap₂ (λ xs x. xs ++ x ∷ []) (made_same n f g (λ i l. h i (omega (arith, l)))) (h n (omega arith))
 
 -- ---- two tableaus of one basis have the same ray
 module _ (m n : ℕ) (f : Matrix) (cost : ℕ → ℚ) (b : Bounds) (t u : Tableau) (st : IsTableauOf m n f cost b t)

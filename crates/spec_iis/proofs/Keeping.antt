@@ -8,6 +8,7 @@ use Rattle.spec_exact.specs.Fraction.{ℚ}
 use Rattle.spec_exact.specs.Narrow.{IsNarrow}
 use Rattle.spec_exact.specs.Run.{made}
 use Rattle.spec_exact.proofs.Stops.{length-made, get_or-made}
+use Rattle.spec_exact.proofs.Narrow.{zero_narrow}
 use Rattle.spec_model.specs.Model.{Model, Name, ExactRow, ExactColumn, no_row, no_column, width, height, row, column, limits_of}
 use Rattle.spec_model.specs.Kept.{IsModel, IsKeptColumn, IsNarrowRow, IsNarrowColumn, IsBound, FitsKind}
 use Rattle.spec_model.specs.Kept.{is_row_name, row_names, column_names}
@@ -15,7 +16,6 @@ use Rattle.spec_iis.specs.declared.side.Side.{Side}
 use Rattle.spec_iis.specs.Only.{has_lower, has_upper, stays, with_sides, only_row, picked, rank, only_row_at}
 use Rattle.spec_iis.specs.Only.{if_listed, only_column_at, only}
 use Rattle.spec_iis.proofs.Picked.{length-picked, All-picked, map-picked, AllPairs-picked, rank_few}
-use Rattle.spec_edit.proofs.NewColumns.{zero_narrow}
 use Rattle.spec_iis.proofs.Entries.{only_entries-kept, only_entries-narrow}
 
 name_of_only : (lower upper : Bool) (r : ExactRow) → (only_row lower upper r).name ≡ r.name

@@ -3,18 +3,13 @@ use Rattle.std.proofs.Common.{◌≡◌, ℕ, Option, Some, None, Ok, Err, refl,
 use Rattle.spec_exact.specs.Fraction.{ℚ, ◌+ℚ◌, ◌-ℚ◌}
 use Rattle.spec_exact.specs.Limit.{add, sub}
 use Rattle.spec_exact.specs.Answer.{told}
-use Rattle.spec_exact.specs.declared.past.Op.{Op}
 use Rattle.spec_exact.specs.declared.past.Op.TheVariants.{Add, Sub}
 use Rattle.spec_exact.specs.Run.{Run, ◌>>=◌, sum_run, difference_run}
 use Rattle.spec_exact.proofs.Limit.{add_gives, add_unlimited, sub_gives, sub_unlimited}
-use Rattle.spec_exact.proofs.Results.{ok_same, err_not_ok}
+use Rattle.spec_exact.proofs.Results.{ok_same, err_not_ok, told_ok}
 use Rattle.spec_model.specs.declared.parts.RowLimit.{RowLimit}
 use Rattle.spec_model.specs.declared.parts.RowLimit.TheVariants.{Absent, Given, Sum, Difference}
 use Rattle.spec_model.specs.Model.{limit_of, limit_run}
-
-told_ok : (op : Op) (v w : ℚ) (o : Option ℚ) (x : ℚ) → told op v w o ≡ Ok x → o ≡ Some x
-told_ok op v w (Some y) x h = ap Some (ok_same y x h)
-told_ok op v w None x h = err_not_ok _ x h
 
 some_ok : (o : Run ℚ) (v : ℚ) → ((x : ℚ) → o ≡ Ok x → x ≡ v) → (l : Option ℚ) → (o >>= λ x. Ok (Some x)) ≡ Ok l →
     l ≡ Some v

@@ -1,14 +1,13 @@
 -- Numbers that texts are read as are of 127 bits.
-use Rattle.std.proofs.Common.{◌≡◌, ℕ, zero, suc, ◌*◌, ◌/◌, ◌^◌, ◌≤◌, Bool, true, false, cond, not, Option, Some}
-use Rattle.std.proofs.Common.{None, List, ℤ, pos, negsuc, int_div, unsigned_abs, refl, sym, ap, subst, arith}
+use Rattle.std.proofs.Common.{◌≡◌, ℕ, zero, suc, ◌*◌, ◌^◌, ◌≤◌, Bool, true, false, cond, not, Option, Some}
+use Rattle.std.proofs.Common.{None, List, ℤ, pos, negsuc, unsigned_abs, refl, sym, ap, subst, arith}
 use Rattle.std.specs.Prelude.{nat_le}
-use Rattle.std.proofs.Math.Nat.{div-le_self}
 use Rattle.std.proofs.lemmas.Bool.{and_parts}
 use borrow.Author.Tests.{leb-true}
-use Rattle.spec_exact.specs.Fraction.{ℚ, 0ℚ, whole, over, neg_ℚ, lt_ℚ}
-use Rattle.spec_exact.specs.Gcd.{gcd}
+use Rattle.spec_exact.specs.Fraction.{ℚ, whole, neg_ℚ, lt_ℚ}
 use Rattle.spec_exact.specs.Narrow.{IsNarrow, number_limit}
-use Rattle.spec_exact.specs.Quotients.{abs-int_div, abs-neg_ℤ}
+use Rattle.spec_exact.specs.Quotients.{abs-neg_ℤ}
+use Rattle.spec_exact.proofs.Narrow.{zero_narrow, over_narrow}
 use Rattle.spec_mps.specs.NumberText.{NumberParts, Decimal, Quotient, NumberReading, Is, Wide, signed, parts_of}
 use Rattle.spec_mps.specs.NumberText.{value_of, is_narrow, number_by, number_of, is_negative, without_sign}
 use Rattle.spec_mps.specs.NumberText as number
@@ -18,24 +17,9 @@ use Rattle.spec_mps.proofs.RoundTrip.{zero_value}
 
 -- ---- fractions
 
-pub zero_narrow : IsNarrow 0ℚ
-unfolding whole
-zero_narrow = record { top = omega arith; bottom = omega arith }
-
 whole_narrow : (n : ℤ) → unsigned_abs n ≤ number_limit → IsNarrow (whole n)
 unfolding whole
 whole_narrow n h = record { top = h; bottom = omega arith }
-
--- lowest terms are no wider
-over_narrow : (n : ℤ) (d : ℕ) → unsigned_abs n ≤ number_limit → d ≤ number_limit → IsNarrow (over n d)
-unfolding over
-over_narrow n zero h k = zero_narrow
-over_narrow n (suc d) h k =
-    let g : ℕ = gcd (unsigned_abs n) (suc d) in
-    let less : unsigned_abs n / g ≤ unsigned_abs n = div-le_self (unsigned_abs n) g in
-    let low : suc d / g ≤ suc d = div-le_self (suc d) g in
-    let size : unsigned_abs (int_div n (pos g)) ≡ unsigned_abs n / g = abs-int_div n g in
-    record { top = subst (λ k. k ≤ number_limit) (sym size) (omega arith); bottom = omega arith }
 
 -- ---- numbers
 

@@ -4,6 +4,7 @@ use Rattle.std.proofs.Common.{option_map, Ok, List, [], ◌∷◌, ◌++◌, All
 use Rattle.std.proofs.lemmas.List.Elements.{All-nil, All-cons, All-head, All-tail, All-push}
 use Rattle.spec_exact.specs.Fraction.{ℚ, 0ℚ, eq_ℚ}
 use Rattle.spec_exact.specs.Narrow.{IsNarrow}
+use Rattle.spec_exact.proofs.Narrow.{zero_narrow}
 use Rattle.spec_model.specs.declared.parts.Kind.{Kind}
 use Rattle.spec_model.specs.Model.{Name, ExactRow, ExactColumn}
 use Rattle.spec_model.specs.Kept.{IsNarrowRow, IsNarrowColumn}
@@ -17,7 +18,7 @@ use Rattle.spec_mps.specs.Sides.{changed_at}
 use Rattle.spec_mps.specs.Bounds.{BoundCard, SetsUpper, SetsLower, SetsBoth, is_negative, bounded}
 use Rattle.spec_mps.proofs.CheckSteps.{same_ok}
 use Rattle.spec_mps.proofs.BoundsSet.{SetsAll}
-use Rattle.spec_mps.proofs.NarrowNumbers.{zero_narrow, number_narrow}
+use Rattle.spec_mps.proofs.NarrowNumbers.{number_narrow}
 
 -- the offset, the rows, the columns that are whole, and the one that cards are read of
 pub record AreNarrow (o : ℚ) (rs : List ExactRow) (cs : List ExactColumn) (c : Option ExactColumn) : Type 0 where

@@ -4,8 +4,7 @@ use Rattle.std.proofs.Common.{cond, option_map, IfSome, refl, sym, ◌∙◌, su
 use Rattle.spec_exact.specs.Fraction.{ℚ, ◌-ℚ◌, ◌*ℚ◌, neg_ℚ, inverse, 0ℚ, 1ℚ, ◌≤ℚ◌, ◌<ℚ◌, lt_ℚ}
 use Rattle.spec_exact.specs.Sums.{sum_below}
 use Rattle.spec_exact.proofs.Order.{≤ℚ_refl, <ℚ-le, lt_if, le_if_not}
-use Rattle.spec_exact.proofs.Ruleset.{neg-zero}
-use Rattle.spec_exact.proofs.Strict.{zero-lt-one, neg_strict}
+use Rattle.spec_exact.proofs.Strict.{zero-lt-one, neg-one-lt-zero}
 use Rattle.spec_pivot.specs.declared.status.Status.{Status}
 use Rattle.spec_pivot.specs.declared.status.Status.TheVariants.{Basic, AtLower, AtUpper, AtZero}
 use Rattle.spec_pivot.specs.declared.status.Way.{Way}
@@ -62,9 +61,6 @@ still_allowed l u r e =
       upper = if_all (λ _. 0ℚ ≤ℚ 0ℚ) u (λ _. ≤ℚ_refl 0ℚ);
     })
 
-below-zero : neg_ℚ 1ℚ <ℚ 0ℚ
-below-zero = subst (λ a. neg_ℚ 1ℚ <ℚ a) neg-zero (neg_strict 0ℚ 1ℚ zero-lt-one)
-
 -- the entering column itself
 own_allowed : (l u : Option ℚ) (v : ℚ) (way : Way) (s : Status) → CanMove way s → Stands s l u v →
     (l ≡ None) ⊎ (u ≡ None) → IsFree l u (sign way)
@@ -76,12 +72,12 @@ own_allowed l u v Up AtZero c s o =
     record { lower = if_all (λ _. 0ℚ ≤ℚ 1ℚ) l (λ _. <ℚ-le 0ℚ 1ℚ zero-lt-one); upper = if_none (λ _. 1ℚ ≤ℚ 0ℚ) u s.1 }
 own_allowed l u v Down AtUpper c s o = record {
   lower = if_none (λ _. 0ℚ ≤ℚ neg_ℚ 1ℚ) l (⊎_elim (λ n. n) (λ n. let z : Some v ≡ None = sym s ∙ n in cc) o);
-  upper = if_all (λ _. neg_ℚ 1ℚ ≤ℚ 0ℚ) u (λ _. <ℚ-le _ _ below-zero);
+  upper = if_all (λ _. neg_ℚ 1ℚ ≤ℚ 0ℚ) u (λ _. <ℚ-le _ _ neg-one-lt-zero);
 }
 own_allowed l u v Down AtZero c s o =
     record {
       lower = if_none (λ _. 0ℚ ≤ℚ neg_ℚ 1ℚ) l s.0;
-      upper = if_all (λ _. neg_ℚ 1ℚ ≤ℚ 0ℚ) u (λ _. <ℚ-le _ _ below-zero);
+      upper = if_all (λ _. neg_ℚ 1ℚ ≤ℚ 0ℚ) u (λ _. <ℚ-le _ _ neg-one-lt-zero);
     }
 own_allowed l u v Up Basic c s o = absurd c
 own_allowed l u v Up AtUpper c s o = absurd c

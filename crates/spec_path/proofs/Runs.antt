@@ -1,15 +1,13 @@
 -- What is known of a run's parts where it gives a result: each of them gave one, and operations gave the exact ones. So
 -- all that follows holds at each limit.
 use Rattle.std.proofs.Common.{◌≡◌, ℕ, zero, suc, ◌<◌, List, [], ◌∷◌, ◌++◌, length, get_or, Option}
-use Rattle.std.proofs.Common.{Some, None, Result, Ok, Err, refl, sym, ap, ◌∙◌, subst, arith}
+use Rattle.std.proofs.Common.{Result, Ok, Err, refl, sym, ap, ◌∙◌, subst, arith}
 use Rattle.std.specs.declared.cmp.Ordering.{Ordering}
 use Rattle.std.proofs.lemmas.List.{length-append}
 use Rattle.std.proofs.Math.ListN.{get_or-append}
 use Rattle.std.proofs.Math.Seq.{get_or-append_seam}
 use Rattle.spec_exact.specs.Fraction.{ℚ, ◌+ℚ◌, ◌-ℚ◌, ◌*ℚ◌, inverse}
 use Rattle.spec_exact.specs.Limit.{add, sub, mul, div, compare, order}
-use Rattle.spec_exact.specs.Answer.{told}
-use Rattle.spec_exact.specs.declared.past.Op.{Op}
 use Rattle.spec_exact.specs.declared.past.Op.TheVariants.{Add, Sub, Mul, Div, Cmp}
 use Rattle.spec_exact.specs.declared.past.Past.{Past}
 use Rattle.spec_exact.proofs.Limit.{add_gives, sub_gives, mul_gives, div_gives}
@@ -18,6 +16,7 @@ use Rattle.spec_pivot.proofs.Pivot.{by_eq}
 use Rattle.spec_exact.specs.Run.{Run, ◌>>=◌, refused_as, sum_run, difference_run, product_run, quotient_run}
 use Rattle.spec_exact.specs.Run.{order_run, plus_product, less_product, steps, list_run, made}
 use Rattle.spec_exact.proofs.Stops.{length-made}
+use Rattle.spec_exact.proofs.Results.{told_ok}
 
 -- ---- one after the other
 pub then_ok : {A B E : Type 0} (o : Result A E) (f : A → Result B E) (b : B) → (o >>= f) ≡ Ok b →
@@ -28,10 +27,6 @@ then_ok (Err e) f b h = cc
 pub refused_ok : {A E : Type 0} (kind : Past ℚ → E) (o : Run A) (a : A) → refused_as kind o ≡ Ok a → o ≡ Ok a
 refused_ok kind (Ok b) a h = cc
 refused_ok kind (Err e) a h = cc
-
-told_ok : {A : Type 0} (op : Op) (v w : ℚ) (o : Option A) (a : A) → told op v w o ≡ Ok a → o ≡ Some a
-told_ok op v w (Some b) a h = cc
-told_ok op v w None a h = cc
 
 -- ---- operations
 pub sum_ok : (limit : Option ℕ) (v w x : ℚ) → sum_run limit v w ≡ Ok x → x ≡ v +ℚ w

@@ -3,8 +3,8 @@
 use Rattle.std.proofs.Common.{◌≡◌, ℕ, zero, suc, Some, None, refl, sym, ap, subst, arith, inr}
 use Rattle.spec_exact.specs.Fraction.{ℚ, ◌+ℚ◌, ◌-ℚ◌, ◌*ℚ◌, neg_ℚ, 0ℚ, 1ℚ, ◌<ℚ◌}
 use Rattle.spec_exact.proofs.Order.{≤ℚ_refl}
-use Rattle.spec_exact.proofs.Ruleset.{ring, neg-zero}
-use Rattle.spec_exact.proofs.Strict.{zero-lt-one, neg_strict}
+use Rattle.spec_exact.proofs.Ruleset.{ring}
+use Rattle.spec_exact.proofs.Strict.{neg-one-lt-zero}
 use Rattle.spec_pivot.specs.Tableau.{Matrix}
 use Rattle.spec_pivot.specs.declared.status.Status.TheVariants.{AtLower}
 use Rattle.spec_pivot.specs.declared.status.Way.TheVariants.{Up}
@@ -32,9 +32,6 @@ tables (suc i) = after_pivot 1 opening Up 0 0 0ℚ AtLower
 abbrev pub label : Label
 label = record { kind = Pivot; way = Up; column = 0; position = 0; theta = 0ℚ; to = AtLower }
 
-below : neg_ℚ 1ℚ <ℚ 0ℚ
-below = subst (λ a. neg_ℚ 1ℚ <ℚ a) neg-zero (neg_strict 0ℚ 1ℚ zero-lt-one)
-
 pivots : Pivots 1 2 b opening Up 0 0 0ℚ AtLower
 pivots = record {
   enters = record {
@@ -43,13 +40,13 @@ pivots = record {
         record {
           may_enter = (refl, λ x. let e : None ≡ Some x.0 = x.2 in cc);
           status = tt;
-          improves = subst (λ a. a <ℚ 0ℚ) (sym cheaper) below;
+          improves = subst (λ a. a <ℚ 0ℚ) (sym cheaper) neg-one-lt-zero;
         };
     least = λ k w h. absurd (let z : ⊥ = omega arith in z);
   };
   position = omega arith;
   forward = ≤ℚ_refl 0ℚ;
-  blocked = inr (subst (λ a. a <ℚ 0ℚ) (sym down) below, ap Some (sym rests));
+  blocked = inr (subst (λ a. a <ℚ 0ℚ) (sym down) neg-one-lt-zero, ap Some (sym rests));
   least = λ i h l. absurd (let z : ⊥ = omega arith in z);
   to_nonbasic = λ e. cc;
   lands = ap Some (sym rests);

@@ -1,17 +1,14 @@
 -- A tableau is fixed by its basic columns.
 use Rattle.std.proofs.Common.{◌≡◌, ℕ, ◌<◌, sym, ap, ap₂, ◌∙◌, subst}
-use Rattle.spec_exact.specs.Fraction.{ℚ, ◌+ℚ◌, ◌-ℚ◌, ◌*ℚ◌, 0ℚ, 1ℚ, ◌<ℚ◌}
+use Rattle.spec_exact.specs.Fraction.{ℚ, ◌+ℚ◌, ◌-ℚ◌, ◌*ℚ◌, 0ℚ}
 use Rattle.spec_exact.specs.Sums.{sum_below}
 use Rattle.spec_exact.proofs.Field.{+ℚ_neg, *ℚ_assoc, *ℚ_comm}
 use Rattle.spec_exact.proofs.Ruleset.{ring, zero-*ℚ, zero-+ℚ}
-use Rattle.spec_exact.proofs.Strict.{zero-lt-one, <ℚ_irrefl}
+use Rattle.spec_exact.proofs.Strict.{one-not-zero}
 use Rattle.spec_exact.proofs.Sums.{sum_below_same, *ℚ-sum_below, sum_below_zero}
 use Rattle.spec_exact.proofs.Sums.{sum_below_swap, sum_below-*ℚ, sum_below-sub}
 use Rattle.spec_pivot.specs.Tableau.{Matrix, Spans, delta, IsUnit}
 use Rattle.spec_pivot.proofs.Pivot.{by_eq, delta_same, delta_other, sum_below-delta}
-
-one-not-zero : ¬ (1ℚ ≡ 0ℚ)
-one-not-zero e = <ℚ_irrefl 0ℚ (subst (λ a. 0ℚ <ℚ a) e zero-lt-one)
 
 -- the weights of a combination of unit rows stand in the basic columns
 pub weight : (m : ℕ) (t : Matrix) (b : ℕ → ℕ) → IsUnit m t b → (w : ℕ → ℚ) (s : ℕ) → s < m →

@@ -4,11 +4,11 @@ use Rattle.std.proofs.Common.{Option, Some, None, Ok, refl, sym, ap, ◌∙◌, 
 use Rattle.std.specs.List.{insert}
 use Rattle.std.proofs.lemmas.Bool.{eqb-true, eqb-false}
 use Rattle.std.proofs.lemmas.List.{length-replicate}
-use Rattle.spec_exact.specs.Fraction.{ℚ, 0ℚ, 1ℚ, ◌+ℚ◌, ◌-ℚ◌, ◌*ℚ◌, neg_ℚ, inverse, ◌<ℚ◌}
+use Rattle.spec_exact.specs.Fraction.{ℚ, 0ℚ, 1ℚ, ◌+ℚ◌, ◌-ℚ◌, ◌*ℚ◌, neg_ℚ, inverse}
 use Rattle.spec_exact.specs.Sums.{sum_below}
 use Rattle.spec_exact.specs.Run.{◌>>=◌, plus_product, less_product, quotient_run}
 use Rattle.spec_exact.proofs.Order.{clash_ℚ, <ℚ-le}
-use Rattle.spec_exact.proofs.Strict.{zero-lt-one, neg_strict}
+use Rattle.spec_exact.proofs.Strict.{zero-lt-one, neg_strict, neg-one-lt-zero}
 use Rattle.spec_exact.proofs.Results.{ok_same}
 use Rattle.spec_exact.proofs.Ruleset.{ring, neg-zero, one-*ℚ}
 use Rattle.spec_path.proofs.Runs.{then_ok, quotient_ok, plus_ok, less_ok, steps_ok}
@@ -58,16 +58,13 @@ priced_run_ok limit m y j g h =
     (λ i s. plus_product limit (part y i) (coefficient m i j) s) 0ℚ g h refl
     (λ i s t _ e f. plus_ok limit (part y i) (coefficient m i j) s t f ∙ ap (λ s. s +ℚ part y i *ℚ coefficient m i j) e)
 
-negative-one : neg_ℚ 1ℚ <ℚ 0ℚ
-negative-one = subst (λ z. neg_ℚ 1ℚ <ℚ z) neg-zero (neg_strict 0ℚ 1ℚ zero-lt-one)
-
 -- 1 asks for the lower limit, and its negative for the upper
 pub one_tight : (l : Limits) (v : ℚ) → l.lower ≡ Some v → IsTight l 1ℚ v
 one_tight l v e = record { above = λ _. e; below = λ p. absurd (clash_ℚ 0ℚ 1ℚ zero-lt-one (<ℚ-le 1ℚ 0ℚ p)) }
 
 pub minus_tight : (l : Limits) (v : ℚ) → l.upper ≡ Some v → IsTight l (neg_ℚ 1ℚ) v
 minus_tight l v e =
-    record { above = λ p. absurd (clash_ℚ 0ℚ (neg_ℚ 1ℚ) p (<ℚ-le (neg_ℚ 1ℚ) 0ℚ negative-one)); below = λ _. e }
+    record { above = λ p. absurd (clash_ℚ 0ℚ (neg_ℚ 1ℚ) p (<ℚ-le (neg_ℚ 1ℚ) 0ℚ neg-one-lt-zero)); below = λ _. e }
 
 pub minus_times : (v : ℚ) → neg_ℚ 1ℚ *ℚ v ≡ neg_ℚ v
 minus_times v = simp ring

@@ -1,5 +1,5 @@
 -- The basis of an optimal end of the cold solve keeps the model.
-use Rattle.std.proofs.Common.{◌≡◌, ℕ, zero, suc, ◌+◌, ◌<◌, List, [], ◌∷◌, ◌++◌, get_or, Option}
+use Rattle.std.proofs.Common.{◌≡◌, ℕ, ◌+◌, ◌<◌, List, get_or, Option}
 use Rattle.std.proofs.Common.{Some, None, Result, Ok, Err, Bool, true, false, ◌&&◌, cond}
 use Rattle.std.proofs.Common.{refl, sym, ap, ap₂, ◌∙◌, subst, subst₂, arith}
 use Rattle.std.proofs.lemmas.Bool.{le-leb, lt-leb}
@@ -26,7 +26,7 @@ use Rattle.spec_simplex.specs.Form.{Form, form_of, formed}
 use Rattle.spec_simplex.specs.Start.{by_column, cost_at}
 use Rattle.spec_simplex.specs.Tableau.{Tableau, form_columns, is_basic, basic_at, entry_at, value_at, reduced_at, status_at}
 use Rattle.spec_simplex.specs.Eliminate.{basis_at, IsBasisOf, start_from}
-use Rattle.spec_exact.proofs.Stops.{get_or-made}
+use Rattle.spec_exact.proofs.Stops.{get_or-made, made_same}
 use Rattle.spec_path.specs.Begins.{form_rows}
 use Rattle.spec_path.specs.Tables.{table_of}
 use Rattle.spec_path.proofs.Begun.{delta_sym}
@@ -49,11 +49,6 @@ same_stand Basic l u v w n a c = absurd (n refl)
 same_stand AtLower l u v w n a c = let e : Some v ≡ Some w = sym a ∙ c in cc
 same_stand AtUpper l u v w n a c = let e : Some v ≡ Some w = sym a ∙ c in cc
 same_stand AtZero l u v w n a c = a.2 ∙ sym c.2
-
-made_same : {A : Type 0} (n : ℕ) (f g : ℕ → A) → ((k : ℕ) → k < n → f k ≡ g k) → made n f ≡ made n g
-made_same zero f g h = refl
-made_same (suc n) f g h =
-    ap₂ (λ xs x. xs ++ x ∷ []) (made_same n f g (λ k l. h k (omega (arith, l)))) (h n (omega arith))
 
 module _ (m : Model) (ls : List (Option ℚ × Option ℚ)) (h : Limited m ls)
     (formed_ : form_of None m ≡ Ok (formed m ls)) (signs : ℕ → ℚ) (squares : (i : ℕ) → signs i *ℚ signs i ≡ 1ℚ)

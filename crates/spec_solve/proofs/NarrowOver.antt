@@ -30,7 +30,7 @@ use Rattle.spec_simplex.specs.Step.{moved_run, shifted_run, flip_run, best_run, 
 use Rattle.spec_simplex.specs.Phases.{wants_phase_one, is_stuck}
 use Rattle.spec_simplex.specs.Tableau.{Tableau, form_columns, is_artificial, basic_at}
 use Rattle.spec_exact.proofs.Stops.{All-made}
-use Rattle.spec_exact.proofs.Narrow.{neg_narrow}
+use Rattle.spec_exact.proofs.Narrow.{neg_narrow, zero_narrow}
 use Rattle.spec_check.specs.declared.solve_end.SolveEnd.TheVariants as outcome
 use Rattle.spec_cold.specs.Cold.{ExactSolveEnd, moves_by}
 use Rattle.spec_path.proofs.Runs.{then_ok, refused_ok}
@@ -44,7 +44,7 @@ use Rattle.spec_factor.specs.Over.{RevisedEnded, over_or_spent, over_or_next, ov
 use Rattle.spec_factor.specs.Over.{second_state, OverEnd, negatives, stuck_answer, over_certificate, end_answer}
 use Rattle.spec_factor.specs.Over.{over_two}
 use Rattle.spec_factor.specs.Over.{over_phases, over_run, after_over, over_factors}
-use Rattle.spec_solve.proofs.NarrowRuns.{zero_narrow, quotient_narrow, less_narrow, all_given}
+use Rattle.spec_solve.proofs.NarrowRuns.{quotient_narrow, less_narrow, all_given}
 use Rattle.spec_solve.proofs.NarrowSteps.{AreNarrow, number_at, moved_narrow, shifted_narrow}
 use Rattle.spec_solve.proofs.NarrowSteps.{flip_narrow, exchanged_narrow}
 use Rattle.spec_solve.proofs.NarrowStart.{IsNarrowForm, NarrowStart, one_narrow, form_narrow, form_entry_narrow}

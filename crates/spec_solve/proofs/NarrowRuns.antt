@@ -1,43 +1,21 @@
 -- At the limit of the program operations give fractions of at most 127 bits, and so do runs of them.
-use Rattle.std.proofs.Common.{◌≡◌, ◌≤◌, ◌<◌, ◌/◌, ℕ, zero, suc, ◌&&◌, Bool, true, false, cond, Option, Some, None, Ok}
-use Rattle.std.proofs.Common.{List, get_or, ℤ, pos, int_div, unsigned_abs, refl, sym, subst, arith}
+use Rattle.std.proofs.Common.{◌≡◌, ◌<◌, ℕ, ◌&&◌, Bool, true, false, cond, Some, None, Ok}
+use Rattle.std.proofs.Common.{List, get_or, unsigned_abs, refl, subst, arith}
 use Rattle.std.specs.Prelude.{All}
-use Rattle.std.proofs.Math.Nat.{div-le_self}
 use Rattle.std.proofs.lemmas.Bool.{and_parts}
 use borrow.Author.Tests.{leb-true}
-use Rattle.spec_exact.specs.Fraction.{ℚ, 0ℚ, whole, over, neg_ℚ, inverse}
-use Rattle.spec_exact.specs.Gcd.{gcd}
-use Rattle.spec_exact.specs.Quotients.{abs-int_div}
+use Rattle.spec_exact.specs.Fraction.{ℚ, neg_ℚ, inverse}
 use Rattle.spec_exact.specs.Limit.{fits, left_num, right_num, whole_sum, sum_common, sum_num, sum_den, sum_fits}
 use Rattle.spec_exact.specs.Limit.{product_num, product_den, product_fits, add, sub, mul, div}
 use Rattle.spec_exact.specs.Narrow.{IsNarrow, number_limit}
-use Rattle.spec_exact.specs.Answer.{told}
-use Rattle.spec_exact.specs.declared.past.Op.{Op}
 use Rattle.spec_exact.specs.declared.past.Op.TheVariants.{Add, Sub, Div}
 use Rattle.spec_exact.specs.Run.{Run, sum_run, difference_run, product_run, quotient_run, plus_product, less_product}
 use Rattle.spec_exact.specs.Run.{list_run}
+use Rattle.spec_exact.proofs.Narrow.{divided, over_narrow}
+use Rattle.spec_exact.proofs.Results.{told_ok}
 use Rattle.spec_path.proofs.Runs.{then_ok, list_ok}
 
-pub zero_narrow : IsNarrow 0ℚ
-unfolding whole
-zero_narrow = record { top = omega arith; bottom = omega arith }
-
 -- ---- one operation
-
--- an exact quotient's size is no greater
-divided : (z : ℤ) (g : ℕ) → unsigned_abs z ≤ number_limit → unsigned_abs (int_div z (pos g)) ≤ number_limit
-divided z g h =
-    let size : unsigned_abs (int_div z (pos g)) ≡ unsigned_abs z / g = abs-int_div z g in
-    let less : unsigned_abs z / g ≤ unsigned_abs z = div-le_self (unsigned_abs z) g in
-    subst (λ k. k ≤ number_limit) (sym size) (omega arith)
-
--- lowest terms are no wider
-over_narrow : (n : ℤ) (d : ℕ) → unsigned_abs n ≤ number_limit → d ≤ number_limit → IsNarrow (over n d)
-unfolding over
-over_narrow n zero h k = zero_narrow
-over_narrow n (suc d) h k =
-    let low : suc d / gcd (unsigned_abs n) (suc d) ≤ suc d = div-le_self (suc d) (gcd (unsigned_abs n) (suc d)) in
-    record { top = divided n (gcd (unsigned_abs n) (suc d)) h; bottom = omega arith }
 
 some_if : (t : Bool) (x y : ℚ) → cond t (Some x) None ≡ Some y → (t ≡ true) × (x ≡ y)
 some_if true x y e = (refl, cc)
@@ -84,10 +62,6 @@ sub_narrow v w x e = add_narrow v (neg_ℚ w) x e
 div_narrow : (v w x : ℚ) → div (Some number_limit) v w ≡ Some x → IsNarrow x
 unfolding div
 div_narrow v w x e = mul_narrow v (inverse w) x e
-
-told_ok : (op : Op) (v w : ℚ) (o : Option ℚ) (x : ℚ) → told op v w o ≡ Ok x → o ≡ Some x
-told_ok op v w (Some y) x h = cc
-told_ok op v w None x h = cc
 
 -- ---- runs
 

@@ -10,13 +10,14 @@ use Rattle.spec_exact.specs.Narrow.{IsNarrow, number_limit}
 use Rattle.spec_pivot.specs.declared.status.Status.{Status}
 use Rattle.spec_pivot.specs.declared.status.Status.TheVariants.{Basic, AtLower, AtUpper, AtZero}
 use Rattle.spec_exact.specs.Run.{Run, difference_run, list_run, less_product, quotient_run, sum_run}
+use Rattle.spec_exact.proofs.Narrow.{zero_narrow}
 use Rattle.spec_simplex.specs.Tableau.{Tableau, all_columns, at_place, entry_at, basic_at, status_at, lower_at}
 use Rattle.spec_simplex.specs.Tableau.{upper_at, is_artificial, or_zero, stand}
 use Rattle.spec_simplex.specs.Step.{directed, other_bound, is_place, moved_at, moved_run, flip_way, flipped, flip_run}
 use Rattle.spec_simplex.specs.Step.{scaled_run, cleared_run, turned_run, repriced_run, leave_bound, exchanged, turned}
 use Rattle.spec_simplex.specs.Step.{shifted_run, pivot_run}
 use Rattle.spec_path.proofs.Runs.{then_ok, steps_ok}
-use Rattle.spec_solve.proofs.NarrowRuns.{zero_narrow, sum_narrow, quotient_narrow, less_narrow, all_given}
+use Rattle.spec_solve.proofs.NarrowRuns.{sum_narrow, quotient_narrow, less_narrow, all_given}
 
 abbrev pub NarrowBound : Option ℚ → Type 0
 NarrowBound bound = IfSome bound IsNarrow

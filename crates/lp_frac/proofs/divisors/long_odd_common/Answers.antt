@@ -1,6 +1,6 @@
 use Rattle.std.proofs.Common.{arith, ◌∙◌}
 use Rattle.spec_exact.specs.GcdLaws.{gcd-swap}
-use Rattle.lp_frac.proofs.Odd.{gcd-sub}
+use Rattle.spec_exact.proofs.Coprime.{gcd-sub}
 use Rattle.lp_frac.proofs.divisors.long_odd_common.Goals as goal
 
 pub loop-y-preserved-then-z-x : goal.loop-y-preserved-then-z-x
