@@ -1,7 +1,7 @@
 -- Numbers that are chosen in order: one more of them.
 use Rattle.std.proofs.Common.{◌≡◌, ℕ, zero, suc, ◌+◌, ◌<◌, ◌≤◌, Bool, true, false, cond, List, [], ◌∷◌, ◌++◌, All}
 use Rattle.std.proofs.Common.{sym, ap, subst, ◌∙◌, arith}
-use Rattle.std.proofs.Common.{append-nil}
+use Rattle.std.proofs.Common.{append-nil, add-one}
 use Rattle.std.proofs.lemmas.List.Elements.{All-nil, All-push}
 use Rattle.std.proofs.lemmas.List.Elements.{filter-append}
 use Rattle.spec_exact.specs.Run.{made}
@@ -10,20 +10,17 @@ use Rattle.spec_bas.specs.Written.{chosen}
 chosen_suc : (test : ℕ → Bool) (k : ℕ) → chosen (suc k) test ≡ chosen k test ++ cond (test k) (k ∷ []) []
 chosen_suc test k = filter-append test (made k (λ i. i)) (k ∷ [])
 
-next_is : (k : ℕ) → suc k ≡ k + 1
-next_is k = omega arith
-
 pub chosen_yes : (test : ℕ → Bool) (k : ℕ) (xs : List ℕ) → xs ≡ chosen k test → test k ≡ true →
     xs ++ k ∷ [] ≡ chosen (k + 1) test
 chosen_yes test k xs h t =
     ap (λ ys. ys ++ k ∷ []) h ∙ ap (λ c. chosen k test ++ cond c (k ∷ []) []) (sym t) ∙ sym (chosen_suc test k)
-    ∙ ap (λ n. chosen n test) (next_is k)
+    ∙ ap (λ n. chosen n test) (sym (add-one k))
 
 pub chosen_no : (test : ℕ → Bool) (k : ℕ) (xs : List ℕ) → xs ≡ chosen k test → test k ≡ false →
     xs ≡ chosen (k + 1) test
 chosen_no test k xs h t =
     h ∙ sym (append-nil (chosen k test)) ∙ ap (λ c. chosen k test ++ cond c (k ∷ []) []) (sym t)
-    ∙ sym (chosen_suc test k) ∙ ap (λ n. chosen n test) (next_is k)
+    ∙ sym (chosen_suc test k) ∙ ap (λ n. chosen n test) (sym (add-one k))
 
 -- they are below the number of all
 one_inside : (P : ℕ → Type 0) (xs : List ℕ) (c : Bool) (k : ℕ) → All P xs → P k → All P (xs ++ cond c (k ∷ []) [])

@@ -19,9 +19,9 @@ use Rattle.spec_warm.proofs.LimitSteps.{from_agrees}
 use Rattle.spec_range.specs.declared.range.Range.{Range}
 use Rattle.spec_range.specs.Span.{Keeps, IsRange}
 use Rattle.spec_range.specs.Rule.{is_moved, cost_run, side_run, cost_range, side_range}
-use Rattle.spec_range.proofs.Exists.{form_unlimited}
 use Rattle.spec_range.proofs.CostRange.{cost_range_is}
 use Rattle.spec_range.proofs.SideRange.{side_range_is}
+use Rattle.spec_range.proofs.Exists.{form_without}
 use Rattle.std.proofs.Common.{⊎_elim}
 use Rattle.lp_frac.specs.declared.stop.Stop.{Stop}
 use Rattle.lp_form.specs.declared.stop.Singular.{Singular}
@@ -45,7 +45,7 @@ moved_entry t p k e z =
 module _ (limit : Option ℕ) (m : Model) (f : Form) (basis : List Status) (formed : form_of limit m ≡ Ok f)
     (keeps : Keeps m basis) where
   same_form : keeps.form ≡ f
-  same_form = ok_same keeps.form f (sym keeps.formed ∙ form_unlimited limit m f formed)
+  same_form = ok_same keeps.form f (sym keeps.formed ∙ form_without limit m f formed)
 
   pub all_statuses : length basis ≡ f.cols + f.rows
   all_statuses = (subst (λ f. IsBasisOf f basis) same_form keeps.fits).all

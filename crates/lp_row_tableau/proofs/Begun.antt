@@ -1,5 +1,5 @@
 -- The rows at the beginning of the second phase show the stated tableau there.
-use Rattle.std.proofs.Common.{◌≡◌, ◌≢◌, ℕ, zero, suc, ◌+◌, ◌<◌, ◌≤◌, pos, List, [], ◌∷◌, length, get_or, set, Option}
+use Rattle.std.proofs.Common.{◌≡◌, ◌≢◌, ℕ, zero, ◌+◌, ◌<◌, ◌≤◌, pos, List, [], ◌∷◌, length, get_or, set, Option}
 use Rattle.std.proofs.Common.{Some, None, Ok, false, refl, sym, ap, ap₂, subst, ◌∙◌, arith}
 use Rattle.std.proofs.lemmas.List.{length-set, get_or-set_same, get_or-set_other}
 use Rattle.spec_exact.specs.Fraction.{ℚ, 0ℚ, over}
@@ -16,6 +16,7 @@ use Rattle.spec_simplex.specs.Tableau.{Tableau, form_columns, all_columns, lower
 use Rattle.spec_simplex.specs.Tableau.{is_fixed, stand}
 use Rattle.spec_path.proofs.Lists.{by_lt}
 use Rattle.spec_path.proofs.Runs.{then_ok}
+use Rattle.spec_path.proofs.PhaseTwo.{zeroed_before, zeroed_after}
 use Rattle.lp_wide.specs.declared.signed.Signed.{Signed}
 use Rattle.lp_rows.specs.declared.fractions.Row.{Row}
 use Rattle.lp_rows.specs.Ratio.{bound_of}
@@ -51,28 +52,6 @@ zeroed_more value n k old new x h l e so_far =
           ∙ so_far.zero j m (omega (arith, below, q)) d p);
     }
 
--- ---- the stated bounds
-fixed_length : (n m : ℕ) (bounds : List (Option ℚ)) → length (fixed_at_zero n m bounds) ≡ length bounds
-fixed_length n zero bounds = refl
-fixed_length n (suc m) bounds = length-set (fixed_at_zero n m bounds) (n + m) (Some 0ℚ) ∙ fixed_length n m bounds
-
-fixed_before : (n m : ℕ) (bounds : List (Option ℚ)) (k : ℕ) → k < n →
-    get_or (fixed_at_zero n m bounds) k None ≡ get_or bounds k None
-fixed_before n zero bounds k h = refl
-fixed_before n (suc m) bounds k h =
-    get_or-set_other (fixed_at_zero n m bounds) (n + m) k (Some 0ℚ) None (λ e. let z : ⊥ = omega (arith, h, e) in z)
-    ∙ fixed_before n m bounds k h
-
-fixed_after : (n m : ℕ) (bounds : List (Option ℚ)) → n + m ≤ length bounds → (k : ℕ) → n ≤ k → k < n + m →
-    get_or (fixed_at_zero n m bounds) k None ≡ Some 0ℚ
-fixed_after n zero bounds all k h l = absurd (let z : ⊥ = omega (arith, h, l) in z)
-fixed_after n (suc m) bounds all k h l =
-    by_eq k (n + m)
-    (λ e. ap (λ k. get_or (fixed_at_zero n (suc m) bounds) k None) e
-    ∙ get_or-set_same (fixed_at_zero n m bounds) (n + m) (Some 0ℚ) None (omega (arith, fixed_length n m bounds, all)))
-    (λ d. get_or-set_other (fixed_at_zero n m bounds) (n + m) k (Some 0ℚ) None d
-    ∙ fixed_after n m bounds (omega (arith, all)) k h (omega (arith, l, d)))
-
 -- ---- the tableau
 module _ {T : Type 0} (value : T → ℕ) (r : RowTableau T) (costs : Row T) (s : RowTableau T) (w : IsWhole value r)
     (b : IsBegun value r costs s) where
@@ -93,9 +72,9 @@ module _ {T : Type 0} (value : T → ℕ) (r : RowTableau T) (costs : Row T) (s 
         bound_of value (value s.denominator) (get_or new k None)
     bound_is old new stated all whole z same k l =
         by_lt k (form_columns t)
-        (λ h. fixed_before (form_columns t) t.rows stated k h ∙ same k l
+        (λ h. zeroed_before (form_columns t) t.rows stated k h ∙ same k l
         ∙ ap₂ (λ d o. bound_of value (value d) o) (sym b.denominator) (sym (z.before k (omega (arith, h, columns)))))
-        (λ h. fixed_after (form_columns t) t.rows stated (omega (arith, whole)) k h l
+        (λ h. zeroed_after (form_columns t) t.rows stated (omega (arith, whole)) k h l
         ∙ sym (z.zero k (omega (arith, h, columns)) (omega (arith, l, all, columns, shown.rows)) (value s.denominator)
         (subst (λ d. 0 < value d) (sym b.denominator) w.positive)))
 
@@ -103,15 +82,15 @@ module _ {T : Type 0} (value : T → ℕ) (r : RowTableau T) (costs : Row T) (s 
     same_lower : (k : ℕ) → k < all_columns t → status_at t k ≢ Basic →
         get_or (fixed_at_zero (form_columns t) t.rows t.lower) k None ≡ lower_at t k
     same_lower k l n =
-        by_lt k (form_columns t) (λ h. fixed_before (form_columns t) t.rows t.lower k h)
-        (λ h. fixed_after (form_columns t) t.rows t.lower (omega (arith, reached.tableau.whole.all_lower)) k h l
+        by_lt k (form_columns t) (λ h. zeroed_before (form_columns t) t.rows t.lower k h)
+        (λ h. zeroed_after (form_columns t) t.rows t.lower (omega (arith, reached.tableau.whole.all_lower)) k h l
         ∙ sym (reached.tableau.bounds.lower k l ∙ reached.tableau.bounds.zero k h l))
 
     same_upper : (k : ℕ) → k < all_columns t → status_at t k ≢ Basic →
         get_or (fixed_at_zero (form_columns t) t.rows t.upper) k None ≡ upper_at t k
     same_upper k l n =
-        by_lt k (form_columns t) (λ h. fixed_before (form_columns t) t.rows t.upper k h)
-        (λ h. fixed_after (form_columns t) t.rows t.upper (omega (arith, reached.tableau.whole.all_upper)) k h l
+        by_lt k (form_columns t) (λ h. zeroed_before (form_columns t) t.rows t.upper k h)
+        (λ h. zeroed_after (form_columns t) t.rows t.upper (omega (arith, reached.tableau.whole.all_upper)) k h l
         ∙ sym (reached.tableau.bounds.fixed k h l n))
 
     begun_with : (form : List ℚ) (reduced : List ℚ) → IsPricedRow value r form costs →
@@ -136,8 +115,8 @@ module _ {T : Type 0} (value : T → ℕ) (r : RowTableau T) (costs : Row T) (s 
       upper = bound_is r.upper.items s.upper.items t.upper w.all_upper reached.tableau.whole.all_upper b.upper
           shown.upper;
       fixed = λ k l.
-          ap₂ (λ x y. is_fixed x y) (fixed_before (form_columns t) t.rows t.lower k l)
-          (fixed_before (form_columns t) t.rows t.upper k l)
+          ap₂ (λ x y. is_fixed x y) (zeroed_before (form_columns t) t.rows t.lower k l)
+          (zeroed_before (form_columns t) t.rows t.upper k l)
           ∙ shown.fixed k l ∙ ap (λ (bs : _). get_or bs.items k false) (sym b.fixed);
       stands = λ k l n.
           shown.stands k l n

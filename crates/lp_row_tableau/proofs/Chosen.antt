@@ -1,11 +1,10 @@
 -- What the flip or the pivot of a choice leaves, without a limit.
-use Rattle.std.proofs.Common.{◌≡◌, ℕ, ◌<◌, Option, Some, None, Ok, Bool, true, false, refl, sym, ◌∙◌, subst}
+use Rattle.std.proofs.Common.{◌≡◌, ℕ, ◌<◌, Option, Some, None, Ok, Bool, refl, sym, ◌∙◌, subst}
 use Rattle.spec_exact.specs.Fraction.{ℚ, ◌-ℚ◌, ◌*ℚ◌}
 use Rattle.spec_pivot.specs.declared.status.Status.{Status}
-use Rattle.spec_pivot.specs.declared.status.Status.TheVariants.{Basic, AtLower, AtUpper, AtZero}
 use Rattle.spec_pivot.specs.declared.status.Way.{Way}
 use Rattle.spec_pivot.specs.Tableau.{Matrix}
-use Rattle.spec_pivot.specs.Simplex.{Bounds, IsTableau, IsWithin, CanMove, Stands, Enters, sign, after_pivot}
+use Rattle.spec_pivot.specs.Simplex.{Bounds, IsTableau, IsWithin, Enters, sign, after_pivot}
 use Rattle.spec_pivot.specs.Simplex.{after_flip}
 use Rattle.spec_pivot.specs.Simplex.{Exchanges, Crosses, Pivots, Flips}
 use Rattle.spec_pivot.specs.Ratio.{best_of}
@@ -25,19 +24,8 @@ use Rattle.spec_path.proofs.Runs.{then_ok}
 use Rattle.spec_path.proofs.Enters.{an_entering}
 use Rattle.spec_path.proofs.Pivots.{Leaves, enters_before, pivot_leaves}
 use Rattle.spec_path.proofs.Flips.{directed_is, flip_leaves}
-use Rattle.spec_path.proofs.Steps.{ahead_is}
+use Rattle.spec_path.proofs.Steps.{ahead_is, way_is}
 use Rattle.spec_path.proofs.Tests.{plain, IsRange, a_best, best_range, best_ahead}
-
--- a column with a lower bound flips the way that it enters
-way_is : (s : Status) (up : Bool) (l u : Option ℚ) (v low : ℚ) → l ≡ Some low → CanMove (way up) s → Stands s l u v →
-    flip_way s ≡ up
-way_is Basic true l u v low e c s = absurd c
-way_is Basic false l u v low e c s = absurd c
-way_is AtLower true l u v low e c s = refl
-way_is AtLower false l u v low e c s = absurd c
-way_is AtUpper true l u v low e c s = absurd c
-way_is AtUpper false l u v low e c s = refl
-way_is AtZero up l u v low e c s = let z : None ≡ Some low = sym s.0 ∙ e in cc
 
 pub record PivotsTo (b : Bounds) (t u : Tableau) (p j : ℕ) (theta : ℚ) (to : Status) : Type 0 where
   pub way : Way

@@ -1,14 +1,14 @@
 -- What is known of the best of the ratio test: a position that stops the column has an entry there, and the move takes
 -- its column to a bound; where the column stops itself, it has both bounds.
-use Rattle.std.proofs.Common.{◌≡◌, ◌≢◌, ℕ, zero, suc, ◌<◌, ◌≤◌, Option, Some, None, Result}
+use Rattle.std.proofs.Common.{◌≡◌, ◌≢◌, ℕ, zero, suc, ◌<◌, ◌≤◌, Option, Some, None}
 use Rattle.std.proofs.Common.{Ok, Err, Bool, true, false, cond, int_lt, pos, nat_lt, Ordering}
 use Rattle.std.proofs.Common.{Less, Equal, Greater, refl, sym, subst, ap, ◌∙◌, arith}
 use Rattle.spec_exact.specs.Fraction.{ℚ, 0ℚ, ◌+ℚ◌, ◌-ℚ◌, ◌*ℚ◌, neg_ℚ, abs_ℚ, lt_ℚ, ◌<ℚ◌}
-use Rattle.spec_exact.specs.Limit.{div, sub}
+use Rattle.spec_exact.specs.Limit.{div}
 use Rattle.spec_exact.specs.declared.past.Past.{Past}
-use Rattle.spec_exact.specs.declared.past.Op.TheVariants.{Sub, Div}
-use Rattle.spec_exact.proofs.Limit.{sub_gives, div_exact}
-use Rattle.spec_exact.proofs.Order.{lt_if, not_lt_test, <ℚ-le}
+use Rattle.spec_exact.specs.declared.past.Op.TheVariants.{Div}
+use Rattle.spec_exact.proofs.Limit.{div_exact}
+use Rattle.spec_exact.proofs.Order.{lt_if}
 use Rattle.spec_exact.proofs.Ruleset.{ring, neg-neg, neg-zero, neg-*ℚ, *ℚ-neg}
 use Rattle.spec_exact.proofs.Strict.{<ℚ_irrefl}
 use Rattle.spec_pivot.specs.declared.status.Status.{Status}
@@ -20,35 +20,15 @@ use Rattle.spec_simplex.specs.Tableau.{Tableau, entry_at, basic_at, value_at, lo
 use Rattle.spec_simplex.specs.Step.{directed, other_bound, range_run, rise_run, fall_run, gap_run}
 use Rattle.spec_simplex.specs.Step.{better_by, better_run, with_gap, best_with, best_run, NamesBound}
 use Rattle.spec_exact.proofs.Stops.{steps_stop}
-use Rattle.spec_exact.proofs.Signs.{negative_test}
-use Rattle.spec_exact.proofs.Sizes.{abs_below, turned_down, turned_back}
 use Rattle.spec_exact.proofs.Results.{told_ok}
+use Rattle.spec_path.proofs.Runs.{then_ok, difference_ok}
+use Rattle.spec_path.proofs.Tests.{abs_falling, abs_rising}
 
 -- ---- results of operations
-pub then_ok : {A B E : Type 0} (o : Result A E) (next : A → Result B E) (b : B) → (o >>= next) ≡ Ok b →
-    (a : A) × (o ≡ Ok a) × (next a ≡ Ok b)
-then_ok (Ok a) next b h = (a, refl, h)
-then_ok (Err e) next b h = cc
-
-pub difference_ok : (limit : Option ℕ) (v w x : ℚ) → difference_run limit v w ≡ Ok x → x ≡ v -ℚ w
-difference_ok limit v w x h = sub_gives limit v w x (told_ok Sub v w (sub limit v w) x h)
-
 pub quotient_ok : (limit : Option ℕ) (v w x : ℚ) → w ≢ 0ℚ → quotient_run limit v w ≡ Ok x → x *ℚ w ≡ v
 quotient_ok limit v w x n h = div_exact limit v w x n (told_ok Div v w (div limit v w) x h)
 
 -- ---- magnitudes
-abs_above : (x : ℚ) → 0ℚ <ℚ x → abs_ℚ x ≡ x
-abs_above x h = ap (λ b. cond b (neg_ℚ x) x) (negative_test x ∙ not_lt_test x 0ℚ (<ℚ-le 0ℚ x h))
-
--- of an entry, by the way of the column
-abs_falling : (up : Bool) (a : ℚ) → directed up a <ℚ 0ℚ → abs_ℚ a ≡ neg_ℚ (directed up a)
-abs_falling true a h = abs_below a h
-abs_falling false a h = abs_above a (turned_back a h) ∙ sym (neg-neg a)
-
-abs_rising : (up : Bool) (a : ℚ) → 0ℚ <ℚ directed up a → abs_ℚ a ≡ directed up a
-abs_rising true a h = abs_above a h
-abs_rising false a h = abs_below a (turned_down a h)
-
 pub directed_zero : (up : Bool) (a : ℚ) → a ≡ 0ℚ → directed up a ≡ 0ℚ
 directed_zero true a e = e
 directed_zero false a e = ap neg_ℚ e ∙ neg-zero

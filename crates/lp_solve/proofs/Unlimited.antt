@@ -16,10 +16,10 @@ use Rattle.spec_simplex.specs.declared.ends.WarmStop.TheVariants as fall
 use Rattle.spec_simplex.specs.Eliminate.{IsBasisOf}
 use Rattle.spec_simplex.specs.Form.{Form, form_of}
 use Rattle.spec_simplex.specs.Phases.{PhasesEnd, phases_run}
+use Rattle.spec_path.proofs.LimitStart.{form_without}
 use Rattle.spec_cold.specs.Accepted.{IsAccepted}
 use Rattle.spec_cold.specs.Cold.{ExactSolveEnd, checked, answered, after_phases}
 use Rattle.spec_factor.specs.Over.{OverEnd, answer_of, answer_in}
-use Rattle.spec_factor.proofs.OverCold.{form_without}
 use Rattle.spec_warm.specs.declared.ends.Route.{Route}
 use Rattle.spec_warm.specs.declared.ends.Route.TheVariants as found
 use Rattle.spec_warm.specs.declared.ends.Warm.TheVariants as start

@@ -1,13 +1,10 @@
 -- Lists that grow by one item after the other.
 use Rattle.std.proofs.Common.{◌≡◌, ℕ, ◌+◌, ◌-◌, ◌<◌, ◌≤◌, List, [], ◌∷◌, ◌++◌, length, map, take, get_or, replicate}
-use Rattle.std.proofs.Common.{sym, ap, ap₂, ◌∙◌, append_assoc, suc, arith}
+use Rattle.std.proofs.Common.{sym, ap, ap₂, ◌∙◌, append_assoc, arith, add-one}
 use Rattle.std.proofs.lemmas.List.{map-append, take_more, take_all}
 use Rattle.spec_exact.specs.Run.{made}
 use Rattle.lp_tableau.specs.Grid.{flat}
 use Rattle.spec_exact.specs.Fraction.{ℚ}
-
-next_is : (n : ℕ) → suc n ≡ n + 1
-next_is n = omega arith
 
 -- after the front xs the list has zs, and then an item more
 one_more : {A : Type 0} (xs ys zs now : List A) (x y : A) → ys ≡ xs ++ zs → y ≡ x → now ≡ ys ++ y ∷ [] →
@@ -17,11 +14,11 @@ one_more xs ys zs now x y e i h = h ∙ ap₂ (λ ys y. ys ++ y ∷ []) e i ∙ 
 pub more_made : {A : Type 0} (xs ys now : List A) (n : ℕ) (f : ℕ → A) (y : A) → ys ≡ xs ++ made n f → y ≡ f n →
     now ≡ ys ++ y ∷ [] → now ≡ xs ++ made (n + 1) f
 more_made xs ys now n f y e i h =
-    one_more xs ys (made n f) now (f n) y e i h ∙ ap (λ k. xs ++ made k f) (next_is n)
+    one_more xs ys (made n f) now (f n) y e i h ∙ ap (λ k. xs ++ made k f) (sym (add-one n))
 
 pub more_flat : (ys now row : List ℚ) (n : ℕ) (f : ℕ → List ℚ) → ys ≡ flat n f → row ≡ f n → now ≡ ys ++ row →
     now ≡ flat (n + 1) f
-more_flat ys now row n f e i h = h ∙ ap₂ (λ ys row. ys ++ row) e i ∙ ap (λ k. flat k f) (next_is n)
+more_flat ys now row n f e i h = h ∙ ap₂ (λ ys row. ys ++ row) e i ∙ ap (λ k. flat k f) (sym (add-one n))
 
 pub more_mapped : {A B : Type 0} (xs ys now : List B) (f : A → B) (items : List A) (i : ℕ) (a : A) (y : B) →
     i < length items → a ≡ get_or items i a → ys ≡ xs ++ map f (take i items) → y ≡ f a → now ≡ ys ++ y ∷ [] →

@@ -1,14 +1,12 @@
 -- The steps of a phase never come back to the same statuses.
 use Rattle.std.proofs.Common.{◌≡◌, ◌≢◌, ℕ, zero, suc, ◌+◌, ◌-◌, ◌<◌, ◌≤◌, length, get_or, Option}
 use Rattle.std.proofs.Common.{Ok, Bool, true, false, cond, refl, sym, ap, ◌∙◌, subst, arith}
-use Rattle.spec_exact.specs.Fraction.{ℚ, 0ℚ}
+use Rattle.spec_exact.specs.Fraction.{ℚ}
 use Rattle.spec_exact.proofs.Results.{ok_same}
 use Rattle.spec_model.specs.Model.{Model}
 use Rattle.spec_pivot.specs.declared.status.Status.TheVariants.{Basic}
-use Rattle.spec_pivot.specs.declared.status.Way.TheVariants.{Up}
 use Rattle.spec_pivot.specs.Tableau.{Matrix}
 use Rattle.spec_pivot.specs.Simplex.{Bounds, Table, IsTableau, Label, IsStep, SameStatuses}
-use Rattle.spec_pivot.specs.Simplex as kind
 use Rattle.spec_pivot.proofs.Cycle.{no_cycle}
 use Rattle.spec_simplex.specs.declared.ends.PrimalEnd.TheVariants.{Optimal}
 use Rattle.spec_simplex.specs.declared.ends.Choice.{Choice}
@@ -22,10 +20,11 @@ use Rattle.spec_simplex.specs.Phases.{wants_phase_one, phase_one}
 use Rattle.spec_path.specs.Tables.{table_of, bounds_of, IsTableauOf, IsWithinBounds, StepsTo, IsMeant}
 use Rattle.spec_path.specs.Begins.{form_rows, signs_of}
 use Rattle.spec_path.proofs.Steps.{choice_is_meant}
-use Rattle.spec_path.proofs.Walks.{run_ends}
+use Rattle.spec_path.proofs.Walks.{run_ends, before}
 use Rattle.spec_path.proofs.Begun.{Started, start_is_tableau}
 use Rattle.spec_path.proofs.PhaseTwo.{IsSecond, second_phase}
 use Rattle.spec_path.proofs.Formed.{cost_length, form_is, form_proper}
+use Rattle.spec_path.proofs.Phases.{some_label}
 use Rattle.spec_cold.specs.Steps.{IsChange, IsNext, IsAfter, BeginsPhaseTwo}
 
 -- ---- one tableau, one next
@@ -47,19 +46,12 @@ after_more limit (suc i) d t u v x y =
     (subst (λ s. IsAfter limit (i + d) s v) (next_same limit t z.0 x.0 z.1 x.1) z.2)
 
 -- ---- over functions of an index
-some_label : Label
-some_label = record { kind = kind.Flip; way = Up; column = 0; position = 0; theta = 0ℚ; to = Basic }
-
 record Path (m n : ℕ) (b : Bounds) (t u : Tableau) (count : ℕ) : Type 0 where
   tables : ℕ → Table
   labels : ℕ → Label
   begins : tables 0 ≡ table_of t
   ends : tables count ≡ table_of u
   steps : (i : ℕ) → i < count → IsStep m (n + m + m) b (labels i) (tables i) (tables (suc i))
-
-before : {A : Type 0} → A → (ℕ → A) → ℕ → A
-before x f zero = x
-before x f (suc i) = f i
 
 no_step : (m n : ℕ) (b : Bounds) (t : Tableau) → Path m n b t t 0
 no_step m n b t =

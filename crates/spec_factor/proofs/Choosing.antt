@@ -16,6 +16,7 @@ use Rattle.spec_pivot.specs.declared.status.Status.TheVariants.{Basic, AtLower, 
 use Rattle.spec_pivot.specs.Tableau.{Matrix, delta}
 use Rattle.spec_pivot.proofs.Pivot.{by_eq, delta_other, sum_below-delta}
 use Rattle.spec_pivot.proofs.Values.{by_basic}
+use Rattle.spec_pivot.proofs.Ray.{delta_sym}
 use Rattle.spec_exact.specs.Run.{refused_as}
 use Rattle.spec_simplex.specs.Form.{Form}
 use Rattle.spec_exact.proofs.Stops.{length-made, get_or-made}
@@ -30,7 +31,7 @@ use Rattle.spec_factor.specs.Factors.{open_place, with_pair, chosen_at, choose_r
 use Rattle.spec_factor.specs.Basis.{forward, IsPair, AreDependent}
 use Rattle.spec_factor.proofs.Forward.{forward_same, forward_combines, forward_apart}
 use Rattle.spec_factor.proofs.RunLists.{read, ftran_ok}
-use Rattle.spec_factor.proofs.Solves.{delta_sym, sound_with, with_own, with_other}
+use Rattle.spec_factor.proofs.Solves.{sound_with, with_own, with_other}
 
 abbrev pub chosen_column : List (Option ℕ) → ℕ → Option ℕ
 chosen_column columns p = get_or columns p None

@@ -3,12 +3,12 @@ use Rattle.std.proofs.Common.{◌≡◌, ℕ, zero, suc, ◌+◌, ◌<◌, List,
 use Rattle.std.proofs.Common.{Ok, Err, Bool, true, false, cond, refl, sym, ap, ◌∙◌, subst, arith}
 use Rattle.std.specs.Prelude.{unwrap_or}
 use Rattle.std.proofs.lemmas.List.{length-map, get_or-map}
-use Rattle.spec_exact.specs.Fraction.{ℚ, ◌*ℚ◌, ◌<ℚ◌, 0ℚ, 1ℚ, eq_ℚ}
+use Rattle.spec_exact.specs.Fraction.{ℚ, ◌*ℚ◌, 0ℚ, 1ℚ, eq_ℚ}
 use Rattle.spec_exact.specs.Sums.{sum_below}
 use Rattle.spec_exact.proofs.Field.{*ℚ_comm, *ℚ_zero}
 use Rattle.spec_exact.proofs.Ruleset.{zero-*ℚ}
 use Rattle.spec_exact.proofs.Same.{eq_if, eq_test}
-use Rattle.spec_exact.proofs.Strict.{zero-lt-one, <ℚ_irrefl}
+use Rattle.spec_exact.proofs.Strict.{one-not-zero}
 use Rattle.spec_exact.proofs.Sums.{sum_below_same, sum_below_none}
 use Rattle.spec_pivot.specs.declared.status.Status.{Status}
 use Rattle.spec_pivot.specs.declared.status.Status.TheVariants.{Basic}
@@ -161,9 +161,6 @@ module _ (f : Form) (basis : List Status) where
       ∙ sum_below_none N _ (λ k l. by k (eq_ℚ (d.weights k) 0ℚ) refl at.0 at.1 at.2) in
       one-not-zero (sym own ∙ sum)
     where
-      one-not-zero : ¬ (1ℚ ≡ 0ℚ)
-      one-not-zero e = <ℚ_irrefl 0ℚ (subst (λ a. 0ℚ <ℚ a) e zero-lt-one)
-
       turn : (r : ℕ) →
           sum_below N (λ k. d.weights k *ℚ column_entry f r k) ≡ sum_below N (λ k. column_entry f r k *ℚ d.weights k)
       turn r = sum_below_same N _ _ (λ k _. *ℚ_comm (d.weights k) (column_entry f r k))

@@ -7,8 +7,6 @@ use Rattle.spec_model.specs.Model.{Model}
 use Rattle.spec_check.specs.declared.certificate.Certificate.{Certificate}
 use Rattle.spec_check.specs.Run as check
 use Rattle.spec_pivot.specs.declared.status.Status.{Status}
-use Rattle.spec_simplex.specs.declared.ends.FormFault.{FormFault}
-use Rattle.spec_simplex.specs.declared.ends.FormFault.TheVariants as fault
 use Rattle.spec_simplex.specs.declared.ends.RunStop.{RunStop}
 use Rattle.spec_simplex.specs.declared.ends.RunStop.TheVariants as stop
 use Rattle.spec_simplex.specs.Form.{Form, form_of}
@@ -18,7 +16,7 @@ use Rattle.spec_cold.specs.Accepted.{IsAccepted}
 use Rattle.spec_cold.specs.Cold.{ExactSolveEnd, certificate_of, basis_of, pivots_of}
 use Rattle.spec_cold.specs.Cold.{checked, answered, after_phases, after_form, cold}
 use Rattle.spec_path.proofs.Formed.{form_is, cost_length, cost_other}
-use Rattle.spec_path.proofs.LimitStart.{form_agrees}
+use Rattle.spec_path.proofs.LimitStart.{form_without}
 use Rattle.spec_path.proofs.Formed.{form_proper}
 use Rattle.spec_cold.proofs.Solved.{same_or_refused, end_accepted}
 use Rattle.spec_factor.specs.Over.{over_run, answer_in, after_over, over_factors}
@@ -31,14 +29,6 @@ pub form_costs : (limit : Option ℕ) (m : Model) (f : Form) → form_of limit m
 form_costs limit m f e =
     let o = form_is limit m f e in
     subst HasCosts o.2 (record { all = cost_length m o.0 o.1; free = λ i _. cost_other m o.0 o.1 i })
-
--- a form at a limit is the one without
-pub form_without : (limit : Option ℕ) (m : Model) (f : Form) → form_of limit m ≡ Ok f → form_of None m ≡ Ok f
-form_without limit m f e =
-    ⊎_elim
-    (λ z. sym z ∙ e)
-    (λ p. let z : ◌≡◌ {A = Result Form (FormFault ℚ)} (Ok f) (Err (fault.Past p.0)) = sym e ∙ p.1 in cc)
-    ((form_agrees limit m).same)
 
 module _ (limit : Option ℕ) (budget : ℕ) (m : Model) (f : Form) (formed : form_of limit m ≡ Ok f) where
   pub run_is : over_run None budget f ≡ answer_in (phases_run None budget f)

@@ -10,6 +10,7 @@ use Rattle.spec_check.specs.declared.certificate.Certificate.{Certificate}
 use Rattle.spec_check.specs.declared.certificate.Certificate.TheVariants as certificate
 use Rattle.spec_pivot.specs.declared.status.Status.{Status}
 use Rattle.spec_pivot.specs.Simplex.{Bounds}
+use Rattle.spec_pivot.proofs.Ray.{delta_sym}
 use Rattle.spec_simplex.specs.declared.ends.RowStart.{RowStart}
 use Rattle.spec_simplex.specs.declared.ends.RowStart.TheVariants.{Within}
 use Rattle.spec_simplex.specs.declared.ends.PrimalEnd.TheVariants.{Optimal}
@@ -38,7 +39,6 @@ use Rattle.spec_factor.specs.Basis.{IsPair, StandsFor, basis_of}
 use Rattle.spec_factor.specs.Revised.{Revised, bare_of, factor_column, refactor_run}
 use Rattle.spec_factor.specs.Over.{RevisedEnded, over_from, nothing_seen, second_state, OverEnd, negatives}
 use Rattle.spec_factor.specs.Over.{stuck_answer, end_answer, over_two, over_phases, over_run, answer_of, answer_in}
-use Rattle.spec_factor.proofs.Solves.{delta_sym}
 use Rattle.spec_factor.specs.Same.{Places, bare_with, state, GoesWith, HasCosts}
 use Rattle.spec_factor.proofs.Whole.{plain_column, column_logical}
 use Rattle.spec_factor.proofs.OverSteps.{there_is, places_of}

@@ -12,7 +12,7 @@ use Rattle.spec_pivot.specs.Tableau.{Matrix, delta}
 use Rattle.spec_pivot.specs.Simplex.{Bounds, Enters, ray, sign, SameStatuses}
 use Rattle.spec_pivot.proofs.Kept.{j_outside}
 use Rattle.spec_pivot.proofs.Pivot.{by_eq, sum_below-delta}
-use Rattle.spec_pivot.proofs.Ray.{ray_at, ray_basic, ray_still}
+use Rattle.spec_pivot.proofs.Ray.{ray_at, ray_basic, ray_still, delta_sym}
 use Rattle.spec_simplex.specs.declared.ends.RowStart.{RowStart}
 use Rattle.spec_simplex.specs.declared.ends.PrimalEnd.{PrimalEnd}
 use Rattle.spec_simplex.specs.declared.ends.PrimalEnd.TheVariants.{Optimal, Unbounded}
@@ -34,7 +34,6 @@ use Rattle.spec_factor.specs.Factors.{Pair}
 use Rattle.spec_factor.specs.Revised.{Selection}
 use Rattle.spec_factor.specs.Over.{negatives, over_certificate}
 use Rattle.spec_factor.proofs.RunLists.{Reads}
-use Rattle.spec_factor.proofs.Solves.{delta_sym}
 use Rattle.spec_factor.specs.Same.{Places, bare_with}
 use Rattle.spec_factor.proofs.SameChoices.{both}
 use Rattle.spec_factor.proofs.Whole.{multiplier, price, price_is}

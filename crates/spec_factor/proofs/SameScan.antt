@@ -1,25 +1,15 @@
 -- The ratio test finds the same best column in whatever order the positions come.
 use Rattle.std.proofs.Common.{◌≡◌, ◌≢◌, ℕ, zero, suc, ◌<◌, ◌≤◌, Option, Some, None, Bool, true}
-use Rattle.std.proofs.Common.{false, cond, refl, sym, ap, ◌∙◌, subst, arith, inl, inr, ⊎_elim}
-use Rattle.spec_exact.specs.Fraction.{ℚ, ◌<ℚ◌}
-use Rattle.spec_exact.proofs.Order.{≤ℚ_antisym, <ℚ-le}
-use Rattle.spec_exact.proofs.Strict.{<ℚ-≤ℚ_trans}
+use Rattle.std.proofs.Common.{false, cond, refl, sym, ap, ◌∙◌, subst, arith, inr, ⊎_elim}
+use Rattle.spec_exact.specs.Fraction.{ℚ}
+use Rattle.spec_exact.proofs.Order.{≤ℚ_antisym}
 use Rattle.spec_pivot.specs.Ratio.{Best, NoWorse, is_better, take_room, scan}
-use Rattle.spec_pivot.proofs.Ratio.{won, no_more, no_later, none_before, none_first, found, scan_least}
+use Rattle.spec_pivot.proofs.Ratio.{no_more, no_later, none_before, none_first, found, scan_least, better_still}
 
 -- ---- the order of bests
 NoWorse_refl : (x : Best) → NoWorse x x.ratio x.column
 unfolding NoWorse
 NoWorse_refl x = inr (refl, let k : x.column ≤ x.column = omega arith in k)
-
-better_no_worse : (q : ℚ) (k : ℕ) (i : Option ℕ) (y : Best) (p : ℚ) (c : ℕ) → is_better q k (Some y) ≡ true →
-    NoWorse y p c → NoWorse (record { ratio = q; column = k; position = i }) p c
-unfolding NoWorse
-better_no_worse q k i y p c e w =
-    ⊎_elim
-    (λ a. inl (⊎_elim (λ z. <ℚ-≤ℚ_trans _ _ _ a (<ℚ-le _ _ z)) (λ z. subst (λ x. q <ℚ x) z.0 a) w))
-    (λ a. ⊎_elim (λ z. inl (subst (λ x. x <ℚ p) (sym a.0) z)) (λ z. inr (a.0 ∙ z.0, omega (arith, a.1, z.1))) w)
-    (won q k y e)
 
 -- the best is no worse than the first
 scan_start : (r : ℕ → Option ℚ) (c : ℕ → ℕ) (y : Best) (m : ℕ) (x : Best) → scan m r c (Some y) ≡ Some x →
@@ -39,7 +29,7 @@ scan_start r c y (suc m) x e = go (r m) (scan m r c (Some y)) refl e (λ z k. sc
         pick true p h =
             let same : ◌≡◌ {A = Best} (record { ratio = q; column = c m; position = Some m }) x = cc in
             subst (λ (x : Best). NoWorse x y.ratio y.column) same
-            (better_no_worse q (c m) (Some m) z y.ratio y.column p (ih z w))
+            (better_still q (c m) (Some m) z y.ratio y.column p (ih z w))
         pick false p h = let same : z ≡ x = cc in subst (λ (x : Best). NoWorse x y.ratio y.column) same (ih z w)
 
 -- two bests of which none is worse

@@ -10,6 +10,7 @@ use Rattle.spec_exact.proofs.Ruleset.{ring}
 use Rattle.spec_exact.proofs.Sums.{sum_below_same, exchange}
 use Rattle.spec_pivot.specs.Tableau.{Matrix, delta}
 use Rattle.spec_pivot.proofs.Pivot.{by_eq, delta_same, delta_other, sum_below-delta}
+use Rattle.spec_pivot.proofs.Ray.{delta_sym}
 use Rattle.spec_path.proofs.Runs.{then_ok}
 use Rattle.spec_factor.specs.Factors.{Pair, pair_at, Factors, ftran_run, btran_run, with_pair, replace_run}
 use Rattle.spec_factor.specs.Basis.{forward_one, forward, IsPair, StandsFor, SolvesColumns, SolvesRows, with_column}
@@ -17,11 +18,6 @@ use Rattle.spec_factor.proofs.Forward.{one_at_place, one_off_place, forward-appe
 use Rattle.spec_factor.proofs.Forward.{forward_same, forward_combines, forward_apart}
 use Rattle.spec_factor.proofs.Backward.{backward, adjoint}
 use Rattle.spec_factor.proofs.RunLists.{Reads, read, ftran_ok, btran_ok}
-
-pub delta_sym : (i r : ℕ) → delta i r ≡ delta r i
-delta_sym i r =
-    by_eq i r (λ e. subst (λ r. delta i r ≡ delta r i) e refl)
-    (λ n. delta_other i r n ∙ sym (delta_other r i (λ e. n (sym e))))
 
 module _ (m : ℕ) (pairs : List Pair) (basis : Matrix) (stands : StandsFor m pairs basis) where
   -- a combination of the basis's columns has its weights as its solution

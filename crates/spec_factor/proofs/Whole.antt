@@ -4,7 +4,7 @@ use Rattle.std.proofs.Common.{◌≡◌, ℕ, ◌+◌, ◌-◌, ◌<◌, ◌≤�
 use Rattle.std.proofs.Common.{false, cond, refl, sym, ap, ap₂, ◌∙◌, subst, arith, lt-ltb, le-ltb}
 use Rattle.std.proofs.lemmas.Bool.{le-leb, lt-leb}
 use Rattle.std.proofs.lemmas.List.{get_or-map, get_or_past}
-use Rattle.spec_exact.specs.Fraction.{ℚ, ◌+ℚ◌, ◌-ℚ◌, ◌*ℚ◌, neg_ℚ, 0ℚ, 1ℚ}
+use Rattle.spec_exact.specs.Fraction.{ℚ, ◌+ℚ◌, ◌-ℚ◌, ◌*ℚ◌, 0ℚ, 1ℚ}
 use Rattle.spec_exact.specs.Sums.{sum_below}
 use Rattle.spec_exact.proofs.Field.{*ℚ_assoc, *ℚ_one, *ℚ_zero, +ℚ_neg}
 use Rattle.spec_exact.proofs.Ruleset.{ring, one-*ℚ}
@@ -13,7 +13,6 @@ use Rattle.spec_pivot.specs.Tableau.{Matrix, delta}
 use Rattle.spec_pivot.specs.Simplex.{Bounds}
 use Rattle.spec_pivot.proofs.Pivot.{by_eq, delta_same, delta_other, sum_below-delta}
 use Rattle.spec_simplex.specs.declared.ends.RowStart.{RowStart}
-use Rattle.spec_simplex.specs.declared.ends.RowStart.TheVariants.{Within, Below, Above}
 use Rattle.spec_simplex.specs.Form.{Form}
 use Rattle.spec_exact.specs.Run.{made}
 use Rattle.spec_simplex.specs.Start.{logical_sign, start_at, cost_at}
@@ -24,6 +23,7 @@ use Rattle.spec_path.specs.Begins.{form_rows, signs_of}
 use Rattle.spec_path.proofs.Columns.{by_kind}
 use Rattle.spec_path.proofs.Equations.{row_structural, row_logical, row_artificial, row_past}
 use Rattle.spec_path.proofs.Lists.{by_lt, past_row}
+use Rattle.spec_path.proofs.Begun.{sign_square, twice}
 use Rattle.spec_factor.specs.Factors.{Pair, column_entry}
 use Rattle.spec_factor.specs.Basis.{forward, basis_of}
 use Rattle.spec_factor.specs.Revised.{sign_of, factor_column}
@@ -31,17 +31,6 @@ use Rattle.spec_factor.proofs.Forward.{forward_combines}
 use Rattle.spec_factor.proofs.Backward.{backward}
 use Rattle.spec_factor.proofs.Solves.{columns_solved, rows_solved}
 use Rattle.spec_factor.specs.Same.{Places}
-
-sign_square : (s : RowStart ℚ) → logical_sign s *ℚ logical_sign s ≡ 1ℚ
-sign_square (Within v) = *ℚ_one 1ℚ
-sign_square (Below gap) = minus
-  where
-    minus : neg_ℚ 1ℚ *ℚ neg_ℚ 1ℚ ≡ 1ℚ
-    minus = simp ring
-sign_square (Above gap) = *ℚ_one 1ℚ
-
-pub twice : (c d : ℚ) → c *ℚ c ≡ 1ℚ → c *ℚ (c *ℚ d) ≡ d
-twice c d e = sym (*ℚ_assoc c c d) ∙ ap (λ a. a *ℚ d) e ∙ one-*ℚ d
 
 -- ---- columns of the equations, up to the sign
 module _ (f : Form) (starts : List (RowStart ℚ)) (t : Tableau) (rows : t.rows ≡ f.rows) (cols : t.cols ≡ f.cols) where

@@ -1,6 +1,6 @@
 -- The tableau that a form begins with is one of the form's equations, and each value is within its bounds.
 use Rattle.std.proofs.Common.{◌≡◌, ◌⊎◌, inl, inr, ℕ, ◌+◌, ◌-◌, ◌<◌, ◌≤◌, List, [], ◌++◌, length}
-use Rattle.std.proofs.Common.{get_or, map, replicate, Option, Some, None, IfSome, Ok, Bool}
+use Rattle.std.proofs.Common.{get_or, map, replicate, Option, Some, None, Ok, Bool}
 use Rattle.std.proofs.Common.{true, false, cond, nat_eq, refl, sym, ap, ap₂, ◌∙◌, subst, arith}
 use Rattle.std.proofs.lemmas.Bool.{le-leb, lt-leb}
 use Rattle.std.proofs.lemmas.List.{length-append, length-map, length-replicate, get_or_append_left}
@@ -16,6 +16,8 @@ use Rattle.spec_pivot.specs.declared.status.Status.TheVariants.{Basic, AtLower, 
 use Rattle.spec_pivot.specs.Tableau.{Matrix, Spans, delta, IsUnit}
 use Rattle.spec_pivot.specs.Simplex.{IsInside, Stands, AgreesWith}
 use Rattle.spec_pivot.proofs.Pivot.{by_eq, delta_other, sum_below-delta}
+use Rattle.spec_pivot.proofs.Ray.{delta_sym}
+use Rattle.spec_pivot.proofs.Optimal.{if_some}
 use Rattle.spec_simplex.specs.declared.ends.RowStart.{RowStart}
 use Rattle.spec_simplex.specs.declared.ends.RowStart.TheVariants.{Within, Below, Above}
 use Rattle.spec_simplex.specs.Form.{Form, form_entry, form_lower, form_upper}
@@ -36,11 +38,6 @@ use Rattle.spec_path.proofs.Columns.{structural_at, logical_at, artificial_at, b
 use Rattle.spec_path.proofs.Equations.{row_structural, row_logical, row_artificial, row_past}
 use Rattle.spec_path.proofs.Priced.{priced_length, priced_agrees}
 use Rattle.spec_path.proofs.RowStarts.{first_sum, RowBegins, within, below, above, start_is}
-
-pub delta_sym : (i r : ℕ) → delta i r ≡ delta r i
-delta_sym i r =
-    by_eq i r (λ e. subst (λ r. delta i r ≡ delta r i) e refl)
-    (λ n. delta_other i r n ∙ sym (delta_other r i (λ e. n (sym e))))
 
 one_is : (i r : ℕ) (v : ℚ) → one_at i r v ≡ v *ℚ delta i r
 one_is i r v = by (nat_eq i r)
@@ -65,7 +62,7 @@ structural_sign (Below gap) a = minus a
     minus a = simp ring
 structural_sign (Above gap) a = sym (one-*ℚ (neg_ℚ a))
 
-twice : (c d : ℚ) → c *ℚ c ≡ 1ℚ → c *ℚ (c *ℚ d) ≡ d
+pub twice : (c d : ℚ) → c *ℚ c ≡ 1ℚ → c *ℚ (c *ℚ d) ≡ d
 twice c d e = sym (*ℚ_assoc c c d) ∙ ap (λ a. a *ℚ d) e ∙ one-*ℚ d
 
 -- ---- bounds
@@ -85,10 +82,6 @@ first_inside (Some l) None h = record { lower = ≤ℚ_refl l; upper = tt }
 first_inside (Some l) (Some u) h = record { lower = ≤ℚ_refl l; upper = h l u refl refl }
 first_inside None (Some u) h = record { lower = tt; upper = ≤ℚ_refl u }
 first_inside None None h = record { lower = tt; upper = tt }
-
-if_some : (P : ℚ → Type 0) (o : Option ℚ) → ((a : ℚ) → o ≡ Some a → P a) → IfSome o P
-if_some P None h = tt
-if_some P (Some a) h = h a refl
 
 logical_stands : (l u : Option ℚ) (v : ℚ) (s : RowStart ℚ) → RowBegins l u v s →
     Stands (logical_status s) l u (logical_value s l u)

@@ -1,5 +1,5 @@
 -- The form, the start and the steps at a limit beside those without one.
-use Rattle.std.proofs.Common.{◌≡◌, ℕ, ◌+◌, List, Option, Some, None, Ok, Bool, nat_eq}
+use Rattle.std.proofs.Common.{◌≡◌, ℕ, ◌+◌, List, Option, Some, None, Ok, Bool, nat_eq, ⊎_elim, Result, Err, sym, ◌∙◌}
 use Rattle.std.specs.declared.cmp.Ordering.{Ordering}
 use Rattle.std.specs.declared.cmp.Ordering.TheVariants.{Less, Equal, Greater}
 use Rattle.spec_exact.specs.Fraction.{ℚ, 0ℚ, abs_ℚ, lt_ℚ}
@@ -24,11 +24,11 @@ use Rattle.spec_path.proofs.Refusals.{Agrees, as_it_is, agrees_ok, agrees_err, a
 use Rattle.spec_path.proofs.Refusals.{agrees_steps, agrees_as, agrees_list, agrees_sum, agrees_difference}
 use Rattle.spec_path.proofs.Refusals.{agrees_quotient, agrees_order, agrees_plus, agrees_less}
 
-ok : {A : Type 0} (a : A) → Agrees {A = A} as_it_is (Ok a) (Ok a)
+pub ok : {A : Type 0} (a : A) → Agrees {A = A} as_it_is (Ok a) (Ok a)
 ok a = agrees_ok as_it_is a
 
-also : {A B : Type 0} (o u : Run A) (f g : A → Run B) → Agrees as_it_is o u → ((a : A) → Agrees as_it_is (f a) (g a)) →
-    Agrees as_it_is (o >>= f) (u >>= g)
+pub also : {A B : Type 0} (o u : Run A) (f g : A → Run B) → Agrees as_it_is o u →
+    ((a : A) → Agrees as_it_is (f a) (g a)) → Agrees as_it_is (o >>= f) (u >>= g)
 also o u f g = agrees_then as_it_is o u f g
 
 module _ (limit : Option ℕ) where
@@ -211,3 +211,11 @@ module _ (limit : Option ℕ) where
       also _ _ _ _ (shifted_agrees values j theta) (λ shifted.
       also _ _ _ _ (turned_agrees _ _ _ p j) (λ rows.
       also _ _ _ _ (repriced_agrees _ _ rows p j) (λ reduced. ok _))))
+
+-- a form at a limit is the one without
+pub form_without : (limit : Option ℕ) (m : Model) (f : Form) → form_of limit m ≡ Ok f → form_of None m ≡ Ok f
+form_without limit m f e =
+    ⊎_elim
+    (λ z. sym z ∙ e)
+    (λ p. let z : ◌≡◌ {A = Result Form (FormFault ℚ)} (Ok f) (Err (fault.Past p.0)) = sym e ∙ p.1 in cc)
+    ((form_agrees limit m).same)

@@ -55,18 +55,18 @@ stands_zero AtUpper l u v a b n s =
 stands_zero AtZero l u v a b n s = s.2
 
 -- ---- bounds that are set to 0
-zeroed_length : (n m : ℕ) (bounds : List (Option ℚ)) → length (fixed_at_zero n m bounds) ≡ length bounds
+pub zeroed_length : (n m : ℕ) (bounds : List (Option ℚ)) → length (fixed_at_zero n m bounds) ≡ length bounds
 zeroed_length n zero bounds = refl
 zeroed_length n (suc m) bounds = length-set (fixed_at_zero n m bounds) (n + m) (Some 0ℚ) ∙ zeroed_length n m bounds
 
-zeroed_before : (n m : ℕ) (bounds : List (Option ℚ)) (k : ℕ) → k < n →
+pub zeroed_before : (n m : ℕ) (bounds : List (Option ℚ)) (k : ℕ) → k < n →
     get_or (fixed_at_zero n m bounds) k None ≡ get_or bounds k None
 zeroed_before n zero bounds k h = refl
 zeroed_before n (suc m) bounds k h =
     get_or-set_other (fixed_at_zero n m bounds) (n + m) k (Some 0ℚ) None (λ e. let z : ⊥ = omega (arith, h, e) in z)
     ∙ zeroed_before n m bounds k h
 
-zeroed_after : (n m : ℕ) (bounds : List (Option ℚ)) → n + m ≤ length bounds → (k : ℕ) → n ≤ k → k < n + m →
+pub zeroed_after : (n m : ℕ) (bounds : List (Option ℚ)) → n + m ≤ length bounds → (k : ℕ) → n ≤ k → k < n + m →
     get_or (fixed_at_zero n m bounds) k None ≡ Some 0ℚ
 zeroed_after n zero bounds all k h l = absurd (let z : ⊥ = omega (arith, h, l) in z)
 zeroed_after n (suc m) bounds all k h l =

@@ -33,7 +33,7 @@ use Rattle.spec_path.proofs.Formed.{Limited, cost_length, formed_proper}
 use Rattle.spec_path.proofs.Formed.{HasBounds}
 use Rattle.spec_path.proofs.FirstPhase.{never_goes_on}
 
-some_label : Label
+pub some_label : Label
 some_label = record { kind = kind.Flip; way = Up; column = 0; position = 0; theta = 0ℚ; to = Basic }
 
 module _ (limit : Option ℕ) (m : Model) (ls : List (Option ℚ × Option ℚ)) (h : Limited m ls) where

@@ -33,8 +33,8 @@ ahead_is true = refl
 ahead_is false = refl
 
 -- a column with a lower bound flips the way that it enters
-way_is : (s : Status) (up : Bool) (l u : Option ℚ) (v low : ℚ) → l ≡ Some low → CanMove (way up) s → Stands s l u v →
-    flip_way s ≡ up
+pub way_is : (s : Status) (up : Bool) (l u : Option ℚ) (v low : ℚ) → l ≡ Some low → CanMove (way up) s →
+    Stands s l u v → flip_way s ≡ up
 way_is Basic true l u v low e c s = absurd c
 way_is Basic false l u v low e c s = absurd c
 way_is AtLower true l u v low e c s = refl

@@ -31,11 +31,11 @@ use Rattle.spec_path.proofs.Flips.{directed_is}
 
 -- ---- magnitudes
 -- the magnitude of an entry, by the way of the column
-abs_falling : (up : Bool) (a : ℚ) → directed up a <ℚ 0ℚ → abs_ℚ a ≡ neg_ℚ (directed up a)
+pub abs_falling : (up : Bool) (a : ℚ) → directed up a <ℚ 0ℚ → abs_ℚ a ≡ neg_ℚ (directed up a)
 abs_falling true a h = abs_below a h
 abs_falling false a h = abs_above a (<ℚ-le 0ℚ a (turned_back a h)) ∙ sym (neg-neg a)
 
-abs_rising : (up : Bool) (a : ℚ) → 0ℚ <ℚ directed up a → abs_ℚ a ≡ directed up a
+pub abs_rising : (up : Bool) (a : ℚ) → 0ℚ <ℚ directed up a → abs_ℚ a ≡ directed up a
 abs_rising true a h = abs_above a (<ℚ-le 0ℚ a h)
 abs_rising false a h = abs_below a (turned_down a h)
 

@@ -41,7 +41,7 @@ pub record Walk (m n : ℕ) (b : Bounds) (t : Tableau) (length : ℕ) : Type 0 w
   pub first : tables 0 ≡ table_of t
   pub steps : (i : ℕ) → i < length → IsStep m (n + m + m) b (labels i) (tables i) (tables (suc i))
 
-before : {A : Type 0} → A → (ℕ → A) → ℕ → A
+unfoldable pub before : {A : Type 0} → A → (ℕ → A) → ℕ → A
 before x f zero = x
 before x f (suc i) = f i
 

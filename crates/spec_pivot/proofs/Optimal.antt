@@ -34,7 +34,7 @@ none_eligible n b t feasible way k h e =
     not_improving way (t.status k) (t.reduced k) (feasible k h e.may_enter.1) e.status e.improves
 
 -- ---- values that are not basic are within their bounds
-if_some : (P : ℚ → Type 0) (x : Option ℚ) → ((a : ℚ) → x ≡ Some a → P a) → IfSome x P
+pub if_some : (P : ℚ → Type 0) (x : Option ℚ) → ((a : ℚ) → x ≡ Some a → P a) → IfSome x P
 if_some P None k = tt
 if_some P (Some a) k = k a refl
 

@@ -36,8 +36,8 @@ lost q k y e = go (lt_ℚ q y.ratio) (lt_ℚ y.ratio q) (nat_lt k y.column) refl
     go false false false p r s e =
         inr (≤ℚ_antisym y.ratio q (le_if_not q y.ratio p) (le_if_not y.ratio q r), ltb-false k y.column s)
 
-better_still : (q : ℚ) (k : ℕ) (i : Option ℕ) (y : Best) (p : ℚ) (c : ℕ) → is_better q k (Some y) ≡ true → NoWorse y p c
-    → NoWorse (record { ratio = q; column = k; position = i }) p c
+pub better_still : (q : ℚ) (k : ℕ) (i : Option ℕ) (y : Best) (p : ℚ) (c : ℕ) → is_better q k (Some y) ≡ true →
+    NoWorse y p c → NoWorse (record { ratio = q; column = k; position = i }) p c
 unfolding NoWorse
 better_still q k i y p c e w =
     ⊎_elim

@@ -12,7 +12,7 @@ use Rattle.spec_pivot.specs.Simplex.{sign, Table, ray}
 use Rattle.spec_pivot.proofs.Pivot.{by_eq, delta_same, delta_other, sum_below-delta}
 use Rattle.spec_pivot.proofs.Unique.{apart}
 
-delta_sym : (i r : ℕ) → delta i r ≡ delta r i
+pub delta_sym : (i r : ℕ) → delta i r ≡ delta r i
 delta_sym i r =
     by_eq i r (λ e. subst (λ r. delta i r ≡ delta r i) e refl)
     (λ n. delta_other i r n ∙ sym (delta_other r i (λ e. n (sym e))))

@@ -36,7 +36,7 @@ by_basic AtLower f g = g (λ e. cc)
 by_basic AtUpper f g = g (λ e. cc)
 by_basic AtZero f g = g (λ e. cc)
 
-same_stand : (s : Status) (l u : Option ℚ) (v w : ℚ) → ¬ (s ≡ Basic) → Stands s l u v → Stands s l u w → v ≡ w
+pub same_stand : (s : Status) (l u : Option ℚ) (v w : ℚ) → ¬ (s ≡ Basic) → Stands s l u v → Stands s l u w → v ≡ w
 same_stand Basic l u v w n a c = absurd (n refl)
 same_stand AtLower l u v w n a c = let e : Some v ≡ Some w = sym a ∙ c in cc
 same_stand AtUpper l u v w n a c = let e : Some v ≡ Some w = sym a ∙ c in cc

@@ -5,6 +5,7 @@ use Rattle.spec_exact.specs.Fraction.{ℚ, 0ℚ, ◌*ℚ◌, neg_ℚ, ◌≤ℚ�
 use Rattle.spec_exact.proofs.Order.{≤ℚ_trans, lt_test, not_lt_test, <ℚ-le, clash_ℚ}
 use Rattle.spec_exact.proofs.Strict.{by_sign, neg_strict}
 use Rattle.spec_exact.proofs.Ruleset.{zero-*ℚ, neg-zero, neg-neg}
+use Rattle.spec_pivot.proofs.Optimal.{if_some}
 use Rattle.spec_model.specs.Model.{Limits}
 use Rattle.spec_model.specs.Truth.{IsBetween}
 use Rattle.spec_check.specs.Checks.{IsTight, HasLimit, Allows, asked, or_zero, turned_limits}
@@ -64,10 +65,6 @@ pub record Tightens (s b : Limits) (lower upper : Option ℚ) : Type 0 where
   pub low_old : (q : ℚ) → b.lower ≡ Some q → Least (or_old lower b.lower) q
   pub high_row : (q : ℚ) → s.upper ≡ Some q → Most (or_old upper b.upper) q
   pub high_old : (q : ℚ) → b.upper ≡ Some q → Most (or_old upper b.upper) q
-
-if_some : (P : ℚ → Type 0) (o : Option ℚ) → ((k : ℚ) → o ≡ Some k → P k) → IfSome o P
-if_some P None h = tt
-if_some P (Some k) h = h k refl
 
 at_some : (P : ℚ → Type 0) (o : Option ℚ) (k : ℚ) → IfSome o P → o ≡ Some k → P k
 at_some P o k h e = subst (λ o. IfSome o P) e h

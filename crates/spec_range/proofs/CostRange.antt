@@ -28,6 +28,7 @@ use Rattle.spec_path.specs.Tables.{table_of}
 use Rattle.spec_path.proofs.Formed.{Limited, form_is}
 use Rattle.spec_path.proofs.Runs.{then_ok, refused_ok}
 use Rattle.spec_path.proofs.Orders.{given}
+use Rattle.spec_path.proofs.LimitStart.{form_without}
 use Rattle.spec_cold.specs.Cold.{point, multipliers}
 use Rattle.spec_warm.proofs.Chosen.{place_is}
 use Rattle.spec_warm.proofs.Counts.{basic_if, basic_test}
@@ -42,7 +43,7 @@ use Rattle.spec_range.proofs.Compared.{IsMoved, good_keeps, good_optimal, keeps_
 use Rattle.spec_range.proofs.Costs.{other_width, cost_there, cost_elsewhere, growth, costs_with}
 use Rattle.spec_range.proofs.Costs.{IsRowOf, basic_row, no_row, is_moved}
 use Rattle.spec_range.proofs.CostEnds.{basic_ok, own_ok}
-use Rattle.spec_range.proofs.Exists.{form_unlimited, start_unlimited}
+use Rattle.spec_range.proofs.Exists.{start_unlimited}
 use Rattle.spec_range.proofs.Moves.{repriced}
 
 -- what is known of the tableau of a basis that keeps the model
@@ -58,7 +59,7 @@ pub kept : (limit : Option ℕ) (m : Model) (basis : List Status) (f : Form) (t 
     Keeps m basis → start_from limit f basis ≡ Ok t → IsKept limit m basis f t
 kept limit m basis f t formed_ k ok =
     let o = form_is limit m f formed_ in
-    let same : k.form ≡ f = ok_same k.form f (sym k.formed ∙ form_unlimited limit m f formed_) in
+    let same : k.form ≡ f = ok_same k.form f (sym k.formed ∙ form_without limit m f formed_) in
     let back : k.form ≡ formed m o.0 = same ∙ sym o.2 in
     let here : start_from None (formed m o.0) basis ≡ Ok t =
     ap (λ f. start_from None f basis) o.2 ∙ start_unlimited limit f basis t ok in

@@ -18,12 +18,12 @@ use Rattle.spec_path.proofs.Begun.{Started, sign_square}
 use Rattle.spec_path.proofs.Formed.{Limited, form_is}
 use Rattle.spec_path.proofs.Phases.{IsFirst, by_phases, second_bounds, second_fixed}
 use Rattle.spec_path.proofs.Walks.{IsEnd}
+use Rattle.spec_path.proofs.LimitStart.{form_without}
 use Rattle.spec_cold.specs.Cold as cold
 use Rattle.spec_cold.proofs.EndOptimal.{zero_inside}
 use Rattle.spec_cold.proofs.Shown.{primal_shows}
 use Rattle.spec_range.specs.Span.{Keeps}
 use Rattle.spec_range.proofs.EndKeeps.{end_keeps}
-use Rattle.spec_range.proofs.Exists.{form_unlimited}
 
 module _ (limit : Option ℕ) (m : Model) (ls : List (Option ℚ × Option ℚ)) (h : Limited m ls)
     (formed_ : form_of None m ≡ Ok (formed m ls)) where
@@ -62,5 +62,5 @@ pub bases_keep : (limit : Option ℕ) (budget : ℕ) (m : Model) (f : Form) (e :
     form_of limit m ≡ Ok f → phases_run limit budget f ≡ Ok e → cold.basis_of e ≡ Some left → Keeps m left
 bases_keep limit budget m f e left p q r =
     let o = form_is limit m f p in
-    leaves limit m o.0 o.1 (form_unlimited limit m f p ∙ ap Ok (sym o.2)) budget e
+    leaves limit m o.0 o.1 (form_without limit m f p ∙ ap Ok (sym o.2)) budget e
     (ap (phases_run limit budget) o.2 ∙ q) left r

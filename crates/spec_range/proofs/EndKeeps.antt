@@ -13,13 +13,14 @@ use Rattle.spec_exact.proofs.Sums.{sum_below_same, sum_below-sub, *ℚ-sum_below
 use Rattle.spec_model.specs.Model.{Model, width, height}
 use Rattle.spec_check.specs.Checks.{ChecksOptimal}
 use Rattle.spec_pivot.specs.declared.status.Status.{Status}
-use Rattle.spec_pivot.specs.declared.status.Status.TheVariants.{Basic, AtLower, AtUpper, AtZero}
+use Rattle.spec_pivot.specs.declared.status.Status.TheVariants.{Basic, AtLower}
 use Rattle.spec_pivot.specs.Tableau.{Matrix, delta}
 use Rattle.spec_pivot.specs.Simplex.{Bounds, Stands, IsTableau}
 use Rattle.spec_pivot.proofs.Pivot.{sum_below-delta}
 use Rattle.spec_pivot.proofs.Unique.{same_reduced_costs}
 use Rattle.spec_pivot.proofs.Rows.{row_at}
-use Rattle.spec_pivot.proofs.Values.{by_basic, combined, zero_at_basic}
+use Rattle.spec_pivot.proofs.Values.{by_basic, combined, zero_at_basic, same_stand}
+use Rattle.spec_pivot.proofs.Ray.{delta_sym}
 use Rattle.spec_simplex.specs.declared.ends.StartStop.{StartStop}
 use Rattle.spec_simplex.specs.declared.ends.StartStop.TheVariants as stop
 use Rattle.spec_simplex.specs.Form.{Form, form_of, formed}
@@ -29,7 +30,6 @@ use Rattle.spec_simplex.specs.Eliminate.{basis_at, IsBasisOf, start_from}
 use Rattle.spec_exact.proofs.Stops.{get_or-made, made_same}
 use Rattle.spec_path.specs.Begins.{form_rows}
 use Rattle.spec_path.specs.Tables.{table_of}
-use Rattle.spec_path.proofs.Begun.{delta_sym}
 use Rattle.spec_path.proofs.Columns.{by_kind, sum_by_kind, structural_at, logical_at, artificial_at}
 use Rattle.spec_path.proofs.Equations.{row_structural, row_logical, row_artificial}
 use Rattle.spec_path.proofs.Formed.{Limited, HasBounds, cost_other, formed_proper}
@@ -42,13 +42,6 @@ use Rattle.spec_warm.proofs.Singular.{start_singular}
 use Rattle.spec_range.specs.Span.{Keeps}
 use Rattle.spec_range.proofs.Started.{form_bounds, bounded, fixed_after, status_before, status_after}
 use Rattle.spec_range.proofs.Checked.{parts, tableau}
-
--- two points that stand where one status says are one
-same_stand : (s : Status) (l u : Option ℚ) (v w : ℚ) → ¬ (s ≡ Basic) → Stands s l u v → Stands s l u w → v ≡ w
-same_stand Basic l u v w n a c = absurd (n refl)
-same_stand AtLower l u v w n a c = let e : Some v ≡ Some w = sym a ∙ c in cc
-same_stand AtUpper l u v w n a c = let e : Some v ≡ Some w = sym a ∙ c in cc
-same_stand AtZero l u v w n a c = a.2 ∙ sym c.2
 
 module _ (m : Model) (ls : List (Option ℚ × Option ℚ)) (h : Limited m ls)
     (formed_ : form_of None m ≡ Ok (formed m ls)) (signs : ℕ → ℚ) (squares : (i : ℕ) → signs i *ℚ signs i ≡ 1ℚ)

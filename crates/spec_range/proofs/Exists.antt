@@ -18,6 +18,7 @@ use Rattle.spec_simplex.specs.Eliminate.{Elimination, basis_at, unsolved, open_b
 use Rattle.spec_simplex.specs.Eliminate.{eliminate_run, with_basis, filled_run, start_from}
 use Rattle.spec_path.proofs.LimitStart.{form_agrees}
 use Rattle.spec_path.proofs.Runs.{then_ok}
+pub use Rattle.spec_path.proofs.LimitStart.{form_without}
 use Rattle.spec_cold.proofs.Formed.{clash_is}
 use Rattle.spec_warm.proofs.LimitSteps.{from_agrees}
 
@@ -86,10 +87,6 @@ pub start_unlimited : (limit : Option ℕ) (f : Form) (basis : List Status) (t :
     start_from limit f basis ≡ Ok t → start_from None f basis ≡ Ok t
 start_unlimited limit f basis t h =
     ⊎_elim (λ e. sym e ∙ h) (λ p. ok_not_err t (stop.Past p.0) (sym h ∙ p.1)) (from_agrees limit f basis).same
-
-pub form_unlimited : (limit : Option ℕ) (m : Model) (f : Form) → form_of limit m ≡ Ok f → form_of None m ≡ Ok f
-form_unlimited limit m f h =
-    ⊎_elim (λ e. sym e ∙ h) (λ p. ok_not_err f (fault.Past p.0) (sym h ∙ p.1)) (form_agrees limit m).same
 
 -- ---- a form
 pub form_exists : (m : Model) →

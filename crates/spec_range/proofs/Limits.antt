@@ -16,8 +16,9 @@ use Rattle.spec_simplex.specs.Tableau.{lower_at, upper_at, is_basic, is_fixed}
 use Rattle.spec_simplex.specs.Fit.{is_there}
 use Rattle.spec_simplex.specs.Dual.{place_of}
 use Rattle.spec_simplex.specs.Eliminate.{start_from}
-use Rattle.spec_path.proofs.Refusals.{Agrees, as_it_is, agrees_ok, agrees_then, agrees_if, agrees_steps, agrees_as}
+use Rattle.spec_path.proofs.Refusals.{Agrees, as_it_is, agrees_then, agrees_if, agrees_steps, agrees_as}
 use Rattle.spec_path.proofs.Refusals.{agrees_sum, agrees_difference, agrees_quotient, agrees_order}
+use Rattle.spec_path.proofs.LimitStart.{ok, also, form_without}
 use Rattle.spec_warm.proofs.LimitSteps.{from_agrees}
 use Rattle.spec_range.specs.declared.range.Ends.{Ends}
 use Rattle.spec_range.specs.declared.range.Range.{Range}
@@ -26,15 +27,7 @@ use Rattle.spec_range.specs.Rule.{no_ends, greater_run, lesser_run, at_least, at
 use Rattle.spec_range.specs.Rule.{ends_by, falls_by, own_number, own_ends, is_moved, moved_ends, basic_ends}
 use Rattle.spec_range.specs.Rule.{cost_run, shifted_run, still_ends, bound_ends, carried_ends, is_carried}
 use Rattle.spec_range.specs.Rule.{nonbasic_ends, side_run, cost_range, side_range}
-use Rattle.spec_range.proofs.Exists.{form_unlimited}
 use Rattle.spec_exact.proofs.Results.{ok_same}
-
-ok : {A : Type 0} (a : A) → Agrees {A = A} as_it_is (Ok a) (Ok a)
-ok a = agrees_ok as_it_is a
-
-also : {A B : Type 0} (o u : Run A) (f g : A → Run B) → Agrees as_it_is o u → ((a : A) → Agrees as_it_is (f a) (g a)) →
-    Agrees as_it_is (o >>= f) (u >>= g)
-also o u f g = agrees_then as_it_is o u f g
 
 module _ (limit : Option ℕ) where
   -- ---- ends
@@ -155,7 +148,7 @@ module _ (limit : Option ℕ) (m : Model) (f : Form) (formed : form_of limit m �
     (keeps : Keeps m basis) where
   started : start_from None f basis ≡ Ok keeps.tableau
   started =
-      ap (λ f. start_from None f basis) (ok_same f keeps.form (sym (form_unlimited limit m f formed) ∙ keeps.formed))
+      ap (λ f. start_from None f basis) (ok_same f keeps.form (sym (form_without limit m f formed) ∙ keeps.formed))
       ∙ keeps.started
 
   ends : (run : Tableau → Run (Range ℚ)) → ((p : Past ℚ) → (start_from None f basis >>=

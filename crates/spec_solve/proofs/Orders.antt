@@ -17,6 +17,7 @@ use Rattle.spec_simplex.specs.declared.ends.RunStop.TheVariants as stop
 use Rattle.spec_simplex.specs.Form.{Form, form_of}
 use Rattle.spec_simplex.specs.Phases.{PhasesEnd, phases_run}
 use Rattle.spec_check.specs.declared.solve_end.SolveEnd.TheVariants.{Ended, Past, Spent}
+use Rattle.spec_path.proofs.LimitStart.{form_without}
 use Rattle.spec_cold.specs.Cold.{ExactSolveEnd, certificate_of, basis_of, pivots_of}
 use Rattle.spec_cold.specs.Cold.{checked, answered, after_phases, after_form, cold}
 use Rattle.spec_cold.proofs.Solved as colds
@@ -27,7 +28,7 @@ use Rattle.spec_warm.specs.declared.ends.Warm.TheVariants as warms
 use Rattle.spec_warm.specs.Warm.{WarmResult, warm}
 use Rattle.spec_warm.specs.Solve.{SolveEnd, fall_of, solved_by, solve}
 use Rattle.spec_factor.specs.Over.{OverEnd, over_run, after_over, over_factors}
-use Rattle.spec_factor.proofs.OverCold.{form_without, over_same}
+use Rattle.spec_factor.proofs.OverCold.{over_same}
 use Rattle.spec_solve.specs.Order.{GivesUp, IsChecked, MayEndCold, Answered, GaveUp, MayEndBy, MayEnd}
 use Rattle.spec_solve.specs.Order.{or_tableaus, cold_by, cold_over}
 

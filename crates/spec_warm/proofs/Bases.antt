@@ -14,6 +14,7 @@ use Rattle.spec_pivot.specs.Simplex.{Bounds, Stands, IsTableau}
 use Rattle.spec_pivot.proofs.Pivot.{delta_same, delta_other, sum_below-delta}
 use Rattle.spec_pivot.proofs.Unique.{apart}
 use Rattle.spec_pivot.proofs.Values.{by_basic}
+use Rattle.spec_pivot.proofs.Ray.{delta_sym}
 use Rattle.spec_simplex.specs.Form.{Form, form_lower, form_upper}
 use Rattle.spec_exact.specs.Run.{made}
 use Rattle.spec_simplex.specs.Tableau.{Tableau, form_columns, basic_at, entry_at, value_at, status_at}
@@ -22,7 +23,6 @@ use Rattle.spec_path.specs.Begins.{form_rows}
 use Rattle.spec_simplex.specs.Tableau.{is_basic}
 use Rattle.spec_cold.specs.Cold as cold
 use Rattle.spec_path.specs.Tables.{table_of}
-use Rattle.spec_path.proofs.Begun.{delta_sym}
 use Rattle.spec_path.proofs.Formed.{HasBounds}
 use Rattle.spec_path.proofs.Equations.{row_logical, row_artificial}
 use Rattle.spec_path.proofs.Runs.{get_or-made}

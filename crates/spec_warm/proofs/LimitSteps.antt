@@ -6,12 +6,12 @@ use Rattle.spec_pivot.specs.declared.status.Status.{Status}
 use Rattle.spec_simplex.specs.declared.ends.RunStop.{RunStop}
 use Rattle.spec_simplex.specs.declared.ends.RunStop.TheVariants as stop
 use Rattle.spec_simplex.specs.Form.{Form}
-use Rattle.spec_exact.specs.Run.{Run, ◌>>=◌}
 use Rattle.spec_simplex.specs.Tableau.{Tableau, all_columns, basic_at, entry_at, value_at}
 use Rattle.spec_simplex.specs.Tableau.{reduced_at, status_at, lower_at, upper_at, stand, is_basic}
 use Rattle.spec_path.proofs.Refusals.{Agrees, as_it_is, agrees_ok, agrees_err, agrees_then, agrees_if, agrees_steps}
 use Rattle.spec_path.proofs.Refusals.{agrees_as, agrees_difference, agrees_quotient, agrees_order, agrees_less}
-use Rattle.spec_path.proofs.LimitStart.{priced_agrees, flip_agrees, pivot_agrees, turned_agrees}
+use Rattle.spec_path.proofs.LimitStart.{priced_agrees, flip_agrees, pivot_agrees, turned_agrees, ok, also}
+use Rattle.spec_path.proofs.LimitPhases.{spent_agrees}
 use Rattle.spec_simplex.specs.declared.ends.StartStop.{StartStop}
 use Rattle.spec_simplex.specs.declared.ends.StartStop.TheVariants as start
 use Rattle.spec_simplex.specs.declared.ends.Cheapest.{Cheapest}
@@ -26,19 +26,9 @@ use Rattle.spec_simplex.specs.Eliminate.{eliminate_run, with_basis, position_run
 use Rattle.spec_simplex.specs.Fit.{below_lower, above_upper, outside_by, outside_run, leaving_at}
 use Rattle.spec_simplex.specs.Fit.{leaving_with, leaving_run, needs_flip_at, fit_run}
 
-ok : {A : Type 0} (a : A) → Agrees {A = A} as_it_is (Ok a) (Ok a)
-ok a = agrees_ok as_it_is a
-
-also : {A B : Type 0} (o u : Run A) (f g : A → Run B) → Agrees as_it_is o u → ((a : A) → Agrees as_it_is (f a) (g a)) →
-    Agrees as_it_is (o >>= f) (u >>= g)
-also o u f g = agrees_then as_it_is o u f g
-
 singular_agrees : {A : Type 0} → Agrees {A = A} start.Past (Err start.Singular) (Err start.Singular)
 singular_agrees =
     agrees_err start.Past start.Singular (λ p e. let z : ◌≡◌ {A = StartStop ℚ} start.Singular (start.Past p) = e in cc)
-
-spent_agrees : {A : Type 0} → Agrees {A = A} stop.Past (Err stop.Spent) (Err stop.Spent)
-spent_agrees = agrees_err stop.Past stop.Spent (λ p e. let z : ◌≡◌ {A = RunStop ℚ} stop.Spent (stop.Past p) = e in cc)
 
 module _ (limit : Option ℕ) where
   -- ---- the tableau of a basis

@@ -8,8 +8,7 @@ use Rattle.spec_model.specs.Model.{Model, width, height}
 use Rattle.spec_check.specs.declared.certificate.Certificate.TheVariants as certificate
 use Rattle.spec_pivot.specs.declared.status.Status.{Status}
 use Rattle.spec_pivot.specs.declared.status.Status.TheVariants.{Basic}
-use Rattle.spec_pivot.specs.declared.status.Way.TheVariants.{Up}
-use Rattle.spec_pivot.specs.Simplex.{Bounds, IsInside, IsWithin, Label}
+use Rattle.spec_pivot.specs.Simplex.{Bounds, IsInside, IsWithin}
 use Rattle.spec_pivot.specs.Simplex as kind
 use Rattle.spec_simplex.specs.declared.ends.PrimalEnd.{PrimalEnd}
 use Rattle.spec_simplex.specs.declared.ends.PrimalEnd.TheVariants as primal
@@ -30,6 +29,7 @@ use Rattle.spec_path.proofs.Formed.{Limited, cost_length, formed_proper}
 use Rattle.spec_path.proofs.Formed.{HasBounds}
 use Rattle.spec_cold.proofs.Shown.{Shows, primal_shows}
 use Rattle.spec_path.proofs.Walks.{run_ends}
+use Rattle.spec_path.proofs.Phases.{some_label}
 use Rattle.spec_pivot.specs.Dual.{IsOrdered, row_of}
 use Rattle.spec_pivot.proofs.Optimal.{none_eligible, within_where_basic}
 use Rattle.spec_pivot.proofs.Refuted.{stops, row_refutes}
@@ -52,9 +52,6 @@ use Rattle.spec_warm.proofs.EndRefuted.{refuted_checks}
 use Rattle.spec_warm.proofs.Fits.{FitIs, fit_is}
 use Rattle.spec_warm.proofs.Flipped.{flips_ready}
 use Rattle.spec_warm.proofs.Started.{start_begins_from}
-
-some_label : Label
-some_label = record { kind = kind.Flip; way = Up; column = 0; position = 0; theta = 0ℚ; to = Basic }
 
 by_fit : (P : Fit → Type 0) → P fit.Primal → P fit.Dual → P fit.Unfit → (kind : Fit) → P kind
 by_fit P a c d fit.Primal = a
