@@ -1,7 +1,7 @@
 -- The column that enters, from a row of reduced costs.
-use Rattle.std.proofs.Common.{◌≡◌, ℕ, zero, suc, ◌+◌, ◌-◌, ◌<◌, ◌≤◌, Option, Some, None, List, length, get_or, pos}
+use Rattle.std.proofs.Common.{◌≡◌, ℕ, zero, suc, ◌+◌, ◌<◌, ◌≤◌, Option, Some, None, List, length, get_or, pos}
 use Rattle.std.proofs.Common.{int_cmp}
-use Rattle.std.proofs.Common.{Bool, true, false, cond, refl, sym, subst, ap, ap₂, ◌∙◌, arith, Ordering, Less, Equal}
+use Rattle.std.proofs.Common.{Bool, true, false, cond, refl, sym, ap, ap₂, ◌∙◌, arith, Ordering, Less, Equal}
 use Rattle.std.proofs.Common.{Greater}
 use Rattle.std.proofs.lemmas.List.{get_or_default}
 use Rattle.std.specs.Ordering.{is_lt, is_gt}
@@ -10,7 +10,6 @@ use Rattle.spec_exact.specs.Limit.{sign}
 use Rattle.spec_exact.proofs.Signs.{below_zero, above_zero}
 use Rattle.spec_pivot.specs.declared.status.Status.{Status}
 use Rattle.spec_pivot.specs.declared.status.Status.TheVariants.{Basic, AtLower, AtUpper, AtZero}
-use Rattle.spec_simplex.specs.declared.ends.Entering.{Entering}
 use Rattle.spec_simplex.specs.Tableau.{Tableau, form_columns}
 use Rattle.spec_simplex.specs.Step.{way_by, way_at, or_enters, entering_below}
 use Rattle.lp_wide.specs.Whole.{whole}
@@ -22,21 +21,8 @@ use Rattle.lp_rows.proofs.Cleared.{fraction-at}
 use Rattle.lp_rows.proofs.Orders.{sign-over}
 
 -- ---- the least of many
-stays : (t : Tableau) (n d : ℕ) (e : Entering) → entering_below t n ≡ Some e → entering_below t (n + d) ≡ Some e
-stays t n zero e h = (let z : n + 0 ≡ n = omega arith in ap (entering_below t) z) ∙ h
-stays t n (suc d) e h =
-    (let z : n + suc d ≡ suc (n + d) = omega arith in ap (entering_below t) z)
-    ∙ ap (λ o. or_enters o (n + d) (way_at t (n + d))) (stays t n d e h)
-
 pub none_more : (t : Tableau) (k : ℕ) → entering_below t k ≡ None → way_at t k ≡ None → entering_below t (k + 1) ≡ None
 none_more t k h g = (let z : k + 1 ≡ suc k = omega arith in ap (entering_below t) z) ∙ ap₂ (λ o w. or_enters o k w) h g
-
-pub enters_at : (t : Tableau) (k n : ℕ) (up : Bool) → entering_below t k ≡ None → k < n → way_at t k ≡ Some up →
-    entering_below t n ≡ Some (record { col = k; up = up })
-enters_at t k n up h l g =
-    let z : suc k + (n - suc k) ≡ n = omega arith in
-    subst (λ i. entering_below t i ≡ Some (record { col = k; up = up })) z
-    (stays t (suc k) (n - suc k) (record { col = k; up = up }) (ap₂ (λ o w. or_enters o k w) h g))
 
 -- none of the columns from n on
 pub none_behind : (t : Tableau) (n d : ℕ) → entering_below t n ≡ None →

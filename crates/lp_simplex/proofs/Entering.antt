@@ -1,26 +1,12 @@
 -- The column that enters.
-use Rattle.std.proofs.Common.{◌≡◌, ◌≢◌, ℕ, zero, suc, ◌+◌, ◌-◌, ◌<◌, Option, Some, None}
-use Rattle.std.proofs.Common.{Bool, true, false, cond, refl, subst, ap, ap₂, ◌∙◌, arith}
+use Rattle.std.proofs.Common.{◌≡◌, ◌≢◌, ℕ, zero, suc, ◌<◌, Option, Some, None}
+use Rattle.std.proofs.Common.{Bool, true, false, cond, refl, subst, ◌∙◌, arith}
 use Rattle.spec_exact.specs.Fraction.{ℚ}
 use Rattle.spec_pivot.specs.declared.status.Status.{Status}
 use Rattle.spec_pivot.specs.declared.status.Status.TheVariants.{Basic, AtLower, AtUpper, AtZero}
 use Rattle.spec_simplex.specs.declared.ends.Entering.{Entering}
 use Rattle.spec_simplex.specs.Tableau.{Tableau, all_columns}
 use Rattle.spec_simplex.specs.Step.{way_by, way_at, or_enters, entering_below, entering}
-
--- ---- the least of many
-stays : (t : Tableau) (n d : ℕ) (e : Entering) → entering_below t n ≡ Some e → entering_below t (n + d) ≡ Some e
-stays t n zero e h = (let z : n + 0 ≡ n = omega arith in ap (entering_below t) z) ∙ h
-stays t n (suc d) e h =
-    (let z : n + suc d ≡ suc (n + d) = omega arith in ap (entering_below t) z)
-    ∙ ap (λ o. or_enters o (n + d) (way_at t (n + d))) (stays t n d e h)
-
-pub enters_at : (t : Tableau) (k n : ℕ) (up : Bool) → entering_below t k ≡ None → k < n → way_at t k ≡ Some up →
-    entering_below t n ≡ Some (record { col = k; up = up })
-enters_at t k n up h l g =
-    let z : suc k + (n - suc k) ≡ n = omega arith in
-    subst (λ i. entering_below t i ≡ Some (record { col = k; up = up })) z
-    (stays t (suc k) (n - suc k) (record { col = k; up = up }) (ap₂ (λ o w. or_enters o k w) h g))
 
 -- ---- what is known of it
 pub record MayEnter (t : Tableau) (n : ℕ) (e : Entering) : Type 0 where

@@ -1,6 +1,6 @@
 -- The warm start part by part, from the tableau of a basis.
-use Rattle.std.proofs.Common.{◌≡◌, ℕ, ◌+◌, ◌≤◌, List, length, Option, Some, None, IfSome, Result, Ok, Err}
-use Rattle.std.proofs.Common.{refl, ap, sym, subst, ◌∙◌, arith}
+use Rattle.std.proofs.Common.{◌≡◌, ℕ, List, Option, Some, None, IfSome, Result, Ok, Err}
+use Rattle.std.proofs.Common.{refl, ap, sym, subst, ◌∙◌}
 use Rattle.spec_exact.specs.Fraction.{ℚ}
 use Rattle.spec_exact.specs.declared.past.Past.{Past}
 use Rattle.spec_model.specs.Model.{Model}
@@ -27,7 +27,7 @@ use Rattle.spec_simplex.specs.Dual.{DualEnded, dual_run}
 use Rattle.spec_check.specs.declared.solve_end.SolveEnd.TheVariants as cold
 use Rattle.spec_cold.specs.Accepted.{IsAccepted}
 use Rattle.spec_cold.specs.Cold as colds
-use Rattle.spec_path.proofs.Formed.{form_is, cost_length}
+use Rattle.spec_cold.proofs.Steps.{few_costs}
 use Rattle.spec_path.proofs.Formed.{form_proper}
 use Rattle.spec_warm.specs.declared.ends.Route.TheVariants as route
 use Rattle.spec_warm.specs.declared.ends.Warm.TheVariants as warm
@@ -137,17 +137,11 @@ fits_form limit m view (Some basis) f h fits =
     subst (λ f. IsBasisOf f (view basis)) is fits.2
 
 -- ---- what is known of the tableau of a basis
-form_costs : (limit : Option ℕ) (m : Model) (f : Form) → form_of limit m ≡ Ok f →
-    length f.cost ≤ f.cols + f.rows + f.rows
-form_costs limit m f e =
-    let o = form_is limit m f e in
-    subst (λ (f : Form). length f.cost ≤ f.cols + f.rows + f.rows) o.2 (omega (arith, cost_length m o.0 o.1))
-
 module _ (m : Model) (t : Tableau) (kind : Fit) (k : IsBegun m t kind) where
   pub can_run : kind ≡ fit.Dual → IsDualStart t
   can_run e =
       let s : BeginsFrom k.form t = start_begins_from (Some number_limit) k.form k.basis t
-      (form_proper (Some number_limit) m k.form k.formed) k.fits (form_costs (Some number_limit) m k.form k.formed)
+      (form_proper (Some number_limit) m k.form k.formed) k.fits (few_costs (Some number_limit) m k.form k.formed)
       k.starts
       in
       can_start (Some number_limit) _ _ _ _ _ t s.based (k.fit ∙ ap Ok e)

@@ -17,6 +17,7 @@ use Rattle.spec_simplex.specs.Form.{Form, form_lower, form_upper}
 use Rattle.spec_simplex.specs.Tableau.{is_basic}
 use Rattle.spec_simplex.specs.Start.{first_status}
 use Rattle.spec_simplex.specs.Eliminate.{basis_at, CanStand, IsBasisOf}
+use Rattle.spec_simplex.proofs.Statuses.{basic_if}
 use Rattle.spec_bas.specs.Steps.{lower_first}
 use Rattle.spec_bas.specs.Fits.{HasSizeOf}
 use Rattle.spec_bas.specs.Spelled.{AreCardsOf, Means, HasNoCard, column_on, row_on, columns_on, rows_on}
@@ -27,12 +28,6 @@ use Rattle.spec_bas.proofs.Chosen.{chosen_missing, chosen_once, basics_chosen, o
 use Rattle.spec_bas.proofs.Places.{named_once, unnamed}
 
 -- ---- statuses
-basic_is : (s : Status) → is_basic s ≡ true → s ≡ Basic
-basic_is Basic e = refl
-basic_is AtLower e = cc
-basic_is AtUpper e = cc
-basic_is AtZero e = cc
-
 upper_is : (s : Status) → is_at_upper s ≡ true → s ≡ AtUpper
 upper_is Basic e = cc
 upper_is AtLower e = cc
@@ -198,7 +193,7 @@ module _ (m : Model) (f : Form) (size : HasSizeOf m f) (kept : IsModel m) (basis
     i = i;
     is_column = column_stands j l;
     is_row = row_stands i r;
-    basic = basic_is (basis_at basis j) b;
+    basic = basic_if (basis_at basis j) b;
     stands = e ∙ rw c.1 refl;
   }
   pair_means_by j i l b r AtUpper e c out = record {
@@ -206,7 +201,7 @@ module _ (m : Model) (f : Form) (size : HasSizeOf m f) (kept : IsModel m) (basis
     i = i;
     is_column = column_stands j l;
     is_row = row_stands i r;
-    basic = basic_is (basis_at basis j) b;
+    basic = basic_if (basis_at basis j) b;
     stands = e ∙ rw c.1 refl;
   }
   pair_means_by j i l b r AtZero e c out = record {
@@ -214,7 +209,7 @@ module _ (m : Model) (f : Form) (size : HasSizeOf m f) (kept : IsModel m) (basis
     i = i;
     is_column = column_stands j l;
     is_row = row_stands i r;
-    basic = basic_is (basis_at basis j) b;
+    basic = basic_if (basis_at basis j) b;
     stands = e ∙ rw (c.0, c.1) refl;
   }
 
@@ -272,7 +267,7 @@ module _ (m : Model) (f : Form) (size : HasSizeOf m f) (kept : IsModel m) (basis
   unnamed_rows : (i : ℕ) → i < f.rows → HasNoCard (row_place m) (rows_on (cards_of m f basis)) i →
       basis_at basis (f.cols + i) ≡ Basic
   unnamed_rows i l h =
-      basic_is (basis_at basis (f.cols + i)) (not-false (is_basic (basis_at basis (f.cols + i)))
+      basic_if (basis_at basis (f.cols + i)) (not-false (is_basic (basis_at basis (f.cols + i)))
       (chosen_missing (λ k. not (is_basic (basis_at basis (f.cols + k)))) f.rows i none l))
     where
       none : All (λ k. k ≢ i) os

@@ -1,9 +1,11 @@
 -- What a certificate shows is true.
-use Rattle.std.proofs.Common.{◌≡◌, ℕ, zero, suc, List, Option, Some, IfSome, refl, sym, ap, ◌∙◌, subst, subst₂}
-use Rattle.spec_exact.specs.Fraction.{ℚ, ◌+ℚ◌, ◌*ℚ◌, 0ℚ, ◌≤ℚ◌, ◌<ℚ◌}
+use Rattle.std.proofs.Common.{◌≡◌, ℕ, zero, suc, List, Option, Some, IfSome, refl, sym, ap, ◌∙◌, subst, subst₂, Bool}
+use Rattle.std.proofs.Common.{true, false, cond}
+use Rattle.spec_exact.specs.Fraction.{ℚ, ◌+ℚ◌, ◌*ℚ◌, 0ℚ, ◌≤ℚ◌, ◌<ℚ◌, lt_ℚ}
 use Rattle.spec_exact.specs.Sums.{sum_below}
-use Rattle.spec_exact.proofs.Order.{≤ℚ_trans, lt_test, not_lt_test, +ℚ_mono, clash_ℚ, <ℚ-le}
-use Rattle.spec_exact.proofs.Ruleset.{ring, neg-*ℚ, neg-zero}
+use Rattle.spec_exact.proofs.Order.{≤ℚ_trans, lt_test, not_lt_test, +ℚ_mono, clash_ℚ, <ℚ-le, ≤ℚ_antisym, lt_if}
+use Rattle.spec_exact.proofs.Order.{le_if_not}
+use Rattle.spec_exact.proofs.Ruleset.{ring, neg-*ℚ, neg-zero, zero-*ℚ}
 use Rattle.spec_exact.proofs.Strict.{neg_mono_back}
 use Rattle.spec_model.specs.declared.parts.Sense.{Sense}
 use Rattle.spec_model.specs.declared.parts.Sense.TheVariants.{Min, Max}
@@ -14,7 +16,7 @@ use Rattle.spec_check.specs.declared.certificate.Certificate.{Certificate}
 use Rattle.spec_check.specs.declared.certificate.Certificate.TheVariants.{Optimal, Infeasible, Clash, Unbounded}
 use Rattle.spec_check.specs.Certificate.{shown, Holds}
 use Rattle.spec_check.specs.Checks.{Checks, signed, ChecksOptimal, ChecksInfeasible, asked}
-use Rattle.spec_check.specs.Checks.{or_zero, HasLimit, turned_limits, priced, ChecksClash}
+use Rattle.spec_check.specs.Checks.{or_zero, HasLimit, turned_limits, priced, ChecksClash, IsTight}
 use Rattle.spec_check.proofs.Duality.{Between, Feasible, optimal, infeasible}
 use Rattle.spec_check.proofs.Ray.{unbounded_holds}
 
@@ -80,15 +82,29 @@ optimal_holds m x y h = record {
 -- ---- no point is feasible
 
 -- the limit that a multiplier asks for is there
-asked_above : (l : Limits) (d : ℚ) → HasLimit l d → 0ℚ <ℚ d → l.lower ≡ Some (asked l d)
+pub asked_above : (l : Limits) (d : ℚ) → HasLimit l d → 0ℚ <ℚ d → l.lower ≡ Some (asked l d)
 asked_above l d h p =
     let b = h.above p in
     b.1 ∙ ap Some (sym (rw (lt_test 0ℚ d p) (ap or_zero b.1)))
 
-asked_below : (l : Limits) (d : ℚ) → HasLimit l d → d <ℚ 0ℚ → l.upper ≡ Some (asked l d)
+pub asked_below : (l : Limits) (d : ℚ) → HasLimit l d → d <ℚ 0ℚ → l.upper ≡ Some (asked l d)
 asked_below l d h p =
     let b = h.below p in
     b.1 ∙ ap Some (sym (rw (not_lt_test 0ℚ d (<ℚ-le _ _ p), lt_test d 0ℚ p) (ap or_zero b.1)))
+
+pub tight_has : (l : Limits) (d v : ℚ) → IsTight l d v → HasLimit l d
+tight_has l d v t = record { above = λ h. (v, t.above h); below = λ h. (v, t.below h) }
+
+pub asked_weighs : (l : Limits) (d v : ℚ) → IsTight l d v → d *ℚ asked l d ≡ d *ℚ v
+asked_weighs l d v t = by (lt_ℚ 0ℚ d) (lt_ℚ d 0ℚ) refl refl
+  where
+    by : (a b : Bool) → lt_ℚ 0ℚ d ≡ a → lt_ℚ d 0ℚ ≡ b →
+        d *ℚ cond a (or_zero l.lower) (cond b (or_zero l.upper) 0ℚ) ≡ d *ℚ v
+    by true b p q = ap (λ o. d *ℚ or_zero o) (t.above (lt_if 0ℚ d p))
+    by false true p q = ap (λ o. d *ℚ or_zero o) (t.below (lt_if d 0ℚ q))
+    by false false p q =
+        let e : d ≡ 0ℚ = ≤ℚ_antisym d 0ℚ (le_if_not 0ℚ d p) (le_if_not d 0ℚ q) in
+        ap (λ z. z *ℚ 0ℚ) e ∙ zero-*ℚ 0ℚ ∙ sym (ap (λ z. z *ℚ v) e ∙ zero-*ℚ v)
 
 pub infeasible_holds : (m : Model) (y : List ℚ) → ChecksInfeasible m y → IsInfeasible m
 infeasible_holds m y h z f =

@@ -1,16 +1,16 @@
 -- Where phase one ends and an artificial is not 0, no point satisfies all rows.
 use Rattle.std.proofs.Common.{◌≡◌, ℕ, ◌+◌, ◌<◌, List, length}
-use Rattle.std.proofs.Common.{Option, Some, Bool, true, false}
-use Rattle.std.proofs.Common.{cond, refl, sym, ap, ap₂, ◌∙◌, subst, subst₂, arith}
-use Rattle.spec_exact.specs.Fraction.{ℚ, ◌+ℚ◌, ◌-ℚ◌, ◌*ℚ◌, neg_ℚ, 0ℚ, ◌<ℚ◌, lt_ℚ}
+use Rattle.std.proofs.Common.{Option, Some}
+use Rattle.std.proofs.Common.{sym, ap, ap₂, ◌∙◌, subst, subst₂, arith}
+use Rattle.spec_exact.specs.Fraction.{ℚ, ◌+ℚ◌, ◌-ℚ◌, ◌*ℚ◌, neg_ℚ, 0ℚ, ◌<ℚ◌}
 use Rattle.spec_exact.specs.Sums.{sum_below}
-use Rattle.spec_exact.proofs.Order.{≤ℚ_antisym, lt_if, le_if_not}
-use Rattle.spec_exact.proofs.Ruleset.{ring, zero-+ℚ, zero-*ℚ, neg-zero}
+use Rattle.spec_exact.proofs.Ruleset.{ring, zero-+ℚ, neg-zero}
 use Rattle.spec_exact.proofs.Strict.{+ℚ_strict, neg_strict}
 use Rattle.spec_exact.proofs.Sums.{sum_below_same, neg-sum_below}
 use Rattle.spec_model.specs.Model.{bounds, Model, Limits, width, height, limits, coefficient, part}
-use Rattle.spec_check.specs.Checks.{priced, IsTight, HasLimit, or_zero, asked}
+use Rattle.spec_check.specs.Checks.{priced, IsTight}
 use Rattle.spec_check.specs.Checks.{turned_limits, rows_ask, columns_give, ChecksInfeasible}
+use Rattle.spec_check.proofs.Sound.{tight_has, asked_weighs}
 use Rattle.spec_pivot.specs.declared.status.Way.{Way}
 use Rattle.spec_pivot.specs.Simplex.{Bounds, Table, IsWithin, IsEligible, IsTableau}
 use Rattle.spec_simplex.specs.declared.ends.RowStart.{RowStart}
@@ -28,20 +28,6 @@ tight_turned l d p v e t = record {
   above = λ h. t.below (subst₂ ◌<ℚ◌ (sym e) neg-zero (neg_strict 0ℚ p h));
   below = λ h. t.above (subst₂ ◌<ℚ◌ neg-zero (sym e) (neg_strict p 0ℚ h));
 }
-
-has_limit : (l : Limits) (d v : ℚ) → IsTight l d v → HasLimit l d
-has_limit l d v t = record { above = λ h. (v, t.above h); below = λ h. (v, t.below h) }
-
-asked_is : (l : Limits) (d v : ℚ) → IsTight l d v → d *ℚ asked l d ≡ d *ℚ v
-asked_is l d v t = by (lt_ℚ 0ℚ d) (lt_ℚ d 0ℚ) refl refl
-  where
-    by : (a b : Bool) → lt_ℚ 0ℚ d ≡ a → lt_ℚ d 0ℚ ≡ b →
-        d *ℚ cond a (or_zero l.lower) (cond b (or_zero l.upper) 0ℚ) ≡ d *ℚ v
-    by true b p q = ap (λ o. d *ℚ or_zero o) (t.above (lt_if 0ℚ d p))
-    by false true p q = ap (λ o. d *ℚ or_zero o) (t.below (lt_if d 0ℚ q))
-    by false false p q =
-        let e : d ≡ 0ℚ = ≤ℚ_antisym d 0ℚ (le_if_not 0ℚ d p) (le_if_not d 0ℚ q) in
-        ap (λ z. z *ℚ 0ℚ) e ∙ zero-*ℚ 0ℚ ∙ sym (ap (λ z. z *ℚ v) e ∙ zero-*ℚ v)
 
 -- numbers for the columns and the rows that stand at the limits of values, with sums above 0 together
 module _ (m : Model) (y : List ℚ) (d v : ℕ → ℚ) (y_at : (i : ℕ) → i < height m → part y i ≡ d (width m + i))
@@ -62,13 +48,13 @@ module _ (m : Model) (y : List ℚ) (d v : ℕ → ℚ) (y_at : (i : ℕ) → i 
 
   asks_is : rows_ask m y ≡ of_rows
   asks_is =
-      sum_below_same (height m) _ _ (λ i p. asked_is (limits m i) (part y i) (v (width m + i)) (row_tight i p)
+      sum_below_same (height m) _ _ (λ i p. asked_weighs (limits m i) (part y i) (v (width m + i)) (row_tight i p)
       ∙ ap (λ a. a *ℚ v (width m + i)) (y_at i p))
 
   gives_is : columns_give m y ≡ neg_ℚ of_columns
   gives_is =
       sum_below_same (width m) _ (λ j. neg_ℚ (d j *ℚ v j))
-      (λ j p. asked_is (turned_limits (bounds m j)) (priced m y j) (v j) (column_tight j p)
+      (λ j p. asked_weighs (turned_limits (bounds m j)) (priced m y j) (v j) (column_tight j p)
       ∙ turn (priced m y j) (d j) (v j) (priced_at j p))
       ∙ sym (neg-sum_below (width m) (λ j. d j *ℚ v j))
     where
@@ -87,8 +73,8 @@ module _ (m : Model) (y : List ℚ) (d v : ℕ → ℚ) (y_at : (i : ℕ) → i 
   pub checks_by_values : 0ℚ <ℚ (sum_below (width m) (λ j. d j *ℚ v j)
       +ℚ sum_below (height m) (λ i. d (width m + i) *ℚ v (width m + i))) → ChecksInfeasible m y
   checks_by_values above = record {
-    rows = λ i p. has_limit (limits m i) (part y i) (v (width m + i)) (row_tight i p);
-    columns = λ j p. has_limit (turned_limits (bounds m j)) (priced m y j) (v j) (column_tight j p);
+    rows = λ i p. tight_has (limits m i) (part y i) (v (width m + i)) (row_tight i p);
+    columns = λ j p. tight_has (turned_limits (bounds m j)) (priced m y j) (v j) (column_tight j p);
     less = subst₂ ◌<ℚ◌ (sym gives_is) (sym asks_is) (apart of_columns of_rows above);
   }
 

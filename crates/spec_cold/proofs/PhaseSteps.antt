@@ -121,7 +121,7 @@ module _ (limit : Option ℕ) where
       after_choice (second c e h) more = by c (refused_ok stop.Past (choice_run limit t) c e) h more
 
 -- ---- without a limit
-given : {A : Type 0} (o : Run A) → ((p : Past ℚ) → o ≢ Err p) → (a : A) × (o ≡ Ok a)
+pub given : {A : Type 0} (o : Run A) → ((p : Past ℚ) → o ≢ Err p) → (a : A) × (o ≡ Ok a)
 given (Ok a) never = (a, refl)
 given (Err p) never = absurd (never p refl)
 

@@ -154,7 +154,8 @@ never_in_phase_one limit m f t u v i k formed started =
     never_back limit f.rows f.cols (form_rows f (signs_of s.starts)) (cost_at (first_costs f s.starts)) (bounds_of t)
     i k t u v (record { tableau = s.tableau; within = s.within })
 
-few_costs : (limit : Option ℕ) (m : Model) (f : Form) → form_of limit m ≡ Ok f → length f.cost ≤ f.cols + f.rows + f.rows
+pub few_costs : (limit : Option ℕ) (m : Model) (f : Form) → form_of limit m ≡ Ok f →
+    length f.cost ≤ f.cols + f.rows + f.rows
 few_costs limit m f formed =
     let o = form_is limit m f formed in
     subst (λ (f : Form). length f.cost ≤ f.cols + f.rows + f.rows) o.2 (omega (arith, cost_length m o.0 o.1))

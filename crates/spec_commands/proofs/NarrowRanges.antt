@@ -9,10 +9,9 @@ use Rattle.spec_exact.specs.Fraction.{ℚ, 0ℚ, 1ℚ, neg_ℚ, lt_ℚ}
 use Rattle.spec_exact.specs.Narrow.{IsNarrow, number_limit}
 use Rattle.spec_exact.specs.Run.{Run, ◌>>=◌, refused_as, sum_run, difference_run, quotient_run, order_run}
 use Rattle.spec_exact.specs.Run.{less_product}
-use Rattle.spec_exact.proofs.Narrow.{neg_narrow, zero_narrow}
+use Rattle.spec_exact.proofs.Narrow.{zero_narrow}
 use Rattle.spec_exact.proofs.Stops.{All-made}
 use Rattle.spec_model.specs.declared.parts.Sense.{Sense}
-use Rattle.spec_model.specs.declared.parts.Sense.TheVariants.{Min, Max}
 use Rattle.spec_model.specs.Model.{Model, width, row, cost, no_column}
 use Rattle.spec_pivot.specs.declared.status.Status.{Status}
 use Rattle.spec_pivot.specs.declared.status.Status.TheVariants.{Basic, AtLower, AtUpper, AtZero}
@@ -28,7 +27,7 @@ use Rattle.spec_simplex.specs.Dual.{place_of}
 use Rattle.spec_path.proofs.Runs.{then_ok, refused_ok, steps_ok}
 use Rattle.spec_solve.proofs.NarrowRuns.{sum_narrow, difference_narrow, less_narrow}
 use Rattle.spec_solve.proofs.NarrowSteps.{NarrowBound, number_at, bound_at, stand_narrow}
-use Rattle.spec_solve.proofs.NarrowStart.{IsNarrowModel, IsNarrowForm, form_narrow, priced_narrow}
+use Rattle.spec_solve.proofs.NarrowStart.{IsNarrowModel, IsNarrowForm, form_narrow, priced_narrow, least_narrow}
 use Rattle.spec_range.specs.declared.range.Ends.{Ends}
 use Rattle.spec_range.specs.declared.range.Range.{Range}
 use Rattle.spec_range.specs.Rule.{no_ends, greater_by, lesser_by, greater_run, lesser_run, at_least, at_most, at_side}
@@ -225,10 +224,6 @@ module _ (b : ℚ) (t : Tableau) (s : ℕ) where
           steps_ok (λ _ e. NarrowEnds e) (all_columns t) (carried_if limit b t s) no_ends x q none_narrow
           (λ k e y l m r. carried_if_narrow k e y r m)
       by false false q = same_narrow no_ends x q none_narrow
-
-least_narrow : (s : Sense) (c : ℚ) → IsNarrow c → IsNarrow (least_cost s c)
-least_narrow Min c h = h
-least_narrow Max c h = neg_narrow c h
 
 side_run_narrow : (m : Model) (t : Tableau) (i : ℕ) (r : Range ℚ) → side_run limit m t i ≡ Ok r →
     All IsNarrow t.reduced → NarrowRange r

@@ -27,13 +27,11 @@ use Rattle.spec_server.specs.Machine.{ExactReply, verdict_on}
 use Rattle.spec_commands.specs.CheckOut.{Stage, InText, InCertificate, behind_text, behind_certificate, check_step, said}
 use Rattle.spec_commands.specs.CheckWideOut.{behind_wide, wide_verdict_on, wide_step, wide_said}
 use Rattle.spec_server.specs.Said.{follow, said_by}
+use Rattle.spec_server.proofs.Truth.{checked}
 
 -- it is past 127 bits
 abbrev pub IsPast : Verdict ℚ → Type 0
 IsPast v = (p : Past ℚ) × (v ≡ verdict.Past p)
-
-checked : (a b : Verdict ℚ) → ◌≡◌ {A = ExactReply} (reply.Checked a) (reply.Checked b) → a ≡ b
-checked a b e = cc
 
 told : (a b : ExactReply) → Some a ≡ Some b → a ≡ b
 told a b e = cc

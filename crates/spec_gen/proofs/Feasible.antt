@@ -21,12 +21,12 @@ use Rattle.spec_gen.specs.Generated.{generated_row, generated_rows, generated}
 
 -- ---- the parts of a generated model, by their numbers
 
-width_is : (seed rows columns : ℕ) → width (generated seed rows columns) ≡ columns
+pub width_is : (seed rows columns : ℕ) → width (generated seed rows columns) ≡ columns
 unfolding generated generated_columns
 width_is seed rows columns =
     length-map-range_with_len (λ j. generated_column rows j (at_column rows seed j)) 0 columns
 
-height_is : (seed rows columns : ℕ) → height (generated seed rows columns) ≡ rows
+pub height_is : (seed rows columns : ℕ) → height (generated seed rows columns) ≡ rows
 unfolding generated generated_rows
 height_is seed rows columns =
     length-map-range_with_len (λ i. generated_row i (after i (at_column rows seed columns))) 0 rows

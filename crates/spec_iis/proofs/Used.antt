@@ -1,20 +1,21 @@
 -- The sides that a certificate uses are infeasible together.
 use Rattle.std.proofs.Common.{◌≡◌, ◌≢◌, ℕ, zero, suc, ◌<◌, Bool, true, false, List, [], ◌∷◌, ◌++◌, All}
-use Rattle.std.proofs.Common.{Option, Some, None, IfSome, Ok, refl, sym, ap, ◌∙◌, subst, arith, ⊎_elim}
+use Rattle.std.proofs.Common.{Option, Some, None, IfSome, Ok, refl, ap, ◌∙◌, subst, arith, ⊎_elim}
 use Rattle.std.proofs.lemmas.Bool.{cases_eq}
 use Rattle.std.proofs.lemmas.List.Elements.{All-nil, All-cons, All-append}
-use Rattle.spec_exact.specs.Fraction.{ℚ, 0ℚ, ◌≤ℚ◌, ◌<ℚ◌, lt_ℚ}
-use Rattle.spec_exact.proofs.Order.{<ℚ-le, lt_if, lt_test, not_lt_test, ≤ℚ_trans, clash_ℚ}
+use Rattle.spec_exact.specs.Fraction.{ℚ, 0ℚ, ◌≤ℚ◌, lt_ℚ}
+use Rattle.spec_exact.proofs.Order.{lt_if, lt_test, ≤ℚ_trans, clash_ℚ}
 use Rattle.spec_model.specs.Model.{Model, Limits, width, height, bounds, limits, coefficient, activity, part}
 use Rattle.spec_model.specs.Truth.{IsInfeasible}
 use Rattle.spec_check.specs.declared.certificate.Certificate.{Certificate}
 use Rattle.spec_check.specs.declared.certificate.Certificate.TheVariants.{Optimal, Infeasible, Clash, Unbounded}
 use Rattle.spec_check.specs.declared.certificate.Known.TheVariants as known
 use Rattle.spec_check.specs.Certificate.{IsFor}
-use Rattle.spec_check.specs.Checks.{ChecksInfeasible, ChecksClash, asked, or_zero, HasLimit, turned_limits, priced}
+use Rattle.spec_check.specs.Checks.{ChecksInfeasible, ChecksClash, asked, HasLimit, turned_limits, priced}
 use Rattle.spec_check.specs.Run.{check_run}
 use Rattle.spec_check.proofs.RunSound.{run_sound}
 use Rattle.spec_check.proofs.Duality.{Tight, infeasible}
+use Rattle.spec_check.proofs.Sound.{asked_above, asked_below}
 use Rattle.spec_iis.specs.declared.side.Side.{Side}
 use Rattle.spec_iis.specs.Sides.{IsSide, is_listed, Meets}
 use Rattle.spec_iis.specs.Only.{if_listed, only}
@@ -45,13 +46,6 @@ listed_if true s h = listed_first s []
 listed_if false s h = absurd (let z : false ≡ true = h in cc)
 
 -- ---- multipliers
-asked_above : (l : Limits) (d : ℚ) → HasLimit l d → 0ℚ <ℚ d → l.lower ≡ Some (asked l d)
-asked_above l d h p = let b = h.above p in b.1 ∙ ap Some (sym (rw (lt_test 0ℚ d p) (ap or_zero b.1)))
-
-asked_below : (l : Limits) (d : ℚ) → HasLimit l d → d <ℚ 0ℚ → l.upper ≡ Some (asked l d)
-asked_below l d h p =
-    let b = h.below p in b.1 ∙ ap Some (sym (rw (not_lt_test 0ℚ d (<ℚ-le _ _ p), lt_test d 0ℚ p) (ap or_zero b.1)))
-
 -- the one that is used is the one that is asked for
 tight_if : (l : Limits) (d : ℚ) → HasLimit l d →
     Tight (if_listed (lt_ℚ 0ℚ d) l.lower) (if_listed (lt_ℚ d 0ℚ) l.upper) d (asked l d)

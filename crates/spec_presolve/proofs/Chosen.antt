@@ -30,7 +30,7 @@ use Rattle.spec_presolve.specs.Reduce.{or_old}
 use Rattle.spec_presolve.proofs.Scaled.{divided, scaled, scaled_up, scaled_down}
 use Rattle.spec_presolve.proofs.Tightened.{Tightens, Least, Most}
 use Rattle.spec_exact.specs.Narrow.{IsNarrow, number_limit}
-use Rattle.spec_presolve.proofs.Narrow.{quotient_narrow}
+use Rattle.spec_solve.proofs.NarrowRuns.{quotient_narrow}
 use Rattle.spec_presolve.proofs.InRows.{Alone, row_empty, row_alone}
 
 -- ---- what is first
@@ -49,7 +49,7 @@ first_step i f (Some b) y h e a p =
     let w = h a (ok_same (Some b) y e ∙ p) in
     record { place = w.place; inside = omega (arith, w.inside); found = w.found }
 
-none_not : {A P : Type 0} (a : A) → ◌≡◌ {A = Option A} None (Some a) → P
+pub none_not : {A P : Type 0} (a : A) → ◌≡◌ {A = Option A} None (Some a) → P
 none_not {A} a e = let z : ◌≡◌ {A = Option A} None (Some a) = e in cc
 
 pub first_ok : {A : Type 0} (n : ℕ) (f : ℕ → Run (Option A)) (o : Option A) → first n f ≡ Ok o → (a : A) → o ≡ Some a →

@@ -18,13 +18,14 @@ use Rattle.spec_check.specs.declared.certificate.Certificate.TheVariants.{Optima
 use Rattle.spec_check.specs.Certificate.{IsFor}
 use Rattle.spec_check.specs.Checks.{signed, priced, reduced, IsTight, HasLimit, Allows, asked, rows_ask, columns_give}
 use Rattle.spec_check.specs.Checks.{turned_limits, Checks}
+use Rattle.spec_check.proofs.Sound.{tight_has}
 use Rattle.spec_presolve.specs.Carry.{ExactCertificate, over_empty}
 use Rattle.spec_presolve.proofs.After.{row_less}
 use Rattle.spec_presolve.proofs.OverEmpty.{plus_none, less_none}
 use Rattle.spec_presolve.proofs.RowMore.{HasRow, priced_more, reduced_more, feasible_more, tight_rows}
 use Rattle.spec_presolve.proofs.RowMore.{activity_other, has_limits, asks_more, allows_rows, cost_same}
 use Rattle.spec_presolve.proofs.Skips.{part_skipping, skipping_inside}
-use Rattle.spec_presolve.proofs.Tightened.{tight_zero, tight_has}
+use Rattle.spec_presolve.proofs.Tightened.{tight_zero}
 
 abbrev no_limits : Limits
 no_limits = record { lower = None; upper = None }

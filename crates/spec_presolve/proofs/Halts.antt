@@ -20,6 +20,7 @@ use Rattle.spec_check.specs.declared.certificate.Certificate.TheVariants.{Infeas
 use Rattle.spec_check.specs.declared.certificate.Certificate.TheVariants as certificate
 use Rattle.spec_check.specs.Checks.{IsTight, HasLimit, ChecksClash, turned_limits, priced, asked}
 use Rattle.spec_check.specs.Checks.{rows_ask, columns_give}
+use Rattle.spec_check.proofs.Sound.{tight_has, asked_weighs}
 use Rattle.spec_simplex.specs.Form.{limits_run}
 use Rattle.spec_presolve.specs.declared.reduction.InRow.{InRow}
 use Rattle.spec_presolve.specs.declared.reduction.InRow.TheVariants.{Nothing, One, More}
@@ -33,10 +34,10 @@ use Rattle.spec_presolve.specs.Choose.{is_below, empty_row, empty_by, given, quo
 use Rattle.spec_presolve.specs.Choose.{is_far, raised, cut, fixed_by, chosen}
 use Rattle.spec_presolve.specs.Carry.{ExactCertificate, IsShown, alone_at, halted}
 use Rattle.spec_presolve.proofs.Skips.{by_skip, part_at, part_skipping, part_zeros, sum_of_one}
-use Rattle.spec_presolve.proofs.Tightened.{tight_has, tight_zero, asked_weighs}
+use Rattle.spec_presolve.proofs.Tightened.{tight_zero}
 use Rattle.spec_presolve.proofs.OverSingleRun.{one_tight, minus_tight, minus_times}
 use Rattle.spec_presolve.proofs.InRows.{row_empty}
-use Rattle.spec_presolve.proofs.Chosen.{Origin, of_clash, of_empty, of_single, of_fixed, of_none, chosen_ok}
+use Rattle.spec_presolve.proofs.Chosen.{Origin, of_clash, of_empty, of_single, of_fixed, of_none, chosen_ok, none_not}
 use Rattle.spec_path.proofs.RowLimits.{limits_ok}
 
 -- ---- a row without entries whose limits leave out 0
@@ -101,9 +102,6 @@ module _ (m : Model) (i : ℕ) (d s : ℚ) (inside : i < height m) (nothing : (k
   }
 
 -- ---- by what is found
-
-none_not : {A P : Type 0} (a : A) → ◌≡◌ {A = Option A} None (Some a) → P
-none_not {A} a e = let z : ◌≡◌ {A = Option A} None (Some a) = e in cc
 
 reduce_not : {P : Type 0} (h : Halt) (r : ExactReduction) → ◌≡◌ {A = ExactChoice} (Reduce r) (choice.Halt h) → P
 reduce_not h r e = let z : ◌≡◌ {A = ExactChoice} (Reduce r) (choice.Halt h) = e in cc

@@ -13,6 +13,7 @@ use Rattle.spec_model.specs.Kept.{IsModel, IsBound}
 use Rattle.spec_edit.specs.Changes.{without_row, with_bounds, with_rhs, with_offset}
 use Rattle.spec_edit.specs.Edited.{IsKeptBound}
 use Rattle.spec_edit.proofs.Keeping.{without_row-kept, without_column-kept, with_bounds-kept, with_rhs-kept, with_offset-kept}
+use Rattle.spec_solve.proofs.NarrowRuns.{plus_narrow, less_narrow}
 use Rattle.spec_presolve.specs.declared.reduction.Reduction.TheVariants.{Empty, Single, Fixed}
 use Rattle.spec_presolve.specs.declared.reduction.Halt.{Halt}
 use Rattle.spec_presolve.specs.declared.reduction.Halt.TheVariants.{Done}
@@ -20,7 +21,6 @@ use Rattle.spec_presolve.specs.declared.reduction.Choice.TheVariants.{Reduce}
 use Rattle.spec_presolve.specs.declared.reduction.Choice.TheVariants as choice
 use Rattle.spec_presolve.specs.Choose.{ExactReduction, ExactChoice, chosen}
 use Rattle.spec_presolve.specs.Reduce.{Reductions, or_old, tightened, shifted, after, proceed, reduced_within, reduced}
-use Rattle.spec_presolve.proofs.Narrow.{plus_narrow, less_narrow}
 use Rattle.spec_presolve.proofs.Chosen.{Goes, what_goes}
 use Rattle.spec_presolve.proofs.After.{fixed_parts}
 

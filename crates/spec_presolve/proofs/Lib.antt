@@ -12,7 +12,6 @@ pub mod After
 pub mod Carried
 pub mod Halts
 pub mod Ends
-pub mod Narrow
 pub mod Kept
 pub mod FreeRow
 pub mod FreeRows

@@ -14,10 +14,11 @@ use Rattle.spec_check.specs.Certificate.{IsFor}
 use Rattle.spec_check.specs.declared.certificate.Known.TheVariants as known
 use Rattle.spec_check.specs.Checks.{signed, priced, reduced, IsTight, HasLimit, Allows, asked, rows_ask, columns_give}
 use Rattle.spec_check.specs.Checks.{turned_limits, Checks, ChecksOptimal, ChecksInfeasible, ChecksClash, ChecksUnbounded}
+use Rattle.spec_check.proofs.Sound.{tight_has}
 use Rattle.spec_presolve.specs.Carry.{ExactCertificate, IsCarried, over_empty}
 use Rattle.spec_presolve.proofs.RowMore.{HasRow, length_more, priced_more, reduced_more, feasible_more, tight_rows}
 use Rattle.spec_presolve.proofs.RowMore.{has_limits, asks_more, allows_rows, cost_same, value_same}
-use Rattle.spec_presolve.proofs.Tightened.{tight_zero, tight_has}
+use Rattle.spec_presolve.proofs.Tightened.{tight_zero}
 
 -- m has row i more than n, without entries, and 0 is within its limits
 pub record EmptyStep (m n : Model) (i : ℕ) : Type 0 where

@@ -21,9 +21,10 @@ use Rattle.spec_check.specs.Certificate.{IsFor}
 use Rattle.spec_check.specs.declared.certificate.Known.TheVariants as known
 use Rattle.spec_check.specs.Checks.{signed, priced, reduced, IsTight, HasLimit, Allows, asked, rows_ask, columns_give}
 use Rattle.spec_check.specs.Checks.{turned_limits, Checks, ChecksOptimal, ChecksInfeasible, ChecksClash, ChecksUnbounded}
+use Rattle.spec_check.proofs.Sound.{tight_has, asked_weighs}
 use Rattle.spec_presolve.specs.Carry.{ExactCertificate, IsCarried, over_fixed}
 use Rattle.spec_presolve.proofs.Skips.{by_skip, part_at, part_skipping, sum_skipping, skipping_inside}
-use Rattle.spec_presolve.proofs.Tightened.{tight_has, asked_tight, asked_weighs}
+use Rattle.spec_presolve.proofs.Tightened.{asked_tight}
 use Rattle.spec_presolve.proofs.OverEmpty.{allows_zero}
 
 -- ---- limits that are moved

@@ -1,14 +1,15 @@
 -- Bounds that a row with one entry tightens.
 use Rattle.std.proofs.Common.{◌≡◌, Bool, true, false, cond, Option, Some, None, IfSome, is_some}
 use Rattle.std.proofs.Common.{refl, sym, ap, ◌∙◌, subst, subst₂}
-use Rattle.spec_exact.specs.Fraction.{ℚ, 0ℚ, ◌*ℚ◌, neg_ℚ, ◌≤ℚ◌, ◌<ℚ◌, lt_ℚ}
+use Rattle.spec_exact.specs.Fraction.{ℚ, 0ℚ, neg_ℚ, ◌≤ℚ◌, ◌<ℚ◌, lt_ℚ}
 use Rattle.spec_exact.proofs.Order.{≤ℚ_trans, lt_test, not_lt_test, <ℚ-le, clash_ℚ}
-use Rattle.spec_exact.proofs.Strict.{by_sign, neg_strict}
-use Rattle.spec_exact.proofs.Ruleset.{zero-*ℚ, neg-zero, neg-neg}
+use Rattle.spec_exact.proofs.Strict.{neg_strict}
+use Rattle.spec_exact.proofs.Ruleset.{neg-zero, neg-neg}
 use Rattle.spec_pivot.proofs.Optimal.{if_some}
 use Rattle.spec_model.specs.Model.{Limits}
 use Rattle.spec_model.specs.Truth.{IsBetween}
-use Rattle.spec_check.specs.Checks.{IsTight, HasLimit, Allows, asked, or_zero, turned_limits}
+use Rattle.spec_check.specs.Checks.{IsTight, HasLimit, Allows, asked, turned_limits}
+use Rattle.spec_check.proofs.Sound.{asked_above, asked_below}
 use Rattle.spec_presolve.specs.Reduce.{or_old, tightened}
 use Rattle.spec_presolve.specs.Carry.{is_given}
 use Rattle.spec_presolve.proofs.Scaled.{Ordered}
@@ -16,29 +17,7 @@ use Rattle.spec_presolve.proofs.Scaled.{Ordered}
 -- ---- a limit that a multiplier asks for
 
 pub asked_tight : (l : Limits) (d : ℚ) → HasLimit l d → IsTight l d (asked l d)
-asked_tight l d h =
-    record {
-      above = λ p. let b = h.above p in b.1 ∙ ap Some (sym (rw (lt_test 0ℚ d p) (ap or_zero b.1)));
-      below =
-          λ p. let b = h.below p in
-          b.1 ∙ ap Some (sym (rw (not_lt_test 0ℚ d (<ℚ-le _ _ p), lt_test d 0ℚ p) (ap or_zero b.1)));
-    }
-
-pub tight_has : (l : Limits) (d v : ℚ) → IsTight l d v → HasLimit l d
-tight_has l d v h = record { above = λ p. (v, h.above p); below = λ p. (v, h.below p) }
-
-some_same : (a b : ℚ) (o : Option ℚ) → o ≡ Some a → o ≡ Some b → a ≡ b
-some_same a b o p q = let z : Some a ≡ Some b = sym p ∙ q in cc
-
--- two values that a multiplier stands at weigh the same
-pub tight_weighs : (l : Limits) (d v w : ℚ) → IsTight l d v → IsTight l d w → d *ℚ v ≡ d *ℚ w
-tight_weighs l d v w h k =
-    by_sign d (λ p. ap (λ x. d *ℚ x) (some_same v w l.lower (h.above p) (k.above p)))
-    (λ p. ap (λ x. d *ℚ x) (some_same v w l.upper (h.below p) (k.below p)))
-    (λ e. ap (λ d. d *ℚ v) e ∙ zero-*ℚ v ∙ sym (zero-*ℚ w) ∙ ap (λ d. d *ℚ w) (sym e))
-
-pub asked_weighs : (l : Limits) (d v : ℚ) → IsTight l d v → d *ℚ asked l d ≡ d *ℚ v
-asked_weighs l d v h = tight_weighs l d (asked l d) v (asked_tight l d (tight_has l d v h)) h
+asked_tight l d h = record { above = asked_above l d h; below = asked_below l d h }
 
 pub tight_zero : (l : Limits) (v : ℚ) → IsTight l 0ℚ v
 tight_zero l v =

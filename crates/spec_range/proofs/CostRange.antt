@@ -24,6 +24,7 @@ use Rattle.spec_simplex.specs.Tableau.{Tableau, all_columns, entry_at, value_at,
 use Rattle.spec_simplex.specs.Tableau.{lower_at, upper_at, is_basic}
 use Rattle.spec_simplex.specs.Eliminate.{IsBasisOf, start_from}
 use Rattle.spec_simplex.specs.Dual.{place_of}
+use Rattle.spec_simplex.proofs.Statuses.{basic_if}
 use Rattle.spec_path.specs.Tables.{table_of}
 use Rattle.spec_path.proofs.Formed.{Limited, form_is}
 use Rattle.spec_path.proofs.Runs.{then_ok, refused_ok}
@@ -31,7 +32,7 @@ use Rattle.spec_path.proofs.Orders.{given}
 use Rattle.spec_path.proofs.LimitStart.{form_without}
 use Rattle.spec_cold.specs.Cold.{point, multipliers}
 use Rattle.spec_warm.proofs.Chosen.{place_is}
-use Rattle.spec_warm.proofs.Counts.{basic_if, basic_test}
+use Rattle.spec_warm.proofs.Counts.{basic_test}
 use Rattle.spec_pivot.specs.Dual.{Suits}
 use Rattle.spec_range.specs.declared.range.Ends.{Ends}
 use Rattle.spec_range.specs.declared.range.Range.{Range}

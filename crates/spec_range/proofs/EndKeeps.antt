@@ -27,6 +27,7 @@ use Rattle.spec_simplex.specs.Form.{Form, form_of, formed}
 use Rattle.spec_simplex.specs.Start.{by_column, cost_at}
 use Rattle.spec_simplex.specs.Tableau.{Tableau, form_columns, is_basic, basic_at, entry_at, value_at, reduced_at, status_at}
 use Rattle.spec_simplex.specs.Eliminate.{basis_at, IsBasisOf, start_from}
+use Rattle.spec_simplex.proofs.Statuses.{basic_if}
 use Rattle.spec_exact.proofs.Stops.{get_or-made, made_same}
 use Rattle.spec_path.specs.Begins.{form_rows}
 use Rattle.spec_path.specs.Tables.{table_of}
@@ -36,7 +37,6 @@ use Rattle.spec_path.proofs.Formed.{Limited, HasBounds, cost_other, formed_prope
 use Rattle.spec_cold.specs.Cold as cold
 use Rattle.spec_warm.specs.Based.{equations, IsDependent}
 use Rattle.spec_warm.proofs.Bases.{basis_fits}
-use Rattle.spec_warm.proofs.Counts.{basic_if}
 use Rattle.spec_warm.proofs.LimitSteps.{from_agrees}
 use Rattle.spec_warm.proofs.Singular.{start_singular}
 use Rattle.spec_range.specs.Span.{Keeps}

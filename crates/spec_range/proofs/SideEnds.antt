@@ -14,9 +14,10 @@ use Rattle.spec_pivot.proofs.Pivot.{by_eq}
 use Rattle.spec_simplex.specs.Tableau.{Tableau, all_columns, entry_at, value_at, status_at}
 use Rattle.spec_simplex.specs.Tableau.{lower_at, upper_at, is_basic}
 use Rattle.spec_simplex.specs.Dual.{place_of}
+use Rattle.spec_simplex.proofs.Statuses.{basic_if}
 use Rattle.spec_path.proofs.Runs.{then_ok, steps_ok, sum_ok, difference_ok, quotient_ok}
 use Rattle.spec_path.proofs.Orders.{given}
-use Rattle.spec_warm.proofs.Counts.{basic_if, basic_test}
+use Rattle.spec_warm.proofs.Counts.{basic_test}
 use Rattle.spec_range.specs.declared.range.Ends.{Ends}
 use Rattle.spec_range.specs.Span.{IsIn}
 use Rattle.spec_range.specs.Rule.{no_ends, at_side, shifted_run, still_ends, bound_ends, carried_ends, is_carried}

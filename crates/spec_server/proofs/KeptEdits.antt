@@ -25,13 +25,13 @@ use Rattle.spec_server.specs.EditCommand.{Reads, ◌>>=◌, as_read, number_in, 
 use Rattle.spec_server.specs.EditCommand.{lower_by, lower_in, upper_by, upper_in, two_by_two, numbers_in, column_in, edit_by}
 
 -- what is read next, by what holds of the value that was read before
-then_kept : {A B : Type 0} (P : A → Type 0) (Q : B → Type 0) (read : Reads A) (next : A → Reads B) → IfOk read P →
+pub then_kept : {A B : Type 0} (P : A → Type 0) (Q : B → Type 0) (read : Reads A) (next : A → Reads B) → IfOk read P →
     ((a : A) → P a → IfOk (next a) Q) → IfOk (read >>= next) Q
 then_kept P Q (Ok a) next h go = go a h
 then_kept P Q (Err why) next h go = tt
 
 -- the same, where nothing is asked of that value
-any_kept : {A B : Type 0} (Q : B → Type 0) (read : Reads A) (next : A → Reads B) → ((a : A) → IfOk (next a) Q) →
+pub any_kept : {A B : Type 0} (Q : B → Type 0) (read : Reads A) (next : A → Reads B) → ((a : A) → IfOk (next a) Q) →
     IfOk (read >>= next) Q
 any_kept Q (Ok a) next go = go a
 any_kept Q (Err why) next go = tt

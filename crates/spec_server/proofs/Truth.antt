@@ -31,12 +31,12 @@ use Rattle.spec_server.specs.Machine.{State, ExactReply, verdict_on, check_reply
 use Rattle.spec_server.specs.Step.{AloneStep}
 use Rattle.spec_server.proofs.Simply.{Does, WantsMemory, step_simply}
 
-said_yes : (run : Run (Known ℚ)) (said : Known ℚ) → verdict_of run ≡ verdict.Yes said → run ≡ Ok said
+pub said_yes : (run : Run (Known ℚ)) (said : Known ℚ) → verdict_of run ≡ verdict.Yes said → run ≡ Ok said
 said_yes (Ok other) said e = cc
 said_yes (Err (stop.No n)) said e = cc
 said_yes (Err (stop.Past p)) said e = cc
 
-checked : (a b : Verdict ℚ) → ◌≡◌ {A = ExactReply} (reply.Checked a) (reply.Checked b) → a ≡ b
+pub checked : (a b : Verdict ℚ) → ◌≡◌ {A = ExactReply} (reply.Checked a) (reply.Checked b) → a ≡ b
 checked a b e = cc
 
 -- the reply that accepts a certificate
@@ -77,7 +77,7 @@ accepted_is_true places old new raw reads said s =
 abbrev known_to : Known ℚ → ExactReply
 known_to said = reply.Answered (answer.Known said)
 
-answers_same : (a b : Answer ℚ) → ◌≡◌ {A = ExactReply} (reply.Answered a) (reply.Answered b) → a ≡ b
+pub answers_same : (a b : Answer ℚ) → ◌≡◌ {A = ExactReply} (reply.Answered a) (reply.Answered b) → a ≡ b
 answers_same a b e = cc
 
 knowns_same : (a b : Known ℚ) → ◌≡◌ {A = Answer ℚ} (answer.Known a) (answer.Known b) → a ≡ b

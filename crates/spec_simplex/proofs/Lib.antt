@@ -1,0 +1,2 @@
+pub mod EnteringColumns
+pub mod Statuses

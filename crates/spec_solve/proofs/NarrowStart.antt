@@ -109,7 +109,7 @@ limits_narrow r p h n =
       limit_narrow (upper_of r) u.0 u.1 (upper_given r.kind r.rhs r.range n),
     )
 
-least_narrow : (sense : Sense) (c : ℚ) → IsNarrow c → IsNarrow (least_cost sense c)
+pub least_narrow : (sense : Sense) (c : ℚ) → IsNarrow c → IsNarrow (least_cost sense c)
 least_narrow Min c h = h
 least_narrow Max c h = neg_narrow c h
 

@@ -1,15 +1,12 @@
 -- What `gen` writes: the line of a size and the line of an answer that is shown of the model.
 use Rattle.std.proofs.Common.{◌≡◌, ℕ, List, [], ◌∷◌, ◌++◌, refl, sym, ap, ◌∙◌, append_assoc}
 use Rattle.std.specs.Prelude.{codes, decimal, replicate}
-use Rattle.std.proofs.lemmas.List.FromFn.{length-map-range_with_len}
 use Rattle.spec_exact.specs.Fraction.{ℚ, 0ℚ}
 use Rattle.spec_model.specs.Model.{Model, width, height}
 use Rattle.spec_model.specs.Truth.{IsOptimal}
 use Rattle.spec_mps.specs.NumberText.{Is, number_of}
-use Rattle.spec_gen.specs.Draws.{after}
-use Rattle.spec_gen.specs.Generated.{at_column, generated_column, generated_columns, generated_row, generated_rows}
 use Rattle.spec_gen.specs.Generated.{generated}
-use Rattle.spec_gen.proofs.Feasible.{zero_feasible, bounded}
+use Rattle.spec_gen.proofs.Feasible.{zero_feasible, bounded, height_is, width_is}
 use Rattle.spec_cold.specs.Cold.{ExactSolveEnd}
 use Rattle.spec_server.specs.declared.answer.Answer.{Answer}
 use Rattle.spec_server.specs.declared.asks.Reply.TheVariants as reply
@@ -93,16 +90,6 @@ second_line m written size rest r no_feed e =
     same_rest (size_line m) size (answer ++ 10 ∷ r.behind) rest (size_no_feed m) no_feed (sym all ∙ e)
 
 -- ---- the size
-
-width_is : (seed rows columns : ℕ) → width (generated seed rows columns) ≡ columns
-unfolding generated generated_columns
-width_is seed rows columns =
-    length-map-range_with_len (λ j. generated_column rows j (at_column rows seed j)) 0 columns
-
-height_is : (seed rows columns : ℕ) → height (generated seed rows columns) ≡ rows
-unfolding generated generated_rows
-height_is seed rows columns =
-    length-map-range_with_len (λ i. generated_row i (after i (at_column rows seed columns))) 0 rows
 
 pub size_is : (seed rows columns : ℕ) →
     size_text (generated seed rows columns)

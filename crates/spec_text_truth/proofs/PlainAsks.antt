@@ -35,7 +35,7 @@ use Rattle.spec_server.specs.declared.command.EditWord.TheVariants.{AddRow, DelR
 use Rattle.spec_server.specs.declared.command.EditWord.TheVariants.{SetRhs, SetRange, SetBound, Sense as SenseWord}
 use Rattle.spec_server.specs.declared.command.Plain.{Plain as plain_of}
 use Rattle.spec_server.specs.declared.command.Plain.TheVariants as command
-use Rattle.spec_server.specs.EditCommand.{Reads, ◌>>=◌, number_in, kind_in, new_range_in, sense_in, range_in, lower_in}
+use Rattle.spec_server.specs.EditCommand.{Reads, number_in, kind_in, new_range_in, sense_in, range_in, lower_in}
 use Rattle.spec_server.specs.EditCommand.{upper_in, two_by_two, numbers_in, column_in, edit_by}
 use Rattle.spec_server.specs.Addressing.{addressed_to, addressed_from, addressed_by, begins_with_hash, addressed_in}
 use Rattle.spec_server.specs.Command.{ExactCommand, session_of, budget_of, style_of, command_word_of, load_by, write_by}
@@ -44,6 +44,7 @@ use Rattle.spec_server.specs.Machine.{ExactAsk}
 use Rattle.spec_server.specs.Script.{Pending, Between, Text, Certificate, ends_text, ends_certificate, ask_of_verdict}
 use Rattle.spec_server.specs.Script.{ask_of_judgement, begun, begun_by, pending_after_line, asks_of_command, asks_by}
 use Rattle.spec_server.specs.Script.{asks_of_line, asks_from}
+use Rattle.spec_server.proofs.KeptEdits.{any_kept, then_kept}
 use Rattle.spec_text_truth.specs.TrueOutput.{HasNoFeed}
 use Rattle.spec_text_truth.proofs.PlainWords.{words_plain, IsPlainText}
 
@@ -89,16 +90,6 @@ ArePlainAsks asks = All (λ a. IsPlainAsk a.ask) asks
 
 -- ---- edits
 
-module _ {A B : Type 0} (Q : B → Type 0) where
-  then_plain : (P : A → Type 0) (read : Reads A) (next : A → Reads B) → IfOk read P →
-      ((a : A) → P a → IfOk (next a) Q) → IfOk (read >>= next) Q
-  then_plain P (Ok a) next h go = go a h
-  then_plain P (Err why) next h go = tt
-
-  any_plain : (read : Reads A) (next : A → Reads B) → ((a : A) → IfOk (next a) Q) → IfOk (read >>= next) Q
-  any_plain (Ok a) next go = go a
-  any_plain (Err why) next go = tt
-
 abbrev ArePlainTwos : List (List ℕ × List ℕ) → Type 0
 ArePlainTwos twos = All (λ two. HasNoFeed two.0) twos
 
@@ -120,8 +111,8 @@ numbers_plain : (twos : List (List ℕ × List ℕ)) → ArePlainTwos twos → I
 unfolding numbers_in
 numbers_plain [] h = All-nil (λ (p : Name × ℚ). HasNoFeed p.0)
 numbers_plain (two ∷ twos) h =
-    any_plain ArePlainPairs (number_in two.1) _ λ v.
-    then_plain ArePlainPairs ArePlainPairs (numbers_in twos) _
+    any_kept ArePlainPairs (number_in two.1) _ λ v.
+    then_kept ArePlainPairs ArePlainPairs (numbers_in twos) _
     (numbers_plain twos (All-tail (λ (two : List ℕ × List ℕ). HasNoFeed two.0) two twos h)) λ rest k.
     All-cons (λ (p : Name × ℚ). HasNoFeed p.0) (two.0, v) rest
     (All-head (λ (two : List ℕ × List ℕ). HasNoFeed two.0) two twos h) k
@@ -130,38 +121,38 @@ column_plain : (name : Name) (cost : List ℕ) (twos : Option (List (List ℕ ×
     IfSome twos ArePlainTwos → IfOk (column_in name cost twos) IsPlainEdit
 column_plain name cost None h k = tt
 column_plain name cost (Some twos) h k =
-    any_plain IsPlainEdit (number_in cost) _ λ c.
-    then_plain IsPlainEdit ArePlainPairs (numbers_in twos) _ (numbers_plain twos k) λ ps g. (h, g)
+    any_kept IsPlainEdit (number_in cost) _ λ c.
+    then_kept ArePlainPairs IsPlainEdit (numbers_in twos) _ (numbers_plain twos k) λ ps g. (h, g)
 
 edit_plain : (which : EditWord) (words : List (List ℕ)) → All HasNoFeed words → IfOk (edit_by which words) IsPlainEdit
 unfolding edit_by
 edit_plain AddRow (name ∷ type ∷ rhs ∷ []) h =
-    any_plain IsPlainEdit (kind_in type) _ λ k.
-    any_plain IsPlainEdit (number_in rhs) _ λ b. All-head HasNoFeed name (type ∷ rhs ∷ []) h
+    any_kept IsPlainEdit (kind_in type) _ λ k.
+    any_kept IsPlainEdit (number_in rhs) _ λ b. All-head HasNoFeed name (type ∷ rhs ∷ []) h
 edit_plain AddRow (name ∷ type ∷ rhs ∷ range ∷ []) h =
-    any_plain IsPlainEdit (kind_in type) _ λ k.
-    any_plain IsPlainEdit (number_in rhs) _ λ b.
-    any_plain IsPlainEdit (new_range_in k range) _ λ r. All-head HasNoFeed name (type ∷ rhs ∷ range ∷ []) h
+    any_kept IsPlainEdit (kind_in type) _ λ k.
+    any_kept IsPlainEdit (number_in rhs) _ λ b.
+    any_kept IsPlainEdit (new_range_in k range) _ λ r. All-head HasNoFeed name (type ∷ rhs ∷ range ∷ []) h
 edit_plain DelRow (name ∷ []) h = All-head HasNoFeed name [] h
 edit_plain AddCol (name ∷ cost ∷ pairs) h =
     column_plain name cost (two_by_two pairs) (All-head HasNoFeed name (cost ∷ pairs) h)
     (twos_plain pairs (All-tail HasNoFeed cost pairs (All-tail HasNoFeed name (cost ∷ pairs) h)))
 edit_plain DelCol (name ∷ []) h = All-head HasNoFeed name [] h
 edit_plain SetCost (name ∷ value ∷ []) h =
-    any_plain IsPlainEdit (number_in value) _ λ v. All-head HasNoFeed name (value ∷ []) h
+    any_kept IsPlainEdit (number_in value) _ λ v. All-head HasNoFeed name (value ∷ []) h
 edit_plain SetCoef (row ∷ column ∷ value ∷ []) h =
-    any_plain IsPlainEdit (number_in value) _ λ v. (
+    any_kept IsPlainEdit (number_in value) _ λ v. (
       All-head HasNoFeed row (column ∷ value ∷ []) h,
       All-head HasNoFeed column (value ∷ []) (All-tail HasNoFeed row (column ∷ value ∷ []) h),
     )
 edit_plain SetRhs (name ∷ value ∷ []) h =
-    any_plain IsPlainEdit (number_in value) _ λ v. All-head HasNoFeed name (value ∷ []) h
+    any_kept IsPlainEdit (number_in value) _ λ v. All-head HasNoFeed name (value ∷ []) h
 edit_plain SetRange (name ∷ value ∷ []) h =
-    any_plain IsPlainEdit (range_in value) _ λ r. All-head HasNoFeed name (value ∷ []) h
+    any_kept IsPlainEdit (range_in value) _ λ r. All-head HasNoFeed name (value ∷ []) h
 edit_plain SetBound (name ∷ lower ∷ upper ∷ []) h =
-    any_plain IsPlainEdit (lower_in lower) _ λ l.
-    any_plain IsPlainEdit (upper_in upper) _ λ u. All-head HasNoFeed name (lower ∷ upper ∷ []) h
-edit_plain SenseWord (sense ∷ []) h = any_plain IsPlainEdit (sense_in sense) _ λ s. tt
+    any_kept IsPlainEdit (lower_in lower) _ λ l.
+    any_kept IsPlainEdit (upper_in upper) _ λ u. All-head HasNoFeed name (lower ∷ upper ∷ []) h
+edit_plain SenseWord (sense ∷ []) h = any_kept IsPlainEdit (sense_in sense) _ λ s. tt
 edit_plain other words h = tt
 
 -- ---- commands

@@ -14,8 +14,8 @@ use Rattle.spec_check.proofs.Fits.{settled_fits}
 use Rattle.spec_check.proofs.RunSound.{run_sound}
 use Rattle.spec_check.proofs.Sound.{checks_hold}
 use Rattle.spec_server.specs.declared.asks.Reply.TheVariants as reply
+use Rattle.spec_server.proofs.Truth.{said_yes, checked}
 use Rattle.spec_commands.specs.CheckWideOut.{wide_verdict_on}
-use Rattle.spec_truth.proofs.Shown.{said_yes, checked}
 
 -- a yes to a certificate that is put to the model
 pub wide_yes_holds : (m : Model) (raw : ExactRaw) (what : Known ℚ) →

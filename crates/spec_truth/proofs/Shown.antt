@@ -13,12 +13,10 @@ use Rattle.spec_check.specs.declared.certificate.Certificate.TheVariants.{Optima
 use Rattle.spec_check.specs.declared.certificate.Known.{Known}
 use Rattle.spec_check.specs.declared.certificate.Known.TheVariants as known
 use Rattle.spec_check.specs.declared.certificate.SettleFault.TheVariants as settle
-use Rattle.spec_check.specs.declared.certificate.CheckStop.TheVariants as stop
-use Rattle.spec_check.specs.declared.certificate.Verdict.{Verdict}
 use Rattle.spec_check.specs.declared.certificate.Verdict.TheVariants as verdict
 use Rattle.spec_check.specs.Certificate.{IsFor, Holds}
-use Rattle.spec_check.specs.Run.{Run, step, each, columns_run, rows_run, column_tight_run, row_tight_run, cost_run}
-use Rattle.spec_check.specs.Run.{value_run, check_run, verdict_of}
+use Rattle.spec_check.specs.Run.{step, each, columns_run, rows_run, column_tight_run, row_tight_run, cost_run}
+use Rattle.spec_check.specs.Run.{value_run, check_run}
 use Rattle.spec_check.specs.Settle.{Settled, certificate_for}
 use Rattle.spec_check.specs.Raw.{ExactRaw}
 use Rattle.spec_check.proofs.Fits.{settled_fits}
@@ -34,7 +32,8 @@ use Rattle.spec_solve.proofs.NarrowRuns.{sum_narrow}
 use Rattle.spec_server.specs.declared.answer.Answer.{Answer}
 use Rattle.spec_server.specs.declared.answer.Answer.TheVariants as answer
 use Rattle.spec_server.specs.declared.asks.Reply.TheVariants as reply
-use Rattle.spec_server.specs.Machine.{ExactReply, verdict_on, answer_of}
+use Rattle.spec_server.specs.Machine.{verdict_on, answer_of}
+use Rattle.spec_server.proofs.Truth.{said_yes, checked}
 use Rattle.spec_truth.specs.TrueAnswer.{IsTrueOf}
 
 -- a certificate for the model, to which the checker says yes
@@ -82,14 +81,6 @@ pub value_fits : (m : Model) (v : ℚ) → IsShown m (known.Optimal v) → IsNar
 value_fits m v s = optimal_narrow m s.cert v s.fits s.says
 
 -- ---- what says so
-
-pub said_yes : (run : Run (Known ℚ)) (what : Known ℚ) → verdict_of run ≡ verdict.Yes what → run ≡ Ok what
-said_yes (Ok other) what e = cc
-said_yes (Err (stop.No n)) what e = cc
-said_yes (Err (stop.Past p)) what e = cc
-
-pub checked : (a b : Verdict ℚ) → ◌≡◌ {A = ExactReply} (reply.Checked a) (reply.Checked b) → a ≡ b
-checked a b e = cc
 
 -- a yes to a certificate that is put to the model
 pub yes_shown : (m : Model) (raw : ExactRaw) (what : Known ℚ) →

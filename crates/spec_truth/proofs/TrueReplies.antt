@@ -15,7 +15,6 @@ use Rattle.spec_check.specs.Raw.{ExactRaw}
 use Rattle.spec_edit.specs.declared.edit.EditFault.{EditFault}
 use Rattle.spec_edit.specs.declared.edit.EditFault.TheVariants as fault
 use Rattle.spec_edit.specs.Edited.{ExactEdit, OrFault, edited}
-use Rattle.spec_server.specs.declared.answer.Answer.{Answer}
 use Rattle.spec_server.specs.declared.answer.Answer.TheVariants as answer
 use Rattle.spec_server.specs.declared.asks.Ask.TheVariants as ask
 use Rattle.spec_server.specs.declared.asks.Reply.TheVariants as reply
@@ -27,6 +26,7 @@ use Rattle.spec_server.specs.Machine.{fixed_reply, write_reply, cert_reply, how_
 use Rattle.spec_server.specs.Machine.{answer_of, due, solve_due, edit_refusal, edit_due, change_due}
 use Rattle.spec_server.specs.Step.{AloneStep}
 use Rattle.spec_server.proofs.Simply.{Does, WantsMemory, step_simply}
+use Rattle.spec_server.proofs.Truth.{answers_same}
 use Rattle.spec_truth.proofs.Shown.{IsShown, IsShownBy, answer_shown, yes_shown}
 
 -- ---- which replies answer, and which speak of a certificate
@@ -109,9 +109,6 @@ pub record IsShownOfHeld (held : Option Model) (what : Known ℚ) : Type 0 where
   pub model : Model
   pub is_held : held ≡ Some model
   pub shown : IsShown model what
-
-answers_same : (a b : Answer ℚ) → ◌≡◌ {A = ExactReply} (reply.Answered a) (reply.Answered b) → a ≡ b
-answers_same a b e = cc
 
 solve_shown : (old new : State) (held : Option Model) (what : Known ℚ) →
     Does old (solve_due old held) (reply.Answered (answer.Known what)) new → IsShownOfHeld held what

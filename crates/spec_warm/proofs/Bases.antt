@@ -27,7 +27,8 @@ use Rattle.spec_path.proofs.Formed.{HasBounds}
 use Rattle.spec_path.proofs.Equations.{row_logical, row_artificial}
 use Rattle.spec_path.proofs.Runs.{get_or-made}
 use Rattle.spec_simplex.specs.Eliminate.{basis_at, basics_below, CanStand, IsBasisOf}
-use Rattle.spec_warm.proofs.Counts.{basic_if, basic_test, nonbasic_test}
+use Rattle.spec_simplex.proofs.Statuses.{basic_if}
+use Rattle.spec_warm.proofs.Counts.{basic_test, nonbasic_test}
 use Rattle.spec_warm.proofs.Members.{count, count_same, count_split, count_either}
 use Rattle.spec_warm.proofs.Members.{member, member_if, member_test, count_members}
 

@@ -9,12 +9,6 @@ use Rattle.spec_simplex.specs.Tableau.{is_basic}
 use Rattle.spec_simplex.specs.Eliminate.{has_none}
 
 -- ---- the test of a status
-pub basic_if : (s : Status) → is_basic s ≡ true → s ≡ Basic
-basic_if Basic e = refl
-basic_if AtLower e = let z : false ≡ true = e in cc
-basic_if AtUpper e = let z : false ≡ true = e in cc
-basic_if AtZero e = let z : false ≡ true = e in cc
-
 pub basic_test : (s : Status) → s ≡ Basic → is_basic s ≡ true
 basic_test s e = ap is_basic e
 

@@ -24,7 +24,8 @@ use Rattle.spec_simplex.specs.declared.ends.StartStop.TheVariants as stop
 use Rattle.spec_warm.specs.Based.{equations}
 use Rattle.spec_simplex.specs.Eliminate.{basis_at, basics_below, Elimination, equation, unsolved, has_none, is_open}
 use Rattle.spec_simplex.specs.Eliminate.{or_place, open_below, solved_at, solved_by, solved_run, eliminate_run}
-use Rattle.spec_warm.proofs.Counts.{basic_if, basic_test, filled, filled_set, none_is}
+use Rattle.spec_simplex.proofs.Statuses.{basic_if}
+use Rattle.spec_warm.proofs.Counts.{basic_test, filled, filled_set, none_is}
 use Rattle.spec_exact.proofs.Results.{ok_same, err_not_ok}
 use Rattle.spec_warm.proofs.Unsolved.{unsolved_length, unsolved_forth, unsolved_back}
 

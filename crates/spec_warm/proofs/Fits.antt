@@ -23,7 +23,8 @@ use Rattle.std.proofs.lemmas.Bool.{and_parts}
 use Rattle.spec_simplex.specs.Fit.{below_lower, above_upper, outside_by}
 use Rattle.spec_simplex.specs.Fit.{outside_run, leaving_at, leaving_with, leaving_run, needs_flip}
 use Rattle.spec_simplex.specs.Fit.{meets_need, meets_need_at, all_meet, fit_by, fit_run}
-use Rattle.spec_warm.proofs.Counts.{basic_if, basic_test}
+use Rattle.spec_simplex.proofs.Statuses.{basic_if}
+use Rattle.spec_warm.proofs.Counts.{basic_test}
 
 -- ---- one value
 abbrev BelowIs : Option ℚ → ℚ → Bool → Type 0

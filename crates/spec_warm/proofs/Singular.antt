@@ -26,7 +26,8 @@ use Rattle.spec_warm.specs.Based.{equations, IsDependent}
 use Rattle.spec_simplex.specs.Eliminate.{basis_at, Elimination, unsolved, has_none, is_open}
 use Rattle.spec_simplex.specs.Eliminate.{or_place, open_below, solved_at, solved_by, solved_run}
 use Rattle.spec_simplex.specs.Eliminate.{eliminate_run, or_first, with_basis, filled_run, start_from}
-use Rattle.spec_warm.proofs.Counts.{basic_if, some_is}
+use Rattle.spec_simplex.proofs.Statuses.{basic_if}
+use Rattle.spec_warm.proofs.Counts.{some_is}
 use Rattle.spec_warm.proofs.Eliminated.{Solving, eliminated_below}
 use Rattle.spec_exact.proofs.Results.{ok_not_err, err_same}
 

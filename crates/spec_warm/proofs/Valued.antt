@@ -17,7 +17,7 @@ use Rattle.spec_simplex.specs.Tableau.{Tableau, all_columns, basic_at, entry_at,
 use Rattle.spec_simplex.specs.Tableau.{is_basic}
 use Rattle.spec_path.proofs.Runs.{then_ok, less_ok, steps_ok}
 use Rattle.spec_simplex.specs.Eliminate.{position_run, valued_run}
-use Rattle.spec_warm.proofs.Counts.{basic_if}
+use Rattle.spec_simplex.proofs.Statuses.{basic_if}
 
 module _ (limit : Option ℕ) (t : Tableau) (all : length t.value ≡ all_columns t)
     (units : IsUnit t.rows (entry_at t) (basic_at t)) (in_range : (i : ℕ) → i < t.rows → basic_at t i < all_columns t)

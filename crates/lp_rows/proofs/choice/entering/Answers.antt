@@ -1,7 +1,8 @@
 use Rattle.std.proofs.Common.{◌≡◌, ◌<◌, length, sym, subst, arith, None}
 use Rattle.spec_simplex.specs.Tableau.{form_columns, all_columns}
 use Rattle.spec_simplex.specs.Step.{entering_below}
-use Rattle.lp_rows.proofs.Enters.{enters_at, none_more, none_behind, way_there}
+use Rattle.spec_simplex.proofs.EnteringColumns.{enters_at}
+use Rattle.lp_rows.proofs.Enters.{none_more, none_behind, way_there}
 use Rattle.lp_rows.proofs.choice.entering.Goals as goal
 
 pub returns-in-Some-clause-value : goal.returns-in-Some-clause-value

@@ -1,7 +1,7 @@
 -- A column that is basic, and one that is not.
 use Rattle.std.proofs.Common.{sym, ◌∙◌}
 use Rattle.spec_simplex.specs.Eliminate.{basis_at}
-use Rattle.spec_warm.proofs.Counts.{basic_if}
+use Rattle.spec_simplex.proofs.Statuses.{basic_if}
 use Rattle.lp_row_runs.proofs.Solving.{column_passed, if_done}
 use Rattle.lp_row_runs.proofs.elimination.Elimination.take.Goals as goal
 

@@ -1,7 +1,7 @@
 -- The least column that may enter.
 use Rattle.std.proofs.Common.{sym, arith}
 use Rattle.spec_simplex.specs.Tableau.{all_columns}
-use Rattle.lp_simplex.proofs.Entering.{enters_at}
+use Rattle.spec_simplex.proofs.EnteringColumns.{enters_at}
 use Rattle.lp_simplex.proofs.primal.entering.entering.Goals as goal
 
 pub returns-in-Some-clause-value : goal.returns-in-Some-clause-value

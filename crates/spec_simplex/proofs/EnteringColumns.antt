@@ -1,0 +1,18 @@
+-- The column that enters is the least of many.
+use Rattle.std.proofs.Common.{◌≡◌, ℕ, zero, suc, ◌+◌, ◌-◌, ◌<◌, Some, None, Bool, subst, ap, ap₂, ◌∙◌, arith}
+use Rattle.spec_simplex.specs.declared.ends.Entering.{Entering}
+use Rattle.spec_simplex.specs.Tableau.{Tableau}
+use Rattle.spec_simplex.specs.Step.{way_at, or_enters, entering_below}
+
+stays : (t : Tableau) (n d : ℕ) (e : Entering) → entering_below t n ≡ Some e → entering_below t (n + d) ≡ Some e
+stays t n zero e h = (let z : n + 0 ≡ n = omega arith in ap (entering_below t) z) ∙ h
+stays t n (suc d) e h =
+    (let z : n + suc d ≡ suc (n + d) = omega arith in ap (entering_below t) z)
+    ∙ ap (λ o. or_enters o (n + d) (way_at t (n + d))) (stays t n d e h)
+
+pub enters_at : (t : Tableau) (k n : ℕ) (up : Bool) → entering_below t k ≡ None → k < n → way_at t k ≡ Some up →
+    entering_below t n ≡ Some (record { col = k; up = up })
+enters_at t k n up h l g =
+    let z : suc k + (n - suc k) ≡ n = omega arith in
+    subst (λ i. entering_below t i ≡ Some (record { col = k; up = up })) z
+    (stays t (suc k) (n - suc k) (record { col = k; up = up }) (ap₂ (λ o w. or_enters o k w) h g))
