@@ -1,8 +1,8 @@
 -- The steps of a search.
-use Rattle.std.proofs.Common.{◌≡◌, ℕ, ◌+◌, ◌<◌, List, Result, Err, length, drop, [], ◌∷◌, ◌++◌, All, Some, Ok}
+use Rattle.std.proofs.Common.{◌≡◌, ℕ, ◌+◌, ◌<◌, List, length, drop, [], ◌∷◌, ◌++◌, All, Some, Ok}
 use Rattle.std.proofs.Common.{inl, inr, refl, sym, ap, ◌∙◌, subst}
 use Rattle.std.proofs.lemmas.List.{append_assoc, drop_more}
-use Rattle.std.specs.Prelude.{slice_get, IfOk}
+use Rattle.std.specs.Prelude.{slice_get}
 use Rattle.std.proofs.lemmas.Option.{get_or_from_slice_get}
 use Rattle.spec_exact.specs.Fraction.{ℚ}
 use Rattle.spec_exact.specs.Narrow.{number_limit}
@@ -170,10 +170,6 @@ module _ (budget : ℕ) (m : Model) (cert : Certificate (List ℚ)) (b : IsBegun
   may_find kept points w (Stopped end) g =
       stopped_at end
       (record { sides = g.sides; reached = w.onward g.sides g.reached; ends = g.ends; gives_up = g.gives_up })
-
-pub ok_weaker : {A E : Type 0} (P Q : A → Type 0) → ((a : A) → P a → Q a) → (r : Result A E) → IfOk r P → IfOk r Q
-ok_weaker P Q f (Ok a) h = f a h
-ok_weaker P Q f (Err e) h = h
 
 -- the kept sides with their certificate
 pub certified_all : (m : Model) (kept : List Side) (points : List (List ℚ)) (cert : Certificate (List ℚ)) →

@@ -1,6 +1,6 @@
 -- Both phases over rows, part by part.
 use Rattle.std.proofs.Common.{◌≡◌, ℕ, ◌+◌, ◌-◌, ◌≤◌, List, length, Option, Some, None}
-use Rattle.std.proofs.Common.{Result, Ok, Err, IfOk, IfSome, true, false, cond}
+use Rattle.std.proofs.Common.{Result, Ok, IfOk, true, false, cond}
 use Rattle.std.proofs.Common.{sym, ap, ap₂, ◌∙◌, subst, arith}
 use Rattle.spec_exact.specs.Fraction.{ℚ}
 use Rattle.spec_check.specs.declared.certificate.Certificate.{Certificate}
@@ -17,6 +17,7 @@ use Rattle.spec_simplex.specs.Phases.{run_from}
 use Rattle.lp_row_tableau.specs.declared.tableau.RowTableau.{RowTableau}
 use Rattle.lp_row_tableau.specs.Shows.{IsReached, Shows, height}
 use Rattle.lp_row_tableau.specs.Ends.{certificate_as, basis_by}
+pub use Rattle.lp_row_tableau.proofs.SameNumbers.{of_some}
 use Rattle.lp_row_runs.specs.Steps.{ComesTo, EndsAt}
 use Rattle.lp_row_runs.specs.Phases.{after_one, rest_run, end_by, row_end, row_end_in, IsLeft, PausesWith, EndsWith}
 use Rattle.lp_row_runs.specs.declared.phases.Phase.TheVariants as phase
@@ -25,14 +26,6 @@ use Rattle.lp_row_runs.specs.declared.phases.RowEnd.{RowEnd}
 use Rattle.lp_row_runs.specs.declared.phases.PhasesPause.{PhasesPause}
 use Rattle.lp_row_runs.specs.declared.phases.PhasesPause.TheVariants.{Ended, Narrow, GaveUp}
 use Rattle.lp_row_runs.proofs.Reached.{second_given, second_reached}
-
-pub if_ok : {A E : Type 0} (P Q : A → Type 0) → ((a : A) → P a → Q a) → (result : Result A E) → IfOk result P →
-    IfOk result Q
-if_ok P Q h (Ok a) p = h a p
-if_ok P Q h (Err e) p = tt
-
-pub of_some : {A : Type 0} (P : A → Type 0) (o : Option A) (a : A) → o ≡ Some a → IfSome o P → P a
-of_some P o a e h = subst (λ o. IfSome o P) e h
 
 -- ---- an end
 abbrev row : {N : Type 0} → Certificate (List N) → Option (List Status) → ℕ → RowEnd N

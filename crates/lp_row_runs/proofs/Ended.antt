@@ -1,6 +1,7 @@
 -- The end of phase two from the tableau of a basis is that of the run from the basis.
 use Rattle.std.proofs.Common.{◌≡◌, ℕ, ◌-◌, List, Option, Some, None, IfSome, IfOk, Result, Ok, Err, refl, sym, ap}
 use Rattle.std.proofs.Common.{subst, subst₂, ◌∙◌, ◌+◌, ◌≤◌, length, arith}
+use Rattle.std.proofs.lemmas.Result.{IfOk-weaker}
 use Rattle.spec_exact.specs.Fraction.{ℚ}
 use Rattle.spec_exact.specs.Run.{◌>>=◌, refused_as}
 use Rattle.spec_pivot.specs.declared.status.Status.{Status}
@@ -23,7 +24,6 @@ use Rattle.lp_row_tableau.specs.declared.tableau.RowTableau.{RowTableau}
 use Rattle.lp_row_tableau.specs.Shows.{Shows}
 use Rattle.lp_row_tableau.specs.Ends.{certificate_as}
 use Rattle.lp_row_tableau.proofs.Converted.{if_some}
-use Rattle.lp_row_tableau.proofs.SameNumbers.{if_ok}
 use Rattle.lp_row_runs.specs.Cold.{EndsAs}
 use Rattle.lp_row_runs.specs.Phases.{rest_run, row_end, row_end_in, HasCosts, IsReady}
 use Rattle.lp_row_runs.specs.declared.phases.Phase.TheVariants.{Two}
@@ -37,7 +37,7 @@ use Rattle.lp_row_runs.specs.Rows.{IfRows, ShowsStart}
 use Rattle.lp_row_runs.specs.Warm.{EndsFromBasis, StandsAtBasis, BeginsAtBasis, BeginsReady}
 use Rattle.lp_row_runs.proofs.Fitted.{basis_reached}
 
-same_at : (t : Tableau) (end : PrimalEnd) → certificate_as (λ q. q) t (Some end) ≡ certificate_at t end
+pub same_at : (t : Tableau) (end : PrimalEnd) → certificate_as (λ q. q) t (Some end) ≡ certificate_at t end
 same_at t primal.Optimal = refl
 same_at t (primal.Unbounded j up) = refl
 
@@ -79,7 +79,7 @@ module _ (budget : ℕ) (f : Form) (basis : List Status) (t : Tableau) (starts :
       IfOk result (EndsAs (λ q. q) (rest_run budget f Two 0 t)) →
       IfOk result (λ o. IfSome o (EndsFromBasis budget f basis))
   ends_from result h =
-      if_ok (EndsAs (λ q. q) (rest_run budget f Two 0 t)) (λ o. IfSome o (EndsFromBasis budget f basis)) result
+      IfOk-weaker result (EndsAs (λ q. q) (rest_run budget f Two 0 t)) (λ o. IfSome o (EndsFromBasis budget f basis))
       (λ o k. if_some _ _ o (λ e q. one_ends e q) k) h
 
 -- ---- where a run begins

@@ -1,8 +1,7 @@
 -- Without a limit nothing is refused, and what is made of a reached tableau is one too.
-use Rattle.std.proofs.Common.{◌≡◌, ◌≢◌, ℕ, ◌+◌, ◌≤◌, length, Option, None, Ok, Err, false, refl, sym}
+use Rattle.std.proofs.Common.{◌≡◌, ℕ, ◌+◌, ◌≤◌, length, Option, None, Ok, Err, false, refl, sym}
 use Rattle.std.proofs.Common.{◌∙◌, subst, subst₂, ⊎_elim}
 use Rattle.spec_exact.specs.Fraction.{ℚ}
-use Rattle.spec_exact.specs.declared.past.Past.{Past}
 use Rattle.spec_exact.specs.Run.{Run}
 use Rattle.spec_pivot.specs.Tableau.{Matrix}
 use Rattle.spec_pivot.specs.Simplex.{Bounds}
@@ -20,13 +19,10 @@ use Rattle.spec_path.proofs.LimitPhases.{two_agrees}
 use Rattle.spec_path.proofs.LimitStart.{flip_agrees, pivot_agrees, start_agrees}
 use Rattle.spec_path.proofs.PhaseTwo.{second_phase}
 use Rattle.spec_path.proofs.Steps.{choice_is_meant}
+use Rattle.spec_cold.proofs.PhaseSteps.{given}
 use Rattle.lp_row_tableau.specs.Shows.{IsReached}
 
 -- ---- nothing is refused
-given : {A : Type 0} (o : Run A) → ((p : Past ℚ) → o ≢ Err p) → (a : A) × (o ≡ Ok a)
-given (Ok a) n = (a, refl)
-given (Err p) n = absurd (n p refl)
-
 pub done_given : (t : Tableau) (c : Choice ℚ) → (u : Tableau) × (done_run None t c ≡ Ok u)
 done_given t (End end) = (t, refl)
 done_given t (Flip j) = given (flip_run None t j) (flip_agrees None t j).exact

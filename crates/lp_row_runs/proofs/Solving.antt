@@ -1,14 +1,13 @@
 -- Rows that are solved for one column more.
-use Rattle.std.proofs.Common.{◌≡◌, ◌≢◌, ℕ, ◌+◌, ◌<◌, List, length, get_or, set, replicate, map}
-use Rattle.std.proofs.Common.{Some, None, Result, Ok, Err, Bool, true, false, not, ◌&&◌, cond, IsTrue}
+use Rattle.std.proofs.Common.{◌≡◌, ℕ, ◌+◌, ◌<◌, List, length, get_or, set, replicate, map}
+use Rattle.std.proofs.Common.{Some, None, Result, Ok, Bool, true, false, not, ◌&&◌, cond, IsTrue}
 use Rattle.std.proofs.Common.{◌↔◌, All, ℤ, pos, refl, sym, ap, ap₂, subst, subst₂, ◌∙◌, arith}
 use Rattle.std.proofs.Math.Path.{fun_ext}
 use Rattle.std.proofs.lemmas.List.{length-set, get_or-set_same, get_or-set_other, get_or-replicate, length-replicate}
 use Rattle.std.proofs.lemmas.List.{ext_get_or, get_or_default}
 use Rattle.spec_exact.specs.Fraction.{ℚ, 0ℚ, eq_ℚ, over, ◌-ℚ◌, ◌*ℚ◌}
 use Rattle.spec_exact.proofs.Ruleset.{ring}
-use Rattle.spec_exact.specs.declared.past.Past.{Past}
-use Rattle.spec_exact.specs.Run.{Run, made}
+use Rattle.spec_exact.specs.Run.{made}
 use Rattle.spec_exact.proofs.Stops.{length-made, get_or-made, steps_more}
 use Rattle.spec_pivot.specs.declared.status.Status.{Status}
 use Rattle.spec_pivot.specs.declared.status.Status.TheVariants.{Basic}
@@ -23,6 +22,7 @@ use Rattle.spec_simplex.specs.Eliminate.{basis_at, basis_value, has_none, or_fir
 use Rattle.spec_simplex.specs.Eliminate.{unsolved}
 use Rattle.spec_path.proofs.LimitStart.{turned_agrees}
 use Rattle.spec_path.proofs.Turned.{turned_entry}
+use Rattle.spec_cold.proofs.PhaseSteps.{given}
 use Rattle.spec_warm.proofs.Counts.{basic_test}
 use Rattle.spec_warm.proofs.Eliminated.{Solving, eliminated_below}
 use Rattle.lp_tableau.proofs.Solving.{is_solved}
@@ -42,10 +42,6 @@ use Rattle.lp_row_runs.specs.declared.elimination.Elimination.{Elimination}
 use Rattle.lp_row_runs.proofs.Placed.{turned_rows}
 
 -- ---- without a limit nothing is refused
-pub given : {A : Type 0} (o : Run A) → ((p : Past ℚ) → o ≢ Err p) → (a : A) × (o ≡ Ok a)
-given (Ok a) n = (a, refl)
-given (Err p) n = absurd (n p refl)
-
 -- one column of the elimination
 abbrev solve_at : Form → List Status → ℕ → stated.Elimination → Result stated.Elimination (StartStop ℚ)
 solve_at f basis j e = cond (is_basic (basis_at basis j)) (solved_run None f e j) (Ok e)

@@ -24,6 +24,7 @@ use Rattle.spec_simplex.specs.Eliminate.{IsBasisOf, basis_value, basis_lower, wi
 use Rattle.spec_simplex.specs.Eliminate.{with_values, filled_run, eliminate_run, start_from}
 use Rattle.spec_path.specs.Begins.{IsProper}
 use Rattle.spec_path.proofs.Runs.{then_ok, refused_ok}
+use Rattle.spec_cold.proofs.PhaseSteps.{given}
 use Rattle.spec_warm.specs.Based.{BeginsFrom}
 use Rattle.spec_warm.proofs.LimitSteps.{from_agrees}
 use Rattle.spec_warm.proofs.Started.{start_begins_from}
@@ -38,7 +39,6 @@ use Rattle.lp_row_tableau.proofs.Numbers.{row_at-one}
 use Rattle.lp_row_tableau.proofs.Taken.{stated_costs}
 use Rattle.lp_row_runs.specs.declared.elimination.Elimination.{Elimination}
 use Rattle.lp_row_runs.specs.Rows.{IsSolvedBelow, HasSize, ShowsBasis, ShowsStart}
-use Rattle.lp_row_runs.proofs.Solving.{given}
 
 -- what is 0 from the nth on adds nothing
 sum_past : (n m : ℕ) (g : ℕ → ℚ) → ((k : ℕ) → n ≤ k → k < n + m → g k ≡ 0ℚ) → sum_below (n + m) g ≡ sum_below n g

@@ -1,15 +1,14 @@
 -- One width after the other, and the start.
-use Rattle.std.proofs.Common.{◌≡◌, ℕ, List, Option, Some, None, Result, Ok, Err, IfOk, refl, sym}
+use Rattle.std.proofs.Common.{◌≡◌, ℕ, List, Option, None, Result, Ok, Err, IfOk, refl, sym}
 use Rattle.std.proofs.Common.{ap, ◌∙◌, subst}
+use Rattle.std.proofs.lemmas.Result.{IfOk-weaker}
 use Rattle.spec_exact.specs.Fraction.{ℚ}
 use Rattle.spec_exact.specs.Narrow.{IsNarrow}
 use Rattle.spec_model.specs.Model.{Model}
 use Rattle.spec_check.specs.declared.certificate.Certificate.{Certificate}
 use Rattle.spec_check.specs.declared.certificate.Certificate.TheVariants as certificate
 use Rattle.spec_check.specs.Certificate.{IsNarrowCertificate}
-use Rattle.spec_simplex.specs.declared.ends.PrimalEnd.{PrimalEnd}
-use Rattle.spec_simplex.specs.declared.ends.PrimalEnd.TheVariants as primal
-use Rattle.spec_cold.specs.Cold.{certificate_at, basis_at}
+use Rattle.spec_cold.specs.Cold.{basis_at}
 use Rattle.spec_simplex.specs.declared.ends.RunStop.{RunStop}
 use Rattle.spec_simplex.specs.declared.ends.RunStop.TheVariants as stop
 use Rattle.spec_exact.specs.Run.{◌>>=◌, refused_as, list_run}
@@ -21,7 +20,7 @@ use Rattle.spec_path.proofs.Formed.{form_is, form_proper, cost_length}
 use Rattle.spec_path.proofs.Runs.{then_ok}
 use Rattle.spec_factor.specs.Over.{answer_of, answer_in}
 use Rattle.lp_row_tableau.specs.Shows.{IsReached}
-use Rattle.lp_row_tableau.specs.Ends.{certificate_as, AllFit}
+use Rattle.lp_row_tableau.specs.Ends.{AllFit}
 use Rattle.lp_row_tableau.proofs.Converted.{if_some}
 use Rattle.lp_row_runs.specs.Phases.{row_end, row_end_in, HasCosts, IsReady, IsLeft, PausesWith, StaysReady}
 use Rattle.lp_row_runs.specs.Cold.{start_run, EndsAs, EndsAsStated, IsFitEnd, IsNarrowEnd, over_end, LeavesAt}
@@ -31,8 +30,8 @@ use Rattle.lp_row_runs.specs.declared.phases.PhasesPause.{PhasesPause}
 use Rattle.lp_row_runs.specs.declared.phases.PhasesPause.TheVariants as pause
 use Rattle.lp_row_runs.specs.declared.cold_run.Left.{Left}
 use Rattle.lp_row_runs.specs.declared.cold_run.Left.TheVariants as left
-use Rattle.lp_row_runs.proofs.BothPhases.{if_ok}
 use Rattle.lp_row_runs.proofs.Reached.{start_reached, start_without}
+use Rattle.lp_row_runs.proofs.Ended.{same_at}
 
 -- ---- what pauses and widths leave
 module _ {T : Type 0} (value : T → ℕ) (budget : ℕ) (f : Form) (whole : Result PhasesEnd (RunStop ℚ)) where
@@ -95,10 +94,6 @@ whole_ends of limit budget m f t result formed start k =
     (k (has_costs limit m f formed) (start_reached limit f t (form_proper limit m f formed) start))
 
 -- ---- with fractions in the certificate
-same_at : (t : Tableau) (end : PrimalEnd) → certificate_as (λ q. q) t (Some end) ≡ certificate_at t end
-same_at t primal.Optimal = refl
-same_at t (primal.Unbounded j up) = refl
-
 same_end : (end : PhasesEnd) → over_end (row_end (λ q. q) end) ≡ answer_of end
 same_end (Infeasible t used) = refl
 same_end (Finished e) =
@@ -116,7 +111,7 @@ one_stated (Err s) e h = let z : ◌≡◌ {A = Result (RowEnd ℚ) (RunStop ℚ
 pub as_stated : {E : Type 0} (whole : Result PhasesEnd (RunStop ℚ)) (result : Result (Option (RowEnd ℚ)) E) →
     IfOk result (EndsAs (λ q. q) whole) → IfOk result (EndsAsStated whole)
 as_stated whole result h =
-    if_ok (EndsAs (λ q. q) whole) (EndsAsStated whole) (λ o k. if_some _ _ o (one_stated whole) k) result h
+    IfOk-weaker result (EndsAs (λ q. q) whole) (EndsAsStated whole) (λ o k. if_some _ _ o (one_stated whole) k) h
 
 narrow_one : (c : Certificate (List ℚ)) → AllFit IsNarrow c → IsNarrowCertificate c
 narrow_one (certificate.Optimal x y) h = h
@@ -127,4 +122,4 @@ narrow_one (certificate.Unbounded x r) h = h
 pub as_narrow : {E : Type 0} (result : Result (Option (RowEnd ℚ)) E) → IfOk result (IsFitEnd IsNarrow) →
     IfOk result IsNarrowEnd
 as_narrow result h =
-    if_ok (IsFitEnd IsNarrow) IsNarrowEnd (λ o k. if_some _ _ o (λ e. narrow_one e.certificate) k) result h
+    IfOk-weaker result (IsFitEnd IsNarrow) IsNarrowEnd (λ o k. if_some _ _ o (λ e. narrow_one e.certificate) k) h

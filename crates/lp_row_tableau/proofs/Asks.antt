@@ -1,6 +1,6 @@
 -- What is read of a row, and tests of 0.
 use Rattle.std.proofs.Common.{◌≡◌, ◌↔◌, ℕ, zero, suc, ◌+◌, ◌*◌, ◌<◌, ◌≤◌, nat_le, List, [], ◌∷◌, length, get_or}
-use Rattle.std.proofs.Common.{Bool, true, false, not, ◌&&◌, ◌||◌, IsTrue, ℤ, pos, neg_ℤ, ◌*ℤ◌, unsigned_abs, refl}
+use Rattle.std.proofs.Common.{Bool, true, false, not, ◌&&◌, ◌||◌, IsTrue, ℤ, pos, ◌*ℤ◌, unsigned_abs, refl}
 use Rattle.std.proofs.Common.{sym, ap, ap₂, subst, ◌∙◌, arith}
 use Rattle.std.specs.List.{list_any}
 use Rattle.std.proofs.Math.ListN.{take}
@@ -23,6 +23,7 @@ use Rattle.lp_rows.specs.declared.fractions.Row.{Row}
 use Rattle.lp_rows.specs.Row.{fraction_at}
 use Rattle.lp_rows.proofs.Done.{item-at}
 use Rattle.lp_rows.proofs.Cleared.{fraction-at}
+use Rattle.lp_rows.proofs.Kept.{whole_none}
 use Rattle.lp_row_tableau.specs.declared.tableau.RowTableau.{RowTableau}
 use Rattle.lp_row_tableau.specs.Shows.{IsRow, IsWhole, Shows, row_at, width, height}
 
@@ -45,10 +46,6 @@ whole-none : (negative : Bool) (s : ℕ) → whole negative s ≡ pos 0 → s �
 whole-none true s e = omega (arith, ap unsigned_abs e, ints)
 whole-none false s e = omega (arith, ap unsigned_abs e)
 
-none-whole : (negative : Bool) (s : ℕ) → s ≡ 0 → whole negative s ≡ pos 0
-none-whole true s e = ap (λ n. neg_ℤ (pos n)) e
-none-whole false s e = ap pos e
-
 over-none : (n : ℤ) (d : ℕ) → 0 < d → over n d ≡ 0ℚ → n ≡ pos 0
 unfolding whole_ℚ
 over-none n d p e =
@@ -65,7 +62,7 @@ none-over n d p e =
 pub zero-over : (b negative : Bool) (s d : ℕ) → 0 < d → IsTrue b ↔ (s ≡ 0) → b ≡ eq_ℚ (over (whole negative s) d) 0ℚ
 zero-over b negative s d p h =
     same_is (over (whole negative s) d) 0ℚ b (
-      λ t. none-over (whole negative s) d p (none-whole negative s (h.0 t)),
+      λ t. none-over (whole negative s) d p (whole_none negative s (h.0 t)),
       λ e. h.1 (whole-none negative s (over-none (whole negative s) d p e)),
     )
 

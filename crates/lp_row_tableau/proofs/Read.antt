@@ -25,7 +25,7 @@ use Rattle.lp_row_tableau.specs.Shows.{IsWhole, Shows, row_at, height, width}
 use Rattle.lp_row_tableau.specs.Ends.{certificate_as}
 use Rattle.lp_row_tableau.proofs.Asks.{row-at}
 use Rattle.lp_row_tableau.proofs.Converted.{if_some}
-use Rattle.lp_row_tableau.proofs.SameNumbers.{some_is}
+use Rattle.lp_row_tableau.proofs.SameNumbers.{of_some}
 
 -- a number that was read, as a fraction on d
 pub read_at : {T : Type 0} (value : T → ℕ) (numbers : List (Signed T)) (d e k : ℕ) (n : Signed T) →
@@ -94,13 +94,13 @@ module _ {N : Type 0} (old new : List N) (v : N) (pushed : new ≡ old ++ v ∷ 
   pub one_more : (f : ℕ → N) (k : ℕ) (o : Option N) → o ≡ Some v → old ≡ made k f → IfSome o (λ n. n ≡ f k) →
       new ≡ made (k + 1) f
   one_more f k o is before h =
-      pushed ∙ ap₂ (λ xs x. xs ++ x ∷ []) before (some_is (λ n. n ≡ f k) o v is h)
+      pushed ∙ ap₂ (λ xs x. xs ++ x ∷ []) before (of_some (λ n. n ≡ f k) o v is h)
       ∙ sym (ap (λ n. made n f) (add-one k))
 
   pub all_more : (P : N → Type 0) (o : Option N) → o ≡ Some v → All P old → IfSome o P → All P new
   all_more P o is before h =
       subst (All P) (sym pushed)
-      (All-append P old (v ∷ []) before (All-cons P v [] (some_is P o v is h) (All-nil P)))
+      (All-append P old (v ∷ []) before (All-cons P v [] (of_some P o v is h) (All-nil P)))
 
 -- as many as there are
 pub all_made : {N : Type 0} (f : ℕ → N) (xs : List N) (n m : ℕ) → n ≡ m → xs ≡ made n f → xs ≡ made m f

@@ -1,8 +1,8 @@
 -- Rows with the same numbers in other words show the same tableaus.
 use Rattle.std.proofs.Common.{◌≡◌, ℕ, zero, suc, ◌+◌, ◌*◌, ◌<◌, ℤ, List, [], ◌∷◌, length, map, get_or, Option, Some}
-use Rattle.std.proofs.Common.{None, option_map, Result, Ok, Err, Bool, false, refl, sym, ap, ap₂, subst, subst₂, ◌∙◌}
+use Rattle.std.proofs.Common.{None, option_map, Bool, false, refl, sym, ap, ap₂, subst, subst₂, ◌∙◌}
 use Rattle.std.proofs.Common.{arith}
-use Rattle.std.specs.Prelude.{All, IfOk, IfSome}
+use Rattle.std.specs.Prelude.{All, IfSome}
 use Rattle.std.proofs.lemmas.List.{length-map}
 use Rattle.std.proofs.Math.ListN.{get_or-map}
 use Rattle.std.proofs.lemmas.List.Elements.{All-nil, All-cons, All-head, All-tail}
@@ -16,13 +16,9 @@ use Rattle.lp_row_tableau.specs.declared.tableau.RowTableau.{RowTableau}
 use Rattle.lp_row_tableau.specs.Shows.{IsRow, IsWhole, Shows, row_at, height, width, all_width}
 use Rattle.lp_row_tableau.specs.Held.{whole_of, wholes, whole_bounds, whole_row, AreSameNumbers}
 
-pub if_ok : {A E : Type 0} (P Q : A → Type 0) (o : Result A E) → ((a : A) → P a → Q a) → IfOk o P → IfOk o Q
-if_ok P Q (Ok a) f h = f a h
-if_ok P Q (Err e) f h = tt
-
 -- what is there
-pub some_is : {A : Type 0} (P : A → Type 0) (o : Option A) (a : A) → o ≡ Some a → IfSome o P → P a
-some_is P o a e h = subst (λ o. IfSome o P) e h
+pub of_some : {A : Type 0} (P : A → Type 0) (o : Option A) (a : A) → o ≡ Some a → IfSome o P → P a
+of_some P o a e h = subst (λ o. IfSome o P) e h
 
 -- ---- by the whole numbers alone
 fractions_wholes : {T : Type 0} (value : T → ℕ) (xs : List (Signed T)) (d : ℕ) →

@@ -4,9 +4,9 @@ use Rattle.spec_exact.proofs.Ring.{◌⊕◌, ◌⊗◌, minus, lit, v0, v1}
 use Rattle.spec_exact.proofs.Whole.{by_ring}
 use Rattle.lp_wide.specs.Whole.{whole}
 
-none : (negative : Bool) (n : ℕ) → n ≡ 0 → whole negative n ≡ pos 0
-none false n e = ap pos e
-none true n e = ap (whole true) e
+pub whole_none : (negative : Bool) (n : ℕ) → n ≡ 0 → whole negative n ≡ pos 0
+whole_none false n e = ap pos e
+whole_none true n e = ap (whole true) e
 
 pub once : (u v w : ℤ) → u ≡ pos 1 → u *ℤ v -ℤ w ≡ v -ℤ w
 once u v w e =
@@ -15,12 +15,12 @@ once u v w e =
 pub less_none : (v b : ℤ) (m : Bool) (y : ℕ) → y ≡ 0 → v ≡ v -ℤ b *ℤ whole m y
 less_none v b m y e =
     sym
-    (ap (λ z. v -ℤ b *ℤ z) (none m y e)
+    (ap (λ z. v -ℤ b *ℤ z) (whole_none m y e)
     ∙ by_ring (v ∷ b ∷ []) (v0 ⊕ minus (v1 ⊗ lit (pos 0))) v0 refl)
 
 pub both_none : (u b : ℤ) (n m : Bool) (x y : ℕ) → x ≡ 0 → y ≡ 0 → whole n x ≡ u *ℤ whole n x -ℤ b *ℤ whole m y
 both_none u b n m x y d e =
-    none n x d
+    whole_none n x d
     ∙ sym (by_ring (u ∷ []) (v0 ⊗ lit (pos 0)) (lit (pos 0)) refl)
-    ∙ ap (λ z. u *ℤ z) (sym (none n x d))
+    ∙ ap (λ z. u *ℤ z) (sym (whole_none n x d))
     ∙ less_none (u *ℤ whole n x) b m y e

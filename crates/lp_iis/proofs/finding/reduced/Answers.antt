@@ -1,5 +1,6 @@
 use Rattle.std.proofs.Common.{sym, subst, Some}
 use Rattle.std.specs.Prelude.{All}
+use Rattle.std.proofs.lemmas.Result.{IfOk-weaker}
 use Rattle.spec_exact.specs.Narrow.{number_limit}
 use Rattle.spec_model.specs.Truth.{IsInfeasible}
 use Rattle.spec_iis.specs.Sides.{IsSide}
@@ -7,7 +8,7 @@ use Rattle.spec_iis.specs.Only.{only}
 use Rattle.spec_iis.specs.Rule.{IsRead}
 use Rattle.spec_iis.specs.Found.{MayFind}
 use Rattle.lp_iis.specs.Ways.{IsLeft, MayEnd}
-use Rattle.lp_iis.proofs.Steps.{begun_fits, begun_accepted, begun_clash, begun_read, stopped_at, may_find, ok_weaker}
+use Rattle.lp_iis.proofs.Steps.{begun_fits, begun_accepted, begun_clash, begun_read, stopped_at, may_find}
 use Rattle.lp_iis.proofs.finding.reduced.Goals as goal
 
 pub used-requires-clause-fits : goal.used-requires-clause-fits
@@ -35,9 +36,10 @@ pub returns-in-Kept : goal.returns-in-Kept
 returns-in-Kept c =
     let left =
     subst (λ s. IsLeft c.args.budget c.args.model.now s c.in_ok-left.left) c.in_ok-sides.ensures c.in_ok-left.ensures in
-    ok_weaker (MayEnd c.args.budget c.args.model.now c.in-Kept.kept) (MayFind c.args.model.now c.args.budget)
+    IfOk-weaker c.certified.result (MayEnd c.args.budget c.args.model.now c.in-Kept.kept)
+    (MayFind c.args.model.now c.args.budget)
     (may_find c.args.budget c.args.model.now c.args.certificate.now c.requires.begun c.in-Kept.kept c.in-Kept.points
-    (subst (IsLeft c.args.budget c.args.model.now _) c.in-Kept.is left)) c.certified.result c.certified.ensures
+    (subst (IsLeft c.args.budget c.args.model.now _) c.in-Kept.is left)) c.certified.ensures
 
 pub returns-in-Stopped : goal.returns-in-Stopped
 returns-in-Stopped c =

@@ -1,6 +1,6 @@
 -- The rows of all columns.
 use Rattle.std.proofs.Common.{subst, arith}
-use Rattle.lp_row_tableau.proofs.SameNumbers.{some_is}
+use Rattle.lp_row_tableau.proofs.SameNumbers.{of_some}
 use Rattle.lp_row_runs.specs.Rows.{IsSolvedBelow}
 use Rattle.lp_row_runs.proofs.Solving.{done_of}
 use Rattle.lp_row_runs.proofs.Started.{shows_basis}
@@ -12,4 +12,4 @@ returns-in-Done-clause-shown g c = λ proper.
     (omega (arith, c.rows.ensures.kept.all_costs))
     (subst (λ n. IsSolvedBelow g.T.Words.value c.args.form.now c.args.basis.now n c.run.new.self) c.requires.all
     (done_of _ _ c.in-Done.is c.run.ensures.solved c.args.form.now
-    (some_is _ c.in_ok-elimination.field-0 c.in-Some.elimination c.in-Some.is c.in_ok-elimination.ensures.begun)))
+    (of_some _ c.in_ok-elimination.field-0 c.in-Some.elimination c.in-Some.is c.in_ok-elimination.ensures.begun)))

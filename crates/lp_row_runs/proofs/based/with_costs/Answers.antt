@@ -1,6 +1,6 @@
 -- The same rows with these costs.
 use Rattle.std.proofs.Common.{arith}
-use Rattle.lp_row_tableau.proofs.SameNumbers.{some_is}
+use Rattle.lp_row_tableau.proofs.SameNumbers.{of_some}
 use Rattle.lp_row_runs.proofs.Started.{priced_size, priced_shows}
 use Rattle.lp_row_runs.proofs.based.with_costs.Goals as goal
 
@@ -16,10 +16,10 @@ priced-requires-clause-cols g c = c.requires.cols
 pub returns-in-Some-clause-whole : goal.returns-in-Some-clause-whole
 returns-in-Some-clause-whole g c =
     priced_size g.T.Words.value c.args.form.now c.args.tab c.in-Some.costs c.requires
-    (some_is _ c.in_ok-costs.field-0 c.in-Some.costs c.in-Some.is c.in_ok-costs.ensures)
+    (of_some _ c.in_ok-costs.field-0 c.in-Some.costs c.in-Some.is c.in_ok-costs.ensures)
 
 pub returns-in-Some-clause-shown : goal.returns-in-Some-clause-shown
 returns-in-Some-clause-shown g c = λ basis proper fits shows.
     priced_shows g.T.Words.value c.args.form.now c.args.tab c.in-Some.costs c.requires
-    (some_is _ c.in_ok-costs.field-0 c.in-Some.costs c.in-Some.is c.in_ok-costs.ensures) basis proper fits
+    (of_some _ c.in_ok-costs.field-0 c.in-Some.costs c.in-Some.is c.in_ok-costs.ensures) basis proper fits
     (omega (arith, c.rows.ensures.kept.all_costs)) shows

@@ -1,13 +1,14 @@
 -- An artificial that is not 0, and phase two.
 use Rattle.std.proofs.Common.{sym, ◌∙◌}
-use Rattle.lp_row_runs.proofs.BothPhases.{if_ok, stuck_ends, goes_second, few_costs}
+use Rattle.std.proofs.lemmas.Result.{IfOk-weaker}
+use Rattle.lp_row_runs.proofs.BothPhases.{stuck_ends, goes_second, few_costs}
 use Rattle.lp_row_runs.proofs.phases.between.Goals as goal
 
 pub returns-then-is_stuck-clause-run : goal.returns-then-is_stuck-clause-run
 returns-then-is_stuck-clause-run g c = λ t costs reached shown.
-    if_ok _ _
+    IfOk-weaker c.ended.result _ _
     (λ pause. stuck_ends g.N.Listed.of g.T.Words.value c.args.budget c.args.form.now c.args.state.now.used t c.args.state.now pause
-    (sym (c.is_stuck.ensures t shown) ∙ c.if-is_stuck.true)) c.ended.result (c.ended.ensures.run t reached shown)
+    (sym (c.is_stuck.ensures t shown) ∙ c.if-is_stuck.true)) (c.ended.ensures.run t reached shown)
 
 pub returns-clause-run : goal.returns-clause-run
 returns-clause-run g c = λ t costs reached shown.

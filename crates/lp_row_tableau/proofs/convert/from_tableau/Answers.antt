@@ -1,24 +1,24 @@
+use Rattle.std.proofs.lemmas.Result.{IfOk-weaker}
 use Rattle.lp_row_tableau.proofs.Converted.{if_some}
-use Rattle.lp_row_tableau.proofs.SameNumbers.{if_ok}
 use Rattle.lp_row_tableau.proofs.Held.{held_whole, held_shown}
 use Rattle.lp_row_tableau.proofs.convert.from_tableau.Goals as goal
 
 pub returns-clause-whole : goal.returns-clause-whole
 returns-clause-whole g c =
-    if_ok _ _ c.parts.result
+    IfOk-weaker c.parts.result _ _
     (λ o h. if_some _ _ o (λ r p. held_whole g.T.Words.value c.args.tab.now r c.width.ensures.shape p) h)
     c.parts.ensures
 
 pub returns-clause-rows : goal.returns-clause-rows
 returns-clause-rows g c =
-    if_ok _ _ c.parts.result (λ o h. if_some _ _ o (λ r p. p.rows.len) h) c.parts.ensures
+    IfOk-weaker c.parts.result _ _ (λ o h. if_some _ _ o (λ r p. p.rows.len) h) c.parts.ensures
 
 pub returns-clause-cols : goal.returns-clause-cols
 returns-clause-cols g c =
-    if_ok _ _ c.parts.result (λ o h. if_some _ _ o (λ r p. p.cols) h) c.parts.ensures
+    IfOk-weaker c.parts.result _ _ (λ o h. if_some _ _ o (λ r p. p.cols) h) c.parts.ensures
 
 pub returns-clause-shown : goal.returns-clause-shown
 returns-clause-shown g c reached =
-    if_ok _ _ c.parts.result
+    IfOk-weaker c.parts.result _ _
     (λ o h. if_some _ _ o (λ r p. held_shown g.T.Words.value c.args.tab.now r c.width.ensures.shape p reached) h)
     c.parts.ensures

@@ -2,9 +2,9 @@ use Rattle.std.proofs.Common.{◌≡◌, length, arith, subst}
 use Rattle.lp_row_tableau.specs.Shows.{width}
 use Rattle.lp_row_tableau.specs.Held.{IsRowOf}
 use Rattle.lp_row_tableau.proofs.Converted.{if_some}
-use Rattle.lp_row_tableau.proofs.SameNumbers.{some_is}
 use Rattle.lp_row_tableau.proofs.Taken.{priced_row}
 use Rattle.lp_row_tableau.proofs.second.priced.Goals as goal
+use Rattle.lp_row_tableau.proofs.SameNumbers.{of_some}
 
 pub returns-in-Some : goal.returns-in-Some
 returns-in-Some g c =
@@ -15,5 +15,5 @@ returns-in-Some g c =
     (g.T.Words.value c.args.tab.now.denominator) c.in-Some.costs row all
     (subst (λ costs. IsRowOf g.T.Words.value costs c.zero.result
     (g.T.Words.value c.args.tab.now.denominator) c.in-Some.costs)
-    c.costs.ensures (some_is _ c.in_ok-costs.field-0 c.in-Some.costs c.in-Some.is c.in_ok-costs.ensures)) less)
+    c.costs.ensures (of_some _ c.in_ok-costs.field-0 c.in-Some.costs c.in-Some.is c.in_ok-costs.ensures)) less)
     c.reduced.ensures
