@@ -3,24 +3,20 @@ use Rattle.std.proofs.Common.{◌≡◌, ℕ, zero, suc, ◌+◌, ◌<◌, ◌�
 use Rattle.std.proofs.Common.{sym, ap, subst, ◌∙◌, arith}
 use Rattle.std.proofs.Common.{append-nil, add-one}
 use Rattle.std.proofs.lemmas.List.Elements.{All-nil, All-push}
-use Rattle.std.proofs.lemmas.List.Elements.{filter-append}
-use Rattle.spec_exact.specs.Run.{made}
 use Rattle.spec_bas.specs.Written.{chosen}
-
-chosen_suc : (test : ℕ → Bool) (k : ℕ) → chosen (suc k) test ≡ chosen k test ++ cond (test k) (k ∷ []) []
-chosen_suc test k = filter-append test (made k (λ i. i)) (k ∷ [])
+use Rattle.spec_bas.proofs.Chosen.{chosen_more}
 
 pub chosen_yes : (test : ℕ → Bool) (k : ℕ) (xs : List ℕ) → xs ≡ chosen k test → test k ≡ true →
     xs ++ k ∷ [] ≡ chosen (k + 1) test
 chosen_yes test k xs h t =
-    ap (λ ys. ys ++ k ∷ []) h ∙ ap (λ c. chosen k test ++ cond c (k ∷ []) []) (sym t) ∙ sym (chosen_suc test k)
+    ap (λ ys. ys ++ k ∷ []) h ∙ ap (λ c. chosen k test ++ cond c (k ∷ []) []) (sym t) ∙ sym (chosen_more test k)
     ∙ ap (λ n. chosen n test) (sym (add-one k))
 
 pub chosen_no : (test : ℕ → Bool) (k : ℕ) (xs : List ℕ) → xs ≡ chosen k test → test k ≡ false →
     xs ≡ chosen (k + 1) test
 chosen_no test k xs h t =
     h ∙ sym (append-nil (chosen k test)) ∙ ap (λ c. chosen k test ++ cond c (k ∷ []) []) (sym t)
-    ∙ sym (chosen_suc test k) ∙ ap (λ n. chosen n test) (sym (add-one k))
+    ∙ sym (chosen_more test k) ∙ ap (λ n. chosen n test) (sym (add-one k))
 
 -- they are below the number of all
 one_inside : (P : ℕ → Type 0) (xs : List ℕ) (c : Bool) (k : ℕ) → All P xs → P k → All P (xs ++ cond c (k ∷ []) [])
@@ -30,5 +26,5 @@ one_inside P xs false k h p = subst (All P) (sym (append-nil xs)) h
 pub chosen_inside : (test : ℕ → Bool) (n m : ℕ) → n ≤ m → All (λ k. k < m) (chosen n test)
 chosen_inside test zero m h = All-nil (λ k. k < m)
 chosen_inside test (suc n) m h =
-    subst (All (λ k. k < m)) (sym (chosen_suc test n))
+    subst (All (λ k. k < m)) (sym (chosen_more test n))
     (one_inside (λ k. k < m) (chosen n test) (test n) n (chosen_inside test n m (omega arith)) (omega arith))

@@ -5,8 +5,8 @@ use Rattle.std.proofs.Math.Seq.{drop-cons}
 use Rattle.std.proofs.lemmas.Bool.{lt-leb}
 use Rattle.std.specs.List.{list_all}
 use Rattle.spec_mps.specs.NumberText.{spelled_from}
+use Rattle.spec_mps.proofs.DigitLemmas.{spelled_grows}
 use Rattle.spec_server.specs.Command.{is_digit, begins_with_zero, number_to}
-use Rattle.lp_numtext.proofs.DigitSteps.{grows}
 
 -- the last of five tests fails
 last_fails : (s t u v w : Bool) (n : ℕ) → w ≡ false → None ≡ cond (s && t && u && v && w) (Some n) None
@@ -27,4 +27,4 @@ too_large last digits text at number spelled h past =
     last_fails (nat_lt 0 (length text)) (nat_le (length text) digits) (list_all is_digit text)
     (not (begins_with_zero text)) _ (spelled_from 0 text)
     (lt-leb (spelled_from 0 text) last
-    (omega (arith, more, grows (number * 10 + (get_or text at 0 - 48)) (drop (suc at) text))))
+    (omega (arith, more, spelled_grows (number * 10 + (get_or text at 0 - 48)) (drop (suc at) text))))

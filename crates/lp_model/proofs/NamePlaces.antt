@@ -1,5 +1,5 @@
 -- Names among what has them: a row or a column.
-use Rattle.std.proofs.Common.{◌≡◌, ◌≢◌, ℕ, suc, ◌+◌, ◌<◌, Bool, true, false, ◌&&◌, ◌||◌, not, cond}
+use Rattle.std.proofs.Common.{◌≡◌, ◌≢◌, ℕ, ◌+◌, ◌<◌, Bool, true, false, ◌&&◌, ◌||◌, not, cond}
 use Rattle.std.proofs.Common.{nat_eq, ltb, Option, Some, None, List, [], ◌∷◌, ◌++◌, length, map, take}
 use Rattle.std.proofs.Common.{get_or, set, All, refl, sym, ap, ap₂, ◌∙◌, subst, arith, get_or-take}
 use Rattle.std.specs.Prelude.{IfSome}
@@ -83,9 +83,6 @@ names_before f xs k x here l h = λ i e m.
     let own : get_or (map f xs) k e ≡ f x = get_or-map f xs k x e l ∙ sym (ap f here) in
     λ (q : get_or (map f (take k xs)) i e ≡ f x).
     h i k e before (omega (arith, length-map xs f)) (sym before_is ∙ q ∙ sym own)
-
-pub others_distinct : (x : Name) (xs : List Name) → AllPairs (λ a b. a ≢ b) (x ∷ xs) → AllPairs (λ a b. a ≢ b) xs
-others_distinct x xs h = λ i j d l k. h (suc i) (suc j) d (omega arith) (omega arith)
 
 -- ---- the names that are kept beside rows or columns, if they are
 

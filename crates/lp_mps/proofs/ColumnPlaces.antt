@@ -1,5 +1,5 @@
 -- Names of columns, of which the last one may be the one that cards are read of.
-use Rattle.std.proofs.Common.{◌≡◌, ◌≢◌, ℕ, ◌+◌, ◌<◌, ◌≤◌, Bool, true, false, ◌&&◌, ◌||◌, cond}
+use Rattle.std.proofs.Common.{◌≡◌, ◌≢◌, ℕ, ◌+◌, ◌<◌, ◌≤◌, Bool, true, false, ◌||◌, cond}
 use Rattle.std.proofs.Common.{not, eqb, ltb, Option, Some, None, List, [], ◌∷◌, ◌++◌, length}
 use Rattle.std.proofs.Common.{map, All, refl, sym, ap, ap₂, ◌∙◌, arith, ◌⊎◌, inl, inr, ⊎_elim}
 use borrow.Author.Tests.{lt-ltb, le-ltb, eqb-true, eqb-false}
@@ -12,23 +12,11 @@ use Rattle.std.proofs.lemmas.List.Sums.{prefix_len-le-length}
 use Rattle.spec_text.specs.Words.{same}
 use Rattle.spec_text.proofs.WordLemmas.{same_false}
 use Rattle.spec_model.specs.Model.{Name, ExactColumn, no_column}
-use Rattle.spec_mps.specs.Bounds.{BoundCard, SetsUpper, SetsLower, SetsBoth, bounded, is_negative}
 use Rattle.spec_mps.specs.Reader.{columns_with}
 use Rattle.spec_mps.proofs.Names.{none_pass}
 use Rattle.lp_model.proofs.NamePlaces.{place_named, same_turned}
 use Rattle.lp_mps.specs.Named.{ColumnsRead, AreColumns}
 use Rattle.lp_mps.proofs.NewNames.{name_of, names_new}
-
--- a card of BOUNDS leaves the name
-pub bounded_name : (lowered : Bool) (card : BoundCard) (c : ExactColumn) → (bounded lowered card c).name ≡ c.name
-bounded_name lowered (SetsUpper u) c = by (is_negative u && not lowered)
-  where
-    by : (t : Bool) →
-        (cond {A = ExactColumn} t (record c { lower = None; upper = u }) (record c { upper = u })).name ≡ c.name
-    by true = refl
-    by false = refl
-bounded_name lowered (SetsLower l) c = refl
-bounded_name lowered (SetsBoth l u) c = refl
 
 -- ---- a column by its name
 

@@ -11,6 +11,7 @@ use Rattle.spec_mps.specs.declared.target.Target.TheVariants.{Objective}
 use Rattle.spec_mps.specs.Reader.{State, is_objective, row_at, place_of, columns_with}
 use Rattle.spec_mps.specs.Sides.{changed_at}
 use Rattle.spec_mps.proofs.Names.{nowhere}
+use Rattle.spec_mps.proofs.NarrowSoFar.{changed_length}
 use Rattle.lp_model.proofs.NamePlaces.{place_named}
 use Rattle.lp_mps.specs.Named.{AreRows}
 
@@ -47,16 +48,11 @@ names_changed f i change same [] = refl
 names_changed f zero change same (x ∷ xs) = ap (λ n. n ∷ map f xs) (same x)
 names_changed f (suc i) change same (x ∷ xs) = ap (λ ns. f x ∷ ns) (names_changed f i change same xs)
 
-length_changed : {X : Type 0} (i : ℕ) (change : X → X) (xs : List X) → length (changed_at i change xs) ≡ length xs
-length_changed i change [] = refl
-length_changed zero change (x ∷ xs) = refl
-length_changed (suc i) change (x ∷ xs) = ap suc (length_changed i change xs)
-
 -- a change of the slice that a vector is seen as, written back to it
 pub written_back : {X : Type 0} (i : ℕ) (change : X → X) (n : ℕ) (xs seen new : List X) → seen ≡ xs →
     length seen ≡ n → new ≡ changed_at i change seen → take n (new ++ drop (length new) xs) ≡ changed_at i change xs
 written_back i change n xs seen new e l g =
-    let long : length new ≡ length seen = ap length g ∙ length_changed i change seen in
+    let long : length new ≡ length seen = ap length g ∙ changed_length i change seen in
     let same : length seen ≡ length xs = ap length e in
     ap (λ ys. take n (new ++ ys)) (drop_all (length new) xs (omega arith)) ∙ ap (take n) (append-nil new)
     ∙ take_all n new (omega arith) ∙ g ∙ ap (changed_at i change) e
@@ -67,7 +63,7 @@ pub rows_changed : (i : ℕ) (change : ExactRow → ExactRow) (n : ℕ) (xs seen
 rows_changed i change n xs seen new names keeps e l g h =
     let written = written_back i change n xs seen new e l g in
     record {
-      few = subst (λ ys. length ys ≤ 256) (sym written) (omega (arith, length_changed i change xs, h.few));
+      few = subst (λ ys. length ys ≤ 256) (sym written) (omega (arith, changed_length i change xs, h.few));
       named =
           h.named ∙ sym (ap (map (λ (r : ExactRow). r.name)) written
           ∙ names_changed (λ (r : ExactRow). r.name) i change keeps xs);

@@ -4,8 +4,8 @@ use Rattle.std.proofs.Common.{List, [], ◌∷◌, ◌++◌, length, map, get_or
 use Rattle.std.proofs.Common.{length-append}
 use Rattle.std.specs.List.{AllPairs, zip}
 use Rattle.std.proofs.lemmas.Bool.{cases_eq}
-use Rattle.std.proofs.lemmas.List.Elements.{All-nil, All-cons, All-tail, All-append, All-map, filter-append}
-use Rattle.std.proofs.lemmas.List.Kept.{AllPairs-cons, AllPairs-filter}
+use Rattle.std.proofs.lemmas.List.Elements.{All-nil, All-cons, All-tail, All-append, filter-append}
+use Rattle.std.proofs.lemmas.List.Kept.{AllPairs-filter}
 use Rattle.spec_pivot.specs.declared.status.Status.{Status}
 use Rattle.spec_exact.specs.Run.{made}
 use Rattle.spec_simplex.specs.Tableau.{is_basic}
@@ -37,27 +37,10 @@ all_zip P Q (x ∷ xs) (y ∷ ys) h k =
     All-cons (λ p. P p.0 × Q p.1) (x, y) (zip xs ys) (h 0 x (omega arith), k 0 y (omega arith))
     (all_zip P Q xs ys (All-tail P x xs h) (All-tail Q y ys k))
 
-pub pairs_append : {A : Type 0} (R : A → A → Type 0) (xs ys : List A) → AllPairs R xs → AllPairs R ys →
-    All (λ x. All (R x) ys) xs → AllPairs R (xs ++ ys)
-pairs_append R [] ys p q h = q
-pairs_append R (x ∷ xs) ys p q h =
-    AllPairs-cons R x (xs ++ ys)
-    (All-append (R x) xs ys (λ k d l. p 0 (suc k) d (omega arith) (omega arith)) (h 0 x (omega arith)))
-    (pairs_append R xs ys (λ i k d l r. p (suc i) (suc k) d (omega arith) (omega arith)) q
-    (λ k d l. h (suc k) d (omega arith)))
-
-pub pairs_map : {A B : Type 0} (R : B → B → Type 0) (f : A → B) (xs : List A) → AllPairs (λ x y. R (f x) (f y)) xs →
-    AllPairs R (map f xs)
-pairs_map R f [] p = λ i k d l r. absurd (omega arith)
-pairs_map R f (x ∷ xs) p =
-    AllPairs-cons R (f x) (map f xs)
-    (All-map (R (f x)) f xs (λ k d l. p 0 (suc k) d (omega arith) (omega arith)))
-    (pairs_map R f xs (λ i k d l r. p (suc i) (suc k) d (omega arith) (omega arith)))
-
 -- ---- what is chosen
 
 module _ (test : ℕ → Bool) where
-  chosen_more : (n : ℕ) → chosen (suc n) test ≡ chosen n test ++ cond (test n) (n ∷ []) []
+  pub chosen_more : (n : ℕ) → chosen (suc n) test ≡ chosen n test ++ cond (test n) (n ∷ []) []
   chosen_more n = filter-append test (made n (λ k. k)) (n ∷ [])
 
   -- it passes, and is below the bound

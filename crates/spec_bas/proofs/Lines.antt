@@ -1,10 +1,9 @@
 -- The lines of a written file are its cards, and the file spells the basis that it is written from.
 use Rattle.std.proofs.Common.{◌≡◌, ◌↔◌, ℕ, ◌+◌, ◌<◌, inr, true, false, Option, Some, Ok}
 use Rattle.std.proofs.Common.{List, [], ◌∷◌, ◌++◌, length, map, All, refl, sym, ap, ◌∙◌, subst, arith}
-use Rattle.std.proofs.Common.{append_assoc}
 use Rattle.std.specs.Prelude.{codes, nat_le}
 use Rattle.std.specs.List.{list_all, zip}
-use Rattle.std.proofs.lemmas.List.{append-nil, map-append}
+use Rattle.std.proofs.lemmas.List.{map-append}
 use Rattle.std.proofs.lemmas.List.Elements.{All-nil, All-cons, All-append, All-map, All-weaker, All-tail}
 use Rattle.std.proofs.lemmas.Bool.{and_parts}
 use Rattle.spec_text.specs.declared.line.Line.TheVariants.{Text}
@@ -19,15 +18,16 @@ use Rattle.spec_simplex.specs.Form.{Form, form_of}
 use Rattle.spec_simplex.specs.Eliminate.{basis_at, IsBasisOf}
 use Rattle.spec_mps.specs.declared.style.Style.TheVariants.{Free}
 use Rattle.spec_mps.specs.Cards.{is_skipped, begins_with_blank}
-use Rattle.spec_mps.specs.Fields.{Fields, texts_of}
+use Rattle.spec_mps.specs.Fields.{texts_of}
 use Rattle.spec_mps.specs.NumberWritten.{IsWord}
-use Rattle.spec_mps.specs.Written.{WrittenCard, name_card, section_card, line_text, with_fields}
+use Rattle.spec_mps.specs.Written.{WrittenCard, name_card, section_card, line_text}
 use Rattle.spec_mps.proofs.WrittenNames.{name_word}
-use Rattle.spec_mps.proofs.WrittenWords.{AreWords, joined, words_of_joined, parts_word, parts_word_then}
-use Rattle.spec_mps.proofs.WrittenWords.{stripped_plain, is_plain}
+use Rattle.spec_mps.proofs.WrittenWords.{AreWords, words_of_joined, parts_word, parts_word_then}
+use Rattle.spec_mps.proofs.WrittenWords.{stripped_plain, is_plain, free_line}
 use Rattle.spec_mps.proofs.WrittenSteps.{IsPlainLine, card_lines}
-use Rattle.spec_mps.proofs.WrittenShort.{IsShortCard, plain_line, name_short, model_name_short}
+use Rattle.spec_mps.proofs.WrittenShort.{IsShortCard, plain_line, name_short, name_card_short}
 use Rattle.spec_mps.proofs.WrittenLines.{has_its_lines}
+use Rattle.spec_mps.proofs.WrittenStart.{heading_word}
 use Rattle.spec_bas.specs.declared.card.Card.TheVariants.{Xu, Xl, Ul, Ll}
 use Rattle.spec_bas.specs.declared.card.Reading.TheVariants.{Named, Ends, Says}
 use Rattle.spec_bas.specs.Cards.{ExactCard, ExactReading, card_of, section_reading, text_reading, reading_of}
@@ -71,13 +71,6 @@ head_read : (line : List ℕ) (words : List (List ℕ)) (reading : ExactReading)
     reading_of (Text line) ≡ reading
 unfolding reading_of text_reading
 head_read line words reading a b c d = rw (a, b, c, d) refl
-
--- fields of free form are words with a blank before each
-free_line : (line : List ℕ) (fs : Fields) → with_fields Free line fs ≡ line ++ joined (texts_of fs)
-free_line line [] = sym (append-nil line)
-free_line line (f ∷ fs) =
-    free_line ((line ++ 32 ∷ []) ++ f.text) fs ∙ append_assoc (line ++ 32 ∷ []) f.text (joined (texts_of fs))
-    ∙ append_assoc line (32 ∷ []) (f.text ++ joined (texts_of fs))
 
 short_card : (card : ExactCard) → HasNames card → IsShortCard (written_card card)
 short_card (Xu column row) h = (
@@ -134,18 +127,11 @@ card_read card h =
 
 -- ---- the first line and the last one
 
-name_is_word : IsWord (codes "NAME")
-name_is_word = record { some = refl; printable = refl }
-
-short_name : (name : Name) → is_model_name name ≡ true → IsShortCard (name_card name)
-short_name [] h = (record { fits = omega arith; plain = refl }, tt, omega arith)
-short_name (b ∷ bs) h = (record { fits = omega arith; plain = refl }, (model_name_short (b ∷ bs) h, tt), omega arith)
-
 name_words : (b : ℕ) (bs : List ℕ) → IsWord (b ∷ bs) →
     words_of (line_text Free (name_card (b ∷ bs))) ≡ codes "NAME" ∷ (b ∷ bs) ∷ []
 unfolding words_of
 name_words b bs h =
-    parts_word_then (codes "NAME") (b ∷ bs) name_is_word ∙ ap (λ ws. codes "NAME" ∷ ws) (parts_word (b ∷ bs) h)
+    parts_word_then (codes "NAME") (b ∷ bs) heading_word ∙ ap (λ ws. codes "NAME" ∷ ws) (parts_word (b ∷ bs) h)
 
 name_counts : (b : ℕ) (bs : List ℕ) → list_all is_plain (line_text Free (name_card (b ∷ bs))) ≡ true →
     is_skipped (line_text Free (name_card (b ∷ bs))) ≡ false
@@ -161,7 +147,7 @@ unfolding reading_of text_reading is_skipped words_of section_reading
 name_read [] h = refl
 name_read (b ∷ bs) h =
     head_read (line_text Free (name_card (b ∷ bs))) (codes "NAME" ∷ (b ∷ bs) ∷ []) Named
-    (name_counts b bs (plain_line Free (name_card (b ∷ bs)) (short_name (b ∷ bs) h)).plain) refl
+    (name_counts b bs (plain_line Free (name_card (b ∷ bs)) (name_card_short (b ∷ bs) h)).plain) refl
     (name_words b bs (model_name_word b bs h)) (section_named ((b ∷ bs) ∷ []))
 
 end_read : reading_of (Text (codes "ENDATA")) ≡ Ends
@@ -215,7 +201,7 @@ module _ (m : Model) (f : Form) (size : HasSizeOf m f) (kept : IsModel m) (basis
   all_plain =
       All-cons IsPlainCard (name_card m.name)
       (map written_card (cards_of m f basis) ++ section_card (codes "ENDATA") ∷ [])
-      (plain_line Free (name_card m.name) (short_name m.name kept.name))
+      (plain_line Free (name_card m.name) (name_card_short m.name kept.name))
       (All-append IsPlainCard (map written_card (cards_of m f basis)) (section_card (codes "ENDATA") ∷ [])
       (All-map IsPlainCard written_card (cards_of m f basis)
       (All-weaker HasNames (λ card. IsPlainCard (written_card card)) plain_card (cards_of m f basis) all_names))

@@ -11,6 +11,7 @@ use Rattle.spec_exact.specs.Fraction.{ℚ}
 use Rattle.spec_model.specs.Model.{Model, Name}
 use Rattle.spec_model.specs.Kept.{IsModel, row_place, column_place}
 use Rattle.spec_model.proofs.NamePlaces.{column_name, row_name, column_at, row_at}
+use Rattle.spec_model.proofs.Pairs.{AllPairs-append, AllPairs-map}
 use Rattle.spec_pivot.specs.declared.status.Status.{Status}
 use Rattle.spec_pivot.specs.declared.status.Status.TheVariants.{Basic, AtLower, AtUpper, AtZero}
 use Rattle.spec_simplex.specs.Form.{Form, form_lower, form_upper}
@@ -23,7 +24,7 @@ use Rattle.spec_bas.specs.Fits.{HasSizeOf}
 use Rattle.spec_bas.specs.Spelled.{AreCardsOf, Means, HasNoCard, column_on, row_on, columns_on, rows_on}
 use Rattle.spec_bas.specs.Written.{is_at_upper, basic_columns, other_rows, upper_columns, paired, pair_card, upper_card}
 use Rattle.spec_bas.specs.Written.{cards_of}
-use Rattle.spec_bas.proofs.Chosen.{all_front, all_back, all_named, all_zip, pairs_append, pairs_map, chosen_all}
+use Rattle.spec_bas.proofs.Chosen.{all_front, all_back, all_named, all_zip, chosen_all}
 use Rattle.spec_bas.proofs.Chosen.{chosen_missing, chosen_once, basics_chosen, others_chosen}
 use Rattle.spec_bas.proofs.Places.{named_once, unnamed}
 
@@ -169,16 +170,16 @@ module _ (m : Model) (f : Form) (size : HasSizeOf m f) (kept : IsModel m) (basis
   columns_once : AllPairs (λ x y. x ≢ y) (columns_on (cards_of m f basis))
   columns_once =
       subst (AllPairs (λ x y. x ≢ y)) (sym columns_are)
-      (pairs_map (λ x y. x ≢ y) (column_name m) (bs ++ us)
+      (AllPairs-map (λ x y. x ≢ y) (column_name m) (bs ++ us)
       (named_once (column_place m) (column_name m) f.cols column_stands (bs ++ us) low_columns
-      (pairs_append (λ j k. j ≢ k) bs us
+      (AllPairs-append (λ j k. j ≢ k) bs us
       (chosen_once (λ j. is_basic (basis_at basis j)) f.cols)
       (chosen_once (λ j. is_at_upper (basis_at basis j)) f.cols) apart)))
 
   rows_once : AllPairs (λ x y. x ≢ y) (rows_on (cards_of m f basis))
   rows_once =
       subst (AllPairs (λ x y. x ≢ y)) (sym rows_are)
-      (pairs_map (λ x y. x ≢ y) (row_name m) os
+      (AllPairs-map (λ x y. x ≢ y) (row_name m) os
       (named_once (row_place m) (row_name m) f.rows row_stands os low_rows
       (chosen_once (λ i. not (is_basic (basis_at basis (f.cols + i)))) f.rows)))
 

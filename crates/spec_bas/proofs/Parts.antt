@@ -1,24 +1,18 @@
 -- The marks of one kind of names, of columns or of rows: one more name, at either side of a step.
-use Rattle.std.proofs.Common.{◌≡◌, ◌≢◌, ℕ, suc, ◌<◌, ◌⊎◌, inl, inr, true, false, List, ◌∷◌, length, get_or}
-use Rattle.std.proofs.Common.{Option, Some, None, is_some, All, sym, ap, ◌∙◌, arith, get_or-set_other, get_or-set_same}
+use Rattle.std.proofs.Common.{◌≡◌, ◌≢◌, ℕ, ◌<◌, ◌⊎◌, inl, inr, true, false, List, ◌∷◌, length, get_or}
+use Rattle.std.proofs.Common.{Option, Some, None, is_some, All, sym, ap, ◌∙◌, get_or-set_other, get_or-set_same}
 use Rattle.std.specs.List.{AllPairs}
 use Rattle.std.proofs.lemmas.Bool.{cases_eq, false≢true}
 use Rattle.std.proofs.lemmas.List.Kept.{AllPairs-cons}
 use Rattle.std.proofs.lemmas.List.Elements.{All-cons, All-head, All-tail}
 use Rattle.spec_model.specs.Model.{Name}
+use Rattle.spec_model.proofs.Pairs.{AllPairs-head, AllPairs-tail}
 use Rattle.spec_pivot.specs.declared.status.Status.{Status}
 use Rattle.spec_simplex.specs.Form.{Form}
 use Rattle.spec_simplex.specs.Eliminate.{basis_at}
 use Rattle.spec_bas.specs.Steps.{State, mark, is_marked, status_of}
 use Rattle.spec_bas.specs.Spelled.{HasNoCard}
 use Rattle.spec_bas.proofs.Marks.{mark_same, mark_other}
-
--- ---- lists
-pairs_rest : {A : Type 0} (P : A → A → Type 0) (x : A) (xs : List A) → AllPairs P (x ∷ xs) → AllPairs P xs
-pairs_rest P x xs g i k d l r = g (suc i) (suc k) d (omega arith) (omega arith)
-
-pairs_first : {A : Type 0} (P : A → A → Type 0) (x : A) (xs : List A) → AllPairs P (x ∷ xs) → All (P x) xs
-pairs_first P x xs g k d l = g 0 (suc k) d (omega arith) (omega arith)
 
 -- ---- marks
 
@@ -100,10 +94,10 @@ module _ (f : Form) (place : Name → Option ℕ) (at : ℕ → ℕ) (n : ℕ)
 
       pub part_less : Part t names b
       part_less = record {
-        once = pairs_rest (λ x y. x ≢ y) name names p.once;
+        once = AllPairs-tail (λ x y. x ≢ y) name names p.once;
         free = λ q d l k e.
             marked_other s (at i) (at k) status
-            (off k (λ z. pairs_first (λ x y. x ≢ y) name names p.once q d l
+            (off k (λ z. AllPairs-head (λ x y. x ≢ y) name names p.once q d l
             (one name (get_or names q d) i is (e ∙ ap Some z))))
             ∙ All-tail (λ name. (k : ℕ) → place name ≡ Some k → is_marked s (at k) ≡ false) name names p.free q d l k e;
         others = λ k l h. by k l h (cases_eq k i);

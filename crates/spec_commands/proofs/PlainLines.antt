@@ -1,13 +1,11 @@
 -- The lines of a written certificate are short, and of spaces and printed bytes; and what the lines of a text of such
 -- lines are.
-use Rattle.std.proofs.Common.{◌≡◌, ◌≢◌, ℕ, zero, suc, ◌≤◌, ◌<◌, Bool, true, false, cond, None, List, [], ◌∷◌, ◌++◌}
+use Rattle.std.proofs.Common.{◌≡◌, ℕ, zero, suc, ◌≤◌, ◌<◌, Bool, true, false, cond, None, List, [], ◌∷◌, ◌++◌}
 use Rattle.std.proofs.Common.{length, get_or, map, refl, ap, ◌∙◌, append_assoc, length-append, arith}
-use Rattle.std.specs.Prelude.{codes, nat_le, All}
+use Rattle.std.specs.Prelude.{codes, All}
 use Rattle.std.specs.List.{flat_map, list_all}
 use Rattle.std.proofs.lemmas.Bool.{and_parts}
 use Rattle.std.proofs.lemmas.List.Elements.{All-nil, All-cons, All-append}
-use Rattle.std.proofs.lemmas.List.Folds.{list_all-append}
-use borrow.Author.Tests.{leb-true}
 use Rattle.spec_text.specs.declared.line.Line.TheVariants.{Text}
 use Rattle.spec_text.specs.Lines.{line_of, ended_lines_of}
 use Rattle.spec_text.proofs.LineLemmas.{ended_lines_of_line, line_short}
@@ -21,8 +19,9 @@ use Rattle.spec_model.specs.Kept.{is_model_name}
 use Rattle.spec_mps.specs.NumberWritten.{number_text}
 use Rattle.spec_mps.specs.Written.{cards_of, rows_cards, columns_cards, section_card}
 use Rattle.spec_mps.proofs.WrittenSteps.{IsPlainLine}
-use Rattle.spec_mps.proofs.WrittenShort.{IsShort, cards_short, name_short}
+use Rattle.spec_mps.proofs.WrittenShort.{IsShort, cards_short, name_short, plain_both}
 use Rattle.spec_mps.proofs.WrittenWords.{is_plain, stripped_plain}
+use Rattle.spec_mps.proofs.WrittenLines.{no_feed}
 use Rattle.spec_check.specs.declared.certificate.Letter.{Letter}
 use Rattle.spec_check.specs.declared.certificate.Letter.TheVariants.{X, Y, R}
 use Rattle.spec_check.specs.declared.certificate.Certificate.{Certificate}
@@ -34,14 +33,6 @@ use Rattle.spec_certificate.specs.TextWritten.{certificate_lines, certificate_li
 use Rattle.spec_certificate.specs.TextRead.{AllNumbers}
 
 -- ---- lines one after the other
-
-no_feed : (line : List ℕ) → list_all is_plain line ≡ true → All (λ b. b ≢ 10) line
-no_feed [] h = All-nil (λ b. b ≢ 10)
-no_feed (b ∷ line) h =
-    let p = and_parts (is_plain b) (list_all is_plain line) h in
-    let q = and_parts (nat_le 32 b) (nat_le b 126) p.0 in
-    let low : 32 ≤ b = leb-true 32 b q.0 in
-    All-cons (λ x. x ≢ 10) b line (λ e. omega arith) (no_feed line p.1)
 
 one_line : (line more : List ℕ) → IsPlainLine line →
     ended_lines_of ((line ++ 10 ∷ []) ++ more) ≡ Text line ∷ ended_lines_of more
@@ -120,10 +111,6 @@ both_short name v h n =
     record { short_name = card.0.0; short_number = card.0.1.1.0 }
 
 -- ---- a part
-
-plain_both : (a b : List ℕ) → list_all is_plain a ≡ true → list_all is_plain b ≡ true →
-    list_all is_plain (a ++ b) ≡ true
-plain_both a b h k = list_all-append is_plain a b ∙ rw (h, k) refl
 
 letter_short : (letter : Letter) → IsShort (letter_text letter)
 letter_short X = record { fits = omega arith; plain = refl }

@@ -11,8 +11,8 @@ use Rattle.spec_exact.specs.Fraction.{ℚ, 0ℚ, eq_ℚ}
 use Rattle.spec_exact.specs.Narrow.{IsNarrow}
 use Rattle.spec_exact.proofs.Same.{eq_test}
 use Rattle.spec_model.specs.Kept.{AreEntries}
+use Rattle.spec_model.proofs.Pairs.{AllPairs-weaker, AllPairs-map, AllPairs-append}
 use Rattle.spec_edit.specs.Changes.{entry_if, with_entry, renumbered, without_entry}
-use Rattle.spec_edit.proofs.ListLemmas.{AllPairs-weaker, AllPairs-map, AllPairs-append}
 
 -- entries below a row, and then such from it on
 joined : (n i : ℕ) (xs ys : List (ℕ × ℚ)) → AreEntries n xs → AreEntries n ys → All (λ e. e.0 < i) xs →

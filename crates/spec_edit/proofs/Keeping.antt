@@ -13,6 +13,7 @@ use Rattle.spec_model.specs.Model.{Model, Name, Limits, ExactRow, ExactColumn}
 use Rattle.spec_model.specs.Model.{no_row, no_column, width, height, row, column}
 use Rattle.spec_model.specs.Kept.{IsModel, IsKeptColumn, IsNarrowRow, IsNarrowColumn, FitsKind}
 use Rattle.spec_model.specs.Kept.{is_row_name, row_limit, column_limit, row_names, column_names}
+use Rattle.spec_model.proofs.Kept.{kept_higher}
 use Rattle.spec_edit.specs.Changes.{with_row, with_column, changed_row, changed_column, without_entry}
 use Rattle.spec_edit.specs.Changes.{with_entry, without_row, without_column, with_cost, with_coefficient}
 use Rattle.spec_edit.specs.Changes.{with_bounds, with_rhs, with_range, with_offset, with_sense}
@@ -78,21 +79,6 @@ other_columns-kept m columns k few kept distinct narrow =
 
 -- ---- one more row or column
 
--- more rows do no harm to a column
-higher : (n m : ℕ) → n ≤ m → (c : ExactColumn) → IsKeptColumn n c → IsKeptColumn m c
-higher n m l c k =
-    record {
-      name = k.name;
-      lower = k.lower;
-      upper = k.upper;
-      entries =
-          record {
-            inside = All-weaker (λ e. e.0 < n) (λ e. e.0 < m) (λ e f. omega arith) c.entries k.entries.inside;
-            ascending = k.entries.ascending;
-            not_zero = k.entries.not_zero;
-          };
-    }
-
 pub with_row-kept : (m : Model) (r : ExactRow) → IsModel m → height m < row_limit → IsTrue (is_row_name r.name) →
     is_row_taken m r.name ≡ false → HasFitRange r → IsNarrowRow r → IsModel (with_row m r)
 with_row-kept m r k few named new fit narrow =
@@ -101,7 +87,7 @@ with_row-kept m r k few named new fit narrow =
     (All-push (λ (r : ExactRow). IsTrue (is_row_name r.name)) m.rows r k.rows named)
     (All-push HasFitRange m.rows r k.ranges fit)
     (All-weaker (IsKeptColumn (length m.rows)) (IsKeptColumn (length (m.rows ++ r ∷ [])))
-    (higher _ _ (omega arith)) m.columns k.columns)
+    (kept_higher _ _ (omega arith)) m.columns k.columns)
     (subst Distinct (ap (λ names. m.objective ∷ names) (sym (map-append name_of_row m.rows (r ∷ []))))
     (all_pairs_push (λ x y. x ≢ y) (m.objective ∷ row_names m) r.name k.rows_distinct (row_new m r.name new)))
     (All-push IsNarrowRow m.rows r k.narrow_rows narrow)

@@ -3,17 +3,17 @@ use Rattle.std.proofs.Common.{◌≡◌, ℕ, ◌<◌, true, false, not, leb, So
 use Rattle.std.proofs.Common.{List, [], ◌∷◌, ◌++◌, All, IsTrue, subst, arith}
 use borrow.Author.Tests.{leb-false}
 use Rattle.std.proofs.lemmas.Bool.{not-false}
-use Rattle.std.proofs.lemmas.Int.{ints}
 use Rattle.std.proofs.lemmas.List.Elements.{All-nil, All-head, All-tail}
-use Rattle.spec_exact.specs.Fraction.{ℚ, 0ℚ, whole}
+use Rattle.spec_exact.specs.Fraction.{ℚ}
 use Rattle.spec_exact.specs.Narrow.{IsNarrow}
 use Rattle.spec_exact.proofs.Narrow.{zero_narrow}
 use Rattle.spec_model.specs.Model.{Model, Name, width, height}
-use Rattle.spec_model.specs.Kept.{IsModel, IsBound, IsKeptColumn, IsNarrowColumn}
+use Rattle.spec_model.specs.Kept.{IsModel, IsKeptColumn, IsNarrowColumn}
 use Rattle.spec_model.specs.Kept.{AreEntries, is_name, column_limit, row_place}
 use Rattle.spec_edit.specs.Changes.{with_entry, with_column}
 use Rattle.spec_edit.specs.Edited.{Pairs, row_named, is_given, entries_of, column_of, is_column_taken, new_column}
 use Rattle.spec_model.proofs.NamePlaces.{row_inside}
+use Rattle.spec_model.proofs.Kept.{zero_bound}
 use Rattle.spec_edit.proofs.Steps.{step_ok, test_ok, known_ok, same_ok}
 use Rattle.spec_edit.proofs.Keeping.{with_column-kept, with_entry-kept, with_entry-narrow}
 
@@ -52,10 +52,6 @@ entries_of-narrow m before (p ∷ pairs) es out h k narrow =
     (All-tail (λ p. IsNarrow p.1) p pairs narrow)
 
 -- ---- the column
-
-pub zero_bound : IsBound (Some 0ℚ)
-unfolding whole
-zero_bound = record { below = omega (arith, ints) }
 
 no_entries : (n : ℕ) → AreEntries n []
 no_entries n =

@@ -1,6 +1,6 @@
 -- The point 0 is feasible in each generated model, and its values have an upper limit.
-use Rattle.std.proofs.Common.{◌≡◌, ℕ, zero, suc, ◌+◌, ◌%◌, ◌<◌, ◌≤◌, List}
-use Rattle.std.proofs.Common.{pos, refl, sym, ap, ◌∙◌, subst, subst₂, arith}
+use Rattle.std.proofs.Common.{◌≡◌, ℕ, suc, ◌+◌, ◌%◌, ◌<◌, ◌≤◌, List}
+use Rattle.std.proofs.Common.{pos, sym, ap, ◌∙◌, subst, subst₂, arith}
 use Rattle.std.specs.Prelude.{replicate}
 use Rattle.std.proofs.lemmas.Int.{ints}
 use Rattle.std.proofs.lemmas.List.{length-replicate}
@@ -15,6 +15,7 @@ use Rattle.spec_exact.proofs.Sums.{sum_below_none, sum_below_mono}
 use Rattle.spec_model.specs.Model.{Model, ExactRow, ExactColumn, no_row, no_column, width, height, row, column}
 use Rattle.spec_model.specs.Model.{bounds_of, limits_of, cost, coefficient, part, activity, cost_of, value_of}
 use Rattle.spec_model.specs.Truth.{IsBetween, IsFeasible, IsUnbounded}
+use Rattle.spec_model.proofs.ListParts.{part_zeros}
 use Rattle.spec_gen.specs.Draws.{next, draw, after}
 use Rattle.spec_gen.specs.Generated.{at_column, generated_column, generated_columns}
 use Rattle.spec_gen.specs.Generated.{generated_row, generated_rows, generated}
@@ -47,11 +48,6 @@ row_is seed rows columns i h =
 
 -- ---- the point 0
 
-zeros_part : (n j : ℕ) → part (replicate n 0ℚ) j ≡ 0ℚ
-zeros_part zero j = refl
-zeros_part (suc n) zero = refl
-zeros_part (suc n) (suc j) = zeros_part n j
-
 zero_in_bounds : (rows j s : ℕ) → IsBetween (bounds_of (generated_column rows j s)) 0ℚ
 unfolding generated_column
 zero_in_bounds rows j s = record { lower = ≤ℚ_refl 0ℚ; upper = whole_least _ }
@@ -63,7 +59,7 @@ zero_in_limits i s = record { lower = tt; upper = whole_least _ }
 zeros_activity : (m : Model) (n i : ℕ) → activity m (replicate n 0ℚ) i ≡ 0ℚ
 zeros_activity m n i =
     sum_below_none (width m) (λ j. coefficient m i j *ℚ part (replicate n 0ℚ) j)
-    (λ j h. ap (λ v. coefficient m i j *ℚ v) (zeros_part n j) ∙ *ℚ_zero (coefficient m i j))
+    (λ j h. ap (λ v. coefficient m i j *ℚ v) (part_zeros n j) ∙ *ℚ_zero (coefficient m i j))
 
 pub zero_feasible : (seed rows columns : ℕ) → IsFeasible (generated seed rows columns) (replicate columns 0ℚ)
 zero_feasible seed rows columns =
@@ -74,7 +70,7 @@ zero_feasible seed rows columns =
           let inside : j < columns = subst (λ n. j < n) (width_is seed rows columns) h in
           subst₂ (λ (c : ExactColumn) (v : ℚ). IsBetween (bounds_of c) v)
           (sym (column_is seed rows columns j inside))
-          (sym (zeros_part columns j))
+          (sym (part_zeros columns j))
           (zero_in_bounds rows j (at_column rows seed j));
       rows = λ i h.
           let inside : i < rows = subst (λ n. i < n) (height_is seed rows columns) h in

@@ -9,11 +9,12 @@ use Rattle.spec_exact.proofs.Narrow.{zero_narrow}
 use Rattle.spec_model.specs.Model.{Name, ExactRow, ExactColumn}
 use Rattle.spec_model.specs.Kept.{IsModel, IsKeptColumn, IsNarrowRow, IsNarrowColumn, FitsKind, is_name}
 use Rattle.spec_model.specs.Kept.{is_row_name, is_model_name, row_limit, column_limit}
+use Rattle.spec_model.proofs.Kept.{zero_bound}
 use Rattle.spec_gen.specs.Draws.{next, after}
 use Rattle.spec_gen.specs.Generated.{at_column, generated_column, generated_columns}
 use Rattle.spec_gen.specs.Generated.{generated_row, generated_rows, generated}
 use Rattle.spec_gen.proofs.Names.{row_name_is, row_name_apart, column_name_is, column_name_apart, objective_apart}
-use Rattle.spec_gen.proofs.Numbers.{number_from_narrow, number_from_bound, zero_bound}
+use Rattle.spec_gen.proofs.Numbers.{number_from_narrow, number_from_bound}
 use Rattle.spec_gen.proofs.Lists.{All-made, AllPairs-map}
 use Rattle.spec_gen.proofs.Entries.{entries-kept, entries_narrow}
 

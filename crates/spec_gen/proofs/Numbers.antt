@@ -36,6 +36,3 @@ number_from_bound least many s k l h = whole_bound (least + draw s % many) (numb
 
 pub number_from_not_zero : (least many s : ℕ) → 0 < least → number_from least many s ≢ 0ℚ
 number_from_not_zero least many s h = whole_not_zero (least + draw s % many) (omega arith)
-
-pub zero_bound : IsBound (Some 0ℚ)
-zero_bound = whole_bound 0 (omega arith)

@@ -8,8 +8,8 @@ use Rattle.std.proofs.lemmas.List.Kept.{AllPairs-filter}
 use Rattle.spec_exact.specs.Fraction.{ℚ, 0ℚ}
 use Rattle.spec_exact.specs.Narrow.{IsNarrow}
 use Rattle.spec_model.specs.Model.{entry_of}
-use Rattle.spec_edit.proofs.ListLemmas.{AllPairs-weaker, AllPairs-map}
 use Rattle.spec_model.specs.Kept.{AreEntries}
+use Rattle.spec_model.proofs.Pairs.{AllPairs-weaker, AllPairs-map}
 use Rattle.spec_iis.specs.Only.{rank, only_entries}
 use Rattle.spec_iis.proofs.Picked.{rank_mono, rank_injective}
 

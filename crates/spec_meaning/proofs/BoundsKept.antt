@@ -21,7 +21,9 @@ use Rattle.spec_mps.specs.Bounds.{BoundCard, BoundTexts, bounded, sets_lower, wi
 use Rattle.spec_meaning.specs.NumberCards.{is_same_set}
 use Rattle.spec_meaning.specs.BoundCards.{kind_of, bound_by, bound_on, used_bounds, bounds_of_column}
 use Rattle.spec_mps.proofs.CardsDid.{BoundDid, UsedBound, SkippedBound, BoundsDid, bounds_did}
-use Rattle.spec_meaning.proofs.Frames.{changed_unseen, bounded_name}
+use Rattle.spec_mps.proofs.SoundColumns.{bounded_name}
+use Rattle.spec_mps.proofs.NarrowSoFar.{changed_length}
+use Rattle.spec_meaning.proofs.Frames.{changed_unseen}
 use Rattle.spec_meaning.proofs.SoFar.{is_section}
 use Rattle.spec_meaning.proofs.Order.{not_both}
 use Rattle.spec_meaning.proofs.SetsKept.{same_set_itself, same_set_true, same_as}
@@ -127,11 +129,6 @@ new_bounded style cards columns lowered e new =
     }
 
 -- ---- a place that changes
-
-changed_length : {A : Type 0} (i : ℕ) (change : A → A) (xs : List A) → length (changed_at i change xs) ≡ length xs
-changed_length i change [] = refl
-changed_length zero change (x ∷ xs) = refl
-changed_length (suc i) change (x ∷ xs) = ap suc (changed_length i change xs)
 
 changed_here : {A : Type 0} (i : ℕ) (change : A → A) (xs : List A) (d : A) → i < length xs →
     get_or (changed_at i change xs) i d ≡ change (get_or xs i d)

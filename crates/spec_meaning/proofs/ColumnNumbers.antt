@@ -46,14 +46,6 @@ number_there c (Row i) y v h = by (eq_ℚ v 0ℚ) y h
         turned : eqb j i ≡ false → eqb i j ≡ false
         turned e = grind (arith, e)
 
-pub number_name : (c : ExactColumn) (x : Target) (v : ℚ) → (with_number c x v).name ≡ c.name
-number_name c Objective v = refl
-number_name c (Row i) v = by (eq_ℚ v 0ℚ)
-  where
-    by : (b : Bool) → (cond b c (record c { entries = put_entry i v c.entries })).name ≡ c.name
-    by true = refl
-    by false = refl
-
 pub number_non_zero : (c : ExactColumn) (x : Target) (v : ℚ) → AreNonZero c.entries →
     AreNonZero (with_number c x v).entries
 number_non_zero c Objective v z = z

@@ -24,6 +24,7 @@ use Rattle.spec_mps.proofs.CheckSteps.{step_ok, must_ok, same_ok}
 use Rattle.spec_meaning.specs.NumberCards.{Pairs, IsTheNumber, texts_for}
 use Rattle.spec_meaning.specs.ColumnCards.{column_on, numbers_on, named_columns, pairs_of_column}
 use Rattle.spec_mps.proofs.CardsDid.{PairDid, pairs_keep, column_puts, Opens, Same, New, columns_did}
+use Rattle.spec_mps.proofs.SoundColumns.{number_name}
 use Rattle.spec_meaning.proofs.SoFar.{is_section}
 use Rattle.spec_meaning.proofs.Order.{not_both}
 use Rattle.spec_meaning.proofs.RowViews.{RowView, row_view, place_in, place_by_view, every_kind, all_count, StandsFor}
@@ -31,7 +32,7 @@ use Rattle.spec_meaning.proofs.PairsKept.{Put, PutAt, Tells, tells_push, number_
 use Rattle.spec_meaning.proofs.ColumnLemmas.{IsColumn, column_is, pairs_push, is_named, named_push, firsts_push}
 use Rattle.spec_meaning.proofs.ColumnLemmas.{not_named, unnamed_pairs, AreNonZero}
 use Rattle.spec_meaning.proofs.ColumnNumbers.{number_at, open_number, open_at, number_here, number_there}
-use Rattle.spec_meaning.proofs.ColumnNumbers.{number_name, number_non_zero}
+use Rattle.spec_meaning.proofs.ColumnNumbers.{number_non_zero}
 
 -- ---- what the cards say of columns
 

@@ -159,9 +159,6 @@ bounded_unseen lowered (SetsUpper u) c = go (is_negative u && not lowered)
 bounded_unseen lowered (SetsLower l) c = refl
 bounded_unseen lowered (SetsBoth l u) c = refl
 
-pub bounded_name : (lowered : Bool) (card : BoundCard) (c : ExactColumn) → (bounded lowered card c).name ≡ c.name
-bounded_name lowered card c = ap (λ (x : ExactColumn). x.name) (bounded_unseen lowered card c)
-
 with_bound_leads : (s : State) (place : ℕ) (card : BoundCard) → Leads section.Bounds s (with_bound s place card)
 unfolding with_bound
 with_bound_leads s place card =

@@ -18,9 +18,9 @@ use Rattle.spec_model.specs.Model.{Model, Name, ExactRow, ExactColumn, no_row}
 use Rattle.spec_model.specs.Model.{no_column, row, column, height, width, entry_of, is_free}
 use Rattle.spec_model.specs.Kept.{AreEntries, IsModel}
 use Rattle.spec_mps.specs.declared.style.Style.{Style}
-use Rattle.spec_mps.specs.NumberText.{Is}
 use Rattle.spec_mps.specs.Steps.{Spells}
 use Rattle.spec_mps.specs.declared.section.Section.TheVariants as section
+use Rattle.spec_mps.proofs.NarrowNumbers.{same_number}
 use Rattle.spec_meaning.specs.TextCards.{Lines, cards_in}
 use Rattle.spec_meaning.specs.RowCards.{IsSenseWord, IsSenseOf}
 use Rattle.spec_meaning.specs.NumberCards.{texts_for, used_pairs, IsTheNumber, IsTheRange, IsRangeIf, IsTheRangeOf}
@@ -54,9 +54,6 @@ spelled_means style lines m h =
     }
 
 -- ---- one number, one range, one sense
-
-same_number : (p q : ℚ) → Is p ≡ Is q → p ≡ q
-same_number p q h = cc
 
 one_number : (texts : List (List ℕ)) (p q : ℚ) → IsTheNumber texts p → IsTheNumber texts q → p ≡ q
 one_number [] p q h k = h ∙ sym k

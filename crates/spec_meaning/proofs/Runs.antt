@@ -17,6 +17,7 @@ use Rattle.spec_mps.specs.Steps.{headed, Progress, More, Done, Outcome, more, mo
 use Rattle.spec_mps.specs.Steps.{begin, section_card, data_card, step, Spelled, settled, judge, Spells}
 use Rattle.spec_mps.proofs.CheckSteps.{step_ok, must_ok, need_ok, same_ok}
 use Rattle.spec_mps.proofs.CardsDid.{sense_did}
+use Rattle.spec_mps.proofs.SpelledKept.{same_spelled}
 use Rattle.spec_meaning.specs.TextCards.{Lines, bytes_of}
 use Rattle.spec_meaning.specs.TextCards.{fields_in}
 use Rattle.spec_meaning.proofs.Frames.{Leads, card_leads}
@@ -90,9 +91,6 @@ headed_leads s section.Columns word t h =
 headed_leads s part word t h = subst (λ u. untitled u ≡ untitled s) (same_ok s t h) refl
 
 -- ---- one line
-
-same_model : (m o : Model) → Spelled m ≡ Spelled o → m ≡ o
-same_model m o h = cc
 
 same_more : (s t : State) → More s ≡ More t → s ≡ t
 same_more s t h = cc
@@ -230,7 +228,7 @@ module _ (style : Style) (Inv : SoFar → State → Type 0) (kept : IsKept style
   settled_ends c s l lines n m (Ok (More t)) e h o k f =
       line_goes c s t l lines m (step_did style s l (More t) e) o k (f t h)
   settled_ends c s l lines n m (Ok (Done d)) e h o k f =
-      line_ends c s l lines m d (step_did style s l (Done d) e) (same_model d m h) k
+      line_ends c s l lines m d (step_did style s l (Done d) e) (same_spelled d m h) k
   settled_ends c s l lines n m (Err fault) e h o k f = absurd (cc)
 
   judged_ends : (lines : Lines) (s : State) (n : ℕ) (m : Model) → judge style s n lines ≡ Spelled m → Leads_on lines m s

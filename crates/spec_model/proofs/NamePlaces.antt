@@ -17,7 +17,7 @@ column_name m j = (column m j).name
 abbrev pub row_name : Model → ℕ → Name
 row_name m i = (row m i).name
 
-not_same : (a b : Name) → a ≢ b → same a b ≡ false
+pub not_same : (a b : Name) → a ≢ b → same a b ≡ false
 not_same a b h = by (same a b) refl
   where
     by : (t : Bool) → same a b ≡ t → same a b ≡ false

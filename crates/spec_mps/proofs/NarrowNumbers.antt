@@ -45,7 +45,7 @@ value_narrow (Quotient negative top bottom) h =
     let p = and_parts (nat_le top number_limit) (nat_le bottom number_limit) h in
     over_narrow (signed negative top) bottom (signed_narrow negative top p.0) (leb-true bottom number_limit p.1)
 
-same_number : (p q : ℚ) → Is p ≡ Is q → p ≡ q
+pub same_number : (p q : ℚ) → Is p ≡ Is q → p ≡ q
 same_number p q e = cc
 
 parts_narrow : (o : Option NumberParts) (q : ℚ) → number_by o ≡ Is q → IsNarrow q

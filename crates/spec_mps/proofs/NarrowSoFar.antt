@@ -1,6 +1,6 @@
 -- The numbers that were read so far are of 127 bits.
 use Rattle.std.proofs.Common.{◌≡◌, ℕ, zero, suc, Bool, true, false, ◌&&◌, not, cond, ltb, Option, Some, None}
-use Rattle.std.proofs.Common.{option_map, Ok, List, [], ◌∷◌, ◌++◌, All, IfSome, refl, subst}
+use Rattle.std.proofs.Common.{option_map, Ok, List, [], ◌∷◌, ◌++◌, All, IfSome, refl, subst, length, ap}
 use Rattle.std.proofs.lemmas.List.Elements.{All-nil, All-cons, All-head, All-tail, All-push}
 use Rattle.spec_exact.specs.Fraction.{ℚ, 0ℚ, eq_ℚ}
 use Rattle.spec_exact.specs.Narrow.{IsNarrow}
@@ -40,6 +40,11 @@ answer_narrow text number.Wide v e h = absurd (cc)
 pub in_narrow : (text : List ℕ) (v : ℚ) → number_in text ≡ Ok v → IsNarrow v
 unfolding number_in
 in_narrow text v h = answer_narrow text (number_of text) v refl h
+
+pub changed_length : {A : Type 0} (i : ℕ) (change : A → A) (xs : List A) → length (changed_at i change xs) ≡ length xs
+changed_length i change [] = refl
+changed_length zero change (x ∷ xs) = refl
+changed_length (suc i) change (x ∷ xs) = ap suc (changed_length i change xs)
 
 -- an element that changes
 pub changed_all : {A : Type 0} (P : A → Type 0) (i : ℕ) (change : A → A) (xs : List A) →

@@ -6,11 +6,11 @@ use Rattle.std.specs.List.{AllPairs}
 use Rattle.std.proofs.lemmas.List.{map-append, length-map}
 use Rattle.std.proofs.lemmas.List.Elements.{All-nil, All-push, All-weaker}
 use Rattle.std.proofs.lemmas.List.Quantifiers.{all_pairs_push}
-use Rattle.std.proofs.lemmas.Int.{ints}
-use Rattle.spec_exact.specs.Fraction.{ℚ, 0ℚ, whole, eq_ℚ, abs_ℚ, ◌<ℚ◌}
+use Rattle.spec_exact.specs.Fraction.{ℚ, 0ℚ, eq_ℚ, abs_ℚ, ◌<ℚ◌}
 use Rattle.spec_exact.proofs.Same.{eq_test}
 use Rattle.spec_model.specs.Model.{Name, ExactColumn}
 use Rattle.spec_model.specs.Kept.{IsKeptColumn, IsBound, is_name}
+use Rattle.spec_model.proofs.Kept.{zero_bound, kept_higher}
 use Rattle.spec_mps.specs.declared.target.Target.{Target}
 use Rattle.spec_mps.specs.declared.target.Target.TheVariants.{Objective, Row}
 use Rattle.spec_mps.specs.Reader.{is_among, new_column, columns_with, put_entry, with_number}
@@ -49,19 +49,6 @@ no_columns =
     }
 
 -- ---- more rows, and more numbers
-
-kept_higher : (n m : ℕ) → n ≤ m → (c : ExactColumn) → IsKeptColumn n c → IsKeptColumn m c
-kept_higher n m l c k =
-    record {
-      name = k.name;
-      lower = k.lower;
-      upper = k.upper;
-      entries = record {
-        inside = All-weaker (λ e. e.0 < n) (λ e. e.0 < m) (λ e f. omega arith) c.entries k.entries.inside;
-        ascending = k.entries.ascending;
-        not_zero = k.entries.not_zero;
-      };
-    }
 
 open_higher : (n m : ℕ) (paired : List Target) (column : Option ExactColumn) → n ≤ m → IfSome column (IsOpen n paired) →
     IfSome column (IsOpen m paired)
@@ -116,10 +103,6 @@ pub closed : (n : ℕ) (columns : List ExactColumn) (column : Option ExactColumn
 closed n columns column paired s =
     record { few = s.few; distinct = s.distinct; each = close_column n paired columns column s.each s.last; last = tt }
 
-zero_bound : IsBound (Some 0ℚ)
-unfolding whole
-zero_bound = record { below = omega (arith, ints) }
-
 named_new : (columns : List ExactColumn) (name : Name) →
     column_names (columns ++ new_column name ∷ []) ≡ column_names columns ++ name ∷ []
 named_new columns name = map-append (λ (c : ExactColumn). c.name) columns (new_column name ∷ [])
@@ -149,7 +132,7 @@ abbrev pub IsInside : ℕ → Target → Type 0
 IsInside n Objective = Unit {0}
 IsInside n (Row i) = i < n
 
-number_name : (c : ExactColumn) (t : Target) (v : ℚ) → (with_number c t v).name ≡ c.name
+pub number_name : (c : ExactColumn) (t : Target) (v : ℚ) → (with_number c t v).name ≡ c.name
 number_name c Objective v = refl
 number_name c (Row i) v = go (eq_ℚ v 0ℚ)
   where
@@ -222,7 +205,7 @@ with_pair n columns column paired t v i f s =
 abbrev IsSmall : BoundCard → Type 0
 IsSmall card = SetsAll (λ q. abs_ℚ q <ℚ infinite) card
 
-bounded_name : (lowered : Bool) (card : BoundCard) (c : ExactColumn) → (bounded lowered card c).name ≡ c.name
+pub bounded_name : (lowered : Bool) (card : BoundCard) (c : ExactColumn) → (bounded lowered card c).name ≡ c.name
 bounded_name lowered (SetsUpper u) c = go (is_negative u && not lowered)
   where
     go : (b : Bool) → (cond b (record c { lower = None; upper = u }) (record c { upper = u })).name ≡ c.name

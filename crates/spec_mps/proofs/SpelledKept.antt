@@ -168,7 +168,7 @@ step_sound style s line.Over p h sound = absurd (cc)
 start_sound : IsSound start
 start_sound = record { rows = no_rows; fit = All-nil HasFitRange; columns = no_columns; narrow = none_narrow }
 
-same_spelled : (m o : Model) → Spelled m ≡ Spelled o → m ≡ o
+pub same_spelled : (m o : Model) → Spelled m ≡ Spelled o → m ≡ o
 same_spelled m o h = cc
 
 settled_kept : (n : ℕ) (next : State → Verdict) (o : Outcome) (m : Model) → settled n next o ≡ Spelled m →

@@ -13,7 +13,7 @@ use Rattle.spec_mps.specs.Written.{WrittenCards, cards_text, line_text}
 use Rattle.spec_mps.proofs.WrittenSteps.{IsPlainLine, HasItsLines}
 use Rattle.spec_mps.proofs.WrittenWords.{is_plain, stripped_plain}
 
-no_feed : (line : List ℕ) → list_all is_plain line ≡ true → All (λ b. b ≢ 10) line
+pub no_feed : (line : List ℕ) → list_all is_plain line ≡ true → All (λ b. b ≢ 10) line
 no_feed [] h = All-nil (λ b. b ≢ 10)
 no_feed (b ∷ line) h =
     let p = and_parts (is_plain b) (list_all is_plain line) h in

@@ -9,9 +9,9 @@ use Rattle.std.proofs.lemmas.List.Folds.{find-append, list_any-append}
 use Rattle.std.proofs.lemmas.Bool.{and_parts}
 use borrow.Author.Tests.{ltb-false}
 use Rattle.spec_text.specs.Words.{has_bytes, same}
-use Rattle.spec_text.proofs.WordLemmas.{same_is_equal}
 use Rattle.spec_model.specs.Model.{Name, ExactRow}
 use Rattle.spec_model.specs.Kept.{is_name, is_row_name, is_printable}
+use Rattle.spec_model.proofs.NamePlaces.{not_same}
 use Rattle.spec_mps.specs.declared.style.Style.{Style}
 use Rattle.spec_mps.specs.declared.style.Style.TheVariants.{Free, Fixed}
 use Rattle.spec_mps.specs.Fields.{Field, Fields}
@@ -38,16 +38,9 @@ row_name_word name h = name_word name (and_parts _ _ h).0
 
 -- ---- distinct names
 
-differs : (a b : Name) → a ≢ b → same a b ≡ false
-differs a b h = by (same a b) refl
-  where
-    by : (t : Bool) → same a b ≡ t → same a b ≡ false
-    by true e = absurd (h ((same_is_equal a b).0 e))
-    by false e = e
-
 pub absent_next : (name : Name) (seen : List Name) (last : Name) → IsAbsent name seen → last ≢ name →
     IsAbsent name (seen ++ last ∷ [])
-absent_next name seen last h k = list_any-append (λ n. same n name) seen (last ∷ []) ∙ rw (h, differs last name k) refl
+absent_next name seen last h k = list_any-append (λ n. same n name) seen (last ∷ []) ∙ rw (h, not_same last name k) refl
 
 pub fresh : (seen names : List Name) → All (λ n. IsAbsent n seen) names → AllPairs (λ x y. x ≢ y) names →
     AreFresh seen names

@@ -21,12 +21,12 @@ printed_digit b h =
     let p = digit_is b h in let low = p.low in let high = p.high in
     rw (le-leb 33 b (omega arith), le-leb b 126 (omega arith)) refl
 
-printed : (ds : List ℕ) → list_all is_ascii_digit ds ≡ true → list_all is_printable ds ≡ true
+pub printed : (ds : List ℕ) → list_all is_ascii_digit ds ≡ true → list_all is_printable ds ≡ true
 printed [] h = refl
 printed (d ∷ ds) h =
     let p = and_parts (is_ascii_digit d) (list_all is_ascii_digit ds) h in rw (printed_digit d p.0, printed ds p.1) refl
 
-has_some : (ds : List ℕ) → 0 < length ds → has_bytes ds ≡ true
+pub has_some : (ds : List ℕ) → 0 < length ds → has_bytes ds ≡ true
 has_some [] h = absurd (omega arith)
 has_some (d ∷ ds) h = refl
 
@@ -36,7 +36,7 @@ decimal_word n h =
     record { some = has_some (decimal n) s.some; printable = printed (decimal n) s.digits }
 
 -- more that is printed after a word
-longer : (w more : List ℕ) → IsWord w → list_all is_printable more ≡ true → IsWord (w ++ more)
+pub longer : (w more : List ℕ) → IsWord w → list_all is_printable more ≡ true → IsWord (w ++ more)
 longer [] more h k = cc
 longer (b ∷ w) more h k =
     record { some = refl; printable = list_all-append is_printable (b ∷ w) more ∙ rw (h.printable, k) refl }

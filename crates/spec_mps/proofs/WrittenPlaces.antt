@@ -1,5 +1,5 @@
 -- The names of a kept model's objective and rows stand for them, and the texts of its numbers are read as these.
-use Rattle.std.proofs.Common.{◌≡◌, ◌≢◌, ℕ, zero, suc, ◌<◌, Bool, true, false, Some, Ok}
+use Rattle.std.proofs.Common.{◌≡◌, ◌≢◌, ℕ, zero, suc, ◌<◌, true, Some, Ok}
 use Rattle.std.proofs.Common.{List, [], ◌∷◌, length, map, get_or, refl, sym, ap, ◌∙◌, arith}
 use Rattle.std.specs.List.{AllPairs, position, position_or_len}
 use Rattle.std.proofs.lemmas.List.{length-map}
@@ -11,6 +11,8 @@ use Rattle.spec_exact.specs.Fraction.{ℚ}
 use Rattle.spec_exact.specs.Narrow.{IsNarrow}
 use Rattle.spec_model.specs.Model.{Model, Name, ExactRow, no_row, row}
 use Rattle.spec_model.specs.Kept.{IsModel}
+use Rattle.spec_model.proofs.NamePlaces.{not_same}
+use Rattle.spec_model.proofs.Pairs.{AllPairs-tail}
 use Rattle.spec_mps.specs.declared.target.Target.TheVariants.{Objective, Row}
 use Rattle.spec_mps.specs.Checks.{coded}
 use Rattle.spec_mps.specs.NumberText.{answer}
@@ -31,23 +33,12 @@ number_is_in q h = ap (λ reading. coded (answer reading)) (read_written q h.top
 pub same_itself : (name : Name) → same name name ≡ true
 same_itself name = (same_is_equal name name).1 refl
 
-pub not_same : (a b : Name) → a ≢ b → same a b ≡ false
-not_same a b h = by (same a b) refl
-  where
-    by : (t : Bool) → same a b ≡ t → same a b ≡ false
-    by true e = absurd (h ((same_is_equal a b).0 e))
-    by false e = e
-
 -- names of rows, by their places
 names_differ : (rows : List ExactRow) (first : Name) (i : ℕ) → AllPairs (λ x y. x ≢ y) (first ∷ names_of rows) →
     i < length rows → first ≢ (get_or rows i no_row).name
 names_differ rows first i h l e =
     h 0 (suc i) [] (omega arith) (omega (arith, length-map rows (λ (r : ExactRow). r.name)))
     (e ∙ sym (get_or-map (λ (r : ExactRow). r.name) rows i no_row))
-
-tail_pairs : (first : Name) (names : List Name) → AllPairs (λ x y. x ≢ y) (first ∷ names) →
-    AllPairs (λ x y. x ≢ y) names
-tail_pairs first names h = λ i j d a b. h (suc i) (suc j) d (omega arith) (omega arith)
 
 passed : (rows : List ExactRow) (i : ℕ) → AllPairs (λ x y. x ≢ y) (names_of rows) → i < length rows →
     position_or_len (λ r. same r.name (get_or rows i no_row).name) (map bare_row rows) ≡ i
@@ -57,7 +48,7 @@ passed (r ∷ rows) (suc i) h l =
     let less : i < length rows = omega arith in
     rw (
       not_same r.name (get_or rows i no_row).name (names_differ rows r.name i h less),
-      passed rows i (tail_pairs r.name (names_of rows) h) less,
+      passed rows i (AllPairs-tail (λ x y. x ≢ y) r.name (names_of rows) h) less,
     ) (omega arith)
 
 position_of : (rows : List ExactRow) (i : ℕ) → AllPairs (λ x y. x ≢ y) (names_of rows) → i < length rows →
@@ -83,5 +74,5 @@ row_place m s i kept h l =
       h.objective,
       not_same m.objective (row m i).name (names_differ m.rows m.objective i kept.rows_distinct l),
       h.rows,
-      position_of m.rows i (tail_pairs m.objective (names_of m.rows) kept.rows_distinct) l,
+      position_of m.rows i (AllPairs-tail (λ x y. x ≢ y) m.objective (names_of m.rows) kept.rows_distinct) l,
     ) refl

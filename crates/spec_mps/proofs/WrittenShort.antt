@@ -221,7 +221,7 @@ number_card_short : (group name : Name) (q : ℚ) → IsShort group → IsShort 
     IsShortCard (number_card group name q)
 number_card_short group name q g h k = ((g, (h, (number_short q k, tt))), omega arith)
 
-name_card_short : (name : Name) → is_model_name name ≡ true → IsShortCard (name_card name)
+pub name_card_short : (name : Name) → is_model_name name ≡ true → IsShortCard (name_card name)
 name_card_short [] h = (record { fits = omega arith; plain = refl }, tt, omega arith)
 name_card_short (b ∷ bs) h =
     (record { fits = omega arith; plain = refl }, (model_name_short (b ∷ bs) h, tt), omega arith)

@@ -24,16 +24,16 @@ use Rattle.spec_mps.proofs.WrittenSteps.{Goes, StartIsRead, named, with_start_of
 use Rattle.spec_mps.proofs.WrittenWords.{is_plain, plain_text, stripped_plain, parts_word, parts_word_then}
 use Rattle.spec_mps.proofs.WrittenRows.{goes_one, goes_then}
 
-name_word : IsWord (codes "NAME")
-name_word = record { some = refl; printable = refl }
+pub heading_word : IsWord (codes "NAME")
+heading_word = record { some = refl; printable = refl }
 
 named_words : (style : Style) (b : ℕ) (bs : List ℕ) → IsWord (b ∷ bs) →
     words_of (line_text style (name_card (b ∷ bs))) ≡ codes "NAME" ∷ (b ∷ bs) ∷ []
 unfolding words_of
 named_words Free b bs h =
-    parts_word_then (codes "NAME") (b ∷ bs) name_word ∙ ap (λ ws. codes "NAME" ∷ ws) (parts_word (b ∷ bs) h)
+    parts_word_then (codes "NAME") (b ∷ bs) heading_word ∙ ap (λ ws. codes "NAME" ∷ ws) (parts_word (b ∷ bs) h)
 named_words Fixed b bs h =
-    parts_word_then (codes "NAME") (32 ∷ 32 ∷ 32 ∷ 32 ∷ 32 ∷ 32 ∷ 32 ∷ 32 ∷ 32 ∷ b ∷ bs) name_word
+    parts_word_then (codes "NAME") (32 ∷ 32 ∷ 32 ∷ 32 ∷ 32 ∷ 32 ∷ 32 ∷ 32 ∷ 32 ∷ b ∷ bs) heading_word
     ∙ ap (λ ws. codes "NAME" ∷ ws) (parts_word (b ∷ bs) h)
 
 plain_name : (style : Style) (b : ℕ) (bs : List ℕ) → IsWord (b ∷ bs) →

@@ -104,7 +104,7 @@ not_skipped (b ∷ w) ws h =
 
 -- ---- a data card
 
-free_line : (line : List ℕ) (fs : Fields) → with_fields Free line fs ≡ line ++ joined (texts_of fs)
+pub free_line : (line : List ℕ) (fs : Fields) → with_fields Free line fs ≡ line ++ joined (texts_of fs)
 free_line line [] = sym (append-nil line)
 free_line line (f ∷ fs) =
     free_line ((line ++ 32 ∷ []) ++ f.text) fs ∙ append_assoc (line ++ 32 ∷ []) f.text (joined (texts_of fs))

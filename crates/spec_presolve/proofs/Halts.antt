@@ -15,6 +15,7 @@ use Rattle.spec_exact.proofs.Results.{ok_same}
 use Rattle.spec_exact.proofs.Sums.{sum_below_none}
 use Rattle.spec_path.proofs.Runs.{then_ok, order_ok}
 use Rattle.spec_model.specs.Model.{Model, Limits, width, height, bounds, limits, row, coefficient, part}
+use Rattle.spec_model.proofs.ListParts.{part_zeros}
 use Rattle.spec_check.proofs.StepsSound.{greater_from}
 use Rattle.spec_check.specs.declared.certificate.Certificate.TheVariants.{Infeasible}
 use Rattle.spec_check.specs.declared.certificate.Certificate.TheVariants as certificate
@@ -33,7 +34,7 @@ use Rattle.spec_presolve.specs.Choose.{ExactReduction, ExactChoice, crossed, in_
 use Rattle.spec_presolve.specs.Choose.{is_below, empty_row, empty_by, given, quotient, single_by}
 use Rattle.spec_presolve.specs.Choose.{is_far, raised, cut, fixed_by, chosen}
 use Rattle.spec_presolve.specs.Carry.{ExactCertificate, IsShown, alone_at, halted}
-use Rattle.spec_presolve.proofs.Skips.{by_skip, part_at, part_skipping, part_zeros, sum_of_one}
+use Rattle.spec_presolve.proofs.Skips.{by_skip, part_at, part_skipping, sum_of_one}
 use Rattle.spec_presolve.proofs.Tightened.{tight_zero}
 use Rattle.spec_presolve.proofs.OverSingleRun.{one_tight, minus_tight, minus_times}
 use Rattle.spec_presolve.proofs.InRows.{row_empty}

@@ -11,12 +11,13 @@ use Rattle.spec_exact.proofs.Ruleset.{ring, zero-*ℚ, zero-+ℚ}
 use Rattle.spec_exact.proofs.Sums.{sum_below_none}
 use Rattle.spec_model.specs.Model.{Model, Limits, width, height, bounds, limits, coefficient, part, activity}
 use Rattle.spec_model.specs.Truth.{IsBetween, IsFeasible}
+use Rattle.spec_model.proofs.ListParts.{part_zeros}
 use Rattle.spec_check.specs.Checks.{signed, priced, reduced, IsTight, HasLimit, Allows, asked, rows_ask, columns_give}
 use Rattle.spec_check.specs.Checks.{turned_limits, ChecksOptimal, ChecksInfeasible, ChecksUnbounded}
 use Rattle.spec_check.proofs.Sound.{tight_has, asked_weighs}
 use Rattle.spec_presolve.specs.Reduce.{tightened}
 use Rattle.spec_presolve.specs.Carry.{is_given, alone_at}
-use Rattle.spec_presolve.proofs.Skips.{sum_of_one, sum_but_one, part_zeros}
+use Rattle.spec_presolve.proofs.Skips.{sum_of_one, sum_but_one}
 use Rattle.spec_presolve.proofs.Scaled.{Ordered, scaled, quotient_times, scaled_between, scaled_allows, scaled_tight}
 use Rattle.spec_presolve.proofs.Tightened.{Tightens, tight_zero, asked_tight, between_old}
 use Rattle.spec_presolve.proofs.Tightened.{between_row, allows_old, allows_row, tight_row, tight_old, turned_row, turned_old}

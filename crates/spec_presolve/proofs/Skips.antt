@@ -1,9 +1,8 @@
 -- Lists and sums with one index more.
 use Rattle.std.proofs.Common.{◌≡◌, ℕ, zero, suc, ◌+◌, ◌-◌, ◌<◌, ◌≤◌, List, length}
-use Rattle.std.proofs.Common.{replicate, sym, ap, ap₂, ◌∙◌, subst, arith, ⊎_elim}
+use Rattle.std.proofs.Common.{sym, ap, ap₂, ◌∙◌, subst, arith, ⊎_elim}
 use Rattle.std.specs.List.{insert}
 use Rattle.std.proofs.lemmas.Bool.{cases_lt}
-use Rattle.std.proofs.lemmas.List.{get_or-replicate, length-replicate, get_or_past}
 use Rattle.std.proofs.lemmas.List.Edits.{get_or-insert_below, get_or-insert_at, get_or-insert_above}
 use Rattle.spec_exact.specs.Fraction.{ℚ, 0ℚ, ◌+ℚ◌}
 use Rattle.spec_exact.specs.Sums.{sum_below}
@@ -44,11 +43,6 @@ pub part_skipping : (y : List ℚ) (i k : ℕ) (v : ℚ) → i ≤ length y → 
 part_skipping y i k v l =
     ⊎_elim (λ p. ap (part (insert y i v)) (skipping_below i k p) ∙ get_or-insert_below y i v 0ℚ k p l)
     (λ p. ap (part (insert y i v)) (skipping_from i k p) ∙ get_or-insert_above y i v 0ℚ k p l) (cases_lt k i)
-
-pub part_zeros : (n k : ℕ) → part (replicate n 0ℚ) k ≡ 0ℚ
-part_zeros n k =
-    ⊎_elim (λ p. get_or-replicate n k 0ℚ 0ℚ p)
-    (λ p. get_or_past (replicate n 0ℚ) k 0ℚ (subst (λ l. l ≤ k) (sym (length-replicate n 0ℚ)) p)) (cases_lt k n)
 
 -- ---- sums
 

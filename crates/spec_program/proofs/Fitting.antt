@@ -8,6 +8,7 @@ use Rattle.spec_text.specs.Words.{same}
 use Rattle.spec_mps.specs.declared.style.Style.{Style}
 use Rattle.spec_mps.specs.NumberText.{spelled_from}
 use Rattle.spec_mps.specs.Shapes.{look_up}
+use Rattle.spec_mps.proofs.DigitLemmas.{spelled_grows}
 use Rattle.spec_server.specs.Command.{is_digit, begins_with_zero, number_to}
 use Rattle.spec_program.specs.CommandLine.{Word, ExactLine, ExactTextCommand, Given, given_in, form_given, workers_of, workers_given, places_of}
 use Rattle.spec_program.specs.CommandLine.{places_given, links_of, links_given, seed_of, row_count_of, column_count_of}
@@ -37,10 +38,6 @@ all_five true true false v w k n e = absurd (none_is_not n e)
 all_five true false u v w k n e = absurd (none_is_not n e)
 all_five false t u v w k n e = absurd (none_is_not n e)
 
-no_less : (n : ℕ) (digits : List ℕ) → n ≤ spelled_from n digits
-no_less n [] = omega arith
-no_less n (b ∷ bs) = omega (arith, no_less (n * 10 + (b - 48)) bs)
-
 number-within : (last digits : ℕ) (text : List ℕ) (n : ℕ) → number_to last digits text ≡ Some n → (1 ≤ n) × (n ≤ last)
 number-within last digits [] n e = absurd (none_is_not n e)
 number-within last digits (b ∷ bs) n e =
@@ -50,7 +47,7 @@ number-within last digits (b ∷ bs) n e =
     let low : 48 ≤ b = leb-true 48 b (and_parts (nat_le 48 b) (nat_le b 57) digit).0 in
     let other : b ≡ 48 → ⊥ = eqb-false b 48 (not-true (begins_with_zero (b ∷ bs)) tests.1) in
     let high : 49 ≤ b = ⊎_elim (λ h. h) (λ h. absurd (other (omega (arith, low, h)))) (cases_lt 48 b) in
-    let more = no_less (0 * 10 + (b - 48)) bs in
+    let more = spelled_grows (0 * 10 + (b - 48)) bs in
     let within = leb-true (spelled_from 0 (b ∷ bs)) last tests.2 in
     let same = tests.3 in
     (omega (arith, high, more, same), omega (arith, within, same))

@@ -1,9 +1,9 @@
 use Rattle.std.proofs.Common.{◌∙◌, map, sym, ap}
 use Rattle.spec_model.specs.Model.{ExactColumn}
 use Rattle.spec_mps.specs.Bounds.{bounded}
+use Rattle.spec_mps.proofs.SoundColumns.{bounded_name}
 use Rattle.lp_mps.specs.BoundSeen.{bound_seen}
 use Rattle.lp_mps.proofs.NewNames.{written_back, names_changed, names_beside}
-use Rattle.lp_mps.proofs.ColumnPlaces.{bounded_name}
 use Rattle.lp_mps.proofs.read.column_list.Columns.bound_at.Goals as goal
 
 pub invariant_of-self : goal.invariant_of-self

@@ -1,0 +1,10 @@
+-- The numbers of a list by their places.
+use Rattle.std.proofs.Common.{◌≡◌, ℕ, zero, suc, refl}
+use Rattle.std.specs.Prelude.{replicate}
+use Rattle.spec_exact.specs.Fraction.{0ℚ}
+use Rattle.spec_model.specs.Model.{part}
+
+pub part_zeros : (n j : ℕ) → part (replicate n 0ℚ) j ≡ 0ℚ
+part_zeros zero j = refl
+part_zeros (suc n) zero = refl
+part_zeros (suc n) (suc j) = part_zeros n j
