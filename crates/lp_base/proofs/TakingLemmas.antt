@@ -490,7 +490,7 @@ ReadsUntil-append r u =
 
 -- ---- where a reader stops that began at the start of its input
 -- a reader that began there had not ended
-from_start : {before after : Option (List ℕ)} {bytes : List ℕ} {new : LinesState} {lines : List (Line (List ℕ))} →
+pub from_start : {before after : Option (List ℕ)} {bytes : List ℕ} {new : LinesState} {lines : List (Line (List ℕ))} →
     TakesLines after at_start bytes new lines ⊎ StaysEnded before after at_start bytes new lines →
     TakesLines after at_start bytes new lines
 from_start (inl t) = t

@@ -8,6 +8,7 @@ use Rattle.spec_exact.specs.Fraction.{over, neg_ℚ, ◌+ℚ◌, ◌-ℚ◌, ◌
 use Rattle.spec_exact.proofs.Ring.{◌⊕◌, ◌⊗◌, minus, lit, v0, v1, v2, v3}
 use Rattle.spec_exact.proofs.Whole.{by_ring}
 use Rattle.spec_exact.proofs.Field.{by_ring_ℚ, over-*, whole_over}
+use Rattle.spec_exact.proofs.Coprime.{positive_left, positive_right}
 use Rattle.lp_wide.specs.Below.{below}
 use Rattle.lp_wide.specs.Whole.{whole}
 use Rattle.lp_wide.specs.declared.signed.Signed.{Signed}
@@ -20,14 +21,6 @@ unfolding fractions
 fraction-at value [] d k h = absurd (omega arith)
 fraction-at value (x ∷ xs) d zero h = refl
 fraction-at value (x ∷ xs) d (suc k) h = fraction-at value xs d k (omega (arith, h))
-
-pub positive_left : (a g e : ℕ) → a * g ≡ e → 0 < e → 0 < a
-positive_left zero g e q h = absurd (omega (arith, q, h))
-positive_left (suc a) g e q h = omega arith
-
-pub positive_right : (a g e : ℕ) → a * g ≡ e → 0 < e → 0 < g
-positive_right a zero e q h = absurd (omega (arith, q, h))
-positive_right a (suc g) e q h = omega arith
 
 pub whole-times : (negative : Bool) (b g s : ℕ) → b * g ≡ s → whole negative s ≡ whole negative b *ℤ pos g
 whole-times false b g s e = ap pos (sym e)

@@ -12,13 +12,13 @@ use Rattle.spec_exact.proofs.Whole.{by_ring}
 use Rattle.spec_exact.proofs.Compare.{int_cmp-times, compare_unlimited}
 use Rattle.spec_simplex.specs.declared.ends.Best.{Best}
 use Rattle.spec_simplex.specs.Step.{better_by}
-use Rattle.lp_rows.proofs.Orders.{order-over}
+use Rattle.lp_ratio.proofs.Fractions.{order_over}
 
 -- g / (d e) to h / (d f)
 pub ratios : (g h : ℤ) (d e f : ℕ) → 0 < d → 0 < e → 0 < f →
     order (over g (d * e)) (over h (d * f)) ≡ int_cmp (g *ℤ pos f) (h *ℤ pos e)
 ratios g h d e f p q r =
-    order-over g h (d * e) (d * f) (mul-pos p q) (mul-pos p r)
+    order_over g h (d * e) (d * f) (mul-pos p q) (mul-pos p r)
     ∙ ap₂ int_cmp (moved g f) (moved h e)
     ∙ int_cmp-times (g *ℤ pos f) (h *ℤ pos e) d p
   where

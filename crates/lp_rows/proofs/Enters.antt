@@ -14,11 +14,11 @@ use Rattle.spec_simplex.specs.Tableau.{Tableau, form_columns}
 use Rattle.spec_simplex.specs.Step.{way_by, way_at, or_enters, entering_below}
 use Rattle.lp_wide.specs.Whole.{whole}
 use Rattle.lp_wide.specs.declared.signed.Signed.{Signed}
+use Rattle.lp_ratio.proofs.Fractions.{sign_over}
 use Rattle.lp_rows.specs.Row.{at}
 use Rattle.lp_rows.specs.Entering.{of_sign, way_of, way_with, IsPriced}
 use Rattle.lp_rows.proofs.Done.{item-at}
 use Rattle.lp_rows.proofs.Cleared.{fraction-at}
-use Rattle.lp_rows.proofs.Orders.{sign-over}
 
 -- ---- the least of many
 pub none_more : (t : Tableau) (k : ℕ) → entering_below t k ≡ None → way_at t k ≡ None → entering_below t (k + 1) ≡ None
@@ -75,5 +75,5 @@ way_there value t numbers d k statuses fixed x s w h p l m o a e =
     (h.reduced k there ∙ fraction-at value numbers d k inside)
     ∙ sym (way_is (get_or statuses k s) (over (at value numbers k) d) _
     (ap (λ z. int_cmp z (pos 0)) (sym (item-at value numbers k x inside a))
-    ∙ sym (sign-over (at value numbers k) d p))))
+    ∙ sym (sign_over (at value numbers k) d p))))
     ∙ sym e

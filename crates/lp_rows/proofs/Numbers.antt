@@ -5,10 +5,11 @@ use Rattle.spec_exact.specs.Fraction.{over, neg_ℚ, 0ℚ, 1ℚ}
 use Rattle.spec_exact.proofs.Ring.{minus, lit, v0}
 use Rattle.spec_exact.proofs.Whole.{by_ring}
 use Rattle.spec_exact.proofs.Field.{by_ring_ℚ, whole_over}
+use Rattle.spec_exact.proofs.Coprime.{positive_left, positive_right}
 use Rattle.lp_ratio.specs.Parts.{with_sign}
 use Rattle.lp_wide.specs.Whole.{whole}
 use Rattle.lp_wide.proofs.Rows.{without_divisor}
-use Rattle.lp_rows.proofs.Cleared.{over_neg, positive_left, positive_right, whole-times}
+use Rattle.lp_rows.proofs.Cleared.{over_neg, whole-times}
 
 pub zero_is : (n d : ℕ) → n ≡ 0 → d ≡ 1 → over (pos n) d ≡ 0ℚ
 zero_is n d e f = ap₂ (λ n d. over (pos n) d) e f ∙ sym (whole_over (pos 0))

@@ -23,9 +23,9 @@ use Rattle.lp_wide.specs.Whole.{whole}
 use Rattle.spec_exact.specs.Limit.{sign}
 use Rattle.spec_exact.proofs.Signs.{below_zero, above_zero}
 use Rattle.std.specs.Ordering.{is_lt, is_gt}
+use Rattle.lp_ratio.proofs.Fractions.{sign_over}
 use Rattle.lp_rows.specs.Row.{turned_if}
 use Rattle.lp_rows.specs.Ratio.{gap_by}
-use Rattle.lp_rows.proofs.Orders.{sign-over}
 use Rattle.lp_rows.proofs.Cleared.{over_neg}
 use Rattle.lp_rows.proofs.Divided.{by_inverse}
 
@@ -85,6 +85,6 @@ gap_at d o lower upper v e =
 
 pub gap_run_is : (up : Bool) (n : ℤ) (e : ℕ) (o : Ordering) (lower upper : Option ℚ) (v : ℚ) → 0 < e →
     o ≡ int_cmp (turned_if (not up) n) (pos 0) → gap_run None up (over n e) lower upper v ≡ gap_by o lower upper v
-gap_run_is true n e o lower upper v p h = gap_at (over n e) o lower upper v (h ∙ sym (sign-over n e p))
+gap_run_is true n e o lower upper v p h = gap_at (over n e) o lower upper v (h ∙ sym (sign_over n e p))
 gap_run_is false n e o lower upper v p h =
-    gap_at (neg_ℚ (over n e)) o lower upper v (h ∙ sym (sign-over (neg_ℤ n) e p) ∙ ap sign (over_neg n e p))
+    gap_at (neg_ℚ (over n e)) o lower upper v (h ∙ sym (sign_over (neg_ℤ n) e p) ∙ ap sign (over_neg n e p))

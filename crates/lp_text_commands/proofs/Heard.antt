@@ -1,5 +1,5 @@
 -- What was heard of an input that was read from its start on, and where the reading stopped.
-use Rattle.std.proofs.Common.{◌≡◌, ℕ, ◌+◌, ◌-◌, ◌^◌, ◌≤◌, ◌⊎◌, List, [], ◌∷◌, ◌++◌, length, take, Option, Some, None}
+use Rattle.std.proofs.Common.{◌≡◌, ℕ, ◌+◌, ◌-◌, ◌^◌, ◌≤◌, List, [], ◌∷◌, ◌++◌, length, take, Option, Some, None}
 use Rattle.std.proofs.Common.{Result, Ok, Err, Bool, true, false, arith, ap, sym, ◌∙◌, append_assoc, append-nil}
 use Rattle.std.proofs.Common.{length-append, inl, inr, subst, ⊎_elim}
 use Rattle.std.proofs.KnownBytes.{Consumes-nil, Consumes-trans}
@@ -11,8 +11,8 @@ use Rattle.spec_commands.specs.InputSaid.{IsSaid}
 use Rattle.spec_commands.proofs.WrittenLengths.{take_behind}
 use Rattle.lp_base.specs.LinesState.{LinesState, at_start}
 use Rattle.lp_base.specs.NextLine.{IsOver}
-use Rattle.lp_base.specs.Taking.{Tells, TakesLines, StaysEnded}
-use Rattle.lp_base.proofs.TakingLemmas.{stops_at_end, stops_with, told_over}
+use Rattle.lp_base.specs.Taking.{Tells, TakesLines}
+use Rattle.lp_base.proofs.TakingLemmas.{stops_at_end, stops_with, told_over, from_start}
 use Rattle.lp_base.specs.declared.lines.LineStop.{LineStop}
 use Rattle.lp_base.specs.declared.lines.LineStop.TheVariants as line_stops
 use Rattle.lp_line.specs.declared.hearing.Heard.{Heard}
@@ -22,13 +22,6 @@ use Rattle.lp_line.specs.declared.halt.Halt.{Halt}
 use Rattle.lp_line.specs.declared.halt.Halt.TheVariants as halts
 use Rattle.lp_text_commands.specs.Hearing.{Agrees, StopsSoon, Hears, HearsNothing, HearsTooMuch, Reads, HearsSo}
 use Rattle.lp_line.specs.Halt.{halt_of}
-
--- a reader at its start has not ended
-from_start : {before after : Option (List ℕ)} {bytes : List ℕ} {new : LinesState} {lines : List (Line (List ℕ))} →
-    TakesLines after at_start bytes new lines ⊎ StaysEnded before after at_start bytes new lines →
-    TakesLines after at_start bytes new lines
-from_start (inl t) = t
-from_start (inr s) = absurd (let z : false ≡ true = s.ended in cc)
 
 -- where the input is too long, no more than a buffer was read past the limit
 within_buffer : {mid : Option (List ℕ)} {old : LinesState} {read bytes : List ℕ} {lines : List (Line (List ℕ))} →

@@ -4,7 +4,6 @@ use Rattle.std.proofs.Common.{append-nil, append_assoc, subst, Bool, true, false
 use Rattle.std.specs.Prelude.{codes, decimal}
 use Rattle.std.specs.List.{slice_get}
 use Rattle.std.proofs.Math.Seq.{take-suc}
-use Rattle.std.proofs.lemmas.Grind.{flat_map-append}
 use Rattle.std.proofs.lemmas.List.{map-append}
 use Rattle.std.proofs.lemmas.Option.{slice_get_within, get_or_from_slice_get}
 use Rattle.spec_exact.specs.Fraction.{ℚ, 0ℚ, eq_ℚ}
@@ -18,13 +17,10 @@ use Rattle.spec_cold.specs.Cold.{ExactSolveEnd}
 use Rattle.spec_server.specs.declared.asks.Reply.TheVariants as reply
 use Rattle.spec_server.specs.Machine.{opening_budget, answer_of}
 use Rattle.spec_server.specs.Output.{check_line, ended_lines, reply_text}
+use Rattle.spec_server.proofs.Output.{ended_append}
 use Rattle.spec_commands.specs.IisOut.{side_line, point_lines, found_lines, end_words}
 
 -- ---- lines in a row
-
-pub ended_append : (xs ys : List (List ℕ)) → ended_lines (xs ++ ys) ≡ ended_lines xs ++ ended_lines ys
-unfolding ended_lines
-ended_append xs ys = flat_map-append (λ line. line ++ 10 ∷ []) xs ys
 
 pub ended_one : (line : List ℕ) → ended_lines (line ∷ []) ≡ line ++ 10 ∷ []
 unfolding ended_lines

@@ -1,5 +1,4 @@
--- What holds of each two of a list, of the one before the other: the case of the first, and lists that are mapped or put
--- together.
+-- What holds of each two items of a list: of the first one and the others, and where lists are mapped or put together.
 use Rattle.std.proofs.Common.{suc, List, ◌∷◌, All, arith, [], map, ◌++◌}
 use Rattle.std.specs.List.{AllPairs}
 use Rattle.std.proofs.lemmas.List.Elements.{All-map, All-append, All-head, All-tail}

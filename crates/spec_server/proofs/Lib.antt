@@ -12,3 +12,4 @@ pub mod ScriptKept
 pub mod Truth
 pub mod ColdAnswers
 pub mod Sessions
+pub mod Output

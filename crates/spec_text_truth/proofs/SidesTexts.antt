@@ -3,7 +3,6 @@ use Rattle.std.proofs.Common.{◌≡◌, ℕ, Bool, true, false, cond, List, [],
 use Rattle.std.proofs.Common.{◌<◌, refl, sym, ◌∙◌, ap, subst, append_assoc, arith}
 use Rattle.std.specs.Prelude.{All, codes, decimal}
 use Rattle.std.proofs.lemmas.List.Elements.{All-head, All-tail}
-use Rattle.std.proofs.lemmas.Grind.{flat_map-append}
 use Rattle.spec_text.specs.declared.line.Line.{Line}
 use Rattle.spec_exact.specs.Fraction.{ℚ}
 use Rattle.spec_model.specs.Model.{Model, Name, no_row, no_column, width, height, row, column}
@@ -33,6 +32,7 @@ use Rattle.spec_server.specs.declared.asks.Reply.TheVariants as reply
 use Rattle.spec_server.specs.Machine.{opening_budget, answer_of}
 use Rattle.spec_server.specs.Output.{reply_text, ended_lines}
 use Rattle.spec_server.specs.TextSaid.{TextSaid, text_said}
+use Rattle.spec_server.proofs.Output.{ended_append}
 use Rattle.spec_text_truth.specs.SaidSides.{SaysSides}
 use Rattle.spec_truth.specs.TrueAnswer.{IsTrueOf}
 use Rattle.spec_truth.proofs.Shown.{IsShown, answer_shown, answer_holds}
@@ -134,10 +134,6 @@ ended_more line lines more =
     append_assoc (line ++ 10 ∷ []) (ended_lines lines) more
     ∙ append_assoc line (10 ∷ []) (ended_lines lines ++ more)
 
-ended_front : (front lines : List (List ℕ)) → ended_lines (front ++ lines) ≡ ended_lines front ++ ended_lines lines
-unfolding ended_lines
-ended_front front lines = flat_map-append (λ line. line ++ 10 ∷ []) front lines
-
 -- as many lines are those of no other sides
 sides_read : (m : Model) → IsModel m → (sides others : List Side) (more rest : List ℕ) → All (IsSide m) sides →
     All (IsSide m) others → length others ≡ length sides →
@@ -184,7 +180,7 @@ found_begins m sides cert points =
     (append_assoc (lines ++ shown) all (codes "END" ∷ []) ∙ append_assoc lines shown (all ++ codes "END" ∷ []))
     ∙ ap (λ (bytes : List ℕ).
     codes "INFEASIBLE" ++ 10 ∷ (codes "IIS " ++ ((decimal (length sides) ++ 10 ∷ []) ++ bytes)))
-    (ended_front lines (shown ++ (all ++ codes "END" ∷ [])))
+    (ended_append lines (shown ++ (all ++ codes "END" ∷ [])))
     ∙ ap (λ (bytes : List ℕ). codes "INFEASIBLE" ++ 10 ∷ (codes "IIS " ++ bytes))
     (append_assoc (decimal (length sides)) (10 ∷ [])
     (ended_lines lines ++ behind_sides m sides cert points))

@@ -1,6 +1,6 @@
-use Rattle.lp_rows.proofs.Cleared.{positive_left}
 use Rattle.lp_rows.proofs.Numbers.{shared_is}
 use Rattle.lp_rows.proofs.wide.shared.Goals as goal
+use Rattle.spec_exact.proofs.Coprime.{positive_left}
 
 pub returns-in-Some-clause-value : goal.returns-in-Some-clause-value
 returns-in-Some-clause-value g c =

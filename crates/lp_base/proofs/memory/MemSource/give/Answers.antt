@@ -1,7 +1,8 @@
 -- The piece that is read next, cut where there is room.
 use Rattle.std.proofs.Common.{Some, ◌≡◌, ◌<◌, ◌-◌, List, ℕ, take, drop, arith, length, sym, ◌∙◌, ap, length-drop}
+use Rattle.std.proofs.lemmas.List.{take_rest}
 use Rattle.lp_base.specs.Pieces.{bytes_of, first_given, left_behind}
-use Rattle.lp_base.proofs.PieceLemmas.{next_piece, no_pieces, taken_first, left_then, given_bytes, take_least, rest_of}
+use Rattle.lp_base.proofs.PieceLemmas.{next_piece, no_pieces, taken_first, left_then, given_bytes, take_least}
 use Rattle.lp_base.proofs.memory.MemSource.give.Goals as goal
 
 pub returns-then-self-piece-clause-first : goal.returns-then-self-piece-clause-first
@@ -11,7 +12,7 @@ returns-then-self-piece-clause-first c =
     let n = c.copy_front-count.result in
     let bytes = c.as_slice-piece.result.now in
     let at = c.get.ensures ∙ ap Some (sym c.as_slice-piece.ensures) in
-    let front : take (length bytes - s.from) (drop s.from bytes) ≡ drop s.from bytes = rest_of s.from bytes in
+    let front : take (length bytes - s.from) (drop s.from bytes) ≡ drop s.from bytes = take_rest bytes s.from in
     let count = c.copy_front-count.ensures.count in
     c.copy_front-count.ensures.copied
     ∙ ap (λ (xs : List ℕ). take n xs) front
@@ -27,7 +28,7 @@ returns-then-self-piece-clause-behind c =
     let bytes = c.as_slice-piece.result.now in
     let at = c.get.ensures ∙ ap Some (sym c.as_slice-piece.ensures) in
     let len : length (take (length bytes - s.from) (drop s.from bytes)) ≡ length bytes - s.from =
-    ap length (rest_of s.from bytes) ∙ length-drop s.from bytes in
+    ap length (take_rest bytes s.from) ∙ length-drop s.from bytes in
     let count = c.copy_front-count.ensures.count in
     left_then s.pieces s.piece s.from room n bytes at (omega arith) (omega (arith, count, len))
     ∙ ap (left_behind room) c.loop-self.invariant.left
@@ -43,7 +44,7 @@ returns-then-self-piece-clause-end c =
     let bytes = c.as_slice-piece.result.now in
     let some : 0 < length bytes - s.from = omega arith in
     let len : length (take (length bytes - s.from) (drop s.from bytes)) ≡ length bytes - s.from =
-    ap length (rest_of s.from bytes) ∙ length-drop s.from bytes in
+    ap length (take_rest bytes s.from) ∙ length-drop s.from bytes in
     λ zero room. absurd (omega (arith, c.copy_front-count.ensures.count, c.copy_front-count.ensures.len, len))
 
 pub returns-clause-first : goal.returns-clause-first
