@@ -11,50 +11,13 @@ use Rattle.spec_board.specs.declared.read.Read.TheVariants as read
 use Rattle.spec_board.specs.Reads.{ExactRead}
 use Rattle.spec_board.specs.Places.{ExactPlace, place_at, with_place, Answers, Plays}
 use Rattle.spec_board.specs.Orders.{InPairs, published_by, published_in, IsBacked, AreBacked}
+use Rattle.spec_board.proofs.SharedPlaces.{place_more, place_last, place_before, length_with, with_same, with_other}
 use Rattle.basis_board.specs.declared.seats.RawRead.{RawRead}
 use Rattle.basis_board.specs.declared.seats.RawRead.TheVariants.{Count, Open, See, Claim, Lost, Done}
 use Rattle.basis_board.specs.Board.{Has, count, done}
 use Rattle.basis_board.specs.Moments.{Turns, IsTrueOf, IsLike}
 use Rattle.basis_board.specs.PassReads.{exact_read}
 use Rattle.basis_board.proofs.Merging.{Mark, logged_of, CountsUp}
-
--- ---- places
-
-place_more : (ps : List ExactPlace) (k : ℕ) (p new : ExactPlace) → place_at ps k ≡ Some p →
-    place_at (ps ++ new ∷ []) k ≡ Some p
-place_more [] k p new h = cc
-place_more (q ∷ ps) zero p new h = h
-place_more (q ∷ ps) (suc k) p new h = place_more ps k p new h
-
-place_last : (ps : List ExactPlace) (new : ExactPlace) → place_at (ps ++ new ∷ []) (length ps) ≡ Some new
-place_last [] new = refl
-place_last (p ∷ ps) new = place_last ps new
-
-place_before : (ps : List ExactPlace) (k : ℕ) (p new : ExactPlace) → place_at (ps ++ new ∷ []) k ≡ Some p →
-    (place_at ps k ≡ Some p) ⊎ (new ≡ p)
-place_before [] zero p new h = inr cc
-place_before [] (suc k) p new h = cc
-place_before (q ∷ ps) zero p new h = inl h
-place_before (q ∷ ps) (suc k) p new h = place_before ps k p new h
-
-length_with : (ps : List ExactPlace) (k : ℕ) (new : ExactPlace) → length (with_place ps k new) ≡ length ps
-length_with [] k new = refl
-length_with (p ∷ ps) zero new = refl
-length_with (p ∷ ps) (suc k) new = ap suc (length_with ps k new)
-
-with_same : (ps : List ExactPlace) (k : ℕ) (old new : ExactPlace) → place_at ps k ≡ Some old →
-    place_at (with_place ps k new) k ≡ Some new
-with_same [] k old new h = cc
-with_same (p ∷ ps) zero old new h = refl
-with_same (p ∷ ps) (suc k) old new h = with_same ps k old new h
-
-with_other : (ps : List ExactPlace) (j k : ℕ) (new : ExactPlace) → (j ≡ k → ⊥) →
-    place_at (with_place ps j new) k ≡ place_at ps k
-with_other [] j k new h = refl
-with_other (p ∷ ps) zero zero new h = absurd (h refl)
-with_other (p ∷ ps) zero (suc k) new h = refl
-with_other (p ∷ ps) (suc j) zero new h = refl
-with_other (p ∷ ps) (suc j) (suc k) new h = with_other ps j k new (λ e. h (ap suc e))
 
 -- ---- a place is published with one list of words
 
@@ -169,7 +132,7 @@ module _ (places : ℕ) (rs : List ExactRead) (backed : AreBacked rs) (all : Lis
                 (cases_lt j (length now));
             so_done = λ j words at. ⊎_elim
                 (λ (e : place_at now j ≡ Some (place.Done words)). t.dones j ∙ s.so_done j words e)
-                (λ (e : new ≡ place.Done words). absurd (cc)) (place_before now j (place.Done words) new at);
+                (λ (e : place.Done words ≡ new). absurd (cc)) (place_before now j (place.Done words) new at);
             claimed = λ y h j c. ⊎_elim
                 (λ (e : x ≡ y).
                 let same : ◌≡◌ {A = RawRead} (Claim k) (Claim j) = sym is ∙ ap (λ (z : Mark). z.read) e ∙ c in

@@ -4,7 +4,7 @@ use Rattle.spec_board.specs.Words.{IsWellFormed}
 use Rattle.spec_board.specs.declared.place.Place.TheVariants as place
 use Rattle.spec_board.specs.Reads.{Words}
 use Rattle.spec_board.specs.Places.{ExactPlace, place_at, with_place}
-use Rattle.spec_serve.proofs.Places.{place_before, some_same}
+use Rattle.spec_board.proofs.SharedPlaces.{some_same, place_before}
 use Rattle.lp_core.specs.Core.{AreFormed}
 
 pub claim_formed : (me : ℕ) (ps qs : List ExactPlace) → qs ≡ ps ++ place.Claimed me ∷ [] → AreFormed ps → AreFormed qs

@@ -2,3 +2,4 @@ pub mod Digits
 pub mod Places
 pub mod Bases
 pub mod Back
+pub mod SharedPlaces

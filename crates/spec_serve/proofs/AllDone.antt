@@ -8,11 +8,12 @@ use Rattle.spec_board.specs.declared.read.Put.TheVariants.{Published, Full, Race
 use Rattle.spec_board.specs.declared.read.Read.TheVariants as read
 use Rattle.spec_board.specs.Reads.{ExactRead, PutReads}
 use Rattle.spec_board.specs.Places.{ExactPlace, place_at, with_place, Logged, Plays, logged}
+use Rattle.spec_board.proofs.SharedPlaces.{with_same, with_other}
 use Rattle.spec_server.specs.Machine.{ExactReply, State}
 use Rattle.spec_server.specs.Step.{Begun, Looks, Worked, Ends, Publishes, Concludes, GoesOn}
 use Rattle.spec_server.specs.Step as step
 use Rattle.spec_server.specs.Exchanges.{Exchange, AloneRun, of_session, log_of}
-use Rattle.spec_serve.proofs.Places.{with_same, with_other, logged-append}
+use Rattle.spec_serve.proofs.Places.{logged-append}
 use Rattle.spec_serve.proofs.Stays.{look_stays}
 use Rattle.spec_serve.proofs.Places.{Plays-split}
 use Rattle.spec_serve.proofs.OwnPart.{own_part, other_part}

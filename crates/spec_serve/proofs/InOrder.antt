@@ -1,5 +1,5 @@
 -- Whatever sessions one worker serves, what it reads stays in order.
-use Rattle.std.proofs.Common.{◌≡◌, ℕ, ◌<◌, ◌≤◌, Bool, true, false, List, [], ◌∷◌, ◌++◌, length, map, Option, Some}
+use Rattle.std.proofs.Common.{◌≡◌, ℕ, ◌<◌, ◌≤◌, Bool, true, false, List, [], ◌∷◌, ◌++◌, length, map, Some}
 use Rattle.std.proofs.Common.{sym, ap, ◌∙◌, subst, cond, arith}
 use Rattle.std.specs.List.{filter, flat_map, AllByRecursion}
 use Rattle.spec_board.specs.declared.place.Place.TheVariants as place
@@ -7,7 +7,8 @@ use Rattle.spec_board.specs.declared.read.Read.TheVariants.{Count, NotDone, Seen
 use Rattle.spec_board.specs.Reads.{ExactRead}
 use Rattle.spec_board.specs.Places.{ExactPlace, place_at, Answers, Logged, Plays}
 use Rattle.spec_board.specs.Orders.{InPairs, AreInOrder, published_by}
-use Rattle.spec_serve.proofs.Places.{place_below, with_same, answers_keep, answers_grow}
+use Rattle.spec_board.proofs.SharedPlaces.{with_same, some_same}
+use Rattle.spec_serve.proofs.Places.{place_below, answers_keep, answers_grow}
 
 -- ---- what a later read is, once so many places are claimed
 
@@ -53,9 +54,6 @@ log_from places now last (x ∷ log) n l p =
       log_from places p.0 last log n (omega arith) p.2,
     )
 
-two_places : (p q : ExactPlace) → ◌≡◌ {A = Option ExactPlace} (Some p) (Some q) → p ≡ q
-two_places p q e = cc
-
 first_respects : (places session : ℕ) (now next : List ExactPlace) (r : ExactRead) (k : ℕ) (words : List ℕ) →
     place_at now k ≡ Some (place.Done words) → Answers places now session r next → RespectsDone k r
 first_respects places session now next (Count c) k words at a = let l = place_below now k (place.Done words) at in
@@ -63,12 +61,12 @@ first_respects places session now next (Count c) k words at a = let l = place_be
 first_respects places session now next (Lost c) k words at a = tt
 first_respects places session now next (NotDone j) k words at a =
     λ e. let z : place.Done words ≡ place.Claimed a.0 =
-    two_places (place.Done words) (place.Claimed a.0) (sym at ∙ ap (place_at now) e ∙ a.1) in cc
+    some_same (place.Done words) (place.Claimed a.0) (sym at ∙ ap (place_at now) e ∙ a.1) in cc
 first_respects places session now next (Seen j seen) k words at a = tt
 first_respects places session now next (Claim j) k words at a = tt
 first_respects places session now next (Done j done) k words at a =
     λ e. let z : place.Done words ≡ place.Claimed session =
-    two_places (place.Done words) (place.Claimed session) (sym at ∙ ap (place_at now) e ∙ a.0) in cc
+    some_same (place.Done words) (place.Claimed session) (sym at ∙ ap (place_at now) e ∙ a.0) in cc
 
 log_respects : (places : ℕ) (now last : List ExactPlace) (log : List Logged) (k : ℕ) (words : List ℕ) →
     place_at now k ≡ Some (place.Done words) → Plays places now log last → HoldsOf (RespectsDone k) log

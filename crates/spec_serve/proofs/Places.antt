@@ -1,5 +1,5 @@
 -- What reads and writes leave of the places.
-use Rattle.std.proofs.Common.{◌≡◌, ℕ, zero, suc, ◌<◌, ◌≤◌, Bool, true, false, List, [], ◌∷◌, ◌++◌, length, Option}
+use Rattle.std.proofs.Common.{◌≡◌, ℕ, zero, suc, ◌<◌, ◌≤◌, Bool, true, false, List, [], ◌∷◌, ◌++◌, length}
 use Rattle.std.proofs.Common.{Some, refl, sym, ap, ◌∙◌, subst, ◌⊎◌, inl, inr, nat_eq, eqb-true, ◌+◌, arith}
 use Rattle.std.proofs.lemmas.Bool.{eqb-false}
 use Rattle.std.proofs.lemmas.List.{length_push, map-append}
@@ -7,28 +7,10 @@ use Rattle.spec_board.specs.declared.place.Place.TheVariants.{Claimed, Done}
 use Rattle.spec_board.specs.declared.read.Read.TheVariants as read
 use Rattle.spec_board.specs.Reads.{ExactRead}
 use Rattle.spec_board.specs.Places.{ExactPlace, place_at, with_place, Answers, Logged, logged, Plays}
+use Rattle.spec_board.proofs.SharedPlaces.{place_more, some_same, place_before, length_with, with_same, with_other}
+pub use Rattle.spec_server.proofs.RunLemmas.{Plays-append}
 
 -- ---- one more place
-
-pub place_more : (ps : List ExactPlace) (k : ℕ) (p new : ExactPlace) → place_at ps k ≡ Some p →
-    place_at (ps ++ new ∷ []) k ≡ Some p
-place_more [] k p new h = cc
-place_more (q ∷ ps) zero p new h = h
-place_more (q ∷ ps) (suc k) p new h = place_more ps k p new h
-
-pub place_last : (ps : List ExactPlace) (new : ExactPlace) → place_at (ps ++ new ∷ []) (length ps) ≡ Some new
-place_last [] new = refl
-place_last (p ∷ ps) new = place_last ps new
-
-pub some_same : (p q : ExactPlace) → ◌≡◌ {A = Option ExactPlace} (Some p) (Some q) → p ≡ q
-some_same p q e = cc
-
-pub place_before : (ps : List ExactPlace) (k : ℕ) (p new : ExactPlace) → place_at (ps ++ new ∷ []) k ≡ Some p →
-    (place_at ps k ≡ Some p) ⊎ (p ≡ new)
-place_before [] zero p new h = inr (sym (some_same new p h))
-place_before [] (suc k) p new h = cc
-place_before (q ∷ ps) zero p new h = inl h
-place_before (q ∷ ps) (suc k) p new h = place_before ps k p new h
 
 pub place_some : (ps : List ExactPlace) (k : ℕ) → k < length ps → (p : ExactPlace) × (place_at ps k ≡ Some p)
 place_some [] k h = absurd (omega arith)
@@ -39,27 +21,6 @@ pub place_below : (ps : List ExactPlace) (k : ℕ) (p : ExactPlace) → place_at
 place_below [] k p h = cc
 place_below (q ∷ ps) zero p h = omega arith
 place_below (q ∷ ps) (suc k) p h = let l = place_below ps k p h in omega arith
-
--- ---- another place at k
-
-length_with : (ps : List ExactPlace) (k : ℕ) (new : ExactPlace) → length (with_place ps k new) ≡ length ps
-length_with [] k new = refl
-length_with (p ∷ ps) zero new = refl
-length_with (p ∷ ps) (suc k) new = ap suc (length_with ps k new)
-
-pub with_same : (ps : List ExactPlace) (k : ℕ) (old new : ExactPlace) → place_at ps k ≡ Some old →
-    place_at (with_place ps k new) k ≡ Some new
-with_same [] k old new h = cc
-with_same (p ∷ ps) zero old new h = refl
-with_same (p ∷ ps) (suc k) old new h = with_same ps k old new h
-
-pub with_other : (ps : List ExactPlace) (j k : ℕ) (new : ExactPlace) → (j ≡ k → ⊥) →
-    place_at (with_place ps j new) k ≡ place_at ps k
-with_other [] j k new h = refl
-with_other (p ∷ ps) zero zero new h = absurd (h refl)
-with_other (p ∷ ps) zero (suc k) new h = refl
-with_other (p ∷ ps) (suc j) zero new h = refl
-with_other (p ∷ ps) (suc j) (suc k) new h = with_other ps j k new (λ e. h (ap suc e))
 
 -- ---- reads
 
@@ -136,11 +97,6 @@ module _ (places : ℕ) (session : ℕ) where
 pub logged-append : (session : ℕ) (xs ys : List ExactRead) →
     logged session (xs ++ ys) ≡ logged session xs ++ logged session ys
 logged-append session xs ys = map-append (λ (r : ExactRead). record { session = session; read = r }) xs ys
-
-pub Plays-append : (places : ℕ) (a b c : List ExactPlace) (xs ys : List Logged) → Plays places a xs b →
-    Plays places b ys c → Plays places a (xs ++ ys) c
-Plays-append places a b c [] ys p q = subst (λ ps. Plays places ps ys c) p q
-Plays-append places a b c (x ∷ xs) ys p q = (p.0, p.1, Plays-append places p.0 b c xs ys p.2 q)
 
 pub plays_keep_done : (places : ℕ) (now last : List ExactPlace) (log : List Logged) (k : ℕ) (words : List ℕ) →
     Plays places now log last → place_at now k ≡ Some (Done words) → place_at last k ≡ Some (Done words)

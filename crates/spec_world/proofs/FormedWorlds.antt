@@ -11,6 +11,7 @@ use Rattle.spec_board.specs.declared.read.Put.TheVariants.{Full, Raced}
 use Rattle.spec_board.specs.declared.read.Read.TheVariants as read
 use Rattle.spec_board.specs.Reads.{Words, ExactRead, Looked, has_shape, shown}
 use Rattle.spec_board.specs.Places.{ExactPlace, place_at, with_place}
+use Rattle.spec_board.proofs.SharedPlaces.{some_same, place_before, with_same, with_other}
 use Rattle.spec_server.specs.declared.answer.How.{How}
 use Rattle.spec_server.specs.declared.answer.Publication.TheVariants as publication
 use Rattle.spec_server.specs.Machine.{ExactAsk, ExactReply, IsKeptAsk, State}
@@ -18,7 +19,6 @@ use Rattle.spec_server.specs.Step.{Begun, Answers, Looks, Begins, Pending, Worke
 use Rattle.spec_server.specs.Step.{answered, with_answer, how_by, words_of_end, worked_with, Works}
 use Rattle.spec_server.specs.Exchanges.{Exchange}
 use Rattle.spec_server.proofs.Sessions.{step_keeps}
-use Rattle.spec_serve.proofs.Places.{place_before, with_same, with_other, some_same}
 use Rattle.spec_world.specs.declared.event.Act.TheVariants as act
 use Rattle.spec_world.specs.World.{Server, ExactAct, ExactEvent, ExactEnd, Stage, Idle, Counts, Sees, Solving, Puts}
 use Rattle.spec_world.specs.World.{Claims, Writes, Session, World, opening_world, is_enabled, Left, begun_left, looking}

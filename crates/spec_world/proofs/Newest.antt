@@ -7,8 +7,9 @@ use Rattle.spec_board.specs.declared.read.Found.{Found}
 use Rattle.spec_board.specs.declared.read.Read.TheVariants.{Count, NotDone, Seen, Claim, Lost, Done}
 use Rattle.spec_board.specs.Reads.{Words, ExactRead, Looked, front, has_shape, SeenBy, SeesDown, LookReads}
 use Rattle.spec_board.specs.Places.{ExactPlace, place_at, IsShown, Answers, Logged, Plays}
+use Rattle.spec_board.proofs.SharedPlaces.{some_same}
 use Rattle.spec_text.specs.Words.{same}
-use Rattle.spec_serve.proofs.Places.{place_below, some_same, answers_keep}
+use Rattle.spec_serve.proofs.Places.{place_below, answers_keep}
 use Rattle.spec_world.specs.Sound.{reads_in}
 use Rattle.spec_world.specs.Newest.{FindsFrom}
 

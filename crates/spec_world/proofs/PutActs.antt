@@ -9,11 +9,11 @@ use Rattle.spec_board.specs.declared.read.Put.TheVariants.{Published, Full, Race
 use Rattle.spec_board.specs.declared.read.Read.TheVariants as read
 use Rattle.spec_board.specs.Reads.{ExactRead, PutReads}
 use Rattle.spec_board.specs.Places.{ExactPlace, place_at, with_place}
+use Rattle.spec_board.proofs.SharedPlaces.{place_last}
 use Rattle.spec_server.specs.Machine.{ExactReply, State, opening}
 use Rattle.spec_server.specs.Step.{Looks, Pending, Publishes, answered, after_put}
 use Rattle.spec_server.specs.Step.{AloneStep}
 use Rattle.spec_server.specs.Exchanges.{Exchange, AloneRun}
-use Rattle.spec_serve.proofs.Places.{place_last}
 use Rattle.spec_world.specs.declared.event.Act.TheVariants as act
 use Rattle.spec_world.specs.World.{Server, Stage, Idle, Puts, Claims, Writes}
 use Rattle.spec_world.specs.World.{Session, solve}

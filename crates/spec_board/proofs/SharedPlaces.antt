@@ -1,0 +1,45 @@
+-- The places with one more, and with another one at a place.
+use Rattle.std.proofs.Common.{◌≡◌, ℕ, zero, suc, List, [], ◌∷◌, ◌++◌, Some, length, refl, Option, sym, ◌⊎◌, inl, inr}
+use Rattle.std.proofs.Common.{ap}
+use Rattle.spec_board.specs.Places.{ExactPlace, place_at, with_place}
+
+-- ---- one more place
+pub place_more : (ps : List ExactPlace) (k : ℕ) (p new : ExactPlace) → place_at ps k ≡ Some p →
+    place_at (ps ++ new ∷ []) k ≡ Some p
+place_more [] k p new h = cc
+place_more (q ∷ ps) zero p new h = h
+place_more (q ∷ ps) (suc k) p new h = place_more ps k p new h
+
+pub place_last : (ps : List ExactPlace) (new : ExactPlace) → place_at (ps ++ new ∷ []) (length ps) ≡ Some new
+place_last [] new = refl
+place_last (p ∷ ps) new = place_last ps new
+
+pub some_same : (p q : ExactPlace) → ◌≡◌ {A = Option ExactPlace} (Some p) (Some q) → p ≡ q
+some_same p q e = cc
+
+pub place_before : (ps : List ExactPlace) (k : ℕ) (p new : ExactPlace) → place_at (ps ++ new ∷ []) k ≡ Some p →
+    (place_at ps k ≡ Some p) ⊎ (p ≡ new)
+place_before [] zero p new h = inr (sym (some_same new p h))
+place_before [] (suc k) p new h = cc
+place_before (q ∷ ps) zero p new h = inl h
+place_before (q ∷ ps) (suc k) p new h = place_before ps k p new h
+
+-- ---- another place at k
+pub length_with : (ps : List ExactPlace) (k : ℕ) (new : ExactPlace) → length (with_place ps k new) ≡ length ps
+length_with [] k new = refl
+length_with (p ∷ ps) zero new = refl
+length_with (p ∷ ps) (suc k) new = ap suc (length_with ps k new)
+
+pub with_same : (ps : List ExactPlace) (k : ℕ) (old new : ExactPlace) → place_at ps k ≡ Some old →
+    place_at (with_place ps k new) k ≡ Some new
+with_same [] k old new h = cc
+with_same (p ∷ ps) zero old new h = refl
+with_same (p ∷ ps) (suc k) old new h = with_same ps k old new h
+
+pub with_other : (ps : List ExactPlace) (j k : ℕ) (new : ExactPlace) → (j ≡ k → ⊥) →
+    place_at (with_place ps j new) k ≡ place_at ps k
+with_other [] j k new h = refl
+with_other (p ∷ ps) zero zero new h = absurd (h refl)
+with_other (p ∷ ps) zero (suc k) new h = refl
+with_other (p ∷ ps) (suc j) zero new h = refl
+with_other (p ∷ ps) (suc j) (suc k) new h = with_other ps j k new (λ e. h (ap suc e))
