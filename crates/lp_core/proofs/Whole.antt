@@ -2,7 +2,7 @@
 use Rattle.std.proofs.Common.{◌≡◌, ℕ, ◌<◌, ◌≤◌, ◌-◌, Bool, true, false, List, length, refl, sym, ap, ◌∙◌, subst}
 use Rattle.std.proofs.Common.{nat_eq, eqb-true, cond, arith}
 use Rattle.std.specs.Prelude.{get_or, set, ◌&&◌, nat_lt, nat_le}
-use Rattle.std.proofs.lemmas.Bool.{eqb-false, lt-ltb, le-leb, ltb-true, leb-true}
+use Rattle.std.proofs.lemmas.Bool.{eqb-false, lt-ltb, le-leb, ltb-true, leb-true, and_from, and_parts}
 use Rattle.std.proofs.Math.Bool.{and-false}
 use Rattle.std.proofs.lemmas.List.{length-set, get_or-set_same, get_or-set_other, get_or_read, set-get_or}
 use Rattle.spec_board.specs.Places.{ExactPlace}
@@ -12,26 +12,15 @@ use Rattle.spec_world.specs.World.{Server}
 use Rattle.spec_world.proofs.Happening.{updated, after_act, act_taken}
 use Rattle.lp_core.specs.Core.{Kept, opening_kept, Keeps, Acted, ActBy, ActFits, Core, server_of, Shows, StepFits}
 
-and_both : (a b : Bool) → a ≡ true → b ≡ true → a && b ≡ true
-and_both a b p q = ap (λ t. t && b) p ∙ q
-
-and_left : (a b : Bool) → a && b ≡ true → a ≡ true
-and_left true b h = refl
-and_left false b h = h
-
-and_right : (a b : Bool) → a && b ≡ true → b ≡ true
-and_right true b h = h
-and_right false b h = absurd (let z : false ≡ true = h in cc)
-
 -- a session that there is has a number from 1 on
 there : (me n : ℕ) → 0 < me → me ≤ n → nat_lt 0 me && nat_le me n ≡ true
-there me n p q = and_both (nat_lt 0 me) (nat_le me n) (lt-ltb 0 me p) (le-leb me n q)
+there me n p q = and_from (nat_lt 0 me) (nat_le me n) (lt-ltb 0 me p) (le-leb me n q)
 
 pub first_part : (me n : ℕ) → nat_lt 0 me && nat_le me n ≡ true → 0 < me
-first_part me n h = ltb-true 0 me (and_left (nat_lt 0 me) (nat_le me n) h)
+first_part me n h = ltb-true 0 me (and_parts (nat_lt 0 me) (nat_le me n) h).0
 
 pub last_part : (me n : ℕ) → nat_lt 0 me && nat_le me n ≡ true → me ≤ n
-last_part me n h = leb-true me n (and_right (nat_lt 0 me) (nat_le me n) h)
+last_part me n h = leb-true me n (and_parts (nat_lt 0 me) (nat_le me n) h).1
 
 module _ (held : List Kept) (places : List ExactPlace) (limit me : ℕ) (from : 0 < me) (to : me ≤ length held)
     (kept : Kept) (is : kept ≡ get_or held (me - 1) kept) where
@@ -97,7 +86,7 @@ module _ (held : List Kept) (places : List ExactPlace) (limit me : ℕ) (from : 
   by_act w a end new next shows true e t =
       let event : ExactEvent = record { session = me; act = a } in
       let enabled : is_enabled server w event ≡ true =
-      and_both (has_session server me) (fits_stage (w.sessions me).stage a) (there me (length held) from to) e in (
+      and_from (has_session server me) (fits_stage (w.sessions me).stage a) (there me (length held) from to) e in (
         after_act w event t.left,
         subst (λ b. StepBy b server w event end (after_act w event t.left)) (sym enabled)
             (subst (λ n. StepBy true server w event n (after_act w event t.left)) (sym t.end_so)

@@ -1,7 +1,6 @@
 -- An event that is enabled can happen.
 use Rattle.std.proofs.Common.{◌≡◌, ℕ, Bool, true, false, List, [], ◌∷◌, ◌++◌, refl, ap, inl, inr, nat_eq, cond}
-use Rattle.std.specs.Prelude.{◌&&◌}
-use Rattle.std.proofs.lemmas.Bool.{eq-eqb, ne_eqb}
+use Rattle.std.proofs.lemmas.Bool.{eq-eqb, ne_eqb, and_parts}
 use Rattle.spec_board.specs.Places.{ExactPlace, place_at}
 use Rattle.spec_server.specs.declared.asks.Reply.TheVariants as reply
 use Rattle.spec_server.specs.Machine.{due}
@@ -56,16 +55,12 @@ may_leave server me now s (Claims pending c reads) act.Claim h = (claimed_left m
 may_leave server me now s (Writes pending k reads) act.Done h = (done_left me now s pending k reads, refl)
 may_leave server me now s stage other h = absurd (let z : false ≡ true = h in cc)
 
-fits_of_both : (a b : Bool) → a && b ≡ true → b ≡ true
-fits_of_both true b h = h
-fits_of_both false b h = absurd (let z : false ≡ true = h in cc)
-
 happens_by : (enabled : Bool) (server : Server) (old : World) (event : ExactEvent) →
     is_enabled server old event ≡ enabled → (end : ExactEnd) × (new : World) × StepBy enabled server old event end new
 happens_by true server old event h =
     let l = may_leave server event.session old.places (old.sessions event.session)
     (old.sessions event.session).stage event.act
-    (fits_of_both (has_session server event.session) (fits_stage (old.sessions event.session).stage event.act) h) in
+    (and_parts (has_session server event.session) (fits_stage (old.sessions event.session).stage event.act) h).1 in
     (end_of event.session l.0.replied, after_act old event l.0, act_taken server old event l.0 l.1)
 happens_by false server old event h = (Not, old, (refl, refl))
 

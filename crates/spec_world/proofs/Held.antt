@@ -1,7 +1,6 @@
 -- Worlds in which one session moves and the others stay.
-use Rattle.std.proofs.Common.{◌≡◌, ℕ, Bool, true, List, [], ◌∷◌, ◌++◌, map, refl, sym, ap, ◌∙◌, subst, cond}
-use Rattle.std.specs.Prelude.{◌&&◌}
-use Rattle.std.proofs.lemmas.Bool.{eq-eqb, ne_eqb}
+use Rattle.std.proofs.Common.{◌≡◌, ℕ, true, List, [], ◌∷◌, ◌++◌, map, refl, sym, ap, ◌∙◌, subst, cond}
+use Rattle.std.proofs.lemmas.Bool.{eq-eqb, ne_eqb, and_from}
 use Rattle.std.proofs.lemmas.List.{append_assoc, append-nil}
 use Rattle.spec_board.specs.Places.{ExactPlace}
 use Rattle.spec_world.specs.World.{Server, ExactAct, ExactEvent, ExactEnd, Session, World, fits_stage, has_session}
@@ -25,9 +24,6 @@ pub holds_other : (old : World) (me : ℕ) (s : Session) (other : ℕ) → (me �
     updated old.sessions me s other ≡ old.sessions other
 holds_other old me s other apart = ap (λ t. cond t s (old.sessions other)) (ne_eqb me other apart)
 
-both_true : (a b : Bool) → a ≡ true → b ≡ true → a && b ≡ true
-both_true a b p q = ap (λ t. t && b) p ∙ q
-
 step_taken : (server : Server) (old : World) (event : ExactEvent) (end : ExactEnd) (new : World) →
     is_enabled server old event ≡ true → Takes server old event end new → WorldStep server old event end new
 step_taken server old event end new e t = subst (λ b. StepBy b server old event end new) (sym e) t
@@ -41,7 +37,7 @@ module _ (server : Server) (old : World) (me : ℕ) (there : has_session server 
   first_act a left fits leaves =
       step_taken server old (by_session me a) (end_of me left.replied)
       (holding old me left.session left.places (by_session me a ∷ []))
-      (both_true (has_session server me) (fits_stage (old.sessions me).stage a) there fits)
+      (and_from (has_session server me) (fits_stage (old.sessions me).stage a) there fits)
       (record {
         left = left;
         leaves = leaves;
@@ -61,7 +57,7 @@ module _ (server : Server) (old : World) (me : ℕ) (there : has_session server 
       let own : updated old.sessions me s me ≡ s = holds_own old me s in
       step_taken server (holding old me s now more) (by_session me a) (end_of me left.replied)
       (holding old me left.session left.places (more ++ by_session me a ∷ []))
-      (both_true (has_session server me) (fits_stage (updated old.sessions me s me).stage a) there
+      (and_from (has_session server me) (fits_stage (updated old.sessions me s me).stage a) there
       (ap (λ (s : Session). fits_stage s.stage a) own ∙ fits))
       (record {
         left = left;
