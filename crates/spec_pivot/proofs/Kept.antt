@@ -14,21 +14,19 @@ use Rattle.spec_pivot.specs.Simplex.{sign, Bounds, CanMove, Stands, Table, ray, 
 use Rattle.spec_pivot.specs.Simplex.{after_pivot, after_flip, Enters, Pivots, Flips, Exchanges, Crosses}
 use Rattle.spec_pivot.proofs.Ray.{ray_basic}
 use Rattle.spec_pivot.proofs.Moves as any
+pub use Rattle.spec_pivot.proofs.Moves.{outside}
 
 pub not_basic : (way : Way) (s : Status) → CanMove way s → ¬ (s ≡ Basic)
 not_basic Up s c e = subst (CanMove Up) e c
 not_basic Down s c e = subst (CanMove Down) e c
 
 module _ (m n : ℕ) (f : Matrix) (cost : ℕ → ℚ) (b : Bounds) (t : Table) (g : IsTableau m n f cost b t) where
-  pub outside : (k : ℕ) → ¬ (t.status k ≡ Basic) → (i : ℕ) → i < m → ¬ (t.basic i ≡ k)
-  outside = any.outside m n f cost b t g
-
   module _ (way : Way) (j : ℕ) (e : Enters n b t way j) where
     pub enters_nonbasic : ¬ (t.status j ≡ Basic)
     enters_nonbasic = not_basic way (t.status j) e.eligible.status
 
     pub j_outside : (i : ℕ) → i < m → ¬ (t.basic i ≡ j)
-    j_outside = outside j enters_nonbasic
+    j_outside = outside m n f cost b t g j enters_nonbasic
 
     pub cost_moved : (theta : ℚ) →
         sum_below n (λ k. cost k *ℚ moved m t way j theta k)
