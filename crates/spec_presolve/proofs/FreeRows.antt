@@ -1,4 +1,5 @@
 -- A model without its free rows: one free row after the other goes, the last first.
+use mathlib.Core.Logic.Iff.{trans}
 use Rattle.std.proofs.Common.{◌≡◌, ◌↔◌, ℕ, zero, suc, ◌+◌, ◌<◌, ◌≤◌, Bool, true, false, not, cond}
 use Rattle.std.proofs.Common.{List, [], ◌∷◌, length, get_or, refl, sym, ap, ◌∙◌, subst, arith, ⊎_elim}
 use Rattle.std.specs.List.{filter, insert, remove}
@@ -71,23 +72,20 @@ all_gone P same less m = along P same less (height m) m (omega arith) (λ a p q.
 
 -- ---- what is true
 
-both : {A B C : Type 0} → A ↔ B → B ↔ C → A ↔ C
-both f g = (λ a. g.0 (f.0 a), λ c. f.1 (g.1 c))
-
 pub optimal_without : (m : Model) (v : ℚ) → IsOptimal m v ↔ IsOptimal (without_free_rows m) v
 optimal_without m v =
     all_gone (λ m n. IsOptimal m v ↔ IsOptimal n v) (λ m none. (λ h. h, λ h. h))
-    (λ m n i l e h. both (optimal_same m i l e v) h) m
+    (λ m n i l e h. trans (optimal_same m i l e v) h) m
 
 pub infeasible_without : (m : Model) → IsInfeasible m ↔ IsInfeasible (without_free_rows m)
 infeasible_without m =
     all_gone (λ m n. IsInfeasible m ↔ IsInfeasible n) (λ m none. (λ h. h, λ h. h))
-    (λ m n i l e h. both (infeasible_same m i l e) h) m
+    (λ m n i l e h. trans (infeasible_same m i l e) h) m
 
 pub unbounded_without : (m : Model) → IsUnbounded m ↔ IsUnbounded (without_free_rows m)
 unbounded_without m =
     all_gone (λ m n. IsUnbounded m ↔ IsUnbounded n) (λ m none. (λ h. h, λ h. h))
-    (λ m n i l e h. both (unbounded_same m i l e) h) m
+    (λ m n i l e h. trans (unbounded_same m i l e) h) m
 
 value_without : (m : Model) (z : List ℚ) → value_of (without_free_rows m) z ≡ value_of m z
 value_without m z =

@@ -1,4 +1,5 @@
 -- The ends of a right side: between them each basic value is within its bounds, and nowhere else.
+use mathlib.Core.Logic.Iff.{trans}
 use Rattle.std.proofs.Common.{◌≡◌, ◌≢◌, ◌↔◌, ℕ, suc, ◌<◌, Option, Some, None, IfSome, Ok, Bool, true, false}
 use Rattle.std.proofs.Common.{not, ◌&&◌, cond, refl, sym, ap, ◌∙◌, subst, subst₂, arith}
 use Rattle.std.proofs.lemmas.Bool.{and_parts, not-true, not-false}
@@ -110,16 +111,13 @@ number_is limit b v a bound upper e y h =
     (sym (sum_ok limit b p.0 q.0 q.1 ∙ ap (λ z. b +ℚ z) (quotient_ok limit o.0 a p.0 p.1
     ∙ ap (λ z. z *ℚ inverse a) (difference_ok limit v bound o.0 o.1)))) ∙ q.2
 
-both_ways : {P Q R : Type 0} → P ↔ Q → Q ↔ R → P ↔ R
-both_ways f g = (λ p. g.0 (f.0 p), λ r. f.1 (g.1 r))
-
 lower_ok : (limit : Option ℕ) (b v a : ℚ) (bound : Option ℚ) (e y : Ends ℚ) → a ≢ 0ℚ →
     bound_ends limit b v a bound (lt_ℚ 0ℚ a) e ≡ Ok y →
     Cuts e (λ x. IfSome bound (λ l. l ≤ℚ carried_value b v a x)) y
 lower_ok limit b v a None e y n h = cuts_none e y _ (λ x. tt) h
 lower_ok limit b v a (Some l) e y n h =
     cuts_as e y (Meets (lt_ℚ 0ℚ a) (b +ℚ (v -ℚ l) *ℚ inverse a)) (λ x. l ≤ℚ carried_value b v a x)
-    (λ x. both_ways (meets_above a (b +ℚ (v -ℚ l) *ℚ inverse a) n x)
+    (λ x. trans (meets_above a (b +ℚ (v -ℚ l) *ℚ inverse a) n x)
     (subst (λ z. (0ℚ ≤ℚ z) ↔ (l ≤ℚ carried_value b v a x)) (sym (carried_is b v a l x n))
     (let o = up_from (carried_value b v a x) l in (o.1, o.0))))
     (at_side_ok limit (lt_ℚ 0ℚ a) (b +ℚ (v -ℚ l) *ℚ inverse a) e y (number_is limit b v a l (lt_ℚ 0ℚ a) e y h))
@@ -130,7 +128,7 @@ upper_ok : (limit : Option ℕ) (b v a : ℚ) (bound : Option ℚ) (e y : Ends �
 upper_ok limit b v a None e y n h = cuts_none e y _ (λ x. tt) h
 upper_ok limit b v a (Some u) e y n h =
     cuts_as e y (Meets (not (lt_ℚ 0ℚ a)) (b +ℚ (v -ℚ u) *ℚ inverse a)) (λ x. carried_value b v a x ≤ℚ u)
-    (λ x. both_ways (meets_below a (b +ℚ (v -ℚ u) *ℚ inverse a) n x)
+    (λ x. trans (meets_below a (b +ℚ (v -ℚ u) *ℚ inverse a) n x)
     (subst (λ z. (z ≤ℚ 0ℚ) ↔ (carried_value b v a x ≤ℚ u)) (sym (carried_is b v a u x n))
     (let o = down_from (carried_value b v a x) u in (o.1, o.0))))
     (at_side_ok limit (not (lt_ℚ 0ℚ a)) (b +ℚ (v -ℚ u) *ℚ inverse a) e y
