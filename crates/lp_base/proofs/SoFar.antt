@@ -266,6 +266,3 @@ stays p q = (q.0 ∙ p.0, q.1 ∙ p.1)
 pub run_with : {old new : LinesState} {before after : Part} {found : Bool} (is : Bool) →
     TakesRun old new before after found → found ≡ is → TakesRun old new before after is
 run_with {old} {new} {before} {after} is run same = subst (TakesRun old new before after) same run
-
-pub not_both : {b : Bool} → b ≡ false → b ≡ true → ⊥
-not_both f t = cc

@@ -2,8 +2,9 @@
 use Rattle.std.proofs.Common.{◌∙◌, sym, refl, true, false, arith}
 use Rattle.std.proofs.lemmas.Result.{err_from_is_err_and}
 use Rattle.std.proofs.Math.Nat.{le_trans}
+use Rattle.std.proofs.lemmas.Bool.{both_ways}
 use Rattle.lp_base.proofs.SoFar.{SoFar-read, SoFar-run, gives_ended, gives_over, gives_last, gives_no_memory}
-use Rattle.lp_base.proofs.SoFar.{gives_err, breaks_off, still_ahead, stays, has_some, has_none, run_with, not_both}
+use Rattle.lp_base.proofs.SoFar.{gives_err, breaks_off, still_ahead, stays, has_some, has_none, run_with}
 use Rattle.lp_base.proofs.lines.Lines.next.Goals as goal
 
 pub returns-in_err-has_more-clause-held : goal.returns-in_err-has_more-clause-held
@@ -62,7 +63,7 @@ loop-line-preserved g c =
     record {
       read = SoFar-run s run;
       later = omega (arith, c.has_more.ensures.cause.later);
-      idle = λ e. absurd (not_both some.1 (c.loop-line.invariant.read.ended ∙ e));
+      idle = λ e. absurd (both_ways _ some.1 (c.loop-line.invariant.read.ended ∙ e));
       held =
           λ has. stays (c.loop-line.invariant.held has)
           (c.has_more.ensures.held (still_ahead c.loop-line.invariant.read has));
@@ -114,7 +115,7 @@ returns-clause-beside g c = c.has_more.ensures.beside ∙ c.loop-line.invariant.
 
 pub returns-in_err-has_more-clause-ended : goal.returns-in_err-has_more-clause-ended
 returns-in_err-has_more-clause-ended g c =
-    λ e. absurd (not_both c.in_err-has_more.ensures.moved.2 (c.loop-line.invariant.read.ended ∙ e))
+    λ e. absurd (both_ways _ c.in_err-has_more.ensures.moved.2 (c.loop-line.invariant.read.ended ∙ e))
 
 pub returns-in_err-has_more-clause-read : goal.returns-in_err-has_more-clause-read
 returns-in_err-has_more-clause-read g c =
@@ -122,15 +123,15 @@ returns-in_err-has_more-clause-read g c =
 
 pub returns-then-is_full-clause-ended : goal.returns-then-is_full-clause-ended
 returns-then-is_full-clause-ended g c =
-    λ e. absurd (not_both (has_some _ _ _ _ _ c.if-branch.true c.in_ok-has_more.ensures.moved.4).1
+    λ e. absurd (both_ways _ (has_some _ _ _ _ _ c.if-branch.true c.in_ok-has_more.ensures.moved.4).1
     (c.loop-line.invariant.read.ended ∙ e))
 
 pub returns-in_err-take_run-clause-ended : goal.returns-in_err-take_run-clause-ended
 returns-in_err-take_run-clause-ended g c =
-    λ e. absurd (not_both (has_some _ _ _ _ _ c.if-branch.true c.in_ok-has_more.ensures.moved.4).1
+    λ e. absurd (both_ways _ (has_some _ _ _ _ _ c.if-branch.true c.in_ok-has_more.ensures.moved.4).1
     (c.loop-line.invariant.read.ended ∙ e))
 
 pub returns-then-branch-2-clause-ended : goal.returns-then-branch-2-clause-ended
 returns-then-branch-2-clause-ended g c =
-    λ e. absurd (not_both (has_some _ _ _ _ _ c.if-branch.true c.in_ok-has_more.ensures.moved.4).1
+    λ e. absurd (both_ways _ (has_some _ _ _ _ _ c.if-branch.true c.in_ok-has_more.ensures.moved.4).1
     (c.loop-line.invariant.read.ended ∙ e))
