@@ -10,7 +10,7 @@ use Rattle.spec_server.specs.Step.{AloneStep}
 use Rattle.spec_server.specs.Exchanges.{AloneRun, of_session, log_of}
 use Rattle.spec_server.specs.Output.{reply_lines, script_out}
 use Rattle.spec_server.proofs.RunLemmas.{updated}
-use Rattle.lp_workers.proofs.OneMore.{exchange_of}
+use Rattle.lp_script.proofs.OneMore.{exchange_of}
 
 -- a step of the session that is asked
 abbrev pub StepAt : ℕ → (ℕ → State) → Asked ExactAsk → List ExactRead → ExactReply → State → Type 0

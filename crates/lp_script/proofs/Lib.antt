@@ -6,3 +6,6 @@ pub mod Moving
 pub mod Turns
 pub mod Reading
 pub mod Replying
+pub mod OneMore
+pub mod Dealing
+pub mod InAll

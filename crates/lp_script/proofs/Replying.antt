@@ -18,7 +18,7 @@ use Rattle.spec_server.specs.Script.{Ended, Cut}
 use Rattle.spec_serve.specs.Workers.{RunsBy}
 use Rattle.lp_base.specs.Beside.{Takes}
 use Rattle.lp_base.specs.Taking.{ReadsFront, ReadsPart, ReadsLittleMore}
-use Rattle.lp_workers.specs.AnswersAll.{AnswersAll}
+use Rattle.lp_script.specs.AnswersAll.{AnswersAll}
 use Rattle.lp_line.specs.declared.halt.Halt.{Halt}
 use Rattle.lp_line.specs.declared.halt.Halt.TheVariants as halts
 use Rattle.lp_script.specs.Replies.{lines_of_reply, replies_out}

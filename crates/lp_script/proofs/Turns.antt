@@ -29,7 +29,7 @@ use Rattle.lp_script.specs.Answer.{Together, opening_with, state_at, Answers, An
 use Rattle.lp_script.specs.Run.{Moves, EndsInput, EndsSo}
 use Rattle.lp_line.specs.Halt.{halt_of}
 use Rattle.spec_server.specs.Streams.{streams}
-use Rattle.lp_workers.proofs.OneMore.{exchange_of, one_run}
+use Rattle.lp_script.proofs.OneMore.{exchange_of, one_run}
 use Rattle.lp_script.proofs.Answering.{one_run_to, one_log, one_line}
 use Rattle.lp_script.proofs.SoFar.{IsSoFar, runs_by_one, pending_more, so_far_more, so_far_none}
 use Rattle.lp_script.proofs.Moving.{whole_front, moves_in_part, moves_broken_off, moves_all, moves_past}

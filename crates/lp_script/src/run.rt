@@ -4,11 +4,11 @@ ghost use Rattle.lp_base.specs.Causes.{Rose};
 ghost use Rattle.lp_script.specs.Run.{IsPlaces, IsWorkers, Runs};
 ghost use Rattle.spec_server.specs.Streams.{streams};
 
+use crate::gate::Gate;
 use crate::in_order::run_in_order;
 use crate::side_by_side::run_side_by_side;
 use lp_base::{Sink, Source};
 use lp_line::Halt;
-use lp_workers::Gate;
 use std::alloc::Global;
 use std::sync::Wait;
 use std::thread::Threads;

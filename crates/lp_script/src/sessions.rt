@@ -10,7 +10,7 @@ use std::alloc::{AllocError, Global};
 use std::marker::Model;
 
 /// How many sessions there are, numbered from 0. Session 0 stands for lines that name none.
-const SESSIONS: usize = 65;
+pub(crate) const SESSIONS: usize = 65;
 
 /// The sessions, by their numbers, and the places that they alone read and write.
 pub struct Sessions {

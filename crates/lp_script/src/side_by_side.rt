@@ -8,10 +8,11 @@ ghost use Rattle.lp_script.specs.Run.{IsPlaces, IsWorkers, Runs};
 ghost use Rattle.spec_server.specs.Streams.{streams};
 
 use crate::answer::write_reply;
+use crate::answer_all::answer_all;
+use crate::gate::Gate;
 use crate::script::{Script, read_script};
 use lp_base::{Sink, Source};
 use lp_line::{Asked, Halt, Reply};
-use lp_workers::{Gate, answer_all};
 use std::alloc::{AllocError, Global};
 use std::sync::Wait;
 use std::thread::Threads;

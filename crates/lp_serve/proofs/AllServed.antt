@@ -4,7 +4,6 @@ use Rattle.std.proofs.Common.{false}
 use Rattle.std.proofs.Common.{refl, sym, ap, ◌∙◌, subst, arith}
 use Rattle.std.specs.Prelude.{◌||◌}
 use Rattle.std.specs.List.{All, AllByRecursion, flat_map, list_any}
-use Rattle.std.proofs.lemmas.List.Elements.{All-append, All-nil, All-from_recursion}
 use Rattle.spec_board.specs.Orders.{InPairs, AreInOrder}
 use Rattle.spec_serve.specs.Links.{exchanges_of_links}
 use Rattle.spec_serve.proofs.Apart.{links_run_alone, links_reads}
@@ -17,28 +16,30 @@ use Rattle.basis_board.specs.Orderly.{IsOrderly, IsWhole}
 use Rattle.basis_board.specs.PassReads.{reads_of}
 use Rattle.lp_base.specs.Causes.{Rose}
 use Rattle.lp_base.specs.Listening.{ListenerState}
-use Rattle.lp_workers.specs.Dealt.{reads_of_all}
-use Rattle.lp_serve.specs.declared.worker.Worker.{Worker}
-use Rattle.lp_serve.specs.Gathering.{passes_of, nets_of, shares_of, IsOf}
+use Rattle.lp_workers.specs.declared.hiring.Worker.{Worker}
+use Rattle.lp_workers.specs.Passes.{IsFresh, IsUsed, reads_of_all}
+use Rattle.lp_workers.specs.Turns.{jobs_of, passes_of}
+use Rattle.lp_serve.specs.declared.desk.Desk.{Desk}
 use Rattle.lp_serve.specs.Serving.{Served, Listened, ends_of, exchanges_of, no_listener}
-use Rattle.lp_serve.specs.Workers.{IsReady, ServedLinks, HasServed, ends_in}
+use Rattle.lp_serve.specs.Desks.{ServedLinks, HasServed, ends_in, nets_of}
 use Rattle.lp_serve.proofs.LinkRuns.{exchanges_in, links_read, links_orderly, links_run}
 use Rattle.lp_serve.proofs.Noting.{noted_all}
 
 module _ {N : Type 0} (state : N → ListenerState) (board : Board) (each : ℕ) where
   -- the links of each worker, with what it had before its turn and after it
-  abbrev pub AreServed : List (Worker N) → List (Worker N) → List (List Served) → Type 0
+  abbrev pub AreServed : List (Worker (Desk N)) → List (Worker (Desk N)) → List (List Served) → Type 0
   AreServed [] [] [] = Unit {0}
   AreServed (old ∷ olds) (new ∷ news) (links ∷ served) =
-      IsReady board each old × ServedLinks state board each old new links × AreServed olds news served
+      IsFresh board old.pass × ServedLinks state board each old new links × AreServed olds news served
   AreServed olds news served = ⊥
 
-  abbrev pub ServesEach : List (Worker N) → List (Worker N) → Type 0
+  abbrev pub ServesEach : List (Worker (Desk N)) → List (Worker (Desk N)) → Type 0
   ServesEach olds news =
-      (i : ℕ) (d : Worker N) → i < length olds → HasServed state board each (get_or olds i d) (get_or news i d)
+      (i : ℕ) (d : Worker (Desk N)) → i < length olds → HasServed state board each (get_or olds i d) (get_or news i d)
 
-  pub all_served : (olds news : List (Worker N)) → length news ≡ length olds → All (IsReady board each) olds →
-      ServesEach olds news → (served : List (List Served)) × AreServed olds news served
+  pub all_served : (olds news : List (Worker (Desk N))) → length news ≡ length olds →
+      All (λ (w : Worker (Desk N)). IsFresh board w.pass) olds → ServesEach olds news →
+      (served : List (List Served)) × AreServed olds news served
   all_served [] [] same ready serves = ([], tt)
   all_served [] (new ∷ news) same ready serves = absurd (omega (arith, same))
   all_served (old ∷ olds) [] same ready serves = absurd (omega (arith, same))
@@ -49,11 +50,11 @@ module _ {N : Type 0} (state : N → ListenerState) (board : Board) (each : ℕ)
       (first.links ∷ rest.0, (ready 0 old (omega arith), first.served, rest.1))
 
   -- what holds of none, and of one more whose links were served
-  by_each : (P : List (Worker N) → List (Worker N) → List (List Served) → Type 0) → P [] [] [] →
-      ((old new : Worker N) (links : List Served) (olds news : List (Worker N)) (served : List (List Served)) →
-      IsReady board each old → ServedLinks state board each old new links → P olds news served →
+  by_each : (P : List (Worker (Desk N)) → List (Worker (Desk N)) → List (List Served) → Type 0) → P [] [] [] →
+      ((old new : Worker (Desk N)) (links : List Served) (olds news : List (Worker (Desk N))) (served : List (List Served)) →
+      IsFresh board old.pass → ServedLinks state board each old new links → P olds news served →
       P (old ∷ olds) (new ∷ news) (links ∷ served)) →
-      (olds news : List (Worker N)) (served : List (List Served)) → AreServed olds news served → P olds news served
+      (olds news : List (Worker (Desk N))) (served : List (List Served)) → AreServed olds news served → P olds news served
   by_each P none more [] [] [] so = none
   by_each P none more [] [] (links ∷ served) so = absurd so
   by_each P none more [] (new ∷ news) served so = absurd so
@@ -64,44 +65,31 @@ module _ {N : Type 0} (state : N → ListenerState) (board : Board) (each : ℕ)
 
   -- ---- how many there are, how they ended, and what the passes have
 
-  pub as_many : (olds news : List (Worker N)) (served : List (List Served)) → AreServed olds news served →
+  pub as_many : (olds news : List (Worker (Desk N))) (served : List (List Served)) → AreServed olds news served →
       length served ≡ length olds
   as_many =
       by_each (λ olds news served. length served ≡ length olds) refl
       (λ old new links olds news served ready so rest. ap suc rest)
 
-  pub news_many : (olds news : List (Worker N)) (served : List (List Served)) → AreServed olds news served →
+  pub news_many : (olds news : List (Worker (Desk N))) (served : List (List Served)) → AreServed olds news served →
       length news ≡ length served
   news_many =
       by_each (λ olds news served. length news ≡ length served) refl
       (λ old new links olds news served ready so rest. ap suc rest)
 
-  pub ends_are : (olds news : List (Worker N)) (served : List (List Served)) → AreServed olds news served →
-      map ends_in news ≡ ends_of served
+  pub ends_are : (olds news : List (Worker (Desk N))) (served : List (List Served)) → AreServed olds news served →
+      map ends_in (jobs_of news) ≡ ends_of served
   ends_are =
-      by_each (λ olds news served. map ends_in news ≡ ends_of served) refl
-      (λ old new links olds news served ready so rest. ap (λ es. es ∷ map ends_in news) so.ends
+      by_each (λ olds news served. map ends_in (jobs_of news) ≡ ends_of served) refl
+      (λ old new links olds news served ready so rest. ap (λ es. es ∷ map ends_in (jobs_of news)) so.ends
       ∙ ap (λ all. map (λ (x : Served). x.ended) links ∷ all) rest)
-
-  pub shares_are : (olds news : List (Worker N)) (served : List (List Served)) → AreServed olds news served →
-      shares_of (passes_of news) ≡ shares_of (passes_of olds)
-  shares_are =
-      by_each (λ olds news served. shares_of (passes_of news) ≡ shares_of (passes_of olds)) refl
-      (λ old new links olds news served ready so rest. let share = so.share in omega (arith, rest, share))
-
-  pub passes_are : (olds news : List (Worker N)) (served : List (List Served)) → AreServed olds news served →
-      AllByRecursion (IsOf board) (passes_of news)
-  passes_are =
-      by_each (λ olds news served. AllByRecursion (IsOf board) (passes_of news)) tt
-      (λ old new links olds news served ready so rest.
-      ((so.of_board, so.consistent, (noted_all old.pass new.pass ready.unnoted ready.fresh so.notes).1), rest))
 
   -- ---- one worker
 
-  module _ (old new : Worker N) (links : List Served) (ready : IsReady board each old)
+  module _ (old new : Worker (Desk N)) (links : List Served) (ready : IsFresh board old.pass)
       (so : ServedLinks state board each old new links) where
     reads_before : reads_of old.pass.view ≡ []
-    reads_before = ap (λ reads. reads_of (record old.pass.view { reads = reads })) ready.fresh
+    reads_before = ap (λ reads. reads_of (record old.pass.view { reads = reads })) ready.unread
 
     orderly_before : IsOrderly old.pass.view
     orderly_before = record {
@@ -129,7 +117,7 @@ module _ {N : Type 0} (state : N → ListenerState) (board : Board) (each : ℕ)
 
   -- ---- the reads
 
-  pub reads_are : (olds news : List (Worker N)) (served : List (List Served)) → AreServed olds news served →
+  pub reads_are : (olds news : List (Worker (Desk N))) (served : List (List Served)) → AreServed olds news served →
       reads_of_all (passes_of news) ≡ flat_map (flat_map reads_in_all) (exchanges_of served)
   reads_are =
       by_each (λ olds news served. reads_of_all (passes_of news)
@@ -138,24 +126,16 @@ module _ {N : Type 0} (state : N → ListenerState) (board : Board) (each : ℕ)
       (reads_now old new links ready so)
       ∙ ap (λ rs. flat_map reads_in_all (exchanges_in links) ++ rs) rest)
 
-  pub reads_whole : (olds news : List (Worker N)) (served : List (List Served)) → AreServed olds news served →
-      All IsWhole (reads_of_all (passes_of news))
-  reads_whole =
-      by_each (λ olds news served. All IsWhole (reads_of_all (passes_of news))) (All-nil IsWhole)
-      (λ old new links olds news served ready so rest. All-append IsWhole (reads_of new.pass.view)
-      (reads_of_all (passes_of news))
-      (All-from_recursion IsWhole (reads_of new.pass.view) (orderly_now old new links ready so).whole) rest)
-
   abbrev EachAlone : List (List Served) → Type 0
   EachAlone served = (n w i : ℕ) → 0 < n → i < length served →
       HasServedAlone board.places (exchanges_of_links n w 0 (get_or (exchanges_of served) i []))
 
-  pub each_alone : (olds news : List (Worker N)) (served : List (List Served)) → AreServed olds news served →
+  pub each_alone : (olds news : List (Worker (Desk N))) (served : List (List Served)) → AreServed olds news served →
       EachAlone served
   each_alone = by_each (λ olds news served. EachAlone served) (λ n w i some l. absurd (omega (arith, l))) more
     where
-      more : (old new : Worker N) (links : List Served) (olds news : List (Worker N)) (served : List (List Served)) →
-          IsReady board each old → ServedLinks state board each old new links → EachAlone served →
+      more : (old new : Worker (Desk N)) (links : List Served) (olds news : List (Worker (Desk N))) (served : List (List Served)) →
+          IsFresh board old.pass → ServedLinks state board each old new links → EachAlone served →
           EachAlone (links ∷ served)
       more old new links olds news served ready so rest n w zero some l = served_alone old new links ready so n w some
       more old new links olds news served ready so rest n w (suc i) some l = rest n w i some (omega (arith, l))
@@ -168,19 +148,19 @@ module _ {N : Type 0} (state : N → ListenerState) (board : Board) (each : ℕ)
     pub notes : NotesMore [] pass.moments
     pub were_true : WereTrue pass.moments pass.view.reads
 
-  abbrev EachNoted : List (Worker N) → List (List Served) → Type 0
+  abbrev EachNoted : List (Worker (Desk N)) → List (List Served) → Type 0
   EachNoted news served = (n w i : ℕ) (d : Known) → i < length served →
       HasNoted (get_or (passes_of news) i d) (exchanges_of_links n w 0 (get_or (exchanges_of served) i []))
 
-  pub each_noted : (olds news : List (Worker N)) (served : List (List Served)) → AreServed olds news served →
+  pub each_noted : (olds news : List (Worker (Desk N))) (served : List (List Served)) → AreServed olds news served →
       EachNoted news served
   each_noted = by_each (λ olds news served. EachNoted news served) (λ n w i d l. absurd (omega (arith, l))) more
     where
-      more : (old new : Worker N) (links : List Served) (olds news : List (Worker N)) (served : List (List Served)) →
-          IsReady board each old → ServedLinks state board each old new links → EachNoted news served →
+      more : (old new : Worker (Desk N)) (links : List Served) (olds news : List (Worker (Desk N))) (served : List (List Served)) →
+          IsFresh board old.pass → ServedLinks state board each old new links → EachNoted news served →
           EachNoted (new ∷ news) (links ∷ served)
       more old new links olds news served ready so rest n w zero d l =
-          let all = noted_all old.pass new.pass ready.unnoted ready.fresh so.notes in record {
+          let all = noted_all old.pass new.pass ready.unnoted ready.unread so.notes in record {
             reads = links_reads n w 0 (exchanges_in links) ∙ sym (reads_now old new links ready so);
             notes = all.0;
             were_true = all.1;
@@ -189,41 +169,41 @@ module _ {N : Type 0} (state : N → ListenerState) (board : Board) (each : ℕ)
 
   -- ---- the listeners
 
-  abbrev pub states_of : List (Worker N) → List ListenerState
-  states_of workers = map state (nets_of workers)
+  abbrev pub states_of : List (Worker (Desk N)) → List ListenerState
+  states_of workers = map state (nets_of (jobs_of workers))
 
-  abbrev EachListened : List (Worker N) → List (Worker N) → List (List Served) → Type 0
+  abbrev EachListened : List (Worker (Desk N)) → List (Worker (Desk N)) → List (List Served) → Type 0
   EachListened olds news served = (i : ℕ) → i < length olds →
       Listened board.places each (get_or (states_of olds) i no_listener) (get_or (states_of news) i no_listener)
       (get_or served i [])
 
-  pub each_listened : (olds news : List (Worker N)) (served : List (List Served)) → AreServed olds news served →
+  pub each_listened : (olds news : List (Worker (Desk N))) (served : List (List Served)) → AreServed olds news served →
       EachListened olds news served
   each_listened = by_each EachListened (λ i l. absurd (omega (arith, l))) more
     where
-      more : (old new : Worker N) (links : List Served) (olds news : List (Worker N)) (served : List (List Served)) →
-          IsReady board each old → ServedLinks state board each old new links → EachListened olds news served →
+      more : (old new : Worker (Desk N)) (links : List Served) (olds news : List (Worker (Desk N))) (served : List (List Served)) →
+          IsFresh board old.pass → ServedLinks state board each old new links → EachListened olds news served →
           EachListened (old ∷ olds) (new ∷ news) (links ∷ served)
       more old new links olds news served ready so rest zero l = so.listened
       more old new links olds news served ready so rest (suc i) l = rest i (omega (arith, l))
 
-  abbrev pub failed_in : List (Worker N) → Bool
-  failed_in workers = list_any (λ (w : Worker N). w.has_failed) workers
+  abbrev pub failed_in : List (Worker (Desk N)) → Bool
+  failed_in workers = list_any (λ (desk : Desk N). desk.has_failed) (jobs_of workers)
 
   -- the listener of one of them has failed
-  abbrev Fails : List (Worker N) → List (Worker N) → Type 0
+  abbrev Fails : List (Worker (Desk N)) → List (Worker (Desk N)) → Type 0
   Fails olds news =
       (i : ℕ) × (i < length olds)
       × Rose (get_or (states_of olds) i no_listener).accept_faults (get_or (states_of news) i no_listener).accept_faults
 
-  pub some_failed : (olds news : List (Worker N)) (served : List (List Served)) → AreServed olds news served →
+  pub some_failed : (olds news : List (Worker (Desk N))) (served : List (List Served)) → AreServed olds news served →
       failed_in news ≡ true → Fails olds news
   some_failed =
       by_each (λ olds news served. failed_in news ≡ true → Fails olds news) (λ e. cc)
-      (λ old new links olds news served ready so rest e. by old new links olds news so new.has_failed refl e rest)
+      (λ old new links olds news served ready so rest e. by old new links olds news so new.job.has_failed refl e rest)
     where
-      by : (old new : Worker N) (links : List Served) (olds news : List (Worker N)) →
-          ServedLinks state board each old new links → (t : Bool) → new.has_failed ≡ t →
+      by : (old new : Worker (Desk N)) (links : List Served) (olds news : List (Worker (Desk N))) →
+          ServedLinks state board each old new links → (t : Bool) → new.job.has_failed ≡ t →
           (t || failed_in news) ≡ true → (failed_in news ≡ true → Fails olds news) → Fails (old ∷ olds) (new ∷ news)
       by old new links olds news so true here e more = (0, omega arith, so.failed here)
       by old new links olds news so false here e more = let m = more e in (suc m.0, omega (arith, m.1), m.2)
@@ -231,14 +211,28 @@ module _ {N : Type 0} (state : N → ListenerState) (board : Board) (each : ℕ)
   abbrev AreWhole : List (List Served) → Type 0
   AreWhole served = AllByRecursion (λ links. length links ≡ each) served
 
-  pub all_whole : (olds news : List (Worker N)) (served : List (List Served)) → AreServed olds news served →
+  pub all_whole : (olds news : List (Worker (Desk N))) (served : List (List Served)) → AreServed olds news served →
       failed_in news ≡ false → AreWhole served
   all_whole =
       by_each (λ olds news served. failed_in news ≡ false → AreWhole served) (λ e. tt)
-      (λ old new links olds news served ready so rest e. by old new links news served so new.has_failed refl e rest)
+      (λ old new links olds news served ready so rest e. by old new links news served so new.job.has_failed refl e rest)
     where
-      by : (old new : Worker N) (links : List Served) (news : List (Worker N)) (served : List (List Served)) →
-          ServedLinks state board each old new links → (t : Bool) → new.has_failed ≡ t →
+      by : (old new : Worker (Desk N)) (links : List Served) (news : List (Worker (Desk N))) (served : List (List Served)) →
+          ServedLinks state board each old new links → (t : Bool) → new.job.has_failed ≡ t →
           (t || failed_in news) ≡ false → (failed_in news ≡ false → AreWhole served) → AreWhole (links ∷ served)
       by old new links news served so true here e more = let h : true ≡ false = e in cc
       by old new links news served so false here e more = (so.all here, more e)
+
+  -- ---- a pass after its turn
+
+  pub used_of : (old new : Worker (Desk N)) → IsFresh board old.pass → HasServed state board each old new →
+      IsUsed board new.pass
+  used_of old new fresh has =
+      let so = has.served in
+      let noted = noted_all old.pass new.pass fresh.unnoted fresh.unread so.notes in record {
+        of_board = so.of_board;
+        share = so.share ∙ fresh.share;
+        notes = noted.0;
+        were_true = noted.1;
+        orderly = orderly_now old new has.links fresh so;
+      }

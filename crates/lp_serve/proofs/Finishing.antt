@@ -1,92 +1,76 @@
 -- What a server has done when all its workers have.
-use Rattle.std.proofs.Common.{◌≡◌, ℕ, ◌<◌, ◌⊎◌, List, [], ◌∷◌, suc, length, map, take, drop, ◌++◌, true, false}
+use Rattle.std.proofs.Common.{◌≡◌, ℕ, ◌<◌, ◌⊎◌, List, [], ◌∷◌, suc, length, map, true, false}
 use Rattle.std.proofs.Common.{Option, Ok, Err, Result}
-use Rattle.std.proofs.Common.{refl, sym, ap, ◌∙◌, subst, inl, inr, arith, append-nil}
-use Rattle.std.specs.List.{All, AllByRecursion}
+use Rattle.std.proofs.Common.{refl, sym, ap, ◌∙◌, subst, inl, inr, arith}
+use Rattle.std.specs.List.{All, AllByRecursion, list_any}
 use Rattle.std.specs.Prelude.{Bool, OnOk, IfErr, IsErrOf}
 use Rattle.std.specs.Result.{IsErrAnd}
 use Rattle.std.specs.Io.KnownBytes.{Appends}
 use Rattle.std.proofs.KnownBytes.{Appends-nil}
-use Rattle.std.proofs.lemmas.List.{length-map, drop_all, take_all}
+use Rattle.std.proofs.lemmas.List.{length-map}
 use Rattle.std.proofs.lemmas.List.Elements.{All-from_recursion}
+use Rattle.spec_board.specs.Orders.{AreBacked}
 use Rattle.spec_server.specs.Machine.{opening}
 use Rattle.spec_serve.specs.Lines.{serve_out}
 use Rattle.spec_serve.specs.Links.{exchanges_from}
 use Rattle.spec_serve.specs.Workers.{RunsBy}
 use Rattle.spec_serve.proofs.ManyFromOne.{one_runs_by}
 use Rattle.basis_board.specs.declared.board.Board.{Board}
-use Rattle.basis_board.specs.Known.{Known}
+use Rattle.basis_board.specs.Moments.{IsOneLog}
 use Rattle.lp_base.specs.Beside.{Takes}
 use Rattle.lp_base.specs.Listening.{ListenerState}
 use Rattle.lp_serve.specs.declared.fault.ServeFault.{ServeFault}
 use Rattle.lp_serve.specs.declared.fault.ServeFault.TheVariants as fault
-use Rattle.lp_serve.specs.declared.worker.Worker.{Worker}
-use Rattle.lp_serve.specs.Gathering.{passes_of, nets_of, shares_of, IsOf, Met}
+use Rattle.lp_workers.specs.declared.hiring.Worker.{Worker}
+use Rattle.lp_workers.specs.Passes.{IsFresh, notes_of_all, reads_of_all}
+use Rattle.lp_workers.specs.Turns.{jobs_of, passes_of, TookTurns}
+use Rattle.lp_serve.specs.declared.desk.Desk.{Desk}
 use Rattle.lp_serve.specs.Serving.{Served, Serves, Writes, exchanges_of, ends_of, ended_with}
-use Rattle.lp_serve.specs.Workers.{IsReady, ends_in}
-use Rattle.lp_serve.proofs.AllServed.{AreServed, ServesEach, all_served, as_many, ends_are, passes_are, each_listened}
+use Rattle.lp_serve.specs.Desks.{Took, ends_in, nets_of}
+use Rattle.lp_serve.proofs.AllServed.{AreServed, ServesEach, all_served, as_many, ends_are, each_listened}
 use Rattle.lp_serve.proofs.AllServed.{states_of, failed_in, some_failed, all_whole}
 use Rattle.lp_serve.proofs.RunsOver.{all_run}
 
--- a list in whose room as many items were written
-pub written_back : {X : Type 0} (n : ℕ) (old new : List X) → n ≡ length old → length new ≡ length old →
-    take n (new ++ drop (length new) old) ≡ new
-written_back n old new whole same =
-    ap (λ ys. take n (new ++ ys)) (drop_all (length new) old (omega (arith, same)))
-    ∙ ap (take n) (append-nil new) ∙ take_all n new (omega (arith, whole, same))
-
-pub served_now : {N : Type 0} (state : N → ListenerState) (board : Board) (each n : ℕ)
-    (old slice new : List (Worker N)) → n ≡ length old → slice ≡ old → length new ≡ length slice →
-    ServesEach state board each slice new →
-    (length (take n (new ++ drop (length new) old)) ≡ length old)
-    × ServesEach state board each old (take n (new ++ drop (length new) old))
-served_now state board each n old slice new whole is kept serves =
-    let back = written_back n old new whole (kept ∙ ap length is) in (
-      ap length back ∙ kept ∙ ap length is,
-      subst (ServesEach state board each old) (sym back)
-          (subst (λ ws. ServesEach state board each ws new) is serves),
-    )
-
-module _ {N : Type 0} (state : N → ListenerState) (board : Board) (each : ℕ) (olds news : List (Worker N))
-    (same : length news ≡ length olds) (ready : All (IsReady board each) olds)
+module _ {N : Type 0} (state : N → ListenerState) (board : Board) (each : ℕ) (olds news : List (Worker (Desk N)))
+    (same : length news ≡ length olds) (fresh : All (λ (w : Worker (Desk N)). IsFresh board w.pass) olds)
     (serves : ServesEach state board each olds news) where
   abbrev links : List (List Served)
-  links = (all_served state board each olds news same ready serves).0
+  links = (all_served state board each olds news same fresh serves).0
 
-  abbrev so : AreServed state board each olds news (all_served state board each olds news same ready serves).0
-  so = (all_served state board each olds news same ready serves).1
+  abbrev so : AreServed state board each olds news (all_served state board each olds news same fresh serves).0
+  so = (all_served state board each olds news same fresh serves).1
 
-  pub are_of : All (IsOf board) (passes_of news)
-  are_of = All-from_recursion (IsOf board) (passes_of news) (passes_are state board each olds news links so)
-
-  module _ (some : 0 < length olds) (whole : shares_of (passes_of olds) ≡ 64) (met : Option Known)
-      (is_met : Met board (passes_of news) met) (first last : List N) (gave : nets_of olds ≡ first)
-      (back : last ≡ nets_of news) (places : ℕ) (made : board.places ≡ places) (before after : Option (List ℕ)) where
+  module _ (some : 0 < length olds) (one_log : IsOneLog (notes_of_all (passes_of news)))
+      (backed : AreBacked (reads_of_all (passes_of news))) (places : ℕ) (made : board.places ≡ places)
+      (before after : Option (List ℕ)) where
     many : length links ≡ length olds
     many = as_many state board each olds news links so
 
     listeners : length (states_of state board each olds) ≡ length olds
-    listeners = length-map (nets_of olds) state ∙ length-map olds (λ (w : Worker N). w.net)
+    listeners = length-map (nets_of (jobs_of olds)) state ∙ length-map (jobs_of olds) (λ (desk : Desk N). desk.net)
+        ∙ length-map olds (λ (w : Worker (Desk N)). w.job)
+
+    abbrev Whole : Result (Unit {0}) ServeFault → Type 0
+    Whole result =
+        Serves places each (states_of state board each olds) (states_of state board each news) before after result
 
     serves_so : (result : Result (Unit {0}) ServeFault) →
         Writes each (states_of state board each olds) (states_of state board each news) links before after result →
-        Serves places each (map state first) (map state last) before after result
+        Whole result
     serves_so result writes =
-        subst (λ ns. Serves places each (map state ns) (map state last) before after result) gave
-        (subst (λ ns. Serves places each (map state (nets_of olds)) (map state ns) before after result) (sym back)
-        (subst
+        subst
         (λ n. Serves n each (states_of state board each olds) (states_of state board each news) before after result)
         made (record {
           served = links;
           listeners = many ∙ sym listeners;
           listened = inl
               (λ i l. each_listened state board each olds news links so i (omega (arith, l, listeners)));
-          runs = all_run state board each olds news links so (omega (arith, some, many)) whole met is_met;
+          runs = all_run state board each olds news links so (omega (arith, some, many)) one_log backed;
           writes = writes;
-        })))
+        })
 
-    when_ok : Appends before after (serve_out (map ends_in news)) → failed_in state board each news ≡ false →
-        Serves places each (map state first) (map state last) before after (Ok tt)
+    when_ok : Appends before after (serve_out (map ends_in (jobs_of news))) → failed_in state board each news ≡ false →
+        Whole (Ok tt)
     when_ok appends none =
         serves_so (Ok tt) (
           subst (λ ends. Appends before after (serve_out ends)) (ends_are state board each olds news links so) appends,
@@ -94,8 +78,8 @@ module _ {N : Type 0} (state : N → ListenerState) (board : Board) (each : ℕ)
               (all_whole state board each olds news links so none),
         )
 
-    when_accept : Appends before after (serve_out (map ends_in news)) → failed_in state board each news ≡ true →
-        Serves places each (map state first) (map state last) before after (Err fault.Accept)
+    when_accept : Appends before after (serve_out (map ends_in (jobs_of news))) → failed_in state board each news ≡ true →
+        Whole (Err fault.Accept)
     when_accept appends failed =
         let one = some_failed state board each olds news links so failed in
         serves_so (Err fault.Accept) (
@@ -104,25 +88,55 @@ module _ {N : Type 0} (state : N → ListenerState) (board : Board) (each : ℕ)
         )
 
     when_err : (why : ServeFault) → (why ≡ fault.Write) ⊎ (why ≡ fault.NoMemory) →
-        Takes before after (serve_out (map ends_in news)) →
-        Serves places each (map state first) (map state last) before after (Err why)
+        Takes before after (serve_out (map ends_in (jobs_of news))) →
+        Whole (Err why)
     when_err why (inl e) takes =
-        subst (λ w. Serves places each (map state first) (map state last) before after (Err w)) (sym e)
+        subst (λ w. Whole (Err w)) (sym e)
         (serves_so (Err fault.Write)
         (subst (λ ends. Takes before after (serve_out ends)) (ends_are state board each olds news links so) takes))
     when_err why (inr e) takes =
-        subst (λ w. Serves places each (map state first) (map state last) before after (Err w)) (sym e)
+        subst (λ w. Whole (Err w)) (sym e)
         (serves_so (Err fault.NoMemory)
         (subst (λ ends. Takes before after (serve_out ends)) (ends_are state board each olds news links so) takes))
 
     pub when_ended : (said : Result (Unit {0}) ServeFault) (failed : Bool) →
-        OnOk said (Appends before after (serve_out (map ends_in news))) →
-        Takes before after (serve_out (map ends_in news)) →
+        OnOk said (Appends before after (serve_out (map ends_in (jobs_of news)))) →
+        Takes before after (serve_out (map ends_in (jobs_of news))) →
         IfErr said (λ why. (why ≡ fault.Write) ⊎ (why ≡ fault.NoMemory)) → failed_in state board each news ≡ failed →
-        Serves places each (map state first) (map state last) before after (ended_with said failed)
+        Whole (ended_with said failed)
     when_ended (Err why) failed appends takes stops e = when_err why stops takes
     when_ended (Ok u) true appends takes stops e = when_accept appends e
     when_ended (Ok u) false appends takes stops e = when_ok appends e
+
+-- All desks took their turns: what is said of them, by how the writing ended and by whether a listener has failed.
+module _ {N : Type 0} (is_ready : ℕ → Desk N → Type 0) (state : N → ListenerState) (each places : ℕ)
+    (olds news : List (Desk N)) (took : TookTurns is_ready (Took state) each places olds news) (some : 0 < length olds)
+  where
+    pub all_ended : (before after : Option (List ℕ)) (said : Result (Unit {0}) ServeFault) (failed : Bool) →
+        OnOk said (Appends before after (serve_out (map ends_in news))) →
+        Takes before after (serve_out (map ends_in news)) →
+        IfErr said (λ why. (why ≡ fault.Write) ⊎ (why ≡ fault.NoMemory)) →
+        list_any (λ (desk : Desk N). desk.has_failed) news ≡ failed →
+        Serves places each (map state (nets_of olds)) (map state (nets_of news)) before after (ended_with said failed)
+    all_ended before after said failed appends takes stops e =
+        subst
+        (λ ds. Serves places each (map state (nets_of ds)) (map state (nets_of news)) before after
+        (ended_with said failed))
+        took.jobs_before
+        (subst
+        (λ ds. Serves places each (map state (nets_of (jobs_of took.before))) (map state (nets_of ds)) before after
+        (ended_with said failed))
+        took.jobs_after
+        (when_ended state took.board each took.before took.after took.many (λ i d l. (took.turns i d l).ready.pass)
+        (λ i d l. (took.turns i d l).turn)
+        (omega (arith, some, length-map took.before (λ (w : Worker (Desk N)). w.job), many)) took.one_log took.backed
+        places took.places_so before after said failed
+        (subst (λ ds. OnOk said (Appends before after (serve_out (map ends_in ds)))) (sym took.jobs_after) appends)
+        (subst (λ ds. Takes before after (serve_out (map ends_in ds))) (sym took.jobs_after) takes) stops
+        (ap (list_any (λ (desk : Desk N). desk.has_failed)) took.jobs_after ∙ e)))
+      where
+        many : length (jobs_of took.before) ≡ length olds
+        many = ap length took.jobs_before
 
 -- a fault of the writing is told
 pub ended_write : (said : Result (Unit {0}) ServeFault) (failed : Bool) →

@@ -1,10 +1,9 @@
 -- Lemmas.
 pub mod Noting
 pub mod LinkRuns
-pub mod OnlyPass
 pub mod Turning
-pub mod Hiring
 pub mod AllServed
+pub mod UsedPass
 pub mod RunsOver
 pub mod Finishing
 pub mod LinkReading

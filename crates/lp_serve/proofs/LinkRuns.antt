@@ -9,10 +9,10 @@ use Rattle.basis_board.specs.declared.seats.View.{View}
 use Rattle.basis_board.specs.Rule.{Consistent}
 use Rattle.basis_board.specs.Orderly.{IsOrderly}
 use Rattle.basis_board.specs.PassReads.{reads_of}
-use Rattle.lp_workers.proofs.OneMore.{calls_places, calls_orderly}
+use Rattle.lp_workers.proofs.Calls.{calls_places, calls_orderly}
 use Rattle.lp_serve.specs.Service.{Steps}
 use Rattle.lp_serve.specs.Serving.{Served}
-use Rattle.lp_serve.specs.Workers.{LinkSteps}
+use Rattle.lp_serve.specs.Desks.{LinkSteps}
 
 -- ---- the steps of one link
 

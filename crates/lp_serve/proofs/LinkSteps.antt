@@ -1,33 +1,12 @@
 -- The steps of a session, one after the other.
-use Rattle.std.proofs.Common.{◌≡◌, ℕ, List, [], ◌∷◌, ◌++◌, refl, ap, ◌∙◌, subst, inl, inr}
-use Rattle.spec_board.specs.Reads.{Words}
+use Rattle.std.proofs.Common.{◌≡◌, ℕ, List, [], ◌∷◌, ◌++◌, refl, ap, ◌∙◌, subst}
 use Rattle.spec_server.specs.Exchanges.{Exchange, AloneRun}
 use Rattle.spec_server.specs.Machine.{ExactAsk, ExactReply, State}
 use Rattle.basis_board.specs.declared.seats.View.{View}
-use Rattle.basis_board.specs.declared.board.Look.{Look}
-use Rattle.basis_board.specs.declared.board.Look.TheVariants.{Found, NoneReady}
-use Rattle.basis_board.specs.Calls.{Looks}
 use Rattle.basis_board.specs.Rule.{Consistent}
-use Rattle.lp_places.proofs.Puts.{put_places}
-use Rattle.lp_session.specs.Boarding.{AddsStep, MayPut, StepCalls}
+use Rattle.lp_workers.proofs.Calls.{calls_places}
+use Rattle.lp_session.specs.Boarding.{AddsStep, StepCalls}
 use Rattle.lp_serve.specs.Service.{StepBy, Steps}
-
--- ---- the calls of a step leave the number of places
-
-look_places : (shape : Words) (v w : View) (look : Look) → Looks shape v look w → w.places ≡ v.places
-look_places shape v w (NoneReady c) d = ap (λ (x : View). x.places) d.view
-look_places shape v w (Found k xs) f =
-    ap (λ (x : View). x.places) f.finds.view ∙ ap (λ (x : View). x.places) f.down.view
-
-may_put_places : (v w : View) → MayPut v w → w.places ≡ v.places
-may_put_places v w (inl e) = ap (λ (x : View). x.places) e
-may_put_places v w (inr p) = put_places v w p.0 p.1 p.3
-
-pub calls_places : (v w : View) → StepCalls v w → w.places ≡ v.places
-calls_places v w (inl e) = ap (λ (x : View). x.places) e
-calls_places v w (inr c) = may_put_places c.2 w c.5 ∙ look_places c.0 v c.2 c.1 c.3
-
--- ---- steps
 
 -- the session's exchange
 abbrev pub exchange_of : {v w : View} {old new : State} (asked : ExactAsk) (reply : ExactReply) →

@@ -20,49 +20,51 @@ use Rattle.lp_base.proofs.Logs.{grows_none, grows_more}
 use Rattle.spec_serve.specs.Link.{ServesLink}
 use Rattle.lp_serve.specs.Service.{ServesBy}
 use Rattle.lp_serve.specs.Serving.{Served, IsServed, streams_of, events_of}
-use Rattle.lp_serve.specs.Workers.{IsReady, LinkSteps, HasServed}
-use Rattle.lp_serve.specs.declared.worker.Worker.{Worker}
+use Rattle.lp_workers.specs.declared.hiring.Worker.{Worker}
+use Rattle.lp_workers.specs.Passes.{IsFresh}
+use Rattle.lp_serve.specs.Desks.{IsOpen, LinkSteps, HasServed}
+use Rattle.lp_serve.specs.declared.desk.Desk.{Desk}
 use Rattle.lp_session.specs.Boarding.{NotesOn}
 use Rattle.lp_serve.proofs.Noting.{none_noted, noted_on}
 use Rattle.lp_serve.proofs.LinkRuns.{links_places, links_more}
 
-module _ {N : Type 0} (state : N → ListenerState) (board : Board) (each : ℕ) (begun : Worker N) where
+module _ {N : Type 0} (state : N → ListenerState) (board : Board) (each : ℕ) (begun : Worker (Desk N)) where
   -- so many links were served, and none was wanting
-  pub record Turning (index : ℕ) (now : Worker N) : Type 0 where
+  pub record Turning (index : ℕ) (now : Worker (Desk N)) : Type 0 where
     pub links : List Served
     pub of_board : now.pass.board ≡ id_of board
     pub share : now.pass.view.share ≡ begun.pass.view.share
     pub consistent : Consistent now.pass.view
     pub places : now.pass.view.places ≡ board.places
-    pub log : Grows (state begun.net).log (state now.net).log (flat_map events_of links)
+    pub log : Grows (state begun.job.net).log (state now.job.net).log (flat_map events_of links)
     pub served : All (IsServed board.places) links
     pub many : length links ≡ index
-    pub ends : now.ends.items ≡ map (λ (x : Served). x.ended) links
+    pub ends : now.job.ends.items ≡ map (λ (x : Served). x.ended) links
     pub steps : LinkSteps begun.pass.view links now.pass.view
     pub notes : NotesOn begun.pass now.pass
-    pub later : (state begun.net).accept_faults ≤ (state now.net).accept_faults
-    pub well : now.has_failed ≡ false
-    pub room : each ≤ vec_capacity now.ends
+    pub later : (state begun.job.net).accept_faults ≤ (state now.job.net).accept_faults
+    pub well : now.job.has_failed ≡ false
+    pub room : each ≤ vec_capacity now.job.ends
 
-  pub turn_begins : IsReady board each begun → Turning 0 begun
-  turn_begins ready = record {
+  pub turn_begins : IsOpen each begun.job → IsFresh board begun.pass → Turning 0 begun
+  turn_begins opened fresh = record {
     links = [];
-    of_board = ready.of_board;
+    of_board = fresh.of_board;
     share = refl;
-    consistent = ready.consistent;
-    places = ready.places;
-    log = grows_none (state begun.net).log;
+    consistent = fresh.consistent;
+    places = fresh.places;
+    log = grows_none (state begun.job.net).log;
     served = All-nil (IsServed board.places);
     many = refl;
-    ends = ready.none;
+    ends = opened.none;
     steps = refl;
     notes = none_noted begun.pass;
     later = omega arith;
-    well = ready.well;
-    room = ready.room;
+    well = opened.well;
+    room = opened.room;
   }
 
-  pub turn_ends : (now : Worker N) → Turning each now → HasServed state board each begun now
+  pub turn_ends : (now : Worker (Desk N)) → Turning each now → HasServed state board each begun now
   turn_ends now so = record {
     links = so.links;
     served = record {
@@ -84,14 +86,14 @@ module _ {N : Type 0} (state : N → ListenerState) (board : Board) (each : ℕ)
     };
   }
 
-  module _ (index : ℕ) (now : Worker N) (so : Turning index now) (next : Worker N) (within : index < each) where
+  module _ (index : ℕ) (now : Worker (Desk N)) (so : Turning index now) (next : Worker (Desk N)) (within : index < each) where
     -- the listener has failed
-    pub turn_fails : next.pass ≡ now.pass → next.ends ≡ now.ends →
-        (state next.net).log ≡ (state now.net).log → (state now.net).accept_faults ≤ (state next.net).accept_faults →
-        Rose (state now.net).accept_faults (state next.net).accept_faults → next.has_failed ≡ true →
+    pub turn_fails : next.pass ≡ now.pass → next.job.ends ≡ now.job.ends →
+        (state next.job.net).log ≡ (state now.job.net).log → (state now.job.net).accept_faults ≤ (state next.job.net).accept_faults →
+        Rose (state now.job.net).accept_faults (state next.job.net).accept_faults → next.job.has_failed ≡ true →
         HasServed state board each begun next
     turn_fails pass ends log later rose failed =
-        let risen : Rose (state begun.net).accept_faults (state next.net).accept_faults =
+        let risen : Rose (state begun.job.net).accept_faults (state next.job.net).accept_faults =
         omega (arith, so.later, rose) in record {
           links = so.links;
           served = record {
@@ -99,7 +101,7 @@ module _ {N : Type 0} (state : N → ListenerState) (board : Board) (each : ℕ)
             share = ap (λ (k : Known). k.view.share) pass ∙ so.share;
             consistent = subst (λ (k : Known). Consistent k.view) (sym pass) so.consistent;
             listened = record {
-              log = subst (λ known. Grows (state begun.net).log known (flat_map events_of so.links)) (sym log) so.log;
+              log = subst (λ known. Grows (state begun.job.net).log known (flat_map events_of so.links)) (sym log) so.log;
               served = so.served;
               few = omega (arith, so.many, within);
               all = inr risen;
@@ -128,12 +130,12 @@ module _ {N : Type 0} (state : N → ListenerState) (board : Board) (each : ℕ)
           (ended ≡ end.Write → Rose given.sink.write_faults back.sink.write_faults) →
           next.pass.board ≡ now.pass.board → next.pass.view.share ≡ now.pass.view.share →
           (Consistent now.pass.view → Consistent next.pass.view) → NotesOn now.pass next.pass →
-          Grows (state now.net).log (state met).log (Given given ∷ []) →
-          (state now.net).accept_faults ≤ (state met).accept_faults →
-          Grows (state met).log (state next.net).log (Returned back ∷ []) →
-          (state next.net).accept_faults ≡ (state met).accept_faults →
-          next.ends.items ≡ now.ends.items ++ ended ∷ [] → each ≤ vec_capacity next.ends →
-          next.has_failed ≡ now.has_failed → Turning (index + 1) next
+          Grows (state now.job.net).log (state met).log (Given given ∷ []) →
+          (state now.job.net).accept_faults ≤ (state met).accept_faults →
+          Grows (state met).log (state next.job.net).log (Returned back ∷ []) →
+          (state next.job.net).accept_faults ≡ (state met).accept_faults →
+          next.job.ends.items ≡ now.job.ends.items ++ ended ∷ [] → each ≤ vec_capacity next.job.ends →
+          next.job.has_failed ≡ now.job.has_failed → Turning (index + 1) next
       turn_more fresh read write of_board share consistent notes gives later takes faults ends room well =
           record {
             links = links_now;
@@ -142,11 +144,11 @@ module _ {N : Type 0} (state : N → ListenerState) (board : Board) (each : ℕ)
             consistent = consistent so.consistent;
             places = links_places begun.pass.view links_now next.pass.view steps
                 ∙ sym (links_places begun.pass.view so.links now.pass.view so.steps) ∙ so.places;
-            log = subst (Grows (state begun.net).log (state next.net).log)
+            log = subst (Grows (state begun.job.net).log (state next.job.net).log)
                 (sym (flat_map-append events_of so.links (one ∷ [])))
-                (grows_more (state begun.net).log (state now.net).log (state next.net).log
+                (grows_more (state begun.job.net).log (state now.job.net).log (state next.job.net).log
                 (flat_map events_of so.links) (events_of one) so.log
-                (grows_more (state now.net).log (state met).log (state next.net).log
+                (grows_more (state now.job.net).log (state met).log (state next.job.net).log
                 (Given given ∷ []) (Returned back ∷ []) gives takes));
             served = All-push (IsServed board.places) so.links one so.served (record {
               fresh = fresh;

@@ -1,4 +1,3 @@
 pub mod Service
 pub mod Serving
-pub mod Workers
-pub mod Gathering
+pub mod Desks

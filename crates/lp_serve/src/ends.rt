@@ -1,13 +1,13 @@
 // How links ended, as it is written.
-ghost use Rattle.std.specs.Prelude.{◌≡◌, ◌≤◌, ◌++◌, ◌⊎◌, map, OnOk, IfOk, IfErr, IsErrOf};
+ghost use Rattle.std.specs.Prelude.{◌≡◌, ◌++◌, ◌⊎◌, map, OnOk, IfOk, IfErr, IsErrOf};
 ghost use Rattle.std.specs.Io.KnownBytes.{Appends};
 ghost use Rattle.lp_base.specs.Beside.{Takes};
 ghost use Rattle.lp_base.specs.Causes.{Rose};
-ghost use Rattle.lp_serve.specs.Workers.{ends_in};
+ghost use Rattle.lp_serve.specs.Desks.{ends_in};
 ghost use Rattle.spec_serve.specs.Lines.{end_text, end_line, end_lines, serve_out};
 
+use crate::desk::Desk;
 use crate::fault::ServeFault;
-use crate::worker::Worker;
 use lp_base::{Bytes, Sink, send};
 use spec_serve::LinkEnd;
 use std::alloc::{AllocError, Global};
@@ -57,13 +57,13 @@ fn print_ends(
     Ok(())
 }
 
-// The lines of the links of all workers.
-fn ends_text<N>(alloc: Global, workers: &[Worker<N>]) -> Result<Bytes, AllocError>
-    ensures { IfOk result (λ text. text ≡ serve_out (map ends_in workers.now)) }
+// The lines of the links of all desks.
+fn ends_text<N>(alloc: Global, desks: &[Desk<N>]) -> Result<Bytes, AllocError>
+    ensures { IfOk result (λ text. text ≡ serve_out (map ends_in desks.now)) }
 {
     let mut text = Bytes::new(alloc);
-    for (index, worker) in workers.iter().enumerate() {
-        print_ends(alloc, index as u64 + 1, worker.ends.as_slice(), &mut text)?;
+    for (index, desk) in desks.iter().enumerate() {
+        print_ends(alloc, index as u64 + 1, desk.ends.as_slice(), &mut text)?;
     }
     Ok(text)
 }
@@ -71,15 +71,15 @@ fn ends_text<N>(alloc: Global, workers: &[Worker<N>]) -> Result<Bytes, AllocErro
 /// Writes a line for each link: its worker, its number, and how it ended.
 pub(crate) fn write_ends<N, K: Sink>(
     alloc: Global,
-    workers: &[Worker<N>],
+    desks: &[Desk<N>],
     out: &mut K,
 ) -> Result<(), ServeFault>
-    ensures ok { OnOk result (Appends (K.taken out.old) (K.taken out.new) (serve_out (map ends_in workers.now))) }
-    ensures part { Takes (K.taken out.old) (K.taken out.new) (serve_out (map ends_in workers.now)) }
+    ensures ok { OnOk result (Appends (K.taken out.old) (K.taken out.new) (serve_out (map ends_in desks.now))) }
+    ensures part { Takes (K.taken out.old) (K.taken out.new) (serve_out (map ends_in desks.now)) }
     ensures faults { IfErr result (λ fault. (fault ≡ ServeFault.Write) ⊎ (fault ≡ ServeFault.NoMemory)) }
     ensures write { IsErrOf result ServeFault.Write → Rose (K.write_faults out.old) (K.write_faults out.new) }
 {
-    let text = ends_text(alloc, workers)?;
+    let text = ends_text(alloc, desks)?;
     send(out, text.as_slice())?;
     Ok(())
 }

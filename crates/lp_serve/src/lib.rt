@@ -5,19 +5,18 @@
 //! | `serve_link` | serves the session of one link | src/link |
 //! | `serve` | serves the links of many listeners, each by a worker of its own | src/serving |
 //! | `ServeFault` | why not all links were served, or not all was said of them | src/fault |
-//! | `Worker` | what one thread has: a listener, a pass, and how its links ended | src/worker |
-//! | `IsReady`, `HasServed` | a worker before its turn and after it | specs/Workers |
-//! | `IsFree`, `Met` | passes as they are given to workers, and as they come together again | specs/Gathering |
+//! | `Desk` | what one worker has: a listener, and how its links ended | src/desk |
+//! | `IsOpen`, `HasServed` | a desk before its turn, and a worker after it | specs/Desks |
 //! | `Steps`, `ServesBy` | the steps of a link's session, by the calls of a pass | specs/Service |
 //! | `Served`, `Listened`, `Serves` | links as they were given and came back, one after the other, and what a server does | specs/Serving |
 #![tactic(auto)]
 
+mod desk;
+mod desks;
 mod ends;
 mod fault;
-mod gather;
 mod link;
 mod serving;
-mod worker;
 
 pub use fault::ServeFault;
 pub use link::serve_link;

@@ -1,84 +1,35 @@
--- Workers as they are hired, and passes that are met into one.
-use Rattle.std.proofs.Common.{◌≡◌, ℕ, zero, suc, ◌+◌, ◌<◌, ◌≤◌, List, [], ◌∷◌, ◌++◌, length, replicate}
-use Rattle.std.proofs.Common.{refl, ap, sym, ◌∙◌, subst, arith, append-nil, ⊎_elim}
-use Rattle.std.specs.List.{AllByRecursion}
+-- Passes as they are cut off, and passes that are met into one.
+use Rattle.std.proofs.Common.{◌≡◌, ℕ, List, [], ◌∷◌, ◌++◌, length, map, reverse}
+use Rattle.std.proofs.Common.{refl, ap, sym, ◌∙◌, subst, arith, append-nil}
 use Rattle.std.specs.List.Sorted.{IsPermutation}
-use Rattle.std.proofs.lemmas.Bool.{cases_lt}
 use Rattle.std.proofs.lemmas.Grind.{flat_map-append}
-use Rattle.std.proofs.lemmas.List.{append_assoc, map-append, get_or-replicate, get_or_past, length-replicate}
-use Rattle.std.proofs.lemmas.List.Elements.{All-replicate, All-same, All-nil}
+use Rattle.std.proofs.lemmas.List.{append_assoc, map-append, reverse-append}
 use Rattle.std.proofs.lemmas.List.Sorted.{IsPermutation-trans, IsPermutation-append_right}
 use Rattle.std.proofs.lemmas.List.Sorted.{IsPermutation-append_comm}
 use Rattle.basis_board.specs.declared.board.Board.{Board}
 use Rattle.basis_board.specs.declared.seats.View.{View}
 use Rattle.basis_board.specs.Id.{id_of}
 use Rattle.basis_board.specs.Known.{Known, notes_of}
-use Rattle.basis_board.specs.Moments.{Moment, notes, NotesMore, WereTrue, IsOneLog}
-use Rattle.basis_board.proofs.Timing.{notes_none, notes_join}
+use Rattle.basis_board.specs.Moments.{Moment, notes, WereTrue, IsOneLog}
+use Rattle.basis_board.proofs.Timing.{notes_join}
 use Rattle.basis_board.specs.Rule.{Consistent}
 use Rattle.basis_board.specs.Board.{cut_right, met}
-use Rattle.basis_board.specs.Orderly.{IsWhole}
 use Rattle.basis_board.specs.PassReads.{reads_of}
 use Rattle.basis_board.proofs.ReadTying.{reads_more}
-use Rattle.spec_board.specs.Orders.{InPairs, AreInOrder}
 use Rattle.spec_board.specs.Reads.{ExactRead}
-use Rattle.spec_server.specs.declared.asks.Asked.{Asked}
-use Rattle.spec_server.specs.Halves.{Standing, Nothing, at_rest}
-use Rattle.spec_server.specs.Machine.{ExactAsk, opening}
-use Rattle.lp_workers.specs.declared.worker.Worker.{Worker}
-use Rattle.lp_workers.specs.Workers.{states_of, state_at, IsReady}
-use Rattle.lp_workers.specs.Dealt.{notes_of_all, pass_of, passes_of, reads_of_all}
+use Rattle.lp_workers.specs.Passes.{IsFresh, notes_of_all, reads_of_all}
 
--- ---- a worker as it is hired
+-- ---- a pass as it is cut off
 
-opening_at : (session : ℕ) → state_at (replicate 65 opening) session ≡ opening
-opening_at session =
-    ⊎_elim (λ (l : session < 65). get_or-replicate 65 session opening opening l)
-    (λ (l : 65 ≤ session).
-    get_or_past (replicate 65 opening) session opening
-    (let e = length-replicate 65 opening in omega (arith, e, l)))
-    (cases_lt session 65)
-
-states_open : (n : ℕ) → states_of (replicate n (at_rest opening)) ≡ replicate n opening
-states_open zero = refl
-states_open (suc n) = ap (λ states. opening ∷ states) (states_open n)
-
-pub new_is_ready : (board : Board) (w : Worker) (v : View) → w.pass.board ≡ id_of board → w.pass.view ≡ cut_right v →
-    v.places ≡ board.places → Consistent w.pass.view → w.pass.moments ≡ [] →
-    WereTrue w.pass.moments w.pass.view.reads → w.sessions.items ≡ replicate 65 (at_rest opening) →
-    length w.solves.items ≡ 65 →
-    w.asks.items ≡ [] → w.replies.items ≡ [] → IsReady board w
-new_is_ready board w v of_board view places consistent moments so opened solves asks replies = record {
-  hired = record {
-    of_board = of_board;
-    places = ap (λ (x : View). x.places) view ∙ places;
-    share = ap (λ (x : View). x.share) view;
-    consistent = consistent;
-    notes = notes_none [] w.pass.moments moments;
-    were_true = so;
-    all = ap length opened ∙ length-replicate 65 (at_rest opening);
-    counted = solves;
-    at_rest = All-same (λ (s : Standing). s.awaits ≡ Nothing) w.sessions.items (replicate 65 (at_rest opening)) opened
-        (All-replicate (λ (s : Standing). s.awaits ≡ Nothing) 65 (at_rest opening) refl);
-  };
-  had = record {
-    exchanges = [];
-    asked = refl;
-    replied = sym replies;
-    runs = λ session.
-        ap (λ all. state_at (states_of all) session) opened
-        ∙ ap (λ states. state_at states session) (states_open 65)
-        ∙ opening_at session;
-    reads = ap reads_of view;
-    orderly = record {
-      ordered = subst (λ (x : View). InPairs AreInOrder (reads_of x)) (sym view) tt;
-      whole = subst (λ (x : View). AllByRecursion IsWhole (reads_of x)) (sym view) tt;
-    };
-  };
-  room = let none = w.asks.ok.0 ∙ ap length asks in
-      let no_reply = w.replies.ok.0 ∙ ap length replies in omega (arith, none, no_reply);
-  sessions = All-same (λ (a : Asked ExactAsk). a.session ≤ 64) w.asks.items [] asks
-      (All-nil (λ (a : Asked ExactAsk). a.session ≤ 64));
+pub cut_is_fresh : (board : Board) (pass : Known) (v : View) → pass.board ≡ id_of board → pass.view ≡ cut_right v →
+    v.places ≡ board.places → Consistent pass.view → pass.moments ≡ [] → IsFresh board pass
+cut_is_fresh board pass v of_board view places consistent unnoted = record {
+  of_board = of_board;
+  places = ap (λ (x : View). x.places) view ∙ places;
+  share = ap (λ (x : View). x.share) view;
+  unread = ap (λ (x : View). x.reads) view;
+  unnoted = unnoted;
+  consistent = consistent;
 }
 
 -- ---- one more pass is met
@@ -141,6 +92,33 @@ one_log first last passes fresh are log =
     subst IsOneLog (are ∙ ap (λ ns. notes_of_all passes ++ ns) (ap (notes first.moments) fresh ∙ no_notes first.moments)
     ∙ append-nil (notes_of_all passes)) log
 
-pub split_passes : (workers rest : List Worker) (w : Worker) → workers ≡ rest ++ w ∷ [] →
-    passes_of workers ≡ passes_of rest ++ w.pass ∷ []
-split_passes workers rest w e = ap passes_of e ∙ map-append pass_of rest (w ∷ [])
+-- ---- lists that are taken from the end
+
+last_first : {X : Type 0} (x : X) (xs : List X) → reverse (x ∷ xs) ≡ reverse xs ++ x ∷ []
+last_first x xs = reverse-append (x ∷ []) xs
+
+pub map_reverse : {X Y : Type 0} (f : X → Y) (xs : List X) → map f (reverse xs) ≡ reverse (map f xs)
+map_reverse f [] = refl
+map_reverse f (x ∷ xs) =
+    ap (map f) (last_first x xs) ∙ map-append f (reverse xs) (x ∷ [])
+    ∙ ap (λ ys. ys ++ f x ∷ []) (map_reverse f xs)
+    ∙ sym (last_first (f x) (map f xs))
+
+-- what is left of a list and what was put aside, the last one first
+abbrev pub AreSplit : {X : Type 0} → List X → List X → List X → Type 0
+AreSplit all left aside = left ++ reverse aside ≡ all
+
+pub split_next : {X : Type 0} (all left rest aside : List X) (x : X) → AreSplit all left aside →
+    left ≡ rest ++ x ∷ [] → AreSplit all rest (aside ++ x ∷ [])
+split_next all left rest aside x so split =
+    ap (λ ys. rest ++ ys) (reverse-append aside (x ∷ []))
+    ∙ sym (append_assoc rest (x ∷ []) (reverse aside))
+    ∙ ap (λ ys. ys ++ reverse aside) (sym split)
+    ∙ so
+
+pub split_all : {X : Type 0} (all left aside : List X) → AreSplit all left aside → left ≡ [] → reverse aside ≡ all
+split_all all left aside so none = sym (ap (λ ys. ys ++ reverse aside) none) ∙ so
+
+pub none_left : {X : Type 0} (xs : List X) (n : ℕ) → n ≡ length xs → n ≡ 0 → xs ≡ []
+none_left [] n same none = refl
+none_left (x ∷ xs) n same none = absurd (omega (arith, same, none))

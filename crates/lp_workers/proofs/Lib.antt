@@ -1,5 +1,5 @@
-pub mod OneMore
-pub mod Dealing
+-- Lemmas.
+pub mod Calls
 pub mod Gathering
+pub mod Together
 pub mod Founded
-pub mod InAll

@@ -1,3 +1,2 @@
-pub mod AnswersAll
-pub mod Workers
-pub mod Dealt
+pub mod Passes
+pub mod Turns

@@ -1,23 +1,21 @@
-//! A script's asks, answered on threads that share a board.
+//! Workers on threads that share a board, each with a pass of its own.
 //!
 //! | Item | What it is | Where |
 //! |---|---|---|
-//! | `answer_all` | the replies to the asks, in their order | src/serving |
-//! | `Gate`, `NeverHolds` | what is told before each solve | src/gate |
-//! | `Worker` | what one thread has: its pass, sessions and asks | src/worker |
-//! | `AnswersAll` | what replies many workers may give | specs/AnswersAll |
-//! | `IsReady`, `HasServed` | a worker before its turn and after it | specs/Workers |
-//! | `AreDealt`, `HoldReplies` | the asks and the replies of each worker, of those of the script | specs/Dealt |
+//! | `on_threads` | each job takes its turn, on a thread where the system makes one | src/threads |
+//! | `Turn` | what a job does in its turn | src/turn |
+//! | `Worker` | a job with its pass | src/hiring |
+//! | `IsFresh`, `IsUsed` | a pass before a turn and after it | specs/Passes |
+//! | `TookTurns` | that all jobs took their turns, and what their passes know together | specs/Turns |
 //!
-//! A session is one worker's, by its number. A worker answers its asks one after the other, in the order of the script,
-//! by a pass of its own. What its sessions read of the board is told by the pass.
+//! The first pass of the board is split into one more than there are workers, and all parts meet again when all turns
+//! are over. What the passes read then stands in one order.
 #![tactic(auto)]
 
-mod deal;
-mod gate;
-mod gather;
-mod serving;
-mod worker;
+mod hiring;
+mod threads;
+mod turn;
 
-pub use gate::{Gate, NeverHolds};
-pub use serving::answer_all;
+pub use hiring::Worker;
+pub use threads::on_threads;
+pub use turn::Turn;

@@ -5,6 +5,7 @@ pub mod InOrder
 pub mod OwnPart
 pub mod AllDone
 pub mod ManyFromOne
+pub mod OneOfMany
 pub mod Interleaving
 pub mod WorkersAgree
 pub mod Apart

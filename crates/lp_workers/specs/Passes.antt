@@ -1,0 +1,47 @@
+-- The passes of workers, before their turns and after them, and what they know together.
+use Rattle.std.specs.Prelude.{ℕ, ◌≡◌, List, []}
+use Rattle.std.specs.List.{flat_map}
+use Rattle.spec_board.specs.Reads.{ExactRead}
+use Rattle.basis_board.specs.declared.board.Board.{Board}
+use Rattle.basis_board.specs.declared.seats.View.{View}
+use Rattle.basis_board.specs.Calls.{CountTells}
+use Rattle.basis_board.specs.Id.{id_of}
+use Rattle.basis_board.specs.Known.{Known, notes_of}
+use Rattle.basis_board.specs.Moments.{Note, NotesMore, WereTrue}
+use Rattle.basis_board.specs.Rule.{Consistent, OwnsBelow}
+use Rattle.basis_board.specs.Orderly.{IsOrderly}
+use Rattle.basis_board.specs.PassReads.{reads_of}
+
+-- It is one of the board's, with one of the 64 parts, and has read and noted nothing.
+pub record IsFresh (board : Board) (pass : Known) : Type 0 where
+  pub of_board : pass.board ≡ id_of board
+  pub places : pass.view.places ≡ board.places
+  pub share : pass.view.share ≡ 1
+  pub unread : pass.view.reads ≡ []
+  pub unnoted : pass.moments ≡ []
+  pub consistent : Consistent pass.view
+
+-- It is one of the board's, with one of the parts; each of its notes was so, and is later than those before; and what
+-- it read stands in order.
+pub record IsUsed (board : Board) (pass : Known) : Type 0 where
+  pub of_board : pass.board ≡ id_of board
+  pub share : pass.view.share ≡ 1
+  pub notes : NotesMore [] pass.moments
+  pub were_true : WereTrue pass.moments pass.view.reads
+  pub orderly : IsOrderly pass.view
+
+-- what passes read, one after the other
+abbrev pub reads_of_all : List Known → List ExactRead
+reads_of_all passes = flat_map (λ (pass : Known). reads_of pass.view) passes
+
+-- what passes noted, those of one after those of the other
+abbrev pub notes_of_all : List Known → List Note
+notes_of_all passes = flat_map notes_of passes
+
+-- a pass with all parts owns the places below some number, and no count exceeds it
+abbrev pub KnowsWhole : View → Type 0
+KnowsWhole v = (n : ℕ) × OwnsBelow v n × CountTells v n
+
+-- the view with so many parts left
+abbrev pub part_of : View → ℕ → View
+part_of v parts = record v { share = parts }
