@@ -9,3 +9,9 @@ pub mod Replying
 pub mod OneMore
 pub mod Dealing
 pub mod InAll
+pub mod Plays
+pub mod Only
+pub mod Sights
+pub mod Puts
+pub mod Sizes
+pub mod Steps

@@ -7,7 +7,7 @@ use Rattle.std.proofs.lemmas.List.Elements.{All-set, All-replicate, All-same}
 use Rattle.spec_server.specs.declared.asks.Asked.{Asked}
 use Rattle.spec_server.specs.Halves.{Standing, Nothing, at_rest}
 use Rattle.spec_server.specs.Machine.{ExactAsk, ExactReply, State, opening}
-use Rattle.lp_places.specs.Sharing.{Sharing, SharesStep}
+use Rattle.lp_script.specs.Sharing.{Sharing, SharesStep}
 use Rattle.lp_script.specs.Answer.{Together, states_of, AreAtRest, opening_with, state_at, Steps}
 
 pub states-replicate : (n : ℕ) → states_of (replicate n (at_rest opening)) ≡ replicate n opening

@@ -23,7 +23,7 @@ use Rattle.lp_base.specs.declared.lines.LineStop.{LineStop}
 use Rattle.lp_base.specs.declared.lines.LineStop.TheVariants as line_stops
 use Rattle.lp_line.specs.declared.taking.Taken.{Taken}
 use Rattle.lp_line.specs.Takes.{TakesAsk, TakesNone, TakesEnd, TakesNext}
-use Rattle.lp_places.specs.Sharing.{Sharing, as_places, SharesStep}
+use Rattle.lp_script.specs.Sharing.{Sharing, as_places, SharesStep}
 use Rattle.lp_line.specs.declared.halt.Halt.TheVariants as halts
 use Rattle.lp_script.specs.Answer.{Together, opening_with, state_at, Answers, AnswersInPart}
 use Rattle.lp_script.specs.Run.{Moves, EndsInput, EndsSo}

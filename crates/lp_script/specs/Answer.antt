@@ -7,7 +7,7 @@ use Rattle.spec_server.specs.declared.asks.Asked.{Asked}
 use Rattle.spec_server.specs.Halves.{Standing, Nothing}
 use Rattle.spec_server.specs.Machine.{ExactAsk, ExactReply, State, opening}
 use Rattle.spec_server.specs.Output.{reply_lines}
-use Rattle.lp_places.specs.Sharing.{Sharing, SharesStep}
+use Rattle.lp_script.specs.Sharing.{Sharing, SharesStep}
 
 -- the sessions by their numbers, and the places that they share
 pub record Together : Type 0 where

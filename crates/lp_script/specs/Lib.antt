@@ -5,3 +5,5 @@ pub mod Replies
 pub mod AnswersAll
 pub mod Dealt
 pub mod Parts
+pub mod Sharing
+pub mod Only

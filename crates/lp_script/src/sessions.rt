@@ -3,8 +3,8 @@ ghost use Rattle.std.specs.Prelude.{◌≡◌, ◌≤◌, IfOk};
 ghost use Rattle.lp_script.specs.Answer.{opening_with, Steps};
 ghost use Rattle.lp_script.specs.Run.{IsPlaces};
 
+use crate::places::Places;
 use lp_line::{Asked, Reply};
-use lp_places::Places;
 use lp_session::Session;
 use std::alloc::{AllocError, Global};
 use std::marker::Model;

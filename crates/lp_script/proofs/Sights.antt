@@ -15,10 +15,10 @@ use Rattle.basis_board.specs.Board.{Each, Has}
 use Rattle.basis_board.specs.Rule.{Agree, StandsIn, ReadAgrees, Consistent}
 use Rattle.basis_board.specs.Calls.{SeesOther, Passed, OpenUnseen, Looks}
 use Rattle.basis_board.proofs.Totals.{each_has, each_append, has_left, has_right}
-use Rattle.lp_places.specs.Only.{published_words, AreInOrder}
-use Rattle.lp_places.specs.Sharing.{as_places}
-use Rattle.lp_places.proofs.Plays.{Stays}
-use Rattle.lp_places.proofs.Only.{stands_at, owns_all, all_published}
+use Rattle.lp_script.specs.Only.{published_words, AreInOrder}
+use Rattle.lp_script.specs.Sharing.{as_places}
+use Rattle.lp_script.proofs.Plays.{Stays}
+use Rattle.lp_script.proofs.Only.{stands_at, owns_all, all_published}
 
 place_done : (done : List Words) (n : ℕ) → n < length done →
     place_at (as_places done) n ≡ Some (place.Done (get_or done n []))

@@ -15,13 +15,13 @@ use Rattle.basis_board.specs.Rule.{Consistent}
 use Rattle.basis_board.specs.Calls.{Looks, Puts}
 use Rattle.basis_board.proofs.Totals.{each_has, has_right}
 use Rattle.lp_session.specs.Boarding.{AddsStep, StepCalls, MayPut}
-use Rattle.lp_places.specs.Only.{published_words, AreInOrder, sharing_of}
-use Rattle.lp_places.specs.Sharing.{as_places, SharesStep}
-use Rattle.lp_places.proofs.Plays.{reads_since, has_newest, Played, played_on, played_each}
-use Rattle.lp_places.proofs.Only.{OwnsAll, owns_all, look_rests, rests_own}
-use Rattle.lp_places.proofs.Sights.{look_sees}
-use Rattle.lp_places.proofs.Puts.{tried, put_reads, put_places, put_played, put_order}
-use Rattle.lp_places.proofs.Sizes.{IsSized, step_sized}
+use Rattle.lp_script.specs.Only.{published_words, AreInOrder, sharing_of}
+use Rattle.lp_script.specs.Sharing.{as_places, SharesStep}
+use Rattle.lp_script.proofs.Plays.{reads_since, has_newest, Played, played_on, played_each}
+use Rattle.lp_script.proofs.Only.{OwnsAll, owns_all, look_rests, rests_own}
+use Rattle.lp_script.proofs.Sights.{look_sees}
+use Rattle.lp_script.proofs.Puts.{tried, put_reads, put_places, put_played, put_order}
+use Rattle.lp_script.proofs.Sizes.{IsSized, step_sized}
 
 -- the places answer what a pass reads more, and it is still the only one
 pub record Goes (v u : View) : Type 0 where

@@ -7,7 +7,7 @@ use Rattle.basis_board.specs.declared.seats.RawRead.{RawRead}
 use Rattle.basis_board.specs.declared.seats.RawRead.TheVariants.{Done}
 use Rattle.basis_board.specs.Known.{Known}
 use Rattle.basis_board.specs.Rule.{Consistent}
-use Rattle.lp_places.specs.Sharing.{Sharing}
+use Rattle.lp_script.specs.Sharing.{Sharing}
 
 -- the words of the publications, the first one first
 abbrev pub published_words : List RawRead → List Words

@@ -10,10 +10,10 @@ use Rattle.basis_board.specs.declared.seats.RawRead.TheVariants.{Count, Claim, L
 use Rattle.spec_board.specs.declared.read.Put.{Put}
 use Rattle.spec_board.specs.declared.read.Put.TheVariants.{Published, Full, Raced}
 use Rattle.basis_board.specs.Calls.{Puts}
-use Rattle.lp_places.specs.Only.{published_words, AreInOrder}
-use Rattle.lp_places.specs.Sharing.{as_places}
-use Rattle.lp_places.proofs.Plays.{Played, played_each}
-use Rattle.lp_places.proofs.Only.{OwnsAll, all_published}
+use Rattle.lp_script.specs.Only.{published_words, AreInOrder}
+use Rattle.lp_script.specs.Sharing.{as_places}
+use Rattle.lp_script.proofs.Plays.{Played, played_each}
+use Rattle.lp_script.proofs.Only.{OwnsAll, all_published}
 
 place_last : (done : List Words) (p : ExactPlace) → place_at (as_places done ++ p ∷ []) (length done) ≡ Some p
 place_last [] p = refl

@@ -1,9 +1,9 @@
 -- The pass of the board is still the only one, and the places answer what it read.
 use Rattle.std.proofs.Common.{◌∙◌, subst}
-use Rattle.lp_places.specs.Sharing.{Sharing, SharesStep}
-use Rattle.lp_places.specs.Only.{sharing_of}
-use Rattle.lp_places.proofs.Steps.{shares_so, step_goes}
-use Rattle.lp_places.proofs.places.Places.step.Goals as goal
+use Rattle.lp_script.specs.Sharing.{Sharing, SharesStep}
+use Rattle.lp_script.specs.Only.{sharing_of}
+use Rattle.lp_script.proofs.Steps.{shares_so, step_goes}
+use Rattle.lp_script.proofs.places.Places.step.Goals as goal
 
 pub returns-clause-step : goal.returns-clause-step
 returns-clause-step c =

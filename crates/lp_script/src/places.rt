@@ -1,7 +1,7 @@
 // Places for bases.
 ghost use Rattle.std.specs.Prelude.{◌≡◌, ◌≤◌, [], IfOk};
 ghost use Rattle.spec_server.specs.Halves.{Nothing};
-ghost use Rattle.lp_places.specs.Sharing.{SharesStep};
+ghost use Rattle.lp_script.specs.Sharing.{SharesStep};
 
 use basis_board::{Board, Pass};
 use lp_line::{Ask, Reply};
@@ -18,8 +18,8 @@ pub struct Places {
 
 impl Model for Places {
     ghost use Rattle.basis_board.specs.Id.{id_of};
-    ghost use Rattle.lp_places.specs.Only.{sharing_of, IsOnly};
-    ghost use Rattle.lp_places.specs.Sharing.{Sharing};
+    ghost use Rattle.lp_script.specs.Only.{sharing_of, IsOnly};
+    ghost use Rattle.lp_script.specs.Sharing.{Sharing};
 
     ghost Value = { Sharing };
 

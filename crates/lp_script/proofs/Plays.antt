@@ -9,7 +9,7 @@ use Rattle.basis_board.specs.declared.seats.RawRead.{RawRead}
 use Rattle.basis_board.specs.Board.{Each, Has}
 use Rattle.basis_board.proofs.Totals.{has_right}
 use Rattle.basis_board.specs.PassReads.{exact_read, reads_of}
-use Rattle.lp_places.specs.Sharing.{as_places}
+use Rattle.lp_script.specs.Sharing.{as_places}
 
 plays_append : (places : ℕ) (now middle last : List ExactPlace) (xs ys : List Logged) → Plays places now xs middle →
     Plays places middle ys last → Plays places now (xs ++ ys) last

@@ -13,7 +13,7 @@ use Rattle.basis_board.specs.Board.{Has}
 use Rattle.basis_board.specs.Rule.{published_places, Neat, OwnsBelow}
 use Rattle.basis_board.specs.Calls.{Passed, IsDownTo, Looks}
 use Rattle.basis_board.proofs.Whole.{length_own}
-use Rattle.lp_places.specs.Only.{published_words, AreInOrder}
+use Rattle.lp_script.specs.Only.{published_words, AreInOrder}
 
 -- ---- each place was published with the words that stand there
 abbrev Stands : List RawRead → ℕ → Type 0
