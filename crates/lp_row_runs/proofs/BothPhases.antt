@@ -14,10 +14,10 @@ use Rattle.spec_simplex.specs.Form.{Form}
 use Rattle.spec_simplex.specs.Tableau.{Tableau}
 use Rattle.spec_simplex.specs.Phases.{PrimalEnded, PhasesEnd, Infeasible, Finished, is_stuck, phase_two, phase_two_run}
 use Rattle.spec_simplex.specs.Phases.{run_from}
-use Rattle.lp_row_tableau.specs.declared.tableau.RowTableau.{RowTableau}
-use Rattle.lp_row_tableau.specs.Shows.{IsReached, Shows, height}
-use Rattle.lp_row_tableau.specs.Ends.{certificate_as, basis_by}
-pub use Rattle.lp_row_tableau.proofs.SameNumbers.{of_some}
+use Rattle.lp_rows.specs.declared.tableau.tableau.RowTableau.{RowTableau}
+use Rattle.lp_rows.specs.Shows.{IsReached, Shows, height}
+use Rattle.lp_rows.specs.Ends.{certificate_as, basis_by}
+pub use Rattle.lp_rows.proofs.SameNumbers.{of_some}
 use Rattle.lp_row_runs.specs.Steps.{ComesTo, EndsAt}
 use Rattle.lp_row_runs.specs.Phases.{after_one, rest_run, end_by, row_end, row_end_in, IsLeft, PausesWith, EndsWith}
 use Rattle.lp_row_runs.specs.declared.phases.Phase.TheVariants as phase

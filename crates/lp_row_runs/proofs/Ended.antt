@@ -20,10 +20,10 @@ use Rattle.spec_path.specs.Begins.{IsProper}
 use Rattle.spec_warm.specs.Based.{BeginsFrom}
 use Rattle.spec_warm.proofs.Started.{start_begins_from}
 use Rattle.spec_warm.specs.Warm.{stopped_as, start_stop, run_stop, ByPrimal, run_by, warm_run}
-use Rattle.lp_row_tableau.specs.declared.tableau.RowTableau.{RowTableau}
-use Rattle.lp_row_tableau.specs.Shows.{Shows}
-use Rattle.lp_row_tableau.specs.Ends.{certificate_as}
-use Rattle.lp_row_tableau.proofs.Converted.{if_some}
+use Rattle.lp_rows.specs.declared.tableau.tableau.RowTableau.{RowTableau}
+use Rattle.lp_rows.specs.Shows.{Shows}
+use Rattle.lp_rows.specs.Ends.{certificate_as}
+use Rattle.lp_rows.proofs.Converted.{if_some}
 use Rattle.lp_row_runs.specs.Cold.{EndsAs}
 use Rattle.lp_row_runs.specs.Phases.{rest_run, row_end, row_end_in, HasCosts, IsReady}
 use Rattle.lp_row_runs.specs.declared.phases.Phase.TheVariants.{Two}

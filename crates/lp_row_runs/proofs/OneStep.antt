@@ -11,11 +11,11 @@ use Rattle.spec_exact.specs.Run.{◌>>=◌, refused_as}
 use Rattle.spec_simplex.specs.Step.{choice_run}
 use Rattle.spec_simplex.specs.Tableau.{Tableau}
 use Rattle.spec_simplex.specs.Phases.{PrimalEnded, end_or_spent, end_or_next, done_run, run_from}
-use Rattle.lp_row_tableau.specs.declared.choice.Step.{Step}
-use Rattle.lp_row_tableau.specs.declared.choice.Step.TheVariants.{End, Flip, Pivot}
-use Rattle.lp_row_tableau.specs.declared.tableau.RowTableau.{RowTableau}
-use Rattle.lp_row_tableau.specs.Shows.{IsReached, Shows}
-use Rattle.lp_row_tableau.specs.Steps.{step_of}
+use Rattle.lp_rows.specs.declared.tableau.choice.Step.{Step}
+use Rattle.lp_rows.specs.declared.tableau.choice.Step.TheVariants.{End, Flip, Pivot}
+use Rattle.lp_rows.specs.declared.tableau.tableau.RowTableau.{RowTableau}
+use Rattle.lp_rows.specs.Shows.{IsReached, Shows}
+use Rattle.lp_rows.specs.Steps.{step_of}
 use Rattle.lp_row_runs.specs.declared.steps.StepsPause.{StepsPause}
 use Rattle.lp_row_runs.specs.declared.steps.StepsPause.TheVariants.{Ended, Narrow, GaveUp}
 use Rattle.lp_row_runs.specs.Steps.{steps_from, ComesTo, EndsAt, PausesAt, StepsTo, Advances}

@@ -17,11 +17,11 @@ use Rattle.spec_simplex.specs.Eliminate.{basis_status, basis_lower, basis_upper,
 use Rattle.lp_wide.specs.declared.signed.Signed.{Signed}
 use Rattle.lp_rows.specs.Ratio.{bound_of}
 use Rattle.lp_rows.specs.declared.fractions.Row.{Row}
-use Rattle.lp_row_tableau.specs.declared.tableau.RowTableau.{RowTableau}
-use Rattle.lp_row_tableau.specs.Shows.{IsWhole, width, all_width}
-use Rattle.lp_row_tableau.specs.Moves.{number_at, number_in, AreMoved, AreTurned, step_to}
-use Rattle.lp_row_tableau.proofs.Numbers.{row_at-on}
-use Rattle.lp_row_tableau.proofs.Whole.{whole_on, whole_flipped}
+use Rattle.lp_rows.specs.declared.tableau.tableau.RowTableau.{RowTableau}
+use Rattle.lp_rows.specs.Shows.{IsWhole, width, all_width}
+use Rattle.lp_rows.specs.Moves.{number_at, number_in, AreMoved, AreTurned, step_to}
+use Rattle.lp_rows.proofs.TableauNumbers.{row_at-on}
+use Rattle.lp_rows.proofs.Whole.{whole_on, whole_flipped}
 use Rattle.lp_row_runs.specs.Rows.{AreRowsAt, IsUnsolved}
 
 module _ {T : Type 0} (value : T → ℕ) (d h n : ℕ) (x : ℕ → ℚ) (equations : ℕ → ℕ → ℚ) (old : List (Row T))

@@ -20,7 +20,7 @@ use Rattle.spec_path.proofs.LimitStart.{flip_agrees, pivot_agrees, start_agrees}
 use Rattle.spec_path.proofs.PhaseTwo.{second_phase}
 use Rattle.spec_path.proofs.Steps.{choice_is_meant}
 use Rattle.spec_cold.proofs.PhaseSteps.{given}
-use Rattle.lp_row_tableau.specs.Shows.{IsReached}
+use Rattle.lp_rows.specs.Shows.{IsReached}
 
 -- ---- nothing is refused
 pub done_given : (t : Tableau) (c : Choice ℚ) → (u : Tableau) × (done_run None t c ≡ Ok u)

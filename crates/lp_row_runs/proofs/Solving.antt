@@ -29,12 +29,12 @@ use Rattle.lp_tableau.proofs.Solving.{is_solved}
 use Rattle.lp_wide.specs.declared.signed.Signed.{Signed}
 use Rattle.lp_rows.specs.declared.fractions.Row.{Row}
 use Rattle.lp_rows.specs.Ratio.{bound_of}
-use Rattle.lp_row_tableau.specs.Shows.{IsRow, IsWhole, height, width}
-use Rattle.lp_row_tableau.specs.Moves.{number_at, number_in, AreTurned}
-use Rattle.lp_row_tableau.proofs.Asks.{zero-over}
-use Rattle.lp_row_tableau.proofs.Lasts.{over_none}
-use Rattle.lp_row_tableau.proofs.Numbers.{number_in-get}
-use Rattle.lp_row_tableau.proofs.Read.{read_at}
+use Rattle.lp_rows.specs.Shows.{IsRow, IsWhole, height, width}
+use Rattle.lp_rows.specs.Moves.{number_at, number_in, AreTurned}
+use Rattle.lp_rows.proofs.Asks.{zero-over}
+use Rattle.lp_rows.proofs.Lasts.{over_none}
+use Rattle.lp_rows.proofs.TableauNumbers.{number_in-get}
+use Rattle.lp_rows.proofs.Read.{read_at}
 use Rattle.lp_row_runs.specs.Rows.{AreRowsAt, IsUnsolved, IsSolvedBelow, IfDone}
 use Rattle.lp_row_runs.specs.declared.elimination.Progress.{Progress}
 use Rattle.lp_row_runs.specs.declared.elimination.Progress.TheVariants.{Done, Narrow, Stopped}

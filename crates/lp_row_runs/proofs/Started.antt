@@ -32,11 +32,11 @@ use Rattle.spec_warm.proofs.Valued.{valued_other, valued_solves}
 use Rattle.lp_wide.specs.declared.signed.Signed.{Signed}
 use Rattle.lp_rows.specs.declared.fractions.Row.{Row}
 use Rattle.lp_rows.specs.Ratio.{bound_of}
-use Rattle.lp_row_tableau.specs.declared.tableau.RowTableau.{RowTableau}
-use Rattle.lp_row_tableau.specs.Shows.{Shows}
-use Rattle.lp_row_tableau.specs.Second.{IsPricedRow}
-use Rattle.lp_row_tableau.proofs.Numbers.{row_at-one}
-use Rattle.lp_row_tableau.proofs.Taken.{stated_costs}
+use Rattle.lp_rows.specs.declared.tableau.tableau.RowTableau.{RowTableau}
+use Rattle.lp_rows.specs.Shows.{Shows}
+use Rattle.lp_rows.specs.Second.{IsPricedRow}
+use Rattle.lp_rows.proofs.TableauNumbers.{row_at-one}
+use Rattle.lp_rows.proofs.Taken.{stated_costs}
 use Rattle.lp_row_runs.specs.declared.elimination.Elimination.{Elimination}
 use Rattle.lp_row_runs.specs.Rows.{IsSolvedBelow, HasSize, ShowsBasis, ShowsStart}
 

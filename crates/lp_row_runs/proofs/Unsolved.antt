@@ -23,13 +23,13 @@ use Rattle.lp_rows.specs.Row.{at, fraction_at}
 use Rattle.lp_rows.specs.Ratio.{bound_of}
 use Rattle.lp_rows.proofs.Done.{item-at}
 use Rattle.lp_rows.proofs.Cleared.{fraction-at}
-use Rattle.lp_row_tableau.specs.declared.tableau.RowTableau.{RowTableau}
-use Rattle.lp_row_tableau.specs.Shows.{IsRow, width, all_width}
-use Rattle.lp_row_tableau.specs.Held.{IsRowOf}
-use Rattle.lp_row_tableau.specs.Moves.{number_at}
-use Rattle.lp_row_tableau.proofs.Lasts.{over_none}
-use Rattle.lp_row_tableau.proofs.Converted.{row_at-before, row_at-seam}
-use Rattle.lp_row_tableau.proofs.Numbers.{row_at-one}
+use Rattle.lp_rows.specs.declared.tableau.tableau.RowTableau.{RowTableau}
+use Rattle.lp_rows.specs.Shows.{IsRow, width, all_width}
+use Rattle.lp_rows.specs.Held.{IsRowOf}
+use Rattle.lp_rows.specs.Moves.{number_at}
+use Rattle.lp_rows.proofs.Lasts.{over_none}
+use Rattle.lp_rows.proofs.Converted.{row_at-before, row_at-seam}
+use Rattle.lp_rows.proofs.TableauNumbers.{row_at-one}
 use Rattle.lp_row_runs.specs.Rows.{AreRowsAt, AreZeros, IsUnsolved}
 
 -- ---- one entry

@@ -19,9 +19,9 @@ use Rattle.spec_simplex.specs.Phases.{PhasesEnd, Infeasible, Finished, phases_ru
 use Rattle.spec_path.proofs.Formed.{form_is, form_proper, cost_length}
 use Rattle.spec_path.proofs.Runs.{then_ok}
 use Rattle.spec_factor.specs.Over.{answer_of, answer_in}
-use Rattle.lp_row_tableau.specs.Shows.{IsReached}
-use Rattle.lp_row_tableau.specs.Ends.{AllFit}
-use Rattle.lp_row_tableau.proofs.Converted.{if_some}
+use Rattle.lp_rows.specs.Shows.{IsReached}
+use Rattle.lp_rows.specs.Ends.{AllFit}
+use Rattle.lp_rows.proofs.Converted.{if_some}
 use Rattle.lp_row_runs.specs.Phases.{row_end, row_end_in, HasCosts, IsReady, IsLeft, PausesWith, StaysReady}
 use Rattle.lp_row_runs.specs.Cold.{start_run, EndsAs, EndsAsStated, IsFitEnd, IsNarrowEnd, over_end, LeavesAt}
 use Rattle.lp_row_runs.specs.declared.phases.State.{State}

@@ -8,7 +8,7 @@ use Rattle.spec_simplex.specs.Form.{Form}
 use Rattle.spec_simplex.specs.Tableau.{Tableau}
 use Rattle.spec_simplex.specs.Phases.{PhasesEnd, phase_one}
 use Rattle.spec_factor.specs.Over.{OverEnd, answer_in}
-use Rattle.lp_row_tableau.specs.Ends.{AllFit}
+use Rattle.lp_rows.specs.Ends.{AllFit}
 use Rattle.lp_row_runs.specs.Phases.{after_one, row_end_in, IsReady, IsLeft}
 use Rattle.lp_row_runs.specs.declared.phases.RowEnd.{RowEnd}
 use Rattle.lp_row_runs.specs.declared.cold_run.Left.{Left}

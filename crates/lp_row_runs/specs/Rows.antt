@@ -15,9 +15,9 @@ use Rattle.lp_wide.specs.declared.signed.Signed.{Signed}
 use Rattle.lp_rows.specs.declared.fractions.Row.{Row}
 use Rattle.lp_rows.specs.Row.{fraction_at}
 use Rattle.lp_rows.specs.Ratio.{bound_of}
-use Rattle.lp_row_tableau.specs.declared.tableau.RowTableau.{RowTableau}
-use Rattle.lp_row_tableau.specs.Shows.{IsRow, IsWhole, Shows, height, row_at}
-use Rattle.lp_row_tableau.specs.Moves.{number_at, number_in}
+use Rattle.lp_rows.specs.declared.tableau.tableau.RowTableau.{RowTableau}
+use Rattle.lp_rows.specs.Shows.{IsRow, IsWhole, Shows, height, row_at}
+use Rattle.lp_rows.specs.Moves.{number_at, number_in}
 use Rattle.lp_row_runs.specs.declared.based.Based.{Based}
 use Rattle.lp_row_runs.specs.declared.based.Based.TheVariants as based
 use Rattle.lp_row_runs.specs.declared.elimination.Elimination.{Elimination}

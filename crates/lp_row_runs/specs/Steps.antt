@@ -5,9 +5,9 @@ use Rattle.spec_simplex.specs.declared.ends.PrimalEnd.{PrimalEnd}
 use Rattle.spec_simplex.specs.declared.ends.RunStop.{RunStop}
 use Rattle.spec_simplex.specs.Tableau.{Tableau}
 use Rattle.spec_simplex.specs.Phases.{PrimalEnded, run_from}
-use Rattle.lp_row_tableau.specs.declared.tableau.RowTableau.{RowTableau}
-use Rattle.lp_row_tableau.specs.Shows.{height, IsWhole, IsReached, Shows}
-use Rattle.lp_row_tableau.specs.Ends.{IsInside}
+use Rattle.lp_rows.specs.declared.tableau.tableau.RowTableau.{RowTableau}
+use Rattle.lp_rows.specs.Shows.{height, IsWhole, IsReached, Shows}
+use Rattle.lp_rows.specs.Ends.{IsInside}
 use Rattle.lp_row_runs.specs.declared.steps.StepsPause.{StepsPause}
 use Rattle.lp_row_runs.specs.declared.steps.StepsPause.TheVariants.{Ended, Narrow, GaveUp}
 

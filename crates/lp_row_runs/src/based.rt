@@ -3,13 +3,13 @@ ghost use Rattle.std.specs.Prelude.{◌≡◌, ◌+◌, IfOk, IfSome, List, leng
 ghost use Rattle.spec_pivot.specs.declared.status.Status.{Status as statuses};
 ghost use Rattle.spec_simplex.specs.Eliminate.{IsBasisOf};
 ghost use Rattle.spec_path.specs.Begins.{IsProper};
-ghost use Rattle.lp_row_tableau.specs.Shows.{width};
+ghost use Rattle.lp_rows.specs.Shows.{width};
 ghost use Rattle.lp_row_runs.specs.Rows.{IsComplete, IsSolvedBelow, IfRows, HasSize, ShowsBasis, ShowsStart};
 
 use crate::elimination::{Elimination, Progress};
 use crate::equations::{place_values, unsolved};
 use lp_form::{Form, Status};
-use lp_row_tableau::{RowTableau, priced};
+use lp_rows::tableau::{RowTableau, priced};
 use lp_wide::Words;
 use std::alloc::{AllocError, Global};
 

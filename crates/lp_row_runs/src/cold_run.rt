@@ -5,7 +5,7 @@ ghost use Rattle.spec_model.specs.Model.{Model};
 ghost use Rattle.spec_simplex.specs.Form.{Form as Forms, form_of};
 ghost use Rattle.spec_simplex.specs.Tableau as tableaus;
 ghost use Rattle.spec_simplex.specs.Phases.{phases_run};
-ghost use Rattle.lp_row_tableau.specs.Shows.{IsWhole, IsReached, Shows};
+ghost use Rattle.lp_rows.specs.Shows.{IsWhole, IsReached, Shows};
 ghost use Rattle.lp_row_runs.specs.Phases.{rest_run, HasCosts, IsReady, IsLeft};
 ghost use Rattle.lp_row_runs.specs.Cold.{start_run, EndsAs, EndsAsStated, IsFitEnd, IsNarrowEnd, LeavesAt, LeavesReady};
 
@@ -13,8 +13,8 @@ use crate::phases::{Phase, PhasesPause, RowEnd, State, go_on};
 use lp_form::Form;
 use lp_frac::{Frac, Stop};
 use lp_ratio::Ratio;
-use lp_row_tableau::{from_tableau, wants_phase_one, widened};
 use lp_rows::Listed;
+use lp_rows::tableau::{from_tableau, wants_phase_one, widened};
 use lp_tableau::{Tableau, start_cold};
 use lp_wide::{Long, Quad, Words};
 use std::alloc::{AllocError, Global};

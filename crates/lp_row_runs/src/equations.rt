@@ -9,15 +9,17 @@ ghost use Rattle.spec_simplex.specs.Tableau as tableaus;
 ghost use Rattle.spec_simplex.specs.Tableau.{at_place};
 ghost use Rattle.spec_simplex.specs.Eliminate as elimination;
 ghost use Rattle.spec_pivot.specs.declared.status.Status.{Status as statuses};
-ghost use Rattle.lp_row_tableau.specs.Held.{IsRowOf};
-ghost use Rattle.lp_row_tableau.specs.Shows.{IsWhole, IsRow, width};
-ghost use Rattle.lp_row_tableau.specs.Moves.{number_at};
+ghost use Rattle.lp_rows.specs.Held.{IsRowOf};
+ghost use Rattle.lp_rows.specs.Shows.{IsWhole, IsRow, width};
+ghost use Rattle.lp_rows.specs.Moves.{number_at};
 ghost use Rattle.lp_row_runs.specs.Rows.{AreRowsAt, AreZeros, IsUnsolved};
 
 use lp_form::{Form, Status};
 use lp_frac::{Frac, neg, one, zero};
-use lp_row_tableau::{RowTableau, bounds_on, denominator_with, is_fixed, move_all, row_of, stand};
 use lp_rows::Row;
+use lp_rows::tableau::{
+    RowTableau, bounds_on, denominator_with, is_fixed, move_all, row_of, stand,
+};
 use lp_wide::{Signed, Words};
 use std::alloc::{AllocError, Global};
 

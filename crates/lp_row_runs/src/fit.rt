@@ -9,10 +9,10 @@ ghost use Rattle.spec_simplex.specs.Tableau as tableaus;
 ghost use Rattle.spec_warm.specs.Based.{BeginsFrom};
 ghost use Rattle.lp_wide.specs.Whole.{whole};
 ghost use Rattle.lp_rows.specs.Ratio.{bound_of};
-ghost use Rattle.lp_row_tableau.specs.Shows.{IsWhole, Shows, height};
+ghost use Rattle.lp_rows.specs.Shows.{IsWhole, Shows, height};
 
-use lp_row_tableau::RowTableau;
 use lp_rows::order;
+use lp_rows::tableau::RowTableau;
 use lp_wide::{Signed, Words};
 use std::cmp::Ordering;
 

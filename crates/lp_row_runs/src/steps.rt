@@ -5,11 +5,11 @@ ghost use Rattle.spec_simplex.specs.Tableau.{Tableau};
 ghost use Rattle.spec_simplex.specs.declared.ends.Choice.{Choice};
 ghost use Rattle.spec_simplex.specs.Step.{choice_run};
 ghost use Rattle.spec_simplex.specs.Phases.{done_run};
-ghost use Rattle.lp_row_tableau.specs.Shows.{IsWhole, IsReached, Shows};
-ghost use Rattle.lp_row_tableau.specs.Steps.{step_of, MayMake};
+ghost use Rattle.lp_rows.specs.Shows.{IsWhole, IsReached, Shows};
+ghost use Rattle.lp_rows.specs.Steps.{step_of, MayMake};
 ghost use Rattle.lp_row_runs.specs.Steps.{PausesAt, StepsTo, KeepsAt, KeepsStep, Advances, KeepsAdvance};
 
-use lp_row_tableau::{RowTableau, Step, effort_of, is_roomy, make, next_step};
+use lp_rows::tableau::{RowTableau, Step, effort_of, is_roomy, make, next_step};
 use lp_tableau::PrimalEnd;
 use lp_wide::Words;
 

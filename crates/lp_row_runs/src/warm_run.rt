@@ -6,7 +6,7 @@ ghost use Rattle.spec_pivot.specs.declared.status.Status.{Status as statuses};
 ghost use Rattle.spec_simplex.specs.Form.{Form as forms, form_of};
 ghost use Rattle.spec_simplex.specs.Eliminate.{IsBasisOf};
 ghost use Rattle.spec_path.specs.Begins.{IsProper};
-ghost use Rattle.lp_row_tableau.specs.Shows.{IsWhole};
+ghost use Rattle.lp_rows.specs.Shows.{IsWhole};
 ghost use Rattle.lp_row_runs.specs.Phases.{HasCosts};
 ghost use Rattle.lp_row_runs.specs.Rows.{HasSize, ShowsStart};
 ghost use Rattle.lp_row_runs.specs.Warm.{EndsFromBasis, BeginsAtBasis, BeginsReady};
@@ -17,7 +17,7 @@ use crate::fit::is_fit;
 use crate::phases::{Phase, RowEnd, State};
 use lp_form::{Form, Status};
 use lp_ratio::Ratio;
-use lp_row_tableau::RowTableau;
+use lp_rows::tableau::RowTableau;
 use lp_wide::{Long, Quad, Words};
 use std::alloc::{AllocError, Global};
 

@@ -2,3 +2,11 @@ pub mod Row
 pub mod Entering
 pub mod Ratio
 pub mod Number
+pub mod Shows
+pub mod Steps
+pub mod Stops
+pub mod Moves
+pub mod Changes
+pub mod Ends
+pub mod Held
+pub mod Second

@@ -15,6 +15,7 @@
 //! | `Listed` | numbers of lists that are made of those of rows: of 127 bits, or of any width | src/number, src/narrow, src/wide |
 //! | `fractions` | what a row means: exact fractions | specs/Row |
 //! | `at` | the whole number of a column | specs/Row |
+//! | `tableau` | tableaus over such rows: the step of the primal method, its start and its ends | src/tableau |
 #![tactic(auto)]
 
 mod choice;
@@ -23,6 +24,7 @@ mod narrow;
 mod number;
 mod ratio;
 mod row;
+pub mod tableau;
 mod wide;
 
 pub use choice::entering;

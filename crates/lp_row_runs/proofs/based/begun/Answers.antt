@@ -1,7 +1,7 @@
 -- The equations with the values of the columns that are not basic.
 use Rattle.std.proofs.Common.{length, false, sym, ap, ◌∙◌}
 use Rattle.std.proofs.lemmas.List.{length-replicate}
-use Rattle.lp_row_tableau.proofs.SameNumbers.{of_some}
+use Rattle.lp_rows.proofs.SameNumbers.{of_some}
 use Rattle.lp_row_runs.proofs.Solving.{solving_begins}
 use Rattle.lp_row_runs.proofs.based.begun.Goals as goal
 

@@ -1,6 +1,6 @@
 -- The rows of all columns.
 use Rattle.std.proofs.Common.{subst, arith}
-use Rattle.lp_row_tableau.proofs.SameNumbers.{of_some}
+use Rattle.lp_rows.proofs.SameNumbers.{of_some}
 use Rattle.lp_row_runs.specs.Rows.{IsSolvedBelow}
 use Rattle.lp_row_runs.proofs.Solving.{done_of}
 use Rattle.lp_row_runs.proofs.Started.{shows_basis}

@@ -5,7 +5,7 @@ use Rattle.spec_simplex.specs.declared.ends.RowStart.TheVariants.{Within}
 use Rattle.spec_simplex.specs.Start.{start_entry}
 use Rattle.spec_simplex.specs.Tableau.{at_place}
 use Rattle.spec_simplex.specs.Eliminate.{basis_value, unsolved}
-use Rattle.lp_row_tableau.proofs.SameNumbers.{of_some}
+use Rattle.lp_rows.proofs.SameNumbers.{of_some}
 use Rattle.lp_row_runs.specs.Rows.{AreRowsAt}
 use Rattle.lp_row_runs.proofs.Unsolved.{rows_more, unsolved_at}
 use Rattle.lp_row_runs.proofs.equations.equations.Goals as goal

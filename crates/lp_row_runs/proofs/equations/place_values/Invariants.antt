@@ -2,7 +2,7 @@
 use Rattle.std.proofs.Common.{◌≡◌, List}
 use Rattle.spec_pivot.specs.declared.status.Status.{Status}
 use Rattle.spec_simplex.specs.Form.{Form}
-use Rattle.lp_row_tableau.specs.Shows.{IsWhole, width}
+use Rattle.lp_rows.specs.Shows.{IsWhole, width}
 use Rattle.lp_row_runs.specs.Rows.{IsUnsolved}
 use Rattle.lp_row_runs.proofs.equations.place_values.Given as goal
 

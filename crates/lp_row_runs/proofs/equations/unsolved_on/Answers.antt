@@ -1,7 +1,7 @@
 -- The parts.
 use Rattle.std.proofs.Common.{◌+◌, ◌∙◌, subst₂, arith}
-use Rattle.lp_row_tableau.specs.Shows.{IsRow}
-use Rattle.lp_row_tableau.proofs.SameNumbers.{of_some}
+use Rattle.lp_rows.specs.Shows.{IsRow}
+use Rattle.lp_rows.proofs.SameNumbers.{of_some}
 use Rattle.lp_row_runs.proofs.Unsolved.{unsolved_is}
 use Rattle.lp_row_runs.proofs.equations.unsolved_on.Goals as goal
 

@@ -2,7 +2,7 @@
 use Rattle.std.proofs.Common.{ℕ, ◌<◌}
 use Rattle.spec_pivot.specs.Simplex.{IsInside}
 use Rattle.spec_simplex.specs.Tableau.{Tableau, basic_at, value_at, lower_at, upper_at}
-use Rattle.lp_row_tableau.specs.Shows.{Shows}
+use Rattle.lp_rows.specs.Shows.{Shows}
 use Rattle.lp_row_runs.proofs.fit.is_fit.Given as goal
 
 abbrev pub invariant-loop-i : goal.invariant-loop-i

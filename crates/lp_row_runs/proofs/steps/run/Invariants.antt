@@ -1,7 +1,7 @@
 -- The loop over the steps.
 use Rattle.std.proofs.Common.{◌-◌}
 use Rattle.spec_simplex.specs.Tableau.{Tableau}
-use Rattle.lp_row_tableau.specs.Shows.{IsReached, Shows}
+use Rattle.lp_rows.specs.Shows.{IsReached, Shows}
 use Rattle.lp_row_runs.specs.Steps.{ComesTo, Keeps}
 use Rattle.lp_row_runs.proofs.steps.run.Given as goal
 

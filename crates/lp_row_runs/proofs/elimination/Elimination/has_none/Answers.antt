@@ -1,5 +1,5 @@
 -- The number of the row in this column.
-use Rattle.lp_row_tableau.specs.Shows.{width}
+use Rattle.lp_rows.specs.Shows.{width}
 use Rattle.lp_row_runs.proofs.Solving.{entry_none}
 use Rattle.lp_row_runs.proofs.elimination.Elimination.has_none.Goals as goal
 

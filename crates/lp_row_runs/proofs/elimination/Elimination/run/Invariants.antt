@@ -1,7 +1,7 @@
 -- The columns so far have their positions.
 use Rattle.std.proofs.Common.{◌≡◌}
 use Rattle.spec_simplex.specs.Form.{Form}
-use Rattle.lp_row_tableau.specs.Shows.{width}
+use Rattle.lp_rows.specs.Shows.{width}
 use Rattle.lp_row_runs.specs.Rows.{IsComplete, IsSolvedBelow}
 use Rattle.lp_row_runs.proofs.elimination.Elimination.run.Given as goal
 

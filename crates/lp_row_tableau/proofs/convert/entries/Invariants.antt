@@ -1,8 +1,0 @@
--- The entries so far.
-use Rattle.std.proofs.Common.{◌≡◌}
-use Rattle.spec_exact.specs.Run.{made}
-use Rattle.spec_simplex.specs.Tableau.{entry_at}
-use Rattle.lp_row_tableau.proofs.convert.entries.Given as goal
-
-abbrev pub invariant-loop-k : goal.invariant-loop-k
-invariant-loop-k l = l.list.items ≡ made l.k (entry_at l.tab l.place)

@@ -1,9 +1,0 @@
-use Rattle.lp_row_tableau.proofs.Converted.{rows_more}
-use Rattle.lp_row_tableau.proofs.convert.rows.Goals as goal
-use Rattle.lp_row_tableau.proofs.SameNumbers.{of_some}
-
-pub loop-i-preserved : goal.loop-i-preserved
-loop-i-preserved g c =
-    rows_more g.T.Words.value c.args.tab.now (g.T.Words.value c.args.denominator) c.loop-i.i c.loop-i.rows.items _
-    c.in-Some.row c.loop-i.invariant (of_some _ c.in_ok-row.field-0 c.in-Some.row c.in-Some.is c.in_ok-row.ensures)
-    c.in_ok-push-in-Some.ensures.items

@@ -1,5 +1,0 @@
-use Rattle.lp_row_tableau.proofs.Whole.{none_on}
-use Rattle.lp_row_tableau.proofs.pivot.zero.Goals as goal
-
-pub returns : goal.returns
-returns g c d p = none_on (g.T.Words.value c.zero.result) d c.zero.ensures p

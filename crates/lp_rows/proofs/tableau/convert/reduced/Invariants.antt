@@ -1,0 +1,8 @@
+-- The reduced costs so far.
+use Rattle.std.proofs.Common.{◌≡◌}
+use Rattle.spec_exact.specs.Run.{made}
+use Rattle.spec_simplex.specs.Tableau.{reduced_at}
+use Rattle.lp_rows.proofs.tableau.convert.reduced.Given as goal
+
+abbrev pub invariant-loop-k : goal.invariant-loop-k
+invariant-loop-k l = l.list.items ≡ made l.k (reduced_at l.tab)

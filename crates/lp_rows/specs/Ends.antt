@@ -1,0 +1,46 @@
+-- The certificate and the basis of an end.
+use Rattle.std.specs.Prelude.{ℕ, ◌+◌, Bool, List, Option, Some, None, ◌<◌, All}
+use Rattle.spec_exact.specs.Fraction.{ℚ}
+use Rattle.spec_exact.specs.Run.{made}
+use Rattle.spec_check.specs.declared.certificate.Certificate.{Certificate}
+use Rattle.spec_check.specs.declared.certificate.Certificate.TheVariants as certificate
+use Rattle.spec_pivot.specs.declared.status.Status.{Status}
+use Rattle.spec_simplex.specs.declared.ends.PrimalEnd.{PrimalEnd}
+use Rattle.spec_simplex.specs.declared.ends.PrimalEnd.TheVariants.{Optimal, Unbounded}
+use Rattle.spec_simplex.specs.Tableau.{Tableau, value_at, reduced_at}
+use Rattle.spec_cold.specs.Cold.{moves_by, basis_at}
+use Rattle.lp_rows.specs.declared.tableau.tableau.RowTableau.{RowTableau}
+use Rattle.lp_rows.specs.Shows.{width}
+
+-- ---- the lists of spec_cold, of another kind of numbers
+abbrev pub point_as : {N : Type 0} → (ℚ → N) → Tableau → List N
+point_as of t = made t.cols (λ j. of (value_at t j))
+
+abbrev pub multipliers_as : {N : Type 0} → (ℚ → N) → Tableau → List N
+multipliers_as of t = made t.rows (λ i. of (reduced_at t (t.cols + i)))
+
+abbrev pub direction_as : {N : Type 0} → (ℚ → N) → Tableau → ℕ → Bool → List N
+direction_as of t j up = made t.cols (λ k. of (moves_by t j up k))
+
+-- by the end of phase two; there is none where phase one leaves an artificial that is not 0
+abbrev pub certificate_as : {N : Type 0} → (ℚ → N) → Tableau → Option PrimalEnd → Certificate (List N)
+certificate_as of t None = certificate.Infeasible (multipliers_as of t)
+certificate_as of t (Some Optimal) = certificate.Optimal (point_as of t) (multipliers_as of t)
+certificate_as of t (Some (Unbounded j up)) = certificate.Unbounded (point_as of t) (direction_as of t j up)
+
+-- this holds of all its numbers
+abbrev pub AllFit : {N : Type 0} → (N → Type 0) → Certificate (List N) → Type 0
+AllFit fits (certificate.Optimal x y) = All fits x × All fits y
+AllFit fits (certificate.Infeasible y) = All fits y
+AllFit fits (certificate.Clash j) = Unit {0}
+AllFit fits (certificate.Unbounded x r) = All fits x × All fits r
+
+abbrev pub basis_by : Tableau → Option PrimalEnd → Option (List Status)
+basis_by t None = None
+basis_by t (Some end) = basis_at t end
+
+-- a column that is never stopped is structural or logical
+abbrev pub IsInside : {T : Type 0} → RowTableau T → Option PrimalEnd → Type 0
+IsInside r None = Unit {0}
+IsInside r (Some Optimal) = Unit {0}
+IsInside r (Some (Unbounded j up)) = j < width r

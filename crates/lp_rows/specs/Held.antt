@@ -1,0 +1,74 @@
+-- Rows of whole numbers for lists of fractions, and the whole numbers alone.
+use Rattle.std.specs.Prelude.{◌≡◌, ℕ, ◌+◌, ◌*◌, ◌<◌, ℤ, List, length, get_or, map, Option, option_map, All}
+use Rattle.spec_exact.specs.Fraction.{ℚ, 0ℚ}
+use Rattle.spec_exact.specs.Run.{made}
+use Rattle.spec_simplex.specs.Tableau.{Tableau, form_columns, all_columns, entry_at, basic_at, value_at, reduced_at}
+use Rattle.spec_simplex.specs.Tableau.{status_at, lower_at, upper_at, is_fixed}
+use Rattle.lp_rows.specs.Ratio.{bound_of}
+use Rattle.lp_wide.specs.Whole.{whole}
+use Rattle.lp_wide.specs.declared.signed.Signed.{Signed}
+use Rattle.lp_rows.specs.declared.fractions.Row.{Row}
+use Rattle.lp_rows.specs.Row.{fraction_at}
+use Rattle.lp_rows.specs.declared.tableau.tableau.RowTableau.{RowTableau}
+use Rattle.lp_rows.specs.Shows.{IsRow, row_at}
+
+-- ---- rows of fractions
+-- the numbers are these fractions, and the last one this value on a further denominator d
+pub record IsRowOf {T : Type 0} (value : T → ℕ) (list : List ℚ) (last : ℚ) (d : ℕ) (row : Row T) : Type 0 where
+  pub is_row : IsRow value (length list) row
+  pub entries : (k : ℕ) → k < length list →
+      fraction_at value row.numbers.items (value row.denominator) k ≡ get_or list k 0ℚ
+  pub value_last : fraction_at value row.numbers.items (d * value row.denominator) (length list) ≡ last
+
+-- the same of the numbers of a row, on a denominator of their own and another one for the last
+pub record IsRowWith {T : Type 0} (value : T → ℕ) (list : List ℚ) (last : ℚ) (own both : ℕ)
+    (numbers : List (Signed T)) :
+    Type 0 where
+  pub len : length numbers ≡ length list + 1
+  pub entries : (k : ℕ) → k < length list → fraction_at value numbers own k ≡ get_or list k 0ℚ
+  pub value_last : fraction_at value numbers both (length list) ≡ last
+
+-- the rows are those of the first h positions of a tableau, with the values of their basic columns
+pub record AreRowsOf {T : Type 0} (value : T → ℕ) (t : Tableau) (d h : ℕ) (rows : List (Row T)) : Type 0 where
+  pub len : length rows ≡ h
+  pub each : All (IsRow value (form_columns t)) rows
+  pub entries : (i k : ℕ) → i < h → k < form_columns t → row_at value 1 rows i k ≡ entry_at t i k
+  pub values : (i : ℕ) → i < h → row_at value d rows i (form_columns t) ≡ value_at t (basic_at t i)
+
+-- the rows hold all parts of a tableau
+pub record HoldsParts {T : Type 0} (value : T → ℕ) (t : Tableau) (r : RowTableau T) : Type 0 where
+  pub cols : r.cols ≡ t.cols
+  pub rows : AreRowsOf value t (value r.denominator) t.rows r.rows.items
+  pub costs : IsRowOf value (made (form_columns t) (reduced_at t)) 0ℚ (value r.denominator) r.costs
+  pub basic : r.basic.items ≡ made t.rows (basic_at t)
+  pub status : r.status.items ≡ made (all_columns t) (status_at t)
+  pub lower : map (bound_of value (value r.denominator)) r.lower.items ≡ made (all_columns t) (lower_at t)
+  pub upper : map (bound_of value (value r.denominator)) r.upper.items ≡ made (all_columns t) (upper_at t)
+  pub fixed : r.fixed.items ≡ made (form_columns t) (λ k. is_fixed (lower_at t k) (upper_at t k))
+  pub positive : 0 < value r.denominator
+
+-- ---- whole numbers
+abbrev pub whole_of : {T : Type 0} → (T → ℕ) → Signed T → ℤ
+whole_of value n = whole n.negative (value n.size)
+
+abbrev pub wholes : {T : Type 0} → (T → ℕ) → List (Signed T) → List ℤ
+wholes value ns = map (whole_of value) ns
+
+abbrev pub whole_bounds : {T : Type 0} → (T → ℕ) → List (Option (Signed T)) → List (Option ℤ)
+whole_bounds value bounds = map (option_map (whole_of value)) bounds
+
+abbrev pub whole_row : {T : Type 0} → (T → ℕ) → Row T → List ℤ × ℕ
+whole_row value row = (wholes value row.numbers.items, value row.denominator)
+
+-- the same numbers in other words
+pub record AreSameNumbers {T U : Type 0} (value : T → ℕ) (wide : U → ℕ) (r : RowTableau T) (s : RowTableau U) :
+    Type 0 where
+  pub cols : s.cols ≡ r.cols
+  pub rows : map (whole_row wide) s.rows.items ≡ map (whole_row value) r.rows.items
+  pub costs : whole_row wide s.costs ≡ whole_row value r.costs
+  pub basic : s.basic.items ≡ r.basic.items
+  pub status : s.status.items ≡ r.status.items
+  pub lower : whole_bounds wide s.lower.items ≡ whole_bounds value r.lower.items
+  pub upper : whole_bounds wide s.upper.items ≡ whole_bounds value r.upper.items
+  pub fixed : s.fixed.items ≡ r.fixed.items
+  pub denominator : wide s.denominator ≡ value r.denominator

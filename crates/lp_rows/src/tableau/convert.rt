@@ -1,0 +1,202 @@
+// The rows of a tableau of fractions.
+ghost use Rattle.std.specs.Prelude.{◌≡◌, ◌<◌, IfOk, IfSome};
+ghost use Rattle.spec_exact.specs.Fraction.{0ℚ};
+ghost use Rattle.spec_exact.specs.Run.{made};
+ghost use Rattle.spec_simplex.specs.Tableau as tableaus;
+ghost use Rattle.lp_rows.specs.Held.{IsRowOf, AreRowsOf, HoldsParts};
+ghost use Rattle.lp_rows.specs.Shows.{IsWhole, IsReached, Shows, height};
+
+use crate::fractions::Row;
+use crate::tableau::common::{bounds_on, denominator_with, row_of};
+use crate::tableau::tableau::RowTableau;
+use lp_form::Status;
+use lp_frac::{Frac, are_same, zero};
+use lp_tableau::Tableau;
+use lp_wide::Words;
+use std::alloc::{AllocError, Global};
+
+// The list of what stands for each `i` of a range.
+macro_rules! listed {
+    ($alloc:expr, $i:ident in $range:expr => $item:expr) => {{
+        let mut list = Vec::new($alloc);
+        for $i in $range {
+            list.push($item)?;
+        }
+        Ok(list)
+    }};
+}
+
+// The entries of a position's row in the structural and the logical columns.
+fn entries(alloc: Global, tab: &Tableau, place: u32) -> Result<Vec<Frac>, AllocError>
+    requires { place < tab.now.rows }
+    ensures { IfOk result (λ v. v.items ≡ made (tableaus.form_columns tab.now) (tableaus.entry_at tab.now place)) }
+{
+    listed!(alloc, k in 0..tab.cols() + tab.rows() => tab.entry(place, k))
+}
+
+// The reduced costs of the same columns.
+fn reduced(alloc: Global, tab: &Tableau) -> Result<Vec<Frac>, AllocError>
+    ensures { IfOk result (λ v. v.items ≡ made (tableaus.form_columns tab.now) (tableaus.reduced_at tab.now)) }
+{
+    listed!(alloc, k in 0..tab.cols() + tab.rows() => tab.reduced(k))
+}
+
+fn lowers(alloc: Global, tab: &Tableau) -> Result<Vec<Option<Frac>>, AllocError>
+    ensures { IfOk result (λ v. v.items ≡ made (tableaus.all_columns tab.now) (tableaus.lower_at tab.now)) }
+{
+    listed!(alloc, k in 0..tab.width() => tab.lower(k))
+}
+
+fn uppers(alloc: Global, tab: &Tableau) -> Result<Vec<Option<Frac>>, AllocError>
+    ensures { IfOk result (λ v. v.items ≡ made (tableaus.all_columns tab.now) (tableaus.upper_at tab.now)) }
+{
+    listed!(alloc, k in 0..tab.width() => tab.upper(k))
+}
+
+fn statuses(alloc: Global, tab: &Tableau) -> Result<Vec<Status>, AllocError>
+    ensures { IfOk result (λ v. v.items ≡ made (tableaus.all_columns tab.now) (tableaus.status_at tab.now)) }
+{
+    listed!(alloc, k in 0..tab.width() => tab.status(k))
+}
+
+fn basics(alloc: Global, tab: &Tableau) -> Result<Vec<u32>, AllocError>
+    ensures { IfOk result (λ v. v.items ≡ made tab.now.rows (tableaus.basic_at tab.now)) }
+{
+    listed!(alloc, i in 0..tab.rows() => tab.basic(i))
+}
+
+/// Whether both bounds are there, and equal.
+pub fn is_fixed(lower: Option<Frac>, upper: Option<Frac>) -> bool
+    ensures { result ≡ tableaus.is_fixed lower upper }
+{
+    match (lower, upper) {
+        (Some(lower), Some(upper)) => are_same(lower, upper),
+        _ => false,
+    }
+}
+
+// Which structural and logical columns are fixed.
+fn fixed(alloc: Global, tab: &Tableau) -> Result<Vec<bool>, AllocError>
+    ensures { IfOk result (λ v. v.items ≡ made (tableaus.form_columns tab.now)
+        (λ k. tableaus.is_fixed (tableaus.lower_at tab.now k) (tableaus.upper_at tab.now k))) }
+{
+    listed!(alloc, k in 0..tab.cols() + tab.rows() => is_fixed(tab.lower(k), tab.upper(k)))
+}
+
+// A position's row.
+fn row<T: Words>(
+    alloc: Global,
+    tab: &Tableau,
+    place: u32,
+    denominator: T,
+) -> Result<Option<Row<T>>, AllocError>
+    requires place { place < tab.now.rows }
+    requires positive { 0 < T.value denominator }
+    ensures { IfOk result (λ o. IfSome o (IsRowOf T.value
+        (made (tableaus.form_columns tab.now) (tableaus.entry_at tab.now place))
+        (tableaus.value_at tab.now (tableaus.basic_at tab.now place)) (T.value denominator))) }
+{
+    let list = entries(alloc, tab, place)?;
+    row_of(alloc, &list, tab.value(tab.basic(place)), denominator)
+}
+
+// The rows of all positions.
+fn rows<T: Words>(
+    alloc: Global,
+    tab: &Tableau,
+    denominator: T,
+) -> Result<Option<Vec<Row<T>>>, AllocError>
+    requires { 0 < T.value denominator }
+    ensures { IfOk result (λ o. IfSome o
+        (λ v. AreRowsOf T.value tab.now (T.value denominator) tab.now.rows v.items)) }
+{
+    let mut rows = Vec::new(alloc);
+    for i in 0..tab.rows() {
+        match row(alloc, tab, i, denominator)? {
+            Some(row) => rows.push(row)?,
+            None => return Ok(None),
+        }
+    }
+    Ok(Some(rows))
+}
+
+// The row of reduced costs.
+fn costs<T: Words>(
+    alloc: Global,
+    tab: &Tableau,
+    denominator: T,
+) -> Result<Option<Row<T>>, AllocError>
+    requires { 0 < T.value denominator }
+    ensures { IfOk result (λ o. IfSome o (IsRowOf T.value
+        (made (tableaus.form_columns tab.now) (tableaus.reduced_at tab.now)) 0ℚ (T.value denominator))) }
+{
+    let list = reduced(alloc, tab)?;
+    row_of(alloc, &list, zero(), denominator)
+}
+
+/// The rows that show a tableau. There are none where a number is past the width.
+pub fn from_tableau<T: Words>(
+    alloc: Global,
+    tab: &Tableau,
+) -> Result<Option<RowTableau<T>>, AllocError>
+    ensures whole { IfOk result (λ o. IfSome o (IsWhole T.value)) }
+    ensures rows { IfOk result (λ o. IfSome o (λ r. height r ≡ tab.now.rows)) }
+    ensures cols { IfOk result (λ o. IfSome o (λ r. r.cols ≡ tab.now.cols)) }
+    ensures shown { IsReached tab.now → IfOk result (λ o. IfSome o (λ r. Shows T.value r tab.now)) }
+{
+    let _ = tab.width();
+    parts(alloc, tab)
+}
+
+// The same, with what each part is.
+fn parts<T: Words>(alloc: Global, tab: &Tableau) -> Result<Option<RowTableau<T>>, AllocError>
+    ensures { IfOk result (λ o. IfSome o (HoldsParts T.value tab.now)) }
+{
+    let lower = lowers(alloc, tab)?;
+    let upper = uppers(alloc, tab)?;
+    let Some(so_far) = denominator_with(T::one(), &lower) else {
+        return Ok(None);
+    };
+    match denominator_with(so_far, &upper) {
+        Some(denominator) => parts_on(alloc, tab, &lower, &upper, denominator),
+        None => Ok(None),
+    }
+}
+
+// The same, with the denominator of all bounds.
+fn parts_on<T: Words>(
+    alloc: Global,
+    tab: &Tableau,
+    lower: &[Option<Frac>],
+    upper: &[Option<Frac>],
+    denominator: T,
+) -> Result<Option<RowTableau<T>>, AllocError>
+    requires lower { lower.now ≡ made (tableaus.all_columns tab.now) (tableaus.lower_at tab.now) }
+    requires upper { upper.now ≡ made (tableaus.all_columns tab.now) (tableaus.upper_at tab.now) }
+    requires positive { 0 < T.value denominator }
+    ensures { IfOk result (λ o. IfSome o (HoldsParts T.value tab.now)) }
+{
+    let Some(lower) = bounds_on(alloc, lower, denominator)? else {
+        return Ok(None);
+    };
+    let Some(upper) = bounds_on(alloc, upper, denominator)? else {
+        return Ok(None);
+    };
+    let Some(rows) = rows(alloc, tab, denominator)? else {
+        return Ok(None);
+    };
+    let Some(costs) = costs(alloc, tab, denominator)? else {
+        return Ok(None);
+    };
+    Ok(Some(RowTableau {
+        cols: tab.cols(),
+        rows,
+        costs,
+        basic: basics(alloc, tab)?,
+        status: statuses(alloc, tab)?,
+        lower,
+        upper,
+        fixed: fixed(alloc, tab)?,
+        denominator,
+    }))
+}

@@ -1,0 +1,431 @@
+// The certificate and the basis of an end.
+ghost use Rattle.std.specs.Prelude.{◌≡◌, ◌≢◌, ◌<◌, ◌++◌, ◌∷◌, [], ◌&&◌, All, IfOk, IfSome, OnOk, Some, None, get_or};
+ghost use Rattle.std.specs.Prelude.{length, nat_le, ◌+◌, ◌*◌};
+ghost use Rattle.spec_exact.specs.Fraction.{ℚ, neg_ℚ};
+ghost use Rattle.spec_exact.specs.Run.{made};
+ghost use Rattle.spec_pivot.specs.declared.status.Status.TheVariants as statuses;
+ghost use Rattle.spec_simplex.specs.declared.ends.PrimalEnd.TheVariants as primal;
+ghost use Rattle.spec_simplex.specs.Step as step;
+ghost use Rattle.spec_simplex.specs.Tableau as tableaus;
+ghost use Rattle.spec_cold.specs.Cold as cold;
+ghost use Rattle.lp_rows.specs.Number.{fraction_of};
+ghost use Rattle.lp_rows.specs.Row.{fraction_at};
+ghost use Rattle.lp_rows.specs.Ratio.{bound_of};
+ghost use Rattle.lp_rows.specs.Shows.{IsRow, IsWhole, IsReached, Shows, height, width, all_width, row_at};
+ghost use Rattle.lp_rows.specs.Ends.{certificate_as, basis_by, AllFit, IsInside, point_as, multipliers_as, direction_as};
+
+use crate::fractions::Row;
+use crate::number::{Listed, RowFraction, directed, negated, one, zero};
+use crate::tableau::tableau::RowTableau;
+use lp_base::Items;
+use lp_form::{Status, StatusList, is_basic};
+use lp_tableau::PrimalEnd;
+use lp_wide::{Signed, Words};
+use spec_check::Certificate;
+use std::alloc::{AllocError, Global};
+
+// ---- one number
+
+// The position of a basic column.
+fn place_of(basic: &[u32], k: u32) -> Option<usize>
+    ensures { IfSome result (λ i. (i < length basic.now) × (get_or basic.now i 0 ≡ k)) }
+{
+    for i in 0..basic.len() {
+        if basic[i] == k {
+            return Some(i);
+        }
+    }
+    None
+}
+
+// The value of a position's basic column.
+fn basic_value<T: Words>(tab: &RowTableau<T>, i: usize) -> Option<RowFraction<T>>
+    requires whole { IsWhole T.value tab.now }
+    requires inside { i < height tab.now }
+    ensures { IfSome result (λ v. fraction_of T.value v ≡
+        row_at T.value (T.value tab.now.denominator) tab.now.rows.items i (width tab.now)) }
+{
+    let last = tab.width();
+    last_number(&tab.rows[i], last, tab.denominator)
+}
+
+// The number of a row's last column, on a further denominator.
+fn last_number<T: Words>(row: &Row<T>, last: usize, denominator: T) -> Option<RowFraction<T>>
+    requires row { IsRow T.value last row.now }
+    ensures { IfSome result (λ v. fraction_of T.value v ≡
+        fraction_at T.value row.now.numbers.items (T.value denominator * T.value row.now.denominator) last) }
+{
+    match denominator.product(row.denominator) {
+        Some(both) => Some(RowFraction {
+            number: row.numbers[last],
+            denominator: both,
+        }),
+        None => None,
+    }
+}
+
+// A number of a row.
+fn number<T: Words>(row: &Row<T>, columns: usize, k: usize) -> RowFraction<T>
+    requires row { IsRow T.value columns row.now }
+    requires inside { k < columns }
+    ensures { fraction_of T.value result ≡
+        fraction_at T.value row.now.numbers.items (T.value row.now.denominator) k }
+{
+    RowFraction {
+        number: row.numbers[k],
+        denominator: row.denominator,
+    }
+}
+
+// A bound, as 0 where there is none.
+fn bound_or_zero<T: Words>(bound: Option<Signed<T>>, denominator: T) -> RowFraction<T>
+    ensures { fraction_of T.value result ≡ tableaus.or_zero (bound_of T.value (T.value denominator) bound) }
+{
+    match bound {
+        Some(number) => RowFraction {
+            number,
+            denominator,
+        },
+        None => zero(),
+    }
+}
+
+// Where a column stands that is not basic.
+fn stand<T: Words>(
+    status: Status,
+    lower: Option<Signed<T>>,
+    upper: Option<Signed<T>>,
+    denominator: T,
+) -> Option<RowFraction<T>>
+    ensures { IfSome result (λ v. (status ≢ statuses.Basic) × (fraction_of T.value v ≡ tableaus.stand status
+        (bound_of T.value (T.value denominator) lower) (bound_of T.value (T.value denominator) upper))) }
+{
+    match status {
+        Status::Basic => None,
+        Status::AtLower => Some(bound_or_zero(lower, denominator)),
+        Status::AtUpper => Some(bound_or_zero(upper, denominator)),
+        Status::AtZero => Some(zero()),
+    }
+}
+
+// The value of a column.
+fn value_of<T: Words>(tab: &RowTableau<T>, j: u32) -> Option<RowFraction<T>>
+    requires whole { IsWhole T.value tab.now }
+    requires inside { j < all_width tab.now }
+    ensures { (t : tableaus.Tableau) → Shows T.value tab.now t →
+        IfSome result (λ v. fraction_of T.value v ≡ tableaus.value_at t j) }
+{
+    let k = j as usize;
+    match place_of(&tab.basic, j) {
+        Some(place) => basic_value(tab, place),
+        None => stand(tab.status[k], tab.lower[k], tab.upper[k], tab.denominator),
+    }
+}
+
+// The reduced cost of a row's logical.
+fn multiplier<T: Words>(tab: &RowTableau<T>, i: usize) -> RowFraction<T>
+    requires whole { IsWhole T.value tab.now }
+    requires inside { i < height tab.now }
+    ensures { (t : tableaus.Tableau) → Shows T.value tab.now t →
+        fraction_of T.value result ≡ tableaus.reduced_at t (t.cols + i) }
+{
+    let columns = tab.width();
+    number(&tab.costs, columns, tab.cols as usize + i)
+}
+
+// How the basic column of a position moves while column `j` enters and rises or falls by 1.
+fn basic_move<T: Words>(tab: &RowTableau<T>, i: usize, j: u32, up: bool) -> RowFraction<T>
+    requires whole { IsWhole T.value tab.now }
+    requires place { i < height tab.now }
+    requires column { j < width tab.now }
+    ensures { (t : tableaus.Tableau) → Shows T.value tab.now t →
+        fraction_of T.value result ≡ neg_ℚ (step.directed up (tableaus.entry_at t i j)) }
+{
+    let columns = tab.width();
+    let entry = number(&tab.rows[i], columns, j as usize);
+    negated(directed(up, entry))
+}
+
+// How column `k` moves then by this position and what it does by those before.
+fn move_by<T: Words>(
+    tab: &RowTableau<T>,
+    i: usize,
+    j: u32,
+    up: bool,
+    k: u32,
+    so_far: RowFraction<T>,
+) -> RowFraction<T>
+    requires whole { IsWhole T.value tab.now }
+    requires place { i < height tab.now }
+    requires column { j < width tab.now }
+    ensures { (t : tableaus.Tableau) → Shows T.value tab.now t →
+        fraction_of T.value so_far ≡ cold.moves_below t j up k i →
+        fraction_of T.value result ≡ cold.moves_below t j up k (i + 1) }
+{
+    if tab.basic[i] == k {
+        basic_move(tab, i, j, up)
+    } else {
+        so_far
+    }
+}
+
+// How the entering column itself moves, and each other one but for the positions.
+fn own_move<T: Words>(j: u32, up: bool, k: u32) -> RowFraction<T>
+    ensures { (t : tableaus.Tableau) → fraction_of T.value result ≡ cold.moves_below t j up k 0 }
+{
+    if k == j { directed(up, one()) } else { zero() }
+}
+
+// How column `k` moves then.
+fn move_of<T: Words>(tab: &RowTableau<T>, j: u32, up: bool, k: u32) -> RowFraction<T>
+    requires whole { IsWhole T.value tab.now }
+    requires column { j < width tab.now }
+    ensures { (t : tableaus.Tableau) → Shows T.value tab.now t →
+        fraction_of T.value result ≡ cold.moves_by t j up k }
+{
+    let mut moved = own_move(j, up, k);
+    for i in 0..tab.rows.len() {
+        moved = move_by(tab, i, j, up, k, moved);
+    }
+    moved
+}
+
+// ---- lists of numbers
+
+// The number of a list, if there is one.
+fn listed<T: Words, N: Listed>(
+    alloc: Global,
+    v: Option<RowFraction<T>>,
+) -> Result<Option<N>, AllocError>
+    ensures value { (q : ℚ) → IfSome v (λ v. fraction_of T.value v ≡ q) →
+        IfOk result (λ o. IfSome o (λ n. n ≡ N.of q)) }
+    ensures fits { IfOk result (λ o. IfSome o N.fits) }
+{
+    match v {
+        Some(v) => {
+            if v.denominator.is_zero() {
+                return Ok(None);
+            }
+            N::from_row(alloc, v)
+        }
+        None => Ok(None),
+    }
+}
+
+// The values of the model's columns.
+fn point<T: Words, N: Listed>(
+    alloc: Global,
+    tab: &RowTableau<T>,
+) -> Result<Option<Items<N>>, AllocError>
+    requires { IsWhole T.value tab.now }
+    ensures value { (t : tableaus.Tableau) → Shows T.value tab.now t →
+        IfOk result (λ o. IfSome o (λ x. x ≡ point_as N.of t)) }
+    ensures fits { IfOk result (λ o. IfSome o (All N.fits)) }
+{
+    let mut point: Items<N> = Items::new(alloc);
+    for j in 0..tab.cols {
+        match listed(alloc, value_of(tab, j))? {
+            Some(v) => point.push(v)?,
+            None => return Ok(None),
+        }
+    }
+    Ok(Some(point))
+}
+
+// The reduced costs of the rows' logicals.
+fn multipliers<T: Words, N: Listed>(
+    alloc: Global,
+    tab: &RowTableau<T>,
+) -> Result<Option<Items<N>>, AllocError>
+    requires { IsWhole T.value tab.now }
+    ensures value { (t : tableaus.Tableau) → Shows T.value tab.now t →
+        IfOk result (λ o. IfSome o (λ y. y ≡ multipliers_as N.of t)) }
+    ensures fits { IfOk result (λ o. IfSome o (All N.fits)) }
+{
+    let mut multipliers: Items<N> = Items::new(alloc);
+    for i in 0..tab.rows.len() {
+        match listed(alloc, Some(multiplier(tab, i)))? {
+            Some(v) => multipliers.push(v)?,
+            None => return Ok(None),
+        }
+    }
+    Ok(Some(multipliers))
+}
+
+// How the model's columns move while column `j` enters and rises or falls by 1.
+fn direction<T: Words, N: Listed>(
+    alloc: Global,
+    tab: &RowTableau<T>,
+    j: u32,
+    up: bool,
+) -> Result<Option<Items<N>>, AllocError>
+    requires whole { IsWhole T.value tab.now }
+    requires column { j < width tab.now }
+    ensures value { (t : tableaus.Tableau) → Shows T.value tab.now t →
+        IfOk result (λ o. IfSome o (λ r. r ≡ direction_as N.of t j up)) }
+    ensures fits { IfOk result (λ o. IfSome o (All N.fits)) }
+{
+    let mut direction: Items<N> = Items::new(alloc);
+    for k in 0..tab.cols {
+        match listed(alloc, Some(move_of(tab, j, up, k)))? {
+            Some(v) => direction.push(v)?,
+            None => return Ok(None),
+        }
+    }
+    Ok(Some(direction))
+}
+
+// ---- certificates
+
+fn infeasible<T: Words, N: Listed>(
+    alloc: Global,
+    tab: &RowTableau<T>,
+) -> Result<Option<Certificate<Items<N>>>, AllocError>
+    requires { IsWhole T.value tab.now }
+    ensures value { (t : tableaus.Tableau) → Shows T.value tab.now t →
+        IfOk result (λ o. IfSome o (λ c. c ≡ certificate_as N.of t None)) }
+    ensures fits { IfOk result (λ o. IfSome o (AllFit N.fits)) }
+{
+    match multipliers(alloc, tab)? {
+        Some(y) => Ok(Some(Certificate::Infeasible { y })),
+        None => Ok(None),
+    }
+}
+
+fn optimal<T: Words, N: Listed>(
+    alloc: Global,
+    tab: &RowTableau<T>,
+) -> Result<Option<Certificate<Items<N>>>, AllocError>
+    requires { IsWhole T.value tab.now }
+    ensures value { (t : tableaus.Tableau) → Shows T.value tab.now t →
+        IfOk result (λ o. IfSome o (λ c. c ≡ certificate_as N.of t (Some primal.Optimal))) }
+    ensures fits { IfOk result (λ o. IfSome o (AllFit N.fits)) }
+{
+    let Some(x) = point(alloc, tab)? else {
+        return Ok(None);
+    };
+    match multipliers(alloc, tab)? {
+        Some(y) => Ok(Some(Certificate::Optimal { x, y })),
+        None => Ok(None),
+    }
+}
+
+fn unbounded<T: Words, N: Listed>(
+    alloc: Global,
+    tab: &RowTableau<T>,
+    col: u32,
+    up: bool,
+) -> Result<Option<Certificate<Items<N>>>, AllocError>
+    requires whole { IsWhole T.value tab.now }
+    requires column { col < width tab.now }
+    ensures value { (t : tableaus.Tableau) → Shows T.value tab.now t →
+        IfOk result (λ o. IfSome o (λ c. c ≡ certificate_as N.of t (Some (primal.Unbounded col up)))) }
+    ensures fits { IfOk result (λ o. IfSome o (AllFit N.fits)) }
+{
+    let Some(x) = point(alloc, tab)? else {
+        return Ok(None);
+    };
+    match direction(alloc, tab, col, up)? {
+        Some(r) => Ok(Some(Certificate::Unbounded { x, r })),
+        None => Ok(None),
+    }
+}
+
+// The certificate of an end of phase two.
+fn certificate_at<T: Words, N: Listed>(
+    alloc: Global,
+    tab: &RowTableau<T>,
+    end: PrimalEnd,
+) -> Result<Option<Certificate<Items<N>>>, AllocError>
+    requires whole { IsWhole T.value tab.now }
+    requires inside { IsInside tab.now (Some end) }
+    ensures value { (t : tableaus.Tableau) → Shows T.value tab.now t →
+        IfOk result (λ o. IfSome o (λ c. c ≡ certificate_as N.of t (Some end))) }
+    ensures fits { IfOk result (λ o. IfSome o (AllFit N.fits)) }
+{
+    match end {
+        PrimalEnd::Optimal => optimal(alloc, tab),
+        PrimalEnd::Unbounded { col, up } => unbounded(alloc, tab, col, up),
+    }
+}
+
+/// The certificate of an end: that of phase two, or of phase one where it leaves an artificial column that is not 0.
+/// There is none where a number is past the width of its kind, or past that of the words.
+pub fn certificate<T: Words, N: Listed>(
+    alloc: Global,
+    tab: &RowTableau<T>,
+    end: Option<PrimalEnd>,
+) -> Result<Option<Certificate<Items<N>>>, AllocError>
+    requires whole { IsWhole T.value tab.now }
+    requires inside { IsInside tab.now end }
+    ensures value { (t : tableaus.Tableau) → IsReached t → Shows T.value tab.now t →
+        IfOk result (λ o. IfSome o (λ c. c ≡ certificate_as N.of t end)) }
+    ensures fits { IfOk result (λ o. IfSome o (AllFit N.fits)) }
+{
+    match end {
+        Some(end) => certificate_at(alloc, tab, end),
+        None => infeasible(alloc, tab),
+    }
+}
+
+// ---- bases
+
+fn status_at<T: Words>(tab: &RowTableau<T>, k: usize) -> Status
+    requires whole { IsWhole T.value tab.now }
+    requires inside { k < all_width tab.now }
+    ensures { (t : tableaus.Tableau) → Shows T.value tab.now t → result ≡ tableaus.status_at t k }
+{
+    tab.status[k]
+}
+
+// Whether a column is the logical of a row whose artificial is basic.
+fn is_in_its_place<T: Words>(tab: &RowTableau<T>, k: usize) -> bool
+    requires whole { IsWhole T.value tab.now }
+    requires inside { k < width tab.now }
+    ensures { (t : tableaus.Tableau) → Shows T.value tab.now t →
+        result ≡ (nat_le t.cols k && tableaus.is_basic (tableaus.status_at t (k + t.rows))) }
+{
+    tab.cols as usize <= k && is_basic(status_at(tab, k + tab.rows.len()))
+}
+
+// The status of a column. A logical whose row's artificial is basic counts as basic in its place.
+fn basis_status<T: Words>(tab: &RowTableau<T>, k: usize) -> Status
+    requires whole { IsWhole T.value tab.now }
+    requires inside { k < width tab.now }
+    ensures { (t : tableaus.Tableau) → Shows T.value tab.now t → result ≡ cold.basis_status t k }
+{
+    if is_in_its_place(tab, k) {
+        Status::Basic
+    } else {
+        status_at(tab, k)
+    }
+}
+
+// The statuses of the model's columns and of the rows' logicals.
+fn basis_statuses<T: Words>(alloc: Global, tab: &RowTableau<T>) -> Result<StatusList, AllocError>
+    requires { IsWhole T.value tab.now }
+    ensures { (t : tableaus.Tableau) → Shows T.value tab.now t →
+        IfOk result (λ b. b ≡ made (tableaus.form_columns t) (cold.basis_status t)) }
+{
+    let mut list = StatusList::new(alloc);
+    for k in 0..tab.width() {
+        list.push(basis_status(tab, k))?;
+    }
+    Ok(list)
+}
+
+/// The statuses of the basis of an end, which an optimal one has.
+pub fn basis<T: Words>(
+    alloc: Global,
+    tab: &RowTableau<T>,
+    end: Option<PrimalEnd>,
+) -> Result<Option<StatusList>, AllocError>
+    requires { IsWhole T.value tab.now }
+    ensures { (t : tableaus.Tableau) → Shows T.value tab.now t → IfOk result (λ b. b ≡ basis_by t end) }
+{
+    match end {
+        Some(PrimalEnd::Optimal) => Ok(Some(basis_statuses(alloc, tab)?)),
+        Some(PrimalEnd::Unbounded { .. }) => Ok(None),
+        None => Ok(None),
+    }
+}

@@ -1,0 +1,166 @@
+// What flips and pivots do to rows.
+ghost use Rattle.std.specs.Prelude.{◌≡◌, ◌<◌, ◌≤◌, IsTrue, All, length, pos, neg_ℤ, ◌*ℤ◌};
+ghost use Rattle.spec_exact.specs.Fraction.{over, ◌*ℚ◌};
+ghost use Rattle.spec_model.specs.Kept.{row_limit};
+ghost use Rattle.lp_wide.specs.Whole.{whole};
+ghost use Rattle.lp_rows.specs.Shows.{IsRow};
+ghost use Rattle.lp_rows.specs.Moves.{number_at, IsLess, IsScaled, IsCleared, AreCleared, AreMoved, AreTurned};
+
+use crate::fractions::{Row, clear, divide, reduce};
+use crate::tableau::ratio::is_zero;
+use lp_wide::{Signed, Words, less_products};
+use std::mem::swap;
+
+// The last number less a product. Where it is false a number is past the width, here and below.
+fn less_last<T: Words>(row: &mut Row<T>, n: usize, a: Signed<T>, b: Signed<T>) -> bool
+    requires { IsRow T.value n row.old }
+    ensures { IsTrue result → IsLess T.value n (over
+        (whole a.negative (T.value a.size) *ℤ whole b.negative (T.value b.size)) (T.value row.old.denominator))
+        row.old row.new }
+{
+    let one = Signed {
+        negative: false,
+        size: T::one(),
+    };
+    match less_products(one, row.numbers[n], a, b) {
+        Some(last) => {
+            row.numbers[n] = last;
+            true
+        }
+        None => false,
+    }
+}
+
+// The last number less a whole number.
+fn take_off<T: Words>(row: &mut Row<T>, n: usize, by: Signed<T>) -> bool
+    requires { IsRow T.value n row.old }
+    ensures { IsTrue result → IsLess T.value n (over (whole by.negative (T.value by.size)) 1) row.old row.new }
+{
+    let denominator = Signed {
+        negative: false,
+        size: row.denominator,
+    };
+    less_last(row, n, by, denominator)
+}
+
+// The same number with the other sign.
+fn negated<T: Words>(n: Signed<T>) -> Signed<T>
+    ensures { whole result.negative (T.value result.size) ≡ neg_ℤ (whole n.negative (T.value n.size)) }
+{
+    Signed {
+        negative: !n.negative,
+        size: n.size,
+    }
+}
+
+// The last number less a whole number times that of column `j`.
+fn move_last<T: Words>(row: &mut Row<T>, n: usize, j: usize, by: Signed<T>) -> bool
+    requires row { IsRow T.value n row.old }
+    requires column { j < n }
+    ensures { IsTrue result →
+        IsLess T.value n (number_at T.value row.old j *ℚ over (whole by.negative (T.value by.size)) 1) row.old row.new }
+{
+    let entry = row.numbers[j];
+    less_last(row, n, entry, by)
+}
+
+/// Each value as column `j` moves by a number on the denominator of all bounds.
+pub fn move_all<T: Words>(rows: &mut [Row<T>], n: usize, j: usize, by: Signed<T>) -> bool
+    requires rows { All (IsRow T.value n) rows.old }
+    requires column { j < n }
+    ensures { IsTrue result →
+        AreMoved T.value n j (over (whole by.negative (T.value by.size)) 1) rows.old rows.new }
+{
+    for i in 0..rows.len() {
+        if !move_last(&mut rows[i], n, j, by) {
+            return false;
+        }
+    }
+    true
+}
+
+// The last number less a whole number, and then all over that of column `j`.
+fn scale<T: Words>(row: &mut Row<T>, n: usize, j: usize, by: Signed<T>) -> bool
+    requires row { IsRow T.value n row.old }
+    requires column { j < n }
+    ensures { IsTrue result →
+        IsScaled T.value n j (over (whole by.negative (T.value by.size)) 1) row.old row.new }
+{
+    if !take_off(row, n, by) {
+        return false;
+    }
+    if !divide(row, j) {
+        return false;
+    }
+    reduce(row)
+}
+
+// A row without as much of another as its number of column `j` says.
+fn clear_one<T: Words>(row: &mut Row<T>, own: &Row<T>, n: usize, j: usize) -> bool
+    requires row { IsRow T.value n row.old }
+    requires own { IsRow T.value n own.now }
+    requires column { j < n }
+    ensures { IsTrue result → IsCleared T.value n j own.now row.old row.new }
+{
+    if is_zero(row.numbers[j]) {
+        return true;
+    }
+    if !clear(row, own, j) {
+        return false;
+    }
+    reduce(row)
+}
+
+// Each row so.
+fn clear_all<T: Words>(rows: &mut [Row<T>], own: &Row<T>, n: usize, j: usize) -> bool
+    requires rows { All (IsRow T.value n) rows.old }
+    requires own { IsRow T.value n own.now }
+    requires column { j < n }
+    ensures { IsTrue result → AreCleared T.value n j own.now rows.old rows.new }
+{
+    for i in 0..rows.len() {
+        if !clear_one(&mut rows[i], own, n, j) {
+            return false;
+        }
+    }
+    true
+}
+
+/// The column of a pivot, and what both columns are worth on the denominator of all bounds: that which leaves
+/// afterwards, and that which enters before.
+#[derive(Clone, Copy)]
+pub struct Turn<T> {
+    pub place: usize,
+    pub col: usize,
+    pub leaves_at: Signed<T>,
+    pub enters_from: Signed<T>,
+}
+
+/// The rows and the reduced costs after a pivot. The costs stand in the place of row `place` meanwhile, so that each
+/// row of the list is cleared.
+pub fn turn_rows<T: Words>(rows: &mut [Row<T>], costs: &mut Row<T>, n: usize, turn: Turn<T>) -> bool
+    requires rows { All (IsRow T.value n) rows.old }
+    requires costs { IsRow T.value n costs.old }
+    requires place { turn.place < length rows.old }
+    requires column { turn.col < n }
+    ensures { IsTrue result → AreTurned T.value n turn.place turn.col
+        (over (whole turn.leaves_at.negative (T.value turn.leaves_at.size)) 1)
+        (over (whole turn.enters_from.negative (T.value turn.enters_from.size)) 1)
+        rows.old rows.new costs.old costs.new }
+{
+    let Turn {
+        place,
+        col,
+        leaves_at,
+        enters_from,
+    } = turn;
+    if !scale(&mut rows[place], n, col, leaves_at) {
+        return false;
+    }
+    swap(&mut rows[place], costs);
+    if !clear_all(rows, costs, n, col) {
+        return false;
+    }
+    swap(&mut rows[place], costs);
+    take_off(&mut rows[place], n, negated(enters_from))
+}

@@ -1,0 +1,140 @@
+// Flips and pivots.
+ghost use Rattle.std.specs.Prelude.{◌≡◌, ◌<◌, ◌≤◌, ℕ, IsTrue, Ok, None, length, slice_set, get_or};
+ghost use Rattle.spec_exact.specs.Fraction.{ℚ, 0ℚ, over};
+ghost use Rattle.spec_pivot.specs.declared.status.Status.TheVariants.{Basic};
+ghost use Rattle.spec_simplex.specs.declared.ends.Choice.{Choice};
+ghost use Rattle.spec_simplex.specs.Tableau as tableaus;
+ghost use Rattle.spec_simplex.specs.Step.{choice_run};
+ghost use Rattle.spec_simplex.specs.Phases.{done_run};
+ghost use Rattle.lp_wide.specs.Whole.{whole};
+ghost use Rattle.lp_rows.specs.Ratio.{bound_of};
+ghost use Rattle.lp_rows.specs.Shows.{IsWhole, IsReached, Shows, height, width, all_width};
+ghost use Rattle.lp_rows.specs.Steps.{step_of, MayMake};
+ghost use Rattle.lp_rows.specs.Changes.{upper_in, basic_in, left_upper, IsFlipped, IsPivoted};
+
+use crate::ratio::toward;
+use crate::tableau::choice::Step;
+use crate::tableau::moves::{Turn, move_all, turn_rows};
+use crate::tableau::tableau::RowTableau;
+use lp_form::Status;
+use lp_tableau::{flip_way, other_bound};
+use lp_wide::{Signed, Words, minus};
+
+fn zero<T: Words>() -> Signed<T>
+    ensures { (d : ℕ) → 0 < d → over (whole result.negative (T.value result.size)) d ≡ 0ℚ }
+{
+    Signed {
+        negative: false,
+        size: T::zero(),
+    }
+}
+
+// The bound, or 0 where there is none.
+fn or_zero<T: Words>(bound: Option<Signed<T>>) -> Signed<T>
+    ensures { (d : ℕ) → 0 < d → over (whole result.negative (T.value result.size)) d ≡
+        tableaus.or_zero (bound_of T.value d bound) }
+{
+    match bound {
+        Some(bound) => bound,
+        None => zero(),
+    }
+}
+
+/// Where a column of this status stands, between these bounds; a basic one counts as at 0.
+pub fn stand<T: Words>(
+    status: Status,
+    lower: Option<Signed<T>>,
+    upper: Option<Signed<T>>,
+) -> Signed<T>
+    ensures { (d : ℕ) → 0 < d → over (whole result.negative (T.value result.size)) d ≡
+        tableaus.stand status (bound_of T.value d lower) (bound_of T.value d upper) }
+{
+    match status {
+        Status::AtLower => or_zero(lower),
+        Status::AtUpper => or_zero(upper),
+        Status::Basic | Status::AtZero => zero(),
+    }
+}
+
+// Column `col` goes to its other bound.
+fn flip<T: Words>(tab: &mut RowTableau<T>, col: usize) -> bool
+    requires whole { IsWhole T.value tab.old }
+    requires column { col < width tab.old }
+    ensures { IsTrue result → IsFlipped T.value col tab.old tab.new }
+{
+    let up = flip_way(tab.status[col]);
+    let Some(range) = minus(or_zero(tab.upper[col]), or_zero(tab.lower[col])) else {
+        return false;
+    };
+    let n = tab.width();
+    if !move_all(&mut tab.rows, n, col, toward(up, range)) {
+        return false;
+    }
+    tab.status[col] = other_bound(up);
+    true
+}
+
+// Column `col` takes the place, whose column goes to the bound `to`. An artificial that leaves is at 0 for good.
+fn exchange<T: Words>(tab: &mut RowTableau<T>, place: usize, col: u32, to: Status)
+    requires rows { length tab.old.rows.items ≤ 256 }
+    requires cols { tab.old.cols ≤ 512 }
+    requires place { place < length tab.old.basic.items }
+    requires leaving { basic_in tab.old place < length tab.old.status.items }
+    requires bounds { length tab.old.upper.items ≡ length tab.old.status.items }
+    requires column { col < length tab.old.status.items }
+    ensures basic { tab.new.basic.items ≡ slice_set tab.old.basic.items place col }
+    ensures status { tab.new.status.items ≡
+        slice_set (slice_set tab.old.status.items (basic_in tab.old place) to) col Basic }
+    ensures upper { (k : ℕ) → 0 < T.value tab.old.denominator → upper_in T.value tab.new k ≡
+        left_upper (width tab.old) (basic_in tab.old place) k (upper_in T.value tab.old k) }
+    ensures len { length tab.new.upper.items ≡ length tab.old.upper.items }
+    ensures rest { tab.new ≡
+        record tab.old { basic = tab.new.basic; status = tab.new.status; upper = tab.new.upper } }
+{
+    let leaving = tab.basic[place] as usize;
+    tab.basic[place] = col;
+    tab.status[leaving] = to;
+    tab.status[col as usize] = Status::Basic;
+    if leaving >= tab.width() {
+        tab.upper[leaving] = Some(zero());
+    }
+}
+
+// The pivot at a position in column `col`.
+fn pivot<T: Words>(tab: &mut RowTableau<T>, place: usize, col: u32, to: Status) -> bool
+    requires whole { IsWhole T.value tab.old }
+    requires place { place < height tab.old }
+    requires column { col < width tab.old }
+    ensures { IsTrue result → IsPivoted T.value place col to tab.old tab.new }
+{
+    let (q, j) = (tab.basic[place] as usize, col as usize);
+    let turn = Turn {
+        place,
+        col: j,
+        leaves_at: stand(to, tab.lower[q], tab.upper[q]),
+        enters_from: stand(tab.status[j], tab.lower[j], tab.upper[j]),
+    };
+    let n = tab.width();
+    if !turn_rows(&mut tab.rows, &mut tab.costs, n, turn) {
+        return false;
+    }
+    exchange(tab, place, col, to);
+    true
+}
+
+/// The flip or the pivot of a step. Where it is false a number is past the width, and the tableau is spent.
+pub fn make<T: Words>(tab: &mut RowTableau<T>, step: Step) -> bool
+    requires whole { IsWhole T.value tab.old }
+    requires inside { MayMake tab.old step }
+    ensures whole { IsTrue result → IsWhole T.value tab.new }
+    ensures made { IsTrue result → (t u : tableaus.Tableau) (c : Choice ℚ) → IsReached t → Shows T.value tab.old t →
+        choice_run None t ≡ Ok c → step_of c ≡ step → done_run None t c ≡ Ok u → Shows T.value tab.new u }
+    ensures rows { IsTrue result → height tab.new ≡ height tab.old }
+    ensures cols { IsTrue result → tab.new.cols ≡ tab.old.cols }
+{
+    match step {
+        Step::End(_) => true,
+        Step::Flip(col) => flip(tab, col as usize),
+        Step::Pivot { place, col, to } => pivot(tab, place as usize, col, to),
+    }
+}

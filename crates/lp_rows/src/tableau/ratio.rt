@@ -1,0 +1,181 @@
+// The ratio test over all positions.
+ghost use Rattle.std.specs.Prelude.{◌≡◌, ◌<◌, ◌*◌, ℕ, IfSome, Option, None, Ok, option_map, IsTrue, ◌↔◌};
+ghost use Rattle.spec_exact.specs.Fraction.{ℚ, over};
+ghost use Rattle.spec_simplex.specs.declared.ends.Best.{Best};
+ghost use Rattle.spec_simplex.specs.Tableau as tableaus;
+ghost use Rattle.spec_simplex.specs.Step as step;
+ghost use Rattle.lp_wide.specs.Whole.{whole};
+ghost use Rattle.lp_rows.specs.Ratio.{best_of, bound_of, stopped};
+ghost use Rattle.lp_rows.specs.Shows.{IsWhole, Shows, height, width};
+ghost use Rattle.lp_rows.specs.Stops.{IsStop, best_at};
+
+use crate::ratio::{Stopper, better, gap_for, goes, stopper_at};
+use crate::tableau::tableau::RowTableau;
+use lp_tableau::other_bound;
+use lp_wide::{Signed, Words, minus};
+use spec_simplex::Entering;
+
+// A position as the ratio test sees it.
+#[derive(Clone, Copy)]
+struct Position<T> {
+    place: u32,
+    // Its basic column.
+    col: u32,
+    // What stands in the entering column, on the row's denominator.
+    entry: Signed<T>,
+    denominator: T,
+    // The basic column's bounds, and its value on the row's denominator times that of all bounds.
+    lower: Option<Signed<T>>,
+    upper: Option<Signed<T>>,
+    value: Signed<T>,
+}
+
+// Whether a number with a sign is 0.
+pub(crate) fn is_zero<T: Words>(n: Signed<T>) -> bool
+    ensures { IsTrue result ↔ (T.value n.size ≡ 0) }
+{
+    n.size.is_zero()
+}
+
+// What stops the entering column between its own bounds.
+fn stop_between<T: Words>(e: Entering, lower: Signed<T>, upper: Signed<T>) -> Option<Stopper<T>>
+    ensures value { (d : ℕ) → 0 < d → IfSome result (λ s.
+        step.range_run None e (bound_of T.value d (Some lower)) (bound_of T.value d (Some upper)) ≡
+        Ok (Some (best_of T.value d s))) }
+    ensures inside { IfSome result (λ s. IsStop T.value 0 (Some s)) }
+{
+    match minus(upper, lower) {
+        Some(gap) => Some(Stopper {
+            gap,
+            entry: T::one(),
+            col: e.col,
+            place: None,
+            to: other_bound(e.up),
+        }),
+        None => None,
+    }
+}
+
+// The same, where it has both bounds.
+fn range<T: Words>(
+    e: Entering,
+    lower: Option<Signed<T>>,
+    upper: Option<Signed<T>>,
+) -> Option<Option<Stopper<T>>>
+    ensures value { (d : ℕ) → 0 < d → IfSome result (λ s.
+        step.range_run None e (bound_of T.value d lower) (bound_of T.value d upper) ≡
+        Ok (option_map (best_of T.value d) s)) }
+    ensures inside { IfSome result (IsStop T.value 0) }
+{
+    match (lower, upper) {
+        (Some(lower), Some(upper)) => match stop_between(e, lower, upper) {
+            Some(stop) => Some(Some(stop)),
+            None => None,
+        },
+        _ => Some(None),
+    }
+}
+
+// What stops it in a position, if anything does.
+fn stop_at<T: Words>(up: bool, at: Position<T>) -> Option<Option<Stopper<T>>>
+    requires { 0 < T.value at.denominator }
+    ensures value { IfSome result (λ s. (d : ℕ) → 0 < d → (best : Option (Best ℚ)) →
+        best_at up at.place at.col (over (whole at.entry.negative (T.value at.entry.size)) (T.value at.denominator))
+        (bound_of T.value d at.lower) (bound_of T.value d at.upper)
+        (over (whole at.value.negative (T.value at.value.size)) (d * T.value at.denominator)) best ≡
+        stopped T.value d s best) }
+    ensures inside { (n : ℕ) → at.place < n → IfSome result (IsStop T.value n) }
+{
+    let Position {
+        place,
+        col,
+        entry,
+        denominator,
+        lower,
+        upper,
+        value,
+    } = at;
+    if is_zero(entry) {
+        return Some(None);
+    }
+    match gap_for(goes(up, entry), lower, upper, value, denominator) {
+        Some(gap) => Some(stopper_at(place, col, entry, gap)),
+        None => None,
+    }
+}
+
+// The first of two, as far as they are there.
+fn first<T: Words>(new: Option<Stopper<T>>, best: Option<Stopper<T>>) -> Option<Stopper<T>>
+    requires new { (n : ℕ) × IsStop T.value n new }
+    requires best { (n : ℕ) × IsStop T.value n best }
+    ensures value { (d : ℕ) → 0 < d → stopped T.value d new (option_map (best_of T.value d) best) ≡
+        Ok (option_map (best_of T.value d) result) }
+    ensures inside { (n : ℕ) → IsStop T.value n new → IsStop T.value n best → IsStop T.value n result }
+{
+    match (new, best) {
+        (Some(new), Some(best)) => Some(better(new, best)),
+        (Some(new), None) => Some(new),
+        (None, best) => best,
+    }
+}
+
+// What stops it in position `i`.
+fn stop_in<T: Words>(tab: &RowTableau<T>, e: Entering, i: usize) -> Option<Option<Stopper<T>>>
+    requires whole { IsWhole T.value tab.now }
+    requires column { e.col < width tab.now }
+    requires place { i < height tab.now }
+    ensures value { (t : tableaus.Tableau) → Shows T.value tab.now t → (best : Option (Best ℚ)) → IfSome result (λ s.
+        step.best_with None t e i best ≡ stopped T.value (T.value tab.now.denominator) s best) }
+    ensures inside { IfSome result (IsStop T.value (height tab.now)) }
+{
+    let row = &tab.rows[i];
+    let col = tab.basic[i];
+    let at = Position {
+        place: i as u32,
+        col,
+        entry: row.numbers[e.col as usize],
+        denominator: row.denominator,
+        lower: tab.lower[col as usize],
+        upper: tab.upper[col as usize],
+        value: row.numbers[tab.width()],
+    };
+    stop_at(e.up, at)
+}
+
+// The first so far, with position `i`.
+fn first_with<T: Words>(
+    tab: &RowTableau<T>,
+    e: Entering,
+    i: usize,
+    best: Option<Stopper<T>>,
+) -> Option<Option<Stopper<T>>>
+    requires whole { IsWhole T.value tab.now }
+    requires column { e.col < width tab.now }
+    requires place { i < height tab.now }
+    requires best { IsStop T.value (height tab.now) best }
+    ensures value { (t : tableaus.Tableau) → Shows T.value tab.now t → IfSome result (λ s.
+        step.best_with None t e i (option_map (best_of T.value (T.value tab.now.denominator)) best) ≡
+        Ok (option_map (best_of T.value (T.value tab.now.denominator)) s)) }
+    ensures inside { IfSome result (IsStop T.value (height tab.now)) }
+{
+    match stop_in(tab, e, i) {
+        Some(stop) => Some(first(stop, best)),
+        None => None,
+    }
+}
+
+/// What stops the entering column first, if anything does. There is none where a number is past the width.
+pub(crate) fn first_stop<T: Words>(tab: &RowTableau<T>, e: Entering) -> Option<Option<Stopper<T>>>
+    requires whole { IsWhole T.value tab.now }
+    requires column { e.col < width tab.now }
+    ensures value { (t : tableaus.Tableau) → Shows T.value tab.now t → IfSome result (λ s.
+        step.best_run None t e ≡ Ok (option_map (best_of T.value (T.value tab.now.denominator)) s)) }
+    ensures inside { IfSome result (IsStop T.value (height tab.now)) }
+{
+    let j = e.col as usize;
+    let mut best = range(e, tab.lower[j], tab.upper[j])?;
+    for i in 0..tab.rows.len() {
+        best = first_with(tab, e, i, best)?;
+    }
+    Some(best)
+}

@@ -1,0 +1,154 @@
+// Wider words.
+ghost use Rattle.std.specs.Prelude.{◌≡◌, IfOk, IfSome, map, option_map};
+ghost use Rattle.spec_simplex.specs.Tableau as tableaus;
+ghost use Rattle.lp_rows.specs.Held.{whole_of, wholes, whole_bounds, whole_row, AreSameNumbers};
+ghost use Rattle.lp_rows.specs.Shows.{IsWhole, Shows, height};
+
+use crate::fractions::Row;
+use crate::tableau::tableau::RowTableau;
+use lp_wide::{Signed, Words, converted};
+use std::alloc::{AllocError, Global};
+
+// The same number, if it is not past the other width.
+fn number<T: Words, U: Words>(n: Signed<T>) -> Option<Signed<U>>
+    ensures { IfSome result (λ m. whole_of U.value m ≡ whole_of T.value n) }
+{
+    match converted(n.size) {
+        Some(size) => Some(Signed {
+            negative: n.negative,
+            size,
+        }),
+        None => None,
+    }
+}
+
+fn numbers<T: Words, U: Words>(
+    alloc: Global,
+    from: &[Signed<T>],
+) -> Result<Option<Vec<Signed<U>>>, AllocError>
+    ensures { IfOk result (λ o. IfSome o (λ v. wholes U.value v.items ≡ wholes T.value from.now)) }
+{
+    let mut list = Vec::new(alloc);
+    for n in from {
+        match number(*n) {
+            Some(number) => list.push(number)?,
+            None => return Ok(None),
+        }
+    }
+    Ok(Some(list))
+}
+
+fn bound<T: Words, U: Words>(b: Option<Signed<T>>) -> Option<Option<Signed<U>>>
+    ensures { IfSome result (λ c. option_map (whole_of U.value) c ≡ option_map (whole_of T.value) b) }
+{
+    match b {
+        Some(n) => match number(n) {
+            Some(number) => Some(Some(number)),
+            None => None,
+        },
+        None => Some(None),
+    }
+}
+
+fn bounds<T: Words, U: Words>(
+    alloc: Global,
+    from: &[Option<Signed<T>>],
+) -> Result<Option<Vec<Option<Signed<U>>>>, AllocError>
+    ensures { IfOk result (λ o. IfSome o (λ v. whole_bounds U.value v.items ≡ whole_bounds T.value from.now)) }
+{
+    let mut list = Vec::new(alloc);
+    for b in from {
+        match bound(*b) {
+            Some(bound) => list.push(bound)?,
+            None => return Ok(None),
+        }
+    }
+    Ok(Some(list))
+}
+
+fn copied<X: Copy>(alloc: Global, from: &[X]) -> Result<Vec<X>, AllocError>
+    ensures { IfOk result (λ v. v.items ≡ from.now) }
+{
+    from.iter().copied().collect(alloc)
+}
+
+fn row<T: Words, U: Words>(alloc: Global, from: &Row<T>) -> Result<Option<Row<U>>, AllocError>
+    ensures { IfOk result (λ o. IfSome o (λ r. whole_row U.value r ≡ whole_row T.value from.now)) }
+{
+    let Some(denominator) = converted(from.denominator) else {
+        return Ok(None);
+    };
+    match numbers(alloc, &from.numbers)? {
+        Some(numbers) => Ok(Some(Row {
+            numbers,
+            denominator,
+        })),
+        None => Ok(None),
+    }
+}
+
+fn rows<T: Words, U: Words>(
+    alloc: Global,
+    from: &[Row<T>],
+) -> Result<Option<Vec<Row<U>>>, AllocError>
+    ensures { IfOk result (λ o. IfSome o (λ v. map (whole_row U.value) v.items ≡ map (whole_row T.value) from.now)) }
+{
+    let mut list = Vec::new(alloc);
+    for r in from {
+        match row(alloc, r)? {
+            Some(row) => list.push(row)?,
+            None => return Ok(None),
+        }
+    }
+    Ok(Some(list))
+}
+
+/// The same rows in words of another width. There are none where a number is past that width.
+pub fn widened<T: Words, U: Words>(
+    alloc: Global,
+    tab: &RowTableau<T>,
+) -> Result<Option<RowTableau<U>>, AllocError>
+    requires { IsWhole T.value tab.now }
+    ensures whole { IfOk result (λ o. IfSome o (IsWhole U.value)) }
+    ensures rows { IfOk result (λ o. IfSome o (λ r. height r ≡ height tab.now)) }
+    ensures cols { IfOk result (λ o. IfSome o (λ r. r.cols ≡ tab.now.cols)) }
+    ensures shown { (t : tableaus.Tableau) → Shows T.value tab.now t →
+        IfOk result (λ o. IfSome o (λ r. Shows U.value r t)) }
+{
+    made(alloc, tab)
+}
+
+// The same, with the equations of all numbers.
+fn made<T: Words, U: Words>(
+    alloc: Global,
+    tab: &RowTableau<T>,
+) -> Result<Option<RowTableau<U>>, AllocError>
+    ensures { IfOk result (λ o. IfSome o (AreSameNumbers T.value U.value tab.now)) }
+{
+    let Some(denominator) = converted(tab.denominator) else {
+        return Ok(None);
+    };
+    let Some(costs) = row(alloc, &tab.costs)? else {
+        return Ok(None);
+    };
+    let Some(rows) = rows(alloc, &tab.rows)? else {
+        return Ok(None);
+    };
+    let Some(lower) = bounds(alloc, &tab.lower)? else {
+        return Ok(None);
+    };
+    let Some(upper) = bounds(alloc, &tab.upper)? else {
+        return Ok(None);
+    };
+    Ok(Some(RowTableau {
+        cols: tab.cols,
+        rows,
+        costs,
+        basic: copied(alloc, &tab.basic)?,
+        status: copied(alloc, &tab.status)?,
+        lower,
+        upper,
+        fixed: copied(alloc, &tab.fixed)?,
+        denominator,
+    }))
+}
