@@ -13,8 +13,8 @@ use Rattle.spec_check.specs.Run.{check_run}
 use Rattle.spec_check.proofs.RunSound.{run_sound}
 use Rattle.spec_check.proofs.Sound.{checks_hold}
 use Rattle.spec_check.specs.declared.solve_end.SolveEnd.TheVariants.{Ended, Past, Spent}
-use Rattle.spec_cold.specs.Cold.{ExactSolveEnd}
-use Rattle.spec_warm.specs.Solve.{SolveEnd}
+use Rattle.spec_runs.specs.Cold.{ExactSolveEnd}
+use Rattle.spec_runs.specs.Solve.{SolveEnd}
 use Rattle.spec_solve.specs.Answers.{IsSolved}
 use Rattle.spec_iis.specs.Found.{EndsCold, ShowsInfeasible}
 use Rattle.lp_iis.specs.Trials.{trial_by, trial_of, IsTried}

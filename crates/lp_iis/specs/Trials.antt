@@ -7,7 +7,7 @@ use Rattle.spec_check.specs.declared.certificate.Certificate.{Certificate}
 use Rattle.spec_check.specs.declared.certificate.Certificate.TheVariants.{Optimal, Unbounded, Clash}
 use Rattle.spec_check.specs.declared.certificate.Certificate.TheVariants as certificates
 use Rattle.spec_check.specs.declared.solve_end.SolveEnd.TheVariants.{Ended, Past, Spent}
-use Rattle.spec_cold.specs.Cold.{ExactSolveEnd}
+use Rattle.spec_runs.specs.Cold.{ExactSolveEnd}
 use Rattle.spec_solve.specs.Order.{GivesUp}
 use Rattle.spec_iis.specs.Found.{EndsCold, ShowsInfeasible}
 use Rattle.lp_iis.specs.declared.trial.Trial.{Trial}

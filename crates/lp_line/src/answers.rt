@@ -8,8 +8,8 @@ use lp_base::Bytes;
 use lp_check::{Known, Verdict};
 use lp_frac::{Op, Past};
 use spec_board::Put;
+use spec_runs::Fall;
 use spec_server::{How, Publication};
-use spec_warm::Fall;
 use std::alloc::{AllocError, Global};
 
 /// Writes a number after what is there.

@@ -7,7 +7,7 @@ use Rattle.spec_check.specs.declared.solve_end.SolveEnd.TheVariants.{Ended, Past
 use Rattle.spec_check.specs.Certificate.{IsFor}
 use Rattle.spec_check.specs.Checks.{Checks}
 use Rattle.spec_check.proofs.RunSound.{run_sound}
-use Rattle.spec_cold.specs.Cold.{ExactSolveEnd}
+use Rattle.spec_runs.specs.Cold.{ExactSolveEnd}
 use Rattle.spec_solve.specs.Answers.{MayAnswer}
 use Rattle.spec_presolve.specs.Reduce.{Reductions, reduced}
 use Rattle.spec_presolve.specs.Carry.{ExactCertificate, halted}

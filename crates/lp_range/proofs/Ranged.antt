@@ -15,7 +15,7 @@ use Rattle.spec_simplex.specs.declared.ends.StartStop.TheVariants as start
 use Rattle.spec_simplex.specs.Form.{Form, form_of}
 use Rattle.spec_simplex.specs.Tableau.{Tableau, entry_at, status_at, lower_at, upper_at, is_basic, is_fixed}
 use Rattle.spec_simplex.specs.Eliminate.{IsBasisOf, start_from}
-use Rattle.spec_warm.proofs.LimitSteps.{from_agrees}
+use Rattle.spec_runs.proofs.LimitSteps.{from_agrees}
 use Rattle.spec_range.specs.declared.range.Range.{Range}
 use Rattle.spec_range.specs.Span.{Keeps, IsRange}
 use Rattle.spec_range.specs.Rule.{is_moved, cost_run, side_run, cost_range, side_range}

@@ -9,7 +9,7 @@ use Rattle.spec_exact.specs.Run.{◌>>=◌}
 use Rattle.spec_simplex.specs.Tableau.{Tableau, form_columns}
 use Rattle.spec_exact.proofs.Stops.{length-made}
 use Rattle.spec_exact.specs.Narrow.{number_limit}
-use Rattle.spec_cold.specs.Cold.{basis_status}
+use Rattle.spec_runs.specs.Cold.{basis_status}
 use Rattle.spec_factor.specs.Factors.{Factors, factor_run}
 use Rattle.spec_factor.specs.Revised.{Revised, standing, factor_basis, factor_stop, refactored, refactor_run}
 use Rattle.lp_frac.specs.declared.stop.Stop.{Stop}

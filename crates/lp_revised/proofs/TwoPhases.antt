@@ -14,7 +14,7 @@ use Rattle.spec_exact.specs.Run.{◌>>=◌, refused_as, list_run}
 use Rattle.spec_exact.specs.Narrow.{number_limit}
 use Rattle.spec_simplex.specs.Start.{row_start, begun}
 use Rattle.spec_simplex.specs.Phases.{is_stuck}
-use Rattle.spec_cold.specs.Cold.{basis_at}
+use Rattle.spec_runs.specs.Cold.{basis_at}
 use Rattle.spec_factor.specs.Revised.{Revised, bare_of, refactor_run}
 use Rattle.spec_factor.specs.Over.{RevisedEnded, OverEnd, over_from, over_one, over_two, over_phases, over_run}
 use Rattle.spec_factor.specs.Over.{over_certificate, second_state, stuck_answer, end_answer, negatives}

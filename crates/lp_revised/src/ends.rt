@@ -4,7 +4,7 @@ ghost use Rattle.spec_exact.specs.Fraction.{0ℚ};
 ghost use Rattle.spec_exact.specs.Narrow.{IsNarrow};
 ghost use Rattle.spec_check.specs.Certificate.{IsNarrowCertificate};
 ghost use Rattle.spec_simplex.specs.Tableau.{entry_at};
-ghost use Rattle.spec_cold.specs.Cold as solves;
+ghost use Rattle.spec_runs.specs.Cold as solves;
 ghost use Rattle.spec_factor.specs.Revised.{seen};
 ghost use Rattle.spec_factor.specs.Over.{negatives, over_certificate};
 ghost use Rattle.lp_revised.specs.Runs.{EndsWith, selection_at};

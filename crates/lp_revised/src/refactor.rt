@@ -1,7 +1,7 @@
 // Taking factors anew.
 ghost use Rattle.std.specs.Prelude.{◌≡◌, ◌<◌, ◌+◌, Some, All, OnOk, IfOk, length, map, nat_le, ◌&&◌};
 ghost use Rattle.spec_exact.specs.Narrow.{number_limit};
-ghost use Rattle.spec_cold.specs.Cold.{basis_status as basis_status_of};
+ghost use Rattle.spec_runs.specs.Cold.{basis_status as basis_status_of};
 ghost use Rattle.spec_simplex.specs.Tableau.{is_basic as is_basic_of};
 ghost use Rattle.spec_simplex.specs.Tableau.{all_columns, status_at, form_columns as form_columns_of};
 ghost use Rattle.spec_factor.specs.Factors.{factor_run};

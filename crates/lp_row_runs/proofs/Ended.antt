@@ -15,11 +15,11 @@ use Rattle.spec_simplex.specs.Form.{Form}
 use Rattle.spec_simplex.specs.Eliminate.{IsBasisOf, start_from}
 use Rattle.spec_simplex.specs.Phases.{PrimalEnded, Finished, run_from}
 use Rattle.spec_simplex.specs.Tableau.{Tableau}
-use Rattle.spec_cold.specs.Cold.{certificate_at}
+use Rattle.spec_runs.specs.Cold.{certificate_at}
 use Rattle.spec_path.specs.Begins.{IsProper}
-use Rattle.spec_warm.specs.Based.{BeginsFrom}
-use Rattle.spec_warm.proofs.Started.{start_begins_from}
-use Rattle.spec_warm.specs.Warm.{stopped_as, start_stop, run_stop, ByPrimal, run_by, warm_run}
+use Rattle.spec_runs.specs.Based.{BeginsFrom}
+use Rattle.spec_runs.proofs.Started.{start_begins_from}
+use Rattle.spec_runs.specs.Warm.{stopped_as, start_stop, run_stop, ByPrimal, run_by, warm_run}
 use Rattle.lp_rows.specs.declared.tableau.tableau.RowTableau.{RowTableau}
 use Rattle.lp_rows.specs.Shows.{Shows}
 use Rattle.lp_rows.specs.Ends.{certificate_as}

@@ -21,10 +21,10 @@ use Rattle.spec_path.specs.Begins.{IsProper}
 use Rattle.spec_path.specs.Tables.{way, bounds_of, IsTableauOf, IsWithinBounds}
 use Rattle.spec_path.proofs.Lists.{by_lt}
 use Rattle.spec_pivot.specs.Dual.{IsOrdered, IsPast}
-use Rattle.spec_warm.specs.Based.{equations, BeginsFrom}
-use Rattle.spec_warm.proofs.Fits.{IsLeaving, leaving_is}
-use Rattle.spec_warm.proofs.Fitted.{primal_fit}
-use Rattle.spec_warm.proofs.LimitSteps.{fit_agrees}
+use Rattle.spec_runs.specs.Based.{equations, BeginsFrom}
+use Rattle.spec_runs.proofs.Fits.{IsLeaving, leaving_is}
+use Rattle.spec_runs.proofs.Fitted.{primal_fit}
+use Rattle.spec_runs.proofs.LimitSteps.{fit_agrees}
 use Rattle.lp_wide.specs.Whole.{whole}
 use Rattle.lp_wide.specs.declared.signed.Signed.{Signed}
 use Rattle.lp_rows.specs.declared.fractions.Row.{Row}

@@ -19,7 +19,7 @@ use Rattle.spec_path.proofs.LimitPhases.{two_agrees}
 use Rattle.spec_path.proofs.LimitStart.{flip_agrees, pivot_agrees, start_agrees}
 use Rattle.spec_path.proofs.PhaseTwo.{second_phase}
 use Rattle.spec_path.proofs.Steps.{choice_is_meant}
-use Rattle.spec_cold.proofs.PhaseSteps.{given}
+use Rattle.spec_runs.proofs.PhaseSteps.{given}
 use Rattle.lp_rows.specs.Shows.{IsReached}
 
 -- ---- nothing is refused

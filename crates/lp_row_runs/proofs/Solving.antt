@@ -22,9 +22,9 @@ use Rattle.spec_simplex.specs.Eliminate.{basis_at, basis_value, has_none, or_fir
 use Rattle.spec_simplex.specs.Eliminate.{unsolved}
 use Rattle.spec_path.proofs.LimitStart.{turned_agrees}
 use Rattle.spec_path.proofs.Turned.{turned_entry}
-use Rattle.spec_cold.proofs.PhaseSteps.{given}
-use Rattle.spec_warm.proofs.Counts.{basic_test}
-use Rattle.spec_warm.proofs.Eliminated.{Solving, eliminated_below}
+use Rattle.spec_runs.proofs.PhaseSteps.{given}
+use Rattle.spec_runs.proofs.Counts.{basic_test}
+use Rattle.spec_runs.proofs.Eliminated.{Solving, eliminated_below}
 use Rattle.lp_tableau.proofs.Solving.{is_solved}
 use Rattle.lp_wide.specs.declared.signed.Signed.{Signed}
 use Rattle.lp_rows.specs.declared.fractions.Row.{Row}

@@ -24,11 +24,11 @@ use Rattle.spec_simplex.specs.Eliminate.{IsBasisOf, basis_value, basis_lower, wi
 use Rattle.spec_simplex.specs.Eliminate.{with_values, filled_run, eliminate_run, start_from}
 use Rattle.spec_path.specs.Begins.{IsProper}
 use Rattle.spec_path.proofs.Runs.{then_ok, refused_ok}
-use Rattle.spec_cold.proofs.PhaseSteps.{given}
-use Rattle.spec_warm.specs.Based.{BeginsFrom}
-use Rattle.spec_warm.proofs.LimitSteps.{from_agrees}
-use Rattle.spec_warm.proofs.Started.{start_begins_from}
-use Rattle.spec_warm.proofs.Valued.{valued_other, valued_solves}
+use Rattle.spec_runs.proofs.PhaseSteps.{given}
+use Rattle.spec_runs.specs.Based.{BeginsFrom}
+use Rattle.spec_runs.proofs.LimitSteps.{from_agrees}
+use Rattle.spec_runs.proofs.Started.{start_begins_from}
+use Rattle.spec_runs.proofs.Valued.{valued_other, valued_solves}
 use Rattle.lp_wide.specs.declared.signed.Signed.{Signed}
 use Rattle.lp_rows.specs.declared.fractions.Row.{Row}
 use Rattle.lp_rows.specs.Ratio.{bound_of}

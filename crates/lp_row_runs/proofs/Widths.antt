@@ -8,7 +8,7 @@ use Rattle.spec_model.specs.Model.{Model}
 use Rattle.spec_check.specs.declared.certificate.Certificate.{Certificate}
 use Rattle.spec_check.specs.declared.certificate.Certificate.TheVariants as certificate
 use Rattle.spec_check.specs.Certificate.{IsNarrowCertificate}
-use Rattle.spec_cold.specs.Cold.{basis_at}
+use Rattle.spec_runs.specs.Cold.{basis_at}
 use Rattle.spec_simplex.specs.declared.ends.RunStop.{RunStop}
 use Rattle.spec_simplex.specs.declared.ends.RunStop.TheVariants as stop
 use Rattle.spec_exact.specs.Run.{◌>>=◌, refused_as, list_run}

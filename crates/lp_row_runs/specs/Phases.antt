@@ -9,7 +9,7 @@ use Rattle.spec_exact.specs.Run.{◌>>=◌}
 use Rattle.spec_simplex.specs.Form.{Form}
 use Rattle.spec_simplex.specs.Tableau.{Tableau}
 use Rattle.spec_simplex.specs.Phases.{PrimalEnded, PhasesEnd, Infeasible, Finished, is_stuck, phase_two}
-use Rattle.spec_cold.specs.Cold.{basis_of, pivots_of}
+use Rattle.spec_runs.specs.Cold.{basis_of, pivots_of}
 use Rattle.lp_rows.specs.Shows.{height, IsWhole, IsReached, Shows}
 use Rattle.lp_rows.specs.Ends.{certificate_as, AllFit}
 use Rattle.lp_row_runs.specs.Steps.{steps_from}

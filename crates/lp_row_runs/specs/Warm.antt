@@ -7,7 +7,7 @@ use Rattle.spec_simplex.specs.Form.{Form}
 use Rattle.spec_simplex.specs.Tableau.{Tableau}
 use Rattle.spec_simplex.specs.Eliminate.{start_from}
 use Rattle.spec_simplex.specs.Fit.{fit_run}
-use Rattle.spec_warm.specs.Warm.{WarmEnd, warm_run, warm_certificate, warm_basis, warm_pivots}
+use Rattle.spec_runs.specs.Warm.{WarmEnd, warm_run, warm_certificate, warm_basis, warm_pivots}
 use Rattle.lp_rows.specs.Shows.{IsReached, Shows}
 use Rattle.lp_row_runs.specs.Phases.{IsReady}
 use Rattle.lp_row_runs.specs.declared.phases.Phase.TheVariants.{Two}

@@ -6,7 +6,7 @@ ghost use Rattle.spec_simplex.specs.declared.ends.Fit.TheVariants as fit;
 ghost use Rattle.spec_simplex.specs.Fit.{fit_run};
 ghost use Rattle.spec_simplex.specs.Form.{Form as forms};
 ghost use Rattle.spec_simplex.specs.Tableau as tableaus;
-ghost use Rattle.spec_warm.specs.Based.{BeginsFrom};
+ghost use Rattle.spec_runs.specs.Based.{BeginsFrom};
 ghost use Rattle.lp_wide.specs.Whole.{whole};
 ghost use Rattle.lp_rows.specs.Ratio.{bound_of};
 ghost use Rattle.lp_rows.specs.Shows.{IsWhole, Shows, height};

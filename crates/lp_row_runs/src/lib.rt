@@ -20,7 +20,7 @@
 //! What the run ends with is the end of spec_simplex's `phases_run` without a limit. That it ends is not promised:
 //! numbers past the widest words, the budget and a bound on the work let it give up.
 //!
-//! What it ends with is the end of spec_warm's `warm_run` without a limit, by the primal method. That it ends is not
+//! What it ends with is the end of spec_runs's `warm_run` without a limit, by the primal method. That it ends is not
 //! promised.
 #![tactic(auto)]
 

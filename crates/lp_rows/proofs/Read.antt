@@ -11,7 +11,7 @@ use Rattle.spec_check.specs.declared.certificate.Certificate.{Certificate}
 use Rattle.spec_simplex.specs.declared.ends.PrimalEnd.{PrimalEnd}
 use Rattle.spec_simplex.specs.Step.{directed}
 use Rattle.spec_simplex.specs.Tableau.{Tableau, entry_at, basic_at}
-use Rattle.spec_cold.specs.Cold.{moves_below, moves_by}
+use Rattle.spec_runs.specs.Cold.{moves_below, moves_by}
 use Rattle.lp_wide.specs.Whole.{whole}
 use Rattle.lp_wide.specs.declared.signed.Signed.{Signed}
 use Rattle.lp_rows.specs.declared.fractions.Row.{Row}

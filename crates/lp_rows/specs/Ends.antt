@@ -8,11 +8,11 @@ use Rattle.spec_pivot.specs.declared.status.Status.{Status}
 use Rattle.spec_simplex.specs.declared.ends.PrimalEnd.{PrimalEnd}
 use Rattle.spec_simplex.specs.declared.ends.PrimalEnd.TheVariants.{Optimal, Unbounded}
 use Rattle.spec_simplex.specs.Tableau.{Tableau, value_at, reduced_at}
-use Rattle.spec_cold.specs.Cold.{moves_by, basis_at}
+use Rattle.spec_runs.specs.Cold.{moves_by, basis_at}
 use Rattle.lp_rows.specs.declared.tableau.tableau.RowTableau.{RowTableau}
 use Rattle.lp_rows.specs.Shows.{width}
 
--- ---- the lists of spec_cold, of another kind of numbers
+-- ---- the lists of spec_runs, of another kind of numbers
 abbrev pub point_as : {N : Type 0} → (ℚ → N) → Tableau → List N
 point_as of t = made t.cols (λ j. of (value_at t j))
 

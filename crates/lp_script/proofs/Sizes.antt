@@ -4,7 +4,7 @@ use Rattle.std.proofs.Common.{sym, ap, ◌∙◌, subst, cond, inl, inr}
 use Rattle.spec_check.specs.declared.certificate.Known.TheVariants as known
 use Rattle.spec_simplex.specs.Form.{Form}
 use Rattle.spec_check.specs.declared.solve_end.SolveEnd.TheVariants.{Ended, Past, Spent}
-use Rattle.spec_cold.specs.Cold.{ExactSolveEnd}
+use Rattle.spec_runs.specs.Cold.{ExactSolveEnd}
 use Rattle.spec_board.proofs.Places.{packed_length}
 use Rattle.spec_board.specs.declared.read.Put.{Put}
 use Rattle.spec_board.specs.declared.read.Put.TheVariants.{Published, Full, Raced}

@@ -6,7 +6,7 @@ use Rattle.spec_pivot.specs.declared.status.Status.{Status}
 use Rattle.spec_simplex.specs.Form.{Form, IsForm}
 use Rattle.spec_simplex.specs.Eliminate.{IsBasisOf}
 use Rattle.spec_check.specs.declared.solve_end.SolveEnd.TheVariants.{Ended, Past, Spent}
-use Rattle.spec_cold.specs.Cold.{ExactSolveEnd}
+use Rattle.spec_runs.specs.Cold.{ExactSolveEnd}
 use Rattle.spec_solve.specs.Answers.{MayAnswer}
 use Rattle.spec_board.specs.Words.{IsWellFormed, packed, unpacked}
 use Rattle.spec_board.proofs.Bases.{packed_fits, unpacked_fits}

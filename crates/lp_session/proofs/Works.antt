@@ -2,7 +2,7 @@
 use Rattle.std.proofs.Common.{◌≡◌, Bool, true, false, Option, Some, None, sym, ap, ap₂, ◌∙◌, subst, cond, inl}
 use Rattle.spec_model.specs.Model.{Model}
 use Rattle.spec_simplex.specs.Form.{Form}
-use Rattle.spec_warm.specs.Solve.{SolveEnd}
+use Rattle.spec_runs.specs.Solve.{SolveEnd}
 use Rattle.spec_solve.specs.Answers.{IsSolved}
 use Rattle.spec_board.specs.Reads.{Words, Looked}
 use Rattle.spec_server.specs.declared.answer.How.{How}

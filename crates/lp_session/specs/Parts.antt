@@ -3,8 +3,8 @@ use Rattle.std.specs.Prelude.{ℕ, ◌≡◌, Option, Some, None, Ok, IfSome}
 use Rattle.spec_exact.specs.Narrow.{number_limit}
 use Rattle.spec_model.specs.Model.{Model}
 use Rattle.spec_simplex.specs.Form.{Form, form_of}
-use Rattle.spec_cold.specs.Cold.{ExactSolveEnd}
-use Rattle.spec_warm.specs.Solve.{SolveEnd}
+use Rattle.spec_runs.specs.Cold.{ExactSolveEnd}
+use Rattle.spec_runs.specs.Solve.{SolveEnd}
 use Rattle.spec_solve.specs.Answers.{MayAnswer, IsSolved}
 use Rattle.spec_board.specs.Words.{IsWellFormed, shape_of}
 use Rattle.spec_board.specs.Reads.{Looked, front}

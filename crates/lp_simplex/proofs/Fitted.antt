@@ -10,11 +10,11 @@ use Rattle.spec_simplex.specs.Tableau.{Tableau, all_columns, value_at, reduced_a
 use Rattle.spec_simplex.specs.Tableau.{status_at, lower_at, upper_at, is_fixed}
 use Rattle.spec_path.specs.Tables.{way}
 use Rattle.spec_simplex.specs.declared.ends.Fit.TheVariants.{Dual}
-use Rattle.spec_warm.specs.Based.{IsBased}
+use Rattle.spec_runs.specs.Based.{IsBased}
 use Rattle.spec_simplex.specs.Fit.{needs_flip, meets_need, needs_flip_at, fit_run}
-use Rattle.spec_warm.proofs.Bounded.{own_counts, lower_same, upper_same}
-use Rattle.spec_warm.proofs.Fits.{fit_is}
-use Rattle.spec_warm.proofs.Flipped.{wrong}
+use Rattle.spec_runs.proofs.Bounded.{own_counts, lower_same, upper_same}
+use Rattle.spec_runs.proofs.Fits.{fit_is}
+use Rattle.spec_runs.proofs.Flipped.{wrong}
 use Rattle.lp_simplex.specs.Starts.{HasPlace, IsDualStart}
 
 module _ (limit : Option ℕ) (m n : ℕ) (f : Matrix) (cost : ℕ → ℚ) (b : Bounds)

@@ -23,7 +23,7 @@ ghost use Rattle.spec_pivot.specs.Tableau.{Matrix};
 ghost use Rattle.spec_pivot.specs.Simplex.{Bounds};
 ghost use Rattle.spec_simplex.specs.Tableau.{Tableau};
 ghost use Rattle.spec_simplex.specs.declared.ends.Fit.TheVariants.{Dual};
-ghost use Rattle.spec_warm.specs.Based.{IsBased};
+ghost use Rattle.spec_runs.specs.Based.{IsBased};
 ghost use Rattle.spec_simplex.specs.Fit.{fit_run};
 ghost use Rattle.lp_simplex.specs.Starts.{IsDualStart};
 

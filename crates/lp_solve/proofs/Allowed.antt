@@ -12,11 +12,11 @@ use Rattle.spec_simplex.specs.declared.ends.WarmStop.{WarmStop}
 use Rattle.spec_simplex.specs.Form.{Form, form_of}
 use Rattle.spec_simplex.specs.Eliminate.{IsBasisOf}
 use Rattle.spec_check.specs.declared.solve_end.SolveEnd.TheVariants.{Ended}
-use Rattle.spec_cold.specs.Cold.{ExactSolveEnd}
-use Rattle.spec_warm.specs.declared.ends.Route.TheVariants as route
-use Rattle.spec_warm.specs.declared.ends.Warm.TheVariants as warm
-use Rattle.spec_warm.specs.Warm.{WarmResult, after_form}
-use Rattle.spec_warm.specs.Solve.{SolveEnd, HasBasis, fall_of}
+use Rattle.spec_runs.specs.Cold.{ExactSolveEnd}
+use Rattle.spec_runs.specs.declared.ends.Route.TheVariants as route
+use Rattle.spec_runs.specs.declared.ends.Warm.TheVariants as warm
+use Rattle.spec_runs.specs.Warm.{WarmResult, after_form}
+use Rattle.spec_runs.specs.Solve.{SolveEnd, HasBasis, fall_of}
 use Rattle.spec_solve.specs.Order.{MayEndCold, MayEnd}
 use Rattle.spec_solve.specs.Answers.{IsSolved}
 use Rattle.spec_solve.proofs.Solves.{HasFitEnd, cold_solved, is_solved}

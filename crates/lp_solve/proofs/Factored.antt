@@ -15,9 +15,9 @@ use Rattle.spec_simplex.specs.Eliminate.{IsBasisOf}
 use Rattle.spec_simplex.specs.Phases.{PhasesEnd, phases_run}
 use Rattle.spec_check.specs.declared.solve_end.SolveEnd.TheVariants as outcome
 use Rattle.spec_path.proofs.LimitStart.{form_without}
-use Rattle.spec_cold.specs.Accepted.{IsAccepted}
-use Rattle.spec_cold.specs.Cold.{ExactSolveEnd, certificate_of, basis_of, pivots_of, answered, cold, after_form}
-use Rattle.spec_cold.proofs.Solved.{end_accepted}
+use Rattle.spec_runs.specs.Accepted.{IsAccepted}
+use Rattle.spec_runs.specs.Cold.{ExactSolveEnd, certificate_of, basis_of, pivots_of, answered, cold, after_form}
+use Rattle.spec_runs.proofs.ColdSolves.{end_accepted}
 use Rattle.spec_factor.specs.Over.{OverEnd, over_run, answer_of, answer_in, after_over, over_factors}
 use Rattle.spec_solve.specs.Order.{GivesUp, MayEndCold, or_tableaus, cold_by, cold_over}
 use Rattle.spec_solve.proofs.Orders.{part_may, part_kept, checked_may}

@@ -6,7 +6,7 @@ use Rattle.spec_model.specs.Model.{Model}
 use Rattle.spec_simplex.specs.Form.{Form, form_of}
 use Rattle.spec_simplex.specs.Phases.{phases_run}
 use Rattle.spec_check.specs.declared.solve_end.SolveEnd.TheVariants as outcome
-use Rattle.spec_cold.specs.Cold.{ExactSolveEnd, answered}
+use Rattle.spec_runs.specs.Cold.{ExactSolveEnd, answered}
 use Rattle.spec_factor.specs.Over.{answer_in}
 use Rattle.spec_solve.specs.Order.{GivesUp, MayEndCold}
 use Rattle.lp_revised.specs.declared.cold_run.RunEnd.{RunEnd}

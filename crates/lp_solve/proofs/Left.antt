@@ -5,9 +5,9 @@ use Rattle.spec_pivot.specs.declared.status.Status.{Status}
 use Rattle.spec_simplex.specs.Form.{Form, form_of}
 use Rattle.spec_simplex.specs.Eliminate.{IsBasisOf}
 use Rattle.spec_simplex.specs.Phases.{PhasesEnd, phases_run}
-use Rattle.spec_cold.specs.Cold.{basis_of}
-use Rattle.spec_warm.specs.Warm.{WarmEnd, warm_run, warm_basis}
-use Rattle.spec_warm.proofs.TrueEnds.{run_left, phases_left}
+use Rattle.spec_runs.specs.Cold.{basis_of}
+use Rattle.spec_runs.specs.Warm.{WarmEnd, warm_run, warm_basis}
+use Rattle.spec_runs.proofs.TrueEnds.{run_left, phases_left}
 
 if_left : (f : Form) (o : Option (List Status)) → ((left : List Status) → o ≡ Some left → IsBasisOf f left) →
     IfSome o (λ basis. IsBasisOf f basis)

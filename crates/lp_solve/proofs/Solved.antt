@@ -14,9 +14,9 @@ use Rattle.spec_exact.specs.Run.{Run}
 use Rattle.spec_simplex.specs.Start.{start_of}
 use Rattle.spec_simplex.specs.Phases.{PhasesEnd, phases_run}
 use Rattle.spec_check.specs.declared.solve_end.SolveEnd.TheVariants as outcome
-use Rattle.spec_cold.specs.Accepted.{IsAccepted}
-use Rattle.spec_cold.specs.Cold.{ExactSolveEnd, certificate_of, basis_of, answered, after_phases, after_form, cold}
-use Rattle.spec_cold.proofs.Solved.{end_accepted, clash_accepted}
+use Rattle.spec_runs.specs.Accepted.{IsAccepted}
+use Rattle.spec_runs.specs.Cold.{ExactSolveEnd, certificate_of, basis_of, answered, after_phases, after_form, cold}
+use Rattle.spec_runs.proofs.ColdSolves.{end_accepted, clash_accepted}
 use Rattle.spec_solve.specs.Order.{MayEndCold}
 use Rattle.spec_solve.proofs.Orders.{formless_may}
 use Rattle.lp_form.specs.Answer.{IsFaultOf}

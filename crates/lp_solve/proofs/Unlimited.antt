@@ -17,16 +17,16 @@ use Rattle.spec_simplex.specs.Eliminate.{IsBasisOf}
 use Rattle.spec_simplex.specs.Form.{Form, form_of}
 use Rattle.spec_simplex.specs.Phases.{PhasesEnd, phases_run}
 use Rattle.spec_path.proofs.LimitStart.{form_without}
-use Rattle.spec_cold.specs.Accepted.{IsAccepted}
-use Rattle.spec_cold.specs.Cold.{ExactSolveEnd, checked, answered, after_phases}
+use Rattle.spec_runs.specs.Accepted.{IsAccepted}
+use Rattle.spec_runs.specs.Cold.{ExactSolveEnd, checked, answered, after_phases}
 use Rattle.spec_factor.specs.Over.{OverEnd, answer_of, answer_in}
-use Rattle.spec_warm.specs.declared.ends.Route.{Route}
-use Rattle.spec_warm.specs.declared.ends.Route.TheVariants as found
-use Rattle.spec_warm.specs.declared.ends.Warm.TheVariants as start
-use Rattle.spec_warm.specs.Solve.{SolveEnd}
-use Rattle.spec_warm.specs.Warm as warms
-use Rattle.spec_warm.specs.Warm.{warm, warm_certificate}
-use Rattle.spec_warm.proofs.TrueEnds.{run_accepted}
+use Rattle.spec_runs.specs.declared.ends.Route.{Route}
+use Rattle.spec_runs.specs.declared.ends.Route.TheVariants as found
+use Rattle.spec_runs.specs.declared.ends.Warm.TheVariants as start
+use Rattle.spec_runs.specs.Solve.{SolveEnd}
+use Rattle.spec_runs.specs.Warm as warms
+use Rattle.spec_runs.specs.Warm.{warm, warm_certificate}
+use Rattle.spec_runs.proofs.TrueEnds.{run_accepted}
 use Rattle.spec_solve.specs.Answers.{IsSolved}
 use Rattle.spec_solve.specs.Wide.{ExactAnswer, IsPastFrom, IsWarmEnd, IsColdEnd, IsWideAnswer}
 use Rattle.lp_revised.specs.Runs.{over_end}

@@ -25,19 +25,19 @@ use Rattle.spec_simplex.specs.Eliminate.{IsBasisOf, start_from}
 use Rattle.spec_simplex.specs.Fit.{fit_run}
 use Rattle.spec_simplex.specs.Dual.{DualEnded, dual_run}
 use Rattle.spec_check.specs.declared.solve_end.SolveEnd.TheVariants as cold
-use Rattle.spec_cold.specs.Accepted.{IsAccepted}
-use Rattle.spec_cold.specs.Cold as colds
-use Rattle.spec_cold.proofs.Steps.{few_costs}
+use Rattle.spec_runs.specs.Accepted.{IsAccepted}
+use Rattle.spec_runs.specs.Cold as colds
+use Rattle.spec_runs.proofs.Steps.{few_costs}
 use Rattle.spec_path.proofs.Formed.{form_proper}
-use Rattle.spec_warm.specs.declared.ends.Route.TheVariants as route
-use Rattle.spec_warm.specs.declared.ends.Warm.TheVariants as warm
-use Rattle.spec_warm.specs.Based.{BeginsFrom}
-use Rattle.spec_warm.specs.Warm.{WarmResult, ByPrimal, ByDual, stopped_as, start_stop, run_stop, run_by, warm_run}
-use Rattle.spec_warm.specs.Warm.{warm_certificate, dual_certificate, dual_basis, after_form, warm as warm_start}
-use Rattle.spec_warm.specs.Solve.{HasBasis, fall_of}
+use Rattle.spec_runs.specs.declared.ends.Route.TheVariants as route
+use Rattle.spec_runs.specs.declared.ends.Warm.TheVariants as warm
+use Rattle.spec_runs.specs.Based.{BeginsFrom}
+use Rattle.spec_runs.specs.Warm.{WarmResult, ByPrimal, ByDual, stopped_as, start_stop, run_stop, run_by, warm_run}
+use Rattle.spec_runs.specs.Warm.{warm_certificate, dual_certificate, dual_basis, after_form, warm as warm_start}
+use Rattle.spec_runs.specs.Solve.{HasBasis, fall_of}
 use Rattle.spec_solve.specs.Order.{MayEndCold, MayEndBy, MayEnd}
-use Rattle.spec_warm.proofs.Started.{start_begins_from}
-use Rattle.spec_warm.proofs.TrueEnds.{run_accepted}
+use Rattle.spec_runs.proofs.Started.{start_begins_from}
+use Rattle.spec_runs.proofs.TrueEnds.{run_accepted}
 use Rattle.lp_tableau.specs.Based.{StopsAt}
 use Rattle.lp_frac.specs.declared.stop.Stop.{Stop}
 use Rattle.lp_form.specs.declared.stop.Singular.{Singular}

@@ -6,9 +6,9 @@ use Rattle.spec_check.specs.declared.certificate.Known.TheVariants as known
 use Rattle.spec_simplex.specs.Form.{Form}
 use Rattle.spec_simplex.specs.Eliminate.{IsBasisOf}
 use Rattle.spec_check.specs.declared.solve_end.SolveEnd.TheVariants.{Ended, Past, Spent}
-use Rattle.spec_cold.specs.Cold.{ExactSolveEnd}
-use Rattle.spec_warm.specs.declared.ends.Warm.TheVariants as warm
-use Rattle.spec_warm.specs.Warm.{WarmResult}
+use Rattle.spec_runs.specs.Cold.{ExactSolveEnd}
+use Rattle.spec_runs.specs.declared.ends.Warm.TheVariants as warm
+use Rattle.spec_runs.specs.Warm.{WarmResult}
 
 -- it is one for the model, and its numbers are of at most 127 bits
 abbrev pub IsFit : Model → ExactSolveEnd → Type 0

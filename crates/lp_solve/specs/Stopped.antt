@@ -7,9 +7,9 @@ use Rattle.spec_pivot.specs.declared.status.Status.{Status}
 use Rattle.spec_simplex.specs.declared.ends.WarmStop.{WarmStop}
 use Rattle.spec_simplex.specs.Form.{Form}
 use Rattle.spec_simplex.specs.Eliminate.{IsBasisOf}
-use Rattle.spec_warm.specs.declared.ends.Warm.TheVariants as warm
-use Rattle.spec_warm.specs.Warm.{after_form}
-use Rattle.spec_warm.specs.Solve.{SolveEnd}
+use Rattle.spec_runs.specs.declared.ends.Warm.TheVariants as warm
+use Rattle.spec_runs.specs.Warm.{after_form}
+use Rattle.spec_runs.specs.Solve.{SolveEnd}
 use Rattle.spec_solve.specs.Answers.{IsSolved}
 
 -- the start from a basis of the form stops so

@@ -5,8 +5,8 @@ use Rattle.spec_model.specs.Model.{Model}
 use Rattle.spec_check.specs.Certificate.{IsFor}
 use Rattle.spec_check.specs.Run.{check_run}
 use Rattle.spec_pivot.specs.declared.status.Status.{Status}
-use Rattle.spec_warm.specs.declared.ends.Route.{Route}
-use Rattle.spec_warm.specs.declared.ends.Route.TheVariants as routes
+use Rattle.spec_runs.specs.declared.ends.Route.{Route}
+use Rattle.spec_runs.specs.declared.ends.Route.TheVariants as routes
 use Rattle.spec_solve.specs.OfBasis.{IsOfBasis}
 use Rattle.spec_solve.specs.Wide.{ExactAnswer}
 use Rattle.lp_row_runs.specs.declared.phases.RowEnd.{RowEnd}

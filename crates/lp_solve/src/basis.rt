@@ -3,8 +3,8 @@ ghost use Rattle.std.specs.Prelude.{◌≡◌, ◌<◌, IfOk, IfSome};
 ghost use Rattle.spec_simplex.specs.Eliminate.{IsBasisOf};
 ghost use Rattle.spec_exact.specs.Run.{made};
 ghost use Rattle.spec_simplex.specs.Tableau.{form_columns};
-ghost use Rattle.spec_cold.specs.Cold as cold;
-ghost use Rattle.spec_warm.specs.Warm as warm;
+ghost use Rattle.spec_runs.specs.Cold as cold;
+ghost use Rattle.spec_runs.specs.Warm as warm;
 
 use lp_form::{Basis, Form, Status, StatusList, is_basic};
 use lp_simplex::dual::DualEnd;

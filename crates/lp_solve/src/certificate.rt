@@ -4,8 +4,8 @@ ghost use Rattle.spec_exact.specs.Narrow.{IsNarrow};
 ghost use Rattle.spec_check.specs.declared.certificate.Certificate.TheVariants as certificates;
 ghost use Rattle.spec_check.specs.Certificate.{IsNarrowCertificate};
 ghost use Rattle.spec_simplex.specs.Tableau.{all_columns};
-ghost use Rattle.spec_cold.specs.Cold as cold;
-ghost use Rattle.spec_warm.specs.Warm as warm;
+ghost use Rattle.spec_runs.specs.Cold as cold;
+ghost use Rattle.spec_runs.specs.Warm as warm;
 ghost use Rattle.lp_simplex.specs.Starts.{IsPlace};
 ghost use Rattle.lp_solve.specs.Ends.{IsInside};
 

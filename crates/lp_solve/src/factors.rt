@@ -3,7 +3,7 @@ ghost use Rattle.std.specs.Prelude.{◌≡◌, IfOk, Ok, Some};
 ghost use Rattle.spec_exact.specs.Narrow.{number_limit};
 ghost use Rattle.spec_simplex.specs.Form.{form_of};
 ghost use Rattle.spec_factor.specs.Over as over;
-ghost use Rattle.spec_cold.specs.Cold.{cold};
+ghost use Rattle.spec_runs.specs.Cold.{cold};
 ghost use Rattle.spec_solve.specs.Order.{GivesUp};
 ghost use Rattle.spec_solve.specs.Order as order;
 ghost use Rattle.lp_solve.specs.Fit.{IsFit};

@@ -47,7 +47,7 @@ mod within;
 
 pub use cold::End;
 pub use solving::{Solved, solve, solve_formed, solve_formless};
-pub use spec_warm::{Fall, Route};
+pub use spec_runs::{Fall, Route};
 pub use wide::{WideAnswer, WideBased, WideSolved, solve_wide, solve_wide_from};
 pub use within::{
     OPENING_BUDGET, solved_from_basis, solved_within, wide_solved_from_basis, wide_solved_within,

@@ -4,7 +4,7 @@ ghost use Rattle.spec_exact.specs.Narrow.{number_limit};
 ghost use Rattle.spec_simplex.specs.Form.{form_of};
 ghost use Rattle.spec_simplex.specs.Eliminate.{IsBasisOf};
 ghost use Rattle.spec_check.specs.Certificate.{IsFor, IsNarrowCertificate};
-ghost use Rattle.spec_cold.specs.Cold as cold;
+ghost use Rattle.spec_runs.specs.Cold as cold;
 ghost use Rattle.spec_solve.specs.Order as order;
 ghost use Rattle.lp_solve.specs.Fit.{IsFit};
 

@@ -3,8 +3,8 @@ ghost use Rattle.std.specs.Prelude.{◌≡◌, ℕ, IfOk, IfSome, Ok, Some, None
 ghost use Rattle.spec_exact.specs.Narrow.{number_limit};
 ghost use Rattle.spec_simplex.specs.Eliminate.{IsBasisOf};
 ghost use Rattle.spec_simplex.specs.Form.{form_of};
-ghost use Rattle.spec_warm.specs.declared.ends.Route.TheVariants as route;
-ghost use Rattle.spec_warm.specs.Solve as solve;
+ghost use Rattle.spec_runs.specs.declared.ends.Route.TheVariants as route;
+ghost use Rattle.spec_runs.specs.Solve as solve;
 ghost use Rattle.spec_solve.specs.Answers.{IsSolved};
 ghost use Rattle.lp_form.specs.Answer.{IsFaultOf};
 ghost use Rattle.lp_solve.specs.Fit.{LeavesBasis};
@@ -19,11 +19,11 @@ use lp_check::Certificate;
 use lp_form::{Basis, Form, FormStop, form};
 use lp_frac::{Frac, Fracs, Stop};
 use lp_model::Model;
-use spec_warm::{Fall, Route};
+use spec_runs::{Fall, Route};
 use std::alloc::{AllocError, Global};
 
 /// How a solve ends.
-pub type Solved = spec_warm::Solved<Frac, Fracs, Basis>;
+pub type Solved = spec_runs::Solved<Frac, Fracs, Basis>;
 
 // Why the warm start was given up.
 fn fall(stop: WarmStop) -> Fall

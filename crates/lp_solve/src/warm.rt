@@ -6,7 +6,7 @@ ghost use Rattle.spec_simplex.specs.declared.ends.Fit.TheVariants as fitted;
 ghost use Rattle.spec_simplex.specs.Eliminate.{IsBasisOf};
 ghost use Rattle.spec_simplex.specs.Eliminate as eliminated;
 ghost use Rattle.spec_simplex.specs.Form.{form_of};
-ghost use Rattle.spec_warm.specs.Warm as warm;
+ghost use Rattle.spec_runs.specs.Warm as warm;
 ghost use Rattle.lp_solve.specs.Begun.{IsBegun};
 ghost use Rattle.lp_solve.specs.Fit.{IsWarmFit};
 
@@ -21,7 +21,7 @@ use lp_tableau::{RunStop, Tableau, start_from};
 use std::alloc::{AllocError, Global};
 
 /// How a warm start ends.
-pub(crate) type Warm = spec_warm::Warm<Frac, Fracs, Basis>;
+pub(crate) type Warm = spec_runs::Warm<Frac, Fracs, Basis>;
 
 /// Why it stops without an answer.
 pub(crate) type WarmStop = spec_simplex::WarmStop<Frac>;

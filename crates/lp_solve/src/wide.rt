@@ -24,7 +24,7 @@ use lp_model::Model;
 use lp_ratio::Ratio;
 use lp_rough::rough_basis;
 use lp_row_runs::{RowEnd, wide_cold, wide_warm};
-use spec_warm::Route;
+use spec_runs::Route;
 use std::alloc::{AllocError, Global};
 
 // The effort over rows of a wide solve before it asks for a basis, some hundredths of a second of it.

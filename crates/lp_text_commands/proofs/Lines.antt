@@ -13,7 +13,7 @@ use Rattle.spec_check.specs.declared.certificate.Letter.TheVariants.{X}
 use Rattle.spec_certificate.specs.TextWritten.{part_text, part_lines, lines_below, column_lines, certificate_lines}
 use Rattle.spec_iis.specs.declared.side.Side.{Side}
 use Rattle.spec_iis.specs.Only.{only}
-use Rattle.spec_cold.specs.Cold.{ExactSolveEnd}
+use Rattle.spec_runs.specs.Cold.{ExactSolveEnd}
 use Rattle.spec_server.specs.declared.asks.Reply.TheVariants as reply
 use Rattle.spec_server.specs.Machine.{opening_budget, answer_of}
 use Rattle.spec_server.specs.Output.{check_line, ended_lines, reply_text}

@@ -5,7 +5,7 @@ use Rattle.spec_model.specs.Model.{Model}
 use Rattle.spec_certificate.specs.TextWritten.{wide_certificate_lines}
 use Rattle.spec_simplex.specs.declared.ends.FormFault.{FormFault}
 use Rattle.spec_simplex.specs.Form.{Form}
-use Rattle.spec_warm.specs.Solve.{SolveEnd}
+use Rattle.spec_runs.specs.Solve.{SolveEnd}
 use Rattle.spec_solve.specs.Wide.{ExactAnswer, BasedEnd}
 use Rattle.spec_solve.specs.declared.wide_solved.WideBased.TheVariants.{Narrow, Wide}
 use Rattle.spec_server.specs.Machine.{opening_budget, answer_of, lines_of_solved}

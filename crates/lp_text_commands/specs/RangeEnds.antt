@@ -2,7 +2,7 @@
 use Rattle.std.specs.Prelude.{ℕ, Some}
 use Rattle.spec_model.specs.Model.{Model, width, height}
 use Rattle.spec_check.specs.declared.solve_end.SolveEnd.TheVariants.{Ended}
-use Rattle.spec_cold.specs.Cold.{ExactSolveEnd}
+use Rattle.spec_runs.specs.Cold.{ExactSolveEnd}
 use Rattle.spec_range.specs.Span.{Keeps}
 use Rattle.spec_program.specs.declared.command_line.Moved.{Moved}
 use Rattle.spec_program.specs.declared.command_line.Moved.TheVariants.{Cost, RightSide}

@@ -8,7 +8,7 @@ ghost use Rattle.spec_commands.specs.declared.basis.BasisFault.TheVariants as fa
 use lp_base::Bytes;
 use lp_line::{fall_suffix, push_numbered, push_pivots};
 use spec_bas::{BasCode, BasFault};
-use spec_warm::Route;
+use spec_runs::Route;
 use std::alloc::{AllocError, Global};
 
 fn push_route(route: Route, to: &mut Bytes) -> Result<(), AllocError>

@@ -6,8 +6,8 @@ use Rattle.spec_check.specs.declared.certificate.Certificate.{Certificate}
 use Rattle.spec_check.specs.declared.certificate.Known.{Known}
 use Rattle.spec_check.specs.declared.solve_end.SolveEnd.TheVariants.{Ended}
 use Rattle.spec_pivot.specs.declared.status.Status.{Status}
-use Rattle.spec_cold.specs.Cold.{ExactSolveEnd}
-use Rattle.spec_warm.specs.Solve.{SolveEnd}
+use Rattle.spec_runs.specs.Cold.{ExactSolveEnd}
+use Rattle.spec_runs.specs.Solve.{SolveEnd}
 use Rattle.spec_solve.specs.Answers.{IsSolved, ColdFits}
 use Rattle.spec_range.specs.Span.{Keeps}
 use Rattle.spec_range.proofs.ColdBases.{cold_keeps}

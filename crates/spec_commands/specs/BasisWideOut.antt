@@ -5,7 +5,7 @@ use Rattle.spec_model.specs.Model.{Model}
 use Rattle.spec_check.specs.declared.solve_end.SolveEnd.TheVariants.{Ended}
 use Rattle.spec_certificate.specs.TextWritten.{wide_certificate_lines}
 use Rattle.spec_simplex.specs.Form.{form_of}
-use Rattle.spec_warm.specs.Solve.{SolveEnd}
+use Rattle.spec_runs.specs.Solve.{SolveEnd}
 use Rattle.spec_solve.specs.declared.wide_solved.WideBased.TheVariants.{Narrow, Wide}
 use Rattle.spec_solve.specs.Wide.{ExactAnswer, BasedEnd, IsWideFrom}
 use Rattle.spec_server.specs.Machine.{opening_budget}

@@ -8,7 +8,7 @@ use Rattle.spec_model.specs.Model.{Model, Name, row, column}
 use Rattle.spec_check.specs.declared.certificate.Certificate.{Certificate}
 use Rattle.spec_check.specs.declared.certificate.Letter.TheVariants.{X}
 use Rattle.spec_certificate.specs.TextWritten.{column_lines, certificate_lines}
-use Rattle.spec_cold.specs.Cold.{ExactSolveEnd}
+use Rattle.spec_runs.specs.Cold.{ExactSolveEnd}
 use Rattle.spec_iis.specs.declared.side.Side.{Side}
 use Rattle.spec_iis.specs.declared.outcome.Iis.TheVariants.{Found, Other, Stopped}
 use Rattle.spec_iis.specs.Only.{only}

@@ -1,8 +1,8 @@
 -- What the command `solve` writes of what it reads, the text of a model: what a solve of the model ends with.
 use Rattle.std.specs.Prelude.{ℕ, ◌≡◌, None, Ok, Err, List, ◌++◌}
 use Rattle.spec_model.specs.Model.{Model}
-use Rattle.spec_cold.specs.Cold.{ExactSolveEnd}
-use Rattle.spec_warm.specs.Solve.{SolveEnd}
+use Rattle.spec_runs.specs.Cold.{ExactSolveEnd}
+use Rattle.spec_runs.specs.Solve.{SolveEnd}
 use Rattle.spec_solve.specs.Answers.{IsSolved}
 use Rattle.spec_server.specs.declared.asks.Reply.TheVariants as reply
 use Rattle.spec_server.specs.declared.asks.Refusal.TheVariants as refusal

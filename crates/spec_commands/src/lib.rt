@@ -54,7 +54,7 @@ ghost use Rattle.spec_commands.specs.SolveOut.{SolveOut};
 ghost use Rattle.spec_commands.specs.SolveWideOut.{SolveWideOut, FitsLine, wide_known_line};
 ghost use Rattle.spec_commands.specs.BasisOut.{Handed, BasisOut};
 ghost use Rattle.spec_commands.specs.BasisWideOut.{BasisWideOut};
-ghost use Rattle.spec_warm.specs.Solve.{SolveEnd};
+ghost use Rattle.spec_runs.specs.Solve.{SolveEnd};
 ghost use Rattle.spec_solve.specs.Answers.{IsSolved};
 ghost use Rattle.spec_range.specs.Span.{Keeps};
 

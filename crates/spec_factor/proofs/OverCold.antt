@@ -12,13 +12,13 @@ use Rattle.spec_simplex.specs.declared.ends.RunStop.TheVariants as stop
 use Rattle.spec_simplex.specs.Form.{Form, form_of}
 use Rattle.spec_simplex.specs.Phases.{PhasesEnd, phases_run}
 use Rattle.spec_check.specs.declared.solve_end.SolveEnd.TheVariants as outcome
-use Rattle.spec_cold.specs.Accepted.{IsAccepted}
-use Rattle.spec_cold.specs.Cold.{ExactSolveEnd, certificate_of, basis_of, pivots_of}
-use Rattle.spec_cold.specs.Cold.{checked, answered, after_phases, after_form, cold}
+use Rattle.spec_runs.specs.Accepted.{IsAccepted}
+use Rattle.spec_runs.specs.Cold.{ExactSolveEnd, certificate_of, basis_of, pivots_of}
+use Rattle.spec_runs.specs.Cold.{checked, answered, after_phases, after_form, cold}
 use Rattle.spec_path.proofs.Formed.{form_is, cost_length, cost_other}
 use Rattle.spec_path.proofs.LimitStart.{form_without}
 use Rattle.spec_path.proofs.Formed.{form_proper}
-use Rattle.spec_cold.proofs.Solved.{same_or_refused, end_accepted}
+use Rattle.spec_runs.proofs.ColdSolves.{same_or_refused, end_accepted}
 use Rattle.spec_factor.specs.Over.{over_run, answer_in, after_over, over_factors}
 use Rattle.spec_factor.specs.Same.{HasCosts}
 use Rattle.spec_factor.proofs.OverLimits.{over_agrees}

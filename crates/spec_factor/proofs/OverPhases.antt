@@ -25,7 +25,7 @@ use Rattle.spec_simplex.specs.Phases.{PrimalEnded, run_from, without_artificials
 use Rattle.spec_simplex.specs.Phases.{is_stuck, phase_one, phase_two, PhasesEnd, Infeasible, Finished, phases_run}
 use Rattle.spec_path.specs.Tables.{bounds_of, IsTableauOf, IsWithinBounds}
 use Rattle.spec_path.specs.Begins.{form_rows, signs_of, IsProper}
-use Rattle.spec_cold.specs.Cold.{multipliers, basis_at, certificate_at}
+use Rattle.spec_runs.specs.Cold.{multipliers, basis_at, certificate_at}
 use Rattle.spec_path.proofs.Runs.{then_ok, IsListOf, list_ok, get_or-made}
 use Rattle.spec_path.proofs.Refusals.{agrees_list}
 use Rattle.spec_path.proofs.LimitStart.{row_start_agrees, priced_agrees}

@@ -18,8 +18,8 @@ use Rattle.spec_simplex.specs.Tableau.{Tableau}
 use Rattle.spec_simplex.specs.Start.{row_start, begun, first_costs}
 use Rattle.spec_simplex.specs.Phases.{PhasesEnd, without_artificials, wants_phase_one, is_stuck}
 use Rattle.spec_check.specs.declared.solve_end.SolveEnd.TheVariants as outcome
-use Rattle.spec_cold.specs.Cold.{ExactSolveEnd, point, direction, basis_at, certificate_of, basis_of, pivots_of}
-use Rattle.spec_cold.specs.Cold.{answered}
+use Rattle.spec_runs.specs.Cold.{ExactSolveEnd, point, direction, basis_at, certificate_of, basis_of, pivots_of}
+use Rattle.spec_runs.specs.Cold.{answered}
 use Rattle.spec_factor.specs.Revised.{Revised, bare_of, refactor_run, Selection}
 use Rattle.spec_factor.specs.Revised.{selection_run, flip_over_run, pivot_over_run}
 

@@ -19,7 +19,7 @@ use Rattle.spec_simplex.specs.Tableau.{basic_at, status_at, lower_at, upper_at, 
 use Rattle.spec_simplex.specs.Start.{logical_sign, start_at, cost_at}
 use Rattle.spec_simplex.specs.Step.{way_by, or_enters, best_run, choice_by, moved_run}
 use Rattle.spec_simplex.specs.Step.{shifted_run, flip_run, exchanged, turned}
-use Rattle.spec_cold.specs.Cold.{basis_status}
+use Rattle.spec_runs.specs.Cold.{basis_status}
 use Rattle.spec_simplex.specs.Tableau.{is_basic}
 use Rattle.spec_factor.specs.declared.stop.NoFactors.{NoFactors}
 use Rattle.spec_factor.specs.declared.stop.NoFactors.TheVariants as factor

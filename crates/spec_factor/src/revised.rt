@@ -30,7 +30,7 @@ ghost use Rattle.spec_simplex.specs.Phases.{done_run, phases_run};
 ghost use Rattle.spec_check.specs.declared.solve_end.SolveEnd.TheVariants as outcome;
 ghost use Rattle.spec_path.specs.Tables.{table_of, IsTableauOf, IsWithinBounds};
 ghost use Rattle.spec_path.specs.Begins.{form_rows, signs_of};
-ghost use Rattle.spec_cold.specs.Cold.{cold};
+ghost use Rattle.spec_runs.specs.Cold.{cold};
 ghost use Rattle.spec_factor.specs.Revised.{Revised, Selection, selection_run};
 ghost use Rattle.spec_factor.specs.Revised.{flip_over_run, refreshed_run, exchange_run};
 ghost use Rattle.spec_factor.specs.Over.{over_run, answer_in, over_factors};

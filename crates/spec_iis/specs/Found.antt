@@ -10,8 +10,8 @@ use Rattle.spec_check.specs.Certificate.{IsFor, IsNarrowCertificate}
 use Rattle.spec_check.specs.Run.{check_run}
 use Rattle.spec_check.specs.declared.solve_end.SolveEnd.TheVariants.{Ended, Past, Spent}
 use Rattle.spec_pivot.specs.declared.status.Status.{Status}
-use Rattle.spec_cold.specs.Cold.{ExactSolveEnd}
-use Rattle.spec_warm.specs.declared.ends.Route.TheVariants as route
+use Rattle.spec_runs.specs.Cold.{ExactSolveEnd}
+use Rattle.spec_runs.specs.declared.ends.Route.TheVariants as route
 use Rattle.spec_solve.specs.Order.{GivesUp}
 use Rattle.spec_solve.specs.Answers.{IsSolved}
 use Rattle.spec_iis.specs.declared.side.Side.{Side}

@@ -20,14 +20,14 @@ use Rattle.spec_path.specs.Tables.{table_of}
 use Rattle.spec_path.proofs.Columns.{by_kind}
 use Rattle.spec_path.proofs.Formed.{Limited, formed_proper, cost_length, cost_other}
 use Rattle.spec_path.proofs.Formed.{lower_structural, upper_structural, lower_logical, upper_logical}
-use Rattle.spec_cold.specs.Cold.{point, multipliers}
-use Rattle.spec_cold.proofs.Formed.{cost_structural}
-use Rattle.spec_cold.proofs.EndTight.{weight_at, column_at, logical_is_row}
-use Rattle.spec_cold.proofs.EndOptimal.{optimal_checks}
-use Rattle.spec_cold.proofs.Shown as shown
+use Rattle.spec_runs.specs.Cold.{point, multipliers}
+use Rattle.spec_runs.proofs.Formed.{cost_structural}
+use Rattle.spec_runs.proofs.EndTight.{weight_at, column_at, logical_is_row}
+use Rattle.spec_runs.proofs.EndOptimal.{optimal_checks}
+use Rattle.spec_runs.proofs.Shown as shown
 use Rattle.spec_pivot.specs.Dual.{Suits, IsDualFeasible}
 use Rattle.spec_pivot.proofs.Optimal.{none_eligible, within_where_basic}
-use Rattle.spec_warm.specs.Based.{equations, BeginsFrom}
+use Rattle.spec_runs.specs.Based.{equations, BeginsFrom}
 use Rattle.spec_range.proofs.Started.{IsOf, form_bounds, IsFor, begun, of, is_for, bounded, fixed_after, ordered}
 use Rattle.spec_range.proofs.Started.{status_after}
 

@@ -16,8 +16,8 @@ use Rattle.spec_simplex.specs.declared.ends.RunStop.{RunStop}
 use Rattle.spec_simplex.specs.declared.ends.RunStop.TheVariants as stop
 use Rattle.spec_simplex.specs.Form.{Form, form_of}
 use Rattle.spec_simplex.specs.Phases.{PhasesEnd, phases_run}
-use Rattle.spec_cold.specs.Cold.{ExactSolveEnd, checked, after_phases, after_form, cold, basis_of}
-use Rattle.spec_cold.specs.Cold.{certificate_of, pivots_of}
+use Rattle.spec_runs.specs.Cold.{ExactSolveEnd, checked, after_phases, after_form, cold, basis_of}
+use Rattle.spec_runs.specs.Cold.{certificate_of, pivots_of}
 use Rattle.spec_range.specs.Span.{Keeps}
 use Rattle.spec_range.proofs.EndBases.{bases_keep}
 

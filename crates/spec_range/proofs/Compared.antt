@@ -19,9 +19,9 @@ use Rattle.spec_simplex.specs.Tableau.{Tableau}
 use Rattle.spec_simplex.specs.Eliminate.{IsBasisOf, start_from}
 use Rattle.spec_path.specs.Tables.{table_of}
 use Rattle.spec_path.proofs.Formed.{Limited, form_is}
-use Rattle.spec_cold.specs.Cold.{point, multipliers}
+use Rattle.spec_runs.specs.Cold.{point, multipliers}
 use Rattle.spec_pivot.specs.Dual.{Suits}
-use Rattle.spec_warm.specs.Based.{equations}
+use Rattle.spec_runs.specs.Based.{equations}
 use Rattle.spec_range.specs.Span.{Keeps}
 use Rattle.spec_range.proofs.Started.{form_bounds}
 use Rattle.spec_range.proofs.Checked.{IsGood, parts, tableau, x_at, checks_good}

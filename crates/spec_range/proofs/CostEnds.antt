@@ -22,7 +22,7 @@ use Rattle.spec_simplex.proofs.Statuses.{basic_if}
 use Rattle.spec_path.specs.Tables.{table_of}
 use Rattle.spec_path.proofs.Enters.{fixed_means, fixed_test}
 use Rattle.spec_path.proofs.Runs.{then_ok, steps_ok, sum_ok, difference_ok, quotient_ok}
-use Rattle.spec_warm.proofs.Counts.{basic_test}
+use Rattle.spec_runs.proofs.Counts.{basic_test}
 use Rattle.spec_pivot.specs.Dual.{Suits}
 use Rattle.spec_range.specs.declared.range.Ends.{Ends}
 use Rattle.spec_range.specs.Span.{IsIn}

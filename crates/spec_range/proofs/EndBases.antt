@@ -19,9 +19,9 @@ use Rattle.spec_path.proofs.Formed.{Limited, form_is}
 use Rattle.spec_path.proofs.Phases.{IsFirst, by_phases, second_bounds, second_fixed}
 use Rattle.spec_path.proofs.Walks.{IsEnd}
 use Rattle.spec_path.proofs.LimitStart.{form_without}
-use Rattle.spec_cold.specs.Cold as cold
-use Rattle.spec_cold.proofs.EndOptimal.{zero_inside}
-use Rattle.spec_cold.proofs.Shown.{primal_shows}
+use Rattle.spec_runs.specs.Cold as cold
+use Rattle.spec_runs.proofs.EndOptimal.{zero_inside}
+use Rattle.spec_runs.proofs.Shown.{primal_shows}
 use Rattle.spec_range.specs.Span.{Keeps}
 use Rattle.spec_range.proofs.EndKeeps.{end_keeps}
 

@@ -34,11 +34,11 @@ use Rattle.spec_path.specs.Tables.{table_of}
 use Rattle.spec_path.proofs.Columns.{by_kind, sum_by_kind, structural_at, logical_at, artificial_at}
 use Rattle.spec_path.proofs.Equations.{row_structural, row_logical, row_artificial}
 use Rattle.spec_path.proofs.Formed.{Limited, HasBounds, cost_other, formed_proper}
-use Rattle.spec_cold.specs.Cold as cold
-use Rattle.spec_warm.specs.Based.{equations, IsDependent}
-use Rattle.spec_warm.proofs.Bases.{basis_fits}
-use Rattle.spec_warm.proofs.LimitSteps.{from_agrees}
-use Rattle.spec_warm.proofs.Singular.{start_singular}
+use Rattle.spec_runs.specs.Cold as cold
+use Rattle.spec_runs.specs.Based.{equations, IsDependent}
+use Rattle.spec_runs.proofs.Bases.{basis_fits}
+use Rattle.spec_runs.proofs.LimitSteps.{from_agrees}
+use Rattle.spec_runs.proofs.Singular.{start_singular}
 use Rattle.spec_range.specs.Span.{Keeps}
 use Rattle.spec_range.proofs.Started.{form_bounds, bounded, fixed_after, status_before, status_after}
 use Rattle.spec_range.proofs.Checked.{parts, tableau}

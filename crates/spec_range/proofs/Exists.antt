@@ -19,8 +19,8 @@ use Rattle.spec_simplex.specs.Eliminate.{eliminate_run, with_basis, filled_run, 
 use Rattle.spec_path.proofs.LimitStart.{form_agrees}
 use Rattle.spec_path.proofs.Runs.{then_ok}
 pub use Rattle.spec_path.proofs.LimitStart.{form_without}
-use Rattle.spec_cold.proofs.Formed.{clash_is}
-use Rattle.spec_warm.proofs.LimitSteps.{from_agrees}
+use Rattle.spec_runs.proofs.Formed.{clash_is}
+use Rattle.spec_runs.proofs.LimitSteps.{from_agrees}
 
 -- ---- the elimination
 -- a form without bounds and costs

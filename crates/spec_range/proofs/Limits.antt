@@ -19,7 +19,7 @@ use Rattle.spec_simplex.specs.Eliminate.{start_from}
 use Rattle.spec_path.proofs.Refusals.{Agrees, as_it_is, agrees_then, agrees_if, agrees_steps, agrees_as}
 use Rattle.spec_path.proofs.Refusals.{agrees_sum, agrees_difference, agrees_quotient, agrees_order}
 use Rattle.spec_path.proofs.LimitStart.{ok, also, form_without}
-use Rattle.spec_warm.proofs.LimitSteps.{from_agrees}
+use Rattle.spec_runs.proofs.LimitSteps.{from_agrees}
 use Rattle.spec_range.specs.declared.range.Ends.{Ends}
 use Rattle.spec_range.specs.declared.range.Range.{Range}
 use Rattle.spec_range.specs.Span.{Keeps}

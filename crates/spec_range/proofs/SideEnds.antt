@@ -18,7 +18,7 @@ use Rattle.spec_simplex.specs.Dual.{place_of}
 use Rattle.spec_simplex.proofs.Statuses.{basic_if}
 use Rattle.spec_path.proofs.Runs.{then_ok, steps_ok, sum_ok, difference_ok, quotient_ok}
 use Rattle.spec_path.proofs.Orders.{given}
-use Rattle.spec_warm.proofs.Counts.{basic_test}
+use Rattle.spec_runs.proofs.Counts.{basic_test}
 use Rattle.spec_range.specs.declared.range.Ends.{Ends}
 use Rattle.spec_range.specs.Span.{IsIn}
 use Rattle.spec_range.specs.Rule.{no_ends, at_side, shifted_run, still_ends, bound_ends, carried_ends, is_carried}

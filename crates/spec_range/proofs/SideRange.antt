@@ -36,10 +36,10 @@ use Rattle.spec_path.proofs.Columns.{sum_by_kind}
 use Rattle.spec_path.proofs.Formed.{Limited, least_structural, cost_other}
 use Rattle.spec_path.proofs.Runs.{then_ok, refused_ok}
 use Rattle.spec_path.proofs.Orders.{given}
-use Rattle.spec_cold.specs.Cold.{point, multipliers}
-use Rattle.spec_warm.specs.Based.{equations}
-use Rattle.spec_warm.proofs.Chosen.{place_is}
-use Rattle.spec_warm.proofs.Counts.{basic_test}
+use Rattle.spec_runs.specs.Cold.{point, multipliers}
+use Rattle.spec_runs.specs.Based.{equations}
+use Rattle.spec_runs.proofs.Chosen.{place_is}
+use Rattle.spec_runs.proofs.Counts.{basic_test}
 use Rattle.spec_pivot.specs.Dual.{Suits}
 use Rattle.spec_range.specs.declared.range.Ends.{Ends}
 use Rattle.spec_range.specs.declared.range.Range.{Range}

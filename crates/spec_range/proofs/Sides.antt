@@ -20,7 +20,7 @@ use Rattle.spec_simplex.specs.Tableau.{Tableau, value_at, status_at}
 use Rattle.spec_simplex.specs.Eliminate.{CanStand, IsBasisOf, basis_at, start_from}
 use Rattle.spec_path.specs.Tables.{table_of}
 use Rattle.spec_path.proofs.Formed.{Limited, formed_proper}
-use Rattle.spec_warm.specs.Based.{equations}
+use Rattle.spec_runs.specs.Based.{equations}
 use Rattle.spec_range.proofs.Bounds.{structural_low, structural_high, logical_low, logical_high}
 use Rattle.spec_range.proofs.Bounds.{artificial_low, artificial_high, bounds_by, fits_other}
 use Rattle.spec_range.proofs.Checked.{tableau}

@@ -10,7 +10,7 @@ use Rattle.spec_pivot.specs.Simplex.{IsInside}
 use Rattle.spec_simplex.specs.Form.{Form, form_of}
 use Rattle.spec_simplex.specs.Eliminate.{IsBasisOf, start_from}
 use Rattle.spec_simplex.specs.Tableau.{Tableau}
-use Rattle.spec_cold.specs.Cold.{point, multipliers}
+use Rattle.spec_runs.specs.Cold.{point, multipliers}
 use Rattle.spec_range.specs.declared.range.Ends.{Ends}
 use Rattle.spec_range.specs.declared.range.Range.{Range}
 

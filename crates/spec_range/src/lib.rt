@@ -28,7 +28,7 @@ ghost use Rattle.spec_pivot.specs.declared.status.Status.{Status};
 ghost use Rattle.spec_simplex.specs.declared.ends.StartStop.TheVariants as stop;
 ghost use Rattle.spec_simplex.specs.Form.{Form, form_of};
 ghost use Rattle.spec_simplex.specs.Phases.{PhasesEnd, phases_run};
-ghost use Rattle.spec_cold.specs.Cold.{basis_of, cold};
+ghost use Rattle.spec_runs.specs.Cold.{basis_of, cold};
 ghost use Rattle.spec_range.specs.declared.range.Range.{Range};
 ghost use Rattle.spec_range.specs.Span.{Keeps, IsRange};
 ghost use Rattle.spec_range.specs.Rule.{cost_range, side_range};

@@ -7,7 +7,7 @@ use Rattle.spec_check.specs.declared.certificate.Certificate.{Certificate}
 use Rattle.spec_check.specs.declared.certificate.Known.{Known}
 use Rattle.spec_pivot.specs.declared.status.Status.{Status}
 use Rattle.spec_check.specs.declared.solve_end.SolveEnd.TheVariants as outcome
-use Rattle.spec_cold.specs.Cold.{ExactSolveEnd, cold}
+use Rattle.spec_runs.specs.Cold.{ExactSolveEnd, cold}
 use Rattle.spec_solve.specs.Answers.{MayAnswer}
 use Rattle.spec_solve.proofs.TrueAnswers.{cold_found}
 use Rattle.spec_board.specs.Reads.{ExactRead}

@@ -18,8 +18,8 @@ use Rattle.spec_edit.specs.Edited.{ExactEdit, OrFault, IsKeptEdit, edited}
 use Rattle.spec_edit.proofs.EditsKeep.{edited-kept}
 use Rattle.spec_simplex.specs.declared.ends.FormFault.{FormFault}
 use Rattle.spec_simplex.specs.Form.{Form, form_of}
-use Rattle.spec_cold.specs.Cold.{ExactSolveEnd}
-use Rattle.spec_warm.specs.declared.ends.Route.TheVariants as route
+use Rattle.spec_runs.specs.Cold.{ExactSolveEnd}
+use Rattle.spec_runs.specs.declared.ends.Route.TheVariants as route
 use Rattle.spec_solve.specs.Order.{cold_by}
 use Rattle.spec_solve.proofs.Stated.{part_is_solved}
 use Rattle.spec_board.specs.declared.read.Put.TheVariants.{Full}

@@ -7,7 +7,7 @@ use Rattle.spec_model.specs.Model.{Model}
 use Rattle.spec_edit.specs.Edited.{ExactEdit, OrFault, edited}
 use Rattle.spec_simplex.specs.declared.ends.FormFault.{FormFault}
 use Rattle.spec_simplex.specs.Form.{Form, form_of}
-use Rattle.spec_cold.specs.Cold.{ExactSolveEnd, cold}
+use Rattle.spec_runs.specs.Cold.{ExactSolveEnd, cold}
 use Rattle.spec_solve.specs.Answers.{MayAnswer}
 use Rattle.spec_solve.proofs.Solves.{formless_solved}
 use Rattle.spec_board.specs.Reads.{Words, ExactRead, Looked}

@@ -16,8 +16,8 @@ use Rattle.spec_check.specs.declared.certificate.Verdict.{Verdict}
 use Rattle.spec_check.specs.declared.certificate.Verdict.TheVariants as verdict
 use Rattle.spec_edit.specs.declared.edit.Which.{Which}
 use Rattle.spec_edit.specs.declared.edit.Which.TheVariants.{Rows, Columns}
-use Rattle.spec_warm.specs.declared.ends.Fall.{Fall}
-use Rattle.spec_warm.specs.declared.ends.Fall.TheVariants as fall
+use Rattle.spec_runs.specs.declared.ends.Fall.{Fall}
+use Rattle.spec_runs.specs.declared.ends.Fall.TheVariants as fall
 use Rattle.spec_board.specs.declared.read.Put.{Put}
 use Rattle.spec_board.specs.declared.read.Put.TheVariants as put
 use Rattle.spec_server.specs.declared.addressing.Addressing.{Addressing}

@@ -12,10 +12,10 @@ use Rattle.spec_pivot.specs.declared.status.Status.{Status}
 use Rattle.spec_simplex.specs.declared.ends.FormFault.{FormFault}
 use Rattle.spec_simplex.specs.Form.{Form, form_of}
 use Rattle.spec_check.specs.declared.solve_end.SolveEnd.TheVariants.{Ended}
-use Rattle.spec_cold.specs.Cold.{ExactSolveEnd, cold}
-use Rattle.spec_warm.specs.declared.ends.Route.{Route}
-use Rattle.spec_warm.specs.declared.ends.Route.TheVariants as route
-use Rattle.spec_warm.specs.Solve.{SolveEnd}
+use Rattle.spec_runs.specs.Cold.{ExactSolveEnd, cold}
+use Rattle.spec_runs.specs.declared.ends.Route.{Route}
+use Rattle.spec_runs.specs.declared.ends.Route.TheVariants as route
+use Rattle.spec_runs.specs.Solve.{SolveEnd}
 use Rattle.spec_solve.specs.Answers.{IsSolved}
 use Rattle.spec_board.specs.Words.{shape_of, packed, unpacked}
 use Rattle.spec_board.specs.declared.read.Put.{Put}

@@ -2,7 +2,7 @@
 use spec_board::Put;
 use spec_check::{Known, SolveEnd};
 use spec_exact::Past;
-use spec_warm::Fall;
+use spec_runs::Fall;
 use std::fmt::Debug;
 
 /// What a solve answers.

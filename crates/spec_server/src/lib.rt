@@ -40,7 +40,7 @@ ghost use Rattle.spec_check.specs.Certificate.{Holds};
 ghost use Rattle.spec_check.specs.Raw.{ExactRaw};
 ghost use Rattle.spec_pivot.specs.declared.status.Status.{Status};
 ghost use Rattle.spec_check.specs.declared.solve_end.SolveEnd.TheVariants as outcome;
-ghost use Rattle.spec_cold.specs.Cold.{cold};
+ghost use Rattle.spec_runs.specs.Cold.{cold};
 ghost use Rattle.spec_solve.specs.Answers.{MayAnswer};
 ghost use Rattle.spec_server.specs.declared.answer.Answer.TheVariants as answer;
 ghost use Rattle.spec_server.specs.declared.asks.Ask.TheVariants as ask;

@@ -17,13 +17,13 @@ use Rattle.spec_simplex.specs.Eliminate.{IsBasisOf}
 use Rattle.spec_simplex.specs.Phases.{PhasesEnd, phases_run}
 use Rattle.spec_check.specs.declared.solve_end.SolveEnd.TheVariants.{Ended}
 use Rattle.spec_path.proofs.LimitStart.{form_without}
-use Rattle.spec_cold.specs.Cold.{ExactSolveEnd, certificate_of, basis_of, pivots_of, checked, after_phases, after_form}
-use Rattle.spec_cold.specs.Cold.{cold}
-use Rattle.spec_warm.specs.declared.ends.Warm.TheVariants as outcome
-use Rattle.spec_warm.specs.Warm as warms
-use Rattle.spec_warm.specs.Warm.{WarmEnd, WarmResult, warm_run, warm_certificate, warm_basis, warm_pivots, warm}
-use Rattle.spec_warm.specs.Solve.{SolveEnd}
-use Rattle.spec_warm.proofs.TrueEnds.{run_left, phases_left}
+use Rattle.spec_runs.specs.Cold.{ExactSolveEnd, certificate_of, basis_of, pivots_of, checked, after_phases, after_form}
+use Rattle.spec_runs.specs.Cold.{cold}
+use Rattle.spec_runs.specs.declared.ends.Warm.TheVariants as outcome
+use Rattle.spec_runs.specs.Warm as warms
+use Rattle.spec_runs.specs.Warm.{WarmEnd, WarmResult, warm_run, warm_certificate, warm_basis, warm_pivots, warm}
+use Rattle.spec_runs.specs.Solve.{SolveEnd}
+use Rattle.spec_runs.proofs.TrueEnds.{run_left, phases_left}
 use Rattle.spec_solve.specs.Answers.{ColdFits, WarmFits, IsSolved}
 
 module _ (known : Known ℚ) (c : Certificate (List ℚ)) (left : List Status) (pivots : ℕ) where

@@ -18,15 +18,15 @@ use Rattle.spec_simplex.specs.Form.{Form, form_of}
 use Rattle.spec_simplex.specs.Phases.{PhasesEnd, phases_run}
 use Rattle.spec_check.specs.declared.solve_end.SolveEnd.TheVariants.{Ended, Past, Spent}
 use Rattle.spec_path.proofs.LimitStart.{form_without}
-use Rattle.spec_cold.specs.Cold.{ExactSolveEnd, certificate_of, basis_of, pivots_of}
-use Rattle.spec_cold.specs.Cold.{checked, answered, after_phases, after_form, cold}
-use Rattle.spec_cold.proofs.Solved as colds
-use Rattle.spec_cold.proofs.LimitCold.{cold_same}
-use Rattle.spec_warm.specs.declared.ends.Route.{Route}
-use Rattle.spec_warm.specs.declared.ends.Route.TheVariants as route
-use Rattle.spec_warm.specs.declared.ends.Warm.TheVariants as warms
-use Rattle.spec_warm.specs.Warm.{WarmResult, warm}
-use Rattle.spec_warm.specs.Solve.{SolveEnd, fall_of, solved_by, solve}
+use Rattle.spec_runs.specs.Cold.{ExactSolveEnd, certificate_of, basis_of, pivots_of}
+use Rattle.spec_runs.specs.Cold.{checked, answered, after_phases, after_form, cold}
+use Rattle.spec_runs.proofs.ColdSolves as colds
+use Rattle.spec_runs.proofs.LimitCold.{cold_same}
+use Rattle.spec_runs.specs.declared.ends.Route.{Route}
+use Rattle.spec_runs.specs.declared.ends.Route.TheVariants as route
+use Rattle.spec_runs.specs.declared.ends.Warm.TheVariants as warms
+use Rattle.spec_runs.specs.Warm.{WarmResult, warm}
+use Rattle.spec_runs.specs.Solve.{SolveEnd, fall_of, solved_by, solve}
 use Rattle.spec_factor.specs.Over.{OverEnd, over_run, after_over, over_factors}
 use Rattle.spec_factor.proofs.OverCold.{over_same}
 use Rattle.spec_solve.specs.Order.{GivesUp, IsChecked, MayEndCold, Answered, GaveUp, MayEndBy, MayEnd}

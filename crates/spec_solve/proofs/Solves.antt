@@ -18,13 +18,13 @@ use Rattle.spec_simplex.specs.declared.ends.FormFault.TheVariants as fault
 use Rattle.spec_simplex.specs.Form.{Form, form_of}
 use Rattle.spec_simplex.specs.Eliminate.{IsBasisOf}
 use Rattle.spec_check.specs.declared.solve_end.SolveEnd.TheVariants.{Ended, Past, Spent}
-use Rattle.spec_cold.specs.Cold.{ExactSolveEnd, checked, after_form, cold}
-use Rattle.spec_cold.proofs.Solved.{by_end, enough}
-use Rattle.spec_warm.specs.declared.ends.Route.TheVariants as route
-use Rattle.spec_warm.specs.declared.ends.Warm.TheVariants as warm
-use Rattle.spec_warm.specs.Warm.{WarmResult, warm as warm_start}
-use Rattle.spec_warm.specs.Solve.{SolveEnd, HasBasis}
-use Rattle.spec_warm.proofs.TrueEnds as warm_ends
+use Rattle.spec_runs.specs.Cold.{ExactSolveEnd, checked, after_form, cold}
+use Rattle.spec_runs.proofs.ColdSolves.{by_end, enough}
+use Rattle.spec_runs.specs.declared.ends.Route.TheVariants as route
+use Rattle.spec_runs.specs.declared.ends.Warm.TheVariants as warm
+use Rattle.spec_runs.specs.Warm.{WarmResult, warm as warm_start}
+use Rattle.spec_runs.specs.Solve.{SolveEnd, HasBasis}
+use Rattle.spec_runs.proofs.TrueEnds as warm_ends
 use Rattle.spec_factor.specs.Over.{over_factors}
 use Rattle.spec_solve.specs.Order.{GivesUp, MayEndCold, Answered, GaveUp, MayEndBy, MayEnd}
 use Rattle.spec_solve.proofs.Orders as orders

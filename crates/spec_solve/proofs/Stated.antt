@@ -11,8 +11,8 @@ use Rattle.spec_pivot.specs.declared.status.Status.{Status}
 use Rattle.spec_simplex.specs.declared.ends.FormFault.{FormFault}
 use Rattle.spec_simplex.specs.Form.{Form, form_of}
 use Rattle.spec_check.specs.declared.solve_end.SolveEnd.TheVariants.{Ended, Past, Spent}
-use Rattle.spec_cold.specs.Cold.{ExactSolveEnd, cold}
-use Rattle.spec_warm.specs.declared.ends.Route.TheVariants as route
+use Rattle.spec_runs.specs.Cold.{ExactSolveEnd, cold}
+use Rattle.spec_runs.specs.declared.ends.Route.TheVariants as route
 use Rattle.spec_factor.specs.Over.{over_factors}
 use Rattle.spec_solve.specs.Order.{MayEndCold, or_tableaus, cold_by, cold_over}
 use Rattle.spec_solve.specs.Answers.{IsSolved}

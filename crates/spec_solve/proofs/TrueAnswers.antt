@@ -12,8 +12,8 @@ use Rattle.spec_check.proofs.RunSound.{run_sound}
 use Rattle.spec_check.proofs.Sound.{checks_hold}
 use Rattle.spec_pivot.specs.declared.status.Status.{Status}
 use Rattle.spec_check.specs.declared.solve_end.SolveEnd.TheVariants.{Ended, Past, Spent}
-use Rattle.spec_cold.specs.Cold.{ExactSolveEnd, cold}
-use Rattle.spec_cold.proofs.Solved.{ended_is_true}
+use Rattle.spec_runs.specs.Cold.{ExactSolveEnd, cold}
+use Rattle.spec_runs.proofs.ColdSolves.{ended_is_true}
 use Rattle.spec_solve.specs.Answers.{MayAnswer}
 
 pub ended_true : (m : Model) (budget : ℕ) (known : Known ℚ) (cert : Certificate (List ℚ)) (basis : Option (List Status))

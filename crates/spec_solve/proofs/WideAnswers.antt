@@ -15,11 +15,11 @@ use Rattle.spec_pivot.specs.declared.status.Status.{Status}
 use Rattle.spec_simplex.specs.Form.{Form, form_of}
 use Rattle.spec_simplex.specs.Eliminate.{IsBasisOf}
 use Rattle.spec_path.proofs.LimitStart.{form_without}
-use Rattle.spec_cold.proofs.Solved.{ended_is_true}
-use Rattle.spec_warm.specs.declared.ends.Route.{Route}
-use Rattle.spec_warm.specs.declared.ends.Route.TheVariants as found
-use Rattle.spec_warm.specs.declared.ends.Warm.TheVariants as start
-use Rattle.spec_warm.specs.Solve.{SolveEnd}
+use Rattle.spec_runs.proofs.ColdSolves.{ended_is_true}
+use Rattle.spec_runs.specs.declared.ends.Route.{Route}
+use Rattle.spec_runs.specs.declared.ends.Route.TheVariants as found
+use Rattle.spec_runs.specs.declared.ends.Warm.TheVariants as start
+use Rattle.spec_runs.specs.Solve.{SolveEnd}
 use Rattle.spec_solve.specs.Answers.{IsSolved}
 use Rattle.spec_solve.specs.Wide.{ExactAnswer, IsUnlimited, IsOfSomeBasis, IsWarmEnd, IsColdEnd, IsRunEnd, IsAtHanded}
 use Rattle.spec_solve.specs.Wide.{IsWideAnswer, IsWideSolved}

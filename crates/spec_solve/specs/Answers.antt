@@ -9,15 +9,15 @@ use Rattle.spec_pivot.specs.declared.status.Status.{Status}
 use Rattle.spec_simplex.specs.declared.ends.FormFault.{FormFault}
 use Rattle.spec_simplex.specs.Form.{Form, form_of}
 use Rattle.spec_check.specs.declared.solve_end.SolveEnd.TheVariants.{Ended, Past, Spent}
-use Rattle.spec_cold.specs.Cold.{ExactSolveEnd, cold}
-use Rattle.spec_warm.specs.declared.ends.Route.TheVariants as route
-use Rattle.spec_warm.specs.declared.ends.Warm.TheVariants as warm
-use Rattle.spec_warm.specs.Warm.{WarmResult, warm as warm_start}
-use Rattle.spec_warm.specs.Solve.{SolveEnd, fall_of}
+use Rattle.spec_runs.specs.Cold.{ExactSolveEnd, cold}
+use Rattle.spec_runs.specs.declared.ends.Route.TheVariants as route
+use Rattle.spec_runs.specs.declared.ends.Warm.TheVariants as warm
+use Rattle.spec_runs.specs.Warm.{WarmResult, warm as warm_start}
+use Rattle.spec_runs.specs.Solve.{SolveEnd, fall_of}
 use Rattle.spec_factor.specs.Over.{over_factors}
 use Rattle.spec_solve.specs.Order.{GivesUp}
 
--- so many pivots and flips are enough for each model of that size (`a_stated_budget_is_enough` of spec_cold)
+-- so many pivots and flips are enough for each model of that size (`a_stated_budget_is_enough` of spec_runs)
 abbrev pub enough_pivots : Model → ℕ
 enough_pivots m = 2 * 3 ^ (width m + 2 * height m)
 

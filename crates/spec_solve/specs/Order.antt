@@ -10,11 +10,11 @@ use Rattle.spec_simplex.specs.declared.ends.FormFault.{FormFault}
 use Rattle.spec_simplex.specs.Form.{Form, form_of}
 use Rattle.spec_check.specs.Run.{check_run}
 use Rattle.spec_check.specs.declared.solve_end.SolveEnd.TheVariants.{Ended, Past, Spent}
-use Rattle.spec_cold.specs.Cold.{ExactSolveEnd, cold}
-use Rattle.spec_warm.specs.declared.ends.Route.TheVariants as route
-use Rattle.spec_warm.specs.declared.ends.Warm.TheVariants as warms
-use Rattle.spec_warm.specs.Warm.{WarmResult, warm}
-use Rattle.spec_warm.specs.Solve.{SolveEnd, fall_of}
+use Rattle.spec_runs.specs.Cold.{ExactSolveEnd, cold}
+use Rattle.spec_runs.specs.declared.ends.Route.TheVariants as route
+use Rattle.spec_runs.specs.declared.ends.Warm.TheVariants as warms
+use Rattle.spec_runs.specs.Warm.{WarmResult, warm}
+use Rattle.spec_runs.specs.Solve.{SolveEnd, fall_of}
 use Rattle.spec_factor.specs.Over.{over_factors}
 
 -- it ends without an answer: an operation is refused, or the budget is spent

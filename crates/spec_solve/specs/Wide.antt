@@ -12,13 +12,13 @@ use Rattle.spec_check.specs.Run.{check_run}
 use Rattle.spec_pivot.specs.declared.status.Status.{Status}
 use Rattle.spec_simplex.specs.Eliminate.{IsBasisOf}
 use Rattle.spec_simplex.specs.Form.{Form, form_of}
-use Rattle.spec_cold.specs.Cold.{cold}
-use Rattle.spec_warm.specs.declared.ends.Route.{Route}
-use Rattle.spec_warm.specs.declared.ends.Route.TheVariants as found
-use Rattle.spec_warm.specs.declared.ends.Warm.TheVariants as start
+use Rattle.spec_runs.specs.Cold.{cold}
+use Rattle.spec_runs.specs.declared.ends.Route.{Route}
+use Rattle.spec_runs.specs.declared.ends.Route.TheVariants as found
+use Rattle.spec_runs.specs.declared.ends.Warm.TheVariants as start
 use Rattle.spec_simplex.specs.declared.ends.WarmStop.TheVariants as fall
-use Rattle.spec_warm.specs.Warm.{warm}
-use Rattle.spec_warm.specs.Solve.{SolveEnd}
+use Rattle.spec_runs.specs.Warm.{warm}
+use Rattle.spec_runs.specs.Solve.{SolveEnd}
 use Rattle.spec_solve.specs.declared.wide_solved.WideAnswer.{WideAnswer}
 use Rattle.spec_solve.specs.declared.wide_solved.WideBased.{WideBased}
 use Rattle.spec_solve.specs.declared.wide_solved.WideBased.TheVariants as based

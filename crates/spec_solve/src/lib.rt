@@ -18,7 +18,7 @@
 //! All runs take a limit: `Some m` refuses numbers past m, `None` refuses nothing. The functions here have the laws as
 //! their contracts.
 //!
-//! The solve over whole tableaus alone is that of `spec_warm`, the run over factors that of `spec_factor`.
+//! The solve over whole tableaus alone is that of `spec_runs`, the run over factors that of `spec_factor`.
 #![tactic(auto)]
 
 mod wide_solved;
@@ -42,9 +42,9 @@ ghost use Rattle.spec_simplex.specs.Form.{Form, form_of};
 ghost use Rattle.spec_simplex.specs.Eliminate.{IsBasisOf};
 ghost use Rattle.spec_simplex.specs.Phases.{PhasesEnd, phases_run};
 ghost use Rattle.spec_check.specs.declared.solve_end.SolveEnd.TheVariants as outcome;
-ghost use Rattle.spec_cold.specs.Cold.{ExactSolveEnd, certificate_of, basis_of, pivots_of, cold};
-ghost use Rattle.spec_warm.specs.declared.ends.Route.TheVariants as route;
-ghost use Rattle.spec_warm.specs.Solve.{SolveEnd, HasBasis, solve};
+ghost use Rattle.spec_runs.specs.Cold.{ExactSolveEnd, certificate_of, basis_of, pivots_of, cold};
+ghost use Rattle.spec_runs.specs.declared.ends.Route.TheVariants as route;
+ghost use Rattle.spec_runs.specs.Solve.{SolveEnd, HasBasis, solve};
 ghost use Rattle.spec_factor.specs.Over.{over_factors};
 ghost use Rattle.spec_solve.specs.Order.{GivesUp, MayEndCold, MayEnd, cold_over};
 ghost use Rattle.spec_solve.specs.Answers.{MayAnswer, IsSolved};

@@ -1,7 +1,7 @@
 // How a solve ends whose certificate may have numbers of any width.
 
 use spec_check::{Certificate, Known};
-use spec_warm::Route;
+use spec_runs::Route;
 
 /// How a wide solve ends, over the type S of what a solve ends with, F of numbers and L of lists of numbers.
 #[derive(Drop)]

@@ -20,10 +20,10 @@ use Rattle.spec_check.specs.declared.solve_end.SolveEnd.TheVariants.{Ended, Past
 use Rattle.spec_check.specs.Run.{verdict_of}
 use Rattle.spec_certificate.specs.TextWritten.{certificate_lines}
 use Rattle.spec_certificate.proofs.ReadBack.{read_back}
-use Rattle.spec_cold.specs.Cold.{ExactSolveEnd}
-use Rattle.spec_warm.specs.declared.ends.Route.{Route}
-use Rattle.spec_warm.specs.declared.ends.Route.TheVariants as route
-use Rattle.spec_warm.specs.Solve.{SolveEnd}
+use Rattle.spec_runs.specs.Cold.{ExactSolveEnd}
+use Rattle.spec_runs.specs.declared.ends.Route.{Route}
+use Rattle.spec_runs.specs.declared.ends.Route.TheVariants as route
+use Rattle.spec_runs.specs.Solve.{SolveEnd}
 use Rattle.spec_server.specs.declared.answer.Answer.{Answer}
 use Rattle.spec_server.specs.declared.asks.Reply.TheVariants as reply
 use Rattle.spec_solve.specs.Answers.{MayAnswer}

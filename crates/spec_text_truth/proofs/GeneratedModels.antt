@@ -7,7 +7,7 @@ use Rattle.spec_model.specs.Truth.{IsOptimal}
 use Rattle.spec_mps.specs.NumberText.{Is, number_of}
 use Rattle.spec_gen.specs.Generated.{generated}
 use Rattle.spec_gen.proofs.Feasible.{zero_feasible, bounded, height_is, width_is}
-use Rattle.spec_cold.specs.Cold.{ExactSolveEnd}
+use Rattle.spec_runs.specs.Cold.{ExactSolveEnd}
 use Rattle.spec_server.specs.declared.answer.Answer.{Answer}
 use Rattle.spec_server.specs.declared.asks.Reply.TheVariants as reply
 use Rattle.spec_server.specs.Machine.{opening_budget, answer_of, pivots_of_solved}

@@ -25,8 +25,8 @@ use Rattle.spec_check.specs.declared.certificate.Verdict.{Verdict}
 use Rattle.spec_check.specs.declared.certificate.Verdict.TheVariants as verdict
 use Rattle.spec_check.specs.Raw.{ExactRaw}
 use Rattle.spec_check.specs.Settle.{Settled, certificate_for}
-use Rattle.spec_warm.specs.declared.ends.Fall.{Fall}
-use Rattle.spec_warm.specs.declared.ends.Fall.TheVariants as fall
+use Rattle.spec_runs.specs.declared.ends.Fall.{Fall}
+use Rattle.spec_runs.specs.declared.ends.Fall.TheVariants as fall
 use Rattle.spec_board.specs.declared.read.Put.{Put}
 use Rattle.spec_board.specs.declared.read.Put.TheVariants as puts
 use Rattle.spec_board.specs.Reads.{ExactRead}

@@ -17,7 +17,7 @@ use Rattle.spec_mps.proofs.WrittenNames.{name_word, row_name_word}
 use Rattle.spec_check.specs.declared.certificate.Certificate.{Certificate}
 use Rattle.spec_check.specs.declared.certificate.Known.TheVariants as known
 use Rattle.spec_check.specs.declared.solve_end.SolveEnd.TheVariants as outcome
-use Rattle.spec_cold.specs.Cold.{ExactSolveEnd}
+use Rattle.spec_runs.specs.Cold.{ExactSolveEnd}
 use Rattle.spec_iis.specs.declared.side.Side.{Side}
 use Rattle.spec_iis.specs.declared.outcome.Iis.TheVariants.{Found, Other, Stopped}
 use Rattle.spec_iis.specs.Sides.{IsSide}

@@ -22,7 +22,7 @@ use Rattle.spec_check.specs.declared.certificate.SettleFault.TheVariants as sett
 use Rattle.spec_check.specs.Raw.{ExactRaw}
 use Rattle.spec_check.specs.Settle.{Settled, certificate_for}
 use Rattle.spec_check.specs.declared.solve_end.SolveEnd.TheVariants as outcome
-use Rattle.spec_cold.specs.Cold.{ExactSolveEnd}
+use Rattle.spec_runs.specs.Cold.{ExactSolveEnd}
 use Rattle.spec_solve.specs.Answers.{MayAnswer}
 use Rattle.spec_certificate.specs.TextWritten.{certificate_lines}
 use Rattle.spec_board.specs.Reads.{ExactRead}

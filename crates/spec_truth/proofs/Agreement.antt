@@ -6,7 +6,7 @@ use Rattle.spec_exact.specs.declared.past.Past.{Past as Refused}
 use Rattle.spec_model.specs.Model.{Model}
 use Rattle.spec_edit.specs.Edited.{ExactEdit, OrFault, edited}
 use Rattle.spec_check.specs.declared.solve_end.SolveEnd.TheVariants.{Ended, Past, Spent}
-use Rattle.spec_cold.specs.Cold.{ExactSolveEnd}
+use Rattle.spec_runs.specs.Cold.{ExactSolveEnd}
 use Rattle.spec_solve.specs.Answers.{MayAnswer}
 use Rattle.spec_solve.proofs.TrueAnswers.{ended_true, one_truth}
 use Rattle.spec_board.specs.Reads.{ExactRead}

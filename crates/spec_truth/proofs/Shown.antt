@@ -26,7 +26,7 @@ use Rattle.spec_check.proofs.InfeasibleSound.{infeasible_ok, clash_ok}
 use Rattle.spec_check.proofs.UnboundedSound.{unbounded_ok}
 use Rattle.spec_check.proofs.StepsSound.{after_ok, step_ok}
 use Rattle.spec_check.specs.declared.solve_end.SolveEnd.TheVariants as outcome
-use Rattle.spec_cold.specs.Cold.{ExactSolveEnd}
+use Rattle.spec_runs.specs.Cold.{ExactSolveEnd}
 use Rattle.spec_solve.specs.Answers.{MayAnswer}
 use Rattle.spec_solve.proofs.NarrowRuns.{sum_narrow}
 use Rattle.spec_server.specs.declared.answer.Answer.{Answer}

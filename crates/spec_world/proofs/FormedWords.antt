@@ -11,7 +11,7 @@ use Rattle.spec_simplex.specs.declared.ends.FormFault.{FormFault}
 use Rattle.spec_simplex.specs.Form.{Form, IsForm, form_of}
 use Rattle.spec_simplex.specs.Eliminate.{IsBasisOf}
 use Rattle.spec_check.specs.declared.solve_end.SolveEnd.TheVariants.{Ended, Past, Spent}
-use Rattle.spec_cold.specs.Cold.{ExactSolveEnd}
+use Rattle.spec_runs.specs.Cold.{ExactSolveEnd}
 use Rattle.spec_solve.proofs.Left.{solved_left}
 use Rattle.spec_board.specs.Words.{shape_of, packed, IsWellFormed}
 use Rattle.spec_board.proofs.Bases.{packed_fits, unpacked_fits}

@@ -4,7 +4,7 @@ use Rattle.std.proofs.Common.{length, Option, Some, None, IfSome, refl, sym, ap,
 use Rattle.std.proofs.lemmas.Bool.{eqb-false}
 use Rattle.spec_model.specs.Model.{Model}
 use Rattle.spec_model.specs.Kept.{IsModel}
-use Rattle.spec_cold.specs.Cold.{ExactSolveEnd}
+use Rattle.spec_runs.specs.Cold.{ExactSolveEnd}
 use Rattle.spec_board.specs.Words.{IsWellFormed}
 use Rattle.spec_board.specs.declared.place.Place.TheVariants as place
 use Rattle.spec_board.specs.declared.read.Put.TheVariants.{Full, Raced}

@@ -7,7 +7,7 @@ ghost use Rattle.spec_pivot.specs.declared.status.Status.TheVariants as statuses
 ghost use Rattle.spec_simplex.specs.declared.ends.PrimalEnd.TheVariants as primal;
 ghost use Rattle.spec_simplex.specs.Step as step;
 ghost use Rattle.spec_simplex.specs.Tableau as tableaus;
-ghost use Rattle.spec_cold.specs.Cold as cold;
+ghost use Rattle.spec_runs.specs.Cold as cold;
 ghost use Rattle.lp_rows.specs.Number.{fraction_of};
 ghost use Rattle.lp_rows.specs.Row.{fraction_at};
 ghost use Rattle.lp_rows.specs.Ratio.{bound_of};

@@ -1,5 +1,5 @@
 -- One move more.
-use Rattle.spec_cold.specs.Cold.{moves_by}
+use Rattle.spec_runs.specs.Cold.{moves_by}
 use Rattle.lp_solve.proofs.Pushed.{pushed}
 use Rattle.lp_solve.proofs.certificate.direction.Goals as goal
 

@@ -2,7 +2,7 @@
 use Rattle.std.proofs.Common.{◌≡◌, All}
 use Rattle.spec_exact.specs.Narrow.{IsNarrow}
 use Rattle.spec_exact.specs.Run.{made}
-use Rattle.spec_cold.specs.Cold.{moves_by}
+use Rattle.spec_runs.specs.Cold.{moves_by}
 use Rattle.lp_solve.proofs.certificate.direction.Given as goal
 
 -- the moves so far are there, each of at most 127 bits

@@ -1,6 +1,6 @@
 -- The loop over the positions.
 use Rattle.std.proofs.Common.{◌≡◌}
-use Rattle.spec_cold.specs.Cold.{moves_below}
+use Rattle.spec_runs.specs.Cold.{moves_below}
 use Rattle.lp_solve.proofs.certificate.move_of.Given as goal
 
 -- by the last position so far

@@ -1,7 +1,7 @@
 -- A refusal in the start, a certificate that fits, and a basis of the form.
 use Rattle.std.proofs.Common.{◌≡◌, IfOk, Some, sym, subst}
 use Rattle.spec_exact.specs.Narrow.{number_limit}
-use Rattle.spec_cold.specs.Cold.{after_phases}
+use Rattle.spec_runs.specs.Cold.{after_phases}
 use Rattle.lp_solve.proofs.Solved.{start_stop, refused_from, end_fits}
 use Rattle.lp_solve.proofs.Left.{phases_leave}
 use Rattle.lp_solve.proofs.cold.from_form.Goals as goal

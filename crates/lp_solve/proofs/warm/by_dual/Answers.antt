@@ -4,7 +4,7 @@ use Rattle.spec_exact.specs.Narrow.{number_limit}
 use Rattle.spec_check.specs.Certificate.{IsFor}
 use Rattle.spec_pivot.specs.declared.status.Status.{Status}
 use Rattle.spec_simplex.specs.Eliminate.{IsBasisOf}
-use Rattle.spec_warm.specs.Warm.{after_run}
+use Rattle.spec_runs.specs.Warm.{after_run}
 use Rattle.lp_solve.proofs.WarmRuns.{can_run, dual_ends, dual_stops, dual_fits, dual_leaves}
 use Rattle.lp_solve.proofs.warm.by_dual.Goals as goal
 

@@ -3,7 +3,7 @@ use Rattle.std.proofs.Common.{ap, sym, ◌∙◌, subst, List, Option, Some, IfS
 use Rattle.spec_check.specs.Certificate.{IsFor}
 use Rattle.spec_pivot.specs.declared.status.Status.{Status}
 use Rattle.spec_simplex.specs.Eliminate.{IsBasisOf}
-use Rattle.spec_warm.specs.Warm.{after_run}
+use Rattle.spec_runs.specs.Warm.{after_run}
 use native.Mathlib.Numerals.{unary_clauses}
 use Rattle.spec_exact.specs.Narrow.{number_limit}
 use Rattle.lp_solve.proofs.Runs.{run_inside}

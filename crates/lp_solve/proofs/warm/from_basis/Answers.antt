@@ -2,7 +2,7 @@
 use Rattle.std.proofs.Common.{Some, ap, sym}
 use Rattle.spec_exact.specs.Narrow.{number_limit}
 use Rattle.spec_simplex.specs.declared.ends.StartStop.TheVariants as begun
-use Rattle.spec_warm.specs.Warm.{after_run}
+use Rattle.spec_runs.specs.Warm.{after_run}
 use Rattle.lp_solve.proofs.WarmRuns.{is_singular, is_past, start_stops}
 use Rattle.lp_solve.proofs.warm.from_basis.Goals as goal
 

@@ -2,7 +2,7 @@
 use Rattle.std.proofs.Common.{◌≡◌, IfOk, Ok, Some, ap, sym, ◌∙◌, subst}
 use Rattle.spec_exact.specs.Narrow.{number_limit}
 use Rattle.spec_simplex.specs.declared.ends.Fit.TheVariants as fit
-use Rattle.spec_warm.specs.Warm.{after_run}
+use Rattle.spec_runs.specs.Warm.{after_run}
 use Rattle.lp_solve.proofs.WarmRuns.{fit_refused, runs_by}
 use Rattle.lp_solve.proofs.warm.from_tableau.Goals as goal
 

@@ -2,7 +2,7 @@
 use Rattle.std.proofs.Common.{◌≡◌, All}
 use Rattle.spec_exact.specs.Narrow.{IsNarrow}
 use Rattle.spec_exact.specs.Run.{made}
-use Rattle.spec_cold.specs.Cold.{moves_by}
+use Rattle.spec_runs.specs.Cold.{moves_by}
 use Rattle.spec_factor.specs.Revised.{seen}
 use Rattle.lp_revised.proofs.state.Revised.direction.Given as goal
 

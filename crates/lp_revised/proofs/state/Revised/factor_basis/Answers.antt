@@ -1,6 +1,6 @@
 -- The status of one column more, and all of them.
 use Rattle.std.proofs.Common.{[], ◌∙◌}
-use Rattle.spec_cold.specs.Cold.{basis_status}
+use Rattle.spec_runs.specs.Cold.{basis_status}
 use Rattle.lp_tableau.proofs.Lists.{more_made, all_made}
 use Rattle.lp_revised.proofs.state.Revised.factor_basis.Goals as goal
 

@@ -1,6 +1,6 @@
 -- The loop over the positions.
 use Rattle.std.proofs.Common.{◌≡◌}
-use Rattle.spec_cold.specs.Cold.{moves_below}
+use Rattle.spec_runs.specs.Cold.{moves_below}
 use Rattle.spec_factor.specs.Revised.{seen}
 use Rattle.lp_revised.proofs.state.Revised.move_of.Given as goal
 

@@ -2,7 +2,7 @@
 use Rattle.std.proofs.Common.{◌≡◌}
 use Rattle.spec_exact.specs.Run.{made}
 use Rattle.spec_simplex.specs.Tableau.{Tableau}
-use Rattle.spec_cold.specs.Cold.{basis_status}
+use Rattle.spec_runs.specs.Cold.{basis_status}
 use Rattle.lp_rows.specs.Shows.{Shows}
 use Rattle.lp_rows.proofs.tableau.ends.basis_statuses.Given as goal
 

@@ -1,6 +1,6 @@
 -- Each number is that of its column.
 use Rattle.std.proofs.Common.{◌≡◌, arith}
-use Rattle.spec_cold.specs.Cold.{moves_by}
+use Rattle.spec_runs.specs.Cold.{moves_by}
 use Rattle.lp_rows.proofs.Read.{one_more, all_more, all_made}
 use Rattle.lp_rows.proofs.tableau.ends.direction.Goals as goal
 

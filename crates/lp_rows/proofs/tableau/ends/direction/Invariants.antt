@@ -2,7 +2,7 @@
 use Rattle.std.proofs.Common.{◌≡◌, All}
 use Rattle.spec_exact.specs.Run.{made}
 use Rattle.spec_simplex.specs.Tableau.{Tableau}
-use Rattle.spec_cold.specs.Cold.{moves_by}
+use Rattle.spec_runs.specs.Cold.{moves_by}
 use Rattle.lp_rows.specs.Shows.{Shows}
 use Rattle.lp_rows.proofs.tableau.ends.direction.Given as goal
 

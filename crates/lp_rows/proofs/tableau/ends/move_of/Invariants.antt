@@ -1,7 +1,7 @@
 -- By the last position so far.
 use Rattle.std.proofs.Common.{◌≡◌}
 use Rattle.spec_simplex.specs.Tableau.{Tableau}
-use Rattle.spec_cold.specs.Cold.{moves_below}
+use Rattle.spec_runs.specs.Cold.{moves_below}
 use Rattle.lp_rows.specs.Number.{fraction_of}
 use Rattle.lp_rows.specs.Shows.{Shows}
 use Rattle.lp_rows.proofs.tableau.ends.move_of.Given as goal

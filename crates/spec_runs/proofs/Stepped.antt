@@ -1,0 +1,170 @@
+-- A dual step of the run is a dual step of the table.
+use Rattle.std.proofs.Common.{◌≡◌, ℕ, ◌<◌, Option, Some, None, Ok, Bool, true}
+use Rattle.std.proofs.Common.{false, refl, sym, ap, ap₂, ◌∙◌, subst, subst₂}
+use Rattle.spec_exact.specs.Fraction.{ℚ, ◌-ℚ◌, ◌*ℚ◌, inverse}
+use Rattle.spec_exact.proofs.Ruleset.{one-*ℚ}
+use Rattle.spec_pivot.specs.declared.status.Status.{Status}
+use Rattle.spec_pivot.specs.declared.status.Way.TheVariants.{Up}
+use Rattle.spec_pivot.specs.Tableau.{Matrix}
+use Rattle.spec_pivot.specs.Simplex.{Bounds, IsInside, IsTableau}
+use Rattle.spec_exact.specs.Run.{difference_run, quotient_run}
+use Rattle.spec_simplex.specs.Step.{pivot_run}
+use Rattle.spec_simplex.specs.Tableau.{Tableau, all_columns, basic_at, entry_at, value_at, lower_at, upper_at, stand}
+use Rattle.spec_path.specs.Tables.{way, table_of}
+use Rattle.spec_path.proofs.Runs.{then_ok, difference_ok, quotient_ok}
+use Rattle.spec_path.proofs.Pivots.{pivot_leaves}
+use Rattle.spec_path.proofs.Pivots as step
+use Rattle.spec_path.proofs.Tables.{stand_is}
+use Rattle.spec_pivot.specs.Dual.{IsDualFeasible, IsPast, bound_behind, Leaves, shift, after_dual}
+use Rattle.spec_pivot.proofs.Step.{behind_nonbasic, behind_stands, dual_exchanges, dual_kept}
+use Rattle.spec_pivot.proofs.Feasible.{feasible_kept}
+use Rattle.spec_simplex.specs.declared.ends.Leaving.{Leaving}
+use Rattle.spec_simplex.specs.declared.ends.Cheapest.{Cheapest}
+use Rattle.spec_simplex.specs.declared.ends.DualEnd.TheVariants.{Optimal}
+use Rattle.spec_simplex.specs.declared.ends.DualChoice.{DualChoice}
+use Rattle.spec_simplex.specs.declared.ends.DualChoice.TheVariants.{End}
+use Rattle.spec_runs.specs.Based.{IsBased, IsReady, IsDualStep, IsDualMeant}
+use Rattle.spec_simplex.specs.Dual.{place_of, cheapest_run, passed_bound, dual_choice_by, dual_choice_at}
+use Rattle.spec_simplex.specs.Dual.{dual_choice_of, dual_choice_run, dual_pivot_by, dual_pivot_run}
+use Rattle.spec_simplex.specs.Fit.{leaving_run}
+use Rattle.spec_runs.proofs.Bounded.{lower_same, upper_same, free_open}
+use Rattle.spec_runs.proofs.Chosen.{place_is, none_cheapest, a_cheapest}
+use Rattle.spec_runs.proofs.Fits.{IsLeaving, LeavingIs, leaving_is}
+
+passed_is : (below : Bool) → passed_bound below ≡ bound_behind (way below)
+passed_is true = refl
+passed_is false = refl
+
+module _ (limit : Option ℕ) (f : Matrix) (cost : ℕ → ℚ) (b : Bounds)
+    (t : Tableau) (s : IsBased t.rows t.cols f cost b t) where
+  -- ---- the choice
+  leaves_at : (x : Leaving) (l : IsLeaving t (all_columns t) x) →
+      Leaves t.rows b (table_of t) (way x.below) (place_of t x.col) l.bound
+  leaves_at x l =
+      let w = s.tableau.tableau.placed x.col l.inside l.basic in
+      let at = place_is t x.col t.rows w.0 w.1 w.2 in
+      record {
+        position = at.0;
+        past = subst (λ k. IsPast (way x.below) (b.lower k) (b.upper k) (value_at t k) l.bound) (sym at.1)
+            (subst₂ (λ low high. IsPast (way x.below) low high (value_at t x.col) l.bound)
+            (lower_same f cost b t s x.col l.inside) (upper_same f cost b t s x.col l.inside) l.past);
+      }
+
+  leaving_meant : (x : Leaving) (choice : DualChoice) → IsLeaving t (all_columns t) x →
+      dual_choice_at limit t (place_of t x.col) x.below ≡ Ok choice → IsDualMeant t.rows t.cols b t choice
+  leaving_meant x choice l h =
+      let o =
+      then_ok (cheapest_run limit t (place_of t x.col) x.below)
+      (λ best. Ok (dual_choice_by (place_of t x.col) x.below best)) choice h in
+      let z : dual_choice_by (place_of t x.col) x.below o.0 ≡ choice = cc in
+      subst (IsDualMeant t.rows t.cols b t) z (by o.0 o.1)
+    where
+      by : (best : Option (Cheapest ℚ)) → cheapest_run limit t (place_of t x.col) x.below ≡ Ok best →
+          IsDualMeant t.rows t.cols b t (dual_choice_by (place_of t x.col) x.below best)
+      by None ok =
+          record {
+            bound = l.bound;
+            leaves = leaves_at x l;
+            none = none_cheapest limit f cost b t s (place_of t x.col) x.below ok;
+          }
+      by (Some y) ok = (
+        x.below,
+        record {
+          bound = l.bound;
+          leaves = leaves_at x l;
+          cheapest = a_cheapest limit f cost b t s (place_of t x.col) x.below y ok;
+        },
+        refl,
+      )
+
+  pub choice_meant : (choice : DualChoice) → dual_choice_run limit t ≡ Ok choice → IsDualMeant t.rows t.cols b t choice
+  unfolding dual_choice_run
+  choice_meant choice h =
+      let o = then_ok (leaving_run limit t) (dual_choice_of limit t) choice h in
+      by o.0 (leaving_is limit t o.0 o.1) o.2
+    where
+      by : (x : Option Leaving) → LeavingIs t (all_columns t) x → dual_choice_of limit t x ≡ Ok choice →
+          IsDualMeant t.rows t.cols b t choice
+      by None inside h =
+          let z : End Optimal ≡ choice = cc in
+          subst (IsDualMeant t.rows t.cols b t) z
+          (λ k l e. subst₂ (λ low high. IsInside low high (value_at t k))
+          (lower_same f cost b t s k l) (upper_same f cost b t s k l) (inside k l e))
+      by (Some x) l h = leaving_meant x choice l h
+
+  -- ---- the pivot
+  module _ (feasible : IsDualFeasible (all_columns t) b (table_of t)) (p j : ℕ)
+      (below : Bool) (d : IsDualStep t.rows t.cols b t p j below) where
+    abbrev q : ℕ
+    q = basic_at t p
+
+    abbrev to : Status
+    to = bound_behind (way below)
+
+    q_in : q < all_columns t
+    q_in = s.tableau.tableau.in_range p d.leaves.position
+
+    -- where the leaving column goes
+    bound_is : stand to (lower_at t (basic_at t p)) (upper_at t (basic_at t p)) ≡ d.bound
+    bound_is =
+        ap₂ (stand to) (lower_same f cost b t s (basic_at t p) q_in) (upper_same f cost b t s (basic_at t p) q_in)
+        ∙ stand_is to (b.lower (basic_at t p)) (b.upper (basic_at t p)) d.bound (behind_nonbasic (way below))
+        (behind_stands (way below) (b.lower (basic_at t p))
+        (b.upper (basic_at t p)) (value_at t (basic_at t p)) d.bound d.leaves.past)
+
+    by_theta : (gap theta : ℚ) → difference_run limit (value_at t (basic_at t p))
+        (stand to (lower_at t (basic_at t p)) (upper_at t (basic_at t p))) ≡ Ok gap →
+        quotient_run limit gap (entry_at t p j) ≡ Ok theta
+        → theta ≡ shift (table_of t) p j d.bound
+    by_theta gap theta h k =
+        quotient_ok limit gap (entry_at t p j) theta k
+        ∙ ap (λ a. a *ℚ inverse (entry_at t p j)) (difference_ok limit (value_at t (basic_at t p))
+        (stand to (lower_at t (basic_at t p)) (upper_at t (basic_at t p))) gap h
+        ∙ ap (λ a. value_at t (basic_at t p) -ℚ a) bound_is)
+
+    left : (u : Tableau) → dual_pivot_by limit t p j (basic_at t p) to ≡ Ok u →
+        step.Leaves b t u (after_dual t.rows (table_of t) (way below) p j d.bound)
+    left u h =
+        let a =
+        then_ok (difference_run limit (value_at t (basic_at t p))
+        (stand to (lower_at t (basic_at t p)) (upper_at t (basic_at t p)))) _ u h in
+        let c = then_ok (quotient_run limit a.0 (entry_at t p j)) _ u a.2 in
+        pivot_leaves limit t s.tableau.whole f cost b s.tableau.tableau s.tableau.bounds Up j p (shift
+        (table_of t) p j d.bound) to
+        (dual_exchanges t.rows (all_columns t) f cost b (table_of t) s.tableau.tableau
+        (way below) p j d.bound d.leaves d.cheapest.in_range d.cheapest.candidate)
+        (free_open f cost b t s j d.cheapest.in_range d.cheapest.candidate.not_fixed) u
+        (subst (λ theta. pivot_run limit t p j theta to ≡ Ok u)
+        (by_theta a.0 c.0 a.1 c.1 ∙ sym (one-*ℚ (shift (table_of t) p j d.bound))) c.2)
+
+    ready : (u : Tableau) → step.Leaves b t u (after_dual t.rows (table_of t) (way below) p j d.bound) →
+        IsReady t.rows t.cols f cost b u
+    ready u l = record {
+      based = record {
+        tableau = record {
+          rows = l.rows;
+          cols = l.cols;
+          whole = l.whole;
+          tableau = subst (IsTableau t.rows (all_columns t) f cost b) (sym l.table)
+              (dual_kept t.rows (all_columns t) f cost b (table_of t) s.tableau.tableau
+              (way below) p j d.bound d.leaves d.cheapest.in_range d.cheapest.candidate);
+          bounds = l.bounds;
+        };
+        top = s.top;
+      };
+      feasible =
+          subst (IsDualFeasible (all_columns t) b) (sym l.table) (feasible_kept t.rows (all_columns t) f cost b
+          (table_of t) s.tableau.tableau feasible (way below) p j d.bound d.leaves d.cheapest);
+    }
+
+    pub pivot_ready : (u : Tableau) → dual_pivot_run limit t p j (passed_bound below) ≡ Ok u →
+        IsReady t.rows t.cols f cost b u
+    unfolding dual_pivot_run
+    pivot_ready u h =
+        ready u (left u (subst (λ to. dual_pivot_by limit t p j (basic_at t p) to ≡ Ok u) (passed_is below) h))
+
+    pub pivot_table : (u : Tableau) → dual_pivot_run limit t p j (passed_bound below) ≡ Ok u →
+        table_of u ≡ after_dual t.rows (table_of t) (way below) p j d.bound
+    unfolding dual_pivot_run
+    pivot_table u h =
+        (left u (subst (λ to. dual_pivot_by limit t p j (basic_at t p) to ≡ Ok u) (passed_is below) h)).table

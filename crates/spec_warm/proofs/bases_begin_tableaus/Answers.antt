@@ -1,5 +1,0 @@
-use Rattle.spec_warm.proofs.Started.{start_begins_from}
-use Rattle.spec_warm.proofs.bases_begin_tableaus.Goals as goal
-
-pub returns : goal.returns
-returns c = start_begins_from

@@ -1,5 +1,0 @@
-use Rattle.spec_warm.proofs.TrueEnds.{ended_is_true, stopped_is_stopped}
-use Rattle.spec_warm.proofs.warm_ends_true.Goals as goal
-
-pub returns : goal.returns
-returns c = record { ended = ended_is_true; stopped = stopped_is_stopped }

@@ -1,3 +1,0 @@
-pub mod Based
-pub mod Warm
-pub mod Solve
