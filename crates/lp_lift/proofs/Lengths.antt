@@ -4,7 +4,7 @@ use Rattle.std.specs.Prelude.{IfSome}
 use Rattle.spec_exact.specs.Fraction.{ℚ}
 use Rattle.spec_model.specs.Model.{Model, width, height}
 use Rattle.spec_simplex.specs.Form.{Form, form_of}
-use Rattle.spec_path.proofs.Formed.{form_is}
+use Rattle.spec_simplex.proofs.Formed.{form_is}
 
 pub for_columns : (limit : Option ℕ) (m : Model) (f : Form) (n : ℕ) → form_of limit m ≡ Ok f → n ≡ f.cols → n ≡ width m
 for_columns limit m f n h e = e ∙ sym (ap (λ f. f.cols) (form_is limit m f h).2)

@@ -16,7 +16,7 @@ use Rattle.spec_simplex.specs.Eliminate.{IsBasisOf, start_from}
 use Rattle.spec_simplex.specs.Phases.{PrimalEnded, Finished, run_from}
 use Rattle.spec_simplex.specs.Tableau.{Tableau}
 use Rattle.spec_runs.specs.Cold.{certificate_at}
-use Rattle.spec_path.specs.Begins.{IsProper}
+use Rattle.spec_simplex.specs.Begins.{IsProper}
 use Rattle.spec_runs.specs.Based.{BeginsFrom}
 use Rattle.spec_runs.proofs.Started.{start_begins_from}
 use Rattle.spec_runs.specs.Warm.{stopped_as, start_stop, run_stop, ByPrimal, run_by, warm_run}

@@ -12,13 +12,13 @@ use Rattle.spec_simplex.specs.Start.{start_of}
 use Rattle.spec_simplex.specs.Step.{choice_run, flip_run, pivot_run}
 use Rattle.spec_simplex.specs.Tableau.{Tableau}
 use Rattle.spec_simplex.specs.Phases.{done_run, is_stuck, phase_two_run}
-use Rattle.spec_path.specs.Tables.{IsTableauOf, IsWithinBounds, StepsTo}
-use Rattle.spec_path.specs.Begins.{IsProper, Begins}
-use Rattle.spec_path.proofs.Begun.{start_begins}
-use Rattle.spec_path.proofs.LimitPhases.{two_agrees}
-use Rattle.spec_path.proofs.LimitStart.{flip_agrees, pivot_agrees, start_agrees}
-use Rattle.spec_path.proofs.PhaseTwo.{second_phase}
-use Rattle.spec_path.proofs.Steps.{choice_is_meant}
+use Rattle.spec_simplex.specs.Tables.{IsTableauOf, IsWithinBounds, StepsTo}
+use Rattle.spec_simplex.specs.Begins.{IsProper, Begins}
+use Rattle.spec_simplex.proofs.Begun.{start_begins}
+use Rattle.spec_simplex.proofs.LimitPhases.{two_agrees}
+use Rattle.spec_simplex.proofs.LimitStart.{flip_agrees, pivot_agrees, start_agrees}
+use Rattle.spec_simplex.proofs.PhaseTwo.{second_phase}
+use Rattle.spec_simplex.proofs.Steps.{choice_is_meant}
 use Rattle.spec_runs.proofs.PhaseSteps.{given}
 use Rattle.lp_rows.specs.Shows.{IsReached}
 

@@ -2,7 +2,7 @@
 ghost use Rattle.std.specs.Prelude.{◌≡◌, ◌+◌, IfOk, IfSome, List, length, replicate, false};
 ghost use Rattle.spec_pivot.specs.declared.status.Status.{Status as statuses};
 ghost use Rattle.spec_simplex.specs.Eliminate.{IsBasisOf};
-ghost use Rattle.spec_path.specs.Begins.{IsProper};
+ghost use Rattle.spec_simplex.specs.Begins.{IsProper};
 ghost use Rattle.lp_rows.specs.Shows.{width};
 ghost use Rattle.lp_row_runs.specs.Rows.{IsComplete, IsSolvedBelow, IfRows, HasSize, ShowsBasis, ShowsStart};
 

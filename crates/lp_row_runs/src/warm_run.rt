@@ -5,7 +5,7 @@ ghost use Rattle.spec_model.specs.Model.{Model};
 ghost use Rattle.spec_pivot.specs.declared.status.Status.{Status as statuses};
 ghost use Rattle.spec_simplex.specs.Form.{Form as forms, form_of};
 ghost use Rattle.spec_simplex.specs.Eliminate.{IsBasisOf};
-ghost use Rattle.spec_path.specs.Begins.{IsProper};
+ghost use Rattle.spec_simplex.specs.Begins.{IsProper};
 ghost use Rattle.lp_rows.specs.Shows.{IsWhole};
 ghost use Rattle.lp_row_runs.specs.Phases.{HasCosts};
 ghost use Rattle.lp_row_runs.specs.Rows.{HasSize, ShowsStart};

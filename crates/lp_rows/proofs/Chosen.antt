@@ -19,13 +19,13 @@ use Rattle.spec_simplex.specs.Tableau.{Tableau, form_columns, all_columns, statu
 use Rattle.spec_simplex.specs.Step.{entering, directed, other_bound, best_run, choice_at, choice_by}
 use Rattle.spec_simplex.specs.Step.{choice_of, choice_run, flip_way, flip_run, pivot_run}
 use Rattle.spec_simplex.specs.Phases.{done_run}
-use Rattle.spec_path.specs.Tables.{way, table_of, IsWhole, KeepsBounds}
-use Rattle.spec_path.proofs.Runs.{then_ok}
-use Rattle.spec_path.proofs.Enters.{an_entering}
-use Rattle.spec_path.proofs.Pivots.{Leaves, enters_before, pivot_leaves}
-use Rattle.spec_path.proofs.Flips.{directed_is, flip_leaves}
-use Rattle.spec_path.proofs.Steps.{ahead_is, way_is}
-use Rattle.spec_path.proofs.Tests.{plain, IsRange, a_best, best_range, best_ahead}
+use Rattle.spec_simplex.specs.Tables.{way, table_of, IsWhole, KeepsBounds}
+use Rattle.spec_simplex.proofs.Runs.{then_ok}
+use Rattle.spec_simplex.proofs.Enters.{an_entering}
+use Rattle.spec_simplex.proofs.Pivots.{Leaves, enters_before, pivot_leaves}
+use Rattle.spec_simplex.proofs.Flips.{directed_is, flip_leaves}
+use Rattle.spec_simplex.proofs.Steps.{ahead_is, way_is}
+use Rattle.spec_simplex.proofs.Tests.{plain, IsRange, a_best, best_range, best_ahead}
 
 pub record PivotsTo (b : Bounds) (t u : Tableau) (p j : ℕ) (theta : ℚ) (to : Status) : Type 0 where
   pub way : Way

@@ -14,9 +14,9 @@ use Rattle.spec_pivot.proofs.Ray.{ray_basic}
 use Rattle.spec_simplex.specs.Tableau.{Tableau, form_columns, all_columns, basic_at, entry_at, value_at, reduced_at}
 use Rattle.spec_simplex.specs.Tableau.{status_at, lower_at, upper_at, or_zero}
 use Rattle.spec_simplex.specs.Step.{directed, other_bound, flip_way}
-use Rattle.spec_path.specs.Tables.{way, table_of, IsTableauOf, KeepsBounds}
-use Rattle.spec_path.proofs.Lists.{by_lt, set_reads}
-use Rattle.spec_path.proofs.Flips.{directed_is}
+use Rattle.spec_simplex.specs.Tables.{way, table_of, IsTableauOf, KeepsBounds}
+use Rattle.spec_simplex.proofs.Lists.{by_lt, set_reads}
+use Rattle.spec_simplex.proofs.Flips.{directed_is}
 use Rattle.lp_rows.specs.declared.fractions.Row.{Row}
 use Rattle.lp_rows.specs.Ratio.{bound_of}
 use Rattle.lp_rows.specs.declared.tableau.tableau.RowTableau.{RowTableau}

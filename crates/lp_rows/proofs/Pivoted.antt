@@ -17,10 +17,10 @@ use Rattle.spec_pivot.proofs.Kept.{outside}
 use Rattle.spec_pivot.proofs.Ray.{ray_at, ray_basic}
 use Rattle.spec_simplex.specs.Tableau.{Tableau, form_columns, all_columns, basic_at, entry_at, value_at, reduced_at}
 use Rattle.spec_simplex.specs.Tableau.{status_at, lower_at, upper_at, stand}
-use Rattle.spec_path.specs.Tables.{table_of, IsTableauOf, KeepsBounds}
-use Rattle.spec_path.specs.Tables as tables
-use Rattle.spec_path.proofs.Lists.{by_lt, set_reads}
-use Rattle.spec_path.proofs.Tables.{stand_is}
+use Rattle.spec_simplex.specs.Tables.{table_of, IsTableauOf, KeepsBounds}
+use Rattle.spec_simplex.specs.Tables as tables
+use Rattle.spec_simplex.proofs.Lists.{by_lt, set_reads}
+use Rattle.spec_simplex.proofs.Tables.{stand_is}
 use Rattle.lp_rows.specs.Ratio.{bound_of}
 use Rattle.lp_rows.specs.declared.tableau.tableau.RowTableau.{RowTableau}
 use Rattle.lp_rows.specs.Shows.{IsWhole, Shows, row_at, height, width}

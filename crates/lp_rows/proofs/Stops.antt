@@ -18,8 +18,8 @@ use Rattle.spec_simplex.specs.Tableau.{upper_at}
 use Rattle.spec_simplex.specs.Tableau.{status_at, reduced_at, is_fixed}
 use Rattle.spec_simplex.specs.Step.{way_by, way_at, with_gap, range_run, best_with, best_run, choice_by, choice_of}
 use Rattle.spec_simplex.specs.Step.{entering, choice_run}
-use Rattle.spec_path.specs.Tables.{KeepsBounds}
-use Rattle.spec_path.proofs.Enters.{fixed_test}
+use Rattle.spec_simplex.specs.Tables.{KeepsBounds}
+use Rattle.spec_simplex.proofs.Enters.{fixed_test}
 use Rattle.lp_wide.specs.Whole.{whole}
 use Rattle.lp_wide.specs.declared.signed.Signed.{Signed}
 use Rattle.lp_rows.specs.declared.fractions.Row.{Row}

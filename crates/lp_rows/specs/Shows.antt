@@ -8,7 +8,7 @@ use Rattle.spec_pivot.specs.Simplex.{Bounds}
 use Rattle.spec_pivot.specs.declared.status.Status.TheVariants.{Basic}
 use Rattle.spec_simplex.specs.Tableau.{Tableau, form_columns, all_columns, entry_at, basic_at, value_at, reduced_at}
 use Rattle.spec_simplex.specs.Tableau.{status_at, lower_at, upper_at, is_fixed, stand}
-use Rattle.spec_path.specs.Tables.{IsTableauOf, IsWithinBounds}
+use Rattle.spec_simplex.specs.Tables.{IsTableauOf, IsWithinBounds}
 use Rattle.lp_rows.specs.declared.fractions.Row.{Row}
 use Rattle.lp_rows.specs.Row.{fraction_at}
 use Rattle.lp_rows.specs.Ratio.{bound_of}

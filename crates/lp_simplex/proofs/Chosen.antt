@@ -3,7 +3,7 @@ use Rattle.std.proofs.Common.{◌≡◌, ℕ, ◌+◌, ◌<◌, Option, Some, Ok
 use Rattle.spec_exact.specs.Fraction.{ℚ}
 use Rattle.spec_simplex.specs.Step.{NamesBound}
 use Rattle.spec_simplex.specs.Tableau.{Tableau, basic_at, lower_at, upper_at}
-use Rattle.spec_path.specs.Tables.{way}
+use Rattle.spec_simplex.specs.Tables.{way}
 use Rattle.spec_pivot.specs.Dual.{IsPast}
 use Rattle.spec_simplex.specs.declared.ends.Leaving.{Leaving}
 use Rattle.spec_simplex.specs.declared.ends.Cheapest.{Cheapest}

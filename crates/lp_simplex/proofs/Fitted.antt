@@ -8,7 +8,7 @@ use Rattle.spec_pivot.proofs.Kept.{not_basic}
 use Rattle.spec_simplex.specs.Step.{CanFlip}
 use Rattle.spec_simplex.specs.Tableau.{Tableau, all_columns, value_at, reduced_at}
 use Rattle.spec_simplex.specs.Tableau.{status_at, lower_at, upper_at, is_fixed}
-use Rattle.spec_path.specs.Tables.{way}
+use Rattle.spec_simplex.specs.Tables.{way}
 use Rattle.spec_simplex.specs.declared.ends.Fit.TheVariants.{Dual}
 use Rattle.spec_runs.specs.Based.{IsBased}
 use Rattle.spec_simplex.specs.Fit.{needs_flip, meets_need, needs_flip_at, fit_run}

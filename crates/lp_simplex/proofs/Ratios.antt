@@ -21,8 +21,8 @@ use Rattle.spec_simplex.specs.Step.{directed, other_bound, range_run, rise_run, 
 use Rattle.spec_simplex.specs.Step.{better_by, better_run, with_gap, best_with, best_run, NamesBound}
 use Rattle.spec_exact.proofs.Stops.{steps_stop}
 use Rattle.spec_exact.proofs.Results.{told_ok}
-use Rattle.spec_path.proofs.Runs.{then_ok, difference_ok}
-use Rattle.spec_path.proofs.Tests.{abs_falling, abs_rising}
+use Rattle.spec_simplex.proofs.Runs.{then_ok, difference_ok}
+use Rattle.spec_simplex.proofs.Tests.{abs_falling, abs_rising}
 
 -- ---- results of operations
 pub quotient_ok : (limit : Option ℕ) (v w x : ℚ) → w ≢ 0ℚ → quotient_run limit v w ≡ Ok x → x *ℚ w ≡ v

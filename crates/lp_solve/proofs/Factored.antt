@@ -14,7 +14,7 @@ use Rattle.spec_simplex.specs.Form.{Form, form_of}
 use Rattle.spec_simplex.specs.Eliminate.{IsBasisOf}
 use Rattle.spec_simplex.specs.Phases.{PhasesEnd, phases_run}
 use Rattle.spec_check.specs.declared.solve_end.SolveEnd.TheVariants as outcome
-use Rattle.spec_path.proofs.LimitStart.{form_without}
+use Rattle.spec_simplex.proofs.LimitStart.{form_without}
 use Rattle.spec_runs.specs.Accepted.{IsAccepted}
 use Rattle.spec_runs.specs.Cold.{ExactSolveEnd, certificate_of, basis_of, pivots_of, answered, cold, after_form}
 use Rattle.spec_runs.proofs.ColdSolves.{end_accepted}

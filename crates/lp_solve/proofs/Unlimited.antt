@@ -16,7 +16,7 @@ use Rattle.spec_simplex.specs.declared.ends.WarmStop.TheVariants as fall
 use Rattle.spec_simplex.specs.Eliminate.{IsBasisOf}
 use Rattle.spec_simplex.specs.Form.{Form, form_of}
 use Rattle.spec_simplex.specs.Phases.{PhasesEnd, phases_run}
-use Rattle.spec_path.proofs.LimitStart.{form_without}
+use Rattle.spec_simplex.proofs.LimitStart.{form_without}
 use Rattle.spec_runs.specs.Accepted.{IsAccepted}
 use Rattle.spec_runs.specs.Cold.{ExactSolveEnd, checked, answered, after_phases}
 use Rattle.spec_factor.specs.Over.{OverEnd, answer_of, answer_in}

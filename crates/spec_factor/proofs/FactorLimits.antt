@@ -4,8 +4,8 @@ use Rattle.spec_exact.specs.Fraction.{ℚ, 0ℚ}
 use Rattle.spec_pivot.specs.declared.status.Status.{Status}
 use Rattle.spec_simplex.specs.Form.{Form}
 use Rattle.spec_simplex.specs.Tableau.{is_basic}
-use Rattle.spec_path.proofs.Refusals.{Agrees, as_it_is, agrees_ok, agrees_err, agrees_then, agrees_if}
-use Rattle.spec_path.proofs.Refusals.{agrees_steps, agrees_as, agrees_list, agrees_quotient, agrees_less}
+use Rattle.spec_simplex.proofs.Refusals.{Agrees, as_it_is, agrees_ok, agrees_err, agrees_then, agrees_if}
+use Rattle.spec_simplex.proofs.Refusals.{agrees_steps, agrees_as, agrees_list, agrees_quotient, agrees_less}
 use Rattle.spec_simplex.specs.Eliminate.{basis_at}
 use Rattle.spec_factor.specs.declared.stop.NoFactors.{NoFactors}
 use Rattle.spec_factor.specs.declared.stop.NoFactors.TheVariants as stop

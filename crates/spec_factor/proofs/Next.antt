@@ -13,8 +13,8 @@ use Rattle.spec_simplex.specs.Tableau.{Tableau, all_columns, basic_at, status_at
 use Rattle.spec_simplex.specs.Step.{directed, other_bound, moved_run, flip_way, flipped, flip_run}
 use Rattle.spec_simplex.specs.Step.{shifted_run, turned_run, repriced_run, exchanged, turned, pivot_run}
 use Rattle.spec_simplex.specs.Phases.{done_run}
-use Rattle.spec_path.specs.Tables.{table_of, IsTableauOf}
-use Rattle.spec_path.proofs.Runs.{then_ok}
+use Rattle.spec_simplex.specs.Tables.{table_of, IsTableauOf}
+use Rattle.spec_simplex.proofs.Runs.{then_ok}
 use Rattle.spec_factor.specs.Same.{SameChoice, bare_with}
 use Rattle.spec_factor.proofs.SameChoices.{both, same_lower, same_upper, columns_are}
 

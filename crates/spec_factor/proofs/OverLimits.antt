@@ -16,10 +16,10 @@ use Rattle.spec_simplex.specs.Start.{row_start, begun, first_costs, cost_at}
 use Rattle.spec_simplex.specs.Tableau.{Tableau, all_columns, status_at, lower_at, upper_at, is_fixed}
 use Rattle.spec_simplex.specs.Phases.{wants_phase_one, is_stuck}
 use Rattle.spec_simplex.specs.Tableau.{is_basic}
-use Rattle.spec_path.proofs.Refusals.{Agrees, as_it_is, agrees_ok, agrees_then, agrees_if}
-use Rattle.spec_path.proofs.Refusals.{agrees_steps, agrees_as, agrees_list, agrees_less}
-use Rattle.spec_path.proofs.LimitStart.{row_start_agrees, best_agrees, moved_agrees, shifted_agrees, flip_agrees}
-use Rattle.spec_path.proofs.LimitPhases.{spent_agrees}
+use Rattle.spec_simplex.proofs.Refusals.{Agrees, as_it_is, agrees_ok, agrees_then, agrees_if}
+use Rattle.spec_simplex.proofs.Refusals.{agrees_steps, agrees_as, agrees_list, agrees_less}
+use Rattle.spec_simplex.proofs.LimitStart.{row_start_agrees, best_agrees, moved_agrees, shifted_agrees, flip_agrees}
+use Rattle.spec_simplex.proofs.LimitPhases.{spent_agrees}
 use Rattle.spec_factor.specs.declared.stop.NoFactors.{NoFactors}
 use Rattle.spec_factor.specs.declared.stop.NoFactors.TheVariants as factor
 use Rattle.spec_factor.specs.Factors.{Factors, column_entry, column_of}

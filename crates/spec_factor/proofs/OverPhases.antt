@@ -23,17 +23,17 @@ use Rattle.spec_simplex.specs.Start.{cost_at, first_costs, priced_run, start_of}
 use Rattle.spec_simplex.specs.Tableau.{Tableau, is_artificial, basic_at, value_at}
 use Rattle.spec_simplex.specs.Phases.{PrimalEnded, run_from, without_artificials, phase_two_run, wants_phase_one}
 use Rattle.spec_simplex.specs.Phases.{is_stuck, phase_one, phase_two, PhasesEnd, Infeasible, Finished, phases_run}
-use Rattle.spec_path.specs.Tables.{bounds_of, IsTableauOf, IsWithinBounds}
-use Rattle.spec_path.specs.Begins.{form_rows, signs_of, IsProper}
+use Rattle.spec_simplex.specs.Tables.{bounds_of, IsTableauOf, IsWithinBounds}
+use Rattle.spec_simplex.specs.Begins.{form_rows, signs_of, IsProper}
 use Rattle.spec_runs.specs.Cold.{multipliers, basis_at, certificate_at}
-use Rattle.spec_path.proofs.Runs.{then_ok, IsListOf, list_ok, get_or-made}
-use Rattle.spec_path.proofs.Refusals.{agrees_list}
-use Rattle.spec_path.proofs.LimitStart.{row_start_agrees, priced_agrees}
-use Rattle.spec_path.proofs.LimitPhases.{two_agrees}
-use Rattle.spec_path.proofs.RowStarts.{RowBegins, first_sum, start_is}
-use Rattle.spec_path.proofs.FirstPhase.{cost_before}
-use Rattle.spec_path.proofs.Begun.{first_few, begun_is, begun_within}
-use Rattle.spec_path.proofs.PhaseTwo.{some_of, second_phase}
+use Rattle.spec_simplex.proofs.Runs.{then_ok, IsListOf, list_ok, get_or-made}
+use Rattle.spec_simplex.proofs.Refusals.{agrees_list}
+use Rattle.spec_simplex.proofs.LimitStart.{row_start_agrees, priced_agrees}
+use Rattle.spec_simplex.proofs.LimitPhases.{two_agrees}
+use Rattle.spec_simplex.proofs.RowStarts.{RowBegins, first_sum, start_is}
+use Rattle.spec_simplex.proofs.FirstPhase.{cost_before}
+use Rattle.spec_simplex.proofs.Begun.{first_few, begun_is, begun_within}
+use Rattle.spec_simplex.proofs.PhaseTwo.{some_of, second_phase}
 use Rattle.spec_factor.specs.Factors.{Pair, column_entry}
 use Rattle.spec_factor.specs.Basis.{IsPair, StandsFor, basis_of}
 use Rattle.spec_factor.specs.Revised.{Revised, bare_of, factor_column, refactor_run}

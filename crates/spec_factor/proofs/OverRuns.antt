@@ -15,11 +15,11 @@ use Rattle.spec_simplex.specs.Start.{cost_at}
 use Rattle.spec_simplex.specs.Tableau.{Tableau}
 use Rattle.spec_simplex.specs.Step.{choice_run, flip_run, pivot_run}
 use Rattle.spec_simplex.specs.Phases.{PrimalEnded, end_or_spent, end_or_next, run_from, done_run}
-use Rattle.spec_path.specs.Tables.{IsTableauOf, IsWithinBounds}
-use Rattle.spec_path.specs.Begins.{form_rows, signs_of}
+use Rattle.spec_simplex.specs.Tables.{IsTableauOf, IsWithinBounds}
+use Rattle.spec_simplex.specs.Begins.{form_rows, signs_of}
 use Rattle.spec_runs.specs.Cold.{multipliers, certificate_at}
-use Rattle.spec_path.proofs.LimitStart.{choice_agrees, flip_agrees, pivot_agrees}
-use Rattle.spec_path.proofs.Steps.{choice_is_meant}
+use Rattle.spec_simplex.proofs.LimitStart.{choice_agrees, flip_agrees, pivot_agrees}
+use Rattle.spec_simplex.proofs.Steps.{choice_is_meant}
 use Rattle.spec_factor.specs.Factors.{Pair}
 use Rattle.spec_factor.specs.Revised.{Revised, replacements, refreshed_run, refactor_run, Selection, selection_run}
 use Rattle.spec_factor.specs.Over.{RevisedEnded, over_or_spent, over_or_next, over_from, negatives, over_certificate}

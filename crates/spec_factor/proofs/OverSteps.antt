@@ -27,14 +27,14 @@ use Rattle.spec_simplex.specs.Step.{choice_of, choice_run, is_place, moved_at, m
 use Rattle.spec_simplex.specs.Step.{flipped, flip_run, shifted_run, exchanged, turned, pivot_run}
 use Rattle.spec_simplex.specs.Phases.{done_run}
 use Rattle.spec_exact.proofs.Stops.{length-made, get_or-made}
-use Rattle.spec_path.specs.Tables.{way, table_of, IsTableauOf, IsWithinBounds}
-use Rattle.spec_path.specs.Begins.{form_rows, signs_of}
-use Rattle.spec_path.proofs.Runs.{then_ok}
-use Rattle.spec_path.proofs.Enters.{an_entering}
-use Rattle.spec_path.proofs.Refusals.{Agrees, as_it_is}
-use Rattle.spec_path.proofs.LimitStart.{flip_agrees, pivot_agrees}
-use Rattle.spec_path.proofs.Steps.{choice_is_meant}
-use Rattle.spec_path.proofs.Tests.{plain, a_best}
+use Rattle.spec_simplex.specs.Tables.{way, table_of, IsTableauOf, IsWithinBounds}
+use Rattle.spec_simplex.specs.Begins.{form_rows, signs_of}
+use Rattle.spec_simplex.proofs.Runs.{then_ok}
+use Rattle.spec_simplex.proofs.Enters.{an_entering}
+use Rattle.spec_simplex.proofs.Refusals.{Agrees, as_it_is}
+use Rattle.spec_simplex.proofs.LimitStart.{flip_agrees, pivot_agrees}
+use Rattle.spec_simplex.proofs.Steps.{choice_is_meant}
+use Rattle.spec_simplex.proofs.Tests.{plain, a_best}
 use Rattle.spec_factor.specs.Factors.{Pair, column_entry, column_of, with_pair, replace_run}
 use Rattle.spec_factor.specs.Basis.{StandsFor, SolvesColumns, with_column, basis_of}
 use Rattle.spec_factor.specs.Revised.{Revised, bare_of, factor_column, sign_of}

@@ -20,11 +20,11 @@ use Rattle.spec_simplex.specs.Tableau.{Tableau, all_columns, basic_at, value_at}
 use Rattle.spec_simplex.specs.Tableau.{reduced_at, status_at, lower_at, upper_at, is_fixed}
 use Rattle.spec_simplex.specs.Step.{way_by, way_at, or_enters, entering_below, entering, directed}
 use Rattle.spec_simplex.specs.Step.{best_run, choice_at, choice_by, choice_of, choice_run}
-use Rattle.spec_path.specs.Tables.{way, table_of, IsTableauOf}
-use Rattle.spec_path.proofs.Runs.{then_ok}
-use Rattle.spec_path.proofs.Lists.{by_lt}
-use Rattle.spec_path.proofs.Enters.{an_entering}
-use Rattle.spec_path.proofs.Tests.{plain, no_best, a_best, best_ahead}
+use Rattle.spec_simplex.specs.Tables.{way, table_of, IsTableauOf}
+use Rattle.spec_simplex.proofs.Runs.{then_ok}
+use Rattle.spec_simplex.proofs.Lists.{by_lt}
+use Rattle.spec_simplex.proofs.Enters.{an_entering}
+use Rattle.spec_simplex.proofs.Tests.{plain, no_best, a_best, best_ahead}
 use Rattle.spec_factor.specs.Same.{SameChoice}
 use Rattle.spec_factor.proofs.SameScan.{SamePositions, SameBest, none_same, same_best}
 

@@ -24,12 +24,12 @@ use Rattle.spec_simplex.specs.Start.{cost_at}
 use Rattle.spec_simplex.specs.Step.{directed, choice_run}
 use Rattle.spec_simplex.specs.Tableau.{Tableau, basic_at, entry_at, reduced_at, status_at}
 use Rattle.spec_runs.specs.Cold.{point, multipliers, moves_below, moves_by, direction, certificate_at, basis_at}
-use Rattle.spec_path.specs.Tables.{way, table_of, IsTableauOf, IsWithinBounds}
-use Rattle.spec_path.specs.Begins.{form_rows, signs_of}
-use Rattle.spec_path.proofs.Moved.{at_position}
+use Rattle.spec_simplex.specs.Tables.{way, table_of, IsTableauOf, IsWithinBounds}
+use Rattle.spec_simplex.specs.Begins.{form_rows, signs_of}
+use Rattle.spec_simplex.proofs.Moved.{at_position}
 use Rattle.spec_runs.proofs.Directions.{moves_are}
-use Rattle.spec_path.proofs.Equations.{row_logical}
-use Rattle.spec_path.proofs.Steps.{choice_is_meant}
+use Rattle.spec_simplex.proofs.Equations.{row_logical}
+use Rattle.spec_simplex.proofs.Steps.{choice_is_meant}
 use Rattle.spec_factor.specs.Factors.{Pair}
 use Rattle.spec_factor.specs.Revised.{Selection}
 use Rattle.spec_factor.specs.Over.{negatives, over_certificate}

@@ -25,12 +25,12 @@ use Rattle.spec_simplex.specs.Step.{way_by, way_at, or_enters, entering_below, e
 use Rattle.spec_simplex.specs.Step.{with_gap, best_with, best_run, choice_at, choice_by, choice_of, choice_run}
 use Rattle.spec_exact.proofs.Stops.{length-made, get_or-made}
 use Rattle.spec_simplex.specs.Tableau.{is_basic}
-use Rattle.spec_path.specs.Tables.{IsTableauOf}
-use Rattle.spec_path.specs.Begins.{form_rows, signs_of}
-use Rattle.spec_path.proofs.Runs.{then_ok, less_ok, steps_ok}
-use Rattle.spec_path.proofs.Lists.{by_lt}
-use Rattle.spec_path.proofs.Enters.{an_entering, fixed_test}
-use Rattle.spec_path.proofs.Pivots.{enters_before}
+use Rattle.spec_simplex.specs.Tables.{IsTableauOf}
+use Rattle.spec_simplex.specs.Begins.{form_rows, signs_of}
+use Rattle.spec_simplex.proofs.Runs.{then_ok, less_ok, steps_ok}
+use Rattle.spec_simplex.proofs.Lists.{by_lt}
+use Rattle.spec_simplex.proofs.Enters.{an_entering, fixed_test}
+use Rattle.spec_simplex.proofs.Pivots.{enters_before}
 use Rattle.spec_factor.specs.Factors.{Pair, column_entry, column_of, ftran_run, btran_run}
 use Rattle.spec_factor.specs.Revised.{sign_of, multipliers_run, price_run, way_run, or_priced, entering_run}
 use Rattle.spec_factor.specs.Revised.{seen_entry, seen, Selection, selection_with, selection_run}

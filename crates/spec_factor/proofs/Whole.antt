@@ -18,12 +18,12 @@ use Rattle.spec_exact.specs.Run.{made}
 use Rattle.spec_simplex.specs.Start.{logical_sign, start_at, cost_at}
 use Rattle.spec_simplex.specs.Tableau.{Tableau, form_columns, all_columns, is_artificial, entry_at, reduced_at}
 use Rattle.spec_exact.proofs.Stops.{length-made, get_or-made}
-use Rattle.spec_path.specs.Tables.{IsTableauOf}
-use Rattle.spec_path.specs.Begins.{form_rows, signs_of}
-use Rattle.spec_path.proofs.Columns.{by_kind}
-use Rattle.spec_path.proofs.Equations.{row_structural, row_logical, row_artificial, row_past}
-use Rattle.spec_path.proofs.Lists.{by_lt, past_row}
-use Rattle.spec_path.proofs.Begun.{sign_square, twice}
+use Rattle.spec_simplex.specs.Tables.{IsTableauOf}
+use Rattle.spec_simplex.specs.Begins.{form_rows, signs_of}
+use Rattle.spec_simplex.proofs.Columns.{by_kind}
+use Rattle.spec_simplex.proofs.Equations.{row_structural, row_logical, row_artificial, row_past}
+use Rattle.spec_simplex.proofs.Lists.{by_lt, past_row}
+use Rattle.spec_simplex.proofs.Begun.{sign_square, twice}
 use Rattle.spec_factor.specs.Factors.{Pair, column_entry}
 use Rattle.spec_factor.specs.Basis.{forward, basis_of}
 use Rattle.spec_factor.specs.Revised.{sign_of, factor_column}

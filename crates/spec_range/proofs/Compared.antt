@@ -17,8 +17,8 @@ use Rattle.spec_simplex.specs.Form.{Form, form_of, formed}
 use Rattle.spec_simplex.specs.Start.{cost_at}
 use Rattle.spec_simplex.specs.Tableau.{Tableau}
 use Rattle.spec_simplex.specs.Eliminate.{IsBasisOf, start_from}
-use Rattle.spec_path.specs.Tables.{table_of}
-use Rattle.spec_path.proofs.Formed.{Limited, form_is}
+use Rattle.spec_simplex.specs.Tables.{table_of}
+use Rattle.spec_simplex.proofs.Formed.{Limited, form_is}
 use Rattle.spec_runs.specs.Cold.{point, multipliers}
 use Rattle.spec_pivot.specs.Dual.{Suits}
 use Rattle.spec_runs.specs.Based.{equations}

@@ -25,11 +25,11 @@ use Rattle.spec_simplex.specs.Tableau.{lower_at, upper_at, is_basic}
 use Rattle.spec_simplex.specs.Eliminate.{IsBasisOf, start_from}
 use Rattle.spec_simplex.specs.Dual.{place_of}
 use Rattle.spec_simplex.proofs.Statuses.{basic_if}
-use Rattle.spec_path.specs.Tables.{table_of}
-use Rattle.spec_path.proofs.Formed.{Limited, form_is}
-use Rattle.spec_path.proofs.Runs.{then_ok, refused_ok}
-use Rattle.spec_path.proofs.Orders.{given}
-use Rattle.spec_path.proofs.LimitStart.{form_without}
+use Rattle.spec_simplex.specs.Tables.{table_of}
+use Rattle.spec_simplex.proofs.Formed.{Limited, form_is}
+use Rattle.spec_simplex.proofs.Runs.{then_ok, refused_ok}
+use Rattle.spec_simplex.proofs.Orders.{given}
+use Rattle.spec_simplex.proofs.LimitStart.{form_without}
 use Rattle.spec_runs.specs.Cold.{point, multipliers}
 use Rattle.spec_runs.proofs.Chosen.{place_is}
 use Rattle.spec_runs.proofs.Counts.{basic_test}

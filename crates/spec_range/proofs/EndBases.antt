@@ -12,13 +12,13 @@ use Rattle.spec_simplex.specs.Start.{cost_at, start_at}
 use Rattle.spec_simplex.specs.Tableau.{Tableau, form_columns, value_at}
 use Rattle.spec_simplex.specs.Phases.{PrimalEnded, PhasesEnd, Finished, phases_run, phase_two_run, is_stuck}
 use Rattle.std.proofs.Common.{false}
-use Rattle.spec_path.specs.Begins.{form_rows, signs_of}
-use Rattle.spec_path.specs.Tables.{bounds_of}
-use Rattle.spec_path.proofs.Begun.{Started, sign_square}
-use Rattle.spec_path.proofs.Formed.{Limited, form_is}
-use Rattle.spec_path.proofs.Phases.{IsFirst, by_phases, second_bounds, second_fixed}
-use Rattle.spec_path.proofs.Walks.{IsEnd}
-use Rattle.spec_path.proofs.LimitStart.{form_without}
+use Rattle.spec_simplex.specs.Begins.{form_rows, signs_of}
+use Rattle.spec_simplex.specs.Tables.{bounds_of}
+use Rattle.spec_simplex.proofs.Begun.{Started, sign_square}
+use Rattle.spec_simplex.proofs.Formed.{Limited, form_is}
+use Rattle.spec_simplex.proofs.Phases.{IsFirst, by_phases, second_bounds, second_fixed}
+use Rattle.spec_simplex.proofs.Walks.{IsEnd}
+use Rattle.spec_simplex.proofs.LimitStart.{form_without}
 use Rattle.spec_runs.specs.Cold as cold
 use Rattle.spec_runs.proofs.EndOptimal.{zero_inside}
 use Rattle.spec_runs.proofs.Shown.{primal_shows}

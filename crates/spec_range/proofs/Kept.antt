@@ -3,8 +3,8 @@ use Rattle.std.proofs.Common.{◌≡◌, ◌↔◌, ℕ, Option, Some, None, IfS
 use Rattle.spec_exact.specs.Fraction.{ℚ, ◌≤ℚ◌}
 use Rattle.spec_exact.proofs.Order.{≤ℚ_refl, ≤ℚ_trans, <ℚ-le}
 use Rattle.spec_exact.specs.Run.{Run}
-use Rattle.spec_path.proofs.Runs.{then_ok}
-use Rattle.spec_path.proofs.Orders.{by_order, given}
+use Rattle.spec_simplex.proofs.Runs.{then_ok}
+use Rattle.spec_simplex.proofs.Orders.{by_order, given}
 use Rattle.spec_range.specs.declared.range.Ends.{Ends}
 use Rattle.spec_range.specs.Span.{IsIn}
 use Rattle.spec_range.specs.Rule.{greater_by, lesser_by, greater_run, lesser_run, at_least, at_most, at_side}

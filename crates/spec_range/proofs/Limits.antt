@@ -16,9 +16,9 @@ use Rattle.spec_simplex.specs.Tableau.{lower_at, upper_at, is_basic, is_fixed}
 use Rattle.spec_simplex.specs.Fit.{is_there}
 use Rattle.spec_simplex.specs.Dual.{place_of}
 use Rattle.spec_simplex.specs.Eliminate.{start_from}
-use Rattle.spec_path.proofs.Refusals.{Agrees, as_it_is, agrees_then, agrees_if, agrees_steps, agrees_as}
-use Rattle.spec_path.proofs.Refusals.{agrees_sum, agrees_difference, agrees_quotient, agrees_order}
-use Rattle.spec_path.proofs.LimitStart.{ok, also, form_without}
+use Rattle.spec_simplex.proofs.Refusals.{Agrees, as_it_is, agrees_then, agrees_if, agrees_steps, agrees_as}
+use Rattle.spec_simplex.proofs.Refusals.{agrees_sum, agrees_difference, agrees_quotient, agrees_order}
+use Rattle.spec_simplex.proofs.LimitStart.{ok, also, form_without}
 use Rattle.spec_runs.proofs.LimitSteps.{from_agrees}
 use Rattle.spec_range.specs.declared.range.Ends.{Ends}
 use Rattle.spec_range.specs.declared.range.Range.{Range}

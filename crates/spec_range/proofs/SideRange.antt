@@ -31,11 +31,11 @@ use Rattle.spec_simplex.specs.Eliminate.{IsBasisOf, start_from}
 use Rattle.spec_simplex.specs.Fit.{is_there}
 use Rattle.spec_simplex.specs.Dual.{place_of}
 use Rattle.spec_simplex.proofs.Statuses.{basic_if}
-use Rattle.spec_path.specs.Tables.{table_of}
-use Rattle.spec_path.proofs.Columns.{sum_by_kind}
-use Rattle.spec_path.proofs.Formed.{Limited, least_structural, cost_other}
-use Rattle.spec_path.proofs.Runs.{then_ok, refused_ok}
-use Rattle.spec_path.proofs.Orders.{given}
+use Rattle.spec_simplex.specs.Tables.{table_of}
+use Rattle.spec_simplex.proofs.Columns.{sum_by_kind}
+use Rattle.spec_simplex.proofs.Formed.{Limited, least_structural, cost_other}
+use Rattle.spec_simplex.proofs.Runs.{then_ok, refused_ok}
+use Rattle.spec_simplex.proofs.Orders.{given}
 use Rattle.spec_runs.specs.Cold.{point, multipliers}
 use Rattle.spec_runs.specs.Based.{equations}
 use Rattle.spec_runs.proofs.Chosen.{place_is}

@@ -14,11 +14,11 @@ use Rattle.spec_simplex.specs.Start.{cost_at, priced_run, with_reduced}
 use Rattle.spec_simplex.specs.Tableau.{Tableau}
 use Rattle.spec_simplex.specs.Eliminate.{IsBasisOf, basis_at, basis_status, basis_lower, basis_upper, with_basis}
 use Rattle.spec_simplex.specs.Eliminate.{eliminate_run, valued_run, with_values, filled_run, start_from}
-use Rattle.spec_path.specs.Tables.{table_of, bounds_of}
-use Rattle.spec_path.specs.Begins.{IsProper}
-use Rattle.spec_path.proofs.Formed.{HasBounds}
-use Rattle.spec_path.proofs.Lists.{by_lt}
-use Rattle.spec_path.proofs.Runs.{then_ok, refused_ok}
+use Rattle.spec_simplex.specs.Tables.{table_of, bounds_of}
+use Rattle.spec_simplex.specs.Begins.{IsProper}
+use Rattle.spec_simplex.proofs.Formed.{HasBounds}
+use Rattle.spec_simplex.proofs.Lists.{by_lt}
+use Rattle.spec_simplex.proofs.Runs.{then_ok, refused_ok}
 use Rattle.spec_pivot.specs.Dual.{IsOrdered}
 use Rattle.spec_runs.specs.Based.{equations, BeginsFrom}
 use Rattle.spec_runs.proofs.Started.{start_begins_from}

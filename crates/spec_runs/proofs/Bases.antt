@@ -19,13 +19,13 @@ use Rattle.spec_simplex.specs.Form.{Form, form_lower, form_upper}
 use Rattle.spec_exact.specs.Run.{made}
 use Rattle.spec_simplex.specs.Tableau.{Tableau, form_columns, basic_at, entry_at, value_at, status_at}
 use Rattle.spec_exact.proofs.Stops.{length-made}
-use Rattle.spec_path.specs.Begins.{form_rows}
+use Rattle.spec_simplex.specs.Begins.{form_rows}
 use Rattle.spec_simplex.specs.Tableau.{is_basic}
 use Rattle.spec_runs.specs.Cold as cold
-use Rattle.spec_path.specs.Tables.{table_of}
-use Rattle.spec_path.proofs.Formed.{HasBounds}
-use Rattle.spec_path.proofs.Equations.{row_logical, row_artificial}
-use Rattle.spec_path.proofs.Runs.{get_or-made}
+use Rattle.spec_simplex.specs.Tables.{table_of}
+use Rattle.spec_simplex.proofs.Formed.{HasBounds}
+use Rattle.spec_simplex.proofs.Equations.{row_logical, row_artificial}
+use Rattle.spec_simplex.proofs.Runs.{get_or-made}
 use Rattle.spec_simplex.specs.Eliminate.{basis_at, basics_below, CanStand, IsBasisOf}
 use Rattle.spec_simplex.proofs.Statuses.{basic_if}
 use Rattle.spec_runs.proofs.Counts.{basic_test, nonbasic_test}

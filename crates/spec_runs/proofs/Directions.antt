@@ -10,10 +10,10 @@ use Rattle.spec_pivot.proofs.Kept.{j_outside}
 use Rattle.spec_pivot.proofs.Ray.{ray_at, ray_basic, ray_still}
 use Rattle.spec_simplex.specs.Tableau.{Tableau, basic_at, entry_at}
 use Rattle.spec_simplex.specs.Step.{directed}
-use Rattle.spec_path.specs.Tables.{way, table_of}
+use Rattle.spec_simplex.specs.Tables.{way, table_of}
 use Rattle.spec_runs.specs.Cold.{moves_below}
-use Rattle.spec_path.proofs.Moved.{at_position}
-use Rattle.spec_path.proofs.Flips.{directed_is}
+use Rattle.spec_simplex.proofs.Moved.{at_position}
+use Rattle.spec_simplex.proofs.Flips.{directed_is}
 
 moves_none : (t : Tableau) (j : ℕ) (up : Bool) (k m : ℕ) → ((r : ℕ) → r < m → basic_at t r ≢ k) →
     moves_below t j up k m ≡ cond (nat_eq k j) (directed up 1ℚ) 0ℚ

@@ -16,11 +16,11 @@ use Rattle.spec_pivot.specs.Simplex.{Bounds, Table, IsWithin, IsEligible, IsTabl
 use Rattle.spec_simplex.specs.declared.ends.RowStart.{RowStart}
 use Rattle.spec_simplex.specs.Form.{formed}
 use Rattle.spec_simplex.specs.Start.{start_at, cost_at, first_costs, artificial_upper}
-use Rattle.spec_path.specs.Begins.{form_rows, signs_of}
-use Rattle.spec_path.proofs.Formed.{Limited}
-use Rattle.spec_path.proofs.Formed.{HasBounds}
+use Rattle.spec_simplex.specs.Begins.{form_rows, signs_of}
+use Rattle.spec_simplex.proofs.Formed.{Limited}
+use Rattle.spec_simplex.proofs.Formed.{HasBounds}
 use Rattle.spec_runs.proofs.EndTight.{tight_structural, tight_logical, weight_at, column_at}
-use Rattle.spec_path.proofs.FirstPhase.{cost_before, balance_positive}
+use Rattle.spec_simplex.proofs.FirstPhase.{cost_before, balance_positive}
 
 -- ---- multipliers and the limits at which values stand
 tight_turned : (l : Limits) (d p v : ℚ) → d ≡ neg_ℚ p → IsTight l d v → IsTight (turned_limits l) p v

@@ -11,10 +11,10 @@ use Rattle.spec_pivot.specs.declared.status.Way.{Way}
 use Rattle.spec_pivot.specs.Simplex.{Bounds, Table, IsInside, IsWithin, IsEligible, IsTableau}
 use Rattle.spec_simplex.specs.Form.{formed}
 use Rattle.spec_simplex.specs.Start.{cost_at}
-use Rattle.spec_path.specs.Begins.{form_rows}
-use Rattle.spec_path.proofs.Formed.{Limited, cost_other}
+use Rattle.spec_simplex.specs.Begins.{form_rows}
+use Rattle.spec_simplex.proofs.Formed.{Limited, cost_other}
 use Rattle.spec_runs.proofs.Formed.{cost_structural}
-use Rattle.spec_path.proofs.Formed.{HasBounds}
+use Rattle.spec_simplex.proofs.Formed.{HasBounds}
 use Rattle.spec_runs.proofs.EndTight.{within_structural, within_logical, tight_structural}
 use Rattle.spec_runs.proofs.EndTight.{tight_logical, weight_at, column_at, logical_is_row}
 

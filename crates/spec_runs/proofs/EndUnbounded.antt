@@ -16,14 +16,14 @@ use Rattle.spec_pivot.proofs.Kept.{j_outside}
 use Rattle.spec_pivot.proofs.Ray.{form_ray}
 use Rattle.spec_simplex.specs.Form.{formed}
 use Rattle.spec_simplex.specs.Start.{cost_at}
-use Rattle.spec_path.specs.Begins.{form_rows}
-use Rattle.spec_path.proofs.Columns.{sum_by_kind}
-use Rattle.spec_path.proofs.Formed.{Limited, cost_other}
+use Rattle.spec_simplex.specs.Begins.{form_rows}
+use Rattle.spec_simplex.proofs.Columns.{sum_by_kind}
+use Rattle.spec_simplex.proofs.Formed.{Limited, cost_other}
 use Rattle.spec_runs.proofs.Formed.{cost_structural}
-use Rattle.spec_path.proofs.Formed.{HasBounds}
+use Rattle.spec_simplex.proofs.Formed.{HasBounds}
 use Rattle.spec_runs.proofs.EndTight.{bounds_structural, bounds_logical, limits_at, logical_is_row}
 use Rattle.spec_runs.proofs.EndOptimal.{point_feasible}
-use Rattle.spec_path.proofs.Rays.{allowed, falls}
+use Rattle.spec_simplex.proofs.Rays.{allowed, falls}
 
 zero_allowed : (l u : Option ℚ) (r : ℚ) → l ≡ Some 0ℚ → u ≡ Some 0ℚ → Allows (record { lower = l; upper = u }) r →
     r ≡ 0ℚ

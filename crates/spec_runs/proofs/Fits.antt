@@ -11,9 +11,9 @@ use Rattle.spec_pivot.proofs.Pivot.{by_eq}
 use Rattle.spec_exact.specs.Run.{Run}
 use Rattle.spec_simplex.specs.Tableau.{Tableau, all_columns, value_at, status_at, lower_at, upper_at}
 use Rattle.spec_simplex.specs.Tableau.{is_basic}
-use Rattle.spec_path.specs.Tables.{way}
-use Rattle.spec_path.proofs.Orders.{by_order, given}
-use Rattle.spec_path.proofs.Runs.{then_ok, steps_ok}
+use Rattle.spec_simplex.specs.Tables.{way}
+use Rattle.spec_simplex.proofs.Orders.{by_order, given}
+use Rattle.spec_simplex.proofs.Runs.{then_ok, steps_ok}
 use Rattle.spec_pivot.specs.Dual.{Suits, IsPast}
 use Rattle.spec_simplex.specs.declared.ends.Fit.{Fit}
 use Rattle.spec_simplex.specs.declared.ends.Fit.TheVariants.{Primal, Dual, Unfit}

@@ -5,7 +5,7 @@ use Rattle.spec_pivot.specs.declared.status.Status.TheVariants.{Basic}
 use Rattle.spec_pivot.specs.Tableau.{Matrix}
 use Rattle.spec_pivot.specs.Simplex.{Bounds, IsInside}
 use Rattle.spec_simplex.specs.Tableau.{Tableau, status_at, value_at}
-use Rattle.spec_path.specs.Tables.{table_of, IsTableauOf, IsWithinBounds}
+use Rattle.spec_simplex.specs.Tables.{table_of, IsTableauOf, IsWithinBounds}
 use Rattle.spec_pivot.specs.Dual.{IsOrdered}
 use Rattle.spec_pivot.proofs.Optimal.{within_where_basic}
 use Rattle.spec_simplex.specs.declared.ends.Fit.TheVariants.{Primal, Dual}

@@ -20,11 +20,11 @@ use Rattle.spec_exact.specs.Run.{refused_as, difference_run, steps}
 use Rattle.spec_simplex.specs.Step.{directed, other_bound, moved_run, flip_way, flipped, flip_run}
 use Rattle.spec_simplex.specs.Tableau.{Tableau, all_columns, value_at, reduced_at}
 use Rattle.spec_simplex.specs.Tableau.{status_at, lower_at, upper_at, or_zero, is_fixed}
-use Rattle.spec_path.specs.Tables.{way, table_of}
-use Rattle.spec_path.proofs.Runs.{then_ok, refused_ok, steps_ok}
-use Rattle.spec_path.proofs.Pivots.{Leaves}
-use Rattle.spec_path.proofs.Flips.{flip_leaves}
-use Rattle.spec_path.proofs.Steps.{ahead_is}
+use Rattle.spec_simplex.specs.Tables.{way, table_of}
+use Rattle.spec_simplex.proofs.Runs.{then_ok, refused_ok, steps_ok}
+use Rattle.spec_simplex.proofs.Pivots.{Leaves}
+use Rattle.spec_simplex.proofs.Flips.{flip_leaves}
+use Rattle.spec_simplex.proofs.Steps.{ahead_is}
 use Rattle.spec_pivot.specs.Dual.{Suits}
 use Rattle.spec_runs.specs.Based.{IsBased, IsReady}
 use Rattle.spec_simplex.specs.Dual.{Reached, one_more, flip_by, flip_next, flips_run}

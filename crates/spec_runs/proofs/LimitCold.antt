@@ -17,9 +17,9 @@ use Rattle.spec_check.specs.declared.solve_end.SolveEnd.TheVariants as outcome
 use Rattle.spec_runs.specs.Cold.{ExactSolveEnd, certificate_of, basis_of, pivots_of}
 use Rattle.spec_runs.specs.Cold.{checked, answered, after_phases, after_form, cold}
 use Rattle.spec_runs.specs.Accepted.{IsAccepted, IsAnswered}
-use Rattle.spec_path.proofs.LimitStart.{form_agrees}
+use Rattle.spec_simplex.proofs.LimitStart.{form_agrees}
 use Rattle.spec_runs.proofs.ColdSolves.{same_or_refused, end_accepted, clash_accepted, enough, ended_is_true}
-use Rattle.spec_path.proofs.LimitPhases.{phases_agree}
+use Rattle.spec_simplex.proofs.LimitPhases.{phases_agree}
 
 module _ (limit : Option ℕ) (budget : ℕ) (m : Model) where
   abbrev Same : ExactSolveEnd → ExactSolveEnd → Type 0

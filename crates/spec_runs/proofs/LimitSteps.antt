@@ -8,10 +8,10 @@ use Rattle.spec_simplex.specs.declared.ends.RunStop.TheVariants as stop
 use Rattle.spec_simplex.specs.Form.{Form}
 use Rattle.spec_simplex.specs.Tableau.{Tableau, all_columns, basic_at, entry_at, value_at}
 use Rattle.spec_simplex.specs.Tableau.{reduced_at, status_at, lower_at, upper_at, stand, is_basic}
-use Rattle.spec_path.proofs.Refusals.{Agrees, as_it_is, agrees_ok, agrees_err, agrees_then, agrees_if, agrees_steps}
-use Rattle.spec_path.proofs.Refusals.{agrees_as, agrees_difference, agrees_quotient, agrees_order, agrees_less}
-use Rattle.spec_path.proofs.LimitStart.{priced_agrees, flip_agrees, pivot_agrees, turned_agrees, ok, also}
-use Rattle.spec_path.proofs.LimitPhases.{spent_agrees}
+use Rattle.spec_simplex.proofs.Refusals.{Agrees, as_it_is, agrees_ok, agrees_err, agrees_then, agrees_if, agrees_steps}
+use Rattle.spec_simplex.proofs.Refusals.{agrees_as, agrees_difference, agrees_quotient, agrees_order, agrees_less}
+use Rattle.spec_simplex.proofs.LimitStart.{priced_agrees, flip_agrees, pivot_agrees, turned_agrees, ok, also}
+use Rattle.spec_simplex.proofs.LimitPhases.{spent_agrees}
 use Rattle.spec_simplex.specs.declared.ends.StartStop.{StartStop}
 use Rattle.spec_simplex.specs.declared.ends.StartStop.TheVariants as start
 use Rattle.spec_simplex.specs.declared.ends.Cheapest.{Cheapest}

@@ -15,9 +15,9 @@ use Rattle.spec_simplex.specs.declared.ends.RunStop.TheVariants as stop
 use Rattle.spec_simplex.specs.Form.{Form, form_of}
 use Rattle.spec_simplex.specs.Tableau.{Tableau}
 use Rattle.spec_runs.specs.Accepted.{IsAccepted}
-use Rattle.spec_path.proofs.Refusals.{Agrees, agrees_ok, agrees_err, agrees_then, agrees_as}
-use Rattle.spec_path.proofs.LimitStart.{form_agrees}
-use Rattle.spec_path.proofs.LimitPhases.{run_agrees}
+use Rattle.spec_simplex.proofs.Refusals.{Agrees, agrees_ok, agrees_err, agrees_then, agrees_as}
+use Rattle.spec_simplex.proofs.LimitStart.{form_agrees}
+use Rattle.spec_simplex.proofs.LimitPhases.{run_agrees}
 use Rattle.spec_runs.proofs.ColdSolves.{same_or_refused, clash_accepted}
 use Rattle.spec_simplex.specs.declared.ends.Fit.{Fit}
 use Rattle.spec_simplex.specs.declared.ends.Fit.TheVariants as fit

@@ -10,18 +10,18 @@ use Rattle.spec_simplex.specs.Start.{cost_at, first_costs}
 use Rattle.spec_simplex.specs.Tableau.{Tableau, form_columns, is_artificial, basic_at, value_at}
 use Rattle.spec_simplex.specs.Phases.{PrimalEnded, is_stuck}
 use Rattle.spec_simplex.specs.Phases.{phase_two_run, PhasesEnd, phases_run}
-use Rattle.spec_path.specs.Tables.{table_of, bounds_of}
-use Rattle.spec_path.specs.Begins.{form_rows, signs_of}
+use Rattle.spec_simplex.specs.Tables.{table_of, bounds_of}
+use Rattle.spec_simplex.specs.Begins.{form_rows, signs_of}
 use Rattle.spec_runs.specs.Cold.{multipliers, certificate_at, certificate_of}
-use Rattle.spec_path.proofs.Walks.{IsEnd}
-use Rattle.spec_path.proofs.Begun.{Started}
-use Rattle.spec_path.proofs.PhaseTwo.{some_of}
-use Rattle.spec_path.proofs.Formed.{Limited}
+use Rattle.spec_simplex.proofs.Walks.{IsEnd}
+use Rattle.spec_simplex.proofs.Begun.{Started}
+use Rattle.spec_simplex.proofs.PhaseTwo.{some_of}
+use Rattle.spec_simplex.proofs.Formed.{Limited}
 use Rattle.spec_runs.proofs.EndInfeasible.{infeasible_checks}
 use Rattle.spec_runs.proofs.Shown.{Shows, multipliers_length, multiplier_at, primal_shows}
 use Rattle.spec_check.specs.declared.certificate.Certificate.TheVariants as certificate
-use Rattle.spec_path.proofs.Phases.{IsFirst, first_bounds, wanted_where_stuck, second_bounds, second_fixed}
-use Rattle.spec_path.proofs.Phases.{by_phases}
+use Rattle.spec_simplex.proofs.Phases.{IsFirst, first_bounds, wanted_where_stuck, second_bounds, second_fixed}
+use Rattle.spec_simplex.proofs.Phases.{by_phases}
 
 module _ (limit : Option ℕ) (m : Model) (ls : List (Option ℚ × Option ℚ)) (h : Limited m ls) where
   abbrev f : Form

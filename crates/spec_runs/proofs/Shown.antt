@@ -14,12 +14,12 @@ use Rattle.spec_simplex.specs.Start.{cost_at}
 use Rattle.spec_simplex.specs.Tableau.{Tableau, value_at, reduced_at}
 use Rattle.spec_simplex.specs.Phases.{PrimalEnded}
 use Rattle.spec_exact.proofs.Stops.{length-made}
-use Rattle.spec_path.specs.Tables.{way, table_of, IsTableauOf, IsWithinBounds, IsMeant}
-use Rattle.spec_path.specs.Begins.{form_rows}
+use Rattle.spec_simplex.specs.Tables.{way, table_of, IsTableauOf, IsWithinBounds, IsMeant}
+use Rattle.spec_simplex.specs.Begins.{form_rows}
 use Rattle.spec_runs.specs.Cold.{point, multipliers, moves_by, moves_below, direction, certificate_at}
-use Rattle.spec_path.proofs.Runs.{get_or-made}
-use Rattle.spec_path.proofs.Formed.{Limited}
-use Rattle.spec_path.proofs.Formed.{HasBounds}
+use Rattle.spec_simplex.proofs.Runs.{get_or-made}
+use Rattle.spec_simplex.proofs.Formed.{Limited}
+use Rattle.spec_simplex.proofs.Formed.{HasBounds}
 use Rattle.spec_runs.proofs.EndOptimal.{optimal_checks}
 use Rattle.spec_runs.proofs.EndUnbounded.{unbounded_checks}
 use Rattle.spec_runs.proofs.Directions.{moves_are}

@@ -15,11 +15,11 @@ use Rattle.spec_simplex.specs.Start.{cost_at, priced_run, with_reduced}
 use Rattle.spec_simplex.specs.Tableau.{Tableau, basic_at, entry_at, value_at}
 use Rattle.spec_simplex.specs.Tableau.{status_at, lower_at, upper_at, or_zero, stand}
 use Rattle.spec_exact.proofs.Stops.{length-made}
-use Rattle.spec_path.specs.Tables.{bounds_of, IsWhole, KeepsBounds}
-use Rattle.spec_path.specs.Begins.{IsProper}
-use Rattle.spec_path.proofs.Runs.{then_ok, refused_ok, get_or-made}
-use Rattle.spec_path.proofs.Lists.{by_lt, past_row}
-use Rattle.spec_path.proofs.Priced.{priced_length, priced_agrees}
+use Rattle.spec_simplex.specs.Tables.{bounds_of, IsWhole, KeepsBounds}
+use Rattle.spec_simplex.specs.Begins.{IsProper}
+use Rattle.spec_simplex.proofs.Runs.{then_ok, refused_ok, get_or-made}
+use Rattle.spec_simplex.proofs.Lists.{by_lt, past_row}
+use Rattle.spec_simplex.proofs.Priced.{priced_length, priced_agrees}
 use Rattle.spec_simplex.specs.declared.ends.StartStop.TheVariants as stop
 use Rattle.spec_runs.specs.Based.{equations, IsBased, BeginsFrom}
 use Rattle.spec_simplex.specs.Eliminate.{basis_at, CanStand, IsBasisOf, Elimination, eliminate_run, or_first}

@@ -17,14 +17,14 @@ use Rattle.spec_simplex.specs.Tableau.{Tableau}
 use Rattle.spec_simplex.specs.Start.{cost_at, first_costs, start_of}
 use Rattle.spec_simplex.specs.Phases.{PrimalEnded, done_run, run_from}
 use Rattle.spec_simplex.specs.Phases.{wants_phase_one, phase_one}
-use Rattle.spec_path.specs.Tables.{table_of, bounds_of, IsTableauOf, IsWithinBounds, StepsTo, IsMeant}
-use Rattle.spec_path.specs.Begins.{form_rows, signs_of}
-use Rattle.spec_path.proofs.Steps.{choice_is_meant}
-use Rattle.spec_path.proofs.Walks.{run_ends, before}
-use Rattle.spec_path.proofs.Begun.{Started, start_is_tableau}
-use Rattle.spec_path.proofs.PhaseTwo.{IsSecond, second_phase}
-use Rattle.spec_path.proofs.Formed.{cost_length, form_is, form_proper}
-use Rattle.spec_path.proofs.Phases.{some_label}
+use Rattle.spec_simplex.specs.Tables.{table_of, bounds_of, IsTableauOf, IsWithinBounds, StepsTo, IsMeant}
+use Rattle.spec_simplex.specs.Begins.{form_rows, signs_of}
+use Rattle.spec_simplex.proofs.Steps.{choice_is_meant}
+use Rattle.spec_simplex.proofs.Walks.{run_ends, before}
+use Rattle.spec_simplex.proofs.Begun.{Started, start_is_tableau}
+use Rattle.spec_simplex.proofs.PhaseTwo.{IsSecond, second_phase}
+use Rattle.spec_simplex.proofs.Formed.{cost_length, form_is, form_proper}
+use Rattle.spec_simplex.proofs.Phases.{some_label}
 use Rattle.spec_runs.specs.Steps.{IsChange, IsNext, IsAfter, BeginsPhaseTwo}
 
 -- ---- one tableau, one next

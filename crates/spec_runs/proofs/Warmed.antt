@@ -20,16 +20,16 @@ use Rattle.spec_simplex.specs.Tableau.{Tableau, form_columns, all_columns, entry
 use Rattle.spec_simplex.specs.Tableau.{value_at, status_at, lower_at, upper_at}
 use Rattle.spec_simplex.specs.Phases.{PrimalEnded, run_from}
 use Rattle.spec_exact.proofs.Stops.{length-made}
-use Rattle.spec_path.specs.Tables.{way, table_of, bounds_of, IsWithinBounds}
+use Rattle.spec_simplex.specs.Tables.{way, table_of, bounds_of, IsWithinBounds}
 use Rattle.spec_runs.specs.Cold as cold
-use Rattle.spec_path.proofs.Runs.{then_ok, refused_ok, get_or-made}
-use Rattle.spec_path.proofs.Lists.{by_lt}
-use Rattle.spec_path.proofs.Flips.{directed_is}
-use Rattle.spec_path.proofs.Formed.{Limited, cost_length, formed_proper}
-use Rattle.spec_path.proofs.Formed.{HasBounds}
+use Rattle.spec_simplex.proofs.Runs.{then_ok, refused_ok, get_or-made}
+use Rattle.spec_simplex.proofs.Lists.{by_lt}
+use Rattle.spec_simplex.proofs.Flips.{directed_is}
+use Rattle.spec_simplex.proofs.Formed.{Limited, cost_length, formed_proper}
+use Rattle.spec_simplex.proofs.Formed.{HasBounds}
 use Rattle.spec_runs.proofs.Shown.{Shows, primal_shows}
-use Rattle.spec_path.proofs.Walks.{run_ends}
-use Rattle.spec_path.proofs.Phases.{some_label}
+use Rattle.spec_simplex.proofs.Walks.{run_ends}
+use Rattle.spec_simplex.proofs.Phases.{some_label}
 use Rattle.spec_pivot.specs.Dual.{IsOrdered, row_of}
 use Rattle.spec_pivot.proofs.Optimal.{none_eligible, within_where_basic}
 use Rattle.spec_pivot.proofs.Refuted.{stops, row_refutes}

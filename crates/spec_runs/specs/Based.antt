@@ -10,8 +10,8 @@ use Rattle.spec_pivot.specs.Simplex.{Bounds, IsInside}
 use Rattle.spec_simplex.specs.Form.{Form, form_lower, form_upper}
 use Rattle.spec_simplex.specs.Start.{cost_at}
 use Rattle.spec_simplex.specs.Tableau.{Tableau, value_at, status_at, lower_at, upper_at}
-use Rattle.spec_path.specs.Tables.{way, table_of, bounds_of, IsTableauOf}
-use Rattle.spec_path.specs.Begins.{form_rows}
+use Rattle.spec_simplex.specs.Tables.{way, table_of, bounds_of, IsTableauOf}
+use Rattle.spec_simplex.specs.Begins.{form_rows}
 use Rattle.spec_pivot.specs.Dual.{IsDualFeasible, Leaves, IsCandidate, IsCheapest}
 use Rattle.spec_simplex.specs.declared.ends.DualEnd.TheVariants.{Optimal, Infeasible}
 use Rattle.spec_simplex.specs.declared.ends.DualChoice.{DualChoice}

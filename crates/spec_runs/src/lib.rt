@@ -13,7 +13,7 @@
 //! The functions here have the laws as their contracts. Each law holds at every limit: a run at a limit that gives a
 //! result gives the exact one.
 //!
-//! The run on lists is that of `spec_simplex`, what its steps mean is said in `spec_path`, and the certificates and
+//! The run on lists is that of `spec_simplex`, what its steps mean is said in `spec_simplex`, and the certificates and
 //! their checker are those of `spec_check`.
 #![tactic(auto)]
 

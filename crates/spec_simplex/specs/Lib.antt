@@ -6,3 +6,5 @@ pub mod Tableau
 pub mod Eliminate
 pub mod Fit
 pub mod Dual
+pub mod Begins
+pub mod Tables

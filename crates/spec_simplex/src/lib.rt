@@ -12,6 +12,7 @@
 //! | `leaving_run`, `fit_run` | the method that a tableau is fit for | specs/Fit |
 //! | `flips_run`, `dual_choice_run` | what comes before the dual method, and one of its steps | specs/Dual |
 //! | `dual_pivot_run`, `dual_from`, `dual_run` | dual steps up to an end; the flips and then the steps | specs/Dual |
+//! | `IsTableauOf`, `IsMeant`, `Begins` | what the steps mean, as steps over functions of an index, with laws | src/path, specs/Tables, specs/Begins |
 //!
 //! All of them take a limit: `Some m` refuses numbers past m, `None` refuses nothing.
 //!
@@ -20,8 +21,10 @@
 #![tactic(auto)]
 
 mod ends;
+mod path;
 
 pub use ends::{
     Best, Cheapest, Choice, DualChoice, DualEnd, Entering, Fit, FormFault, Leaving, PrimalEnd,
     RowStart, RunStop, StartStop, WarmStop,
 };
+pub use path::{phase_two_goes_on, starts_are_tableaus, steps_mean_pivots};

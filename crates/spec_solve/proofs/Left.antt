@@ -16,7 +16,7 @@ use Rattle.spec_simplex.specs.Form.{Form, form_of}
 use Rattle.spec_simplex.specs.Eliminate.{IsBasisOf}
 use Rattle.spec_simplex.specs.Phases.{PhasesEnd, phases_run}
 use Rattle.spec_check.specs.declared.solve_end.SolveEnd.TheVariants.{Ended}
-use Rattle.spec_path.proofs.LimitStart.{form_without}
+use Rattle.spec_simplex.proofs.LimitStart.{form_without}
 use Rattle.spec_runs.specs.Cold.{ExactSolveEnd, certificate_of, basis_of, pivots_of, checked, after_phases, after_form}
 use Rattle.spec_runs.specs.Cold.{cold}
 use Rattle.spec_runs.specs.declared.ends.Warm.TheVariants as outcome

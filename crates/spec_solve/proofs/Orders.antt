@@ -17,7 +17,7 @@ use Rattle.spec_simplex.specs.declared.ends.RunStop.TheVariants as stop
 use Rattle.spec_simplex.specs.Form.{Form, form_of}
 use Rattle.spec_simplex.specs.Phases.{PhasesEnd, phases_run}
 use Rattle.spec_check.specs.declared.solve_end.SolveEnd.TheVariants.{Ended, Past, Spent}
-use Rattle.spec_path.proofs.LimitStart.{form_without}
+use Rattle.spec_simplex.proofs.LimitStart.{form_without}
 use Rattle.spec_runs.specs.Cold.{ExactSolveEnd, certificate_of, basis_of, pivots_of}
 use Rattle.spec_runs.specs.Cold.{checked, answered, after_phases, after_form, cold}
 use Rattle.spec_runs.proofs.ColdSolves as colds

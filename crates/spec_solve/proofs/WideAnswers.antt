@@ -14,7 +14,7 @@ use Rattle.spec_check.proofs.Sound.{checks_hold}
 use Rattle.spec_pivot.specs.declared.status.Status.{Status}
 use Rattle.spec_simplex.specs.Form.{Form, form_of}
 use Rattle.spec_simplex.specs.Eliminate.{IsBasisOf}
-use Rattle.spec_path.proofs.LimitStart.{form_without}
+use Rattle.spec_simplex.proofs.LimitStart.{form_without}
 use Rattle.spec_runs.proofs.ColdSolves.{ended_is_true}
 use Rattle.spec_runs.specs.declared.ends.Route.{Route}
 use Rattle.spec_runs.specs.declared.ends.Route.TheVariants as found

@@ -1,6 +1,0 @@
-use Rattle.spec_path.proofs.Begun.{start_begins}
-use Rattle.spec_path.proofs.Formed.{form_proper}
-use Rattle.spec_path.proofs.starts_are_tableaus.Goals as goal
-
-pub returns : goal.returns
-returns c = record { forms = form_proper; starts = start_begins }

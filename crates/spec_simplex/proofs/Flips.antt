@@ -1,0 +1,130 @@
+-- A flip of the run is a flip of the table.
+use Rattle.std.proofs.Common.{◌≡◌, ◌≢◌, ℕ, ◌<◌, List, length, Option, None, Ok, Bool, true}
+use Rattle.std.proofs.Common.{false, refl, sym, ap, ap₂, ◌∙◌, subst, arith, eq-eqb, ne_eqb}
+use Rattle.std.proofs.lemmas.List.{length-set, get_or-set_same, get_or-set_other}
+use Rattle.spec_exact.specs.Fraction.{ℚ, 0ℚ, 1ℚ, ◌-ℚ◌, ◌*ℚ◌, neg_ℚ}
+use Rattle.spec_exact.proofs.Ruleset.{ring}
+use Rattle.spec_pivot.specs.declared.status.Status.{Status}
+use Rattle.spec_pivot.specs.declared.status.Status.TheVariants.{Basic}
+use Rattle.spec_pivot.specs.Tableau.{Matrix}
+use Rattle.spec_pivot.specs.Simplex.{Bounds, IsTableau, sign, moved, status_set, after_flip, Crosses}
+use Rattle.spec_pivot.proofs.Pivot.{by_eq}
+use Rattle.spec_pivot.proofs.Kept.{outside}
+use Rattle.spec_exact.specs.Run.{Run, ◌>>=◌, difference_run}
+use Rattle.spec_simplex.specs.Tableau.{Tableau, form_columns, all_columns, value_at}
+use Rattle.spec_simplex.specs.Tableau.{status_at, lower_at, upper_at, or_zero, stand}
+use Rattle.spec_simplex.specs.Step.{directed, other_bound, moved_run, flip_way, flipped, flip_run}
+use Rattle.spec_simplex.specs.Tables.{way, table_of, IsWhole, KeepsBounds}
+use Rattle.spec_simplex.proofs.Runs.{then_ok, difference_ok}
+use Rattle.spec_simplex.proofs.Lists.{set_reads}
+use Rattle.spec_simplex.proofs.Moved.{moved_length, moved_ray}
+use Rattle.spec_simplex.proofs.Tables.{same_table, stand_is}
+use Rattle.spec_simplex.proofs.Pivots.{Leaves, enters_before}
+
+pub directed_is : (up : Bool) (v : ℚ) → directed up v ≡ sign (way up) *ℚ v
+directed_is true v = up v
+  where
+    up : (v : ℚ) → v ≡ 1ℚ *ℚ v
+    up v = simp ring
+directed_is false v = down v
+  where
+    down : (v : ℚ) → neg_ℚ v ≡ neg_ℚ 1ℚ *ℚ v
+    down v = simp ring
+
+module _ (limit : Option ℕ) (t : Tableau) (w : IsWhole t) (f : Matrix) (cost : ℕ → ℚ) (b : Bounds)
+    (g : IsTableau t.rows (all_columns t) f cost b (table_of t)) (keeps : KeepsBounds b t)
+    (up : Bool) (j : ℕ) (ratio : ℚ)
+    (v : Crosses t.rows (all_columns t) b (table_of t) (way up) j ratio (other_bound up))
+    (open_ : b.barred j ≡ false) where
+  abbrev to : Status
+  to = other_bound up
+
+  j_in : j < all_columns t
+  j_in = v.in_range
+
+  j_before : j < form_columns t
+  j_before = enters_before b t j keeps open_
+
+  module _ (theta : ℚ) (same : theta ≡ sign (way up) *ℚ ratio) (values : List ℚ)
+      (values_ok : moved_run limit t j theta None ≡ Ok values) where
+    abbrev u : Tableau
+    u = flipped t j to values
+
+    values_length : length values ≡ all_columns t
+    values_length = moved_length limit t w f cost b g j theta None values values_ok
+
+    u_whole : IsWhole u
+    u_whole = record {
+      all_rows = w.all_rows;
+      whole_rows = w.whole_rows;
+      all_basic = w.all_basic;
+      all_values = length-set values j (stand to (lower_at t j) (upper_at t j)) ∙ values_length;
+      all_reduced = w.all_reduced;
+      all_statuses = length-set t.status j to ∙ w.all_statuses;
+      all_lower = w.all_lower;
+      all_upper = w.all_upper;
+    }
+
+    value_is : (k : ℕ) → value_at u k ≡ moved t.rows (table_of t) (way up) j ratio k
+    value_is k =
+        by_eq k j
+        (λ e. subst (λ k. value_at u k ≡ moved t.rows (table_of t) (way up) j ratio k) (sym e)
+        (get_or-set_same values j (stand to (lower_at t j) (upper_at t j)) 0ℚ (omega (arith, values_length, j_in))
+        ∙ ap₂ (stand to) (keeps.lower j j_in) (keeps.upper j j_before)
+        ∙ stand_is to (b.lower j) (b.upper j) (moved t.rows (table_of t) (way up) j ratio j) v.to_nonbasic v.lands))
+        (λ o. get_or-set_other values j k (stand to (lower_at t j) (upper_at t j)) 0ℚ o
+        ∙ moved_ray limit t w f cost b g j theta None values values_ok (way up) (outside t.rows
+        (all_columns t) f cost b (table_of t) g j v.nonbasic) ratio same k o (λ r l s. let z : false ≡ true = s in cc))
+
+    status_is : (k : ℕ) → status_at u k ≡ status_set (status_at t) j to k
+    status_is k = set_reads t.status j to Basic (omega (arith, w.all_statuses, j_in)) k
+
+    table_is : table_of u ≡ after_flip t.rows (table_of t) (way up) j ratio to
+    table_is =
+        same_table (table_of u) (after_flip t.rows (table_of t) (way up) j ratio to)
+        (λ i k. refl) (λ i. refl) value_is (λ k. refl) status_is
+
+    status_other : (k : ℕ) → k ≢ j → status_at u k ≡ status_at t k
+    status_other k d = status_is k ∙ rw (ne_eqb k j d) refl
+
+    status_own : (k : ℕ) → k ≡ j → status_at u k ≡ to
+    status_own k e = status_is k ∙ rw (eq-eqb k j e) refl
+
+    u_bounds : KeepsBounds b u
+    u_bounds = record {
+      lower = keeps.lower;
+      upper = keeps.upper;
+      entering = keeps.entering;
+      barred = keeps.barred;
+      zero = keeps.zero;
+      top = keeps.top;
+      basic = λ k l s. by_eq k j
+          (λ e. absurd (v.to_nonbasic (sym (status_own k e) ∙ s)))
+          (λ d. keeps.basic k l (sym (status_other k d) ∙ s));
+      fixed = λ k h l s. by_eq k j
+          (λ e. absurd (let z : ⊥ = omega (arith, e, h, j_before) in z))
+          (λ d. keeps.fixed k h l (λ y. s (status_other k d ∙ y)));
+    }
+
+    leaves : Leaves b t u (after_flip t.rows (table_of t) (way up) j ratio to)
+    leaves = record { rows = refl; cols = refl; whole = u_whole; table = table_is; bounds = u_bounds }
+
+  flip_by : Bool → Run Tableau
+  flip_by c =
+      difference_run limit (or_zero (upper_at t j)) (or_zero (lower_at t j)) >>= λ range.
+      moved_run limit t j (directed c range) None >>= λ values. Ok (flipped t j (other_bound c) values)
+
+  pub flip_leaves : (u : Tableau) → flip_way (status_at t j) ≡ up →
+      ratio ≡ or_zero (upper_at t j) -ℚ or_zero (lower_at t j) → flip_run limit t j ≡ Ok u
+      → Leaves b t u (after_flip t.rows (table_of t) (way up) j ratio to)
+  unfolding flip_run flip_by
+  flip_leaves u e length h =
+      let h' : flip_by up ≡ Ok u = ap flip_by (sym e) ∙ h in
+      let a = then_ok (difference_run limit (or_zero (upper_at t j)) (or_zero (lower_at t j))) _ u h' in
+      let c = then_ok (moved_run limit t j (directed up a.0) None) _ u a.2 in
+      let z : flipped t j (other_bound up) c.0 ≡ u = cc in
+      let same : directed up a.0 ≡ sign (way up) *ℚ ratio =
+      ap (directed up) (difference_ok limit (or_zero (upper_at t j)) (or_zero (lower_at t j)) a.0 a.1 ∙ sym length)
+      ∙ directed_is up ratio in
+      subst (λ u. Leaves b t u (after_flip t.rows (table_of t) (way up) j ratio to)) z
+      (leaves (directed up a.0) same c.0 c.1)

@@ -1,0 +1,53 @@
+//! What the steps of the simplex method on a tableau of lists mean: they are steps over functions of an index.
+//!
+//! | Item | What it is | Where |
+//! |---|---|---|
+//! | `table_of`, `bounds_of` | a tableau of lists, by the numbers of positions and columns | specs/Tables |
+//! | `IsTableauOf`, `IsWithinBounds` | a tableau of these rows, costs and bounds; that each value is within them | specs/Tables |
+//! | `IsMeant` | what a choice of the run means for a tableau | specs/Tables |
+//! | `form_rows`, `signs_of` | a form's equations, and the signs of their artificials in a start | specs/Begins |
+//! | `IsProper`, `Begins` | what holds of a form, and of the tableau that it begins with | specs/Begins |
+//!
+//! The functions here have the laws as their contracts. Each law holds at every limit: a run at a limit that gives a
+//! result gives the exact one.
+//!
+//! The run on lists is that of `spec_simplex`, and the steps on functions of an index are those of `spec_pivot`.
+//! Nothing here names a certificate or its check.
+
+ghost use Rattle.std.specs.Prelude.{◌≡◌, ◌+◌, ◌≤◌, ℕ, length, Option, Ok, false};
+ghost use Rattle.spec_exact.specs.Fraction.{ℚ};
+ghost use Rattle.spec_model.specs.Model.{Model};
+ghost use Rattle.spec_pivot.specs.Tableau.{Matrix};
+ghost use Rattle.spec_pivot.specs.Simplex.{Bounds};
+ghost use Rattle.spec_simplex.specs.declared.ends.Choice.{Choice};
+ghost use Rattle.spec_simplex.specs.Form.{Form, form_of};
+ghost use Rattle.spec_simplex.specs.Tableau.{Tableau};
+ghost use Rattle.spec_simplex.specs.Start.{cost_at, start_of};
+ghost use Rattle.spec_simplex.specs.Step.{choice_run};
+ghost use Rattle.spec_simplex.specs.Phases.{is_stuck, phase_two_run};
+ghost use Rattle.spec_simplex.specs.Tables.{bounds_of, IsTableauOf, IsWithinBounds, IsMeant};
+ghost use Rattle.spec_simplex.specs.Begins.{IsProper, Begins};
+
+/// A choice of the run means what the rule of the least index says: its flips and pivots are steps by the rule to
+/// tableaus of the same rows, costs and bounds; where it ends, no column is eligible,
+/// or the one that enters is never stopped.
+pub fn steps_mean_pivots()
+    ensures { (limit : Option ℕ) (m n : ℕ) (f : Matrix) (cost : ℕ → ℚ) (b : Bounds) (t : Tableau) (choice : Choice ℚ) →
+        IsTableauOf m n f cost b t → IsWithinBounds m n b t → choice_run limit t ≡ Ok choice →
+        IsMeant m n f cost b limit t choice }
+{}
+
+/// The form of a model begins with a tableau of the form's equations, with each value within its bounds.
+pub fn starts_are_tableaus()
+    ensures forms { (limit : Option ℕ) (m : Model) (f : Form) → form_of limit m ≡ Ok f → IsProper f }
+    ensures starts { (limit : Option ℕ) (f : Form) (t : Tableau) → IsProper f → start_of limit f ≡ Ok t → Begins f t }
+{}
+
+/// Where phase one leaves no artificial that is not 0, phase two begins with a tableau of the same rows and of its own
+/// costs, with each value within its bounds.
+pub fn phase_two_goes_on()
+    ensures { (limit : Option ℕ) (form : Form) (m n : ℕ) (f : Matrix) (cost : ℕ → ℚ) (b : Bounds) (t u : Tableau) →
+        IsTableauOf m n f cost b t → IsWithinBounds m n b t → is_stuck t ≡ false →
+        length form.cost ≤ n + m + m → phase_two_run limit form t ≡ Ok u →
+        IsTableauOf m n f (cost_at form.cost) (bounds_of u) u × IsWithinBounds m n (bounds_of u) u }
+{}
