@@ -25,8 +25,8 @@ use Rattle.spec_runs.specs.Based.{equations, BeginsFrom}
 use Rattle.spec_runs.proofs.Fits.{IsLeaving, leaving_is}
 use Rattle.spec_runs.proofs.Fitted.{primal_fit}
 use Rattle.spec_runs.proofs.LimitSteps.{fit_agrees}
-use Rattle.lp_wide.specs.Whole.{whole}
-use Rattle.lp_wide.specs.declared.signed.Signed.{Signed}
+use Rattle.lp_natural.specs.Whole.{whole}
+use Rattle.lp_natural.specs.declared.words.signed.Signed.{Signed}
 use Rattle.lp_rows.specs.declared.fractions.Row.{Row}
 use Rattle.lp_rows.specs.Ratio.{bound_of}
 use Rattle.lp_rows.proofs.Crosswise.{ratios}

@@ -14,7 +14,7 @@ use Rattle.spec_pivot.specs.declared.status.Status.TheVariants.{Basic}
 use Rattle.spec_simplex.specs.Form.{Form}
 use Rattle.spec_simplex.specs.Tableau.{at_place, stand}
 use Rattle.spec_simplex.specs.Eliminate.{basis_status, basis_lower, basis_upper, basis_value, unsolved}
-use Rattle.lp_wide.specs.declared.signed.Signed.{Signed}
+use Rattle.lp_natural.specs.declared.words.signed.Signed.{Signed}
 use Rattle.lp_rows.specs.Ratio.{bound_of}
 use Rattle.lp_rows.specs.declared.fractions.Row.{Row}
 use Rattle.lp_rows.specs.declared.tableau.tableau.RowTableau.{RowTableau}

@@ -26,7 +26,7 @@ use Rattle.spec_runs.proofs.PhaseSteps.{given}
 use Rattle.spec_runs.proofs.Counts.{basic_test}
 use Rattle.spec_runs.proofs.Eliminated.{Solving, eliminated_below}
 use Rattle.lp_tableau.proofs.Solving.{is_solved}
-use Rattle.lp_wide.specs.declared.signed.Signed.{Signed}
+use Rattle.lp_natural.specs.declared.words.signed.Signed.{Signed}
 use Rattle.lp_rows.specs.declared.fractions.Row.{Row}
 use Rattle.lp_rows.specs.Ratio.{bound_of}
 use Rattle.lp_rows.specs.Shows.{IsRow, IsWhole, height, width}

@@ -29,7 +29,7 @@ use Rattle.spec_runs.specs.Based.{BeginsFrom}
 use Rattle.spec_runs.proofs.LimitSteps.{from_agrees}
 use Rattle.spec_runs.proofs.Started.{start_begins_from}
 use Rattle.spec_runs.proofs.Valued.{valued_other, valued_solves}
-use Rattle.lp_wide.specs.declared.signed.Signed.{Signed}
+use Rattle.lp_natural.specs.declared.words.signed.Signed.{Signed}
 use Rattle.lp_rows.specs.declared.fractions.Row.{Row}
 use Rattle.lp_rows.specs.Ratio.{bound_of}
 use Rattle.lp_rows.specs.declared.tableau.tableau.RowTableau.{RowTableau}

@@ -16,8 +16,8 @@ use Rattle.spec_simplex.specs.Form.{Form, IsForm, form_lower, form_upper}
 use Rattle.spec_simplex.specs.Start.{one_at, start_entry}
 use Rattle.spec_simplex.specs.Tableau.{at_place, is_fixed}
 use Rattle.spec_simplex.specs.Eliminate.{equation, unsolved, basis_status, basis_lower, basis_upper, basis_value}
-use Rattle.lp_wide.specs.Whole.{whole}
-use Rattle.lp_wide.specs.declared.signed.Signed.{Signed}
+use Rattle.lp_natural.specs.Whole.{whole}
+use Rattle.lp_natural.specs.declared.words.signed.Signed.{Signed}
 use Rattle.lp_rows.specs.declared.fractions.Row.{Row}
 use Rattle.lp_rows.specs.Row.{at, fraction_at}
 use Rattle.lp_rows.specs.Ratio.{bound_of}

@@ -11,7 +11,7 @@ use Rattle.spec_simplex.specs.Tableau.{Tableau, at_place, is_basic, is_fixed}
 use Rattle.spec_simplex.specs.Eliminate as stated
 use Rattle.spec_simplex.specs.Eliminate.{basis_at, basis_status, basis_lower, basis_upper, basis_value}
 use Rattle.spec_simplex.specs.Eliminate.{has_none, or_first, solved_run, unsolved, start_from}
-use Rattle.lp_wide.specs.declared.signed.Signed.{Signed}
+use Rattle.lp_natural.specs.declared.words.signed.Signed.{Signed}
 use Rattle.lp_rows.specs.declared.fractions.Row.{Row}
 use Rattle.lp_rows.specs.Row.{fraction_at}
 use Rattle.lp_rows.specs.Ratio.{bound_of}

@@ -9,8 +9,8 @@ ghost use Rattle.lp_row_runs.specs.Rows.{IsComplete, IsSolvedBelow, IfRows, HasS
 use crate::elimination::{Elimination, Progress};
 use crate::equations::{place_values, unsolved};
 use lp_form::{Form, Status};
+use lp_natural::words::Words;
 use lp_rows::tableau::{RowTableau, priced};
-use lp_wide::Words;
 use std::alloc::{AllocError, Global};
 
 /// What comes of the tableau of a basis at one width.

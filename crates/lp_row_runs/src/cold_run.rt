@@ -12,11 +12,11 @@ ghost use Rattle.lp_row_runs.specs.Cold.{start_run, EndsAs, EndsAsStated, IsFitE
 use crate::phases::{Phase, PhasesPause, RowEnd, State, go_on};
 use lp_form::Form;
 use lp_frac::{Frac, Stop};
+use lp_natural::words::{Long, Quad, Words};
 use lp_ratio::Ratio;
 use lp_rows::Listed;
 use lp_rows::tableau::{from_tableau, wants_phase_one, widened};
 use lp_tableau::{Tableau, start_cold};
-use lp_wide::{Long, Quad, Words};
 use std::alloc::{AllocError, Global};
 
 // What a width leaves.

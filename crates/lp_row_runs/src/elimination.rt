@@ -5,14 +5,14 @@ ghost use Rattle.spec_pivot.specs.declared.status.Status.{Status as statuses};
 ghost use Rattle.spec_pivot.specs.declared.status.Status.TheVariants.{Basic};
 ghost use Rattle.spec_simplex.specs.Form.{Form as forms};
 ghost use Rattle.spec_simplex.specs.Eliminate as stated;
-ghost use Rattle.lp_wide.specs.Whole.{whole};
+ghost use Rattle.lp_natural.specs.Whole.{whole};
 ghost use Rattle.lp_rows.specs.Shows.{height, width};
 ghost use Rattle.lp_rows.specs.Moves.{number_in};
 ghost use Rattle.lp_row_runs.specs.Rows.{IsSolvedBelow, IsComplete, IfDone};
 
 use lp_form::{Status, is_basic};
+use lp_natural::words::{Signed, Words};
 use lp_rows::tableau::{RowTableau, Step, Turn, effort_of, turn_rows};
-use lp_wide::{Signed, Words};
 
 /// Equations as rows, and which positions have a basic column.
 #[derive(Drop)]

@@ -16,11 +16,11 @@ ghost use Rattle.lp_row_runs.specs.Rows.{AreRowsAt, AreZeros, IsUnsolved};
 
 use lp_form::{Form, Status};
 use lp_frac::{Frac, neg, one, zero};
+use lp_natural::words::{Signed, Words};
 use lp_rows::Row;
 use lp_rows::tableau::{
     RowTableau, bounds_on, denominator_with, is_fixed, move_all, row_of, stand,
 };
-use lp_wide::{Signed, Words};
 use std::alloc::{AllocError, Global};
 
 // ---- rows

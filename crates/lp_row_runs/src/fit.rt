@@ -7,13 +7,13 @@ ghost use Rattle.spec_simplex.specs.Fit.{fit_run};
 ghost use Rattle.spec_simplex.specs.Form.{Form as forms};
 ghost use Rattle.spec_simplex.specs.Tableau as tableaus;
 ghost use Rattle.spec_runs.specs.Based.{BeginsFrom};
-ghost use Rattle.lp_wide.specs.Whole.{whole};
+ghost use Rattle.lp_natural.specs.Whole.{whole};
 ghost use Rattle.lp_rows.specs.Ratio.{bound_of};
 ghost use Rattle.lp_rows.specs.Shows.{IsWhole, Shows, height};
 
+use lp_natural::words::{Signed, Words};
 use lp_rows::order;
 use lp_rows::tableau::RowTableau;
-use lp_wide::{Signed, Words};
 use std::cmp::Ordering;
 
 // Whether a value is not below a lower bound: the value is on the row's denominator times that of the bound.

@@ -11,10 +11,10 @@ ghost use Rattle.lp_row_runs.specs.Phases.{HasFit, EndsWith, IsOver};
 use crate::steps::{StepsPause, run};
 use lp_base::Items;
 use lp_form::{Form, StatusList};
+use lp_natural::words::Words;
 use lp_rows::Listed;
 use lp_rows::tableau::{RowTableau, basis, certificate, is_stuck, phase_two};
 use lp_tableau::PrimalEnd;
-use lp_wide::Words;
 use spec_check::Certificate;
 use std::alloc::{AllocError, Global};
 

@@ -9,9 +9,9 @@ ghost use Rattle.lp_rows.specs.Shows.{IsWhole, IsReached, Shows};
 ghost use Rattle.lp_rows.specs.Steps.{step_of, MayMake};
 ghost use Rattle.lp_row_runs.specs.Steps.{PausesAt, StepsTo, KeepsAt, KeepsStep, Advances, KeepsAdvance};
 
+use lp_natural::words::Words;
 use lp_rows::tableau::{RowTableau, Step, effort_of, is_roomy, make, next_step};
 use lp_tableau::PrimalEnd;
-use lp_wide::Words;
 
 /// How steps at one width pause.
 #[derive(Clone, Copy)]

@@ -16,9 +16,9 @@ use crate::cold_run::{from_64, from_128, from_256, from_512, from_1024, from_204
 use crate::fit::is_fit;
 use crate::phases::{Phase, RowEnd, State};
 use lp_form::{Form, Status};
+use lp_natural::words::{Long, Quad, Words};
 use lp_ratio::Ratio;
 use lp_rows::tableau::RowTableau;
-use lp_wide::{Long, Quad, Words};
 use std::alloc::{AllocError, Global};
 
 // The bound on the work, some minutes of it: each number that is changed counts for the square of its words.

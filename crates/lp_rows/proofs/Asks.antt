@@ -17,8 +17,8 @@ use Rattle.spec_exact.proofs.Fraction.{over_cross, over-same}
 use Rattle.spec_exact.proofs.Field.{whole_over}
 use Rattle.spec_exact.proofs.Same.{same_is}
 use Rattle.spec_simplex.specs.Tableau.{Tableau, is_artificial, basic_at, value_at}
-use Rattle.lp_wide.specs.Whole.{whole}
-use Rattle.lp_wide.specs.declared.signed.Signed.{Signed}
+use Rattle.lp_natural.specs.Whole.{whole}
+use Rattle.lp_natural.specs.declared.words.signed.Signed.{Signed}
 use Rattle.lp_rows.specs.declared.fractions.Row.{Row}
 use Rattle.lp_rows.specs.Row.{fraction_at}
 use Rattle.lp_rows.proofs.Done.{item-at}

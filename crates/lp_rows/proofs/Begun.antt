@@ -17,7 +17,7 @@ use Rattle.spec_simplex.specs.Tableau.{is_fixed, stand}
 use Rattle.spec_simplex.proofs.Lists.{by_lt}
 use Rattle.spec_simplex.proofs.Runs.{then_ok}
 use Rattle.spec_simplex.proofs.PhaseTwo.{zeroed_before, zeroed_after}
-use Rattle.lp_wide.specs.declared.signed.Signed.{Signed}
+use Rattle.lp_natural.specs.declared.words.signed.Signed.{Signed}
 use Rattle.lp_rows.specs.declared.fractions.Row.{Row}
 use Rattle.lp_rows.specs.Ratio.{bound_of}
 use Rattle.lp_rows.specs.declared.tableau.tableau.RowTableau.{RowTableau}

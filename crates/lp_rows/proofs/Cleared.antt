@@ -9,10 +9,10 @@ use Rattle.spec_exact.proofs.Ring.{◌⊕◌, ◌⊗◌, minus, lit, v0, v1, v2,
 use Rattle.spec_exact.proofs.Whole.{by_ring}
 use Rattle.spec_exact.proofs.Field.{by_ring_ℚ, over-*, whole_over}
 use Rattle.spec_exact.proofs.Coprime.{positive_left, positive_right}
-use Rattle.lp_wide.specs.Below.{below}
-use Rattle.lp_wide.specs.Whole.{whole}
-use Rattle.lp_wide.specs.declared.signed.Signed.{Signed}
-use Rattle.lp_wide.proofs.Rows.{eliminated}
+use Rattle.lp_natural.specs.Below.{below}
+use Rattle.lp_natural.specs.Whole.{whole}
+use Rattle.lp_natural.specs.declared.words.signed.Signed.{Signed}
+use Rattle.lp_natural.proofs.Rows.{eliminated}
 use Rattle.lp_rows.specs.Row.{at, fractions, fraction_at, AreNow}
 
 pub fraction-at : {T : Type 0} (value : T → ℕ) (xs : List (Signed T)) (d k : ℕ) → k < length xs →

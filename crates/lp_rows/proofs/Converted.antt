@@ -14,10 +14,10 @@ use Rattle.spec_exact.proofs.Fraction.{over-same, over-parts}
 use Rattle.spec_exact.proofs.Stops.{length-made, get_or-made}
 use Rattle.spec_pivot.proofs.Pivot.{by_eq}
 use Rattle.spec_simplex.specs.Tableau.{Tableau, form_columns, entry_at, basic_at, value_at}
-use Rattle.lp_wide.specs.Below.{below}
-use Rattle.lp_wide.specs.Whole.{size_below}
+use Rattle.lp_natural.specs.Below.{below}
+use Rattle.lp_natural.specs.Whole.{size_below}
 use Rattle.lp_rows.proofs.Cleared.{below_gives}
-use Rattle.lp_wide.specs.declared.signed.Signed.{Signed}
+use Rattle.lp_natural.specs.declared.words.signed.Signed.{Signed}
 use Rattle.lp_rows.specs.declared.fractions.Row.{Row}
 use Rattle.lp_rows.specs.Row.{fractions, fraction_at}
 use Rattle.lp_rows.specs.Shows.{IsRow, row_at}

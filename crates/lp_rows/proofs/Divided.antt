@@ -11,9 +11,9 @@ use Rattle.spec_exact.proofs.Whole.{by_ring}
 use Rattle.spec_exact.proofs.Fraction.{over-same}
 use Rattle.spec_exact.proofs.Field.{by_ring_ℚ, over-*, *ℚ_inverse, *ℚ_one, *ℚ_zero, *ℚ_comm, whole_over}
 use Rattle.spec_exact.proofs.Coprime.{positive_left, positive_right}
-use Rattle.lp_wide.specs.Whole.{whole}
-use Rattle.lp_wide.specs.declared.signed.Signed.{Signed}
-use Rattle.lp_wide.proofs.Rows.{without_divisor}
+use Rattle.lp_natural.specs.Whole.{whole}
+use Rattle.lp_natural.specs.declared.words.signed.Signed.{Signed}
+use Rattle.lp_natural.proofs.Rows.{without_divisor}
 use Rattle.lp_rows.specs.Row.{at, fraction_at, turned_if, AreNow}
 use Rattle.lp_rows.proofs.Cleared.{fraction-at, written, whole-times}
 

@@ -12,8 +12,8 @@ use Rattle.spec_pivot.specs.declared.status.Status.{Status}
 use Rattle.spec_pivot.specs.declared.status.Status.TheVariants.{Basic, AtLower, AtUpper, AtZero}
 use Rattle.spec_simplex.specs.Tableau.{Tableau, form_columns}
 use Rattle.spec_simplex.specs.Step.{way_by, way_at, or_enters, entering_below}
-use Rattle.lp_wide.specs.Whole.{whole}
-use Rattle.lp_wide.specs.declared.signed.Signed.{Signed}
+use Rattle.lp_natural.specs.Whole.{whole}
+use Rattle.lp_natural.specs.declared.words.signed.Signed.{Signed}
 use Rattle.lp_ratio.proofs.Fractions.{sign_over}
 use Rattle.lp_rows.specs.Row.{at}
 use Rattle.lp_rows.specs.Entering.{of_sign, way_of, way_with, IsPriced}

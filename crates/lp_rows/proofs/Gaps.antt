@@ -15,8 +15,8 @@ use Rattle.spec_exact.proofs.Limit.{sub_unlimited}
 use Rattle.spec_pivot.specs.declared.status.Status.{Status}
 use Rattle.spec_pivot.specs.declared.status.Status.TheVariants.{AtUpper, AtLower}
 use Rattle.spec_simplex.specs.Step.{rise_run, fall_run}
-use Rattle.lp_wide.specs.Whole.{whole}
-use Rattle.lp_wide.specs.declared.signed.Signed.{Signed}
+use Rattle.lp_natural.specs.Whole.{whole}
+use Rattle.lp_natural.specs.declared.words.signed.Signed.{Signed}
 use Rattle.lp_rows.specs.Ratio.{bound_of, gap_of, gap_by, IsGap}
 use Rattle.lp_rows.specs.declared.ratio.Gap.{Gap}
 use Rattle.lp_rows.proofs.Cleared.{over_neg}

@@ -14,7 +14,7 @@ use Rattle.spec_simplex.specs.Tableau.{Tableau, IsTableauShape, form_columns, al
 use Rattle.spec_simplex.specs.Tableau.{lower_at, upper_at, reduced_at, is_fixed, or_zero, stand}
 use Rattle.spec_simplex.proofs.Lists.{by_lt}
 use Rattle.spec_simplex.proofs.PhaseTwo.{stands_zero}
-use Rattle.lp_wide.specs.declared.signed.Signed.{Signed}
+use Rattle.lp_natural.specs.declared.words.signed.Signed.{Signed}
 use Rattle.lp_rows.specs.Ratio.{bound_of}
 use Rattle.lp_rows.specs.declared.tableau.tableau.RowTableau.{RowTableau}
 use Rattle.lp_rows.specs.Shows.{IsRow, IsWhole, IsReached, Shows, width, all_width}

@@ -13,8 +13,8 @@ use Rattle.spec_exact.proofs.Field.{over-*, whole_over}
 use Rattle.spec_exact.proofs.Ruleset.{ring}
 use Rattle.spec_pivot.specs.Tableau.{pivot_row, pivoted}
 use Rattle.spec_pivot.proofs.Pivot.{by_eq, pivoted_at, pivoted_off}
-use Rattle.lp_wide.specs.Whole.{whole}
-use Rattle.lp_wide.specs.declared.signed.Signed.{Signed}
+use Rattle.lp_natural.specs.Whole.{whole}
+use Rattle.lp_natural.specs.declared.words.signed.Signed.{Signed}
 use Rattle.lp_rows.specs.declared.fractions.Row.{Row}
 use Rattle.lp_rows.specs.Row.{at}
 use Rattle.lp_rows.proofs.Done.{item-at, at-set_same, at-set_other}

@@ -8,7 +8,7 @@ use Rattle.std.proofs.Math.ListN.{get_or-map}
 use Rattle.std.proofs.lemmas.List.Elements.{All-nil, All-cons, All-head, All-tail}
 use Rattle.spec_exact.specs.Fraction.{ℚ, 0ℚ, over}
 use Rattle.spec_simplex.specs.Tableau.{Tableau, form_columns}
-use Rattle.lp_wide.specs.declared.signed.Signed.{Signed}
+use Rattle.lp_natural.specs.declared.words.signed.Signed.{Signed}
 use Rattle.lp_rows.specs.declared.fractions.Row.{Row}
 use Rattle.lp_rows.specs.Row.{fractions, fraction_at}
 use Rattle.lp_rows.specs.Ratio.{bound_of}

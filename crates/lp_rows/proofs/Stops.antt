@@ -20,8 +20,8 @@ use Rattle.spec_simplex.specs.Step.{way_by, way_at, with_gap, range_run, best_wi
 use Rattle.spec_simplex.specs.Step.{entering, choice_run}
 use Rattle.spec_simplex.specs.Tables.{KeepsBounds}
 use Rattle.spec_simplex.proofs.Enters.{fixed_test}
-use Rattle.lp_wide.specs.Whole.{whole}
-use Rattle.lp_wide.specs.declared.signed.Signed.{Signed}
+use Rattle.lp_natural.specs.Whole.{whole}
+use Rattle.lp_natural.specs.declared.words.signed.Signed.{Signed}
 use Rattle.lp_rows.specs.declared.fractions.Row.{Row}
 use Rattle.lp_rows.specs.declared.ratio.Stopper.{Stopper}
 use Rattle.lp_rows.specs.Row.{fraction_at, turned_if}

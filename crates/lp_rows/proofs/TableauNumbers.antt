@@ -6,7 +6,7 @@ use Rattle.spec_exact.specs.Fraction.{over, ◌*ℚ◌}
 use Rattle.spec_exact.proofs.Ring.{◌⊗◌, lit, v0}
 use Rattle.spec_exact.proofs.Whole.{by_ring}
 use Rattle.spec_exact.proofs.Field.{over-*}
-use Rattle.lp_wide.specs.declared.signed.Signed.{Signed}
+use Rattle.lp_natural.specs.declared.words.signed.Signed.{Signed}
 use Rattle.lp_rows.specs.declared.fractions.Row.{Row}
 use Rattle.lp_rows.specs.Row.{at, fraction_at}
 use Rattle.lp_rows.proofs.Cleared.{fraction-at}

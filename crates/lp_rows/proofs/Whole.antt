@@ -13,7 +13,7 @@ use Rattle.spec_pivot.specs.declared.status.Status.TheVariants.{Basic}
 use Rattle.spec_simplex.specs.Tableau.{or_zero, stand}
 use Rattle.spec_simplex.specs.Step.{directed, other_bound, flip_way}
 use Rattle.lp_rows.specs.declared.fractions.Row.{Row}
-use Rattle.lp_wide.specs.declared.signed.Signed.{Signed}
+use Rattle.lp_natural.specs.declared.words.signed.Signed.{Signed}
 use Rattle.lp_rows.specs.Row.{turned_if}
 use Rattle.lp_rows.specs.Ratio.{bound_of}
 use Rattle.lp_rows.proofs.Cleared.{over_neg}

@@ -7,7 +7,7 @@ use Rattle.spec_pivot.specs.declared.status.Status.{Status}
 use Rattle.spec_pivot.specs.declared.status.Status.TheVariants.{Basic, AtLower, AtUpper, AtZero}
 use Rattle.spec_simplex.specs.Tableau.{Tableau, form_columns, all_columns, reduced_at, lower_at, upper_at, is_fixed}
 use Rattle.spec_simplex.specs.Step.{way_at}
-use Rattle.lp_wide.specs.declared.signed.Signed.{Signed}
+use Rattle.lp_natural.specs.declared.words.signed.Signed.{Signed}
 use Rattle.lp_rows.specs.Row.{fraction_at}
 
 -- one of three, by the sign

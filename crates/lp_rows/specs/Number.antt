@@ -1,7 +1,7 @@
 -- What a number over a denominator is.
 use Rattle.std.specs.Prelude.{ℕ}
 use Rattle.spec_exact.specs.Fraction.{ℚ, over}
-use Rattle.lp_wide.specs.Whole.{whole}
+use Rattle.lp_natural.specs.Whole.{whole}
 use Rattle.lp_rows.specs.declared.number.RowFraction.{RowFraction}
 
 -- the fraction; 0 where the denominator is

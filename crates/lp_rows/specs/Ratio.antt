@@ -4,10 +4,10 @@ use Rattle.std.specs.declared.cmp.Ordering.{Ordering}
 use Rattle.std.specs.declared.cmp.Ordering.TheVariants.{Less, Equal, Greater}
 use Rattle.spec_exact.specs.Run.{Run}
 use Rattle.spec_simplex.specs.Step.{better_run, rise_run, fall_run}
-use Rattle.lp_wide.specs.declared.signed.Signed.{Signed}
+use Rattle.lp_natural.specs.declared.words.signed.Signed.{Signed}
 use Rattle.spec_exact.specs.Fraction.{ℚ, over}
 use Rattle.spec_simplex.specs.declared.ends.Best.{Best}
-use Rattle.lp_wide.specs.Whole.{whole}
+use Rattle.lp_natural.specs.Whole.{whole}
 use Rattle.lp_rows.specs.declared.ratio.Stopper.{Stopper}
 use Rattle.lp_rows.specs.declared.ratio.Gap.{Gap}
 use Rattle.spec_pivot.specs.declared.status.Status.{Status}

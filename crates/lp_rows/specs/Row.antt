@@ -1,8 +1,8 @@
 -- The whole numbers of a row, and the fractions that they are on its denominator.
 use Rattle.std.specs.Prelude.{ℕ, zero, suc, ◌<◌, ◌≡◌, ℤ, pos, neg_ℤ, Bool, true, false, List, [], ◌∷◌, length, get_or}
 use Rattle.spec_exact.specs.Fraction.{ℚ, 0ℚ, over}
-use Rattle.lp_wide.specs.Whole.{whole}
-use Rattle.lp_wide.specs.declared.signed.Signed.{Signed}
+use Rattle.lp_natural.specs.Whole.{whole}
+use Rattle.lp_natural.specs.declared.words.signed.Signed.{Signed}
 
 -- that of column k, and 0 past the end
 abbrev pub at : {T : Type 0} → (T → ℕ) → List (Signed T) → ℕ → ℤ

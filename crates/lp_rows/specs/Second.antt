@@ -4,7 +4,7 @@ use Rattle.spec_exact.specs.Fraction.{ℚ, 0ℚ, ◌-ℚ◌, ◌*ℚ◌}
 use Rattle.spec_exact.specs.Sums.{sum_below}
 use Rattle.spec_pivot.specs.Tableau.{IsUnit}
 use Rattle.spec_simplex.specs.Tableau.{Tableau, entry_at, basic_at}
-use Rattle.lp_wide.specs.declared.signed.Signed.{Signed}
+use Rattle.lp_natural.specs.declared.words.signed.Signed.{Signed}
 use Rattle.lp_rows.specs.declared.fractions.Row.{Row}
 use Rattle.lp_rows.specs.Row.{fraction_at}
 use Rattle.lp_rows.specs.Ratio.{bound_of}

@@ -3,11 +3,11 @@ ghost use Rattle.std.specs.Prelude.{◌≡◌, ◌<◌, ◌≤◌, pos, length, 
 ghost use Rattle.std.specs.Ordering.{int_cmp};
 ghost use Rattle.spec_simplex.specs.Tableau as tableaus;
 ghost use Rattle.spec_simplex.specs.Step.{entering as entering_of};
-ghost use Rattle.lp_wide.specs.Whole.{whole};
+ghost use Rattle.lp_natural.specs.Whole.{whole};
 ghost use Rattle.lp_rows.specs.Entering.{way_of, way_with, IsPriced};
 
 use crate::fractions::Row;
-use lp_wide::{Signed, Words};
+use lp_natural::words::{Signed, Words};
 use spec_pivot::Status;
 use spec_simplex::Entering;
 use std::cmp::Ordering;

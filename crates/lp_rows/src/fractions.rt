@@ -4,7 +4,7 @@ ghost use Rattle.spec_exact.specs.Fraction.{0ℚ, inverse, ◌-ℚ◌, ◌*ℚ�
 ghost use Rattle.lp_rows.specs.Row.{fraction_at, AreNow};
 
 use crate::row::{eliminate, part, turn};
-use lp_wide::{Divisor, Signed, Words, quotient, quotient_by, some_common};
+use lp_natural::words::{Divisor, Signed, Words, quotient, quotient_by, some_common};
 
 /// Whole numbers on a denominator, which is not 0. The last of them is the value of the row's basic column.
 #[derive(Drop)]

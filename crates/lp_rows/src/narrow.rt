@@ -2,13 +2,13 @@
 ghost use Rattle.std.specs.Prelude.{◌≡◌, ◌<◌, ℕ, pos, IfSome};
 ghost use Rattle.spec_exact.specs.Fraction.{over};
 ghost use Rattle.spec_exact.specs.Narrow.{IsNarrow};
-ghost use Rattle.lp_wide.specs.Whole.{whole};
+ghost use Rattle.lp_natural.specs.Whole.{whole};
 ghost use Rattle.lp_rows.specs.Number.{fraction_of};
 
 use crate::fractions::share_common;
 use crate::number::{Listed, RowFraction};
 use lp_frac::{Frac, LARGEST, den, num};
-use lp_wide::{Signed, Words, to_whole};
+use lp_natural::words::{Signed, Words, to_whole};
 use std::alloc::{AllocError, Global};
 
 // The whole number, if it is not past 127 bits.

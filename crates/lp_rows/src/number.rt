@@ -4,7 +4,7 @@ ghost use Rattle.spec_exact.specs.Fraction.{ℚ, 0ℚ, 1ℚ, neg_ℚ};
 ghost use Rattle.spec_simplex.specs.Step as step;
 ghost use Rattle.lp_rows.specs.Number.{fraction_of};
 
-use lp_wide::{Signed, Words};
+use lp_natural::words::{Signed, Words};
 use std::alloc::{AllocError, Global};
 
 /// A number over a denominator, as a row has both.

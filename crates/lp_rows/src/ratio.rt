@@ -4,12 +4,12 @@ ghost use Rattle.std.specs.Ordering.{int_cmp};
 ghost use Rattle.spec_exact.specs.Fraction.{ℚ, over};
 ghost use Rattle.spec_simplex.specs.declared.ends.Best.{Best};
 ghost use Rattle.spec_simplex.specs.Step as step;
-ghost use Rattle.lp_wide.specs.Whole.{whole};
+ghost use Rattle.lp_natural.specs.Whole.{whole};
 ghost use Rattle.lp_rows.specs.Row.{turned_if};
 ghost use Rattle.lp_rows.specs.Ratio.{best_of, room_of, bound_of, gap_of, gap_by, stopped, IsGap};
 
 use crate::choice::sign;
-use lp_wide::{Signed, Words, minus, times};
+use lp_natural::words::{Signed, Words, minus, times};
 use spec_pivot::Status;
 use std::cmp::Ordering;
 

@@ -1,9 +1,9 @@
 // Eliminations.
 ghost use Rattle.std.specs.Prelude.{◌≡◌, ◌<◌, ℕ, IsTrue, length, ◌*ℤ◌, ◌-ℤ◌, pos};
-ghost use Rattle.lp_wide.specs.Whole.{whole};
+ghost use Rattle.lp_natural.specs.Whole.{whole};
 ghost use Rattle.lp_rows.specs.Row.{at, turned_if};
 
-use lp_wide::{Divisor, Signed, Words, less_products, quotient_by};
+use lp_natural::words::{Divisor, Signed, Words, less_products, quotient_by};
 
 // Whether a number with a sign is 1.
 fn is_unit<T: Words>(a: Signed<T>) -> bool

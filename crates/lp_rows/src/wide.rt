@@ -4,8 +4,8 @@ ghost use Rattle.lp_rows.specs.Number.{fraction_of};
 
 use crate::fractions::share_common;
 use crate::number::{Listed, RowFraction};
+use lp_natural::words::{Signed, Words, natural};
 use lp_ratio::Ratio;
-use lp_wide::{Signed, Words, natural};
 use std::alloc::{AllocError, Global};
 
 // The same fraction without what both numbers have in common, as far as that is found.

@@ -11,6 +11,7 @@
 //! | `links` | two links in memory that one worker serves, a listener without a link, and links that fail | src/links |
 //! | `tcp` | two links over loopback, each served by a worker of its own | src/tcp |
 //! | `wide_numbers` | texts of numbers past 127 bits | src/wide_numbers |
+//! | `long_words` | common divisors, quotients and sizes of numbers of many words | src/long_words |
 #![tactic(auto)]
 
 #[cfg(test)]
@@ -19,6 +20,8 @@ mod board;
 mod full_board;
 #[cfg(test)]
 mod links;
+#[cfg(test)]
+mod long_words;
 #[cfg(test)]
 mod shapes;
 #[cfg(test)]

@@ -14,8 +14,8 @@ use crate::ratio::Stopper;
 use crate::tableau::ratio::first_stop;
 use crate::tableau::tableau::RowTableau;
 use lp_form::Status;
+use lp_natural::words::Words;
 use lp_tableau::PrimalEnd;
-use lp_wide::Words;
 use spec_simplex::Entering;
 
 /// What a step does, without how far the entering column moves.

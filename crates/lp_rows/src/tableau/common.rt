@@ -1,14 +1,14 @@
 // Fractions as whole numbers on a common denominator.
 ghost use Rattle.std.specs.Prelude.{◌≡◌, ◌<◌, IfOk, IfSome, map};
 ghost use Rattle.spec_exact.specs.Fraction.{over};
-ghost use Rattle.lp_wide.specs.Whole.{whole};
+ghost use Rattle.lp_natural.specs.Whole.{whole};
 ghost use Rattle.lp_rows.specs.Row.{fractions};
 ghost use Rattle.lp_rows.specs.Ratio.{bound_of};
 ghost use Rattle.lp_rows.specs.Held.{whole_of, IsRowOf, IsRowWith};
 
 use crate::fractions::Row;
 use lp_frac::{Frac, den, num};
-use lp_wide::{Signed, Words, from_number, from_whole, quotient, some_common, times};
+use lp_natural::words::{Signed, Words, from_number, from_whole, quotient, some_common, times};
 use std::alloc::{AllocError, Global};
 use std::cmp::Ordering;
 

@@ -11,8 +11,8 @@ use crate::tableau::common::{bounds_on, denominator_with, row_of};
 use crate::tableau::tableau::RowTableau;
 use lp_form::Status;
 use lp_frac::{Frac, are_same, zero};
+use lp_natural::words::Words;
 use lp_tableau::Tableau;
-use lp_wide::Words;
 use std::alloc::{AllocError, Global};
 
 // The list of what stands for each `i` of a range.

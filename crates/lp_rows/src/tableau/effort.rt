@@ -2,7 +2,7 @@
 use crate::fractions::Row;
 use crate::tableau::choice::Step;
 use crate::tableau::tableau::RowTableau;
-use lp_wide::Words;
+use lp_natural::words::Words;
 
 // Whether the row has an entry in column `j`, so that a step in that column changes it.
 fn has_entry<T: Words>(row: &Row<T>, j: usize) -> bool {

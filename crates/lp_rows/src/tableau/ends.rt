@@ -19,8 +19,8 @@ use crate::number::{Listed, RowFraction, directed, negated, one, zero};
 use crate::tableau::tableau::RowTableau;
 use lp_base::Items;
 use lp_form::{Status, StatusList, is_basic};
+use lp_natural::words::{Signed, Words};
 use lp_tableau::PrimalEnd;
-use lp_wide::{Signed, Words};
 use spec_check::Certificate;
 use std::alloc::{AllocError, Global};
 

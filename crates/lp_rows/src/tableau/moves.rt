@@ -2,13 +2,13 @@
 ghost use Rattle.std.specs.Prelude.{◌≡◌, ◌<◌, ◌≤◌, IsTrue, All, length, pos, neg_ℤ, ◌*ℤ◌};
 ghost use Rattle.spec_exact.specs.Fraction.{over, ◌*ℚ◌};
 ghost use Rattle.spec_model.specs.Kept.{row_limit};
-ghost use Rattle.lp_wide.specs.Whole.{whole};
+ghost use Rattle.lp_natural.specs.Whole.{whole};
 ghost use Rattle.lp_rows.specs.Shows.{IsRow};
 ghost use Rattle.lp_rows.specs.Moves.{number_at, IsLess, IsScaled, IsCleared, AreCleared, AreMoved, AreTurned};
 
 use crate::fractions::{Row, clear, divide, reduce};
 use crate::tableau::ratio::is_zero;
-use lp_wide::{Signed, Words, less_products};
+use lp_natural::words::{Signed, Words, less_products};
 use std::mem::swap;
 
 // The last number less a product. Where it is false a number is past the width, here and below.

@@ -9,7 +9,7 @@ ghost use Rattle.lp_rows.specs.Shows.{IsWhole, IsReached, Shows, width, height, 
 use crate::tableau::second::{begin, priced};
 use crate::tableau::tableau::RowTableau;
 use lp_form::Form;
-use lp_wide::Words;
+use lp_natural::words::Words;
 use std::alloc::{AllocError, Global};
 
 // Whether some column is at this one or past it.

@@ -6,7 +6,7 @@ ghost use Rattle.spec_simplex.specs.declared.ends.Choice.{Choice};
 ghost use Rattle.spec_simplex.specs.Tableau as tableaus;
 ghost use Rattle.spec_simplex.specs.Step.{choice_run};
 ghost use Rattle.spec_simplex.specs.Phases.{done_run};
-ghost use Rattle.lp_wide.specs.Whole.{whole};
+ghost use Rattle.lp_natural.specs.Whole.{whole};
 ghost use Rattle.lp_rows.specs.Ratio.{bound_of};
 ghost use Rattle.lp_rows.specs.Shows.{IsWhole, IsReached, Shows, height, width, all_width};
 ghost use Rattle.lp_rows.specs.Steps.{step_of, MayMake};
@@ -17,8 +17,8 @@ use crate::tableau::choice::Step;
 use crate::tableau::moves::{Turn, move_all, turn_rows};
 use crate::tableau::tableau::RowTableau;
 use lp_form::Status;
+use lp_natural::words::{Signed, Words, minus};
 use lp_tableau::{flip_way, other_bound};
-use lp_wide::{Signed, Words, minus};
 
 fn zero<T: Words>() -> Signed<T>
     ensures { (d : ℕ) → 0 < d → over (whole result.negative (T.value result.size)) d ≡ 0ℚ }

@@ -4,15 +4,15 @@ ghost use Rattle.spec_exact.specs.Fraction.{ℚ, over};
 ghost use Rattle.spec_simplex.specs.declared.ends.Best.{Best};
 ghost use Rattle.spec_simplex.specs.Tableau as tableaus;
 ghost use Rattle.spec_simplex.specs.Step as step;
-ghost use Rattle.lp_wide.specs.Whole.{whole};
+ghost use Rattle.lp_natural.specs.Whole.{whole};
 ghost use Rattle.lp_rows.specs.Ratio.{best_of, bound_of, stopped};
 ghost use Rattle.lp_rows.specs.Shows.{IsWhole, Shows, height, width};
 ghost use Rattle.lp_rows.specs.Stops.{IsStop, best_at};
 
 use crate::ratio::{Stopper, better, gap_for, goes, stopper_at};
 use crate::tableau::tableau::RowTableau;
+use lp_natural::words::{Signed, Words, minus};
 use lp_tableau::other_bound;
-use lp_wide::{Signed, Words, minus};
 use spec_simplex::Entering;
 
 // A position as the ratio test sees it.

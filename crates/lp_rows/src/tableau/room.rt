@@ -6,7 +6,7 @@ ghost use Rattle.lp_rows.specs.Steps.{MayMake};
 use crate::fractions::Row;
 use crate::tableau::choice::Step;
 use crate::tableau::tableau::RowTableau;
-use lp_wide::{Signed, Words};
+use lp_natural::words::{Signed, Words};
 
 // Whether a product of numbers of so many bits, and a sum with another, is within the width.
 fn fits<T: Words>(a: u32, b: u32) -> bool {

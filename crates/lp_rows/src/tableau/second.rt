@@ -10,7 +10,7 @@ use crate::tableau::common::row_of;
 use crate::tableau::tableau::RowTableau;
 use lp_form::Form;
 use lp_frac::zero;
-use lp_wide::{Signed, Words};
+use lp_natural::words::{Signed, Words};
 use std::alloc::{AllocError, Global};
 
 // ---- costs

@@ -5,7 +5,7 @@ ghost use Rattle.lp_rows.specs.Shows.{width};
 
 use crate::fractions::Row;
 use lp_form::Status;
-use lp_wide::{Signed, Words};
+use lp_natural::words::{Signed, Words};
 
 /// A tableau over rows of whole numbers: of each position a row over the structural and the logical columns and, last,
 /// the value of its basic column on the row's denominator times `denominator`; a row of reduced costs; of each column,

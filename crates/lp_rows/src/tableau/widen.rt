@@ -6,7 +6,7 @@ ghost use Rattle.lp_rows.specs.Shows.{IsWhole, Shows, height};
 
 use crate::fractions::Row;
 use crate::tableau::tableau::RowTableau;
-use lp_wide::{Signed, Words, converted};
+use lp_natural::words::{Signed, Words, converted};
 use std::alloc::{AllocError, Global};
 
 // The same number, if it is not past the other width.

@@ -1,6 +1,6 @@
 -- The rows are moved.
 use Rattle.std.proofs.Common.{refl, ◌∙◌}
-use Rattle.lp_wide.specs.Whole.{whole}
+use Rattle.lp_natural.specs.Whole.{whole}
 use Rattle.lp_rows.proofs.Cleared.{written}
 use Rattle.lp_row_runs.proofs.Placed.{value_placed}
 use Rattle.lp_row_runs.proofs.equations.place_value.Goals as goal

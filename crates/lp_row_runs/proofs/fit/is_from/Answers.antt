@@ -1,5 +1,5 @@
 -- The value is not below the bound.
-use Rattle.lp_wide.specs.Whole.{whole}
+use Rattle.lp_natural.specs.Whole.{whole}
 use Rattle.lp_row_runs.proofs.Fitted.{from_bound}
 use Rattle.lp_row_runs.proofs.fit.is_from.Goals as goal
 

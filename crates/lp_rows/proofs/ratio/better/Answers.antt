@@ -1,5 +1,5 @@
 use Rattle.std.proofs.Common.{◌∙◌, sym, ap, Bool, Less, Equal, Greater, Ok, Some, cond}
-use Rattle.lp_wide.specs.Whole.{whole}
+use Rattle.lp_natural.specs.Whole.{whole}
 use Rattle.lp_rows.specs.Ratio.{best_of}
 use Rattle.lp_rows.proofs.Crosswise.{chosen, lesser, not_lesser}
 use Rattle.lp_rows.proofs.ratio.better.Goals as goal

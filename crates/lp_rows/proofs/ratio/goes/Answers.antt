@@ -1,5 +1,5 @@
 use Rattle.std.proofs.Common.{◌∙◌, ap, pos, int_cmp}
-use Rattle.lp_wide.specs.Whole.{whole}
+use Rattle.lp_natural.specs.Whole.{whole}
 use Rattle.lp_rows.proofs.Ratios.{gap_run_is}
 use Rattle.lp_rows.proofs.ratio.goes.Goals as goal
 

@@ -1,7 +1,7 @@
 use Rattle.std.proofs.Common.{◌∙◌, ap, Option, None}
 use Rattle.spec_exact.specs.Fraction.{over}
 use Rattle.spec_simplex.specs.Step.{with_gap}
-use Rattle.lp_wide.specs.Whole.{whole}
+use Rattle.lp_natural.specs.Whole.{whole}
 use Rattle.lp_rows.specs.Ratio.{gap_of}
 use Rattle.lp_rows.specs.declared.ratio.Gap.{Gap}
 use Rattle.lp_rows.proofs.Ratios.{stops}

@@ -1,6 +1,6 @@
 -- One number more, and one that stays.
 use Rattle.std.proofs.Common.{◌≤◌, ◌<◌, length, pos, sym, ap, ap₂, ◌∙◌, arith, ◌*ℤ◌, ◌-ℤ◌, refl}
-use Rattle.lp_wide.specs.Whole.{whole}
+use Rattle.lp_natural.specs.Whole.{whole}
 use Rattle.lp_rows.specs.Row.{at}
 use Rattle.lp_rows.proofs.Done.{one_done, one_kept, item-at}
 use Rattle.lp_rows.proofs.Kept.{once, less_none}

@@ -1,6 +1,6 @@
 -- The numbers that are done.
 use Rattle.std.proofs.Common.{◌*ℤ◌, ◌-ℤ◌}
-use Rattle.lp_wide.specs.Whole.{whole}
+use Rattle.lp_natural.specs.Whole.{whole}
 use Rattle.lp_rows.specs.Row.{at}
 use Rattle.lp_rows.proofs.Done.{IsDone}
 use Rattle.lp_rows.proofs.row.take_off.Given as goal

@@ -1,5 +1,5 @@
 use Rattle.std.proofs.Common.{refl}
-use Rattle.lp_wide.specs.Whole.{whole}
+use Rattle.lp_natural.specs.Whole.{whole}
 use Rattle.lp_rows.proofs.Lasts.{less_is}
 use Rattle.lp_rows.proofs.tableau.moves.less_last.Goals as goal
 

@@ -1,6 +1,6 @@
 use Rattle.std.proofs.Common.{◌<◌, length, arith}
 use Rattle.spec_exact.specs.Fraction.{over}
-use Rattle.lp_wide.specs.Whole.{whole}
+use Rattle.lp_natural.specs.Whole.{whole}
 use Rattle.lp_rows.proofs.Lasts.{one_moved}
 use Rattle.lp_rows.proofs.tableau.moves.move_all.Goals as goal
 

@@ -1,6 +1,6 @@
 -- The rows that are moved.
 use Rattle.spec_exact.specs.Fraction.{over}
-use Rattle.lp_wide.specs.Whole.{whole}
+use Rattle.lp_natural.specs.Whole.{whole}
 use Rattle.lp_rows.proofs.Lasts.{AreSoFar, moved_at}
 use Rattle.lp_rows.proofs.tableau.moves.move_all.Given as goal
 

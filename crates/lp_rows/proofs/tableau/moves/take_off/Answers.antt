@@ -1,4 +1,4 @@
-use Rattle.lp_wide.specs.Whole.{whole}
+use Rattle.lp_natural.specs.Whole.{whole}
 use Rattle.lp_rows.proofs.Lasts.{less_whole}
 use Rattle.lp_rows.proofs.tableau.moves.take_off.Goals as goal
 

@@ -1,7 +1,7 @@
 -- The row of the pivot, the rows that are cleared, and the value that enters.
 use Rattle.std.proofs.Common.{◌≡◌, neg_ℤ}
 use Rattle.spec_exact.specs.Fraction.{over}
-use Rattle.lp_wide.specs.Whole.{whole}
+use Rattle.lp_natural.specs.Whole.{whole}
 use Rattle.lp_rows.proofs.Lasts.{turned_by, less_neg}
 use Rattle.lp_rows.proofs.tableau.moves.turn_rows.Goals as goal
 

@@ -1,4 +1,4 @@
-use Rattle.lp_wide.specs.Whole.{whole}
+use Rattle.lp_natural.specs.Whole.{whole}
 use Rattle.lp_rows.proofs.Stops.{between}
 use Rattle.lp_rows.proofs.tableau.ratio.stop_between.Goals as goal
 
