@@ -1,7 +1,7 @@
 // Sessions of a world that publish at the same time.
 use lp_core::World;
-use lp_gen::make;
 use lp_line::{Ask, Plain, Reply};
+use lp_text_commands::make;
 use spec_board::Put;
 use spec_server::Publication;
 use spec_world::{Act, Event, StepEnd};

@@ -30,6 +30,10 @@
 //! | `print_route`, `print_basis_fault` | writes how a solve from a basis went, and what is wrong with a basis file | src/bases |
 //! | `print_fault` | writes what is wrong with a text or a basis file | src/basis_out |
 //! | `Prints` | what is put after what was printed before | specs/Prints |
+//! | `make` | the model of a seed, with so many rows and columns | src/generator |
+//! | `make` | the model of a seed, with so many rows and columns | src/generator |
+//!
+//! Which model that is, is `generated` of `spec_gen`, and how its numbers are drawn is `draw` there.
 #![tactic(auto)]
 
 mod based;
@@ -40,7 +44,9 @@ mod basis_out;
 mod basis_start;
 mod check;
 mod check_wide;
+mod draws;
 mod exit_status;
+mod generator;
 mod hearing;
 mod iis_out;
 mod made;
@@ -58,5 +64,6 @@ mod wide;
 mod wide_basis;
 
 pub use exit_status::ExitStatus;
+pub use generator::make;
 pub use made::generate;
 pub use text::read_text;

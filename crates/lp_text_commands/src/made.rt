@@ -8,9 +8,9 @@ ghost use Rattle.spec_server.specs.Machine.{pivots_of_solved};
 ghost use Rattle.spec_server.specs.Output.{pivots_text};
 ghost use Rattle.lp_text_commands.specs.Generating.{Writes};
 
+use crate::generator::make;
 use crate::solve::print_answer;
 use lp_base::{Bytes, Sink, send};
-use lp_gen::make;
 use lp_line::Halt;
 use lp_model::Model;
 use lp_solve::{End, OPENING_BUDGET, solved_within};

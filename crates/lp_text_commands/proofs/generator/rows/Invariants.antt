@@ -1,7 +1,7 @@
 use Rattle.std.proofs.Common.{◌≡◌}
 use Rattle.spec_gen.specs.Draws.{after}
 use Rattle.spec_gen.specs.Generated as generator
-use Rattle.lp_gen.proofs.generator.rows.Given as goal
+use Rattle.lp_text_commands.proofs.generator.rows.Given as goal
 
 -- the rows before this one
 abbrev pub invariant-loop-i : goal.invariant-loop-i

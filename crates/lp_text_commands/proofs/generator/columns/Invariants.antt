@@ -1,6 +1,6 @@
 use Rattle.std.proofs.Common.{◌≡◌}
 use Rattle.spec_gen.specs.Generated as generator
-use Rattle.lp_gen.proofs.generator.columns.Given as goal
+use Rattle.lp_text_commands.proofs.generator.columns.Given as goal
 
 -- the columns before this one
 abbrev pub invariant-loop-j : goal.invariant-loop-j

@@ -1,7 +1,7 @@
 use Rattle.std.proofs.Common.{ap, ◌∙◌}
 use Rattle.spec_gen.specs.Generated.{at_column, generated_rows, generated_columns, generated}
 use Rattle.spec_gen.proofs.Keeping.{generated-kept}
-use Rattle.lp_gen.proofs.generator.make.Goals as goal
+use Rattle.lp_text_commands.proofs.generator.make.Goals as goal
 
 pub new-requires : goal.new-requires
 unfolding generated

@@ -1,6 +1,6 @@
 use Rattle.std.proofs.Common.{◌≡◌}
 use Rattle.spec_gen.specs.Generated as generator
-use Rattle.lp_gen.proofs.generator.entries.Given as goal
+use Rattle.lp_text_commands.proofs.generator.entries.Given as goal
 
 -- the entries of the rows before this one
 abbrev pub invariant-loop-row : goal.invariant-loop-row

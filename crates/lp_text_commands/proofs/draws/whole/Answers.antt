@@ -9,7 +9,7 @@ use Rattle.spec_exact.proofs.Field.{whole_over}
 use Rattle.spec_exact.specs.Narrow.{number_limit}
 use Rattle.lp_frac.specs.declared.frac.FracFault.{FracFault}
 use Rattle.lp_frac.specs.Answer.{checked, fraction_of}
-use Rattle.lp_gen.proofs.draws.whole.Goals as goal
+use Rattle.lp_text_commands.proofs.draws.whole.Goals as goal
 
 checked_whole : (n : ℕ) → n < 2 ^ 32 → checked (whole (pos n)) ≡ Ok (whole (pos n))
 unfolding whole
