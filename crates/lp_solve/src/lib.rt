@@ -10,9 +10,9 @@
 //! checker says yes to the certificate, as of each other.
 //!
 //! A wide solve that is refused an operation with little work over rows asks for the answer of the basis that a run in
-//! floats guesses (lp_rough), before the long runs over rows: whatever the guess is, its certificate is checked without a
+//! floats guesses (lp_guess), before the long runs over rows: whatever the guess is, its certificate is checked without a
 //! limit. A wide solve from a basis whose start is refused an operation asks first for the certificate of the basis as it is
-//! (lp_lift), which no run has to find, and has it checked without a limit.
+//! (lp_guess), which no run has to find, and has it checked without a limit.
 //!
 //! | Item | What it is | Where |
 //! |---|---|---|
