@@ -6,7 +6,8 @@
 
 The rows ask for at least something, or have room for at most something; the columns cost something. A kind has 15 x 25 to 60 x 90
 rows and columns, 3 or 8 entries a column, and whole numbers from 1 to 9 or two decimals from 0.10 to 99.99: 20 kinds, 200 models.
---only takes the kinds of these sizes, as 15x25. Each model is solved by `PROGRAM solve`, by `PROGRAM solve --wide` for the names
+--only takes the kinds of these sizes, as 15x25, and those of 100x150, 150x250, 200x300 and 250x500 too, which nearly reach the
+limits of the format and are made only where they are named. Each model is solved by `PROGRAM solve`, by `PROGRAM solve --wide` for the names
 of --wide, and by esolver (Debian's qsopt-ex) where it is on the path. All that answer have to answer the same, and the checker in
 Python, which shares nothing with lpd, has to say yes to each certificate.
 
@@ -28,13 +29,23 @@ from solvers import CHECKER, Esolver, Model, least, run
 BEGIN, END = "<!-- measured by bench/planners.py -->", "<!-- end of the planners' models -->"
 ANSWERS = ("OPTIMAL", "INFEASIBLE", "UNBOUNDED")
 SIZES = [(15, 25), (20, 30), (30, 45), (40, 60), (60, 90)]
-KINDS = [(rows, columns, entries, numbers) for rows, columns in SIZES for entries in (3, 8) for numbers in ("whole", "decimals")]
+LARGE_SIZES = [(100, 150), (150, 250), (200, 300), (250, 500)]
 EACH = 10
 
 
+def of_sizes(sizes):
+    """The kinds of these sizes."""
+    return [(rows, columns, entries, numbers) for rows, columns in sizes for entries in (3, 8) for numbers in ("whole", "decimals")]
+
+
+KINDS = of_sizes(SIZES)
+
+
 def chosen(only):
-    """The kinds of these sizes, parted by commas; all where none is named."""
-    return [kind for kind in KINDS if not only or f"{kind[0]}x{kind[1]}" in only.split(",")]
+    """The kinds of these sizes, parted by commas, large ones too; those of SIZES where none is named."""
+    if not only:
+        return KINDS
+    return [kind for kind in of_sizes(SIZES + LARGE_SIZES) if f"{kind[0]}x{kind[1]}" in only.split(",")]
 
 
 def made(kind, seed, at):

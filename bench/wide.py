@@ -5,7 +5,8 @@
 
 The certificate of each answer goes to `lpd check --wide` and to the checker in Python, which both have to say yes to it and to the
 answer. esolver (Debian's qsopt-ex), where it is on the path, has to answer the same. Each of these has so many seconds of the
-processor (20), esolver as many of the wall. --only takes the made models of these sizes, as 15x25.
+processor (20), esolver as many of the wall. --only takes the made models of these sizes, as 15x25 or 250x500; --write then puts
+them between marks of their own.
 
 The table has a line for each kind of made models, ten of a kind, or for each model of FOLDER, whose texts are converted into the
 profile where they need it: how many are answered, or how the one ends; the bits of the longest number of a certificate; and the
@@ -25,6 +26,7 @@ from solvers import Esolver, least, limited
 
 BEGIN, END = "<!-- measured by bench/wide.py -->", "<!-- end of the wide solves -->"
 FOLDER_MARKS = "<!-- measured by bench/wide.py of a folder -->", "<!-- end of the folder's wide solves -->"
+SIZES_MARKS = "<!-- measured by bench/wide.py of some sizes -->", "<!-- end of these sizes' wide solves -->"
 Found = collections.namedtuple("Found", "ended bits solve check esolver")
 
 
@@ -91,7 +93,8 @@ def main():
     faults, found = [], []
     lines = shown(table(options, faults, found))
     short = " ".join(shown(summed_up(found, options.seconds)))
-    return ended(options.write, *(FOLDER_MARKS if options.folder else (BEGIN, END)), [short, "", *lines], faults)
+    marks = FOLDER_MARKS if options.folder else SIZES_MARKS if options.only else (BEGIN, END)
+    return ended(options.write, *marks, [short, "", *lines], faults)
 
 
 if __name__ == "__main__":
