@@ -15,7 +15,7 @@ use Rattle.lp_script.specs.declared.part.Part.{Part}
 use Rattle.lp_script.specs.Dealt.{AreDealt, AreHeld}
 use Rattle.lp_script.specs.Parts.{IsOpen}
 
-not_equal : (a b : ℕ) → nat_eq a b ≡ false → b ≢ a
+pub not_equal : (a b : ℕ) → nat_eq a b ≡ false → b ≢ a
 not_equal a b e same =
     let f : nat_eq a a ≡ false = ap (nat_eq a) (sym same) ∙ e in let g : nat_eq a a ≡ true = eq-eqb a a refl in cc
 

@@ -1,7 +1,7 @@
 -- One more ask of a worker.
 use Rattle.std.proofs.Common.{◌≡◌, ◌≢◌, ℕ, ◌+◌, ◌<◌, ◌≤◌, List, [], ◌∷◌, ◌++◌, Bool, true, false, nat_eq, cond, length}
-use Rattle.std.proofs.Common.{reverse, set, get_or, eqb-true, eq-eqb, refl, ap, sym, ◌∙◌, subst}
-use Rattle.std.proofs.Common.{append-nil, Some, zero, suc, replicate, arith, ⊎_elim}
+use Rattle.std.proofs.Common.{reverse, set, get_or, eqb-true, refl, ap, sym, ◌∙◌, subst}
+use Rattle.std.proofs.Common.{append-nil, Some, replicate, arith, ⊎_elim}
 use Rattle.std.specs.List.{All, AllByRecursion}
 use Rattle.std.proofs.lemmas.Grind.{flat_map-append}
 use Rattle.std.proofs.lemmas.List.{append_assoc, map-append, reverse-append, length-map}
@@ -33,12 +33,10 @@ use Rattle.lp_workers.proofs.Calls.{calls_places, calls_orderly}
 use Rattle.lp_script.specs.Answer.{states_of, state_at}
 use Rattle.lp_script.specs.declared.part.Part.{Part}
 use Rattle.lp_script.specs.Parts.{IsOpen, IsHired, HaveHad, IsServing}
+use Rattle.lp_script.proofs.Dealing.{not_equal}
+use Rattle.lp_script.proofs.Together.{states-replicate}
 
 -- ---- one session takes the step, and the others stay
-not_equal : (a b : ℕ) → nat_eq a b ≡ false → b ≢ a
-not_equal a b e same =
-    let f : nat_eq a a ≡ false = ap (nat_eq a) (sym same) ∙ e in let g : nat_eq a a ≡ true = eq-eqb a a refl in cc
-
 abbrev pub exchange_of : Asked ExactAsk → List ExactRead → ExactReply → Exchange
 exchange_of asked reads reply = record { session = asked.session; ask = asked.ask; reads = reads; reply = reply }
 
@@ -163,10 +161,6 @@ opening_at session =
     (let e = length-replicate 65 opening in omega (arith, e, l)))
     (cases_lt session 65)
 
-states_open : (n : ℕ) → states_of (replicate n (at_rest opening)) ≡ replicate n opening
-states_open zero = refl
-states_open (suc n) = ap (λ states. opening ∷ states) (states_open n)
-
 unread_reads : (v : View) → v.reads ≡ [] → reads_of v ≡ []
 unread_reads v unread = ap (λ reads. reads_of (record v { reads = reads })) unread
 
@@ -202,7 +196,7 @@ turn_begins board w opened fresh = record {
       replied = sym opened.replies;
       runs = λ session.
           ap (λ all. state_at (states_of all) session) opened.sessions
-          ∙ ap (λ states. state_at states session) (states_open 65)
+          ∙ ap (λ states. state_at states session) (states-replicate 65)
           ∙ opening_at session;
       reads = unread_reads w.pass.view fresh.unread;
       orderly = record {

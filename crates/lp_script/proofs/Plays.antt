@@ -3,19 +3,14 @@ use Rattle.std.proofs.Common.{◌≡◌, ℕ, List, [], ◌∷◌, ◌++◌, map
 use Rattle.std.specs.Prelude.{reverse}
 use Rattle.std.proofs.lemmas.List.{map-append, reverse-append, append_cancel_left}
 use Rattle.spec_board.specs.Reads.{Words, ExactRead}
-use Rattle.spec_board.specs.Places.{ExactPlace, Logged, logged, Answers, Plays}
+use Rattle.spec_board.specs.Places.{logged, Answers, Plays}
+use Rattle.spec_server.proofs.RunLemmas.{Plays-append}
 use Rattle.basis_board.specs.declared.seats.View.{View}
 use Rattle.basis_board.specs.declared.seats.RawRead.{RawRead}
 use Rattle.basis_board.specs.Board.{Each, Has}
 use Rattle.basis_board.proofs.Totals.{has_right}
 use Rattle.basis_board.specs.PassReads.{exact_read, reads_of}
 use Rattle.lp_script.specs.Sharing.{as_places}
-
-plays_append : (places : ℕ) (now middle last : List ExactPlace) (xs ys : List Logged) → Plays places now xs middle →
-    Plays places middle ys last → Plays places now (xs ++ ys) last
-plays_append places now middle last [] ys first second = subst (λ now. Plays places now ys last) first second
-plays_append places now middle last (x ∷ xs) ys first second =
-    (first.0, first.1, plays_append places first.0 middle last xs ys first.2 second)
 
 -- ---- reads of a pass, of which the newest stands first
 abbrev pub in_turn : List RawRead → List ExactRead
@@ -47,7 +42,7 @@ pub played_on : (places : ℕ) (done middle next : List Words) (old more : List 
 played_on places done middle next old more first second = λ session.
     subst (λ log. Plays places (as_places done) log (as_places next))
     (sym (ap (logged session) (in_turn-append more old) ∙ map-append _ (in_turn old) (in_turn more)))
-    (plays_append places (as_places done) (as_places middle) (as_places next) (logged session (in_turn old))
+    (Plays-append places (as_places done) (as_places middle) (as_places next) (logged session (in_turn old))
     (logged session (in_turn more)) (first session) (second session))
 
 -- a read that changes nothing

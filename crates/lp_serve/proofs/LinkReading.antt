@@ -1,6 +1,6 @@
 -- What was read of a link, and the asks that come first in all that it sends.
 use Rattle.std.proofs.Common.{◌≡◌, ℕ, ◌≤◌, ◌^◌, List, ◌++◌, length, take, Bool, true, false, Option, Err, ap, sym}
-use Rattle.std.proofs.Common.{◌∙◌, refl, subst, inl, inr, ⊎_elim, ◌⊎◌, append_assoc, arith}
+use Rattle.std.proofs.Common.{◌∙◌, refl, subst, inl, inr, ⊎_elim, append_assoc, arith}
 use Rattle.std.specs.Io.KnownBytes.{Consumes}
 use Rattle.std.proofs.KnownBytes.{Consumes-trans}
 use Rattle.spec_text.specs.Lines.{ended_lines_of, input_limit}
@@ -11,10 +11,10 @@ use Rattle.spec_server.specs.Script.{Script}
 use Rattle.spec_serve.specs.Link.{HoldsOfAll}
 use Rattle.spec_serve.proofs.LinkAsks.{AsksBegin, asks_of_lines, begins_whole, begins_part}
 use Rattle.lp_base.specs.LinesState.{LinesState, at_start}
-use Rattle.lp_base.specs.Taking.{BeginsWith, Tells, TakesLines, StaysEnded, ReadsLines, ReadsUntil}
+use Rattle.lp_base.specs.Taking.{BeginsWith, Tells, TakesLines, ReadsLines, ReadsUntil}
 use Rattle.lp_base.specs.declared.lines.LineStop.{LineStop}
 use Rattle.lp_base.specs.declared.lines.LineStop.TheVariants.{Read, NoMemory}
-use Rattle.lp_base.proofs.TakingLemmas.{told_all, told_at_fault}
+use Rattle.lp_base.proofs.TakingLemmas.{told_all, told_at_fault, from_start}
 
 -- ---- what holds of all that a link sends
 
@@ -42,12 +42,6 @@ fewer_first after read xs ys first =
     first
 
 -- ---- lines that were taken from the start
-
-from_start : {before after : Option (List ℕ)} {bytes : List ℕ} {new : LinesState} {lines : List (Line (List ℕ))} →
-    TakesLines after at_start bytes new lines ⊎ StaysEnded before after at_start bytes new lines →
-    TakesLines after at_start bytes new lines
-from_start (inl t) = t
-from_start (inr s) = absurd (let e = s.ended in cc)
 
 begun : (ended : Bool) (after : Option (List ℕ)) (raw ahead : List ℕ) (lines : List (Line (List ℕ))) →
     ended ≡ false → Tells ended after raw ahead lines → BeginsWith raw lines
