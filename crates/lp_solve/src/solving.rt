@@ -1,11 +1,12 @@
 // The solve of a model, of which a basis may be handed.
-ghost use Rattle.std.specs.Prelude.{◌≡◌, ℕ, IfOk, IfSome, Ok, Some, None, option_map};
+ghost use Rattle.std.specs.Prelude.{◌≡◌, ℕ, IfOk, IfErr, IfSome, Ok, Some, None, option_map};
 ghost use Rattle.spec_exact.specs.Narrow.{number_limit};
 ghost use Rattle.spec_simplex.specs.Eliminate.{IsBasisOf};
 ghost use Rattle.spec_simplex.specs.Form.{form_of};
 ghost use Rattle.spec_runs.specs.declared.ends.Route.TheVariants as route;
 ghost use Rattle.spec_runs.specs.Solve as solve;
 ghost use Rattle.spec_solve.specs.Answers.{IsSolved};
+ghost use Rattle.lp_frac.specs.declared.stop.Stop.TheVariants as stops;
 ghost use Rattle.lp_form.specs.Answer.{IsFaultOf};
 ghost use Rattle.lp_solve.specs.Fit.{LeavesBasis};
 ghost use Rattle.lp_solve.specs.Formless.{HasNoForm};
@@ -141,6 +142,7 @@ pub fn solve_formless(model: &Model, stop: FormStop) -> Result<Solved, AllocErro
     requires { IsFaultOf (form_of (Some number_limit) model.now) stop }
     ensures solved { IfOk result (λ s. (budget : ℕ) → IsSolved model.now budget None s) }
     ensures formless { IfOk result (λ _. HasNoForm model.now) }
+    ensures memory { IfErr result (λ _. stop ≡ stops.NoMemory) }
 {
     match stop {
         Stop::Cause(clash) => {
