@@ -1,5 +1,6 @@
 // The asks of a script, answered by so many workers.
 ghost use Rattle.std.specs.Prelude.{◌≤◌, All, IfOk};
+ghost use Rattle.spec_server.specs.Shared.{IsPlaces, IsWorkers};
 ghost use Rattle.lp_script.specs.AnswersAll.{AnswersAll};
 
 use crate::deal::{collect, deal, open_parts};
@@ -19,8 +20,8 @@ pub fn answer_all<R: Threads + Wait + Sync, G: Gate + Sync>(
     places: u32,
     gate: &G,
 ) -> Result<Vec<Reply>, AllocError>
-    requires workers { (1 ≤ workers) × (workers ≤ 16) }
-    requires places { (1 ≤ places) × (places ≤ 1024) }
+    requires workers { IsWorkers workers }
+    requires places { IsPlaces places }
     requires sessions { All (λ asked. asked.session ≤ 64) asks.items }
     ensures { IfOk result (λ replies. AnswersAll workers places asks.items replies.items) }
 {

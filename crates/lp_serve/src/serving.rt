@@ -1,6 +1,7 @@
 // The links of many listeners, each served by a worker of its own.
 ghost use Rattle.std.specs.Prelude.{◌≡◌, ◌≤◌, ◌<◌, All, IsErrOf, map, vec_len};
 ghost use Rattle.std.specs.List.{list_any};
+ghost use Rattle.spec_server.specs.Shared.{IsPlaces, IsWorkers};
 ghost use Rattle.lp_base.specs.Causes.{Rose};
 ghost use Rattle.lp_base.specs.Listening.{listener_of};
 ghost use Rattle.lp_serve.specs.Desks.{IsOpen, nets_of};
@@ -50,9 +51,9 @@ fn serve_desks<R: Threads + Wait + Sync, N: Listen + Send + Drop, K: Sink>(
 ) -> Result<(), ServeFault>
 where
     N::Link: Send,
-    requires desks { (1 ≤ vec_len desks.old) × (vec_len desks.old ≤ 16) }
+    requires desks { IsWorkers (vec_len desks.old) }
     requires opened { All (IsOpen each) desks.old.items }
-    requires places { (1 ≤ places) × (places ≤ 1024) }
+    requires places { IsPlaces places }
     ensures len { vec_len desks.new ≡ vec_len desks.old }
     ensures serves { Serves places each
         (map (listener_of N.log N.accept_faults) (nets_of desks.old.items))
@@ -79,9 +80,9 @@ pub fn serve<R: Threads + Wait + Sync, N: Listen + Send + Drop, K: Sink>(
 ) -> Result<(), ServeFault>
 where
     N::Link: Send,
-    requires nets { (1 ≤ vec_len nets.old) × (vec_len nets.old ≤ 16) }
+    requires nets { IsWorkers (vec_len nets.old) }
     requires each { (1 ≤ each) × (each ≤ 1000) }
-    requires places { (1 ≤ places) × (places ≤ 1024) }
+    requires places { IsPlaces places }
     ensures len { vec_len nets.new ≡ vec_len nets.old }
     ensures serves { Serves places each
         (map (listener_of N.log N.accept_faults) nets.old.items)

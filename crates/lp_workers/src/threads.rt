@@ -1,5 +1,6 @@
 // The turns of workers, on threads.
 ghost use Rattle.std.specs.Prelude.{◌≡◌, ◌≤◌, ◌<◌, All, OnOk, OnErr, length, vec_len};
+ghost use Rattle.spec_server.specs.Shared.{IsPlaces};
 ghost use Rattle.lp_workers.specs.Passes.{IsUsed};
 ghost use Rattle.lp_workers.specs.Turns.{IsReady, TookTurn, TakeTurns, TookTurns, passes_of};
 
@@ -73,7 +74,7 @@ pub fn on_threads<R: Threads + Wait + Sync, C: Sync, T: Turn<C> + Send + Drop>(
     shared: &C,
     jobs: &mut Vec<T>,
 ) -> Result<(), AllocError>
-    requires places { (1 ≤ places) × (places ≤ 1024) }
+    requires places { IsPlaces places }
     requires some { 1 ≤ vec_len jobs.old }
     requires few { vec_len jobs.old < 64 }
     requires ready { All (T.is_ready shared.now) jobs.old.items }
