@@ -13,6 +13,10 @@ pub for_rows : (limit : Option ℕ) (m : Model) (f : Form) (n : ℕ) → form_of
 for_rows limit m f n h e = e ∙ sym (ap (λ f. f.rows) (form_is limit m f h).2)
 
 -- the lists of a pair, where there is one
-pub lists_of : (o : Option (List ℚ × List ℚ)) (p : List ℚ × List ℚ) (f : Form) → o ≡ Some p →
-    IfSome o (λ g. (length g.0 ≡ f.cols) × (length g.1 ≡ f.rows)) → (length p.0 ≡ f.cols) × (length p.1 ≡ f.rows)
-lists_of o p f e h = subst (λ o. IfSome o (λ g. (length g.0 ≡ f.cols) × (length g.1 ≡ f.rows))) e h
+pub lists_of : (o : Option (List ℚ × List ℚ)) (p : List ℚ × List ℚ) (n k : ℕ) → o ≡ Some p →
+    IfSome o (λ g. (length g.0 ≡ n) × (length g.1 ≡ k)) → (length p.0 ≡ n) × (length p.1 ≡ k)
+lists_of o p n k e h = subst (λ o. IfSome o (λ g. (length g.0 ≡ n) × (length g.1 ≡ k))) e h
+
+-- a list, where there is one
+pub list_of : (o : Option (List ℚ)) (l : List ℚ) (n : ℕ) → o ≡ Some l → IfSome o (λ g. length g ≡ n) → length l ≡ n
+list_of o l n e h = subst (λ o. IfSome o (λ g. length g ≡ n)) e h

@@ -1,1 +1,2 @@
+pub mod Guessed
 pub mod Prime

@@ -1,15 +1,20 @@
-// The certificate of a basis: a guess, and what is checked of it.
+// Certificates that are guessed: that of a basis, and that of how a run in floats ends.
 ghost use Rattle.std.specs.Prelude.{◌≡◌, Ok, Some, IfOk, IfSome};
 ghost use Rattle.spec_exact.specs.Narrow.{number_limit};
 ghost use Rattle.spec_check.specs.Certificate.{IsFor};
 ghost use Rattle.spec_simplex.specs.Eliminate.{IsBasisOf};
 ghost use Rattle.spec_simplex.specs.Form.{form_of};
 ghost use Rattle.spec_solve.specs.OfBasis.{IsOfBasis};
+ghost use Rattle.lp_guess.specs.Guessed.{IsGuessed};
 
 use crate::guess::guess;
+use crate::ray::ray;
+use crate::refutation::refutation;
+use crate::rough::{Moving, Rough, RoughEnd, is_basis, rough_end};
 use crate::stands::stands;
 use lp_check::wide::Certificate;
 use lp_form::{Form, Status};
+use lp_frac::Frac;
 use lp_model::Model;
 use std::alloc::{AllocError, Global};
 
@@ -38,5 +43,84 @@ pub fn certificate_of_basis(
         drop(x);
         drop(y);
         Ok(None)
+    }
+}
+
+// The certificate of these statuses, if they are a basis of the form.
+fn at_optimum(
+    alloc: Global,
+    model: &Model,
+    form: &Form,
+    statuses: &[Status],
+) -> Result<Option<Certificate>, AllocError>
+    requires { form_of (Some number_limit) model.now ≡ Ok form.now }
+    ensures { IfOk result (λ o. IfSome o (IsGuessed model.now form.now)) }
+{
+    if is_basis(form, statuses) {
+        certificate_of_basis(alloc, model, form, statuses)
+    } else {
+        Ok(None)
+    }
+}
+
+// Multipliers that no point meets, likely.
+fn refuting(
+    alloc: Global,
+    model: &Model,
+    form: &Form,
+    statuses: &[Status],
+    outside: &[Frac],
+) -> Result<Option<Certificate>, AllocError>
+    requires { form_of (Some number_limit) model.now ≡ Ok form.now }
+    ensures { IfOk result (λ o. IfSome o (IsGuessed model.now form.now)) }
+{
+    match refutation(alloc, form, statuses, outside)? {
+        Some(y) => Ok(Some(Certificate::Infeasible { y })),
+        None => Ok(None),
+    }
+}
+
+// A point and a ray, likely.
+fn unlimited(
+    alloc: Global,
+    model: &Model,
+    form: &Form,
+    statuses: &[Status],
+    moving: Moving,
+) -> Result<Option<Certificate>, AllocError>
+    requires { form_of (Some number_limit) model.now ≡ Ok form.now }
+    ensures { IfOk result (λ o. IfSome o (IsGuessed model.now form.now)) }
+{
+    match ray(alloc, form, statuses, moving)? {
+        Some((x, r)) => Ok(Some(Certificate::Unbounded { x, r })),
+        None => Ok(None),
+    }
+}
+
+/// The certificate of the end of a run in floats: that of a basis of the form, or one that there is no optimum. Nothing is
+/// claimed of what it shows: that is for the checker.
+///
+/// There is none where the run has no end, and where the method finds none, as of `certificate_of_basis`. Only want of
+/// memory is an error.
+pub fn rough_certificate(
+    alloc: Global,
+    model: &Model,
+    form: &Form,
+) -> Result<Option<Certificate>, AllocError>
+    requires { form_of (Some number_limit) model.now ≡ Ok form.now }
+    ensures { IfOk result (λ o. IfSome o (IsGuessed model.now form.now)) }
+{
+    let Some(rough) = rough_end(alloc, form)? else {
+        return Ok(None);
+    };
+    let Rough { statuses, end } = &rough;
+    match end {
+        RoughEnd::Optimal => at_optimum(alloc, model, form, statuses.as_slice()),
+        RoughEnd::Infeasible(outside) => {
+            refuting(alloc, model, form, statuses.as_slice(), outside)
+        }
+        RoughEnd::Unbounded(moving) => {
+            unlimited(alloc, model, form, statuses.as_slice(), *moving)
+        }
     }
 }

@@ -2,7 +2,7 @@
 use crate::kernel::{Kernel, place_at, standing};
 use crate::whole::on_one_denominator;
 use lp_form::{Form, Status};
-use lp_frac::{Frac, is_zero, less_product, mul};
+use lp_frac::{Frac, is_zero, less_product, mul, zero};
 use std::alloc::{AllocError, Global};
 
 /// The numbers of an equation that are not 0, each with the position of its unknown.
@@ -226,6 +226,34 @@ pub(crate) fn right_sides(
                     return Ok(None);
                 }
             }
+        }
+    }
+    scaled(alloc, &list, scales)
+}
+
+/// The right sides where a column moves by this step and those that are not basic stand still, times the scales: what the
+/// basic ones move by is the solution. There are none where a number is past the limit.
+pub(crate) fn moving_sides(
+    alloc: Global,
+    form: &Form,
+    kernel: &Kernel,
+    scales: &[Frac],
+    column: usize,
+    step: Frac,
+) -> Result<Option<Vec<Frac>>, AllocError> {
+    let mut list = Vec::new(alloc);
+    for i in 0..form.rows() {
+        if place_at(&kernel.rows, i as usize).is_some() {
+            list.push(if form.logical(i) as usize == column {
+                step
+            } else {
+                zero()
+            })?;
+        }
+    }
+    for j in 0..form.cols() {
+        if j as usize == column && !take_column(&mut list, form.entries(j), &kernel.rows, step) {
+            return Ok(None);
         }
     }
     scaled(alloc, &list, scales)

@@ -50,8 +50,8 @@ fn quotient(
     }
 }
 
-// The solution of a system whose right sides are these, each number times its scale.
-fn solution(
+/// The solution of a system whose right sides are these, each number times its scale.
+pub(crate) fn solution(
     alloc: Global,
     system: &System,
     turned: &[Line],
@@ -82,8 +82,12 @@ fn solution(
     Ok(Some(list))
 }
 
-// The number at this position of a solution, 0 where there is none.
-fn solved_at(alloc: Global, solved: &[Ratio], place: usize) -> Result<Ratio, AllocError> {
+/// The number at this position of a solution, 0 where there is none.
+pub(crate) fn solved_at(
+    alloc: Global,
+    solved: &[Ratio],
+    place: usize,
+) -> Result<Ratio, AllocError> {
     match solved.get(place) {
         Some(number) => number.copied(alloc),
         None => Ratio::zero(alloc),
@@ -107,8 +111,8 @@ fn value(
     }
 }
 
-// The values of all structural columns.
-fn point(
+/// The values of all structural columns.
+pub(crate) fn point(
     alloc: Global,
     form: &Form,
     basis: &[Status],
@@ -150,11 +154,11 @@ fn multipliers(
     Ok(list)
 }
 
-// The two systems of a kernel: its equations, and those of its multipliers.
-struct Systems {
-    point: System,
-    multipliers: System,
-    scales: Vec<Frac>,
+/// The two systems of a kernel: its equations, and those of its multipliers.
+pub(crate) struct Systems {
+    pub(crate) point: System,
+    pub(crate) multipliers: System,
+    pub(crate) scales: Vec<Frac>,
 }
 
 impl Drop for Systems {
@@ -170,8 +174,12 @@ impl Drop for Systems {
     }
 }
 
-// The systems of a kernel, if it is regular modulo the prime.
-fn systems_of(alloc: Global, form: &Form, kernel: &Kernel) -> Result<Option<Systems>, AllocError> {
+/// The systems of a kernel, if it is regular modulo the prime.
+pub(crate) fn systems_of(
+    alloc: Global,
+    form: &Form,
+    kernel: &Kernel,
+) -> Result<Option<Systems>, AllocError> {
     let size = count(&kernel.columns);
     if count(&kernel.rows) != size {
         return Ok(None);
@@ -194,8 +202,8 @@ fn systems_of(alloc: Global, form: &Form, kernel: &Kernel) -> Result<Option<Syst
     }))
 }
 
-// The values of the basic columns.
-fn basic_values(
+/// The values of the basic columns.
+pub(crate) fn basic_values(
     alloc: Global,
     form: &Form,
     basis: &[Status],

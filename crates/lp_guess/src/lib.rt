@@ -1,17 +1,19 @@
-//! Guesses of a wide solve: a basis that is likely optimal, by the simplex method in floats; and the certificate of a basis, with
-//! numbers of any width, from two systems of the basis alone.
+//! Guesses of a wide solve: how a model is solved, by the simplex method in floats; and the certificate of a basis, or one that
+//! there is no optimum, with numbers of any width, from two systems of the basis alone.
 //!
 //! | Item | What it is | Where |
 //! |---|---|---|
 //! | `certificate_of_basis` | the point and the multipliers of a basis, if they are found | src/certificate |
+//! | `rough_certificate` | the certificate that the end of a run in floats leads to | src/certificate |
 //! | `stands` | whether a point and multipliers are those of a basis | src/stands |
 //! | `guess` | a point and multipliers, from the solutions of both systems | src/guess |
+//! | `refutation`, `ray` | multipliers that no point meets; a point with a ray | src/refutation, src/ray |
 //! | `Kernel` | the basic structural columns, and the rows whose logical is not basic | src/kernel |
 //! | `lines`, `right_sides` | their equations | src/equations, src/whole |
 //! | `inverted`, `lifted` | an inverse modulo a prime, and the digits of a solution by it | src/inverse, src/lifting, src/residue |
 //! | `lengths` | how many digits a solution takes | src/size |
 //! | `fractions` | the fractions that have these digits | src/fraction, src/digits |
-//! | `rough::rough_basis` | a basis that is likely optimal, by the simplex method in floats | src/rough |
+//! | `rough_end` | where the simplex method in floats ends, and with what | src/rough |
 //!
 //! The systems are solved by p-adic lifting (Dixon, "Exact solution of linear equations using p-adic expansions", 1982).
 //! Nothing is claimed of the numbers that the guess finds: what is used of them is what `stands` checks, with the exact
@@ -26,10 +28,12 @@ mod guess;
 mod inverse;
 mod kernel;
 mod lifting;
+mod ray;
+mod refutation;
 mod residue;
-pub mod rough;
+mod rough;
 mod size;
 mod stands;
 mod whole;
 
-pub use certificate::certificate_of_basis;
+pub use certificate::{certificate_of_basis, rough_certificate};

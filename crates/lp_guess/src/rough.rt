@@ -1,17 +1,17 @@
-//! A guess of an optimal basis of a form, by the simplex method in floats.
+//! A guess of how a form is solved, by the simplex method in floats.
 //!
 //! | Item | What it is | Where |
 //! |---|---|---|
-//! | `rough_basis` | a basis that is likely optimal | src/rough/rough |
+//! | `rough_end`, `Rough` | where the method ends, and with what | src/rough/rough |
 //! | `is_basis` | whether statuses are those of a basis | src/rough/fits |
-//! | `ends` | the run: rounds of steps, each on a tableau that was just rebuilt | src/rough/run |
+//! | `run` | the run: rounds of steps, each on a tableau that was just rebuilt | src/rough/run |
 //! | `Tableau`, `exchange`, `rebuild` | tableaus of columns that are not basic alone | src/rough/tableau |
 //! | `priced`, `blocked` | which column enters, and which leaves | src/rough/pricing, src/rough/ratio |
 //! | `Program`, `in_floats`, `scale` | the form in floats, scaled by powers of two | src/rough/program, src/rough/scaling |
 //! | `float` | floats near fractions | src/rough/number |
 //!
 //! The method is that for bounded variables (Chvátal, "Linear Programming", 1983, chapter 8), with the ratio test of Harris
-//! ("Pivot selection methods of the Devex LP code", 1973). Nothing is claimed of what it finds but what `is_basis` checks.
+//! ("Pivot selection methods of the Devex LP code", 1973). Nothing is claimed of what it finds.
 
 mod fits;
 mod number;
@@ -23,4 +23,6 @@ mod run;
 mod scaling;
 mod tableau;
 
-pub use rough::rough_basis;
+pub(crate) use fits::is_basis;
+pub(crate) use rough::{Rough, RoughEnd, rough_end};
+pub(crate) use run::Moving;

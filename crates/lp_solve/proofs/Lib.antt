@@ -2,6 +2,7 @@ pub mod BothPhases
 pub mod Factored
 pub mod Left
 pub mod Pushed
+pub mod RoughEnds
 pub mod Runs
 pub mod Solved
 pub mod Unlimited

@@ -9,9 +9,9 @@
 //! gives up, the next one has the whole budget. Which comes first is a choice of speed alone. Of an answer over rows the
 //! checker says yes to the certificate, as of each other.
 //!
-//! A wide solve that is refused an operation with little work over rows asks for the answer of the basis that a run in
-//! floats guesses (lp_guess), before the long runs over rows: whatever the guess is, its certificate is checked without a
-//! limit. A wide solve from a basis whose start is refused an operation asks first for the certificate of the basis as it is
+//! A wide solve that is refused an operation with little work over rows asks for the certificate that the end of a run in
+//! floats leads to (lp_guess), of a basis or that there is no optimum, before the long runs over rows: whatever the guess
+//! is, it is checked without a limit. A wide solve from a basis whose start is refused an operation asks first for the certificate of the basis as it is
 //! (lp_guess), which no run has to find, and has it checked without a limit.
 //!
 //! | Item | What it is | Where |

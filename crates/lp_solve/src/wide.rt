@@ -6,8 +6,8 @@ ghost use Rattle.spec_simplex.specs.Eliminate.{IsBasisOf};
 ghost use Rattle.spec_simplex.specs.Form.{form_of};
 ghost use Rattle.spec_solve.specs.Answers.{IsSolved};
 ghost use Rattle.spec_solve.specs.declared.wide_solved.WideSolved.TheVariants as wides;
-ghost use Rattle.spec_solve.specs.Wide.{IsPastFrom, IsOfSomeBasis, IsWarmEnd, IsColdEnd, IsWideSolved, IsWideAnswer};
-ghost use Rattle.spec_solve.specs.Wide.{IsWideFrom};
+ghost use Rattle.spec_solve.specs.Wide.{IsPastFrom, IsOfSomeBasis, IsWithoutOptimum, IsWarmEnd, IsColdEnd, IsWideSolved};
+ghost use Rattle.spec_solve.specs.Wide.{IsWideAnswer, IsWideFrom};
 ghost use Rattle.lp_solve.specs.Stopped.{StopsFrom};
 ghost use Rattle.lp_solve.specs.Wide.{AcceptsEnd, IsCertified, IsCertifiedAt};
 
@@ -19,8 +19,7 @@ use crate::warm::{Warm, WarmStop, from_basis};
 use lp_check::wide::{Ratios, Verdict, check};
 use lp_form::{Basis, Form, StatusList, form};
 use lp_frac::Stop;
-use lp_guess::certificate_of_basis;
-use lp_guess::rough::rough_basis;
+use lp_guess::{certificate_of_basis, rough_certificate};
 use lp_model::Model;
 use lp_ratio::Ratio;
 use lp_row_runs::{RowEnd, wide_cold, wide_warm};
@@ -158,21 +157,20 @@ fn at_basis(
     }
 }
 
-// The answer of the basis at which a run in floating point stops, if the checker without a limit says yes to it.
-fn at_rough_basis(
-    alloc: Global,
-    model: &Model,
-    form: &Form,
-) -> Result<Option<WideAnswer>, AllocError>
+// What the end of a run in floating point leads to, if the checker without a limit says yes to its certificate.
+fn at_rough_end(alloc: Global, model: &Model, form: &Form) -> Result<Option<WideAnswer>, AllocError>
     requires { form_of (Some number_limit) model.now ≡ Ok form.now }
-    ensures { IfOk result (λ o. IfSome o (λ a. IsOfSomeBasis model.now a.known a.certificate)) }
+    ensures { IfOk result (λ o. IfSome o (λ a. IsOfSomeBasis model.now a.known a.certificate
+        ⊎ IsWithoutOptimum model.now a.known a.certificate)) }
 {
-    match rough_basis(alloc, form, None)? {
-        Some(statuses) => {
-            let basis = Basis::from_vec(statuses.into_vec(), form.rows());
-            let found = at_basis(alloc, model, form, &basis);
-            drop(basis);
-            found
+    match rough_certificate(alloc, model, form)? {
+        Some(certificate) => {
+            let end = RowEnd {
+                certificate,
+                basis: None,
+                pivots: 0,
+            };
+            checked(alloc, model, form, end, Route::Cold)
         }
         None => Ok(None),
     }
@@ -230,7 +228,7 @@ fn solve_wide_formed(
         End::Past(_) => {}
         End::Ended { .. } | End::Spent => return Ok(WideSolved::Narrow(solved)),
     }
-    match at_rough_basis(alloc, model, form)? {
+    match at_rough_end(alloc, model, form)? {
         Some(found) => {
             drop(solved);
             Ok(wide(found))
@@ -240,8 +238,8 @@ fn solve_wide_formed(
 }
 
 /// Solves the model as `solve` does from the start that each model has, but with less work over rows of whole numbers.
-/// Only where that is refused an operation, it asks for the answer of the basis at which a run in floating point stops.
-/// Where there is none, it goes on over rows with all their work, and then over rows without a limit. Each certificate
+/// Only where that is refused an operation, it asks for what the end of a run in floating point leads to: the answer of a
+/// basis, or that there is no optimum. Where that comes to nothing, it goes on over rows with all their work, and then over rows without a limit. Each certificate
 /// past 127 bits may have numbers of any width, and is checked. Where nothing comes to an answer, the refusal stays.
 pub fn solve_wide(alloc: Global, model: &Model, budget: u64) -> Result<WideSolved, AllocError>
     ensures { IfOk result (IsWideSolved model.now budget) }

@@ -4,9 +4,12 @@ use Rattle.spec_exact.specs.Fraction.{ℚ}
 use Rattle.spec_exact.specs.declared.past.Past.{Past}
 use Rattle.spec_exact.specs.Narrow.{number_limit}
 use Rattle.spec_model.specs.Model.{Model}
+use Rattle.spec_model.specs.Truth.{IsInfeasible, IsUnbounded}
 use Rattle.spec_check.specs.declared.certificate.Certificate.{Certificate}
+use Rattle.spec_check.specs.declared.certificate.Certificate.TheVariants.{Optimal, Infeasible, Clash, Unbounded}
 use Rattle.spec_check.specs.declared.certificate.Known.{Known}
-use Rattle.spec_check.specs.Certificate.{IsFor, Holds}
+use Rattle.spec_check.specs.declared.certificate.Known.TheVariants as knows
+use Rattle.spec_check.specs.Certificate.{IsFor, Holds, shown}
 use Rattle.spec_check.specs.Run.{check_run}
 use Rattle.spec_check.specs.declared.solve_end.SolveEnd.TheVariants as outcome
 use Rattle.spec_check.proofs.RunSound.{run_sound}
@@ -21,8 +24,8 @@ use Rattle.spec_runs.specs.declared.ends.Route.TheVariants as found
 use Rattle.spec_runs.specs.declared.ends.Warm.TheVariants as start
 use Rattle.spec_runs.specs.Solve.{SolveEnd}
 use Rattle.spec_solve.specs.Answers.{IsSolved}
-use Rattle.spec_solve.specs.Wide.{ExactAnswer, IsUnlimited, IsOfSomeBasis, IsWarmEnd, IsColdEnd, IsRunEnd, IsAtHanded}
-use Rattle.spec_solve.specs.Wide.{IsWideAnswer, IsWideSolved}
+use Rattle.spec_solve.specs.Wide.{ExactAnswer, IsUnlimited, IsOfSomeBasis, IsWithoutOptimum, IsWarmEnd, IsColdEnd}
+use Rattle.spec_solve.specs.Wide.{IsRunEnd, IsAtHanded, IsWideAnswer, IsWideSolved, ShowsNoOptimum}
 use Rattle.spec_solve.specs.declared.wide_solved.WideSolved.TheVariants.{Wide}
 use Rattle.spec_solve.proofs.Left.{cold_left, warm_left}
 use Rattle.spec_solve.proofs.Solves.{cold_fits}
@@ -34,14 +37,33 @@ accepted_true m known cert fits accepted =
     let sound = run_sound None m cert known fits accepted in
     subst (Holds m) (sym sound.1) (checks_hold m cert sound.0)
 
--- the end of a cold solve without a limit, or the answer of a basis
+-- the end of a cold solve without a limit, the answer of a basis, or a certificate that there is no optimum
 pub wide_true : (m : Model) (budget : ℕ) (known : Known ℚ) (cert : Certificate (List ℚ)) →
-    IsUnlimited m budget known cert ⊎ IsOfSomeBasis m known cert →
+    IsUnlimited m budget known cert ⊎ (IsOfSomeBasis m known cert ⊎ IsWithoutOptimum m known cert) →
     Holds m known × IsFor m cert × (check_run None m cert ≡ Ok known)
 wide_true m budget known cert (inl u) =
     let t = ended_is_true None budget m known cert u.basis u.pivots u.ends in
     (t.0, cold_fits None budget m known cert u.basis u.pivots u.ends, t.1)
-wide_true m budget known cert (inr b) = (accepted_true m known cert b.fits b.accepted, b.fits, b.accepted)
+wide_true m budget known cert (inr (inl b)) = (accepted_true m known cert b.fits b.accepted, b.fits, b.accepted)
+wide_true m budget known cert (inr (inr w)) = (accepted_true m known cert w.fits w.accepted, w.fits, w.accepted)
+
+-- what is known without an optimum
+pub no_optimum : (m : Model) (known : Known ℚ) (cert : Certificate (List ℚ)) → IsWithoutOptimum m known cert →
+    ((known ≡ knows.Infeasible) × IsInfeasible m) ⊎ ((known ≡ knows.Unbounded) × IsUnbounded m)
+no_optimum m known cert w = by cert refl w.shows
+  where
+    holds : Holds m known
+    holds = accepted_true m known cert w.fits w.accepted
+
+    is_shown : (c : Certificate (List ℚ)) → cert ≡ c → known ≡ shown m c
+    is_shown c e = (run_sound None m cert known w.fits w.accepted).1 ∙ ap (shown m) e
+
+    by : (c : Certificate (List ℚ)) → cert ≡ c → ShowsNoOptimum c →
+        ((known ≡ knows.Infeasible) × IsInfeasible m) ⊎ ((known ≡ knows.Unbounded) × IsUnbounded m)
+    by (Optimal x y) e h = absurd h
+    by (Infeasible y) e h = let is = is_shown (Infeasible y) e in inl (is, subst (Holds m) is holds)
+    by (Clash j) e h = let is = is_shown (Clash j) e in inl (is, subst (Holds m) is holds)
+    by (Unbounded x r) e h = let is = is_shown (Unbounded x r) e in inr (is, subst (Holds m) is holds)
 
 -- ---- with a basis handed to it
 

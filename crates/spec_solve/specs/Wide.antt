@@ -1,10 +1,11 @@
 -- What a solve may end with whose certificate may have numbers of any width.
-use Rattle.std.specs.Prelude.{◌≡◌, ◌⊎◌, ℕ, List, Option, Some, None, Ok}
+use Rattle.std.specs.Prelude.{◌≡◌, ◌⊎◌, ℕ, ⊤, List, Option, Some, None, Ok}
 use Rattle.spec_exact.specs.Fraction.{ℚ}
 use Rattle.spec_exact.specs.declared.past.Past.{Past}
 use Rattle.spec_exact.specs.Narrow.{number_limit}
 use Rattle.spec_model.specs.Model.{Model}
 use Rattle.spec_check.specs.declared.certificate.Certificate.{Certificate}
+use Rattle.spec_check.specs.declared.certificate.Certificate.TheVariants.{Optimal, Infeasible, Clash, Unbounded}
 use Rattle.spec_check.specs.declared.certificate.Known.{Known}
 use Rattle.spec_check.specs.declared.solve_end.SolveEnd.TheVariants as outcome
 use Rattle.spec_check.specs.Certificate.{IsFor}
@@ -59,12 +60,26 @@ pub record IsOfSomeBasis (m : Model) (known : Known ℚ) (certificate : Certific
   pub fits : IsFor m certificate
   pub accepted : check_run None m certificate ≡ Ok known
 
--- As a solve; or, only where a solve may end with an operation that is past the limit, as the cold solve without one, or
--- with the answer of a basis.
+-- no optimum, but that there is none
+abbrev pub ShowsNoOptimum : Certificate (List ℚ) → Type 0
+ShowsNoOptimum (Optimal x y) = ⊥
+ShowsNoOptimum (Infeasible y) = ⊤
+ShowsNoOptimum (Clash j) = ⊤
+ShowsNoOptimum (Unbounded x r) = ⊤
+
+-- The certificate is that there is no optimum, and the checker says yes to it without a limit.
+pub record IsWithoutOptimum (m : Model) (known : Known ℚ) (certificate : Certificate (List ℚ)) : Type 0 where
+  pub shows : ShowsNoOptimum certificate
+  pub fits : IsFor m certificate
+  pub accepted : check_run None m certificate ≡ Ok known
+
+-- As a solve; or, only where a solve may end with an operation that is past the limit, as the cold solve without one, with
+-- the answer of a basis, or with a certificate that there is no optimum.
 abbrev pub IsWideSolved : Model → ℕ → WideEnd → Type 0
 IsWideSolved m budget (Narrow solved) = IsSolved m budget None solved
 IsWideSolved m budget (Wide known certificate) =
-    IsPastFrom m budget None × (IsUnlimited m budget known certificate ⊎ IsOfSomeBasis m known certificate)
+    IsPastFrom m budget None × (IsUnlimited m budget known certificate
+    ⊎ (IsOfSomeBasis m known certificate ⊎ IsWithoutOptimum m known certificate))
 
 -- the end of the start from what is handed, without a limit
 abbrev pub IsWarmEnd : Model → ℕ → Option (List Status) → ExactAnswer → Type 0

@@ -12,6 +12,7 @@
 //! | `WideSolved`, `IsWideSolved` | what a solve ends with whose certificate may have numbers of any width | src/wide_solved, specs/Wide |
 //! | `WideBased`, `WideAnswer`, `IsWideFrom` | the same of one to which a basis may be handed | src/wide_solved, specs/Wide |
 //! | `IsOfSomeBasis` | the answer of any basis of the model's form, to whose certificate the checker says yes | specs/Wide |
+//! | `IsWithoutOptimum` | a certificate that there is no optimum, to which the checker says yes | specs/Wide |
 //! | `IsOfBasis`, `StandsAt` | the certificate of a basis | specs/OfBasis |
 //! | `enough_pivots` | so many pivots and flips as are enough | specs/Answers |
 //!
@@ -28,7 +29,7 @@ ghost use Rattle.spec_exact.specs.Fraction.{ℚ};
 ghost use Rattle.spec_exact.specs.declared.past.Past.{Past};
 ghost use Rattle.spec_exact.specs.Narrow.{number_limit};
 ghost use Rattle.spec_model.specs.Model.{Model, value_of};
-ghost use Rattle.spec_model.specs.Truth.{IsOptimal};
+ghost use Rattle.spec_model.specs.Truth.{IsOptimal, IsInfeasible, IsUnbounded};
 ghost use Rattle.spec_model.specs.Kept.{IsModel};
 ghost use Rattle.spec_check.specs.declared.certificate.Certificate.{Certificate};
 ghost use Rattle.spec_check.specs.declared.certificate.Certificate.TheVariants as certificate;
@@ -51,7 +52,8 @@ ghost use Rattle.spec_solve.specs.Answers.{MayAnswer, IsSolved};
 ghost use Rattle.spec_solve.specs.OfBasis.{StandsAt};
 ghost use Rattle.spec_solve.specs.declared.wide_solved.WideBased.TheVariants as based;
 ghost use Rattle.spec_solve.specs.declared.wide_solved.WideSolved.TheVariants as wide;
-ghost use Rattle.spec_solve.specs.Wide.{ExactAnswer, IsAtBasis, IsAtHanded, IsOfSomeBasis, IsWideSolved, IsWideFrom};
+ghost use Rattle.spec_solve.specs.Wide.{ExactAnswer, IsAtBasis, IsAtHanded, IsOfSomeBasis, IsWithoutOptimum, IsWideSolved};
+ghost use Rattle.spec_solve.specs.Wide.{IsWideFrom};
 
 pub use wide_solved::{WideAnswer, WideBased, WideSolved};
 
@@ -203,7 +205,7 @@ pub fn wide_answers_agree()
 {}
 
 /// What is known of a model by two wide solves with nothing handed is the same, within each budget, and whether it is known
-/// as the end of the cold solve without a limit or as the answer of a basis.
+/// as the end of the cold solve without a limit, as the answer of a basis, or by a certificate that there is no optimum.
 pub fn wide_solves_agree()
     ensures { (m : Model) (budget other : ℕ) (known given : Known ℚ) (c d : Certificate (List ℚ)) →
         IsWideSolved m budget (wide.Wide known c) → IsWideSolved m other (wide.Wide given d) → known ≡ given }
@@ -215,6 +217,13 @@ pub fn answers_of_some_basis_are_optimal()
         (f : Form) × (basis : List Status) × (form_of (Some number_limit) m ≡ Ok f) × IsBasisOf f basis
         × (x : List ℚ) × (y : List ℚ) × (cert ≡ certificate.Optimal x y) × StandsAt m basis x y
         × (answer ≡ known.Optimal (value_of m x)) × IsOptimal m (value_of m x) }
+{}
+
+/// What is known by a certificate that there is no optimum is that the model has no feasible point, or that its cost has no
+/// limit, and this is so.
+pub fn answers_without_an_optimum_are_true()
+    ensures { (m : Model) (answer : Known ℚ) (cert : Certificate (List ℚ)) → IsWithoutOptimum m answer cert →
+        ((answer ≡ known.Infeasible) × IsInfeasible m) ⊎ ((answer ≡ known.Unbounded) × IsUnbounded m) }
 {}
 
 /// The answer of a basis that is handed is an optimum at the point of its certificate, which stands at the basis.

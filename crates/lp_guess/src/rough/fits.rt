@@ -3,17 +3,8 @@ ghost use Rattle.std.specs.Prelude.{◌≡◌, ◌<◌, ◌+◌, ℕ, IsTrue, le
 ghost use Rattle.spec_simplex.specs.Form.{form_lower, form_upper};
 ghost use Rattle.spec_simplex.specs.Eliminate.{CanStand, IsBasisOf, basis_at, basics_below};
 
+use crate::kernel::status_at;
 use lp_form::{Form, Status, is_basic};
-
-/// The status of column `k`, basic where there is none.
-pub(crate) fn status_at(basis: &[Status], k: usize) -> Status
-    ensures { result ≡ basis_at basis.now k }
-{
-    match basis.get(k) {
-        Some(status) => *status,
-        None => Status::Basic,
-    }
-}
 
 // Whether column `k` can stand so.
 fn can_stand(form: &Form, k: u32, status: Status) -> bool

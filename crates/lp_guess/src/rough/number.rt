@@ -62,3 +62,33 @@ pub(crate) fn fill(list: &mut [f64], with: f64) {
         *number = with;
     }
 }
+
+// How far from 1 a power of two may be that is told.
+const DOUBLINGS: u32 = 60;
+
+// The whole number that a power of two from 1 on is, if it is near enough to 1.
+fn whole_power(power: f64) -> Option<i128> {
+    let mut left = power;
+    let mut whole = 1i128;
+    for _ in 0..DOUBLINGS {
+        if left <= 1.0 {
+            return Some(whole);
+        }
+        left *= 0.5;
+        whole = whole.wrapping_mul(2);
+    }
+    None
+}
+
+/// The fraction that a power of two is, if it is near enough to 1.
+pub(crate) fn power(power: f64) -> Option<Frac> {
+    let (num, den) = if power >= 1.0 {
+        (whole_power(power)?, 1)
+    } else {
+        (1, whole_power(1.0 / power)?)
+    };
+    match Frac::new(num, den) {
+        Ok(fraction) => Some(fraction),
+        Err(_) => None,
+    }
+}

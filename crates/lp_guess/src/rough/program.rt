@@ -10,6 +10,8 @@ pub(crate) struct Column {
     pub(crate) lower: f64,
     pub(crate) upper: f64,
     pub(crate) cost: f64,
+    /// The power of two by which its values are multiplied.
+    pub(crate) factor: f64,
 }
 
 /// A form in floats: for each row the coefficient of each structural column, and the structural and then the logical
@@ -75,6 +77,7 @@ fn columns(alloc: Global, form: &Form) -> Result<Vec<Column>, AllocError> {
             lower: bound_or(*lower, f64::NEG_INFINITY),
             upper: bound_or(*upper, f64::INFINITY),
             cost: float(*cost),
+            factor: 1.0,
         })?;
     }
     Ok(list)
@@ -96,6 +99,7 @@ pub(crate) fn column_of(columns: &[Column], k: usize) -> Column {
             lower: 0.0,
             upper: 0.0,
             cost: 0.0,
+            factor: 1.0,
         },
     }
 }

@@ -1,42 +1,46 @@
-// A basis that is likely optimal.
-ghost use Rattle.std.specs.Prelude.{IfOk, IfSome};
-ghost use Rattle.spec_simplex.specs.Eliminate.{IsBasisOf};
-
-use crate::rough::fits::{is_basis, status_at};
-use crate::rough::number::at;
-use crate::rough::program::{Column, Program, column_of, in_floats, nearest_bound};
-use crate::rough::run::ends;
+// Where the method ends.
+use crate::rough::number::{at, power};
+use crate::rough::pricing::side;
+use crate::rough::program::{Column, column_of, in_floats, nearest_bound};
+use crate::rough::run::{End, Moving, TIGHT, run};
 use crate::rough::scaling::scale;
 use crate::rough::tableau::{Tableau, unsolved};
-use lp_form::{Form, Status, StatusList, is_basic};
+use lp_form::{Form, Status, StatusList};
+use lp_frac::{Frac, neg, zero};
 use std::alloc::{AllocError, Global};
 
-// Where a column begins that is to stand so.
-fn first_value(column: Column, status: Status) -> f64 {
-    match status {
-        Status::AtUpper => nearest_bound(column, column.upper),
-        Status::Basic | Status::AtLower | Status::AtZero => nearest_bound(column, column.lower),
+/// With what the method ends, likely.
+pub(crate) enum RoughEnd {
+    /// With an optimum.
+    Optimal,
+    /// Without a feasible point: the sum of infeasibilities is least. What each column counts in this sum: a number above 0
+    /// where it is above its bounds, and one below 0 where it is below them.
+    Infeasible(Vec<Frac>),
+    /// Without a limit on the cost: this column goes on for ever.
+    Unbounded(Moving),
+}
+
+impl Drop for RoughEnd {
+    fn drop(self) {
+        match self {
+            RoughEnd::Optimal | RoughEnd::Unbounded(_) => {}
+            RoughEnd::Infeasible(outside) => drop(outside),
+        }
     }
+}
+
+/// Where the method ends: how the columns stand, and with what.
+#[derive(Drop)]
+pub(crate) struct Rough {
+    pub(crate) statuses: StatusList,
+    pub(crate) end: RoughEnd,
 }
 
 // The value with which each column begins.
-fn first_values(
-    alloc: Global,
-    columns: &[Column],
-    start: &[Status],
-) -> Result<Vec<f64>, AllocError> {
+fn first_values(alloc: Global, columns: &[Column]) -> Result<Vec<f64>, AllocError> {
     let mut list = Vec::new(alloc);
-    for (k, column) in columns.iter().enumerate() {
-        list.push(first_value(*column, status_at(start, k)))?;
-    }
-    Ok(list)
-}
-
-// Which columns are to be basic.
-fn first_basic(alloc: Global, columns: usize, start: &[Status]) -> Result<Vec<bool>, AllocError> {
-    let mut list = Vec::new(alloc);
-    for k in 0..columns {
-        list.push(start.get(k).is_some() && is_basic(status_at(start, k)))?;
+    for column in columns {
+        list.push(nearest_bound(*column, column.lower))?;
     }
     Ok(list)
 }
@@ -63,33 +67,90 @@ fn statuses(alloc: Global, columns: &[Column], tab: &Tableau) -> Result<StatusLi
     Ok(list)
 }
 
-/// A basis of the form that is likely optimal, found by the simplex method in floats from this basis, or from that of the
-/// logical columns. Nothing is claimed of it but that it is a basis of the form.
-///
-/// There is none where the method finds no optimum: where the form has none, where it takes too many steps, and where the
-/// floats are not near enough. Only want of memory is an error.
-pub fn rough_basis(
+// Whether a column is basic and below (-1) or above (1) its bounds, or neither (0).
+fn side_outside(tab: &Tableau, k: usize, column: Column, is_basic: bool) -> f64 {
+    if is_basic {
+        side(column, at(&tab.value, k), TIGHT)
+    } else {
+        0.0
+    }
+}
+
+// The factor of the first column outside of its bounds.
+fn first_factor(columns: &[Column], tab: &Tableau) -> f64 {
+    for (k, is_basic) in tab.wanted.iter().enumerate() {
+        let column = column_of(columns, k);
+        if side_outside(tab, k, column, *is_basic) != 0.0 {
+            return column.factor;
+        }
+    }
+    1.0
+}
+
+// What a column on this side of its bounds counts in the sum of infeasibilities, if that is near enough to 1.
+fn part_outside(side: f64, factor: f64) -> Option<Frac> {
+    if side > 0.0 {
+        power(factor)
+    } else if side < 0.0 {
+        Some(neg(power(factor)?))
+    } else {
+        Some(zero())
+    }
+}
+
+// What each does, in units of the first one outside.
+fn parts_outside(
     alloc: Global,
-    form: &Form,
-    start: Option<&[Status]>,
-) -> Result<Option<StatusList>, AllocError>
-    ensures { IfOk result (λ o. IfSome o (λ basis. IsBasisOf form.now basis)) }
-{
+    columns: &[Column],
+    tab: &Tableau,
+) -> Result<Option<Vec<Frac>>, AllocError> {
+    let unit = first_factor(columns, tab);
+    let mut list = Vec::new(alloc);
+    for (k, is_basic) in tab.wanted.iter().enumerate() {
+        let column = column_of(columns, k);
+        let side = side_outside(tab, k, column, *is_basic);
+        match part_outside(side, column.factor / unit) {
+            Some(part) => list.push(part)?,
+            None => return Ok(None),
+        }
+    }
+    Ok(Some(list))
+}
+
+// With what the tableau ends, if its columns have factors near enough to 1.
+fn end_of(
+    alloc: Global,
+    columns: &[Column],
+    tab: &Tableau,
+    end: End,
+) -> Result<Option<RoughEnd>, AllocError> {
+    match end {
+        End::Optimal => Ok(Some(RoughEnd::Optimal)),
+        End::Unbounded(moving) => Ok(Some(RoughEnd::Unbounded(moving))),
+        End::Infeasible => {
+            let outside = parts_outside(alloc, columns, tab)?;
+            Ok(outside.map(RoughEnd::Infeasible))
+        }
+    }
+}
+
+/// Where the simplex method in floats ends that begins with the logical columns. Nothing is claimed of it.
+///
+/// There is no end where the method takes too many steps, and where the floats are not near enough. Only want of memory is
+/// an error.
+pub(crate) fn rough_end(alloc: Global, form: &Form) -> Result<Option<Rough>, AllocError> {
     let cols = form.cols() as usize;
     let mut program = in_floats(alloc, form)?;
     scale(alloc, &mut program, cols)?;
-    let start = start.unwrap_or(&[]);
-    let value = first_values(alloc, &program.columns, start)?;
-    let wanted = first_basic(alloc, program.columns.len(), start)?;
+    let value = first_values(alloc, &program.columns)?;
+    let wanted = Vec::from_elem(alloc, false, program.columns.len())?;
     let mut tab = unsolved(alloc, &program, cols, value, wanted)?;
-    if !ends(&mut tab, &program, cols, form.rows() * 2 + 200) {
+    let Some(end) = run(&mut tab, &program, cols, form.rows() * 2 + 200) else {
         return Ok(None);
-    }
+    };
+    let Some(end) = end_of(alloc, &program.columns, &tab, end)? else {
+        return Ok(None);
+    };
     let statuses = statuses(alloc, &program.columns, &tab)?;
-    if is_basis(form, statuses.as_slice()) {
-        Ok(Some(statuses))
-    } else {
-        drop(statuses);
-        Ok(None)
-    }
+    Ok(Some(Rough { statuses, end }))
 }

@@ -8,7 +8,7 @@ use crate::rough::tableau::{Tableau, exchange, keep_basis, rebuild};
 // How near to its bounds a value is taken for within them, and a reduced cost for 0: until an end is found, and then.
 const TOLERANCE: f64 = 1e-9;
 
-const TIGHT: f64 = 1e-11;
+pub(crate) const TIGHT: f64 = 1e-11;
 
 // How often the tableau is rebuilt at most.
 const ROUNDS: u32 = 20;
@@ -16,22 +16,40 @@ const ROUNDS: u32 = 20;
 // A step that is none.
 const NO_STEP: f64 = 1e-12;
 
+/// What the method ends with.
+#[derive(Clone, Copy)]
+pub(crate) enum End {
+    /// No column enters, and all are within their bounds.
+    Optimal,
+    /// No column enters, and some are outside of their bounds.
+    Infeasible,
+    /// A column enters that nothing stops.
+    Unbounded(Moving),
+}
+
+/// A column that goes on for ever, up or down.
+#[derive(Clone, Copy)]
+pub(crate) struct Moving {
+    pub(crate) column: usize,
+    pub(crate) rises: bool,
+}
+
 // What a step comes to.
-#[derive(Clone, Copy, PartialEq, Eq)]
+#[derive(Clone, Copy)]
 enum Step {
     Moved,
     StoodStill,
-    Ended,
+    Ended(End),
     Lost,
 }
 
 // What a round comes to.
-#[derive(Clone, Copy, PartialEq, Eq)]
+#[derive(Clone, Copy)]
 enum Round {
-    /// No column enters, at the start.
-    Rested,
-    /// None does, after steps.
-    Ended,
+    /// An end, at the start.
+    Rested(End),
+    /// An end, after steps.
+    Ended(End),
     Unfinished,
     Lost,
 }
@@ -70,13 +88,24 @@ fn moved(tab: &mut Tableau, columns: &[Column], entering: Entering, tolerance: f
     }
 }
 
+// The entering column, where nothing stops it.
+fn going_on(tab: &Tableau, entering: Entering) -> Moving {
+    Moving {
+        column: column_at(&tab.others, entering.place),
+        rises: entering.direction > 0.0,
+    }
+}
+
 // One step.
 fn make_step(tab: &mut Tableau, columns: &[Column], tolerance: f64, stalled: u32) -> Step {
     let (found, is_outside) = priced(tab, columns, tolerance, stalled);
     match found {
-        Some(entering) => moved(tab, columns, entering, tolerance),
-        None if is_outside => Step::Lost,
-        None => Step::Ended,
+        Some(entering) => match moved(tab, columns, entering, tolerance) {
+            Step::Lost if !is_outside => Step::Ended(End::Unbounded(going_on(tab, entering))),
+            step => step,
+        },
+        None if is_outside => Step::Ended(End::Infeasible),
+        None => Step::Ended(End::Optimal),
     }
 }
 
@@ -87,28 +116,29 @@ fn run_round(tab: &mut Tableau, columns: &[Column], tolerance: f64, steps: u32) 
         match make_step(tab, columns, tolerance, stalled) {
             Step::Moved => stalled = 0,
             Step::StoodStill => stalled = stalled.wrapping_add(1),
-            Step::Ended if n == 0 => return Round::Rested,
-            Step::Ended => return Round::Ended,
+            Step::Ended(end) if n == 0 => return Round::Rested(end),
+            Step::Ended(end) => return Round::Ended(end),
             Step::Lost => return Round::Lost,
         }
     }
     Round::Unfinished
 }
 
-/// Goes on until no column enters a tableau that was just rebuilt, with so many steps between two of them. Where it is
-/// false no end was found.
-pub(crate) fn ends(tab: &mut Tableau, program: &Program, cols: usize, steps: u32) -> bool {
-    let mut tolerance = TOLERANCE;
+/// Goes on until an end in a tableau that was just rebuilt, with so many steps between two of them. Where there is none
+/// in time it is the last end that was found, if one was.
+pub(crate) fn run(tab: &mut Tableau, program: &Program, cols: usize, steps: u32) -> Option<End> {
+    let mut found = None;
     for _ in 0..ROUNDS {
         rebuild(tab, program, cols);
+        let tolerance = if found.is_some() { TIGHT } else { TOLERANCE };
         let round = run_round(tab, &program.columns, tolerance, steps);
         keep_basis(tab);
         match round {
-            Round::Rested if tolerance == TIGHT => return true,
-            Round::Rested | Round::Ended => tolerance = TIGHT,
+            Round::Rested(end) if found.is_some() => return Some(end),
+            Round::Rested(end) | Round::Ended(end) => found = Some(end),
             Round::Unfinished => {}
             Round::Lost => break,
         }
     }
-    tolerance == TIGHT
+    found
 }

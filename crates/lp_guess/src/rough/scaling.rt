@@ -61,6 +61,7 @@ fn scale_rows(rows: &mut [Vec<f64>], columns: &mut [Column], cols: usize) {
         multiply(row, times);
         logical.lower *= times;
         logical.upper *= times;
+        logical.factor *= times;
         logical.cost /= times;
     }
 }
@@ -91,6 +92,7 @@ fn scale_columns(columns: &mut [Column], least: &mut [f64], most: &[f64]) {
         let times = factor(*least, *most);
         column.lower /= times;
         column.upper /= times;
+        column.factor /= times;
         column.cost *= times;
         *least = times;
     }
