@@ -3,13 +3,13 @@
 The first way is the program's own solve. Where it ends past 127 bits, or after the pivots that it makes where nobody sets a
 budget, a person still wants an answer. The other ways are, one after the other:
 
-1. if another solver is there, its basis, made exact by `lpd basis --wide` or by exact steps in Python;
-2. past 127 bits `lpd presolve`, in whose smaller model numbers are often shorter;
-3. past 127 bits `lpd solve --wide`, whose numbers have more of them;
+1. past 127 bits `lpd solve --wide`, whose numbers have more of them;
+2. if another solver is there, its basis, made exact by `lpd basis --wide` or by exact steps in Python; first where it is named;
+3. past 127 bits `lpd presolve`, in whose smaller model numbers are often shorter;
 4. a basis that rough steps in Python come to, made exact likewise.
 
-They have some seconds together: each may take half of those that are left, and the last one all. Whatever finds an answer, its
-certificate is judged, and it is said who accepted it.
+They have some seconds together: the first may take a quarter, each further one half of those that are left, and the last one
+all. Whatever finds an answer, its certificate is judged, and it is said who accepted it.
 """
 from __future__ import annotations
 
@@ -247,9 +247,10 @@ def from_another_basis(text: str, model: Model, effort: Effort, watch: Watch) ->
 
 
 def by_solve_wide_then(text: str, model: Model, effort: Effort, watch: Watch) -> Answered:
-    """The answer of `lpd solve --wide`, which may run out of memory."""
+    """The answer of `lpd solve --wide`, which may run out of memory. Mostly it is there within a second."""
     try:
-        found = by_solve_wide(text, model, watch)
+        with watch.half() as part:
+            found = by_solve_wide(text, model, part)
     except ProgramEnded as ended:
         raise WayFailed(str(ended)) from None
     if not found.certificate:
@@ -264,14 +265,10 @@ def from_own_basis(text: str, model: Model, effort: Effort, watch: Watch) -> Ans
 def ways_after(first: Optional[Answered], effort: Effort) -> List[Way]:
     """The ways that are left, in their order, where the program ended so, or refused a text with such numbers."""
     past = first.way.partition(",")[0] if first is not None and isinstance(first.answer, Past) else None
-    ways: List[Way] = []
-    if other_solver(effort.solver) != NONE:
-        ways.append(from_another_basis)
-    if past in (SOLVE, SOLVE_WIDE):
-        ways.append(by_presolve_then)
-    if past in (SOLVE, PRESOLVE) and effort.wide and not effort.wide_first:
-        ways.append(by_solve_wide_then)
-    return [*ways, from_own_basis]
+    wide: List[Way] = [by_solve_wide_then] if past in (SOLVE, PRESOLVE) and effort.wide and not effort.wide_first else []
+    basis: List[Way] = [from_another_basis] if other_solver(effort.solver) != NONE else []
+    smaller: List[Way] = [by_presolve_then] if past in (SOLVE, SOLVE_WIDE) else []
+    return [*(wide + basis if effort.solver is None else basis + wide), *smaller, from_own_basis]
 
 
 def answered(text: str, model: Model, effort: Effort = Effort()) -> Answered:

@@ -41,6 +41,7 @@ ENDATA
 """
 PAST = lpd.Past("ADD", Fraction(1), Fraction(2))
 KNOWN = lpd.Presolved(lpd.Optimal(Fraction(2)), ["OPTIMAL", "x x 2", "y R1 1", "END"], Size(1, 2))
+NO_WIDE = "this program has no command solve --wide"
 BY_PRESOLVE = "lpd presolve, which left 1 of 2 rows and 2 of 2 columns"
 
 
@@ -67,7 +68,12 @@ class Written(unittest.TestCase):
 
 @unittest.skipUnless(has_program(), "the program is not built")
 class Ways(unittest.TestCase):
-    """What is done with what the program answers, or where it does not know the command."""
+    """What is done with what the program answers, or where it does not know the command. It knows no `solve --wide` here."""
+
+    def setUp(self) -> None:
+        patch = mock.patch("lpd.ways.solve_wide", side_effect=lpd.CommandMissing("solve --wide"))
+        patch.start()
+        self.addCleanup(patch.stop)
 
     def past(self) -> "mock._patch[mock.MagicMock]":
         """A program whose own solve ends past 127 bits."""
@@ -82,10 +88,9 @@ class Ways(unittest.TestCase):
         with mock.patch("lpd.ways.presolve", side_effect=lpd.CommandMissing("presolve")):
             said = command("solve", str(MODELS / "diet.mps"), "--presolve", "--show", "answer")
             self.assertEqual(said, (0, reported("OPTIMAL 92.5\n"), "note: this program has no command presolve, so lpd solve was asked\n"))
-            no_wide = mock.patch("lpd.ways.solve_wide", side_effect=lpd.CommandMissing("solve --wide"))
-            with no_wide, mock.patch("lpd.ways.by_lpd", return_value=lpd.Answered(PAST, [], "lpd solve")):
+            with mock.patch("lpd.ways.by_lpd", return_value=lpd.Answered(PAST, [], "lpd solve")):
                 said = command("solve", str(MODELS / "diet.mps"), "--with", "none", "--show", "answer")
-        self.assertEqual((said.status, said.complaints), (0, "note: lpd solve ends with PAST ADD 1 2\nnote: this program has no command solve --wide\n"))
+        self.assertEqual((said.status, said.complaints), (0, f"note: lpd solve ends with PAST ADD 1 2\nnote: {NO_WIDE}\n"))
         self.assertIn(f"This answer is by {the_basis()} from a basis of its own", said.output)
 
     def test_another_solvers_basis_comes_before_it(self) -> None:
@@ -95,7 +100,7 @@ class Ways(unittest.TestCase):
             found = answered(TEXT, lpd.read_model(TEXT))
         asked.assert_not_called()
         self.assertEqual((found.answer, found.accepted_by, found.solver, found.reduced), (KNOWN.answer, BOTH, "glpsol", None))
-        self.assertEqual((found.way, found.notes), (f"{the_basis()} from glpsol's basis, in 0 pivots", ["lpd solve ends with PAST ADD 1 2"]))
+        self.assertEqual((found.way, found.notes), (f"{the_basis()} from glpsol's basis, in 0 pivots", ["lpd solve ends with PAST ADD 1 2", NO_WIDE]))
 
     def test_it_comes_where_no_basis_leads_to_an_answer(self) -> None:
         """Where no other solver is on the path, or the one that is there gives none or is too slow for the seconds."""
@@ -108,7 +113,7 @@ class Ways(unittest.TestCase):
             with self.past(), way, mock.patch("lpd.ways.presolve", return_value=KNOWN), self.subTest(notes):
                 found = answered(TEXT, lpd.read_model(TEXT))
                 self.assertEqual((found.answer, found.way, found.accepted_by, found.reduced), (KNOWN.answer, BY_PRESOLVE, BOTH, Size(1, 2)))
-                self.assertEqual((found.notes, found.solver), (["lpd solve ends with PAST ADD 1 2", *notes], None))
+                self.assertEqual((found.notes, found.solver), (["lpd solve ends with PAST ADD 1 2", NO_WIDE, *notes], None))
 
     def test_where_it_is_not_asked(self) -> None:
         """Where the program alone is wanted, and behind a budget that is spent."""

@@ -154,15 +154,17 @@ class SolveWide(unittest.TestCase):
                 read_wide_solved(lines)
 
     def test_the_way(self) -> None:
-        """It comes before a basis of the front's own, and behind that of another solver, where this one gives any."""
+        """It comes before a basis of the front's own or of another solver, and behind that of a solver that is named, if this one
+        gives any."""
         model = lpd.read_model(TEXT)
         with program_with_wide(), self.solved():
             found = answered(TEXT, model)
             self.assertEqual((str(found.answer), found.certificate, found.way, found.accepted_by), (OPTIMAL, CERTIFICATE, "lpd solve --wide", WIDE))
             self.assertEqual([note.partition(" ends")[0] for note in found.notes], ["lpd solve"])
-            with mock.patch("lpd.ways.other_solver", return_value="glpsol"), mock.patch("lpd.ways.ask", return_value=Claim("nothing")):
-                found = answered(TEXT, model)
-            self.assertEqual((found.way, found.notes[1:]), ("lpd solve --wide", ["glpsol gives no basis, and says: nothing"]))
+            for named, notes in ((None, []), ("glpsol", ["glpsol gives no basis, and says: nothing"])):
+                with mock.patch("lpd.ways.other_solver", return_value="glpsol"), mock.patch("lpd.ways.ask", return_value=Claim("nothing")):
+                    found = answered(TEXT, model, Effort(solver=named))
+                self.assertEqual((found.way, found.notes[1:]), ("lpd solve --wide", notes))
             self.assertEqual(str(answered(TEXT, model, Effort(only_lpd=True)).answer)[:4], "PAST")
             narrow = answered(TEXT, model, Effort(wide=False))
             self.assertEqual((str(narrow.answer)[:4], narrow.certificate), ("PAST", []))
