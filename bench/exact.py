@@ -101,12 +101,12 @@ def line_of(options, models, faults):
     return list(cells(found, times)), found
 
 
-def kinds_of(options):
-    """For each kind its words and its models; of a folder each model is a kind."""
+def kinds_of(options, lacks=""):
+    """For each kind its words and its models, which may lack something; of a folder each model is a kind."""
     if not options.folder:
         for rows, columns, entries, numbers in chosen(options.only):
             kind = (rows, columns, entries, numbers)
-            yield [f"{rows} x {columns}", str(entries), numbers], [made(kind, options.seed, at) for at in range(EACH)]
+            yield [f"{rows} x {columns}", str(entries), numbers], [made(kind, options.seed, at, lacks) for at in range(EACH)]
         return
     for name, data in texts_of(options.folder):
         model = Model(name, convert(data).text.encode("latin-1"), "free")

@@ -15,6 +15,7 @@ The table has for each kind how many of ten are answered, and the median and the
 of the processor, for the whole process, the least of N runs (1), in which the programs take turns. With --write the table takes the
 place of what stands between the two marks of PAGE.
 """
+import math
 import pathlib
 import random
 import statistics
@@ -48,27 +49,40 @@ def chosen(only):
     return [kind for kind in of_sizes(SIZES + LARGE_SIZES) if f"{kind[0]}x{kind[1]}" in only.split(",")]
 
 
-def made(kind, seed, at):
-    """A model of a kind, the same for a seed everywhere."""
+def made(kind, seed, at, lacks=""):
+    """A model of a kind, the same for a seed everywhere. It lacks a point with one more row, which leaves less than shares of
+    up to twelve others ask for together, and a limit with one more column, whose cost is below 0 and of which each row takes any number."""
     rows, columns, entries, numbers = kind
     dice = random.Random(f"{seed}{rows}/{columns}/{entries}/{numbers == 'decimals'}/{at}")
 
     def number():
         return f"{dice.randint(10, 9999) / 100:.2f}" if numbers == "decimals" else str(dice.randint(1, 9))
 
+    def written(number):
+        return f"{number:.2f}" if numbers == "decimals" else str(int(number))
+
     def side(i):
         total = sum(float(values[i, j]) * point[j] for j in places if (i, j) in values)
-        asked = total * (0.9 if kinds[i] == "G" else 1.2)
-        return f"{asked:.2f}" if numbers == "decimals" else str(int(asked))
+        return written(total * (0.9 if kinds[i] == "G" else 1.2))
 
     kinds = ["G" if dice.random() < 0.6 else "L" for _ in range(rows)]
     places = {j: sorted(dice.sample(range(rows), min(entries, rows))) for j in range(columns)}
     values = {(i, j): number() for j in places for i in places[j]}
     point = [dice.randint(0, 6) for _ in range(columns)]
-    lines = ["NAME made", "ROWS", " N cost", *(f" {word} r{i}" for i, word in enumerate(kinds)), "COLUMNS"]
+    costs = [number() for _ in range(columns)]
+    asking = [i for i, word in enumerate(kinds) if word == "G"]
+    few = {i: dice.randint(50, 150) / 100 for i in dice.sample(asking, min(12, len(asking))) if lacks == "point"}
+    free = dice.sample(asking, min(entries, len(asking))) if lacks == "limit" else []
+    lines = ["NAME made", "ROWS", " N cost", *(f" {word} r{i}" for i, word in enumerate(kinds)), *[" L few"] * bool(few), "COLUMNS"]
     for j, ones in places.items():
-        lines += [f" x{j} cost {number()}", *(f" x{j} r{i} {values[i, j]}" for i in ones)]
-    lines += ["RHS", *(f" RHS r{i} {side(i)}" for i in range(rows)), "ENDATA", ""]
+        lines += [f" x{j} cost {costs[j]}", *(f" x{j} r{i} {values[i, j]}" for i in ones)]
+        taken = sum(few[i] * float(values[i, j]) for i in ones if i in few)
+        lines += [f" x{j} few {written(math.ceil(100 * taken) / 100 if numbers == 'decimals' else math.ceil(taken))}"] * (taken > 0)
+    if free:
+        lines += [f" out cost -{number()}", *(f" out r{i} {number()}" for i in free)]
+    lines += ["RHS", *(f" RHS r{i} {side(i)}" for i in range(rows))]
+    lines += [f" RHS few {written(0.98 * sum(few[i] * float(side(i)) for i in few) - 0.01)}"] * bool(few)
+    lines += ["ENDATA", ""]
     return Model(f"{rows}x{columns}", "\n".join(lines).encode(), "free")
 
 

@@ -1,12 +1,14 @@
 #!/usr/bin/env python3
 """Solves models by `lpd solve --wide`: the 200 of planners.py, or those of a folder.
 
-    wide.py [--folder FOLDER] [--program PROGRAM] [--only WORD,..] [--seed WORD] [--runs N] [--seconds N] [--write PAGE]
+    wide.py [--folder FOLDER] [--program PROGRAM] [--only WORD,..] [--lacks WORD] [--seed WORD] [--runs N] [--seconds N]
+            [--write PAGE]
 
 The certificate of each answer goes to `lpd check --wide` and to the checker in Python, which both have to say yes to it and to the
 answer. esolver (Debian's qsopt-ex), where it is on the path, has to answer the same. Each of these has so many seconds of the
-processor (20), esolver as many of the wall. --only takes the made models of these sizes, as 15x25 or 250x500; --write then puts
-them between marks of their own.
+processor (20), esolver as many of the wall. --only takes the made models of these sizes, as 15x25 or 250x500; with --lacks point they
+are made without a feasible point, and with --lacks limit without a limit on the cost. --write then puts each between marks of its
+own.
 
 The table has a line for each kind of made models, ten of a kind, or for each model of FOLDER, whose texts are converted into the
 profile where they need it: how many are answered, or how the one ends; the bits of the longest number of a certificate; and the
@@ -27,6 +29,7 @@ from solvers import Esolver, least, limited
 BEGIN, END = "<!-- measured by bench/wide.py -->", "<!-- end of the wide solves -->"
 FOLDER_MARKS = "<!-- measured by bench/wide.py of a folder -->", "<!-- end of the folder's wide solves -->"
 SIZES_MARKS = "<!-- measured by bench/wide.py of some sizes -->", "<!-- end of these sizes' wide solves -->"
+LACKS_MARKS = "<!-- measured by bench/wide.py without a {} -->", "<!-- end of the wide solves without a {} -->"
 Found = collections.namedtuple("Found", "ended bits solve check esolver")
 
 
@@ -82,18 +85,20 @@ def table(options, faults, found):
     first = ["Model", "Rows", "Columns"] if options.folder else ["Rows x columns", "Entries a column", "Numbers"]
     yield row([*first, "Answer" if options.folder else "Answered", "Bits", *heads])
     yield "|---" * (5 + len(heads)) + "|"
-    for words, models in kinds_of(options):
+    for words, models in kinds_of(options, options.lacks):
         of_kind = [measured(options, model, faults) for model in models]
         found += of_kind
         yield row([*words, *cells(of_kind, not options.folder)])
 
 
 def main():
-    options = read_options(__doc__, folder="", only="", seed="", runs=1, seconds=20)
+    options = read_options(__doc__, folder="", only="", lacks="", seed="", runs=1, seconds=20)
     faults, found = [], []
     lines = shown(table(options, faults, found))
     short = " ".join(shown(summed_up(found, options.seconds)))
     marks = FOLDER_MARKS if options.folder else SIZES_MARKS if options.only else (BEGIN, END)
+    if options.lacks:
+        marks = [mark.format(options.lacks) for mark in LACKS_MARKS]
     return ended(options.write, *marks, [short, "", *lines], faults)
 
 
