@@ -321,6 +321,11 @@ def by_file(found: dict[Definition, int]) -> dict[File, int]:
     return lines
 
 
+def of_types(found: dict[Definition, int]) -> int:
+    """How many of these lines are those of structs and enums, which say what there is and nothing of it."""
+    return sum(count for definition, count in found.items() if isinstance(definition.file, Types))
+
+
 def in_order(found: dict[Definition, int]) -> list[File]:
     """The files in which these stand, each behind those that it rests on, and else as crates.txt has their crates."""
     below: dict[File, list[File]] = {}
@@ -373,13 +378,15 @@ def home_of(name: str, found: dict[Definition, int]) -> str:
 
 def numbers() -> dict[str, int]:
     """Each number, by what it is."""
-    whole = reached()
+    whole, truth = reached(), reached(clause=TRUTH)
     return {
         f"lines of definitions that the contract of `{CONTRACT[1]}` rests on": sum(whole.values()),
         "crates in which these lines stand": len({definition.file.crate for definition in whole}),
         "of these lines, those for `run` alone": sum(reached(ALONE["run"]).values()),
         "of these lines, those for `solve` alone": sum(reached(ALONE["solve"]).values()),
-        "lines that the truth clause rests on": sum(reached(clause=TRUTH).values()),
+        "of these lines, those of plain types": of_types(whole),
+        "lines that the truth clause rests on": sum(truth.values()),
+        "of the lines of the truth clause, those of plain types": of_types(truth),
         "of the lines of the truth clause, those for `run` alone": sum(reached(ALONE["run"], TRUTH).values()),
         "of the lines of the truth clause, those for `solve` alone": sum(reached(ALONE["solve"], TRUTH).values()),
         "crates above `spec_mps`": len(above("spec_mps")),
