@@ -7,10 +7,19 @@ use crate::row::{eliminate, part, turn};
 use lp_natural::words::{Divisor, Signed, Words, quotient, quotient_by, some_common};
 
 /// Whole numbers on a denominator, which is not 0. The last of them is the value of the row's basic column.
-#[derive(Drop)]
 pub struct Row<T: Words> {
     pub numbers: Vec<Signed<T>>,
     pub denominator: T,
+}
+
+impl<T: Words> Drop for Row<T> {
+    fn drop(self) {
+        let Row {
+            numbers,
+            denominator: _,
+        } = self;
+        drop(numbers);
+    }
 }
 
 // What two numbers are times a divisor that they have in common.

@@ -12,7 +12,6 @@ use lp_natural::words::{Signed, Words};
 /// also of the artificial ones, its status and its bounds on `denominator`.
 ///
 /// Artificial columns have no entries: none of them ever enters.
-#[derive(Drop)]
 pub struct RowTableau<T: Words> {
     pub cols: u32,
     pub rows: Vec<Row<T>>,
@@ -25,6 +24,29 @@ pub struct RowTableau<T: Words> {
     pub fixed: Vec<bool>,
     /// That of all bounds.
     pub denominator: T,
+}
+
+impl<T: Words> Drop for RowTableau<T> {
+    fn drop(self) {
+        let RowTableau {
+            cols: _,
+            rows,
+            costs,
+            basic,
+            status,
+            lower,
+            upper,
+            fixed,
+            denominator: _,
+        } = self;
+        drop(rows);
+        drop(costs);
+        drop(basic);
+        drop(status);
+        drop(lower);
+        drop(upper);
+        drop(fixed);
+    }
 }
 
 impl<T: Words> RowTableau<T> {
