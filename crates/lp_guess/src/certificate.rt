@@ -7,9 +7,7 @@ ghost use Rattle.spec_simplex.specs.Form.{form_of};
 ghost use Rattle.spec_solve.specs.OfBasis.{IsOfBasis};
 ghost use Rattle.lp_guess.specs.Guessed.{IsGuessed};
 
-use crate::guess::guess;
-use crate::ray::ray;
-use crate::refutation::refutation;
+use crate::guess::{guess, ray, refutation};
 use crate::rough::{Moving, Rough, RoughEnd, is_basis, rough_end};
 use crate::stands::stands;
 use lp_check::wide::Certificate;

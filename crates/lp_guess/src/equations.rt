@@ -1,8 +1,8 @@
 // The equations of a kernel: with fractions, and with whole numbers.
-use crate::kernel::{Kernel, place_at, standing};
+use crate::kernel::{Kernel, place_at};
 use crate::whole::on_one_denominator;
-use lp_form::{Form, Status};
-use lp_frac::{Frac, is_zero, less_product, mul, zero};
+use lp_form::Form;
+use lp_frac::Frac;
 use std::alloc::{AllocError, Global};
 
 /// The numbers of an equation that are not 0, each with the position of its unknown.
@@ -143,133 +143,6 @@ pub(crate) fn transposed(alloc: Global, lines: &[Line]) -> Result<Vec<Line>, All
     let mut list = no_lines(alloc, lines.len())?;
     for (row, line) in lines.iter().enumerate() {
         put_line(&mut list, line, row)?;
-    }
-    Ok(list)
-}
-
-// ---- right sides
-
-// What the logicals of the kernel's rows stand at.
-fn logical_values(
-    alloc: Global,
-    form: &Form,
-    basis: &[Status],
-    kernel: &Kernel,
-) -> Result<Vec<Frac>, AllocError> {
-    let mut list = Vec::new(alloc);
-    for i in 0..form.rows() {
-        if place_at(&kernel.rows, i as usize).is_some() {
-            list.push(standing(form, basis, form.logical(i)))?;
-        }
-    }
-    Ok(list)
-}
-
-// Takes an entry times a value off the right side at this position. Where it is false a number is past the limit.
-fn take_off(list: &mut [Frac], row: usize, entry: Frac, value: Frac) -> bool {
-    match list.get_mut(row) {
-        Some(rest) => match less_product(entry, value, *rest) {
-            Ok(less) => {
-                *rest = less;
-                true
-            }
-            Err(_) => false,
-        },
-        None => true,
-    }
-}
-
-// Takes a column at this value off the right sides. Where it is false a number is past the limit.
-fn take_column(
-    list: &mut [Frac],
-    entries: &[(u32, Frac)],
-    rows: &[Option<usize>],
-    value: Frac,
-) -> bool {
-    for (i, entry) in entries {
-        if let Some(row) = place_at(rows, *i as usize) {
-            if !take_off(list, row, *entry, value) {
-                return false;
-            }
-        }
-    }
-    true
-}
-
-// Multiplies each right side by its row's scale.
-fn scaled(alloc: Global, list: &[Frac], scales: &[Frac]) -> Result<Option<Vec<Frac>>, AllocError> {
-    let mut all = Vec::new(alloc);
-    for (v, scale) in list.iter().zip(scales) {
-        match mul(*v, *scale) {
-            Ok(product) => all.push(product)?,
-            Err(_) => return Ok(None),
-        }
-    }
-    Ok(Some(all))
-}
-
-/// The right sides of a kernel's equations: what the logicals stand at without the columns that are not basic, times the
-/// scales. There are none where a number is past the limit.
-pub(crate) fn right_sides(
-    alloc: Global,
-    form: &Form,
-    basis: &[Status],
-    kernel: &Kernel,
-    scales: &[Frac],
-) -> Result<Option<Vec<Frac>>, AllocError> {
-    let mut list = logical_values(alloc, form, basis, kernel)?;
-    for j in 0..form.cols() {
-        if place_at(&kernel.columns, j as usize).is_none() {
-            let value = standing(form, basis, j);
-            if !is_zero(value) {
-                if !take_column(&mut list, form.entries(j), &kernel.rows, value) {
-                    return Ok(None);
-                }
-            }
-        }
-    }
-    scaled(alloc, &list, scales)
-}
-
-/// The right sides where a column moves by this step and those that are not basic stand still, times the scales: what the
-/// basic ones move by is the solution. There are none where a number is past the limit.
-pub(crate) fn moving_sides(
-    alloc: Global,
-    form: &Form,
-    kernel: &Kernel,
-    scales: &[Frac],
-    column: usize,
-    step: Frac,
-) -> Result<Option<Vec<Frac>>, AllocError> {
-    let mut list = Vec::new(alloc);
-    for i in 0..form.rows() {
-        if place_at(&kernel.rows, i as usize).is_some() {
-            list.push(if form.logical(i) as usize == column {
-                step
-            } else {
-                zero()
-            })?;
-        }
-    }
-    for j in 0..form.cols() {
-        if j as usize == column && !take_column(&mut list, form.entries(j), &kernel.rows, step) {
-            return Ok(None);
-        }
-    }
-    scaled(alloc, &list, scales)
-}
-
-/// The costs of the basic columns.
-pub(crate) fn basic_costs(
-    alloc: Global,
-    form: &Form,
-    kernel: &Kernel,
-) -> Result<Vec<Frac>, AllocError> {
-    let mut list = Vec::new(alloc);
-    for (place, cost) in kernel.columns.iter().zip(form.costs()) {
-        if place.is_some() {
-            list.push(*cost)?;
-        }
     }
     Ok(list)
 }

@@ -1,243 +1,109 @@
-// The guess: the point of a basis and its multipliers.
-ghost use Rattle.std.specs.Prelude.{◌≡◌, ◌<◌, IfOk, IfSome, length};
+// The guesses: the point of a basis and its multipliers, multipliers that no point meets, and a ray.
+ghost use Rattle.std.specs.Prelude.{◌≡◌, IfOk, IfSome, length};
 
-use crate::digits::natural;
-use crate::equations::{Line, Lines, basic_costs, kernel_lines, right_sides, transposed};
-use crate::fraction::{Numerator, reconstructed};
-use crate::inverse::{inverted, turned};
-use crate::kernel::{Kernel, count, kernel_of, place_at, standing};
-use crate::lifting::{System, lifted};
-use crate::size::lengths;
-use crate::whole::on_one_denominator;
+use crate::kernel::{Kernel, kernel_of, place_at, standings};
+use crate::rough::Moving;
+use crate::sides::{costs_left, part, right_sides};
+use crate::systems::{Systems, solution, systems_of};
 use lp_check::wide::Ratios;
 use lp_form::{Form, Status};
-use lp_frac::{Frac, num, one};
-use lp_natural::Natural;
+use lp_frac::{Frac, neg, one, zero};
 use lp_ratio::Ratio;
 use std::alloc::{AllocError, Global};
 
-// A number times a scale, if this is a whole one of one word.
-fn scaled(alloc: Global, n: &Natural, scale: Frac) -> Result<Option<Natural>, AllocError> {
-    match u64::try_from(num(scale)) {
-        Ok(word) => {
-            let product = n.scaled_onto(alloc, word, &Natural::zero(alloc))?;
-            Ok(Some(product))
-        }
-        Err(_) => Ok(None),
-    }
-}
-
-// A numerator, times a scale, over the denominator.
-fn quotient(
+// The number at this place of a solution, or the other one where there is no place.
+fn number(
     alloc: Global,
-    numerator: &Numerator,
-    scale: Frac,
-    under: &Natural,
-) -> Result<Option<Ratio>, AllocError> {
-    if under.is_zero() {
-        return Ok(None);
-    }
-    let top = natural(alloc, &numerator.digits)?;
-    if top.is_zero() {
-        return Ok(Some(Ratio::zero(alloc)?));
-    }
-    match scaled(alloc, &top, scale)? {
-        Some(top) => {
-            let under = under.copied(alloc)?;
-            Ok(Some(Ratio::quotient(alloc, numerator.is_negative, top, under)))
-        }
-        None => Ok(None),
-    }
-}
-
-/// The solution of a system whose right sides are these, each number times its scale.
-pub(crate) fn solution(
-    alloc: Global,
-    system: &System,
-    turned: &[Line],
-    right: &[Frac],
-    scales: &[Frac],
-) -> Result<Option<Vec<Ratio>>, AllocError> {
-    let Some(right) = on_one_denominator(alloc, right)? else {
-        return Ok(None);
-    };
-    let Some(lengths) = lengths(&system.lines, turned, &right.numbers) else {
-        return Ok(None);
-    };
-    let digits = lifted(alloc, system, &right.numbers, lengths.all)?;
-    let Some(found) = reconstructed(alloc, &digits, right.numbers.len(), lengths)? else {
-        return Ok(None);
-    };
-    let denominator = natural(alloc, &found.denominator)?;
-    let Some(under) = scaled(alloc, &denominator, right.scale)? else {
-        return Ok(None);
-    };
-    let mut list = Vec::new(alloc);
-    for (numerator, scale) in found.numerators.iter().zip(scales) {
-        match quotient(alloc, numerator, *scale, &under)? {
-            Some(number) => list.push(number)?,
-            None => return Ok(None),
-        }
-    }
-    Ok(Some(list))
-}
-
-/// The number at this position of a solution, 0 where there is none.
-pub(crate) fn solved_at(
-    alloc: Global,
-    solved: &[Ratio],
-    place: usize,
-) -> Result<Ratio, AllocError> {
-    match solved.get(place) {
-        Some(number) => number.copied(alloc),
-        None => Ratio::zero(alloc),
-    }
-}
-
-// The value of column `j`.
-fn value(
-    alloc: Global,
-    form: &Form,
-    basis: &[Status],
     place: Option<usize>,
     solved: &[Ratio],
-    j: u32,
-) -> Result<Ratio, AllocError>
-    requires { j < form.now.cols }
-{
+    other: Frac,
+) -> Result<Ratio, AllocError> {
     match place {
-        Some(place) => solved_at(alloc, solved, place),
-        None => Ratio::new(alloc, standing(form, basis, j)),
+        Some(place) => match solved.get(place) {
+            Some(number) => number.copied(alloc),
+            None => Ratio::zero(alloc),
+        },
+        None => Ratio::new(alloc, other),
     }
 }
 
-/// The values of all structural columns.
-pub(crate) fn point(
+// So many numbers: those of a solution, each at its place, and the others where there is no place.
+fn numbers(
     alloc: Global,
-    form: &Form,
-    basis: &[Status],
-    kernel: &Kernel,
+    len: u32,
+    places: &[Option<usize>],
     solved: &[Ratio],
+    others: &[Frac],
 ) -> Result<Ratios, AllocError>
-    ensures { IfOk result (λ x. length x ≡ form.now.cols) }
+    ensures { IfOk result (λ x. length x ≡ len) }
 {
     let mut list = Ratios::new(alloc);
-    for j in 0..form.cols() {
-        let place = place_at(&kernel.columns, j as usize);
-        list.push(value(alloc, form, basis, place, solved, j)?)?;
+    for k in 0..len {
+        let other = part(others, k as usize);
+        list.push(number(alloc, place_at(places, k as usize), solved, other)?)?;
     }
     Ok(list)
 }
 
-// The multiplier of a row, 0 where its logical is basic.
-fn multiplier(alloc: Global, place: Option<usize>, solved: &[Ratio]) -> Result<Ratio, AllocError> {
-    match place {
-        Some(place) => solved_at(alloc, solved, place),
-        None => Ratio::zero(alloc),
-    }
-}
-
-// The multipliers of all rows.
-fn multipliers(
+// What all structural columns have where those that are not basic have these values, and the others 0 in the list.
+fn of_columns(
     alloc: Global,
     form: &Form,
-    kernel: &Kernel,
-    solved: &[Ratio],
-) -> Result<Ratios, AllocError>
-    ensures { IfOk result (λ y. length y ≡ form.now.rows) }
-{
-    let mut list = Ratios::new(alloc);
-    for i in 0..form.rows() {
-        let place = place_at(&kernel.rows, i as usize);
-        list.push(multiplier(alloc, place, solved)?)?;
-    }
-    Ok(list)
-}
-
-/// The two systems of a kernel: its equations, and those of its multipliers.
-pub(crate) struct Systems {
-    pub(crate) point: System,
-    pub(crate) multipliers: System,
-    pub(crate) scales: Vec<Frac>,
-}
-
-impl Drop for Systems {
-    fn drop(self) {
-        let Systems {
-            point,
-            multipliers,
-            scales,
-        } = self;
-        drop(point);
-        drop(multipliers);
-        drop(scales);
-    }
-}
-
-/// The systems of a kernel, if it is regular modulo the prime.
-pub(crate) fn systems_of(
-    alloc: Global,
-    form: &Form,
-    kernel: &Kernel,
-) -> Result<Option<Systems>, AllocError> {
-    let size = count(&kernel.columns);
-    if count(&kernel.rows) != size {
-        return Ok(None);
-    }
-    let Some(found) = kernel_lines(alloc, form, kernel, size)? else {
-        return Ok(None);
-    };
-    let Lines { lines, scales } = found;
-    let Some(inverse) = inverted(alloc, &lines)? else {
-        return Ok(None);
-    };
-    let multipliers = System {
-        lines: transposed(alloc, &lines)?,
-        inverse: turned(alloc, &inverse)?,
-    };
-    Ok(Some(Systems {
-        point: System { lines, inverse },
-        multipliers,
-        scales,
-    }))
-}
-
-/// The values of the basic columns.
-pub(crate) fn basic_values(
-    alloc: Global,
-    form: &Form,
-    basis: &[Status],
     kernel: &Kernel,
     systems: &Systems,
-) -> Result<Option<Vec<Ratio>>, AllocError> {
-    let Some(right) = right_sides(alloc, form, basis, kernel, &systems.scales)? else {
+    values: &[Frac],
+) -> Result<Option<Ratios>, AllocError>
+    ensures { IfOk result (λ o. IfSome o (λ x. length x ≡ form.now.cols)) }
+{
+    let Systems {
+        point,
+        multipliers,
+        scales,
+    } = systems;
+    let Some(right) = right_sides(alloc, form, kernel, scales, values)? else {
         return Ok(None);
     };
     let ones = Vec::from_elem(alloc, one(), right.len())?;
-    solution(
-        alloc,
-        &systems.point,
-        &systems.multipliers.lines,
-        &right,
-        &ones,
-    )
+    let Some(solved) = solution(alloc, point, &multipliers.lines, &right, &ones)? else {
+        return Ok(None);
+    };
+    let list = numbers(alloc, form.cols(), &kernel.columns, &solved, values)?;
+    Ok(Some(list))
 }
 
-// The multipliers of the kernel's rows.
-fn row_multipliers(
+// The multipliers of the rows whose logical is basic, 0 where it costs nothing.
+fn of_logicals(alloc: Global, form: &Form, costs: &[Frac]) -> Result<Vec<Frac>, AllocError> {
+    let mut list = Vec::new(alloc);
+    for i in 0..form.rows() {
+        list.push(neg(part(costs, form.logical(i) as usize)))?;
+    }
+    Ok(list)
+}
+
+// The multipliers of all rows with which the basic columns cost nothing, from what each column costs.
+fn of_rows(
     alloc: Global,
     form: &Form,
     kernel: &Kernel,
     systems: &Systems,
-) -> Result<Option<Vec<Ratio>>, AllocError> {
-    let costs = basic_costs(alloc, form, kernel)?;
-    solution(
-        alloc,
-        &systems.multipliers,
-        &systems.point.lines,
-        &costs,
-        &systems.scales,
-    )
+    costs: &[Frac],
+) -> Result<Option<Ratios>, AllocError>
+    ensures { IfOk result (λ o. IfSome o (λ y. length y ≡ form.now.rows)) }
+{
+    let Systems {
+        point,
+        multipliers,
+        scales,
+    } = systems;
+    let others = of_logicals(alloc, form, costs)?;
+    let Some(left) = costs_left(alloc, form, kernel, costs, &others)? else {
+        return Ok(None);
+    };
+    let Some(solved) = solution(alloc, multipliers, &point.lines, &left, scales)? else {
+        return Ok(None);
+    };
+    let list = numbers(alloc, form.rows(), &kernel.rows, &solved, &others)?;
+    Ok(Some(list))
 }
 
 /// The point at which each column stands as the basis says, and the multipliers with which the basic columns cost
@@ -253,13 +119,70 @@ pub(crate) fn guess(
     let Some(systems) = systems_of(alloc, form, &kernel)? else {
         return Ok(None);
     };
-    let Some(values) = basic_values(alloc, form, basis, &kernel, &systems)? else {
+    let values = standings(alloc, form, basis)?;
+    let Some(x) = of_columns(alloc, form, &kernel, &systems, &values)? else {
         return Ok(None);
     };
-    let Some(solved) = row_multipliers(alloc, form, &kernel, &systems)? else {
+    let Some(y) = of_rows(alloc, form, &kernel, &systems, form.costs())? else {
         return Ok(None);
     };
-    let x = point(alloc, form, basis, &kernel, &values)?;
-    let y = multipliers(alloc, form, &kernel, &solved)?;
     Ok(Some((x, y)))
+}
+
+/// Multipliers that likely no point meets, from the statuses of a basis where the sum of infeasibilities is likely least,
+/// and from what each column counts in this sum. There are none where the basis is singular modulo the prime, or a number
+/// is too large for the method.
+///
+/// With what each column counts in this sum as its cost, the multipliers are those with which the basic columns cost
+/// nothing: what remains of the costs is then a combination of the rows that each point makes 0, and that the bounds hold
+/// above 0 (Farkas' lemma; Chvátal, chapters 8 and 9).
+pub(crate) fn refutation(
+    alloc: Global,
+    form: &Form,
+    basis: &[Status],
+    outside: &[Frac],
+) -> Result<Option<Ratios>, AllocError>
+    ensures { IfOk result (λ o. IfSome o (λ y. length y ≡ form.now.rows)) }
+{
+    let kernel = kernel_of(alloc, form, basis)?;
+    match systems_of(alloc, form, &kernel)? {
+        Some(systems) => of_rows(alloc, form, &kernel, &systems, outside),
+        None => Ok(None),
+    }
+}
+
+// By what the columns move that are not basic: this one rises by 1, or falls, and the others stand still.
+fn steps(alloc: Global, form: &Form, moving: Moving) -> Result<Vec<Frac>, AllocError> {
+    let Moving { column, rises } = moving;
+    let columns = form.cols() + form.rows();
+    let mut list = Vec::from_elem(alloc, zero(), columns as usize)?;
+    if let Some(step) = list.get_mut(column) {
+        *step = if rises { one() } else { neg(one()) };
+    }
+    Ok(list)
+}
+
+/// The point at which each column stands as the basis says, and by what the columns move where this one, which is not basic,
+/// rises by 1, or falls. There are none where the basis is singular modulo the prime, or a number is too large for the method.
+pub(crate) fn ray(
+    alloc: Global,
+    form: &Form,
+    basis: &[Status],
+    moving: Moving,
+) -> Result<Option<(Ratios, Ratios)>, AllocError>
+    ensures { IfOk result (λ o. IfSome o (λ g. (length g.0 ≡ form.now.cols) × (length g.1 ≡ form.now.cols))) }
+{
+    let kernel = kernel_of(alloc, form, basis)?;
+    let Some(systems) = systems_of(alloc, form, &kernel)? else {
+        return Ok(None);
+    };
+    let values = standings(alloc, form, basis)?;
+    let Some(x) = of_columns(alloc, form, &kernel, &systems, &values)? else {
+        return Ok(None);
+    };
+    let steps = steps(alloc, form, moving)?;
+    let Some(r) = of_columns(alloc, form, &kernel, &systems, &steps)? else {
+        return Ok(None);
+    };
+    Ok(Some((x, r)))
 }

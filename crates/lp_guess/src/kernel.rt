@@ -39,8 +39,8 @@ pub(crate) fn place_at(places: &[Option<usize>], k: usize) -> Option<usize> {
     }
 }
 
-/// Where a column that is not basic stands, 0 where it has no such bound.
-pub(crate) fn standing(form: &Form, basis: &[Status], k: u32) -> Frac
+// Where a column that is not basic stands, 0 where it has no such bound, or is basic.
+fn standing(form: &Form, basis: &[Status], k: u32) -> Frac
     requires { k < form.now.cols + form.now.rows }
 {
     let bound = match status_at(basis, k as usize) {
@@ -52,6 +52,19 @@ pub(crate) fn standing(form: &Form, basis: &[Status], k: u32) -> Frac
         Some(value) => value,
         None => zero(),
     }
+}
+
+/// Where each column stands that is not basic; 0 for the others.
+pub(crate) fn standings(
+    alloc: Global,
+    form: &Form,
+    basis: &[Status],
+) -> Result<Vec<Frac>, AllocError> {
+    let mut list = Vec::new(alloc);
+    for k in 0..form.cols() + form.rows() {
+        list.push(standing(form, basis, k))?;
+    }
+    Ok(list)
 }
 
 // The position that comes next after so many, if it is taken.

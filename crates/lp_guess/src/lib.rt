@@ -6,10 +6,10 @@
 //! | `certificate_of_basis` | the point and the multipliers of a basis, if they are found | src/certificate |
 //! | `rough_certificate` | the certificate that the end of a run in floats leads to | src/certificate |
 //! | `stands` | whether a point and multipliers are those of a basis | src/stands |
-//! | `guess` | a point and multipliers, from the solutions of both systems | src/guess |
-//! | `refutation`, `ray` | multipliers that no point meets; a point with a ray | src/refutation, src/ray |
+//! | `guess`, `refutation`, `ray` | a point and multipliers; multipliers that no point meets; a point with a ray | src/guess |
+//! | `Systems`, `solution` | the two systems of a basis, and their solutions | src/systems |
 //! | `Kernel` | the basic structural columns, and the rows whose logical is not basic | src/kernel |
-//! | `lines`, `right_sides` | their equations | src/equations, src/whole |
+//! | `kernel_lines`, `right_sides`, `costs_left` | their equations | src/equations, src/sides, src/whole |
 //! | `inverted`, `lifted` | an inverse modulo a prime, and the digits of a solution by it | src/inverse, src/lifting, src/residue |
 //! | `lengths` | how many digits a solution takes | src/size |
 //! | `fractions` | the fractions that have these digits | src/fraction, src/digits |
@@ -28,12 +28,12 @@ mod guess;
 mod inverse;
 mod kernel;
 mod lifting;
-mod ray;
-mod refutation;
 mod residue;
 mod rough;
+mod sides;
 mod size;
 mod stands;
+mod systems;
 mod whole;
 
 pub use certificate::{certificate_of_basis, rough_certificate};

@@ -1,6 +1,0 @@
--- As many so far as were gone over.
-use Rattle.std.proofs.Common.{◌≡◌, length}
-use Rattle.lp_guess.proofs.guess.point.Given as goal
-
-abbrev pub invariant-loop-j : goal.invariant-loop-j
-invariant-loop-j l = length l.list ≡ l.j
