@@ -11,8 +11,8 @@
 //!
 //! A wide solve that is refused an operation with little work over rows asks for the certificate that the end of a run in
 //! floats leads to (lp_guess), of a basis or that there is no optimum, before the long runs over rows: whatever the guess
-//! is, it is checked without a limit. A wide solve from a basis whose start is refused an operation asks first for the certificate of the basis as it is
-//! (lp_guess), which no run has to find, and has it checked without a limit.
+//! is, it is checked without a limit. A wide solve from a basis whose start is refused an operation asks first for the
+//! certificate of the basis as it is (lp_guess), which no run has to find, and has it checked without a limit.
 //!
 //! | Item | What it is | Where |
 //! |---|---|---|

@@ -239,8 +239,9 @@ fn solve_wide_formed(
 
 /// Solves the model as `solve` does from the start that each model has, but with less work over rows of whole numbers.
 /// Only where that is refused an operation, it asks for what the end of a run in floating point leads to: the answer of a
-/// basis, or that there is no optimum. Where that comes to nothing, it goes on over rows with all their work, and then over rows without a limit. Each certificate
-/// past 127 bits may have numbers of any width, and is checked. Where nothing comes to an answer, the refusal stays.
+/// basis, or that there is no optimum. Where that comes to nothing, it goes on over rows with all their work, and then over
+/// rows without a limit. Each certificate past 127 bits may have numbers of any width, and is checked. Where nothing comes
+/// to an answer, the refusal stays.
 pub fn solve_wide(alloc: Global, model: &Model, budget: u64) -> Result<WideSolved, AllocError>
     ensures { IfOk result (IsWideSolved model.now budget) }
 {
