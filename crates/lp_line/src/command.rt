@@ -61,6 +61,7 @@ fn command_with(alloc: Global, word: CommandWord, words: &[Bytes]) -> Result<Com
         (CommandWord::Cert, []) => Ok(Command::Plain(Plain::Cert)),
         (CommandWord::How, []) => Ok(Command::Plain(Plain::How)),
         (CommandWord::Budget, [count]) => Ok(budget(count.as_slice())),
+        (CommandWord::Wide, []) => Ok(Command::Plain(Plain::Wide)),
         (CommandWord::Check, []) => Ok(Command::Check),
         (CommandWord::Quit, []) => Ok(Command::Plain(Plain::Quit)),
         (CommandWord::Edit(which), words) => change(alloc, which, words),

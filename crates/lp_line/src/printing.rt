@@ -40,6 +40,7 @@ fn push_reply(alloc: Global, reply: &Reply, to: &mut Bytes) -> Result<(), AllocE
             publication,
         } => push_found(alloc, *how, *pivots, *publication, to),
         Reply::Checked(verdict) => push_verdict(alloc, verdict, to),
+        Reply::Wide(lines) => push_numbered(alloc, b"WIDE ", lines.len() as u64, to),
         Reply::Bye => to.extend(b"BYE"),
         Reply::Memory => to.extend(b"MEMORY"),
         Reply::Refused(refusal) => {
@@ -75,7 +76,7 @@ fn push_lines_behind(reply: &Reply, to: &mut Bytes) -> Result<(), AllocError>
 {
     match reply {
         Reply::Written(text) => to.extend(text.as_slice()),
-        Reply::Certified(lines) => print_lines(lines, to),
+        Reply::Certified(lines) | Reply::Wide(lines) => print_lines(lines, to),
         Reply::Loaded(_, _)
         | Reply::Done
         | Reply::Answered(_)

@@ -69,13 +69,14 @@ pub(crate) fn style_of(word: &[u8]) -> Option<Style>
 }
 
 // The command words as they are written.
-const COMMAND_WORDS: [(&[u8], CommandWord); 18] = [
+const COMMAND_WORDS: [(&[u8], CommandWord); 19] = [
     (b"LOAD", CommandWord::Load),
     (b"WRITE", CommandWord::Write),
     (b"SOLVE", CommandWord::Solve),
     (b"CERT", CommandWord::Cert),
     (b"HOW", CommandWord::How),
     (b"BUDGET", CommandWord::Budget),
+    (b"WIDE", CommandWord::Wide),
     (b"CHECK", CommandWord::Check),
     (b"QUIT", CommandWord::Quit),
     (b"ADDROW", CommandWord::Edit(EditWord::AddRow)),

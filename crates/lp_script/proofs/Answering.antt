@@ -8,7 +8,8 @@ use Rattle.spec_server.specs.declared.asks.Asked.{Asked}
 use Rattle.spec_server.specs.Machine.{ExactAsk, ExactReply, State}
 use Rattle.spec_server.specs.Step.{AloneStep}
 use Rattle.spec_server.specs.Exchanges.{AloneRun, of_session, log_of}
-use Rattle.spec_server.specs.Output.{reply_lines, script_out}
+use Rattle.spec_server.specs.Output.{reply_lines}
+use Rattle.spec_server.specs.ScriptOut.{script_out}
 use Rattle.spec_server.proofs.RunLemmas.{updated}
 use Rattle.lp_script.proofs.OneMore.{exchange_of}
 

@@ -14,7 +14,7 @@ use Rattle.spec_server.specs.Exchanges.{Exchange, asked_in}
 use Rattle.spec_server.specs.Script.{Between, Script, Ending, asks_from, pending_after, ending_by, script_of}
 use Rattle.spec_server.specs.Script.{ended_asks_of}
 use Rattle.spec_server.specs.Script as script
-use Rattle.spec_server.specs.Output.{script_out}
+use Rattle.spec_server.specs.ScriptOut.{script_out}
 use Rattle.spec_server.proofs.RunLemmas.{script_out-append}
 use Rattle.spec_server.proofs.ScriptBytes.{with_asks, script_within, script_past}
 use Rattle.spec_serve.specs.Workers.{RunsBy}

@@ -13,7 +13,7 @@ use Rattle.spec_text.specs.declared.line.Line.{Line}
 use Rattle.spec_server.specs.declared.asks.Asked.{Asked}
 use Rattle.spec_server.specs.Machine.{ExactAsk, ExactReply, opening}
 use Rattle.spec_server.specs.Exchanges.{Exchange, asked_in}
-use Rattle.spec_server.specs.Output.{script_out}
+use Rattle.spec_server.specs.ScriptOut.{script_out}
 use Rattle.spec_server.specs.Script.{Ended, Cut}
 use Rattle.spec_serve.specs.Workers.{RunsBy}
 use Rattle.lp_base.specs.Beside.{Takes}

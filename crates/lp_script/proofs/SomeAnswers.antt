@@ -1,17 +1,19 @@
 -- Any asks have exchanges in which each session runs alone and nothing is read: what is due, or MEMORY where a model is
 -- to be solved.
-use Rattle.std.proofs.Common.{◌≡◌, ℕ, true, List, [], ◌∷◌, map, Option, Some, None, Ok, Err, refl, sym, ap, inl, inr}
+use Rattle.std.proofs.Common.{◌≡◌, ℕ, true, List, [], ◌∷◌, map, Option, Some, None, Ok, Err, refl, sym, ap, subst, inl, inr}
 use Rattle.spec_model.specs.Model.{Model}
 use Rattle.spec_edit.specs.Edited.{ExactEdit, OrFault, edited}
 use Rattle.spec_server.specs.declared.asks.Ask.TheVariants as ask
 use Rattle.spec_server.specs.declared.asks.Asked.{Asked}
 use Rattle.spec_server.specs.declared.asks.Reply.TheVariants as reply
 use Rattle.spec_server.specs.declared.command.Plain.TheVariants as command
-use Rattle.spec_server.specs.Machine.{ExactAsk, ExactReply, State, Due, Replies, Solves, due, edit_due, change_due}
+use Rattle.spec_server.specs.Machine.{ExactAsk, ExactReply, State, Due, Replies, Solves, SolvesWide, due, wide_due, edit_due}
+use Rattle.spec_server.specs.Machine.{change_due}
 use Rattle.spec_server.specs.Machine.{takes_memory}
-use Rattle.spec_server.specs.Step.{Answers, begun_by, AloneStep}
+use Rattle.spec_server.specs.Step.{Answers, BegunBy, AloneStep}
 use Rattle.spec_server.specs.Exchanges.{Exchange, asked_in, AloneRun, of_session, log_of}
 use Rattle.spec_server.proofs.RunLemmas.{updated, runs_on}
+use Rattle.spec_server.proofs.Simply.{wide_due_held}
 
 no_solve : (replied : ExactReply) (next : State) (m : Model) → Replies replied next ≡ Solves m → ⊥
 no_solve replied next m e = cc
@@ -32,6 +34,7 @@ solve_wants state (ask.Plain command.Solve) m e = refl
 solve_wants state (ask.Plain command.Cert) m e = refl
 solve_wants state (ask.Plain command.How) m e = absurd (no_solve _ _ m e)
 solve_wants state (ask.Plain (command.Budget n)) m e = absurd (no_solve _ _ m e)
+solve_wants state (ask.Plain command.Wide) m e = refl
 solve_wants state (ask.Plain command.Quit) m e = absurd (no_solve _ _ m e)
 solve_wants state (ask.Plain (command.Change edit)) m e = absurd (change_solves_nothing state m state.model edit e)
 solve_wants state (ask.Loaded n) m e = absurd (no_solve _ _ m e)
@@ -53,7 +56,7 @@ module _ (places : ℕ) where
     next = next;
     step = record {
       begun = Answers replied next;
-      begins = inl (ap (begun_by state) (sym e));
+      begins = inl (subst (λ d. BegunBy state d (Answers replied next)) (sym e) refl);
       goes_on = (refl, refl, refl);
     };
   }
@@ -63,6 +66,15 @@ module _ (places : ℕ) where
     step = record {
       begun = Answers reply.Memory state;
       begins = inr (solve_wants state asked m e, refl);
+      goes_on = (refl, refl, refl);
+    };
+  }
+  step_by state asked (SolvesWide m) e = record {
+    replied = reply.Memory;
+    next = state;
+    step = record {
+      begun = Answers reply.Memory state;
+      begins = inr (ap takes_memory (wide_due_held state m asked e).0, refl);
       goes_on = (refl, refl, refl);
     };
   }

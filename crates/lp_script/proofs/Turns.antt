@@ -13,7 +13,7 @@ use Rattle.spec_server.specs.Machine.{ExactAsk, ExactReply, State, opening}
 use Rattle.spec_server.specs.Step.{AloneStep}
 use Rattle.spec_server.specs.Exchanges.{Exchange, log_of}
 use Rattle.spec_server.specs.Script.{Between, Ending, asks_from, pending_after, ending_by}
-use Rattle.spec_server.specs.Output.{script_out}
+use Rattle.spec_server.specs.ScriptOut.{script_out}
 use Rattle.spec_server.proofs.RunLemmas.{script_out-append, updated}
 use Rattle.lp_base.specs.LinesState.{LinesState, at_start}
 use Rattle.lp_base.specs.Taking.{ReadsLines, ReadsAll, ReadsPart}

@@ -8,7 +8,7 @@ use Rattle.spec_server.specs.Machine.{ExactAsk}
 use Rattle.spec_server.specs.Exchanges.{Exchange, asked_in}
 use Rattle.spec_server.specs.Script.{Ending, Ended, Cut, script_of, ended_asks_of}
 use Rattle.spec_server.specs.Script as script
-use Rattle.spec_server.specs.Output.{script_out}
+use Rattle.spec_server.specs.ScriptOut.{script_out}
 pub use Rattle.spec_server.specs.Shared.{IsPlaces, IsWorkers}
 use Rattle.spec_serve.specs.Workers.{RunsBy}
 use Rattle.lp_line.specs.declared.halt.Halt.{Halt}

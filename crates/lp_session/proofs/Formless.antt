@@ -1,7 +1,8 @@
 -- How the solve of a model without a form ends.
-use Rattle.std.proofs.Common.{◌≡◌, Some, None, Err, sym, ap, ap₂, ◌∙◌, inl}
+use Rattle.std.proofs.Common.{◌≡◌, Some, None, Err, sym, ap, ap₂, subst, ◌∙◌, inl}
 use Rattle.spec_exact.specs.Narrow.{number_limit}
 use Rattle.spec_model.specs.Model.{Model}
+use Rattle.spec_simplex.specs.Form.{form_of}
 use Rattle.spec_runs.specs.Cold.{cold}
 use Rattle.spec_runs.specs.Solve.{SolveEnd}
 use Rattle.spec_solve.specs.Answers.{IsSolved}
@@ -10,7 +11,7 @@ use Rattle.spec_server.specs.declared.answer.Publication.TheVariants as publicat
 use Rattle.spec_server.specs.declared.asks.Ask.TheVariants as ask
 use Rattle.spec_server.specs.declared.command.Plain.TheVariants as command
 use Rattle.spec_server.specs.Machine.{ExactReply, State, Solves, due, solve_due}
-use Rattle.spec_server.specs.Step.{Answers, Begins, answered, with_answer, solve_begun, begun_by}
+use Rattle.spec_server.specs.Step.{Answers, Begins, answered, with_answer, solve_begun, Begun, BegunBy}
 use Rattle.lp_solve.specs.Formless.{HasNoForm}
 
 -- as the cold solve does, with the budget of the session
@@ -21,7 +22,7 @@ pub formless_begins : (old : State) (m : Model) (solved : SolveEnd) (replied : E
 formless_begins old m solved replied new held formless is r n =
     let end : solved.end ≡ cold (Some number_limit) old.budget m = is.without_form formless.0 formless.1 in
     let asked : due old (ask.Plain command.Solve) ≡ Solves m = ap (solve_due old) held in
-    let begun : begun_by old (due old (ask.Plain command.Solve)) ≡ solve_begun old m (Err formless.0) =
-    ap (begun_by old) asked ∙ ap (solve_begun old m) formless.1 in
-    inl (ap₂ Answers (r ∙ ap (answered old) end)
-    (n ∙ ap (λ e. with_answer old e how.Cold publication.Nothing) end) ∙ sym begun)
+    let begun : Answers replied new ≡ solve_begun old m (form_of (Some number_limit) m) =
+    ap₂ Answers (r ∙ ap (answered old) end) (n ∙ ap (λ e. with_answer old e how.Cold publication.Nothing) end)
+    ∙ sym (ap (solve_begun old m) formless.1) in
+    inl (subst (λ d. BegunBy old d (Answers replied new)) (sym asked) begun)

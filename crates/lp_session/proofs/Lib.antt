@@ -3,3 +3,4 @@ pub mod Ends
 pub mod Works
 pub mod Boards
 pub mod Formless
+pub mod Widened

@@ -1,25 +1,28 @@
 // What a session holds.
-ghost use Rattle.std.specs.Prelude.{◌≡◌, ◌⊎◌, option_and_then};
+ghost use Rattle.std.specs.Prelude.{◌≡◌, ◌⊎◌, IfOk, option_and_then};
 ghost use Rattle.spec_server.specs.Machine as machine;
 ghost use Rattle.spec_server.specs.Step as step;
 ghost use Rattle.spec_server.specs.declared.asks.Ask.TheVariants as asks;
 ghost use Rattle.spec_server.specs.declared.asks.Reply.TheVariants as replies;
 ghost use Rattle.spec_server.specs.declared.command.Plain.TheVariants as commands;
-ghost use Rattle.lp_session.specs.Parts.{IsFormHeld, IsEndOf, FitsForm, BeginsSo, WorksSo, reply_unapplied};
+ghost use Rattle.lp_session.specs.Parts.{IsFormHeld, IsEndOf, FitsForm, BeginsSo, WorksSo, AreOfWide, reply_unapplied};
 
 use crate::awaited::{Begun, Pending, Worked};
 use crate::working::{how_by, is_found, solved_from, words_of_end};
+use lp_base::Texts;
 use lp_certificate::RawCertificate;
 use lp_form::{Basis, Form, form};
 use lp_frac::{Frac, Fracs};
-use lp_line::{Ask, Refusal, Reply, answer_of, certificate_lines, pivots_of, verdict_on};
+use lp_line::{
+    Ask, Refusal, Reply, answer_of, certificate_lines, pivots_of, verdict_on, wide_lines,
+};
 use lp_model::{Edit, EditError, EditFault, Model, apply};
 use lp_mps::write::{WriteStop, fixed, free};
-use lp_solve::{End, OPENING_BUDGET, solve_formless};
+use lp_solve::{End, OPENING_BUDGET, solve_formless, wide_solved_within};
 use spec_board::{BasisWords, Found};
 use spec_mps::Style;
 use spec_server::{How, Plain, Publication};
-use std::alloc::Global;
+use std::alloc::{AllocError, Global};
 use std::{marker, mem};
 
 /// What a session keeps of its last solve.
@@ -93,6 +96,7 @@ impl Holding {
                 self.budget = budget;
                 Begun::Reply(Reply::Done)
             }
+            Plain::Wide => Begun::Reply(self.widen(alloc)),
             Plain::Quit => {
                 drop(mem::replace(self, Holding::new()));
                 Begun::Reply(Reply::Bye)
@@ -202,6 +206,19 @@ impl Holding {
         }
     }
 
+    // The lines of a wide solve of the model, of which nothing is kept.
+    fn widen(&self, alloc: Global) -> Reply
+        ensures { step.Begins self.now (asks.Plain commands.Wide) (step.Answers result self.now) }
+    {
+        let Some(model) = &self.model else {
+            return Reply::Refused(Refusal::NoModel);
+        };
+        match lines_of_wide(alloc, model, self.budget) {
+            Ok(lines) => Reply::Wide(lines),
+            Err(_) => Reply::Memory,
+        }
+    }
+
     fn how(&self) -> Reply
         ensures { result ≡ machine.how_reply self.now.last }
     {
@@ -242,6 +259,16 @@ impl Holding {
         };
         verdict_on(alloc, model, raw).unwrap_or(Reply::Memory)
     }
+}
+
+// The lines that a wide solve of the model is answered with.
+fn lines_of_wide(alloc: Global, model: &Model, budget: u32) -> Result<Texts, AllocError>
+    ensures { IfOk result (AreOfWide model.now budget) }
+{
+    let solved = wide_solved_within(alloc, model, budget)?;
+    let lines = wide_lines(alloc, model, budget, &solved);
+    drop(solved);
+    lines
 }
 
 // What is replied to an edit that is not applied.

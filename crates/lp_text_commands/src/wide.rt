@@ -1,7 +1,6 @@
 // The solve of a model whose answer may have numbers of any width.
 ghost use Rattle.std.specs.Prelude.{◌≡◌, ◌++◌, Ok, OnOk};
 ghost use Rattle.spec_check.specs.Certificate.{IsFor};
-ghost use Rattle.spec_check.specs.declared.certificate.Known.TheVariants as known;
 ghost use Rattle.spec_certificate.specs.TextWritten.{wide_certificate_lines};
 ghost use Rattle.spec_solve.specs.Wide.{IsWideSolved};
 ghost use Rattle.spec_server.specs.Machine.{opening_budget};
@@ -13,10 +12,8 @@ use crate::solve::print_end;
 use lp_base::Bytes;
 use lp_certificate::cert_text;
 use lp_check::wide::{Certificate, Known};
-use lp_line::print_lines;
+use lp_line::{print_lines, push_wide_known};
 use lp_model::Model;
-use lp_numtext::wide_text;
-use lp_ratio::Ratio;
 use lp_solve::{OPENING_BUDGET, WideSolved, wide_solved_within};
 use std::alloc::{AllocError, Global};
 
@@ -74,23 +71,8 @@ fn print_wide(
 pub(crate) fn print_known(alloc: Global, answer: &Known, to: &mut Bytes) -> Result<(), AllocError>
     ensures { OnOk result (to.new ≡ to.old ++ wide_known_line answer.now) }
 {
-    match answer {
-        Known::Optimal(value) => print_optimal(alloc, value, to),
-        Known::Infeasible => to.extend(b"INFEASIBLE\n"),
-        Known::Unbounded => to.extend(b"UNBOUNDED\n"),
-    }
-}
-
-// Writes the line of an optimum.
-#[tactic(auto, unfolding(spec_commands::specs::SolveWideOut::wide_known_line))]
-fn print_optimal(alloc: Global, value: &Ratio, to: &mut Bytes) -> Result<(), AllocError>
-    ensures { OnOk result (to.new ≡ to.old ++ wide_known_line (known.Optimal value.now)) }
-{
-    let mut line = Bytes::from_slice(alloc, b"OPTIMAL ")?;
-    let text = wide_text(alloc, value)?;
-    line.extend(text.as_slice())?;
-    line.push(b'\n')?;
-    to.extend(line.as_slice())
+    push_wide_known(alloc, answer, to)?;
+    to.push(b'\n')
 }
 
 /// Writes the lines of the certificate.

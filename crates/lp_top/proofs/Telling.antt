@@ -142,6 +142,7 @@ check_codes (reply.Answered what) = inl refl
 check_codes (reply.Certified lines) = inl refl
 check_codes (reply.Found how pivots publication) = inl refl
 check_codes (reply.Checked what) = inl refl
+check_codes (reply.Wide lines) = inl refl
 check_codes reply.Bye = inl refl
 check_codes reply.Memory = inl refl
 

@@ -12,7 +12,7 @@ use Rattle.spec_server.specs.declared.addressing.Addressing.TheVariants.{Numbere
 use Rattle.spec_server.specs.declared.asks.Asked.{Asked}
 use Rattle.spec_server.specs.Exchanges.{Exchange, asked_in}
 use Rattle.spec_server.specs.Machine.{ExactAsk}
-use Rattle.spec_server.specs.Output.{script_out}
+use Rattle.spec_server.specs.ScriptOut.{script_out}
 use Rattle.spec_server.specs.Script.{script_of}
 use Rattle.spec_server.specs.Streams.{Streams}
 use Rattle.spec_program.specs.declared.command_line.CommandLine.TheVariants.{Run, Read, Generate, Serve}

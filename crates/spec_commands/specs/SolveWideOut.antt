@@ -1,24 +1,18 @@
 -- What the command `solve` writes where the numbers of its answer may have any width. It reads what SolveOut has.
-use Rattle.std.specs.Prelude.{ℕ, ◌≡◌, ◌≤◌, Ok, Err, List, [], ◌∷◌, ◌++◌, length, codes}
+use Rattle.std.specs.Prelude.{ℕ, ◌≡◌, ◌≤◌, Ok, Err, List, [], ◌∷◌, ◌++◌, length}
 use Rattle.spec_exact.specs.Fraction.{ℚ}
 use Rattle.spec_model.specs.Model.{Model}
 use Rattle.spec_mps.specs.WideWritten.{wide_text}
 use Rattle.spec_check.specs.declared.certificate.Certificate.{Certificate}
 use Rattle.spec_check.specs.declared.certificate.Known.{Known}
-use Rattle.spec_check.specs.declared.certificate.Known.TheVariants as known
 use Rattle.spec_certificate.specs.TextWritten.{wide_certificate_lines}
 use Rattle.spec_solve.specs.declared.wide_solved.WideSolved.TheVariants.{Narrow, Wide}
 use Rattle.spec_solve.specs.Wide.{WideEnd, IsWideSolved}
 use Rattle.spec_server.specs.Machine.{opening_budget}
 use Rattle.spec_server.specs.Output.{ended_lines}
+use Rattle.spec_server.specs.WideLines.{wide_known_text}
 use Rattle.spec_server.specs.TextSaid.{TextSaid}
 use Rattle.spec_commands.specs.SolveOut.{SolveOut, solved_lines}
-
--- as an answer with narrow numbers, with the optimal value in lowest terms, however wide
-abbrev pub wide_known_text : Known ℚ → List ℕ
-wide_known_text (known.Optimal v) = codes "OPTIMAL " ++ wide_text v
-wide_known_text known.Infeasible = codes "INFEASIBLE"
-wide_known_text known.Unbounded = codes "UNBOUNDED"
 
 -- the answer's line
 unfoldable pub wide_known_line : Known ℚ → List ℕ

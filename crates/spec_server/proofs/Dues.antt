@@ -20,8 +20,10 @@ use Rattle.spec_simplex.specs.declared.ends.FormFault.{FormFault}
 use Rattle.spec_simplex.specs.Form.{Form, form_of}
 use Rattle.spec_runs.specs.Cold.{ExactSolveEnd}
 use Rattle.spec_runs.specs.declared.ends.Route.TheVariants as route
-use Rattle.spec_solve.specs.Order.{cold_by}
-use Rattle.spec_solve.proofs.Stated.{part_is_solved}
+use Rattle.spec_solve.specs.Order.{cold_by, cold_over}
+use Rattle.spec_solve.specs.declared.wide_solved.WideSolved.TheVariants.{Narrow}
+use Rattle.spec_solve.specs.Wide.{WideEnd}
+use Rattle.spec_solve.proofs.Stated.{part_is_solved, stated_is_solved}
 use Rattle.spec_board.specs.declared.read.Put.TheVariants.{Full}
 use Rattle.spec_board.specs.declared.read.Read.TheVariants.{Count}
 use Rattle.spec_board.specs.Reads.{Words, ExactRead}
@@ -29,16 +31,23 @@ use Rattle.spec_server.specs.declared.answer.How.TheVariants as how
 use Rattle.spec_server.specs.declared.answer.Publication.{Publication}
 use Rattle.spec_server.specs.declared.answer.Publication.TheVariants as publication
 use Rattle.spec_server.specs.declared.asks.Ask.TheVariants as ask
+use Rattle.spec_server.specs.declared.asks.Reply.TheVariants as reply
 use Rattle.spec_server.specs.declared.command.Plain.TheVariants as command
 use Rattle.spec_server.specs.Machine.{ExactAsk, ExactReply, ExactLastAnswer, IsKeptAsk, State, is_memory, verdict_on}
 use Rattle.spec_server.specs.Machine.{check_reply, fixed_reply, text_reply, write_reply, cert_reply, how_reply, Due}
-use Rattle.spec_server.specs.Machine.{Replies, Solves, solve_due, edit_refusal, edit_due, change_due, due}
-use Rattle.spec_server.specs.Step.{answered, with_answer, solve_begun, begun_by, words_of_end, worked_with, Concludes}
-use Rattle.spec_server.specs.Step.{GoesOn, AloneStep}
+use Rattle.spec_server.specs.Machine.{Replies, Solves, SolvesWide, solve_due, wide_due, edit_refusal, edit_due, change_due}
+use Rattle.spec_server.specs.Machine.{due}
+use Rattle.spec_server.specs.WideLines.{wide_lines}
+use Rattle.spec_server.specs.Step.{answered, with_answer, Begun, Answers, solve_begun, BegunBy, words_of_end, worked_with}
+use Rattle.spec_server.specs.Step.{Concludes, GoesOn, AloneStep}
 
 -- the end of the cold part of a solve at the limit, by the model's form
 abbrev part_end : ℕ → Model → Result Form (FormFault ℚ) → ExactSolveEnd
 part_end budget m o = cold_by (Some number_limit) budget m o
+
+-- a wide solve may end as the two stated runs do
+abbrev wide_end : ℕ → Model → WideEnd
+wide_end budget m = Narrow (record { end = cold_over (Some number_limit) budget m; route = route.Cold })
 
 -- ---- with no place claimed for the look, and all of them for the put
 
@@ -60,17 +69,25 @@ solve_ends places end (Err why) = publication.Nothing
 
 -- ---- what is due is done
 
+abbrev due_begun : State → Due → Begun
+due_begun state (Replies replied next) = Answers replied next
+due_begun state (Solves m) = solve_begun state m (form_of (Some number_limit) m)
+due_begun state (SolvesWide m) = Answers (reply.Wide (wide_lines m state.budget (wide_end state.budget m))) state
+
 abbrev due_reads : ℕ → State → Due → List ExactRead
 due_reads places state (Replies replied next) = []
+due_reads places state (SolvesWide m) = []
 due_reads places state (Solves m) =
     solve_reads places (part_end state.budget m (form_of (Some number_limit) m)) (form_of (Some number_limit) m)
 
 abbrev due_reply : State → Due → ExactReply
 due_reply state (Replies replied next) = replied
+due_reply state (SolvesWide m) = reply.Wide (wide_lines m state.budget (wide_end state.budget m))
 due_reply state (Solves m) = answered state (part_end state.budget m (form_of (Some number_limit) m))
 
 abbrev pub due_next : ℕ → State → Due → State
 due_next places state (Replies replied next) = next
+due_next places state (SolvesWide m) = state
 due_next places state (Solves m) =
     let r : Result Form (FormFault ℚ) = form_of (Some number_limit) m in
     with_answer state (part_end state.budget m r) how.Cold (solve_ends places (part_end state.budget m r) r)
@@ -79,6 +96,7 @@ due_next places state (Solves m) =
 abbrev IsKeptDue : State → Due → Type 0
 IsKeptDue state (Replies replied next) = Unit {0}
 IsKeptDue state (Solves m) = (state.model ≡ Some m) × IsModel m
+IsKeptDue state (SolvesWide m) = IsModel m
 
 module _ (places : ℕ) (state : State) where
   -- after the look
@@ -122,11 +140,21 @@ module _ (places : ℕ) (state : State) where
     concludes = concludes (part_end state.budget m (Ok f)) (words_of_end f (part_end state.budget m (Ok f)));
   }
 
+  begins : (what : Due) → IsKeptDue state what → BegunBy state what (due_begun state what)
+  begins (Replies replied next) h = refl
+  begins (Solves m) h = refl
+  begins (SolvesWide m) h = record {
+    end = wide_end state.budget m;
+    is_solved = stated_is_solved m state.budget h;
+    answers = refl;
+  }
+
   does : (what : Due) → IsKeptDue state what →
-      GoesOn places state (begun_by state what) (due_reads places state what) (due_reply state what)
+      GoesOn places state (due_begun state what) (due_reads places state what) (due_reply state what)
       (due_next places state what)
   does (Replies replied next) h = (refl, refl, refl)
   does (Solves m) h = solve_goes_on m (form_of (Some number_limit) m) refl h.0 h.1
+  does (SolvesWide m) h = (refl, refl, refl)
 
 abbrev pub IsKeptState : State → Type 0
 IsKeptState state = IfSome state.model IsModel
@@ -135,6 +163,10 @@ module _ (state : State) where
   solve_kept : (held : Option Model) → state.model ≡ held → IfSome held IsModel → IsKeptDue state (solve_due state held)
   solve_kept None e h = tt
   solve_kept (Some m) e h = (e, h)
+
+  wide_kept : (held : Option Model) → IfSome held IsModel → IsKeptDue state (wide_due state held)
+  wide_kept None h = tt
+  wide_kept (Some m) h = h
 
   edit_solves_none : (r : OrFault Model) → IsKeptDue state (edit_due state r)
   edit_solves_none (Ok m) = tt
@@ -146,6 +178,7 @@ module _ (state : State) where
 
   due_kept : (asked : ExactAsk) → IsKeptState state → IsKeptDue state (due state asked)
   due_kept (ask.Plain command.Solve) h = solve_kept state.model refl h
+  due_kept (ask.Plain command.Wide) h = wide_kept state.model h
   due_kept (ask.Plain (command.Change e)) h = change_solves_none state.model e
   due_kept asked h = tt
 
@@ -162,8 +195,8 @@ state_after places state asked = due_next places state (due state asked)
 pub good_step : (places : ℕ) (state : State) (asked : ExactAsk) → IsKeptState state →
     AloneStep places state asked (reads_of places state asked) (reply_to state asked) (state_after places state asked)
 good_step places state asked h = record {
-  begun = begun_by state (due state asked);
-  begins = inl refl;
+  begun = due_begun state (due state asked);
+  begins = inl (begins places state (due state asked) (due_kept state asked h));
   goes_on = does places state (due state asked) (due_kept state asked h);
 }
 
@@ -171,6 +204,10 @@ module _ (places : ℕ) (state : State) (h : IsKeptState state) where
   after_solve : (held : Option Model) → IsKeptState (due_next places state (solve_due state held))
   after_solve None = h
   after_solve (Some m) = h
+
+  after_wide : (held : Option Model) → IsKeptState (due_next places state (wide_due state held))
+  after_wide None = h
+  after_wide (Some m) = h
 
   after_edit : (r : OrFault Model) → ((m : Model) → r ≡ Ok m → IsModel m) →
       IsKeptState (due_next places state (edit_due state r))
@@ -184,6 +221,7 @@ module _ (places : ℕ) (state : State) (h : IsKeptState state) where
 
   pub after_kept : (asked : ExactAsk) → IsKeptAsk asked → IsKeptState (state_after places state asked)
   after_kept (ask.Plain command.Solve) k = after_solve state.model
+  after_kept (ask.Plain command.Wide) k = after_wide state.model
   after_kept (ask.Plain command.Quit) k = tt
   after_kept (ask.Plain (command.Change e)) k = after_change state.model e h k
   after_kept (ask.Loaded m) k = k
@@ -225,6 +263,10 @@ ample_solve : (state : State) (held : Option Model) → is_memory (due_reply sta
 ample_solve state None = refl
 ample_solve state (Some m) = refl
 
+ample_wide : (state : State) (held : Option Model) → is_memory (due_reply state (wide_due state held)) ≡ false
+ample_wide state None = refl
+ample_wide state (Some m) = refl
+
 ample_refusal : (why : EditFault Name) → is_memory (edit_refusal why) ≡ false
 ample_refusal (fault.UnknownName name) = refl
 ample_refusal (fault.Taken name) = refl
@@ -248,6 +290,7 @@ ample_reply state (ask.Plain command.Solve) = ample_solve state state.model
 ample_reply state (ask.Plain command.Cert) = ample_cert state.model state.last
 ample_reply state (ask.Plain command.How) = ample_how state.last
 ample_reply state (ask.Plain (command.Budget n)) = refl
+ample_reply state (ask.Plain command.Wide) = ample_wide state state.model
 ample_reply state (ask.Plain command.Quit) = refl
 ample_reply state (ask.Plain (command.Change e)) = ample_change state state.model e
 ample_reply state (ask.Loaded m) = refl

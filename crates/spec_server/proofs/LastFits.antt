@@ -5,7 +5,7 @@ use Rattle.spec_edit.specs.Edited.{ExactEdit, OrFault, edited}
 use Rattle.spec_board.specs.Reads.{ExactRead}
 use Rattle.spec_server.specs.declared.asks.Ask.TheVariants as ask
 use Rattle.spec_server.specs.declared.command.Plain.TheVariants as command
-use Rattle.spec_server.specs.Machine.{ExactAsk, ExactReply, State, solve_due, edit_due, change_due, due}
+use Rattle.spec_server.specs.Machine.{ExactAsk, ExactReply, State, solve_due, wide_due, edit_due, change_due, due}
 use Rattle.spec_server.specs.Step.{with_answer, AloneStep}
 use Rattle.spec_server.specs.LastFits.{LastFits}
 use Rattle.spec_server.proofs.Simply.{Does, WantsMemory, step_simply}
@@ -20,6 +20,11 @@ solve_fits old new replied (Some m) e fits h =
     let kept : State = with_answer old h.end h.how h.publication in
     let allowed : LastFits (Some m) kept.last = (old.budget, h.may_answer) in
     subst Fits (sym h.kept) (subst (λ (model : Option Model). LastFits model kept.last) (sym e) allowed)
+
+wide_fits : (old new : State) (replied : ExactReply) (held : Option Model) → Fits old →
+    Does old (wide_due old held) replied new → Fits new
+wide_fits old new replied None fits h = subst Fits (sym h.1) fits
+wide_fits old new replied (Some m) fits h = subst Fits (sym h.stays) fits
 
 edit_fits : (old new : State) (replied : ExactReply) (r : OrFault Model) → Fits old →
     Does old (edit_due old r) replied new → Fits new
@@ -38,6 +43,7 @@ does_fit old new (ask.Plain command.Solve) replied fits h = solve_fits old new r
 does_fit old new (ask.Plain command.Cert) replied fits h = subst Fits (sym h.1) fits
 does_fit old new (ask.Plain command.How) replied fits h = subst Fits (sym h.1) fits
 does_fit old new (ask.Plain (command.Budget n)) replied fits h = subst Fits (sym h.1) fits
+does_fit old new (ask.Plain command.Wide) replied fits h = wide_fits old new replied old.model fits h
 does_fit old new (ask.Plain command.Quit) replied fits h = subst Fits (sym h.1) tt
 does_fit old new (ask.Plain (command.Change e)) replied fits h = change_fits old new replied old.model e fits h
 does_fit old new (ask.Loaded m) replied fits h = subst Fits (sym h.1) tt

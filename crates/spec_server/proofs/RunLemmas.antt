@@ -8,7 +8,8 @@ use Rattle.spec_server.specs.Machine.{State}
 use Rattle.spec_server.specs.Step.{AloneStep}
 use Rattle.spec_server.specs.Exchanges.{Exchange, asked_in, AloneRun, of_session, log_of}
 use Rattle.spec_server.specs.declared.addressing.Addressing.TheVariants.{Numbered}
-use Rattle.spec_server.specs.Output.{reply_lines, script_out}
+use Rattle.spec_server.specs.Output.{reply_lines}
+use Rattle.spec_server.specs.ScriptOut.{script_out}
 
 -- a run goes on with another
 pub AloneRun-append : (places : ℕ) (a b c : State) (xs ys : List Exchange) → AloneRun places a xs b →

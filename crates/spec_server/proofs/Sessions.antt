@@ -6,7 +6,7 @@ use Rattle.spec_board.specs.Reads.{ExactRead}
 use Rattle.spec_server.specs.declared.asks.Asked.{Asked}
 use Rattle.spec_server.specs.LastFits.{LastFits}
 use Rattle.spec_server.specs.Machine.{ExactAsk, ExactReply, IsKeptAsk, AreKept, State, Due}
-use Rattle.spec_server.specs.Machine.{Replies, Solves, due}
+use Rattle.spec_server.specs.Machine.{Replies, Solves, SolvesWide, due}
 use Rattle.spec_server.specs.Step.{AloneStep}
 use Rattle.spec_server.specs.Exchanges.{Exchange, asked_in, AloneRun}
 use Rattle.spec_server.proofs.Dues.{IsKeptState, due_next, after_kept}
@@ -15,11 +15,12 @@ use Rattle.spec_server.proofs.Simply.{Does, WantsMemory, step_simply}
 
 -- ---- steps
 
--- a session that does what is due holds the model of what is due, and that of a solve is the one before
+-- a session that does what is due holds the model of what is due, and that of a solve, or of a wide one, is the one before
 does_keep : (places : ℕ) (old new : State) (what : Due) (replied : ExactReply) → IsKeptState old →
     IsKeptState (due_next places old what) → Does old what replied new → IsKeptState new
 does_keep places old new (Replies stated next) replied h k d = subst IsKeptState (sym d.1) k
 does_keep places old new (Solves m) replied h k d = subst IsKeptState (sym d.kept) h
+does_keep places old new (SolvesWide m) replied h k d = subst IsKeptState (sym d.stays) h
 
 pub step_keeps : (places : ℕ) (old new : State) (asked : ExactAsk) (reads : List ExactRead) (replied : ExactReply) →
     AloneStep places old asked reads replied new → IsKeptAsk asked → IsKeptState old → IsKeptState new

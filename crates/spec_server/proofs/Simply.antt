@@ -9,6 +9,7 @@ use Rattle.spec_simplex.specs.declared.ends.FormFault.{FormFault}
 use Rattle.spec_simplex.specs.Form.{Form, form_of}
 use Rattle.spec_runs.specs.Cold.{ExactSolveEnd, cold}
 use Rattle.spec_solve.specs.Answers.{MayAnswer}
+use Rattle.spec_solve.specs.Wide.{WideEnd, IsWideSolved}
 use Rattle.spec_solve.proofs.Solves.{formless_solved}
 use Rattle.spec_board.specs.Reads.{Words, ExactRead, Looked}
 use Rattle.spec_server.specs.declared.answer.How.{How}
@@ -18,9 +19,10 @@ use Rattle.spec_server.specs.declared.answer.Publication.TheVariants as publicat
 use Rattle.spec_server.specs.declared.asks.Ask.TheVariants as ask
 use Rattle.spec_server.specs.declared.asks.Reply.TheVariants as reply
 use Rattle.spec_server.specs.declared.command.Plain.TheVariants as command
-use Rattle.spec_server.specs.Machine.{ExactAsk, ExactReply, State, Due, Replies, Solves, solve_due, edit_due}
-use Rattle.spec_server.specs.Machine.{change_due, due}
-use Rattle.spec_server.specs.Step.{answered, with_answer, solve_begun, begun_by, Begins, Worked, Ends, Publishes}
+use Rattle.spec_server.specs.Machine.{ExactAsk, ExactReply, State, Due, Replies, Solves, SolvesWide, solve_due, wide_due}
+use Rattle.spec_server.specs.Machine.{edit_due, change_due, due}
+use Rattle.spec_server.specs.WideLines.{wide_lines}
+use Rattle.spec_server.specs.Step.{answered, with_answer, solve_begun, Begun, BegunBy, Begins, Worked, Ends, Publishes}
 use Rattle.spec_server.specs.Step.{how_by, is_found, words_of_end, worked_with, SolvesWith, Works, Concludes, GoesOn}
 use Rattle.spec_server.specs.Step.{AloneStep}
 
@@ -34,22 +36,43 @@ pub record SolveStep (old : State) (m : Model) (replied : ExactReply) (new : Sta
   pub answer : replied ≡ answered old end
   pub kept : new ≡ with_answer old end how publication
 
+-- a wide solve replies its lines, and the state stays
+pub record WideStep (old : State) (m : Model) (replied : ExactReply) (new : State) : Type 0 where
+  pub end : WideEnd
+  pub held : old.model ≡ Some m
+  pub is_solved : IsWideSolved m old.budget end
+  pub answer : replied ≡ reply.Wide (wide_lines m old.budget end)
+  pub stays : new ≡ old
+
 -- what is due is done
 abbrev pub Does : State → Due → ExactReply → State → Type 0
 Does old (Replies stated next) replied new = (replied ≡ stated) × (new ≡ next)
 Does old (Solves m) replied new = SolveStep old m replied new
+Does old (SolvesWide m) replied new = WideStep old m replied new
 
 -- memory runs out, and the state stays
 pub record WantsMemory (old : State) (replied : ExactReply) (new : State) : Type 0 where
   pub memory : replied ≡ reply.Memory
   pub stays : new ≡ old
 
--- ---- only the command SOLVE has a solve for its due, and of the model that is held
+-- ---- only the command SOLVE has a solve for its due, and WIDE a wide one, and of the model that is held
 
 module _ (old : State) (m : Model) where
   solve_held : (held : Option Model) → solve_due old held ≡ Solves m → held ≡ Some m
   solve_held None e = cc
   solve_held (Some n) e = cc
+
+  solve_not_wide : (held : Option Model) → solve_due old held ≡ SolvesWide m → ⊥
+  solve_not_wide None e = cc
+  solve_not_wide (Some n) e = cc
+
+  wide_held : (held : Option Model) → wide_due old held ≡ SolvesWide m → held ≡ Some m
+  wide_held None e = cc
+  wide_held (Some n) e = cc
+
+  wide_not_solved : (held : Option Model) → wide_due old held ≡ Solves m → ⊥
+  wide_not_solved None e = cc
+  wide_not_solved (Some n) e = cc
 
   edit_held : (r : OrFault Model) → edit_due old r ≡ Solves m → ⊥
   edit_held (Ok n) e = cc
@@ -59,6 +82,14 @@ module _ (old : State) (m : Model) where
   change_held None edit e = cc
   change_held (Some n) edit e = edit_held (edited n edit) e
 
+  edit_not_wide : (r : OrFault Model) → edit_due old r ≡ SolvesWide m → ⊥
+  edit_not_wide (Ok n) e = cc
+  edit_not_wide (Err why) e = cc
+
+  change_not_wide : (held : Option Model) (edit : ExactEdit) → change_due old held edit ≡ SolvesWide m → ⊥
+  change_not_wide None edit e = cc
+  change_not_wide (Some n) edit e = edit_not_wide (edited n edit) e
+
   pub due_held : (asked : ExactAsk) → due old asked ≡ Solves m →
       (asked ≡ ask.Plain command.Solve) × (old.model ≡ Some m)
   due_held (ask.Plain (command.Write form)) e = cc
@@ -66,6 +97,7 @@ module _ (old : State) (m : Model) where
   due_held (ask.Plain command.Cert) e = cc
   due_held (ask.Plain command.How) e = cc
   due_held (ask.Plain (command.Budget n)) e = cc
+  due_held (ask.Plain command.Wide) e = absurd (wide_not_solved old.model e)
   due_held (ask.Plain command.Quit) e = cc
   due_held (ask.Plain (command.Change edit)) e = absurd (change_held old.model edit e)
   due_held (ask.Loaded n) e = cc
@@ -73,6 +105,22 @@ module _ (old : State) (m : Model) where
   due_held (ask.Checked raw) e = cc
   due_held (ask.Unfit line) e = cc
   due_held (ask.Bad fault) e = cc
+
+  pub wide_due_held : (asked : ExactAsk) → due old asked ≡ SolvesWide m →
+      (asked ≡ ask.Plain command.Wide) × (old.model ≡ Some m)
+  wide_due_held (ask.Plain (command.Write form)) e = cc
+  wide_due_held (ask.Plain command.Solve) e = absurd (solve_not_wide old.model e)
+  wide_due_held (ask.Plain command.Cert) e = cc
+  wide_due_held (ask.Plain command.How) e = cc
+  wide_due_held (ask.Plain (command.Budget n)) e = cc
+  wide_due_held (ask.Plain command.Wide) e = (refl, wide_held old.model e)
+  wide_due_held (ask.Plain command.Quit) e = cc
+  wide_due_held (ask.Plain (command.Change edit)) e = absurd (change_not_wide old.model edit e)
+  wide_due_held (ask.Loaded n) e = cc
+  wide_due_held (ask.Misspelled fault) e = cc
+  wide_due_held (ask.Checked raw) e = cc
+  wide_due_held (ask.Unfit line) e = cc
+  wide_due_held (ask.Bad fault) e = cc
 
 -- ---- what a solve goes on to
 
@@ -135,20 +183,30 @@ module _ (places : ℕ) (old : State) (reads : List ExactRead) (replied : ExactR
     kept = g.2;
   })
 
-  due_simply : (asked : ExactAsk) (what : Due) → due old asked ≡ what →
-      GoesOn places old (begun_by old what) reads replied new →
+  due_simply : (asked : ExactAsk) (what : Due) (begun : Begun) → due old asked ≡ what → BegunBy old what begun →
+      GoesOn places old begun reads replied new →
       Does old what replied new ⊎ WantsMemory old replied new
-  due_simply asked (Replies stated next) e g = inl (g.1, g.2)
-  due_simply asked (Solves m) e g =
-      solve_simply m (form_of (Some number_limit) m) refl (due_held old m asked e).1 g
+  due_simply asked (Replies stated next) begun e is g =
+      let w = subst (λ b. GoesOn places old b reads replied new) is g in inl (w.1, w.2)
+  due_simply asked (Solves m) begun e is g =
+      solve_simply m (form_of (Some number_limit) m) refl (due_held old m asked e).1
+      (subst (λ b. GoesOn places old b reads replied new) is g)
+  due_simply asked (SolvesWide m) begun e is g =
+      let w = subst (λ b. GoesOn places old b reads replied new) is.answers g in
+      inl (record {
+        end = is.end;
+        held = (wide_due_held old m asked e).1;
+        is_solved = is.is_solved;
+        answer = w.1;
+        stays = w.2;
+      })
 
   pub step_simply : (asked : ExactAsk) → AloneStep places old asked reads replied new →
       Does old (due old asked) replied new ⊎ WantsMemory old replied new
   step_simply asked s = by s.begins
     where
       by : Begins old asked s.begun → Does old (due old asked) replied new ⊎ WantsMemory old replied new
-      by (inl e) =
-          due_simply asked (due old asked) refl (subst (λ b. GoesOn places old b reads replied new) e s.goes_on)
+      by (inl e) = due_simply asked (due old asked) s.begun refl e s.goes_on
       by (inr e) =
           let w = subst (λ b. GoesOn places old b reads replied new) e.1 s.goes_on in
           inr (record { memory = w.1; stays = w.2 })

@@ -57,6 +57,7 @@ command_word_of text =
     ∷ (codes "CERT", word.Cert)
     ∷ (codes "HOW", word.How)
     ∷ (codes "BUDGET", word.Budget)
+    ∷ (codes "WIDE", word.Wide)
     ∷ (codes "CHECK", word.Check)
     ∷ (codes "QUIT", word.Quit)
     ∷ (codes "ADDROW", word.Edit edit.AddRow)
@@ -97,6 +98,7 @@ command_with word.Solve [] = Plain plain_command.Solve
 command_with word.Cert [] = Plain plain_command.Cert
 command_with word.How [] = Plain plain_command.How
 command_with word.Budget (n ∷ []) = budget_by (budget_of n)
+command_with word.Wide [] = Plain plain_command.Wide
 command_with word.Check [] = Check
 command_with word.Quit [] = Plain plain_command.Quit
 command_with (word.Edit which) behind = change_by (edit_by which behind)

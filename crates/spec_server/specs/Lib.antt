@@ -13,3 +13,5 @@ pub mod Said
 pub mod TextSaid
 pub mod Halves
 pub mod Shared
+pub mod ScriptOut
+pub mod WideLines

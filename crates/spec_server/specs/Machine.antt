@@ -129,14 +129,19 @@ how_reply (Some last) = reply.Found last.how (pivots_of_solved last.solved) last
 
 -- ---- what is due to an ask
 
--- with memory enough: this reply, and this state from then on; or a solve of this model
+-- with memory enough: this reply, and this state from then on; a solve of this model; or a wide one, which changes nothing
 pub data Due : Type 0 where
   Replies : (replied : ExactReply) → (next : State) → Due
   Solves : (model : Model) → Due
+  SolvesWide : (model : Model) → Due
 
 abbrev pub solve_due : State → Option Model → Due
 solve_due state None = Replies (reply.Refused refusal.NoModel) state
 solve_due state (Some m) = Solves m
+
+abbrev pub wide_due : State → Option Model → Due
+wide_due state None = Replies (reply.Refused refusal.NoModel) state
+wide_due state (Some m) = SolvesWide m
 
 -- why an edit is refused
 abbrev pub edit_refusal : EditFault Name → ExactReply
@@ -162,6 +167,7 @@ plain_due state command.Solve = solve_due state state.model
 plain_due state command.Cert = Replies (cert_reply state.model state.last) state
 plain_due state command.How = Replies (how_reply state.last) state
 plain_due state (command.Budget n) = Replies reply.Done (record state { budget = n })
+plain_due state command.Wide = wide_due state state.model
 plain_due state command.Quit = Replies reply.Bye opening
 plain_due state (command.Change e) = change_due state state.model e
 
@@ -181,6 +187,7 @@ due state (ask.Bad fault) = Replies (reply.Refused (refusal.Bad fault)) state
 abbrev pub plain_takes_memory : Plain ExactEdit → Bool
 plain_takes_memory (command.Write form) = true
 plain_takes_memory command.Solve = true
+plain_takes_memory command.Wide = true
 plain_takes_memory command.Cert = true
 plain_takes_memory (command.Change e) = edits.takes_memory e
 plain_takes_memory asked = false

@@ -34,7 +34,6 @@ use Rattle.spec_server.specs.declared.asks.Reply.TheVariants as reply
 use Rattle.spec_server.specs.declared.asks.Refusal.{Refusal}
 use Rattle.spec_server.specs.declared.asks.Refusal.TheVariants as refusal
 use Rattle.spec_server.specs.Machine.{ExactReply}
-use Rattle.spec_server.specs.Exchanges.{Exchange}
 
 -- fractions in replies are written as the numbers of texts
 abbrev pub fraction_text : ℚ → List ℕ
@@ -142,6 +141,7 @@ reply_text (reply.Certified lines) = codes "CERT " ++ decimal (length lines)
 reply_text (reply.Found how pivots publication) =
     codes "HOW " ++ how_text how ++ codes " PIVOTS " ++ pivots_text pivots ++ codes " " ++ publication_text publication
 reply_text (reply.Checked what) = verdict_text what
+reply_text (reply.Wide lines) = codes "WIDE " ++ decimal (length lines)
 reply_text reply.Bye = codes "BYE"
 reply_text reply.Memory = codes "MEMORY"
 reply_text (reply.Refused why) = codes "ERR " ++ refusal_text why
@@ -154,7 +154,7 @@ check_line replied = reply_text replied ++ 10 ∷ []
 unfoldable pub ended_lines : List (List ℕ) → List ℕ
 ended_lines lines = flat_map (λ line. line ++ 10 ∷ []) lines
 
--- the lines of the text of a model, and those of a certificate, follow the reply
+-- the lines of the text of a model, of a certificate, and of a wide solve, follow the reply
 abbrev pub lines_behind : ExactReply → List ℕ
 lines_behind (reply.Loaded rows columns) = []
 lines_behind (reply.Written text) = text
@@ -163,6 +163,7 @@ lines_behind (reply.Answered what) = []
 lines_behind (reply.Certified lines) = ended_lines lines
 lines_behind (reply.Found how pivots publication) = []
 lines_behind (reply.Checked what) = []
+lines_behind (reply.Wide lines) = ended_lines lines
 lines_behind reply.Bye = []
 lines_behind reply.Memory = []
 lines_behind (reply.Refused why) = []
@@ -175,7 +176,3 @@ front_of Alone session = []
 -- a reply's lines in the output
 unfoldable pub reply_lines : Addressing → ℕ → ExactReply → List ℕ
 reply_lines addressing session replied = front_of addressing session ++ reply_text replied ++ 10 ∷ lines_behind replied
-
--- the output of a script
-abbrev pub script_out : List Exchange → List ℕ
-script_out xs = flat_map (λ x. reply_lines Numbered x.session x.reply) xs

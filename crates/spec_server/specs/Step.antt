@@ -17,6 +17,7 @@ use Rattle.spec_runs.specs.declared.ends.Route.{Route}
 use Rattle.spec_runs.specs.declared.ends.Route.TheVariants as route
 use Rattle.spec_runs.specs.Solve.{SolveEnd}
 use Rattle.spec_solve.specs.Answers.{IsSolved}
+use Rattle.spec_solve.specs.Wide.{WideEnd, IsWideSolved}
 use Rattle.spec_board.specs.Words.{shape_of, packed, unpacked}
 use Rattle.spec_board.specs.declared.read.Put.{Put}
 use Rattle.spec_board.specs.Reads.{Words, ExactRead, Looked, LookReads, PutReads}
@@ -25,7 +26,9 @@ use Rattle.spec_server.specs.declared.answer.How.TheVariants as how
 use Rattle.spec_server.specs.declared.answer.Publication.{Publication}
 use Rattle.spec_server.specs.declared.answer.Publication.TheVariants as publication
 use Rattle.spec_server.specs.declared.asks.Reply.TheVariants as reply
-use Rattle.spec_server.specs.Machine.{ExactAsk, ExactReply, State, Due, Replies, Solves, due, answer_of, takes_memory}
+use Rattle.spec_server.specs.Machine.{ExactAsk, ExactReply, State, Due, Replies, Solves, SolvesWide, due, answer_of}
+use Rattle.spec_server.specs.Machine.{takes_memory}
+use Rattle.spec_server.specs.WideLines.{wide_lines}
 
 -- ---- an ask begins
 
@@ -50,14 +53,21 @@ solve_begun old m (Err fault) =
     let end : ExactSolveEnd = cold (Some number_limit) old.budget m in
     Answers (answered old end) (with_answer old end how.Cold publication.Nothing)
 
-abbrev pub begun_by : State → Due → Begun
-begun_by old (Replies replied next) = Answers replied next
-begun_by old (Solves m) = solve_begun old m (form_of (Some number_limit) m)
+-- the lines of a wide solve of the model, and nothing is kept of it
+pub record AnswersWide (old : State) (m : Model) (begun : Begun) : Type 0 where
+  pub end : WideEnd
+  pub is_solved : IsWideSolved m old.budget end
+  pub answers : begun ≡ Answers (reply.Wide (wide_lines m old.budget end)) old
+
+abbrev pub BegunBy : State → Due → Begun → Type 0
+BegunBy old (Replies replied next) begun = begun ≡ Answers replied next
+BegunBy old (Solves m) begun = begun ≡ solve_begun old m (form_of (Some number_limit) m)
+BegunBy old (SolvesWide m) begun = AnswersWide old m begun
 
 -- with memory enough the ask begins as is due; where memory runs out the reply says so, and the state stays
 abbrev pub Begins : State → ExactAsk → Begun → Type 0
 Begins old asked begun =
-    (begun ≡ begun_by old (due old asked)) ⊎ ((takes_memory asked ≡ true) × (begun ≡ Answers reply.Memory old))
+    BegunBy old (due old asked) begun ⊎ ((takes_memory asked ≡ true) × (begun ≡ Answers reply.Memory old))
 
 -- ---- a solve goes on with what was found
 

@@ -50,6 +50,8 @@ pub enum Reply<N, F: Debug, T, L> {
         publication: Publication,
     },
     Checked(Verdict<F>),
+    /// The lines of a wide solve: its answer, and then those of its certificate.
+    Wide(L),
     /// The session is reset.
     Bye,
     /// Memory ran out, and the session is as it was.

@@ -10,6 +10,7 @@ pub enum CommandWord {
     Cert,
     How,
     Budget,
+    Wide,
     Check,
     Quit,
     Edit(EditWord),
@@ -43,6 +44,8 @@ pub enum Plain<E> {
     How,
     /// Each later solve is to make at most this many pivots and flips.
     Budget(u32),
+    /// The session's model is to be solved with numbers of any width, which changes nothing.
+    Wide,
     /// The session's model is to be edited.
     Change(E),
     /// The session is to be reset.

@@ -42,6 +42,7 @@ command_effects session (commands.Plain command.Solve) = refl
 command_effects session (commands.Plain command.Cert) = refl
 command_effects session (commands.Plain command.How) = refl
 command_effects session (commands.Plain (command.Budget n)) = refl
+command_effects session (commands.Plain command.Wide) = refl
 command_effects session (commands.Plain (command.Change e)) = refl
 command_effects session (commands.Plain command.Quit) = refl
 command_effects session (commands.Bad fault) = refl

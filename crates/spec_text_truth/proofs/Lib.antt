@@ -18,6 +18,7 @@ pub mod ReadLines
 pub mod TrueLines
 pub mod TrueTexts
 pub mod AskedEffects
+pub mod WideReplies
 pub mod ToldReplies
 pub mod ToldModels
 pub mod ToldRuns

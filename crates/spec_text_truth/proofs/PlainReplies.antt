@@ -42,7 +42,7 @@ use Rattle.spec_server.specs.declared.command.LineFault.{LineFault}
 use Rattle.spec_server.specs.declared.command.LineFault.TheVariants as line_fault
 use Rattle.spec_server.specs.declared.command.Plain.TheVariants as command
 use Rattle.spec_server.specs.Machine.{ExactAsk, ExactReply, ExactLastAnswer, State, settle_reply, verdict_on, check_reply}
-use Rattle.spec_server.specs.Machine.{fixed_reply, write_reply, cert_reply, how_reply, solve_due, edit_refusal, edit_due}
+use Rattle.spec_server.specs.Machine.{fixed_reply, write_reply, cert_reply, how_reply, solve_due, wide_due, edit_refusal, edit_due}
 use Rattle.spec_server.specs.Machine.{change_due, due}
 use Rattle.spec_server.specs.Output.{reply_text, verdict_text, fall_text, how_text, pivots_text, put_text, publication_text}
 use Rattle.spec_server.specs.Output.{line_fault_text, fault_text, item_text, repeated_text, which_text, refusal_text}
@@ -192,6 +192,9 @@ reply_no_feed (reply.Certified lines) h =
     (decimal_no_feed (length lines))
 reply_no_feed (reply.Found how pivots publication) h = found_no_feed how pivots publication
 reply_no_feed (reply.Checked what) h = verdict_no_feed what
+reply_no_feed (reply.Wide lines) h =
+    both_no_feed (codes "WIDE ") (decimal (length lines)) (tested_no_feed (codes "WIDE ") refl)
+    (decimal_no_feed (length lines))
 reply_no_feed reply.Bye h = tested_no_feed (codes "BYE") refl
 reply_no_feed reply.Memory h = tested_no_feed (codes "MEMORY") refl
 reply_no_feed (reply.Refused why) h =
@@ -287,6 +290,10 @@ module _ (old new : State) (replied : ExactReply) where
   solve_plain None d = as_stated _ d.0 tt
   solve_plain (Some m) d = as_stated _ d.answer tt
 
+  wide_due_plain : (held : Option Model) → Does old (wide_due old held) replied new → IsPlainReply replied
+  wide_due_plain None d = as_stated _ d.0 tt
+  wide_due_plain (Some m) d = as_stated _ d.answer tt
+
   edit_plain : (r : OrFault Model) → IfErr r IsPlainFault → Does old (edit_due old r) replied new → IsPlainReply replied
   edit_plain (Ok m) h d = as_stated _ d.0 tt
   edit_plain (Err why) h d = as_stated _ d.0 (refusal_plain why h)
@@ -303,6 +310,7 @@ module _ (old new : State) (replied : ExactReply) where
   due_plain (ask.Plain command.Cert) kept h d = as_stated _ d.0 (cert_plain old.model old.last)
   due_plain (ask.Plain command.How) kept h d = as_stated _ d.0 (how_plain old.last)
   due_plain (ask.Plain (command.Budget n)) kept h d = as_stated _ d.0 tt
+  due_plain (ask.Plain command.Wide) kept h d = wide_due_plain old.model d
   due_plain (ask.Plain command.Quit) kept h d = as_stated _ d.0 tt
   due_plain (ask.Plain (command.Change e)) kept h d = change_plain old.model e h d
   due_plain (ask.Loaded m) kept h d = as_stated _ d.0 tt

@@ -4,7 +4,7 @@ use Rattle.std.proofs.Common.{get_or, Option, Some, None, Ok, Err, refl, sym, ap
 use Rattle.std.proofs.Common.{eqb-true}
 use Rattle.std.specs.Prelude.{All, IfSome, codes, decimal}
 use Rattle.std.specs.List.{filter, onto_first}
-use Rattle.std.proofs.lemmas.List.Elements.{All-nil, All-head, All-tail, All-map}
+use Rattle.std.proofs.lemmas.List.Elements.{All-nil, All-cons, All-head, All-tail, All-map}
 use Rattle.std.proofs.lemmas.List.Folds.{flat_map-map}
 use Rattle.spec_exact.specs.Fraction.{ℚ}
 use Rattle.spec_model.specs.Model.{Model, Name}
@@ -24,7 +24,10 @@ use Rattle.spec_check.specs.Settle.{Settled, certificate_for}
 use Rattle.spec_check.specs.declared.solve_end.SolveEnd.TheVariants as outcome
 use Rattle.spec_runs.specs.Cold.{ExactSolveEnd}
 use Rattle.spec_solve.specs.Answers.{MayAnswer}
-use Rattle.spec_certificate.specs.TextWritten.{certificate_lines}
+use Rattle.spec_solve.specs.declared.wide_solved.WideSolved.TheVariants.{Narrow, Wide}
+use Rattle.spec_solve.specs.Wide.{WideEnd, IsWideSolved}
+use Rattle.spec_solve.proofs.WideAnswers.{wide_true}
+use Rattle.spec_certificate.specs.TextWritten.{certificate_lines, wide_certificate_lines}
 use Rattle.spec_board.specs.Reads.{ExactRead}
 use Rattle.spec_server.specs.declared.addressing.Addressing.{Addressing}
 use Rattle.spec_server.specs.declared.asks.Ask.TheVariants as ask
@@ -32,16 +35,20 @@ use Rattle.spec_server.specs.declared.asks.Reply.TheVariants as reply
 use Rattle.spec_server.specs.declared.command.Plain.TheVariants as command
 use Rattle.spec_server.specs.LastFits.{LastFits}
 use Rattle.spec_server.specs.Machine.{ExactAsk, ExactReply, ExactLastAnswer, State, verdict_on, check_reply, fixed_reply}
-use Rattle.spec_server.specs.Machine.{write_reply, lines_of_solved, cert_reply, how_reply, solve_due, edit_refusal}
+use Rattle.spec_server.specs.Machine.{answer_of, write_reply, lines_of_solved, cert_reply, how_reply, solve_due, wide_due}
+use Rattle.spec_server.specs.Machine.{edit_refusal}
 use Rattle.spec_server.specs.Machine.{edit_due, change_due, due}
-use Rattle.spec_server.specs.Output.{front_of, reply_text, count_of_lines, ended_lines, lines_behind, reply_lines}
+use Rattle.spec_server.specs.Output.{front_of, answer_text, reply_text, count_of_lines, ended_lines, lines_behind, reply_lines}
+use Rattle.spec_server.specs.WideLines.{wide_known_text, wide_lines}
 use Rattle.spec_server.specs.Step.{AloneStep}
 use Rattle.spec_commands.proofs.PlainLines.{certificate_plain}
 use Rattle.spec_server.proofs.Sessions.{IsGood}
 use Rattle.spec_server.proofs.Simply.{Does, WantsMemory, step_simply}
 use Rattle.spec_text_truth.specs.TrueOutput.{HasNoFeed, Asking, Told, IsFramed}
+use Rattle.spec_text_truth.proofs.TrueLines.{answer_no_feed}
 use Rattle.spec_text_truth.proofs.PlainReplies.{IsPlainReply, reply_no_feed}
 use Rattle.spec_text_truth.proofs.PlainWords.{printed_no_feed}
+use Rattle.spec_text_truth.proofs.WideReplies.{known_no_feed, certificate_no_feed}
 
 -- ---- lines that a line feed ends
 
@@ -92,6 +99,7 @@ count_ended (line ∷ lines) h =
 abbrev pub behind_of : ExactReply → List (List ℕ)
 behind_of (reply.Written text) = lines_in text
 behind_of (reply.Certified lines) = lines
+behind_of (reply.Wide lines) = lines
 behind_of other = []
 
 abbrev pub told_by : Asking → ExactReply → Told
@@ -103,10 +111,11 @@ pub record AreOfLines (bytes : List ℕ) : Type 0 where
   pub is_of : bytes ≡ ended_lines lines
   pub plain : All HasNoFeed lines
 
--- a text, and a certificate, are of lines
+-- a text, a certificate, and what a wide solve replies, are of lines
 abbrev pub IsListed : ExactReply → Type 0
 IsListed (reply.Written text) = AreOfLines text
 IsListed (reply.Certified lines) = All HasNoFeed lines
+IsListed (reply.Wide lines) = All HasNoFeed lines
 IsListed other = Unit {0}
 
 module _ (asked : Asking) where
@@ -126,7 +135,12 @@ module _ (asked : Asking) where
   certificate_framed : (lines : List (List ℕ)) → HasNoFeed (reply_text (reply.Certified lines)) → All HasNoFeed lines →
       IsFramed (told_by asked (reply.Certified lines))
   unfolding reply_text
-  certificate_framed lines one h = record { one = one; each = h; counted = inr (inr refl) }
+  certificate_framed lines one h = record { one = one; each = h; counted = inr (inr (inl refl)) }
+
+  wide_framed : (lines : List (List ℕ)) → HasNoFeed (reply_text (reply.Wide lines)) → All HasNoFeed lines →
+      IsFramed (told_by asked (reply.Wide lines))
+  unfolding reply_text
+  wide_framed lines one h = record { one = one; each = h; counted = inr (inr (inr refl)) }
 
   alone_framed : (line : List ℕ) → HasNoFeed line → IsFramed (record { asked = asked; line = line; behind = [] })
   alone_framed line one = record { one = one; each = All-nil HasNoFeed; counted = inl refl }
@@ -134,6 +148,7 @@ module _ (asked : Asking) where
   by_lines : (replied : ExactReply) → HasNoFeed (reply_text replied) → IsListed replied → IsFramed (told_by asked replied)
   by_lines (reply.Written text) one h = text_framed text one h
   by_lines (reply.Certified lines) one h = certificate_framed lines one h
+  by_lines (reply.Wide lines) one h = wide_framed lines one h
   by_lines (reply.Loaded rows columns) one h = alone_framed _ one
   by_lines reply.Done one h = alone_framed _ one
   by_lines (reply.Answered what) one h = alone_framed _ one
@@ -150,6 +165,7 @@ behind_is : (replied : ExactReply) → IsListed replied → lines_behind replied
 unfolding ended_lines
 behind_is (reply.Written text) h = h.is_of ∙ ap ended_lines (sym (ap lines_in h.is_of ∙ lines_in_ended h.lines h.plain))
 behind_is (reply.Certified lines) h = refl
+behind_is (reply.Wide lines) h = refl
 behind_is (reply.Loaded rows columns) h = refl
 behind_is reply.Done h = refl
 behind_is (reply.Answered what) h = refl
@@ -207,6 +223,15 @@ cert_listed None last kept fits = tt
 cert_listed (Some m) None kept fits = tt
 cert_listed (Some m) (Some last) kept fits = solved_listed m fits.0 last.solved kept fits.1
 
+wide_listed : (m : Model) (budget : ℕ) (end : WideEnd) → IsModel m → IsWideSolved m budget end →
+    All HasNoFeed (wide_lines m budget end)
+wide_listed m budget (Narrow solved) kept h =
+    All-cons HasNoFeed (answer_text (answer_of budget solved.end)) (lines_of_solved m solved.end)
+    (answer_no_feed (answer_of budget solved.end)) (solved_listed m budget solved.end kept h.may_answer)
+wide_listed m budget (Wide what cert) kept h =
+    All-cons HasNoFeed (wide_known_text what) (wide_certificate_lines m cert) (known_no_feed what)
+    (certificate_no_feed m kept cert (wide_true m budget what cert h.1).1)
+
 how_listed : (last : Option ExactLastAnswer) → IsListed (how_reply last)
 how_listed None = tt
 how_listed (Some last) = tt
@@ -236,6 +261,11 @@ module _ (old new : State) (replied : ExactReply) where
   solve_listed None d = as_stated _ d.0 tt
   solve_listed (Some m) d = as_stated _ d.answer tt
 
+  wide_due_listed : (held : Option Model) → IfSome held IsModel → Does old (wide_due old held) replied new →
+      IsListed replied
+  wide_due_listed None kept d = as_stated _ d.0 tt
+  wide_due_listed (Some m) kept d = as_stated _ d.answer (wide_listed m old.budget d.end kept d.is_solved)
+
   edit_listed : (r : OrFault Model) → Does old (edit_due old r) replied new → IsListed replied
   edit_listed (Ok m) d = as_stated _ d.0 tt
   edit_listed (Err why) d = as_stated _ d.0 (refusal_listed why)
@@ -251,6 +281,7 @@ module _ (old new : State) (replied : ExactReply) where
   due_listed (ask.Plain command.Cert) good d = as_stated _ d.0 (cert_listed old.model old.last good.kept good.fits)
   due_listed (ask.Plain command.How) good d = as_stated _ d.0 (how_listed old.last)
   due_listed (ask.Plain (command.Budget n)) good d = as_stated _ d.0 tt
+  due_listed (ask.Plain command.Wide) good d = wide_due_listed old.model good.kept d
   due_listed (ask.Plain command.Quit) good d = as_stated _ d.0 tt
   due_listed (ask.Plain (command.Change e)) good d = change_listed old.model e d
   due_listed (ask.Loaded m) good d = as_stated _ d.0 tt

@@ -14,6 +14,7 @@ use Rattle.spec_mps.specs.NumberWritten.{number_text}
 use Rattle.spec_check.specs.declared.certificate.Known.TheVariants as known
 use Rattle.spec_server.specs.declared.addressing.Addressing.{Addressing}
 use Rattle.spec_server.specs.declared.asks.Asked.{Asked}
+use Rattle.spec_server.specs.declared.asks.Reply.TheVariants as reply
 use Rattle.spec_server.specs.Machine.{ExactAsk, IsKeptAsk, AreKept, State, opening}
 use Rattle.spec_server.specs.Output.{reply_text, reply_lines}
 use Rattle.spec_server.specs.Script.{Between, asks_from}
@@ -23,19 +24,21 @@ use Rattle.spec_server.proofs.RunLemmas.{of_session-append}
 use Rattle.spec_server.proofs.ScriptKept.{lines_kept}
 use Rattle.spec_server.proofs.Sessions.{IsGood, run_good}
 use Rattle.spec_truth.specs.ModelThen.{model_then}
-use Rattle.spec_text_truth.specs.TrueOutput.{IsNumber, IsTrueLine, BehindYes, Asking, Told, IsFramed, told_out}
+use Rattle.spec_text_truth.specs.TrueOutput.{IsNumber, IsWideNumber, IsTrueLine, BehindYes, BehindWide, Asking, Told, IsFramed}
+use Rattle.spec_text_truth.specs.TrueOutput.{told_out}
 use Rattle.spec_text_truth.specs.TrueOutput.{model_told, IsTrueReply, AreTrueReplies}
 use Rattle.spec_truth.proofs.Shown.{shown_holds, value_fits}
 use Rattle.spec_truth.proofs.AnswerLines.{read_back}
 use Rattle.spec_truth.proofs.HeldThen.{holds_then}
 use Rattle.spec_truth.proofs.ReplyLines.{optimal_answer, infeasible_answer, unbounded_answer, optimal_yes, infeasible_yes}
-use Rattle.spec_truth.proofs.ReplyLines.{unbounded_yes}
-use Rattle.spec_truth.proofs.TrueRuns.{Splits, split_run, own_first, IsShownThen, answered_then, accepted_then}
+use Rattle.spec_truth.proofs.ReplyLines.{unbounded_yes, wide_reply}
+use Rattle.spec_truth.proofs.TrueRuns.{Splits, split_run, own_first, IsShownThen, answered_then, accepted_then, wide_then}
 use Rattle.spec_text_truth.proofs.AskedEffects.{asking_of, asked_from-is}
 use Rattle.spec_text_truth.proofs.PlainAsks.{IsPlainAsk, ArePlainAsks, asks_plain}
 use Rattle.spec_text_truth.proofs.PlainReplies.{IsPlainReply, step_plain}
 use Rattle.spec_text_truth.proofs.PlainWords.{lines_plain}
-use Rattle.spec_text_truth.proofs.ToldReplies.{IsListed, reply_framed, reply_lines_told, step_listed}
+use Rattle.spec_text_truth.proofs.ToldReplies.{behind_of, IsListed, reply_framed, reply_lines_told, step_listed}
+use Rattle.spec_text_truth.proofs.WideReplies.{line_is_true}
 use Rattle.spec_text_truth.proofs.ToldModels.{told_of, told_then}
 
 -- ---- a session before an exchange
@@ -142,8 +145,15 @@ module _ (places : ℕ) (before behind : List Exchange) (x : Exchange) (alone : 
         (s.model, is_then s.model s.is_held, shown_holds s.model known.Unbounded s.shown);
   }
 
+  wide_line : BehindWide (IsTrueLine IsThen IsWideNumber) (told_of x)
+  wide_line count line more said_wide lines_are =
+      let y = wide_reply x.reply count said_wide in
+      let same : y.0 ≡ line ∷ more = sym (ap behind_of y.1) ∙ lines_are in
+      let w = wide_then places before behind x (line ∷ more) alone (y.1 ∙ ap (λ ls. reply.Wide ls) same) in
+      line_is_true IsThen w.0 line (is_then w.0 w.1) w.2
+
   pub then_true : IsTrueReply (map told_of before) (told_of x)
-  then_true = (answer_line, yes_line)
+  then_true = (answer_line, yes_line, wide_line)
 
 -- ---- lists of exchanges
 

@@ -17,7 +17,7 @@ use Rattle.spec_check.specs.Certificate.{Holds}
 use Rattle.spec_server.specs.declared.answer.Answer.{Answer}
 use Rattle.spec_server.specs.declared.answer.Answer.TheVariants as answer
 use Rattle.spec_server.specs.Output.{known_text, answer_text, op_text, past_text}
-use Rattle.spec_commands.specs.SolveWideOut.{wide_known_text}
+use Rattle.spec_server.specs.WideLines.{wide_known_text}
 use Rattle.spec_text_truth.specs.TrueOutput.{HasNoFeed, IsNumber, IsWideNumber, IsTrueLine, OfFirst, OfSecond}
 use Rattle.spec_truth.proofs.Shown.{IsShown, IsShownBy, shown_holds, value_fits}
 use Rattle.spec_truth.proofs.AnswerLines.{same_line, same_rest, read_back, first, apart}

@@ -40,7 +40,8 @@ use Rattle.spec_commands.specs.CheckOut.{said}
 use Rattle.spec_commands.specs.CheckWideOut.{wide_said, wide_reply_text, wide_check_line}
 use Rattle.spec_server.specs.TextSaid.{TextSaid, text_said}
 use Rattle.spec_commands.specs.SolveOut.{SolveOut}
-use Rattle.spec_commands.specs.SolveWideOut.{wide_known_text, SolveWideOut}
+use Rattle.spec_server.specs.WideLines.{wide_known_text}
+use Rattle.spec_commands.specs.SolveWideOut.{SolveWideOut}
 use Rattle.spec_commands.specs.BasisOut.{BasisSaid, basis_said, BasisOut}
 use Rattle.spec_commands.specs.BasisWideOut.{BasisWideOut}
 use Rattle.spec_text_truth.specs.Certified.{IsCertifiedBy}

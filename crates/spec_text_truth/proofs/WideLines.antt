@@ -38,6 +38,7 @@ valued_or_same (reply.Checked (verdict.Yes known.Infeasible)) = inr refl
 valued_or_same (reply.Checked (verdict.Yes known.Unbounded)) = inr refl
 valued_or_same (reply.Checked (verdict.No n)) = inr refl
 valued_or_same (reply.Checked (verdict.Past p)) = inr refl
+valued_or_same (reply.Wide lines) = inr refl
 valued_or_same reply.Bye = inr refl
 valued_or_same reply.Memory = inr refl
 valued_or_same (reply.Refused why) = inr refl

@@ -20,7 +20,8 @@ use Rattle.spec_server.specs.declared.answer.Answer.TheVariants as answer
 use Rattle.spec_server.specs.Output.{answer_text}
 use Rattle.spec_server.specs.TextSaid.{TextSaid, text_said}
 use Rattle.spec_commands.specs.SolveOut.{SolveOut}
-use Rattle.spec_commands.specs.SolveWideOut.{wide_known_text, wide_known_line, SolveWideOut}
+use Rattle.spec_server.specs.WideLines.{wide_known_text}
+use Rattle.spec_commands.specs.SolveWideOut.{wide_known_line, SolveWideOut}
 use Rattle.spec_commands.proofs.WideWritten.{out_true}
 use Rattle.spec_truth.proofs.Shown.{IsShownBy, shown_holds, value_fits}
 use Rattle.spec_text_truth.proofs.TextLemmas.{spelled_said}

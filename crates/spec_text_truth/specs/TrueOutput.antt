@@ -175,7 +175,8 @@ pub record Told : Type 0 where
   pub line : List ℕ
   pub behind : List (List ℕ)
 
--- It is one line. Behind it stand as many lines as it says, of the text of a model or of a certificate; or none.
+-- It is one line. Behind it stand as many lines as it says, of the text of a model, of a certificate or of a wide solve; or
+-- none.
 pub record IsFramed (x : Told) : Type 0 where
   pub one : HasNoFeed x.line
   pub each : All HasNoFeed x.behind
@@ -183,6 +184,7 @@ pub record IsFramed (x : Told) : Type 0 where
       (x.behind ≡ [])
       ⊎ (x.line ≡ codes "TEXT " ++ decimal (length x.behind))
       ⊎ (x.line ≡ codes "CERT " ++ decimal (length x.behind))
+      ⊎ (x.line ≡ codes "WIDE " ++ decimal (length x.behind))
 
 abbrev pub told_out : Addressing → List Told → List ℕ
 told_out addressing told =
@@ -203,11 +205,17 @@ after_lines held (x ∷ told) = after_lines (after_line held x.asked.effect x.li
 abbrev pub model_told : ℕ → List Told → Option Model
 model_told session told = after_lines None (filter (λ x. x.asked.session == session) told)
 
+-- it is so of the first line behind the word WIDE and a number
+abbrev pub BehindWide : (List ℕ → Type 0) → Told → Type 0
+BehindWide IsTrue x =
+    (count line : List ℕ) (more : List (List ℕ)) → x.line ≡ codes "WIDE " ++ count → x.behind ≡ line ∷ more → IsTrue line
+
 -- a reply's line, of the model that the session has then
 abbrev pub IsTrueReply : List Told → Told → Type 0
 IsTrueReply before x =
-    let IsTrue = IsTrueLine (λ m. model_told x.asked.session before ≡ Some m) IsNumber in
-    IsTrue x.line × BehindYes IsTrue x.line
+    let IsOf : Model → Type 0 = λ m. model_told x.asked.session before ≡ Some m in
+    let IsTrue = IsTrueLine IsOf IsNumber in
+    IsTrue x.line × BehindYes IsTrue x.line × BehindWide (IsTrueLine IsOf IsWideNumber) x
 
 -- The output is that of replies to the first asks of the lines that were read, and each reply is true of the model that its
 -- session has then.

@@ -15,11 +15,14 @@ use Rattle.spec_server.specs.declared.asks.Ask.TheVariants as ask
 use Rattle.spec_server.specs.declared.asks.Reply.TheVariants as reply
 use Rattle.spec_server.specs.declared.command.Plain.TheVariants as command
 use Rattle.spec_server.specs.Machine.{ExactAsk, ExactReply, ExactLastAnswer, State, opening, check_reply, write_reply}
-use Rattle.spec_server.specs.Machine.{answer_of, cert_reply, how_reply, solve_due, edit_due, change_due, due}
+use Rattle.spec_server.specs.Machine.{answer_of, cert_reply, how_reply, solve_due, wide_due, edit_due, change_due, due}
 use Rattle.spec_server.specs.Step.{AloneStep}
 use Rattle.spec_server.specs.Exchanges.{Exchange, AloneRun}
-use Rattle.spec_server.proofs.Simply.{SolveStep, Does, WantsMemory, step_simply}
+use Rattle.spec_solve.specs.Wide.{IsWideSolved}
+use Rattle.spec_server.specs.WideLines.{wide_lines}
+use Rattle.spec_server.proofs.Simply.{SolveStep, WideStep, Does, WantsMemory, step_simply}
 use Rattle.spec_truth.specs.Agree.{IsWon, MayDiffer, IsSameBut, RepliesAgree, HasMemory}
+use Rattle.spec_truth.proofs.WideReplies.{ends_agree}
 
 -- ---- answers
 
@@ -111,6 +114,22 @@ module _ (a b : State) (alike : IsAlike a b) (replied replied' : ExactReply) (ne
   solve_agrees None x y = stays (ask.Plain command.Solve) _ _ (inl refl) x y
   solve_agrees (Some m) x y = solves_agree m x y
 
+  wides_agree : (m : Model) → WideStep a m replied new → WideStep b m replied' new' →
+      StepsAgree (ask.Plain command.Wide) replied replied' new new'
+  wides_agree m s s' =
+      let second : replied' ≡ reply.Wide (wide_lines m a.budget s'.end) =
+      s'.answer ∙ ap (λ n. reply.Wide (wide_lines m n s'.end)) (sym alike.budgets) in
+      let won = ends_agree m a.budget s.end s'.end s.is_solved
+      (subst (λ n. IsWideSolved m n s'.end) (sym alike.budgets) s'.is_solved) in
+      stays (ask.Plain command.Wide) (reply.Wide (wide_lines m a.budget s.end)) (reply.Wide (wide_lines m a.budget s'.end))
+      (inr won) (s.answer, s.stays) (second, s'.stays)
+
+  wide_agrees : (held : Option Model) → Does a (wide_due a held) replied new →
+      Does b (wide_due b held) replied' new' →
+      StepsAgree (ask.Plain command.Wide) replied replied' new new'
+  wide_agrees None x y = stays (ask.Plain command.Wide) _ _ (inl refl) x y
+  wide_agrees (Some m) x y = wides_agree m x y
+
   edit_agrees : (asked : ExactAsk) (r : OrFault Model) → Does a (edit_due a r) replied new →
       Does b (edit_due b r) replied' new' → StepsAgree asked replied replied' new new'
   edit_agrees asked (Ok m) x y =
@@ -154,6 +173,8 @@ module _ (a b : State) (alike : IsAlike a b) (replied replied' : ExactReply) (ne
   due_agrees (ask.Plain (command.Budget n)) x y =
       goes (ask.Plain (command.Budget n)) _ _ _
       (record { models = alike.models; budgets = refl; lasts = alike.lasts }) x y
+  due_agrees (ask.Plain command.Wide) x y =
+      wide_agrees a.model x (subst (λ (m : Option Model). Does b (wide_due b m) replied' new') (sym alike.models) y)
   due_agrees (ask.Plain command.Quit) x y =
       goes (ask.Plain command.Quit) _ _ _ (record { models = refl; budgets = refl; lasts = tt }) x y
   due_agrees (ask.Plain (command.Change e)) x y =

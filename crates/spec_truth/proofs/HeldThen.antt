@@ -8,7 +8,7 @@ use Rattle.spec_server.specs.declared.asks.Ask.TheVariants as ask
 use Rattle.spec_server.specs.declared.asks.Reply.TheVariants as reply
 use Rattle.spec_server.specs.declared.command.Plain.TheVariants as command
 use Rattle.spec_board.specs.Reads.{ExactRead}
-use Rattle.spec_server.specs.Machine.{ExactAsk, ExactReply, State, opening, solve_due, edit_refusal, edit_due}
+use Rattle.spec_server.specs.Machine.{ExactAsk, ExactReply, State, opening, solve_due, wide_due, edit_refusal, edit_due}
 use Rattle.spec_server.specs.Machine.{change_due, due}
 use Rattle.spec_server.specs.Step.{AloneStep}
 use Rattle.spec_server.specs.Exchanges.{Exchange, AloneRun, of_session}
@@ -44,11 +44,17 @@ solve_then : (old new : State) (held : Option Model) (replied : ExactReply) →
 solve_then old new None replied d = ap (λ s. s.model) d.1
 solve_then old new (Some m) replied d = ap (λ s. s.model) d.kept
 
+wide_then : (old new : State) (held : Option Model) (replied : ExactReply) →
+    Does old (wide_due old held) replied new → new.model ≡ old.model
+wide_then old new None replied d = ap (λ s. s.model) d.1
+wide_then old new (Some m) replied d = ap (λ s. s.model) d.stays
+
 -- ---- what is due to an ask
 
 due_then : (old new : State) (asked : ExactAsk) (replied : ExactReply) → Does old (due old asked) replied new →
     new.model ≡ after_exchange old.model asked replied
 due_then old new (ask.Plain command.Solve) replied d = solve_then old new old.model replied d
+due_then old new (ask.Plain command.Wide) replied d = wide_then old new old.model replied d
 due_then old new (ask.Plain command.Quit) replied d =
     ap (λ s. s.model) d.1 ∙ sym (ap (after_exchange old.model (ask.Plain command.Quit)) d.0)
 due_then old new (ask.Plain (command.Change e)) replied d = change_then old new old.model e replied refl d

@@ -9,3 +9,4 @@ pub mod OwnTexts
 pub mod LoadedLines
 pub mod MadeEdits
 pub mod Agreement
+pub mod WideReplies

@@ -40,6 +40,7 @@ known_reply (reply.Found how pivots publication) h = not_so h
 known_reply (reply.Checked (verdict.Yes what)) h = not_so h
 known_reply (reply.Checked (verdict.No n)) h = not_so h
 known_reply (reply.Checked (verdict.Past p)) h = not_so h
+known_reply (reply.Wide lines) h = not_so h
 known_reply reply.Bye h = not_so h
 known_reply reply.Memory h = not_so h
 known_reply (reply.Refused why) h = not_so h
@@ -63,9 +64,38 @@ yes_reply (reply.Found how pivots publication) h = not_so h
 yes_reply (reply.Checked (verdict.Yes what)) h = (what, refl)
 yes_reply (reply.Checked (verdict.No n)) h = not_so h
 yes_reply (reply.Checked (verdict.Past p)) h = not_so h
+yes_reply (reply.Wide lines) h = not_so h
 yes_reply reply.Bye h = not_so h
 yes_reply reply.Memory h = not_so h
 yes_reply (reply.Refused why) h = not_so h
+
+-- it begins as WIDE
+abbrev looks_wide : List ℕ → Bool
+looks_wide bytes = first bytes == 87
+
+wide_looks : (is : ExactReply) → looks_wide (reply_text is) ≡ true → (lines : List (List ℕ)) × (is ≡ reply.Wide lines)
+unfolding reply_text
+wide_looks (reply.Loaded rows columns) h = not_so h
+wide_looks (reply.Written text) h = not_so h
+wide_looks reply.Done h = not_so h
+wide_looks (reply.Answered (answer.Known (known.Optimal v))) h = not_so h
+wide_looks (reply.Answered (answer.Known known.Infeasible)) h = not_so h
+wide_looks (reply.Answered (answer.Known known.Unbounded)) h = not_so h
+wide_looks (reply.Answered (answer.Past p)) h = not_so h
+wide_looks (reply.Answered (answer.Spent budget)) h = not_so h
+wide_looks (reply.Certified lines) h = not_so h
+wide_looks (reply.Found how pivots publication) h = not_so h
+wide_looks (reply.Checked (verdict.Yes what)) h = not_so h
+wide_looks (reply.Checked (verdict.No n)) h = not_so h
+wide_looks (reply.Checked (verdict.Past p)) h = not_so h
+wide_looks (reply.Wide lines) h = (lines, refl)
+wide_looks reply.Bye h = not_so h
+wide_looks reply.Memory h = not_so h
+wide_looks (reply.Refused why) h = not_so h
+
+pub wide_reply : (is : ExactReply) (count : List ℕ) → reply_text is ≡ codes "WIDE " ++ count →
+    (lines : List (List ℕ)) × (is ≡ reply.Wide lines)
+wide_reply is count e = wide_looks is (ap looks_wide e)
 
 -- ---- what is known
 

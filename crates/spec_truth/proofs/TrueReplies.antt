@@ -22,24 +22,28 @@ use Rattle.spec_server.specs.declared.asks.Refusal.TheVariants as refusal
 use Rattle.spec_server.specs.declared.command.Plain.TheVariants as command
 use Rattle.spec_board.specs.Reads.{ExactRead}
 use Rattle.spec_server.specs.Machine.{ExactAsk, ExactReply, ExactLastAnswer, State, verdict_on, check_reply}
-use Rattle.spec_server.specs.Machine.{fixed_reply, write_reply, cert_reply, how_reply, Due, Replies, Solves}
-use Rattle.spec_server.specs.Machine.{answer_of, due, solve_due, edit_refusal, edit_due, change_due}
+use Rattle.spec_server.specs.Machine.{fixed_reply, write_reply, cert_reply, how_reply, Due, Replies, Solves, SolvesWide}
+use Rattle.spec_server.specs.Machine.{answer_of, due, solve_due, wide_due, edit_refusal, edit_due, change_due}
 use Rattle.spec_server.specs.Step.{AloneStep}
 use Rattle.spec_server.proofs.Simply.{Does, WantsMemory, step_simply}
 use Rattle.spec_server.proofs.Truth.{answers_same}
+use Rattle.spec_server.specs.WideLines.{wide_lines}
 use Rattle.spec_truth.proofs.Shown.{IsShown, IsShownBy, answer_shown, yes_shown}
+use Rattle.spec_truth.proofs.WideReplies.{BeginsTrue, lines_true}
 
--- ---- which replies answer, and which speak of a certificate
+-- ---- which replies answer, which speak of a certificate, and which are of a wide solve
 
 abbrev sort : ExactReply → ℕ
 sort (reply.Answered what) = 1
 sort (reply.Checked what) = 2
+sort (reply.Wide lines) = 3
 sort replied = 0
 
 -- the sort of what is due; a solve answers
 abbrev due_sort : Due → ℕ
 due_sort (Replies replied next) = sort replied
 due_sort (Solves m) = 1
+due_sort (SolvesWide m) = 3
 
 write_sort : (held : Option Model) (form : Style) → sort (write_reply held form) ≡ 0
 write_sort None form = refl
@@ -80,6 +84,15 @@ verdict_sort m (Ok cert) h = cc
 verdict_sort m (Err (settle.UnknownName name)) h = cc
 verdict_sort m (Err (settle.Repeated name)) h = cc
 
+verdict_not_wide : (m : Model) (r : Settled (Certificate (List ℚ))) → sort (verdict_on m r) ≡ 3 → ⊥
+verdict_not_wide m (Ok cert) h = cc
+verdict_not_wide m (Err (settle.UnknownName name)) h = cc
+verdict_not_wide m (Err (settle.Repeated name)) h = cc
+
+check_not_wide : (held : Option Model) (raw : ExactRaw) → sort (check_reply held raw) ≡ 3 → ⊥
+check_not_wide None raw h = cc
+check_not_wide (Some m) raw h = verdict_not_wide m (certificate_for m raw) h
+
 check_sort : (held : Option Model) (raw : ExactRaw) → sort (check_reply held raw) ≡ 1 → ⊥
 check_sort None raw h = cc
 check_sort (Some m) raw h = verdict_sort m (certificate_for m raw) h
@@ -88,11 +101,24 @@ solve_sort : (state : State) (held : Option Model) → due_sort (solve_due state
 solve_sort state None h = cc
 solve_sort state (Some m) h = cc
 
+solve_not_wide : (state : State) (held : Option Model) → due_sort (solve_due state held) ≡ 3 → ⊥
+solve_not_wide state None h = cc
+solve_not_wide state (Some m) h = cc
+
+wide_no_answer : (state : State) (held : Option Model) → due_sort (wide_due state held) ≡ 1 → ⊥
+wide_no_answer state None h = cc
+wide_no_answer state (Some m) h = cc
+
+wide_no_yes : (state : State) (held : Option Model) → due_sort (wide_due state held) ≡ 2 → ⊥
+wide_no_yes state None h = cc
+wide_no_yes state (Some m) h = cc
+
 -- a reply is of the sort that is due
 done_sort : (old new : State) (what : Due) (replied : ExactReply) → Does old what replied new →
     sort replied ≡ due_sort what
 done_sort old new (Replies stated next) replied d = ap sort d.0
 done_sort old new (Solves m) replied d = ap sort d.answer
+done_sort old new (SolvesWide m) replied d = ap sort d.answer
 
 -- memory is not wanting for a reply of these sorts
 step_done : (places : ℕ) (old new : State) (asked : ExactAsk) (reads : List ExactRead) (replied : ExactReply) (n : ℕ) →
@@ -137,6 +163,7 @@ answer_by old new (ask.Plain command.Cert) what h d = let e = cert_sort old.mode
 answer_by old new (ask.Plain command.How) what h d = let e = how_sort old.last in absurd (omega (arith, e))
 answer_by old new (ask.Plain (command.Change e)) what h d =
     let z = change_sort old old.model e in absurd (omega (arith, z))
+answer_by old new (ask.Plain command.Wide) what h d = absurd (wide_no_answer old old.model (sym h))
 answer_by old new (ask.Checked raw) what h d = absurd (check_sort old.model raw (sym h))
 answer_by old new asked what h d = cc
 
@@ -150,6 +177,7 @@ answer_is_shown places old new asked reads what s =
 yes_by : (old new : State) (asked : ExactAsk) (what : Known ℚ) → 2 ≡ due_sort (due old asked) →
     Does old (due old asked) (reply.Checked (verdict.Yes what)) new → IsShownOfHeld old.model what
 yes_by old new (ask.Checked raw) what h d = check_shown old.model raw what d.0
+yes_by old new (ask.Plain command.Wide) what h d = absurd (wide_no_yes old old.model (sym h))
 yes_by old new (ask.Plain command.Solve) what h d = absurd (solve_sort old old.model (sym h))
 yes_by old new (ask.Plain (command.Write form)) what h d =
     let e = write_sort old.model form in absurd (omega (arith, e))
@@ -164,3 +192,46 @@ pub yes_is_shown : (places : ℕ) (old new : State) (asked : ExactAsk) (reads : 
 yes_is_shown places old new asked reads what s =
     let d = step_done places old new asked reads (reply.Checked (verdict.Yes what)) 1 s refl in
     yes_by old new asked what (done_sort old new (due old asked) (reply.Checked (verdict.Yes what)) d) d
+
+-- ---- a wide solve
+
+-- the lines begin with what is true of the model that is held, or with why the solve gave up
+pub record IsWideOfHeld (held : Option Model) (lines : List (List ℕ)) : Type 0 where
+  pub model : Model
+  pub is_held : held ≡ Some model
+  pub begins : BeginsTrue model lines
+
+lines_same : (a b : List (List ℕ)) → ◌≡◌ {A = ExactReply} (reply.Wide a) (reply.Wide b) → a ≡ b
+lines_same a b e = cc
+
+wide_shown : (old new : State) (held : Option Model) (lines : List (List ℕ)) →
+    Does old (wide_due old held) (reply.Wide lines) new → IsWideOfHeld held lines
+wide_shown old new None lines d =
+    let e : ◌≡◌ {A = ExactReply} (reply.Wide lines) (reply.Refused refusal.NoModel) = d.0 in cc
+wide_shown old new (Some m) lines d =
+    record {
+      model = m;
+      is_held = refl;
+      begins = subst (BeginsTrue m) (sym (lines_same lines (wide_lines m old.budget d.end) d.answer))
+          (lines_true m old.budget d.end d.is_solved);
+    }
+
+-- nothing but the command WIDE is answered so
+wide_by : (old new : State) (asked : ExactAsk) (lines : List (List ℕ)) → 3 ≡ due_sort (due old asked) →
+    Does old (due old asked) (reply.Wide lines) new → IsWideOfHeld old.model lines
+wide_by old new (ask.Plain command.Wide) lines h d = wide_shown old new old.model lines d
+wide_by old new (ask.Plain command.Solve) lines h d = absurd (solve_not_wide old old.model (sym h))
+wide_by old new (ask.Plain (command.Write form)) lines h d =
+    let e = write_sort old.model form in absurd (omega (arith, e))
+wide_by old new (ask.Plain command.Cert) lines h d = let e = cert_sort old.model old.last in absurd (omega (arith, e))
+wide_by old new (ask.Plain command.How) lines h d = let e = how_sort old.last in absurd (omega (arith, e))
+wide_by old new (ask.Plain (command.Change e)) lines h d =
+    let z = change_sort old old.model e in absurd (omega (arith, z))
+wide_by old new (ask.Checked raw) lines h d = absurd (check_not_wide old.model raw (sym h))
+wide_by old new asked lines h d = cc
+
+pub wide_is_shown : (places : ℕ) (old new : State) (asked : ExactAsk) (reads : List ExactRead) (lines : List (List ℕ)) →
+    AloneStep places old asked reads (reply.Wide lines) new → IsWideOfHeld old.model lines
+wide_is_shown places old new asked reads lines s =
+    let d = step_done places old new asked reads (reply.Wide lines) 2 s refl in
+    wide_by old new asked lines (done_sort old new (due old asked) (reply.Wide lines) d) d

@@ -5,6 +5,7 @@ use Rattle.spec_exact.specs.Fraction.{ℚ}
 use Rattle.spec_model.specs.Model.{Model}
 use Rattle.spec_check.specs.declared.certificate.Known.{Known}
 use Rattle.spec_check.specs.Certificate.{Holds}
+use Rattle.spec_server.specs.declared.asks.Reply.TheVariants as reply
 use Rattle.spec_server.specs.Machine.{ExactAsk, ExactReply, State, opening}
 use Rattle.spec_board.specs.Reads.{ExactRead}
 use Rattle.spec_server.specs.Step.{AloneStep}
@@ -14,7 +15,8 @@ use Rattle.spec_truth.specs.ModelThen.{model_then}
 use Rattle.spec_truth.proofs.HeldThen.{holds_then}
 use Rattle.spec_truth.proofs.Shown.{IsShown, shown_holds}
 use Rattle.spec_truth.proofs.ReplyLines.{answer_to, yes_to}
-use Rattle.spec_truth.proofs.TrueReplies.{IsShownOfHeld, answer_is_shown, yes_is_shown}
+use Rattle.spec_truth.proofs.TrueReplies.{IsShownOfHeld, answer_is_shown, yes_is_shown, wide_is_shown}
+use Rattle.spec_truth.proofs.WideReplies.{BeginsTrue}
 
 -- ---- the step of one exchange in a run
 
@@ -107,3 +109,15 @@ pub accepted_holds : (places : ℕ) (before behind : List Exchange) (x : Exchang
     (m : Model) × (model_then x.session before ≡ Some m) × Holds m what
 accepted_holds places before behind x what fits is =
     true_then before x what (accepted_then places before behind x what fits is)
+
+-- ---- the lines of a wide solve
+
+pub wide_then : (places : ℕ) (before behind : List Exchange) (x : Exchange) (lines : List (List ℕ)) →
+    RunAlone places (before ++ x ∷ behind) → x.reply ≡ reply.Wide lines →
+    (m : Model) × (model_then x.session before ≡ Some m) × BeginsTrue m lines
+wide_then places before behind x lines fits is =
+    let s = steps_then places before behind x fits in
+    let h =
+    wide_is_shown places s.old s.new x.ask x.reads lines
+    (subst (λ (r : ExactReply). AloneStep places s.old x.ask x.reads r s.new) is s.step) in
+    (h.model, sym s.held ∙ h.is_held, h.begins)

@@ -1,6 +1,7 @@
 -- Replies that two runs of one session may give to the same asks.
-use Rattle.std.specs.Prelude.{◌≡◌, ◌⊎◌, List, [], ◌∷◌}
+use Rattle.std.specs.Prelude.{ℕ, ◌≡◌, ◌⊎◌, List, [], ◌∷◌, codes}
 use Rattle.std.specs.List.{AllByRecursion}
+use Rattle.spec_text.specs.Lines.{IsPrefixOf}
 use Rattle.spec_exact.specs.Fraction.{ℚ}
 use Rattle.spec_server.specs.declared.answer.Answer.{Answer}
 use Rattle.spec_server.specs.declared.answer.Answer.TheVariants.{Known, Past, Spent}
@@ -18,12 +19,22 @@ IsWon (Past p) (Known b) = Unit {0}
 IsWon (Spent n) (Known b) = Unit {0}
 IsWon a b = ⊥
 
+-- a line that says that a solve gave up
+abbrev pub GivesUp : List ℕ → Type 0
+GivesUp line = IsPrefixOf (codes "PAST ") line ⊎ IsPrefixOf (codes "SPENT ") line
+
+-- the line of the answer is the same, or one of both says that the solve gave up
+abbrev pub IsWonLine : List (List ℕ) → List (List ℕ) → Type 0
+IsWonLine (line ∷ more) (line' ∷ more') = (line ≡ line') ⊎ (GivesUp line ⊎ GivesUp line')
+IsWonLine lines lines' = ⊥
+
 -- how an answer was found, the lines of its certificate, and an answer that was won
 abbrev pub MayDiffer : ExactAsk → ExactReply → ExactReply → Type 0
 MayDiffer (ask.Plain command.How) (reply.Found how pivots publication) (reply.Found how' pivots' publication') =
     Unit {0}
 MayDiffer (ask.Plain command.Cert) (reply.Certified lines) (reply.Certified lines') = Unit {0}
 MayDiffer (ask.Plain command.Solve) (reply.Answered a) (reply.Answered b) = IsWon a b
+MayDiffer (ask.Plain command.Wide) (reply.Wide lines) (reply.Wide lines') = IsWonLine lines lines'
 MayDiffer asked a b = ⊥
 
 abbrev pub IsSameBut : ExactAsk → ExactReply → ExactReply → Type 0

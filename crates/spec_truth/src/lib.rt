@@ -11,7 +11,7 @@
 //! | `RepliesAgree` | replies that two runs of one session may give to the same asks | specs/Agree |
 #![tactic(auto)]
 
-ghost use Rattle.std.specs.Prelude.{◌≡◌, ◌≤◌, ℕ, Some, Ok};
+ghost use Rattle.std.specs.Prelude.{◌≡◌, ◌⊎◌, ◌≤◌, ℕ, Some, Ok};
 ghost use Rattle.std.specs.Prelude.{List, [], ◌∷◌, ◌++◌, length, take, map, codes};
 ghost use Rattle.spec_text.specs.Lines.{lines_of, ended_lines_of, input_limit};
 ghost use Rattle.spec_text.specs.declared.line.Line.{Line};
@@ -33,9 +33,10 @@ ghost use Rattle.spec_server.specs.declared.asks.Reply.TheVariants as reply;
 ghost use Rattle.spec_server.specs.declared.command.Plain.TheVariants as command;
 ghost use Rattle.spec_server.specs.Machine.{ExactAsk, State, opening};
 ghost use Rattle.spec_server.specs.Exchanges.{Exchange, of_session, AloneRun, RunAlone};
-ghost use Rattle.spec_truth.specs.Agree.{HasMemory, RepliesAgree};
+ghost use Rattle.spec_truth.specs.Agree.{GivesUp, HasMemory, RepliesAgree};
 ghost use Rattle.spec_server.specs.Script.{Between, asks_from, ended_asks_of, script_of};
 ghost use Rattle.spec_server.specs.Output.{reply_text};
+ghost use Rattle.spec_server.specs.WideLines.{wide_known_text};
 ghost use Rattle.spec_truth.specs.LoadedFrom.{IsLoadedFrom};
 ghost use Rattle.spec_truth.specs.ModelThen.{model_then};
 ghost use Rattle.spec_truth.specs.TrueAnswer.{Says, IsNarrowKnown};
@@ -85,6 +86,15 @@ pub fn yes_is_true_of_the_model_then()
     ensures { (places : ℕ) (before behind : List Exchange) (x : Exchange) (what : Known ℚ) →
         RunAlone places (before ++ x ∷ behind) → x.reply ≡ reply.Checked (verdict.Yes what) →
         (m : Model) × (model_then x.session before ≡ Some m) × Holds m what }
+{}
+
+/// In each run of sessions, the first line that is replied to a wide solve says that it gave up, or is that of an answer
+/// that is true of the model that the session has then.
+pub fn wide_answers_are_true_of_the_model_then()
+    ensures { (places : ℕ) (before behind : List Exchange) (x : Exchange) (line : List ℕ) (more : List (List ℕ)) →
+        RunAlone places (before ++ x ∷ behind) → x.reply ≡ reply.Wide (line ∷ more) →
+        GivesUp line ⊎ ((m : Model) × (what : Known ℚ) × (model_then x.session before ≡ Some m)
+        × (line ≡ wide_known_text what) × Holds m what) }
 {}
 
 /// In each run of sessions, the text of a reply alone says what is true of the model that the session has then, as an

@@ -19,7 +19,7 @@ use Rattle.spec_board.specs.declared.read.Read.TheVariants as read
 use Rattle.spec_board.specs.Reads.{Words, ExactRead, Looked, front, has_shape, SeenBy, SeesDown, LookReads}
 use Rattle.spec_server.specs.declared.asks.Reply.TheVariants as reply
 use Rattle.spec_server.specs.Machine.{State, solve_due}
-use Rattle.spec_server.specs.Step.{Begun, Answers, Looks, solve_begun, begun_by, Begins, Pending, Ends}
+use Rattle.spec_server.specs.Step.{Begun, Answers, Looks, solve_begun, BegunBy, Begins, Pending, Ends}
 use Rattle.spec_server.specs.Step.{Publishes, handed_by, how_by, is_found, words_of_end, worked_with, SolvesWith, Works}
 use Rattle.spec_world.specs.World.{solve}
 use Rattle.spec_world.proofs.Bases.{published_words}
@@ -56,11 +56,11 @@ looks_same shape other e = cc
 shape_is : (state : State) (m : Model) (f : Form) (shape : Words) → state.model ≡ Some m →
     form_of (Some number_limit) m ≡ Ok f → Begins state solve (Looks shape) → shape ≡ shape_of f
 shape_is state m f shape held formed (inl e) =
-    let due : begun_by state (solve_due state state.model) ≡ begun_by state (solve_due state (Some m)) =
-    ap (λ (h : Option Model). begun_by state (solve_due state h)) held in
+    let due : Looks shape ≡ solve_begun state m (form_of (Some number_limit) m) =
+    subst (λ (h : Option Model). BegunBy state (solve_due state h) (Looks shape)) held e in
     let begun : solve_begun state m (form_of (Some number_limit) m) ≡ solve_begun state m (Ok f) =
     ap (λ (r : Result Form (FormFault ℚ)). solve_begun state m r) formed in
-    looks_same shape (shape_of f) (e ∙ due ∙ begun)
+    looks_same shape (shape_of f) (due ∙ begun)
 shape_is state m f shape held formed (inr e) =
     absurd (let z : ◌≡◌ {A = Begun} (Looks shape) (Answers reply.Memory state) = e.1 in cc)
 

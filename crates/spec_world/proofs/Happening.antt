@@ -1,10 +1,13 @@
 -- An event that is enabled can happen.
-use Rattle.std.proofs.Common.{◌≡◌, ℕ, Bool, true, false, List, [], ◌∷◌, ◌++◌, refl, ap, inl, inr, nat_eq, cond}
+use Rattle.std.proofs.Common.{◌≡◌, ℕ, Bool, true, false, List, [], ◌∷◌, ◌++◌, Some, refl, sym, ap, subst, inl, inr, nat_eq, cond}
 use Rattle.std.proofs.lemmas.Bool.{eq-eqb, ne_eqb, and_parts}
 use Rattle.spec_board.specs.Places.{ExactPlace, place_at}
 use Rattle.spec_server.specs.declared.asks.Reply.TheVariants as reply
-use Rattle.spec_server.specs.Machine.{due}
-use Rattle.spec_server.specs.Step.{begun_by, Ends}
+use Rattle.spec_exact.specs.Narrow.{number_limit}
+use Rattle.spec_simplex.specs.Form.{form_of}
+use Rattle.spec_server.specs.Machine.{ExactAsk, State, Due, Replies, Solves, SolvesWide, due, takes_memory}
+use Rattle.spec_server.specs.Step.{Begun, Answers, solve_begun, BegunBy, Begins, Ends}
+use Rattle.spec_server.proofs.Simply.{wide_due_held}
 use Rattle.spec_world.specs.declared.event.Act.TheVariants as act
 use Rattle.spec_world.specs.declared.event.StepEnd.TheVariants.{Not}
 use Rattle.spec_world.specs.World.{Server, ExactAct, ExactEvent, ExactEnd, Stage, Idle, Counts, Sees, Solving, Puts}
@@ -38,13 +41,20 @@ act_taken server old event left leaves = record {
   ends = refl;
 }
 
+-- each ask may begin: memory may run out for a wide solve
+begins : (state : State) (asked : ExactAsk) (what : Due) → due state asked ≡ what → (begun : Begun) × Begins state asked begun
+begins state asked (Replies replied next) is = (Answers replied next, inl (subst (λ d. BegunBy state d (Answers replied next)) (sym is) refl))
+begins state asked (Solves m) is =
+    let begun : Begun = solve_begun state m (form_of (Some number_limit) m) in
+    (begun, inl (subst (λ d. BegunBy state d begun) (sym is) refl))
+begins state asked (SolvesWide m) is =
+    (Answers reply.Memory state, inr (ap takes_memory (wide_due_held state m asked is).0, refl))
+
 -- each act that fits the stage may leave something
 pub may_leave : (server : Server) (me : ℕ) (now : List ExactPlace) (s : Session) (stage : Stage) (a : ExactAct) →
     fits_stage stage a ≡ true → (left : Left) × Leaves server me now s stage a left
-may_leave server me now s Idle (act.Ask asked) h = (
-  begun_left me now s asked (begun_by s.state (due s.state asked)),
-  (begun_by s.state (due s.state asked), inl refl, refl),
-)
+may_leave server me now s Idle (act.Ask asked) h =
+    let b = begins s.state asked (due s.state asked) refl in (begun_left me now s asked b.0, (b.0, b.1, refl))
 may_leave server me now s (Counts shape) act.Count h = (counted_left now s shape, refl)
 may_leave server me now s (Sees shape k reads) (act.See j) h =
     (seen_left now s shape k reads (read_of shape k (place_at now k)), refl)

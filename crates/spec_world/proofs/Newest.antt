@@ -1,9 +1,8 @@
 -- A look finds what is done with its shape when it begins, or something newer.
 use Rattle.std.proofs.Common.{◌≡◌, ℕ, zero, suc, ◌<◌, ◌≤◌, Bool, true, false, List, [], ◌∷◌, ◌++◌, length, take, Option}
-use Rattle.std.proofs.Common.{Some, nat_eq, eqb-true, cond, refl, sym, ap, ◌∙◌, subst, ⊎_elim, ◌⊎◌, inl, inr, arith}
+use Rattle.std.proofs.Common.{Some, nat_eq, eqb-true, cond, refl, sym, ap, ◌∙◌, subst, ⊎_elim, inl, inr, arith}
 use Rattle.std.proofs.lemmas.Bool.{cases_eq}
 use Rattle.spec_board.specs.declared.place.Place.TheVariants as place
-use Rattle.spec_board.specs.declared.read.Found.{Found}
 use Rattle.spec_board.specs.declared.read.Read.TheVariants.{Count, NotDone, Seen, Claim, Lost, Done}
 use Rattle.spec_board.specs.Reads.{Words, ExactRead, Looked, front, has_shape, SeenBy, SeesDown, LookReads}
 use Rattle.spec_board.specs.Places.{ExactPlace, place_at, IsShown, Answers, Logged, Plays}

@@ -1,6 +1,6 @@
 -- What one worker may reply is what a world replies in which the events of each ask stand together.
 use Rattle.std.proofs.Common.{◌≡◌, ℕ, Bool, true, false, List, [], ◌∷◌, ◌++◌, map, refl, sym, ap, subst, nat_eq}
-use Rattle.std.proofs.Common.{eqb-true, cond}
+use Rattle.std.proofs.Common.{eqb-true}
 use Rattle.std.proofs.lemmas.Bool.{eqb-false}
 use Rattle.spec_board.specs.Places.{ExactPlace, Plays, logged}
 use Rattle.spec_server.specs.Machine.{State}
