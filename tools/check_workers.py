@@ -152,7 +152,7 @@ def replies_of(said):
     lines = iter(said.split(b"\n")[:-1])
     for line in lines:
         name, _, words = line.partition(b" ")
-        size = re.match(rb"(?:TEXT|CERT) (\d+)$", words)
+        size = re.match(rb"(?:TEXT|CERT|WIDE) (\d+)$", words)
         yield name, words.decode("latin-1"), [next(lines, b"") for _ in range(int(size[1]) if size else 0)]
 
 

@@ -35,7 +35,7 @@ BANNER = """talk.py: one session on this link. LOAD FREE, and then the lines of 
 talk.py: WRITE FREE; QUIT, and more in docs/PROTOCOL.md, without a session's number."""
 UNKNOWN = "talk.py: docs/PROTOCOL.md describes the commands, of which this is none"
 NUMBERED = "talk.py: a link has one session, and its commands have no number: sed 's/^[0-9][0-9]* //' takes it off the script's lines"
-FOLLOWED = re.compile(rb"(?:TEXT|CERT) (\d{1,9})\n")
+FOLLOWED = re.compile(rb"(?:TEXT|CERT|WIDE) (\d{1,9})\n")
 
 
 class Ended(Exception):

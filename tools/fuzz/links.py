@@ -117,7 +117,7 @@ class Client:
 
     async def reply(self) -> bytes:
         line = await asyncio.wait_for(self.reader.readline(), SECONDS)
-        found = re.fullmatch(rb"(?:TEXT|CERT) (\d+)\n", line)
+        found = re.fullmatch(rb"(?:TEXT|CERT|WIDE) (\d+)\n", line)
         for _ in range(int(found[1]) if found else 0):
             line += await asyncio.wait_for(self.reader.readline(), SECONDS)
         return line

@@ -18,7 +18,7 @@ SESSIONS = range(1, 9)
 NUMBERS = ["0", "1", "-1", "2", "3", "5", "7", "10", "-4", "0.5", "-2.25", "1/3", "-7/2", "100", "1e3", "1e-3"]
 WIDE = [str(2**127 - 1), str(-(2**127 - 1)), "1e38", "-1e38", "1/170141183460469231731687303715884105727", "0.000000000000000001"]
 WRONG = [str(2**127), "1e39", "1e-40", "1/0", "", "x", "1.", ".", "+", "1e", "--1", "0x10", "nan", "1e20", "-inf", "inf"]
-COMMANDS = """LOAD WRITE BUDGET SOLVE CERT HOW CHECK QUIT ADDROW DELROW ADDCOL DELCOL SETCOST SETCOEF SETRHS SETRANGE SETBOUND SENSE
+COMMANDS = """LOAD WRITE BUDGET SOLVE WIDE CERT HOW CHECK QUIT ADDROW DELROW ADDCOL DELCOL SETCOST SETCOEF SETRHS SETRANGE SETBOUND SENSE
 FREE FIXED MIN MAX NONE L G E N 1 2 8 9 0 65 -1 01 1000000 1000001""".split()
 WORDS = COMMANDS + made_models.WORDS + NUMBERS + WIDE + [word for word in WRONG if word]
 BYTES = bytes(range(256))
@@ -27,12 +27,13 @@ ALPHABET = b"0123456789 \t\nLOADFREESOLVECERTHOWCHECKQUITWRITEROWSCOLUMNSRHSENDA
 SEEDS = [path.read_bytes() for path in sorted((TOP / "examples").glob("*.lpd"))]
 # The rows and the columns of a text that made_models has made, whose objective is named cost.
 ROW, COLUMN = re.compile(r"^[ \t]+[LGEN][ \t]+(?!cost\s)(\S+)", re.M), re.compile(r"^[ \t]+([xcv$-]\d)[ \t]", re.M)
-SOLVE = re.compile(rb"^[ \t]*([1-9]|[1-5][0-9]|6[0-4])[ \t]+SOLVE[ \t]*(?:\r?\n|\Z)", re.M)
+SOLVE, WIDELY = (re.compile(rb"^[ \t]*([1-9]|[1-5][0-9]|6[0-4])[ \t]+" + word + rb"[ \t]*(?:\r?\n|\Z)", re.M) for word in (b"SOLVE", b"WIDE"))
 
 
 def probed(script: bytes) -> bytes:
-    """The same script with WRITE before each line that says SOLVE, and CERT behind it."""
-    return SOLVE.sub(lambda found: b"%b WRITE FREE\n%b SOLVE\n%b CERT\n" % ((found[1],) * 3), script)
+    """The same script with WRITE before each line that says SOLVE or WIDE, and CERT behind SOLVE."""
+    script = SOLVE.sub(lambda found: b"%b WRITE FREE\n%b SOLVE\n%b CERT\n" % ((found[1],) * 3), script)
+    return WIDELY.sub(lambda found: b"%b WRITE FREE\n%b WIDE\n" % ((found[1],) * 2), script)
 
 
 def sessions_of(script: bytes) -> List[int]:
@@ -129,7 +130,7 @@ class Talk:
             made = self.made if self.dice.random() < 0.5 else made_models.mutated(self.dice, self.made)
             yield f"{session} CHECK\n{made.certificate}"
         else:
-            yield f"{session} {self.dice.choice(['HOW', 'CERT', 'WRITE FREE', 'WRITE FIXED', 'QUIT', self.budget()])}\n"
+            yield f"{session} {self.dice.choice(['HOW', 'CERT', 'WIDE', 'WRITE FREE', 'WRITE FIXED', 'QUIT', self.budget()])}\n"
 
     def budget(self) -> str:
         return f"BUDGET {self.dice.choice([1, 2, 3, 10, 10000, 1000000])}"

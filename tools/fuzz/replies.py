@@ -12,7 +12,7 @@ ANSWER = rf"OPTIMAL {NUMBER}|INFEASIBLE|UNBOUNDED"
 START = r"(?:COLD|BASIS \d+|FELL \d+ (?:SINGULAR|UNFIT|PAST|SPENT))"
 PUBLISHED = r"(?:NONE|SAME|PUBLISHED \d+|FULL \d+|RACED \d+)"
 REPLIES = [
-    r"LOADED \d+ \d+", r"TEXT \d+", r"CERT \d+", "OK", "BYE", "MEMORY", ANSWER, PAST, r"SPENT \d+",
+    r"LOADED \d+ \d+", r"TEXT \d+", r"CERT \d+", r"WIDE [1-9]\d*", "OK", "BYE", "MEMORY", ANSWER, PAST, r"SPENT \d+",
     rf"HOW {START} PIVOTS (?:\d+|-) {PUBLISHED}", rf"YES (?:{ANSWER})", r"NO [1-5]",
 ]
 # What stands behind the word of an error.
@@ -56,7 +56,7 @@ KNOWN = one_of(REPLIES + ERRORS)
 OF_SESSION_0 = one_of(["ERR 1 WORD", "ERR 11 LONG"])
 OF_A_TEXT = one_of(OF_TEXTS + ERRORS + [r"ERR 17 BAS \d+ B[1-7]"])
 NUMBERED = re.compile(rb"(0|[1-9]\d?) (.*)\Z", re.S)
-FOLLOWED = re.compile(rb"(?:TEXT|CERT) (\d+)\Z")
+FOLLOWED = re.compile(rb"(?:TEXT|CERT|WIDE) (\d+)\Z")
 
 
 def replies_of(output: bytes, numbered: bool = True) -> List[Reply]:
@@ -96,6 +96,9 @@ def may_both_be(one: Reply, other: Reply) -> bool:
     words = (one.line.split(b" ")[0].decode("latin-1"), other.line.split(b" ")[0].decode("latin-1"))
     if one.session != other.session:
         return False
+    if words[0] == words[1] == "WIDE":
+        first, second = one.more[0], other.more[0]
+        return first == second or any(line.split(b" ")[0].decode("latin-1") in STOPS for line in (first, second))
     if words[0] == words[1]:
         return words[0] in ("HOW", "CERT")
     return any(first in STOPS and second in ANSWERS for first, second in (words, words[::-1]))

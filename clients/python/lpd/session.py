@@ -17,6 +17,7 @@ from .replies import Basis, Cold, Fell, Found, Full, Publication, Published, Rac
 if TYPE_CHECKING:
     from .irreducible import Irreducible
     from .ranging import Ranges
+    from .wide import WideSolved
 
 # What may be given as a number: an int, a fraction, or its text, as "0.1". A float is not, since it is seldom what it looks like.
 Numeric = Union[int, Fraction, str]
@@ -219,6 +220,13 @@ class Session:
                 if not isinstance(verdict, Accepted) or verdict.known != answer:
                     raise Unexpected(f"a checker says {verdict} to the certificate of {answer}")
         return answer, certificate
+
+    def solve_wide(self) -> "WideSolved":
+        """The answer to the model in numbers of any width, and its certificate, which `lpd check --wide` judges. Nothing of it is
+        kept: `certificate` and `how` go on speaking of the last `solve`."""
+        from .wide import read_wide_solved
+
+        return read_wide_solved(self.lines("WIDE", ["WIDE"]), "WIDE")
 
     def certificate(self) -> List[str]:
         """The lines of the last answer's certificate; none after Past and Spent."""

@@ -19,9 +19,9 @@ class WideSolved:
     certificate: List[str]
 
 
-def read_wide_solved(lines: Sequence[str]) -> WideSolved:
-    """What the program wrote."""
-    return WideSolved(answer_in(lines, 0, "solve --wide"), list(lines[1:]))
+def read_wide_solved(lines: Sequence[str], command: str = "solve --wide") -> WideSolved:
+    """What the program wrote to this command."""
+    return WideSolved(answer_in(lines, 0, command), list(lines[1:]))
 
 
 def solve_wide(text: str, fixed: bool = False, path: Optional[str] = None, seconds: Optional[float] = None) -> WideSolved:

@@ -27,7 +27,7 @@ def main():
         if reply[0] == "EXIT":
             print("lpd: out of order", file=sys.stderr)
             return int(reply[1])
-        count = int(reply[2]) if reply[1:2] in (["TEXT"], ["CERT"]) and reply[2:] and reply[2].isdigit() else 0
+        count = int(reply[2]) if reply[1:2] in (["TEXT"], ["CERT"], ["WIDE"]) and reply[2:] and reply[2].isdigit() else 0
         print("\n".join([" ".join(reply), *replies[:count]]), flush=True)
         del replies[:count]
     sys.stdin.read()

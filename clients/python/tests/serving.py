@@ -63,7 +63,7 @@ def by_program(link: socket.socket) -> None:
             program.send(encoded([f"1 {command[0]}", *command[1:]]))
             reply = [program.line()[2:]]
             words = reply[0].split(" ")
-            reply += [program.line() for _ in range(int(words[1]) if words[0] in ("TEXT", "CERT") else 0)]
+            reply += [program.line() for _ in range(int(words[1]) if words[0] in ("TEXT", "CERT", "WIDE") else 0)]
             link.sendall(encoded(reply))
             if words == ["BYE"]:
                 return

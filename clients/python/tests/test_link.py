@@ -46,7 +46,7 @@ class Replayed(Linked, test_session.Replayed):
                 left -= 1
             else:
                 grouped.append(f"{line}\n")
-                left = int(words[1]) if len(words) == 2 and words[0] in ("TEXT", "CERT") and words[1].isdigit() else 0
+                left = int(words[1]) if len(words) == 2 and words[0] in ("TEXT", "CERT", "WIDE") and words[1].isdigit() else 0
         return self.link(by_bytes(*(reply.encode("latin-1") for reply in grouped), stays=True))
 
     def test_the_reply_of_another_session(self) -> None:

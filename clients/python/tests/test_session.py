@@ -135,6 +135,14 @@ class Replayed(unittest.TestCase):
             with self.subTest(reply), self.assertRaises(lpd.Unexpected):
                 self.session(reply).certificate()
 
+    def test_a_wide_solve(self) -> None:
+        session = self.session("1 WIDE 4", "OPTIMAL 1000000000000000000000000000000000000000/3", "OPTIMAL", "x x 1", "END", "1 WIDE 1", "PAST MUL 1e38 1e38")
+        self.assertEqual(session.solve_wide(), lpd.WideSolved(lpd.Optimal(Fraction(10**39, 3)), ["OPTIMAL", "x x 1", "END"]))
+        self.assertEqual(session.solve_wide(), lpd.WideSolved(lpd.Past("MUL", Fraction(10**38), Fraction(10**38)), []))
+        for replies in (("1 WIDE",), ("1 WIDE 0",), ("1 WIDE 1", "DONE"), ("1 CERT 0",)):
+            with self.subTest(replies), self.assertRaises(lpd.Unexpected):
+                self.session(*replies).solve_wide()
+
     def test_the_reply_of_another_session(self) -> None:
         with self.assertRaisesRegex(lpd.Unexpected, "another session's"):
             self.session("2 OPTIMAL 1").solve()
