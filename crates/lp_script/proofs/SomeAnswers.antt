@@ -7,7 +7,7 @@ use Rattle.spec_server.specs.declared.asks.Ask.TheVariants as ask
 use Rattle.spec_server.specs.declared.asks.Asked.{Asked}
 use Rattle.spec_server.specs.declared.asks.Reply.TheVariants as reply
 use Rattle.spec_server.specs.declared.command.Plain.TheVariants as command
-use Rattle.spec_server.specs.Machine.{ExactAsk, ExactReply, State, Due, Replies, Solves, SolvesWide, due, wide_due, edit_due}
+use Rattle.spec_server.specs.Machine.{ExactAsk, ExactReply, State, Due, Replies, Solves, SolvesWide, due, edit_due}
 use Rattle.spec_server.specs.Machine.{change_due}
 use Rattle.spec_server.specs.Machine.{takes_memory}
 use Rattle.spec_server.specs.Step.{Answers, BegunBy, AloneStep}

@@ -1,5 +1,5 @@
 -- How the solve of a model without a form ends.
-use Rattle.std.proofs.Common.{◌≡◌, Some, None, Err, sym, ap, ap₂, subst, ◌∙◌, inl}
+use Rattle.std.proofs.Common.{◌≡◌, Some, None, sym, ap, ap₂, subst, ◌∙◌, inl}
 use Rattle.spec_exact.specs.Narrow.{number_limit}
 use Rattle.spec_model.specs.Model.{Model}
 use Rattle.spec_simplex.specs.Form.{form_of}
@@ -11,7 +11,7 @@ use Rattle.spec_server.specs.declared.answer.Publication.TheVariants as publicat
 use Rattle.spec_server.specs.declared.asks.Ask.TheVariants as ask
 use Rattle.spec_server.specs.declared.command.Plain.TheVariants as command
 use Rattle.spec_server.specs.Machine.{ExactReply, State, Solves, due, solve_due}
-use Rattle.spec_server.specs.Step.{Answers, Begins, answered, with_answer, solve_begun, Begun, BegunBy}
+use Rattle.spec_server.specs.Step.{Answers, Begins, answered, with_answer, solve_begun, BegunBy}
 use Rattle.lp_solve.specs.Formless.{HasNoForm}
 
 -- as the cold solve does, with the budget of the session

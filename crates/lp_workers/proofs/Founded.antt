@@ -1,5 +1,5 @@
 -- What the exchanges of a worker read, with their sessions, is founded on what was read before.
-use Rattle.std.proofs.Common.{◌≡◌, ℕ, zero, suc, ◌<◌, ◌≤◌, ◌%◌, Bool, true, false, List, [], ◌∷◌, ◌++◌, map}
+use Rattle.std.proofs.Common.{◌≡◌, ℕ, zero, suc, ◌<◌, ◌≤◌, ◌%◌, Bool, true, false, List, [], ◌∷◌, ◌++◌}
 use Rattle.std.proofs.Common.{nat_eq, eqb-true, cond, refl, sym, ap, ◌∙◌, subst, ⊎_elim, arith}
 use Rattle.std.specs.List.{Contains, AllByRecursion}
 use Rattle.std.proofs.lemmas.List.Elements.{Contains-append_left, Contains-append_right, Contains-append_cases}
@@ -9,7 +9,7 @@ use Rattle.spec_board.specs.declared.read.Read.TheVariants as read
 use Rattle.spec_board.specs.Reads.{Words, ExactRead, Looked, has_shape, SeenBy, SeesDown, LookReads, PutReads}
 use Rattle.spec_board.specs.Places.{Logged, logged}
 use Rattle.spec_server.specs.Machine.{ExactReply, State}
-use Rattle.spec_server.specs.Step.{Begun, Looks, Worked, Ends, Publishes, Concludes, GoesOn, AloneStep}
+use Rattle.spec_server.specs.Step.{Begun, Looks, Worked, Ends, Publishes, Concludes, GoesOn}
 use Rattle.spec_server.specs.Step as step
 use Rattle.spec_server.specs.Exchanges.{Exchange, AloneRun, of_session, log_of}
 use Rattle.spec_serve.specs.Workers.{exchanges_of_worker}
