@@ -17,8 +17,8 @@ import made_models  # found by makers
 
 # How many seconds a run may take.
 SECONDS = 300
-# How many bytes of addresses the program may have with one worker, and how many more with each further one. docs/SERVING.md
-# says how that comes from the limits of docs/PROTOCOL.md.
+# How many bytes of addresses the program may have with one worker, and how many more with each further one.
+# docs/performance/serving.md says how that comes from the limits of docs/PROTOCOL.md.
 BOUND, FOR_A_WORKER = 512 << 20, 80 << 20
 # How many inputs of a kind are in a batch, and how often batches of a kind come.
 SIZES = {"bytes": 100, "lines": 60, "sessions": 25, "texts": 20}
