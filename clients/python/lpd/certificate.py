@@ -112,8 +112,8 @@ def must_be_feasible(model: Model, x: Values) -> None:
     for name, column in model.columns.items():
         value = x.get(name, ZERO)
         need(is_between(column.limits(), value), 1, f"column {name} is {shown(value)}, and has to be {limits_in_words(column.limits())}")
-    for name, row in model.rows.items():
-        value = model.activity(x, name)
+    for name, value in model.activities(x).items():
+        row = model.rows[name]
         need(is_between(row.limits(), value), 2, f"the sum of row {name} is {shown(value)}, and has to be {limits_in_words(row.limits())}")
 
 
@@ -133,8 +133,9 @@ def optimal(model: Model, x: Values, y: Values) -> Optimal:
         there = f", so it has to be at its {side(reduced)} bound, and is {shown(value)}"
         why = there if has_limit(column.limits(), reduced) else f" and no {side(reduced)} bound"
         need(is_tight(column.limits(), reduced, value), 3, f"column {name} has the reduced cost {shown(reduced)}{why}")
+    sums = model.activities(x)
     for name, row in model.rows.items():
-        multiplier, value = y.get(name, ZERO), model.activity(x, name)
+        multiplier, value = y.get(name, ZERO), sums[name]
         there = f", so its sum has to be at its {side(multiplier)} limit, and is {shown(value)}"
         why = there if has_limit(row.limits(), multiplier) else f" and no {side(multiplier)} limit"
         need(is_tight(row.limits(), multiplier, value), 4, f"row {name} has the multiplier {shown(multiplier)}{why}")
@@ -173,8 +174,8 @@ def unbounded(model: Model, x: Values, r: Values) -> Unbounded:
     for name, column in model.columns.items():
         step = r.get(name, ZERO)
         need(allows(column.limits(), step), 3, f"the ray moves column {name} by {shown(step)}, towards a bound: it is {limits_in_words(column.limits())}")
-    for name, row in model.rows.items():
-        step = model.activity(r, name)
+    for name, step in model.activities(r).items():
+        row = model.rows[name]
         need(allows(row.limits(), step), 4, f"the ray moves row {name} by {shown(step)}, towards a limit: it is {limits_in_words(row.limits())}")
     gain = model.sense * model.cost(r)
     need(gain < 0, 5, f"the ray changes the objective by {shown(model.cost(r))}, which is not better")

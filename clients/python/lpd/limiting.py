@@ -27,8 +27,8 @@ def gaps_of_point(model: Model, x: Mapping[str, Fraction]) -> Gaps:
 
     for name, column in model.columns.items():
         add(name, "bound", column.limits(), x.get(name, ZERO))
-    for name, row in model.rows.items():
-        add(name, "limit", row.limits(), model.activity(x, name))
+    for name, value in model.activities(x).items():
+        add(name, "limit", model.rows[name].limits(), value)
     return found
 
 
@@ -50,8 +50,8 @@ def gaps_of_costs(model: Model, x: Mapping[str, Fraction], y: Mapping[str, Fract
     for name, column in model.columns.items():
         word = "bound" if column.limits() != Limits(None, None) else "0"
         add(name, word, column.limits(), x.get(name, ZERO), model.reduced_cost(y, name))
-    for name, row in model.rows.items():
-        add(name, "limit", row.limits(), model.activity(x, name), y.get(name, ZERO))
+    for name, value in model.activities(x).items():
+        add(name, "limit", model.rows[name].limits(), value, y.get(name, ZERO))
     return found
 
 

@@ -78,8 +78,18 @@ class Model:
         return [name for name, row in self.rows.items() if row.is_free()]
 
     def activity(self, values: Mapping[str, Fraction], row: str) -> Fraction:
-        """The sum of a row at the values of columns, which are 0 if absent."""
-        return sum((c.entries.get(row, ZERO) * values.get(name, ZERO) for name, c in self.columns.items()), ZERO)
+        """The sum of a row at the values of columns, which are 0 if absent. Of many rows `activities` has them at once."""
+        given = ((self.columns[name].entries.get(row), value) for name, value in values.items() if value and name in self.columns)
+        return sum((entry * value for entry, value in given if entry), ZERO)
+
+    def activities(self, values: Mapping[str, Fraction]) -> Dict[str, Fraction]:
+        """The sums of all rows, by which each coefficient is seen once, and only those of columns that are not 0."""
+        sums = dict.fromkeys(self.rows, ZERO)
+        for name, value in values.items():
+            if value and name in self.columns:
+                for row, entry in self.columns[name].entries.items():
+                    sums[row] += entry * value
+        return sums
 
     def cost(self, values: Mapping[str, Fraction]) -> Fraction:
         """The sum of the costs at the values of columns, without the offset."""

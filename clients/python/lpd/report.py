@@ -59,9 +59,9 @@ def report(model: Model, certificate: Sequence[str]) -> Report:
         for name, column in model.columns.items()
     ]
     rows = []
-    for name, row in model.rows.items():
-        activity = model.activity(x, name)
-        rows.append(RowReport(name, activity, row.limits(), slack_of(row.limits(), activity), model.sense * y.get(name, ZERO)))
+    for name, activity in model.activities(x).items():
+        limits = model.rows[name].limits()
+        rows.append(RowReport(name, activity, limits, slack_of(limits, activity), model.sense * y.get(name, ZERO)))
     return Report(columns, rows)
 
 
