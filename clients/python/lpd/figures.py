@@ -1,0 +1,108 @@
+"""Numbers as people read them: decimals of a few digits, with a mark that says whether they are exact.
+
+An exact number is shown as it is where its decimal has no more digits than that. Of a greater one the digits before the point are
+all shown, up to `MOST_DIGITS`, so that no amount of money ends with zeros that it does not have.
+"""
+from __future__ import annotations
+
+from dataclasses import dataclass
+from fractions import Fraction
+from typing import Optional
+
+from .number_text import rounded, shown
+
+DIGITS = 6  # significant ones
+MOST_DIGITS = 12  # before the point
+SMALLEST = Fraction(1, 10**4)  # below it there are zeros behind the point, and the decimal has an exponent
+EXACT, NEAR = "=", "~"
+
+
+def exponent_of(size: Fraction) -> int:
+    """The power of ten of the first digit of a number above 0."""
+    found = (size.numerator.bit_length() - size.denominator.bit_length()) * 30103 // 100000
+    while size >= Fraction(10) ** (found + 1):
+        found += 1
+    while size < Fraction(10) ** found:
+        found -= 1
+    return found
+
+
+def decimal_of(value: Fraction, digits: int = DIGITS) -> str:
+    """The decimal of so many significant digits that is nearest to a number, without zeros at its end."""
+    if not value:
+        return "0"
+    exponent = exponent_of(abs(value))
+    if abs(value) < SMALLEST or exponent >= MOST_DIGITS:
+        front = round(abs(value) / Fraction(10) ** (exponent - digits + 1))
+        if front == 10**digits:
+            front, exponent = front // 10, exponent + 1
+        text = str(front)
+        text = f"{text[0]}.{text[1:]}".rstrip("0").rstrip(".")
+        return f"{'-' if value < 0 else ''}{text}e{exponent:+03d}"
+    places = max(0, digits - 1 - exponent)
+    text = rounded(value, places)
+    return text.rstrip("0").rstrip(".") if places else text
+
+
+def unit_of(text: str) -> Fraction:
+    """How much one more is at the last digit of a decimal."""
+    front, _, power = text.partition("e")
+    return Fraction(10) ** (int(power or 0) - len(front.partition(".")[2]))
+
+
+@dataclass(frozen=True)
+class Style:
+    """How numbers are shown: as decimals of a few significant digits, or of so many places, or as they are (`is_exact`), which has
+    a decimal beside it where places are asked for."""
+
+    is_exact: bool = False
+    places: Optional[int] = None
+
+    def decimal(self, value: Fraction) -> str:
+        return decimal_of(value) if self.places is None else rounded(value, self.places)
+
+    def shows(self, value: Fraction) -> bool:
+        """Whether what is shown is the number itself."""
+        return self.is_exact or Fraction(self.decimal(value)) == value
+
+    def cell(self, value: Optional[Fraction]) -> str:
+        """In a table: behind a mark."""
+        if value is None:
+            return ""
+        if self.is_exact:
+            return self.exactly(value)
+        return f"{EXACT if self.shows(value) else NEAR}{self.decimal(value)}"
+
+    def word(self, value: Fraction) -> str:
+        """In a sentence: behind a mark only where it is not exact."""
+        if self.is_exact:
+            return self.exactly(value)
+        return f"{'' if self.shows(value) else NEAR}{self.decimal(value)}"
+
+    def plain(self, value: Optional[Fraction]) -> str:
+        """In a cell that a spreadsheet reads: no mark."""
+        if value is None:
+            return ""
+        return shown(value) if self.is_exact else self.decimal(value)
+
+    def exactly(self, value: Fraction) -> str:
+        return shown(value) if self.places is None else f"{shown(value)} ({rounded(value, self.places)})"
+
+    def mark(self, *values: Optional[Fraction]) -> str:
+        """Whether all of these are shown as they are."""
+        return EXACT if all(value is None or self.shows(value) for value in values) else NEAR
+
+
+READABLE, FRACTIONS = Style(), Style(is_exact=True)
+
+
+def outward(value: Fraction, is_upper: bool, style: Style) -> str:
+    """A limit in a sentence: where it is not shown exactly, rounded up if it is an upper one, and else down."""
+    text = style.word(value)
+    if style.shows(value):
+        return text
+    near = style.decimal(value)
+    off = Fraction(near) - value
+    if (off < 0) == is_upper:
+        near = style.decimal(Fraction(near) + (unit_of(near) if is_upper else -unit_of(near)))
+    return f"{NEAR}{near}"
