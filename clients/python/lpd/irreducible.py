@@ -8,7 +8,7 @@ from __future__ import annotations
 
 from dataclasses import dataclass, field, replace
 from fractions import Fraction
-from typing import Dict, List, NamedTuple, Optional, Sequence, Tuple
+from typing import Callable, Dict, List, NamedTuple, Optional, Sequence
 
 from .certificate import check_lines, matched, raise_unknown, read_certificate
 from .dialects import PROFILE, written
@@ -55,9 +55,9 @@ class Member:
         kind, place = ("row", "limit") if self.side.is_row else ("column", "bound")
         return f"the {'upper' if self.side.is_upper else 'lower'} {place} of {kind} {self.name}"
 
-    def sentence(self, others: str, s: str = "") -> str:
+    def sentence(self, others: str, s: str, number: Callable[[Fraction], str]) -> str:
         """What it says, and what the others say against it, who are named so; with an s behind the verb where that is one."""
-        limit, best, name = in_words(self.limit), in_words(self.best), self.name
+        limit, best, name = number(self.limit), number(self.best), self.name
         if self.side.is_row and self.side.is_upper:
             return f"at most {limit} of {name} is there, but {others} ask{s} for {best} at least"
         if self.side.is_row:
@@ -81,10 +81,10 @@ class Irreducible:
     def __str__(self) -> str:
         return "\n".join(self.sentences())
 
-    def sentences(self) -> List[str]:
-        """One for each member."""
+    def sentences(self, number: Optional[Callable[[Fraction], str]] = None) -> List[str]:
+        """One for each member, with numbers that are shown so."""
         s = "s" if len(self.members) == 2 else ""
-        return [member.sentence(self.others(member), s) for member in self.members]
+        return [member.sentence(self.others(member), s, number or in_words) for member in self.members]
 
     def others(self, member: Member) -> str:
         """A name for all members but one."""
@@ -248,10 +248,3 @@ def renamed(found: Irreducible, rows: Dict[str, str], columns: Dict[str, str]) -
         return replace(one, side=side, point={columns.get(name, name): value for name, value in one.point.items()})
 
     return replace(found, members=[member(one) for one in found.members])
-
-
-def point_in_words(point: Dict[str, Fraction], most: int = 6) -> str:
-    """The values of a point that are not 0."""
-    values: List[Tuple[str, Fraction]] = list(point.items())
-    told = ", ".join(f"{name} {in_words(value)}" for name, value in values[:most])
-    return told + (f", and {len(values) - most} more" if len(values) > most else "") if values else "all columns 0"

@@ -6,13 +6,14 @@ import functools
 import math
 from dataclasses import dataclass
 from fractions import Fraction
-from typing import Dict, List, Optional, Sequence
+from typing import Callable, Dict, List, Optional, Sequence
 
 from .certificate import matched, read_certificate
 from .model import Limits, Model
 from .number_text import shown
 
 ZERO = Fraction(0)
+MOST_TERMS = 6  # of a sum that is told
 
 
 @dataclass(frozen=True)
@@ -90,20 +91,39 @@ class Conflict:
     column: Optional[str] = None
 
     def __str__(self) -> str:
-        asked, allowed = shown(self.asked), shown(self.allowed)
+        return self.told(shown)
+
+    def told(self, number: Callable[[Fraction], str]) -> str:
+        """What contradicts what, in a sentence whose numbers are shown so."""
         if self.column is not None:
-            return f"Column {self.column} has the lower bound {asked} above its upper bound {allowed}."
+            return f"Column {self.column} has the lower bound {number(self.asked)} above its upper bound {number(self.allowed)}."
         if len(self.rows) == 1:
-            row, times = self.rows[0], abs(self.rows[0].multiplier)
-            most = shown(self.allowed / times if row.is_lower else -self.allowed / times)
-            if row.is_lower:
-                return f"Row {row.name} asks for {shown(row.limit)} at least, and the bounds of the columns allow {most} at most."
-            return f"Row {row.name} allows {shown(row.limit)} at most, and the bounds of the columns ask for {most} at least."
-        rows = "".join(f"\n  {row}" for row in self.rows)
-        terms = [f"{'-' if row.multiplier < 0 else '+'} {times_of(row)}{row.name}" for row in self.rows]
-        sum_of = " ".join(terms)[2:] if self.rows[0].is_lower else " ".join(terms)
-        together = f"Together, as {sum_of}, they ask for {asked} at least, and the bounds of the columns allow {allowed} at most."
-        return f"These rows contradict each other:{rows}\n{together}"
+            return self.of_one_row(number)
+        lower, upper = [row for row in self.rows if row.is_lower], [row for row in self.rows if not row.is_lower]
+        most = sum((-row.multiplier * row.limit for row in upper), ZERO)
+        if not lower:
+            return f"{sum_of(upper)} allow {number(most)} at most, and the bounds of the columns ask for {number(-self.allowed)} at least."
+        least, of_bounds = self.asked + most, "the bounds of the columns"
+        asks = f"{sum_of(lower)} ask{'' if len(lower) > 1 else 's'} for {number(least)} at least"
+        if not upper:
+            return f"{asks}, and {of_bounds} allow {number(self.allowed)} at most."
+        s = "" if len(upper) > 1 or self.allowed else "s"
+        return f"{asks}, and {sum_of(upper)}{f' with {of_bounds}' if self.allowed else ''} allow{s} {number(most + self.allowed)} at most."
+
+    def of_one_row(self, number: Callable[[Fraction], str]) -> str:
+        row, times = self.rows[0], abs(self.rows[0].multiplier)
+        most = number(self.allowed / times if row.is_lower else -self.allowed / times)
+        if row.is_lower:
+            return f"Row {row.name} asks for {number(row.limit)} at least, and the bounds of the columns allow {most} at most."
+        return f"Row {row.name} allows {number(row.limit)} at most, and the bounds of the columns ask for {most} at least."
+
+
+def sum_of(rows: Sequence[ConflictRow]) -> str:
+    """The sum of some rows in words, of which many are counted."""
+    terms = [f"{times_of(row)}{row.name}" for row in rows]
+    if len(terms) <= MOST_TERMS:
+        return " + ".join(terms)
+    return f"{' + '.join(terms[:3])} + .. + {terms[-1]} ({len(terms)} rows)"
 
 
 def times_of(row: ConflictRow) -> str:

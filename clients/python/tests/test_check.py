@@ -230,11 +230,26 @@ class Reports(unittest.TestCase):
     def test_a_conflict_of_rows(self) -> None:
         text = "ROWS\n N cost\n L R1\n G R2\nCOLUMNS\n x R1 1 R2 1\nRHS\n R1 1 R2 2\nENDATA\n"
         found = lpd.conflict(lpd.read_model(text), ["INFEASIBLE", "y R1 -1/7", "y R2 1/7", "END"])
-        self.assertEqual(
-            str(found),
-            "These rows contradict each other:\n  R2 is at least 2\n  R1 is at most 1\n"
-            "Together, as R2 - R1, they ask for 1 at least, and the bounds of the columns allow 0 at most.",
-        )
+        self.assertEqual(str(found), "R2 asks for 2 at least, and R1 allows 1 at most.")
+        text = text.replace("x R1 1 R2 1\nRHS", "x R1 1 R2 1\n z R2 -3\nRHS").replace("ENDATA", "BOUNDS\n LO B z 1/2\nENDATA")
+        found = lpd.conflict(lpd.read_model(text), ["INFEASIBLE", "y R1 -1/7", "y R2 1/7", "END"])
+        self.assertEqual(str(found), "R2 asks for 2 at least, and R1 with the bounds of the columns allow -0.5 at most.")
+        found = lpd.conflict(lpd.read_model(text), ["INFEASIBLE", "y R1 -2", "y R2 1", "END"])
+        self.assertEqual(str(found), "R2 asks for 2 at least, and 2 R1 with the bounds of the columns allow 0.5 at most.")
+
+    def test_sums_that_contradict_each_other(self) -> None:
+        rows = [f" G d{n}" for n in range(40)] + [f" L s{n}" for n in range(3)]
+        cards = [f" x{i}.{j} s{i} 1 d{j} 1" for i in range(3) for j in range(40)]
+        sides = [f" d{j} 82.635" for j in range(40)] + [f" s{i} 982.75" for i in range(3)]
+        text = "\n".join(["ROWS", " N cost", *rows, "COLUMNS", *cards, "RHS", *sides, "ENDATA", ""])
+        certificate = ["INFEASIBLE", *(f"y d{j} 1/9" for j in range(40)), *(f"y s{i} -1/9" for i in range(3)), "END"]
+        found = lpd.conflict(lpd.read_model(text), certificate)
+        self.assertEqual(str(found), "d0 + d1 + d2 + .. + d39 (40 rows) ask for 3305.4 at least, and s0 + s1 + s2 allow 2948.25 at most.")
+
+    def test_upper_limits_alone(self) -> None:
+        text = "ROWS\n N c\n L a\n L b\nCOLUMNS\n x a 1 b 1\n y a 1 b -1\nRHS\n a 3 b 3\nBOUNDS\n LO x 4\nENDATA\n"
+        found = lpd.conflict(lpd.read_model(text), ["INFEASIBLE", "y a -1", "y b -1", "END"])
+        self.assertEqual(str(found), "a + b allow 6 at most, and the bounds of the columns ask for 8 at least.")
 
     def test_a_conflict_with_the_columns(self) -> None:
         text = (EXAMPLES / "models" / "diet.mps").read_text().replace("energy 2000", "energy 5000")

@@ -124,7 +124,9 @@ class WithoutTheCommand(unittest.TestCase):
         with mock.patch("lpd.commands.conflicts.iis", side_effect=lpd.CommandMissing("iis")):
             said = command("solve", str(DEPARTMENTS))
             self.assertEqual((said.status, said.complaints), (10, ""))
-            self.assertTrue(said.output.endswith("ask for 160 at least, and the bounds of the columns allow 150 at most.\n") or "contradict each other" in said.output)
+            self.assertIn("sales + 2 service + 4 training ask for 320 at least, and 2 hours allows 300 at most.\n", said.output)
+            self.assertNotIn("contradict each other", said.output)
+            self.assertIn("that is enough: training at least 25 in place of 30 (5 less).\n", said.output)
             said = command("solve", str(DEPARTMENTS), "--iis")
             self.assertEqual((said.status, said.complaints), (10, "lpd: there is no list: this program has no command iis\n"))
 
@@ -159,22 +161,27 @@ class WithTheProgram(unittest.TestCase):
     def test_sentences(self) -> None:
         said = command("solve", str(DEPARTMENTS))
         self.assertEqual((said.status, said.complaints), (10, ""))
-        told = "10 more is enough for the others, and point 1 satisfies the others: brochures 120, manuals 40, textbooks 30, with 160 of hours."
-        self.assertIn(f"  {SENTENCES[0]}; {told}\n", said.output)
+        self.assertEqual(said.output.splitlines()[1], "sales + 2 service + 4 training ask for 320 at least, and 2 hours allows 300 at most.")
+        self.assertIn(f"  {SENTENCES[0]}\n", said.output)
+        told = "training at least 25 in place of 30 (5 less).\n  Then there is a point: brochures 120, manuals 40, textbooks 25.\n"
+        self.assertIn(f"The least change of one right side or bound that is enough: {told}", said.output)
         self.assertNotIn("POINT", said.output)
         self.assertEqual(command("solve", str(DEPARTMENTS), "--show", "answer").output, reported("INFEASIBLE\n"))
 
     def test_one_row_and_the_columns(self) -> None:
         said = command("solve", "-", stdin=PROTEIN.encode())
-        self.assertIn("at least 40 of protein is asked for, but the columns allow 36 at most; 4 less is enough", said.output)
-        self.assertIn("beans may be 2 at most, but the others ask for 22/9 (2.4444) at least", said.output)
+        self.assertIn("Row protein asks for 40 at least, and the bounds of the columns allow 36 at most.\n", said.output)
+        self.assertIn("  beans may be 2 at most, but the others ask for ~2.44444 at least\n", said.output)
+        self.assertIn("beans at most ~2.44445 in place of 2 (~0.444444 more).\n", said.output)
+        said = command("solve", "-", "--exact", stdin=PROTEIN.encode())
+        self.assertIn("beans at most 22/9 in place of 2 (4/9 more).\n", said.output)
 
     def test_the_list(self) -> None:
         said = command("solve", str(DEPARTMENTS), "--iis", "--show", "answer")
         lines = said.output.splitlines()
         self.assertEqual(lines[0], "INFEASIBLE")
-        self.assertEqual(lines[3].split(), ["1", "the", "upper", "limit", "of", "row", "hours", "150", "160", "10", "160"])
-        self.assertIn("POINT 2\nx manuals 40\nx textbooks 30\n", said.output)
+        self.assertEqual(lines[3].split(), ["1", "the", "upper", "limit", "of", "row", "hours", "=150", "=160", "=10", "=160"])
+        self.assertIn("POINT 2\nx manuals =40\nx textbooks =30\n", said.output)
         said = command("solve", str(MODELS / "diet.mps"), "--iis", "--show", "answer")
         self.assertEqual(said, (0, reported("OPTIMAL 92.5\n"), "lpd: there is no list: --iis is for an infeasible model, and the answer is OPTIMAL 92.5\n"))
 

@@ -50,7 +50,7 @@ class Words(unittest.TestCase):
         """Modules that the package and its command import, in whose place others stand here that wait to be interrupted."""
         # What a script begins in its background, and what that begins, ignores interrupts: a run of these tests does not.
         self.addCleanup(signal.signal, signal.SIGINT, signal.signal(signal.SIGINT, signal.default_int_handler))
-        for module in ("fractions", "difflib"):
+        for module in ("fractions", "argparse"):
             with self.subTest(module), tempfile.TemporaryDirectory() as folder:
                 (Path(folder) / f"{module}.py").write_text("import time\nprint('waits', flush=True)\ntime.sleep(300)\n")
                 line, path = [sys.executable, "-m", "lpd", "--version"], f"{folder}:{PACKAGE}"
@@ -94,7 +94,7 @@ class Shown(unittest.TestCase):
         told = json.loads(command("solve", str(MODELS / "orders.mps"), "--json").output)["conflict"]
         self.assertEqual((told["asked"], told["allowed"]), ("3", "0"))
         self.assertEqual(told["rows"]["bolts"], {"multiplier": "2", "side": "lower", "limit": "11"})
-        self.assertIn("bolts is at least 11", told["words"])
+        self.assertEqual(told["words"], "2 bolts + 3 screws ask for 43 at least, and capacity allows 40 at most.")
 
     def test_csv_of_parts_and_decimals(self) -> None:
         def lines(*words: str) -> "list[list[str]]":

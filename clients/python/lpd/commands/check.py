@@ -24,6 +24,8 @@ JOINED = re.compile(rf"^ENDATA(?=(?:OPTIMAL|INFEASIBLE|UNBOUNDED|CLASH [^\n]*)(?
 class NoClaim(LpdError):
     """What is given as an answer is none that a certificate shows."""
 
+    ends_with = 2
+
 
 def add(commands: "argparse._SubParsersAction[argparse.ArgumentParser]") -> None:
     checks = commands.add_parser("check", help="checks anyone's certificate for a model, exactly")

@@ -3,11 +3,13 @@ from __future__ import annotations
 
 import argparse
 import sys
+import textwrap
 from fractions import Fraction
 from pathlib import Path
 from typing import List, Optional, Sequence
 
 from ..conversion import Converted, Options, convert
+from ..figures import READABLE, Style
 from ..model import Model
 from ..names import Renamed
 from ..number_text import rounded, shown
@@ -15,6 +17,7 @@ from ..reading import unpacked
 from ..replies import Answer, Infeasible, Optimal, Past, Unbounded
 
 MOST_DECIMALS, MOST_PIVOTS = 1000, 1000000
+WIDEST_LINE, SHORTEST = 120, 14  # characters of a line, and of a column of a table that is cut
 PYTHON_ALONE = 14  # an answer whose certificate the checker in Python alone accepts
 
 
@@ -99,9 +102,37 @@ def number_in(value: Optional[Fraction], places: Optional[int]) -> Optional[floa
         return None
 
 
-def table(rows: Sequence[Sequence[str]]) -> str:
-    widths = [max(len(row[column]) for row in rows) for column in range(len(rows[0]))]
-    return "\n".join("  ".join(text.ljust(width) for text, width in zip(row, widths)).rstrip() for row in rows)
+def width_of(rows: Sequence[Sequence[str]]) -> List[int]:
+    return [max(len(row[column]) for row in rows) for column in range(len(rows[0]))]
+
+
+def table(rows: Sequence[Sequence[str]], style: Style = READABLE) -> str:
+    """Rows of cells below each other. No line is longer than `WIDEST_LINE`, unless the style is of exact numbers: of the widest columns,
+    which are those of names, cells are cut short in the middle."""
+    widths = width_of(rows)
+    while sum(widths) + 2 * len(widths) - 2 > WIDEST_LINE and not style.is_exact and max(widths) > SHORTEST:
+        widest = widths.index(max(widths))
+        widths[widest] -= 1
+    cells = [[cut(text, width) for text, width in zip(row, widths)] for row in rows]
+    return "\n".join("  ".join(text.ljust(width) for text, width in zip(row, widths)).rstrip() for row in cells)
+
+
+def cut(text: str, width: int) -> str:
+    """A text of at most so many characters: without those in its middle."""
+    if len(text) <= width:
+        return text
+    kept = width - 2
+    return f"{text[: kept - kept // 2]}..{text[len(text) - kept // 2 :]}"
+
+
+def in_lines(text: str) -> str:
+    """Sentences in lines that are no longer than `WIDEST_LINE`, of which all but the first are moved in."""
+    front = text[: len(text) - len(text.lstrip())]
+    return textwrap.fill(text, WIDEST_LINE, subsequent_indent=f"{front.strip(chr(10))}  ", break_long_words=False, break_on_hyphens=False, replace_whitespace=False, drop_whitespace=True)
+
+
+def print_prose(text: str) -> None:
+    print(in_lines(text))
 
 
 def add_options(parser: argparse.ArgumentParser) -> None:

@@ -1,23 +1,26 @@
-"""What the command solve says of an infeasible model: limits that contradict each other, none of which can be left out."""
+"""What the command solve says of an infeasible model: what contradicts what, and which change of the model is enough."""
 from __future__ import annotations
 
 import argparse
 from fractions import Fraction
-from typing import Dict, List, Optional
+from typing import Dict, List, Optional, Sequence
 
-from ..errors import CommandMissing, Refused
+from ..certificate import Failed, must_be_feasible
+from ..errors import CommandMissing, LpdError, Refused
 from ..exact import OutOfTime
-from ..irreducible import Irreducible, Member, iis, in_words, point_in_words
+from ..figures import Style, outward
+from ..irreducible import Irreducible, Member, iis
+from ..model import Model
 from ..number_text import shown
+from ..remedy import Advice, Change, Remedy, advise, without
 from ..replies import Answer, Infeasible
-from .common import number_in, table, tell, with_decimals
+from ..report import conflict
+from ..ways import Answered
+from .common import number_in, print_prose, table, tell
 
 MOST = 12  # sentences
-
-
-def add_iis(parser: argparse.ArgumentParser) -> None:
-    lists = "lists limits that contradict each other, none of which can be left out, with a point for each without it"
-    parser.add_argument("--iis", action="store_true", help=lists)
+MOST_VALUES = 6  # of a point
+SECONDS = 20.0  # for what would be enough
 
 
 def found_limits(words: argparse.Namespace, text: str, answer: Answer) -> Optional[Irreducible]:
@@ -42,40 +45,110 @@ def found_limits(words: argparse.Namespace, text: str, answer: Answer) -> Option
     return found
 
 
-def told(member: Member, sentence: str, number: int) -> str:
-    """A sentence of a member: what contradicts it, by how much it has to be moved, and a point of the others."""
-    more = "more" if member.side.is_upper else "less"
-    reached = "" if not member.side.is_row else f", with {in_words(member.reached)} of {member.name}"
-    point = f"point {number} satisfies the others: {point_in_words(member.point)}{reached}"
-    return f"  {sentence}; {in_words(member.by)} {more} is enough for the others, and {point}."
+def found_advice(words: argparse.Namespace, model: Model, certificate: List[str], limits: Optional[Irreducible]) -> Optional[Advice]:
+    """Which changes are enough. That it is not known is told in a line."""
+    known = [certificate, *([limits.certificate] if limits else [])]
+    try:
+        return advise(model, known, min(words.seconds, SECONDS))
+    except LpdError as why:
+        tell(f"note: it is not known which change of the model is enough: {why}")
+        return None
 
 
-def print_sentences(found: Irreducible) -> None:
-    count = len(found.members)
-    if count == 1:
-        print("One limit alone has no point:")
+# ---- in words
+
+
+def print_conflicts(words: argparse.Namespace, text: str, model: Model, found: Answered, style: Style) -> None:
+    """What contradicts what, what is enough, and the list where it is asked for."""
+    limits = found_limits(words, text, found.answer)
+    if isinstance(found.answer, Infeasible) and words.show != "answer":
+        print_conflict(model, found.certificate, limits, style)
+        advice = found_advice(words, model, found.certificate, limits)
+        if advice:
+            print_advice(model, advice, style)
+    if limits and words.iis:
+        print_list(model, limits, style)
+
+
+def print_conflict(model: Model, certificate: List[str], limits: Optional[Irreducible], style: Style) -> None:
+    """What contradicts what, by as few limits as are known to."""
+    print_prose(conflict(model, limits.certificate if limits else certificate).told(style.word))
+    if limits and len(limits.members) > 1:
+        print_prose(f"These {len(limits.members)} limits contradict each other, and no part of them does:")
+        for sentence in limits.sentences(style.word)[:MOST]:
+            print_prose(f"  {sentence}")
+        if len(limits.members) > MOST:
+            print(f"  and {len(limits.members) - MOST} more, which --iis lists")
+
+
+def print_advice(model: Model, advice: Advice, style: Style) -> None:
+    """The least change of one limit, and the least of all right sides where these are less, or another way."""
+    single, together = advice.single, advice.together
+    if single:
+        print_prose(f"The least change of one right side or bound that is enough: {in_words(model, single.changes[0], style)}.")
+        print_point(single, style)
     else:
-        print(f"These {count} limits contradict each other, and without any one of them the others have a point:")
-    for number, (member, sentence) in enumerate(zip(found.members[:MOST], found.sentences()), 1):
-        print(told(member, sentence, number))
-    if count > MOST:
-        print(f"  and {count - MOST} more, which --iis lists")
+        print_prose("No change of one right side or bound is enough.")
+    if together is None:
+        print_prose("No changes of right sides are enough, since the bounds of a column contradict each other.")
+    elif single is None or together.total < single.total:
+        print(f"The least changes of right sides that are enough, {style.word(together.total)} in all:")
+        for change in together.changes[:MOST]:
+            print_prose(f"  {in_words(model, change, style)}")
+        if len(together.changes) > MOST:
+            print(f"  and {len(together.changes) - MOST} more, which --iis --json lists")
+        print_point(together, style)
 
 
-def print_list(found: Irreducible, places: Optional[int]) -> None:
-    """A table of the limits, and the points without each."""
-    lines = [["point", "limit that it is without", "limit", "moved to", "by", "at the point"]]
+def in_words(model: Model, change: Change, style: Style) -> str:
+    """A change, as a limit that is enough: rounded, if it is, to the side on which it asks for less. A right side that is met exactly is
+    shown exactly."""
+    side, more = change.side, "more" if change.after > change.before else "less"
+    limits = model.rows[side.name].limits() if side.is_row else model.columns[side.name].limits()
+    after = outward(change.after, side.is_upper, style)
+    kind = "at most" if side.is_upper else "at least"
+    if side.is_row and limits.lower == limits.upper:
+        kind, after = "equal to", style.word(change.after)
+        after = after if style.shows(change.after) else f"{shown(change.after)} ({after})"
+    return f"{side.name} {kind} {after} in place of {style.word(change.before)} ({style.word(change.by)} {more})"
+
+
+def print_point(remedy: Remedy, style: Style) -> None:
+    """A point of the changed model."""
+    values = [f"{name} {style.word(value)}" for name, value in remedy.point.items()]
+    more = f", and {len(values) - MOST_VALUES} more that are not 0" if len(values) > MOST_VALUES else ""
+    print_prose(f"  Then there is a point: {', '.join(values[:MOST_VALUES]) or 'all columns 0'}{more}.")
+
+
+def is_of_the_model(model: Model, member: Member) -> bool:
+    """Whether the point of a member meets all rows and bounds of the model but that one."""
+    try:
+        must_be_feasible(without(model, member.side), member.point)
+    except Failed:
+        return False
+    return True
+
+
+def print_list(model: Model, found: Irreducible, style: Style) -> None:
+    """A table of the limits, and the points without each, where the whole model has them."""
+    lines: List[Sequence[str]] = [["point", "limit that it is without", "limit", "the others allow", "off by", "at the point"]]
     for number, member in enumerate(found.members, 1):
         values = (member.limit, member.best, member.by, member.reached)
-        lines.append([str(number), member.words(), *(with_decimals(value, places) for value in values)])
-    print("\n" + table(lines))
+        lines.append([str(number), member.words(), *(style.cell(value) for value in values)])
+    print("\n" + table(lines, style))
     for number, member in enumerate(found.members, 1):
-        print(f"\nPOINT {number}")
-        for name, value in member.point.items():
-            print(f"x {name} {with_decimals(value, places)}")
+        if is_of_the_model(model, member):
+            print(f"\nPOINT {number}")
+            for name, value in member.point.items():
+                print(f"x {name} {style.cell(value)}")
+        else:
+            print_prose(f"\nPOINT {number} is left out: it meets the other limits of the list, but not all of the model.")
 
 
-def limits_in_json(found: Optional[Irreducible], places: Optional[int]) -> Optional[Dict[str, object]]:
+# ---- as JSON
+
+
+def limits_in_json(model: Model, found: Optional[Irreducible], places: Optional[int]) -> Optional[Dict[str, object]]:
     if found is None:
         return None
     members: List[Dict[str, object]] = []
@@ -83,8 +156,30 @@ def limits_in_json(found: Optional[Irreducible], places: Optional[int]) -> Optio
         values: Dict[str, Fraction] = {"limit": member.limit, "moved_to": member.best, "by": member.by, "at_the_point": member.reached}
         one: Dict[str, object] = {"of": "row" if member.side.is_row else "column", "name": member.name}
         one.update({"side": "upper" if member.side.is_upper else "lower", "words": sentence})
-        one.update({name: shown(value) for name, value in values.items()})
+        one.update((name, shown(value)) for name, value in values.items())
         one["decimals"] = {name: number_in(value, places) for name, value in values.items()}
-        one["point"] = {name: shown(value) for name, value in member.point.items()}
+        one["point"] = point_in_json(member.point) if is_of_the_model(model, member) else None
         members.append(one)
     return {"members": members, "certificate": found.certificate}
+
+
+def point_in_json(point: Dict[str, Fraction]) -> Dict[str, str]:
+    return {name: shown(value) for name, value in point.items()}
+
+
+def advice_in_json(advice: Optional[Advice]) -> Optional[Dict[str, object]]:
+    """The changes that are enough: null where they are not known."""
+    if advice is None:
+        return None
+    return {"single": remedy_in_json(advice.single), "right_sides": remedy_in_json(advice.together)}
+
+
+def remedy_in_json(remedy: Optional[Remedy]) -> Optional[Dict[str, object]]:
+    if remedy is None:
+        return None
+    changes = []
+    for change in remedy.changes:
+        side = change.side
+        one = {"of": "row" if side.is_row else "column", "name": side.name, "side": "upper" if side.is_upper else "lower"}
+        changes.append({**one, "limit": shown(change.before), "moved_to": shown(change.after), "by": shown(change.by)})
+    return {"total": shown(remedy.total), "changes": changes, "point": point_in_json(remedy.point)}

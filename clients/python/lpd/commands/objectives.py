@@ -14,14 +14,9 @@ from ..ways import Answered
 from .common import number_in, tell, with_decimals
 
 
-def add_objective(parser: argparse.ArgumentParser) -> None:
-    solves = "solves for this row, a later one of type N, in place of the first: its sum less its right side is minimized, or maximized"
-    parser.add_argument("--objective", metavar="ROW", help=solves)
-
-
 def asked_aim(words: argparse.Namespace, text: str, model: Model) -> Optional[Aim]:
     """The model that was given another objective, where one is asked for that it does not have already."""
-    if words.objective is None or words.objective == model.objective:
+    if words.objective == model.objective:
         return None
     found = aimed(text, model, words.objective)
     for note in found.notes:

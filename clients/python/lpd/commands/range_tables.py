@@ -2,7 +2,6 @@
 picture of the optimum over one number."""
 from __future__ import annotations
 
-import argparse
 from fractions import Fraction
 from pathlib import Path
 from typing import Dict, List, Mapping, Optional, Sequence, Tuple
@@ -20,18 +19,8 @@ from .common import number_in, put, table, tell
 PLACES = 4  # of the decimals beside quotients where nothing is said
 
 
-def add_ranges(parser: argparse.ArgumentParser) -> None:
-    shows = "shows for each cost and right side in which range the basis of the optimum stays optimal, and what limits it"
-    parser.add_argument("--ranges", action="store_true", help=shows)
-    draws = "draws the optimum over the right side of this row, or the cost of this column, beyond the range of the basis"
-    parser.add_argument("--plot", metavar="NAME", help=f"{draws}; rhs:NAME and cost:NAME where both have the name")
-    parser.add_argument("--picture", metavar="FILE", help="where that picture goes, as SVG (NAME.svg)")
-
-
-def asked_ranges(words: argparse.Namespace, text: str, answer: Answer) -> Optional[Ranges]:
-    """The ranges, where they are asked for and there are any. Why there are none is told in a line."""
-    if not words.ranges:
-        return None
+def asked_ranges(text: str, answer: Answer) -> Optional[Ranges]:
+    """The ranges, where there are any. Why there are none is told in a line."""
     if not isinstance(answer, Optimal):
         tell(f"lpd: there are no ranges: --ranges are those of an optimum, and the answer is {answer}")
         return None
@@ -107,6 +96,14 @@ def csv_cells(found: Optional[Ranges], what: str, name: str, places: Optional[in
         return ["", "", ""]
     ends = [shown(value) if places is None else rounded(value, places) for value in (one.now, one.low, one.high) if value is not None]
     return [ends.pop(0), "-inf" if one.low is None else ends.pop(0), "inf" if one.high is None else ends.pop(0)]
+
+
+def add_cells(lines: List[List[str]], found: Ranges, places: Optional[int]) -> None:
+    """Puts the cells behind the lines of a table whose first line has the heads."""
+    lines[0] += ["now", "low", "high"]
+    for line in lines[1:]:
+        what = {"column": COST, "row": RHS}.get(line[0])
+        line += csv_cells(found, what, line[1], places) if what else ["", "", ""]
 
 
 # ---- the picture

@@ -6,17 +6,15 @@ import json
 import sys
 from dataclasses import replace
 from fractions import Fraction
-from typing import Dict, List, NamedTuple, Optional
+from typing import TYPE_CHECKING, Dict, List, NamedTuple, Optional, Tuple
 
 from .. import errors
 from ..conversion import Question, convert
 from ..dialects import PROFILE, written
+from ..figures import Style
 from ..floating import CHOICES
 from ..model import Model, read_model
 from ..number_text import rounded, shown
-from ..objective import Aim
-from ..page import write_page
-from ..ranging import COST, RHS, Ranges
 from ..reading import is_lp, read_model_file
 from ..replies import Answer, Infeasible, Optimal, Past, Spent, Unbounded
 from ..report import Report, conflict, report
@@ -24,9 +22,10 @@ from ..version import version
 from ..ways import SECONDS, Answered, Effort, answered
 from .common import add_options, add_presolve, as_text, budget, converted, csv_line, decimals, number_in, options_of, put_beside, seconds, skipped_words
 from .common import PYTHON_ALONE, status_of, table, tell, with_decimals
-from .conflicts import add_iis, found_limits, limits_in_json, print_list, print_sentences
-from .objectives import add_objective, asked_aim, objective_cells, objective_in_json, sentences
-from .range_tables import add_ranges, asked_ranges, csv_cells, draw, number_named, print_ranges, ranges_in_json
+
+if TYPE_CHECKING:
+    from ..objective import Aim
+    from ..ranging import Ranges
 
 SHOWN = ["all", "point", "rows", "prices", "answer"]
 LONG = 40  # a fraction of more characters is shown with decimals beside it
@@ -49,6 +48,7 @@ def add(commands: "argparse._SubParsersAction[argparse.ArgumentParser]") -> None
     add_options(solve)
     add_ways(solve)
     solve.add_argument("--show", choices=SHOWN, default="all", help="what of an optimal point is shown (all)")
+    solve.add_argument("--exact", action="store_true", help="shows numbers as they are, as fractions where they have no short decimal")
     solve.add_argument("--decimals", type=decimals, metavar="D", help="shows D decimals, rounded, beside each fraction; in CSV in place of it")
     solve.add_argument("-o", "--output", metavar="FILE", help="where the answer and its certificate go too, as lpd solve prints them")
     solve.add_argument("--page", metavar="FILE", help="writes a page that checks the model and its certificate in a browser")
@@ -68,19 +68,40 @@ def add_ways(parser: argparse.ArgumentParser) -> None:
     parser.add_argument("--seconds", type=seconds, metavar="N", default=SECONDS, help=limit)
 
 
+def add_objective(parser: argparse.ArgumentParser) -> None:
+    solves = "solves for this row, a later one of type N, in place of the first: its sum less its right side is minimized, or maximized"
+    parser.add_argument("--objective", metavar="ROW", help=solves)
+
+
+def add_ranges(parser: argparse.ArgumentParser) -> None:
+    shows = "shows for each cost and right side in which range the basis of the optimum stays optimal, and what limits it"
+    parser.add_argument("--ranges", action="store_true", help=shows)
+    draws = "draws the optimum over the right side of this row, or the cost of this column, beyond the range of the basis"
+    parser.add_argument("--plot", metavar="NAME", help=f"{draws}; rhs:NAME and cost:NAME where both have the name")
+    parser.add_argument("--picture", metavar="FILE", help="where that picture goes, as SVG (NAME.svg)")
+
+
+def add_iis(parser: argparse.ArgumentParser) -> None:
+    lists = "lists limits that contradict each other, none of which can be left out, with a point for each without it"
+    parser.add_argument("--iis", action="store_true", help=lists)
+
+
 def effort_of(words: argparse.Namespace) -> Effort:
     return Effort(words.budget, words.only_lpd, words.solver, words.seconds, presolve=words.presolve, wide_first=words.wide)
 
 
-def words_for(answer: Answer, model: Model, certificate: List[str]) -> str:
+def words_for(answer: Answer) -> str:
     """What an answer without a point means."""
-    if isinstance(answer, Infeasible):
-        return str(conflict(model, certificate))
     if isinstance(answer, Unbounded):
         return "Feasible points get better without limit, from the x of the certificate along its r."
     if isinstance(answer, Past):
         return "The result of this operation does not fit 127 bits, so lpd solve has no answer."
     return f"The solve is not done after {answer.budget} pivots and flips: --budget allows more." if isinstance(answer, Spent) else ""
+
+
+def style_of(words: argparse.Namespace) -> Style:
+    """How numbers are shown."""
+    return Style(words.exact, words.decimals)
 
 
 def shown_answer(answer: Answer, places: Optional[int]) -> str:
@@ -162,17 +183,19 @@ def as_csv(found: Answered, aim: Optional[Aim], point: Optional[Report], show: s
 
     lines = [["kind", "name", "value", "price", "slack"]]
     lines.append(["answer", str(answer).split(" ")[0], cell(answer.value if isinstance(answer, Optimal) else None), "", ""])
-    lines += [objective_cells(aim, found, places)] if aim else []
+    if aim:
+        from .objectives import objective_cells
+
+        lines.append(objective_cells(aim, found, places))
     is_whole = show != "prices"
     if point and show in ("all", "point", "prices"):
         lines += [["column", c.name, cell(c.value, is_whole), cell(c.reduced_cost), ""] for c in point.columns]
     if point and show in ("all", "rows", "prices"):
         lines += [["row", r.name, cell(r.activity, is_whole), cell(r.price), cell(r.slack, is_whole)] for r in point.rows]
     if ranges:
-        lines[0] += ["now", "low", "high"]
-        for line in lines[1:]:
-            what = {"column": COST, "row": RHS}.get(line[0])
-            line += csv_cells(ranges, what, line[1], places) if what else ["", "", ""]
+        from .range_tables import add_cells
+
+        add_cells(lines, ranges, places)
     return "\n".join(csv_line(line) for line in lines)
 
 
@@ -215,17 +238,23 @@ def loaded(words: argparse.Namespace) -> Loaded:
     if words.max or words.min:
         model, is_other = replace(model, sense=-1 if words.max else 1), True
     text = written(model, PROFILE).text if is_other else text
+    if words.objective is None:
+        return Loaded(text, model, is_other, None)
+    from .objectives import asked_aim
+
     aim = asked_aim(words, text, model)
     return Loaded(text, model, is_other, None) if aim is None else Loaded(aim.text, aim.model, True, aim)
 
 
 def run(words: argparse.Namespace) -> int:
     text, model, is_other, aim = loaded(words)
-    number = number_named(model, words.plot) if words.plot else None
+    number = named_number(words, model)
     found = answered(text, model, effort_of(words))
     if words.output:
         put_beside(words.output, [str(found.answer), *found.certificate], text if is_other else None)
     if words.page:
+        from ..page import write_page
+
         write_page(words.page, text, found.certificate, found.answer)
     point = report(model, found.certificate) if isinstance(found.answer, Optimal) else None
     skipped = skipped_words(model)
@@ -234,47 +263,88 @@ def run(words: argparse.Namespace) -> int:
             tell(skipped)
         if words.csv and words.iis:
             tell("lpd: there is no list: --iis is for text and --json, and CSV has no cells for it")
-        ranges = asked_ranges(words, text, found.answer)
-        is_json = as_json(found, model, point, words.show, words.decimals, more_in_json(words, text, found, ranges, aim)) if words.json else ""
+        ranges = ranges_of(words, text, found.answer)
+        is_json = as_json(found, model, point, words.show, words.decimals, more_in_json(words, text, model, found, ranges, aim)) if words.json else ""
         print(is_json or as_csv(found, aim, point, words.show, words.decimals, ranges))
     else:
         print_answer(words, found, model, point, skipped, aim)
         sys.stdout.flush()
-        print_more(words, text, found)
+        print_more(words, text, found, model)
         print(f"\nlpd {version()}")
     if number:
+        from .range_tables import draw
+
         draw(model, number, words.picture)
     return status_of(found.answer) if found.is_proved or not found.certificate else PYTHON_ALONE
 
 
-def more_in_json(words: argparse.Namespace, text: str, found: Answered, ranges: Optional[Ranges], aim: Optional[Aim]) -> Dict[str, object]:
+def named_number(words: argparse.Namespace, model: Model) -> Optional[Tuple[str, str]]:
+    """The number over which the optimum is to be drawn."""
+    if not words.plot:
+        return None
+    from .range_tables import number_named
+
+    return number_named(model, words.plot)
+
+
+def ranges_of(words: argparse.Namespace, text: str, answer: Answer) -> Optional[Ranges]:
+    """The ranges, where they are asked for and there are any."""
+    if not words.ranges:
+        return None
+    from .range_tables import asked_ranges
+
+    return asked_ranges(text, answer)
+
+
+def more_in_json(
+    words: argparse.Namespace,
+    text: str,
+    model: Model,
+    found: Answered,
+    ranges: Optional[Ranges],
+    aim: Optional[Aim],
+) -> Dict[str, object]:
     """The members that are asked for by name: null where they are not known."""
-    more: Dict[str, object] = {"ranges": ranges_in_json(ranges, words.decimals)} if words.ranges else {}
+    more: Dict[str, object] = {}
+    if words.ranges:
+        from .range_tables import ranges_in_json
+
+        more["ranges"] = ranges_in_json(ranges, words.decimals)
     if aim:
+        from .objectives import objective_in_json
+
         more["objective"] = objective_in_json(aim, found, words.decimals)
     if words.iis:
-        more["iis"] = limits_in_json(found_limits(words, text, found.answer), words.decimals)
+        from . import conflicts
+
+        limits = conflicts.found_limits(words, text, found.answer)
+        more["iis"] = conflicts.limits_in_json(model, limits, words.decimals)
+        if isinstance(found.answer, Infeasible):
+            more["advice"] = conflicts.advice_in_json(conflicts.found_advice(words, model, found.certificate, limits))
     return more
 
 
-def print_more(words: argparse.Namespace, text: str, found: Answered) -> None:
-    """What is asked for behind the answer, and of an infeasible model which limits contradict each other."""
-    ranges = asked_ranges(words, text, found.answer)
+def print_more(words: argparse.Namespace, text: str, found: Answered, model: Model) -> None:
+    """What is asked for behind the answer, and of an infeasible model what contradicts what, and what is enough."""
+    ranges = ranges_of(words, text, found.answer)
     if ranges:
+        from .range_tables import print_ranges
+
         print_ranges(ranges, words.decimals)
     if words.iis or isinstance(found.answer, Infeasible) and words.show != "answer":
-        limits = found_limits(words, text, found.answer)
-        if limits and words.show != "answer":
-            print_sentences(limits)
-        if limits and words.iis:
-            print_list(limits, words.decimals)
+        from .conflicts import print_conflicts
+
+        print_conflicts(words, text, model, found, style_of(words))
 
 
 def print_answer(words: argparse.Namespace, found: Answered, model: Model, point: Optional[Report], skipped: str, aim: Optional[Aim]) -> None:
     """The answer as people read it: first what was not read, and how the answer came where that was not lpd solve alone."""
     lines = [skipped] if skipped else []
     lines.append(shown_answer(found.answer, words.decimals))
-    lines += sentences(aim, found, words.decimals, bool(words.output)) if aim else []
+    if aim:
+        from .objectives import sentences
+
+        lines += sentences(aim, found, words.decimals, bool(words.output))
     if not found.is_by_lpd and found.certificate:
         lines.append(found.told())
     print("\n".join(lines))
@@ -282,5 +352,5 @@ def print_answer(words: argparse.Namespace, found: Answered, model: Model, point
         tell(f"note: {note}")
     if point:
         print_report(point, words.show, words.decimals)
-    elif words.show != "answer":
-        print(words_for(found.answer, model, found.certificate))
+    elif words.show != "answer" and not isinstance(found.answer, Infeasible):
+        print(words_for(found.answer))
