@@ -8,24 +8,18 @@ answer whose certificate the checker in Python alone accepts, since a number pas
 from __future__ import annotations
 
 import argparse
-import difflib
 import os
 import re
 import sys
+from importlib import import_module
 from typing import List, NoReturn, Optional
 
 from . import errors, interrupts
-from .commands import batch, certify, check, convert, plot, solve
 from .commands.common import tell
-from .conversion import Question, Unconvertible
-from .dialects import Inexact
-from .exact import OutOfTime
-from .lp_format import Unreadable
 from .number_text import NotANumber
-from .objective import NoObjective
-from .plotting import NoPicture
 from .version import ShowVersion
 
+COMMANDS = ("solve", "check", "convert", "certify", "batch", "plot")
 EPILOG = __doc__.partition("\n\n")[2] if __doc__ else None
 CLOSED = 141  # as a shell has it for the signal that ends other programs then
 
@@ -34,6 +28,8 @@ class Words(argparse.ArgumentParser):
     """Says which word is wrong, the one that was likely meant, and how help is had."""
 
     def error(self, message: str) -> NoReturn:
+        import difflib  # here, since it is for words that are wrong
+
         unknown = re.search(r"unrecognized arguments: (\S+)|invalid choice: '([^']*)'", message)
         words = [] if unknown is None else difflib.get_close_matches(unknown[1] or unknown[2], self.known(), 1)
         meant = f": did you mean {words[0]}?" if words else ""
@@ -48,39 +44,30 @@ class Words(argparse.ArgumentParser):
         return sorted(found)
 
 
-def parser() -> argparse.ArgumentParser:
+def parser(first: str = "") -> argparse.ArgumentParser:
+    """The words of the command that the first word names, whose module alone is imported then, or of all commands."""
     top = Words(prog="python3 -m lpd", epilog=EPILOG, formatter_class=argparse.RawDescriptionHelpFormatter)
     commands = top.add_subparsers(dest="command", required=True)
-    for command in (solve, check, convert, certify, batch, plot):
-        command.add(commands)
+    for name in [first] if first in COMMANDS else COMMANDS:
+        import_module(f".commands.{name}", __package__).add(commands)
     top.add_argument("--version", action=ShowVersion, nargs=0, help="shows the version and the commit, and ends")
     return top
 
 
 def status_of_error(error: Exception) -> int:
     """Says what went wrong, and gives its status."""
-    if isinstance(error, errors.Refused):
-        tell(f"{errors.readable(error.reply)}\n{error}")
-        return 9
-    if isinstance(error, Question):
-        tell(f"lpd: {error.asked()}.")
-        return 2
-    if isinstance(error, NotANumber):
-        tell(f"lpd: {error} is not a number")
-        return 2
-    if isinstance(error, (NoPicture, check.NoClaim)):
-        tell(f"lpd: {error}")
-        return 2
-    tell(f"lpd: {error}")
-    if isinstance(error, OutOfTime):
-        return 13
-    return 9 if isinstance(error, (Unconvertible, Inexact, NoObjective, Unreadable)) else 3
+    if isinstance(error, errors.LpdError):
+        tell(error.told())
+        return error.ends_with
+    tell(f"lpd: {error} is not a number" if isinstance(error, NotANumber) else f"lpd: {error}")
+    return 2 if isinstance(error, NotANumber) else 3
 
 
 def main(arguments: Optional[List[str]] = None) -> int:
     try:
         interrupts.raised()
-        words = parser().parse_args(arguments)
+        given = sys.argv[1:] if arguments is None else arguments
+        words = parser(*given[:1]).parse_args(given)
         status: int = words.run(words)
         sys.stdout.flush()
         return status

@@ -31,6 +31,8 @@ FOREIGN = {
 class Unconvertible(LpdError):
     """The text has something that no linear program has, or names what is not there."""
 
+    ends_with = 9
+
     def __init__(self, line: int, why: str) -> None:
         self.line = line
         super().__init__(f"line {line}: {why}")
@@ -39,10 +41,15 @@ class Unconvertible(LpdError):
 class Question(LpdError):
     """The text can be read in two ways, so the reader has to say which. `option` is the argument that says it."""
 
+    ends_with = 2
+
     def __init__(self, line: int, what: str, option: str, choices: Sequence[str]) -> None:
         self.line, self.option = line, option
         self.choices = tuple(choices)
         super().__init__(f"line {line}: {what}")
+
+    def told(self) -> str:
+        return f"lpd: {self.asked()}."
 
     def asked(self) -> str:
         """The question with the words of a command that answer it."""

@@ -16,6 +16,8 @@ DIGITS = 17  # enough for each float to be read back
 class Inexact(LpdError):
     """A number has no finite decimal, and the program reads no quotients."""
 
+    ends_with = 9
+
 
 def with_dollar_before(name: str) -> bool:
     return name.startswith("$")

@@ -21,7 +21,13 @@ def quoted(text: Optional[str]) -> str:
 
 
 class LpdError(Exception):
-    """Whatever goes wrong in this package."""
+    """Whatever goes wrong in this package. A command ends with the status `ends_with` then."""
+
+    ends_with = 3
+
+    def told(self) -> str:
+        """What a command says then."""
+        return f"lpd: {self}"
 
 
 class ProgramMissing(LpdError):
@@ -78,12 +84,16 @@ class Unexpected(LpdError):
 class Refused(LpdError):
     """A command, a text or a certificate is refused. `reply` is the line of the protocol, from ERR on."""
 
+    ends_with = 9
     code = 0
     hint = ""
 
     def __init__(self, reply: str, words: str) -> None:
         self.reply = reply
         super().__init__(f"{words}. {self.hint}" if self.hint else words)
+
+    def told(self) -> str:
+        return f"{readable(self.reply)}\n{self}"
 
 
 class BadCommand(Refused):

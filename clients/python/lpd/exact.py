@@ -27,6 +27,8 @@ STALLED = 20  # so many steps that do not move, and then Bland's rule
 class OutOfTime(LpdError):
     """The steps are not done in the time that they may take."""
 
+    ends_with = 13
+
 
 class Watch:
     """Lets exact steps go on for so many seconds from the beginning of the block that it manages, or for ever. On a terminal it

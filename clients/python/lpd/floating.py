@@ -16,7 +16,6 @@ from .errors import LpdError
 from .exact import BASIC, LOWER, UPPER, Basis
 from .model import Model, Row
 from .number_text import NotANumber, parse
-from .rough import rough_basis
 
 Parts = Dict[str, Fraction]
 
@@ -191,6 +190,8 @@ def ask(name: str, model: Model, seconds: Optional[float] = None) -> Claim:
     """What a solver says of the model, written with plain names, without its free rows, and with numbers rounded where it reads no
     quotients. Without a solver there is a rough basis of the package's own."""
     if name == NONE:
+        from .rough import rough_basis  # here, since few commands need it
+
         return Claim("nothing", basis=rough_basis(model, seconds))
     solver = SOLVERS[name]
     if not shutil.which(name):

@@ -2,7 +2,6 @@
 from __future__ import annotations
 
 import socket
-import ssl
 import time
 from collections import deque
 from typing import Deque, List, Optional, Sequence
@@ -16,12 +15,17 @@ PIECE = 2**16
 TIMEOUT = 60.0
 
 
+class NotEncrypted(Exception):
+    """Why a link is not encrypted as it should be."""
+
+
 def encrypted(link: socket.socket, host: str, ca: Optional[str]) -> socket.socket:
-    return ssl.create_default_context(cafile=ca).wrap_socket(link, server_hostname=host)
+    import ssl  # here, since that takes long and few links need it
 
-
-def reason_of(error: ssl.SSLError) -> str:
-    return getattr(error, "verify_message", "") or error.reason or str(error)
+    try:
+        return ssl.create_default_context(cafile=ca).wrap_socket(link, server_hostname=host)
+    except ssl.SSLError as error:
+        raise NotEncrypted(getattr(error, "verify_message", "") or error.reason or str(error)) from None
 
 
 class Link:
@@ -43,9 +47,9 @@ class Link:
             self.socket.setsockopt(socket.IPPROTO_TCP, socket.TCP_NODELAY, 1)
             if tls or ca:
                 self.socket = encrypted(self.socket, host, ca)
-        except ssl.SSLError as error:
+        except NotEncrypted as why:
             self.close()
-            raise ConnectFailed(f"the link to {self.peer} is not encrypted as it should be: {reason_of(error)}") from None
+            raise ConnectFailed(f"the link to {self.peer} is not encrypted as it should be: {why}") from None
         except socket.timeout:
             self.close()
             raise ConnectFailed(f"{self.peer} does not answer within {timeout} seconds") from None

@@ -22,6 +22,8 @@ ROW_KINDS = {"f": "N", "l": "G", "u": "L", "d": "G", "s": "E"}
 class Unreadable(LpdError):
     """A file holds no text of a model."""
 
+    ends_with = 9
+
 
 def from_lp(data: bytes, name: str, end: str = ".lp") -> bytes:
     """The MPS text of a model in the format with this end of a name, as glpsol reads it."""

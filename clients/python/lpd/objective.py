@@ -22,6 +22,8 @@ from .session import Session
 class NoObjective(LpdError):
     """The row has limits, so that it is none to be minimized or maximized in place of the objective."""
 
+    ends_with = 9
+
 
 @dataclass(frozen=True)
 class Aim:

@@ -25,6 +25,8 @@ COLOURS = ("firebrick", "seagreen", "darkorange", "purple", "teal", "saddlebrown
 class NoPicture(LpdError):
     """There is nothing to be shown."""
 
+    ends_with = 2
+
 
 class Side(NamedTuple):
     """The points with a x + b y at least c. `name` is the row's, or the column's."""

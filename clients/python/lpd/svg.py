@@ -3,13 +3,16 @@ from __future__ import annotations
 
 from fractions import Fraction
 from typing import List, NamedTuple, Sequence, Tuple
-from xml.sax.saxutils import escape
-
 from .number_text import rounded, shown
 
 Point = Tuple[Fraction, Fraction]
 WIDTH, HEIGHT, LEFT, RIGHT, TOP, FOOT = 720, 480, 80, 40, 34, 50
 TICKS = 5
+
+
+def escape(text: str) -> str:
+    """A text as XML has it."""
+    return text.replace("&", "&amp;").replace("<", "&lt;").replace(">", "&gt;")
 
 
 class Box(NamedTuple):

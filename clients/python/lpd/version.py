@@ -3,7 +3,6 @@ from __future__ import annotations
 
 import argparse
 import subprocess
-from importlib import metadata
 from pathlib import Path
 from typing import Optional
 
@@ -18,6 +17,8 @@ def version() -> str:
     if RELEASE.exists():
         return RELEASE.read_text(encoding="ascii").strip()
     if not (REPOSITORY / "VERSION").exists():
+        from importlib import metadata  # here, since that takes long
+
         return metadata.version("lpd")
     number = (REPOSITORY / "VERSION").read_text(encoding="ascii").strip()
     return f"{number} {commit()}".strip()
