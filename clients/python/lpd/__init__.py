@@ -64,7 +64,7 @@ if TYPE_CHECKING:
     from .program import Program, run
     from .ranging import Range, Ranges, ranges
     from .remedy import Advice, Change, Remedy, advise
-    from .replies import Accepted, Answer, Infeasible, Loaded, Optimal, Past, Rejected, Spent, Unbounded, Verdict
+    from .replies import Accepted, Answer, Infeasible, Loaded, Open, Optimal, Past, Rejected, Spent, Unbounded, Verdict
     from .replies import Basis, Cold, Fell, Found, Full, Published, Raced, Same, Unpublished
     from .session import Session, connect
     from .ways import Answered, Effort, answered
@@ -94,7 +94,7 @@ HOMES = {
     "ranging": "Range Ranges ranges",
     "remedy": "Advice Change Remedy advise",
     "replies": (
-        "Accepted Answer Infeasible Loaded Optimal Past Rejected Spent Unbounded Verdict Basis Cold Fell Found Full "
+        "Accepted Answer Infeasible Loaded Open Optimal Past Rejected Spent Unbounded Verdict Basis Cold Fell Found Full "
         "Published Raced Same Unpublished"
     ),
     "session": "Session connect",
@@ -160,6 +160,7 @@ __all__ = [
     "NoAnswer",
     "NoModel",
     "NumberTooWide",
+    "Open",
     "Optimal",
     "Options",
     "OutOfMemory",

@@ -18,7 +18,7 @@ from .floating import NONE, Claim, ask
 from .from_basis import FromBasis, solve_from
 from .judging import LPD_CHECK, PYTHON_ALONE, TOO_WIDE, NotCertified, judged
 from .model import Model, read_model
-from .replies import Accepted, Answer, Known, Optimal, Past, Spent
+from .replies import Accepted, Answer, Known, Open, Optimal, Past, Spent
 
 PROGRAM, PYTHON = "lpd", "python"
 WAYS = (PROGRAM, PYTHON)
@@ -112,7 +112,7 @@ def answered(text: str, basis: Sequence[str], command: str = BASIS, seconds: Opt
         raise
     except (OutOfTime, ProgramEnded) as ended:
         raise NotAnswered(str(ended), command=command) from None
-    if isinstance(found.answer, (Past, Spent)):
+    if isinstance(found.answer, (Past, Spent, Open)):
         began = f" ({found.start})" if found.start.startswith("FELL") else ""
         raise NotAnswered(f"it ends with {found.answer}{began}", found.answer, command)
     return found

@@ -143,7 +143,8 @@ class TextFault(Refused):
     def __init__(self, line: int, fault: int, text: Optional[str] = None) -> None:
         self.line, self.fault, self.text = line, fault, text
         what, self.hint = FAULTS[fault]
-        if fault == TOO_WIDE and any(is_far(word) for word in (text or "").split()):
+        self.is_far = fault == TOO_WIDE and any(is_far(word) for word in (text or "").split())
+        if self.is_far:
             what, self.hint = FAR
         super().__init__(f"ERR 8 MPS {line} M{fault}", f"line {line} of the model's text: {what} (fault {fault}){quoted(text)}")
 
@@ -211,7 +212,7 @@ class CertificateFault(Refused):
             what, self.hint = "has a number whose exponent is past 16384", EXPONENTS.capitalize()
         elif self.is_wide:
             what = "has a number past 127 bits"
-            self.hint = "Numbers of any width are for lpd check --wide, and for the checker in Python with --wide (wide=True)."
+            self.hint = "For numbers of any width use --wide, as in lpd check --wide, and in Python wide=True."
         super().__init__(f"ERR 14 CERT {line}", f"line {line} of the certificate {what}{quoted(text)}")
 
 

@@ -8,7 +8,7 @@ from .errors import CommandMissing, ProgramEnded, ProgramMissing, Refused, Unexp
 from .exact import OutOfTime
 from .model import words_of
 from .program import the_program
-from .replies import Answer, Spent
+from .replies import Answer, Open, Spent
 from .session import count_of, encoded, known_of, past_of
 
 REFUSED, BAD_WORDS = 9, 2
@@ -64,7 +64,7 @@ def answer_in(lines: Sequence[str], at: int, command: str) -> Answer:
     """The answer that stands in a line of what a command wrote."""
     words = words_of(lines[at]) if at < len(lines) else []
     spent = Spent(count_of(words[1])) if len(words) == 2 and words[0] == "SPENT" else None
-    answer = known_of(words) or past_of(words) or spent
+    answer = known_of(words) or past_of(words) or spent or (Open() if words == ["OPEN"] else None)
     if answer is None:
         raise unexpected_of(command, words, "an answer stands")
     return answer

@@ -56,8 +56,16 @@ class Spent:
         return f"SPENT {self.budget}"
 
 
+@dataclass(frozen=True)
+class Open:
+    """There is no answer, neither by the basis of a run in floating point nor in words of the width that the program has."""
+
+    def __str__(self) -> str:
+        return "OPEN"
+
+
 Known = Union[Optimal, Infeasible, Unbounded]
-Answer = Union[Known, Past, Spent]
+Answer = Union[Known, Past, Spent, Open]
 
 
 @dataclass(frozen=True)

@@ -1,14 +1,15 @@
 """An answer by whichever way there is.
 
-The first way is the program's own solve. Where it ends past 127 bits, or after the pivots that it makes where nobody sets a
-budget, a person still wants an answer. The other ways are, one after the other:
+The first way is `lpd solve --wide`, which mostly answers within a second, by a run in floating point whose basis it makes exact. Where
+a budget is set, or the program alone is wanted, or no number past 127 bits, it is the program's own solve, or else its presolve. Where
+the first way has no answer, a person still wants one. The other ways are, one after the other:
 
-1. past 127 bits `lpd solve --wide`, whose numbers have more of them;
+1. behind `lpd solve` or `lpd presolve` that ended past 127 bits `lpd solve --wide`;
 2. if another solver is there, its basis, made exact by `lpd basis --wide` or by exact steps in Python; first where it is named;
-3. past 127 bits `lpd presolve`, in whose smaller model numbers are often shorter;
+3. `lpd presolve`, in whose smaller model numbers are often shorter;
 4. a basis that rough steps in Python come to, made exact likewise.
 
-They have some seconds together: the first may take a quarter, each further one half of those that are left, and the last one
+They have some seconds together: the first may take a half, each further one half of those that are left, and the last one
 all. Whatever finds an answer, its certificate is judged, and it is said who accepted it.
 """
 from __future__ import annotations
@@ -28,11 +29,12 @@ from .judging import LPD_CHECK, LPD_CHECK_WIDE, TOO_WIDE, Judged, NotCertified, 
 from .model import Model
 from .presolving import Presolved, Size, presolve
 from .program import Program
-from .replies import Accepted, Answer, Past, Spent
+from .replies import Accepted, Answer, Open, Past, Spent
 from .session import Session
 from .wide import solve_wide
 
-SECONDS = 60.0  # for all other ways of a model together
+SECONDS = 60.0  # for all ways of a model together but lpd solve
+OUT_OF_MEMORY = 5  # the status of the program
 BOTH, WIDE, ALONE = (f"{LPD_CHECK} and the checker in Python", f"{LPD_CHECK_WIDE} and the checker in Python", "the checker in Python alone")
 SOLVE, PRESOLVE, SOLVE_WIDE = "lpd solve", "lpd presolve", "lpd solve --wide"
 
@@ -44,9 +46,10 @@ class WayFailed(LpdError):
 @dataclass(frozen=True)
 class Effort:
     """How far it goes: at most so many pivots of the program (a number that is set is kept to, unless a solver is named),
-    whether the program alone is asked, which other solver (else the first that is there), how many seconds the other ways
-    have, and how many the program's own solve has (else as many as it takes). With `presolve` that is `lpd presolve`, and with
-    `wide_first` `lpd solve --wide`, which have a budget of their own. Without `wide` no answer is taken whose numbers pass 127 bits."""
+    whether the program alone is asked, which other solver (else the first that is there), how many seconds all ways but `lpd solve`
+    have, and how many that has (else as many as it takes). `wide_first` says whether `lpd solve --wide` is asked first, which is so
+    where it says nothing and nothing else is asked for. With `presolve` `lpd presolve` is. Both have a budget of their own. Without
+    `wide` no answer is taken whose numbers pass 127 bits."""
 
     budget: Optional[int] = None
     only_lpd: bool = False
@@ -54,13 +57,20 @@ class Effort:
     seconds: float = SECONDS
     solve_seconds: Optional[float] = None
     presolve: bool = False
-    wide_first: bool = False
+    wide_first: Optional[bool] = None
     wide: bool = True
+
+    @property
+    def begins_wide(self) -> bool:
+        """Whether `lpd solve --wide` comes first."""
+        if self.wide_first is not None:
+            return self.wide_first
+        return self.wide and not (self.only_lpd or self.presolve) and self.budget is None
 
 
 @dataclass(frozen=True)
 class Answered:
-    """An answer, and its certificate, which Past and Spent have not; by which way it came, and who accepted the certificate
+    """An answer, and its certificate, which Past, Spent and Open have not; by which way it came, and who accepted the certificate
     (BOTH, WIDE, or ALONE and why). The notes say what came of the ways that led to none. `reduced` is the size of the smaller model that
     `lpd presolve` solved, and `solver` whose basis was made exact, if one was: another solver's, or NONE's."""
 
@@ -80,13 +90,14 @@ class Answered:
 
     @property
     def is_by_lpd(self) -> bool:
-        """Whether it is the answer of the program's own solve."""
-        return self.way == SOLVE
+        """Whether it is the answer of the program's own solve, as narrow or as wide as its numbers are."""
+        return self.way in (SOLVE, SOLVE_WIDE)
 
     def told(self) -> str:
         """How the answer came, in a sentence."""
         accepted = f", accepted by {self.accepted_by}" if self.accepted_by else ""
-        return f"This answer is by {self.way}{accepted}." if self.certificate else ""
+        within = ": its certificate is within 127 bits" if self.accepted_by == BOTH else ""
+        return f"This answer is by {self.way}{accepted}{within}." if self.certificate else ""
 
 
 def other_solver(named: Optional[str]) -> str:
@@ -200,17 +211,23 @@ def accepted_by(found: Judged) -> str:
 
 
 def by_program(text: str, model: Model, effort: Effort) -> Answered:
-    """The answer of the program's own solve, or of its presolve or its wide solve where that is asked for and the program has it."""
-    if not effort.presolve and not effort.wide_first:
-        return by_lpd(text, model, effort.budget, effort.solve_seconds)
+    """The answer of the program's own solve, or of its wide solve or its presolve where those come first and the program has them."""
     try:
         if effort.presolve:
             return by_presolve(text, model, effort.solve_seconds)
-        with Watch(effort.seconds) as watch:
-            return by_solve_wide(text, model, watch)
+        if effort.begins_wide:
+            with Watch(effort.seconds) as watch, watch_of(effort, watch) as part:
+                return by_solve_wide(text, model, part)
     except CommandMissing as missing:
         found = by_lpd(text, model, effort.budget, effort.solve_seconds)
-        return replace(found, notes=[f"{missing}, so lpd solve was asked", *found.notes])
+        is_told = effort.presolve or effort.wide_first
+        return replace(found, notes=[*([f"{missing}, so lpd solve was asked"] if is_told else []), *found.notes])
+    return by_lpd(text, model, effort.budget, effort.solve_seconds)
+
+
+def watch_of(effort: Effort, watch: Watch) -> Watch:
+    """That of the first way: half of the seconds where others may follow."""
+    return watch if effort.only_lpd else watch.half()
 
 
 def by_lpd_first(text: str, model: Model, effort: Effort) -> "tuple[Optional[Answered], str]":
@@ -221,9 +238,22 @@ def by_lpd_first(text: str, model: Model, effort: Effort) -> "tuple[Optional[Ans
         if fault.fault != TOO_WIDE or effort.only_lpd or not effort.wide:
             raise
         return None, f"line {fault.line} of the model has a number past 127 bits"
+    except (OutOfTime, ProgramEnded) as failed:
+        if not effort.begins_wide or effort.only_lpd or isinstance(failed, ProgramEnded) and failed.status != OUT_OF_MEMORY:
+            raise
+        return None, str(failed)
     is_meant = isinstance(found.answer, Spent) and effort.budget is not None and effort.solver is None
-    ended = f"{found.way.partition(',')[0]} ends with {found.answer}"
-    return found, "" if found.certificate or effort.only_lpd or is_meant else ended
+    return found, "" if found.certificate or effort.only_lpd or is_meant else ended_with(found)
+
+
+def ended_with(found: Answered) -> str:
+    """Why a first try has no answer."""
+    way = found.way.partition(",")[0]
+    if isinstance(found.answer, Past):
+        return f"the first try, {way}, ran out of digits"
+    if isinstance(found.answer, Spent):
+        return f"the first try, {way}, was not done after {found.answer.budget} pivots"
+    return f"the first try, {way}, has no answer"
 
 
 # ---- the other ways: each answers, or says by WayFailed or OutOfTime that it does not
@@ -264,8 +294,8 @@ def from_own_basis(text: str, model: Model, effort: Effort, watch: Watch) -> Ans
 
 def ways_after(first: Optional[Answered], effort: Effort) -> List[Way]:
     """The ways that are left, in their order, where the program ended so, or refused a text with such numbers."""
-    past = first.way.partition(",")[0] if first is not None and isinstance(first.answer, Past) else None
-    wide: List[Way] = [by_solve_wide_then] if past in (SOLVE, PRESOLVE) and effort.wide and not effort.wide_first else []
+    past = first.way.partition(",")[0] if first is not None and isinstance(first.answer, (Past, Open)) else None
+    wide: List[Way] = [by_solve_wide_then] if past in (SOLVE, PRESOLVE) and effort.wide and effort.wide_first is None else []
     basis: List[Way] = [from_another_basis] if other_solver(effort.solver) != NONE else []
     smaller: List[Way] = [by_presolve_then] if past in (SOLVE, SOLVE_WIDE) else []
     return [*(wide + basis if effort.solver is None else basis + wide), *smaller, from_own_basis]
@@ -277,7 +307,7 @@ def answered(text: str, model: Model, effort: Effort = Effort()) -> Answered:
     if first is not None and not ended:
         return first
     notes, ways = [*(first.notes if first else []), ended], ways_after(first, effort)
-    with Watch(effort.seconds) as watch:
+    with Watch(effort.seconds if first is not None or not effort.begins_wide else effort.seconds / 2) as watch:
         for way in ways:
             try:
                 if way is ways[-1]:

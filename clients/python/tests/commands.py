@@ -7,6 +7,7 @@ from unittest import mock
 
 from lpd.__main__ import main
 from lpd.version import version
+from lpd.ways import BOTH
 
 
 class Said(NamedTuple):
@@ -36,6 +37,14 @@ def command(*words: str, stdin: bytes = b"") -> Said:
     return Said(status, output.data().decode("latin-1"), complaints.getvalue())
 
 
-def reported(text: str) -> str:
-    """A report of the command solve, whose last line names the version."""
-    return f"{text}\nlpd {version()}\n"
+def unwrapped(text: str) -> str:
+    """A report whose sentences stand in one line each."""
+    return text.replace("\n  ", " ")
+
+
+AS_EVER = f"This answer is by lpd solve --wide, accepted by {BOTH}: its certificate is within 127 bits."
+
+
+def reported(text: str, told: str = "") -> str:
+    """A report of the command solve, whose last lines say how the answer came, where that is told there, and name the version."""
+    return "\n".join([text, *([told] if told else []), f"lpd {version()}", ""])

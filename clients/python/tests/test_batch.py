@@ -95,7 +95,7 @@ class Batch(unittest.TestCase):
         for row in rows:
             words = (MODELS / f"{row['model']}.solved").read_text().splitlines()[0].split()
             self.assertEqual([row["answer"], row["value"]], [words[0], words[1] if len(words) > 1 else ""])
-            self.assertEqual((row["way"], row["accepted by"]), ("lpd solve", "lpd check"))
+            self.assertEqual((row["way"], row["accepted by"]), ("lpd solve --wide", "lpd check"))
         self.assertIn("8/8 transport\n", said.complaints)
 
     def test_a_table_and_csv(self) -> None:
@@ -104,7 +104,7 @@ class Batch(unittest.TestCase):
         said = command("batch", str(MODELS), "--csv")
         lines = said.output.splitlines()
         self.assertEqual((lines[0], len(lines)), (",".join(COLUMNS), 9))
-        self.assertTrue(lines[4].startswith("diet,3,6,OPTIMAL,92.5,lpd solve,lpd check,10,"))
+        self.assertTrue(lines[4].startswith("diet,3,6,OPTIMAL,92.5,lpd solve --wide,lpd check,,"))
 
     def test_what_is_refused_and_asked(self) -> None:
         with tempfile.TemporaryDirectory() as folder:

@@ -188,12 +188,16 @@ class TheCommand(unittest.TestCase):
             self.assertIn("no newline behind ENDATA", said.complaints)
 
     def test_a_number_past_127_bits(self) -> None:
-        said = self.said(certificate=f"OPTIMAL\nx a 1\ny R1 {10**40}\nEND\n")
-        self.assertEqual(said.status, 9)
-        self.assertIn("line 3 of the certificate has a number past 127 bits", said.complaints)
-        self.assertIn("--wide", said.complaints)
-        self.assertNotIn("The first line is", said.complaints)
-        self.assertEqual(self.said("--wide", certificate=f"OPTIMAL\nx a 1\ny R1 {10**40}\nEND\n").status, 1)
+        """It is taken as it is, with --wide and without."""
+        certificate = f"OPTIMAL\nx a 1\ny R1 {10**40}\nEND\n"
+        self.assertEqual(self.said(certificate=certificate).output.splitlines()[0], "NO 3")
+        self.assertEqual(self.said("--wide", certificate=certificate), self.said(certificate=certificate))
+        text, certificate = LEAST.replace("R1 1\nENDATA", f"R1 {10**60}\nENDATA"), f"OPTIMAL\nx a {10**60}\ny R1 1\nEND\n"
+        said = self.said(text=text, certificate=certificate)
+        self.assertEqual((said.status, said.output.splitlines()[0]), (0, f"YES OPTIMAL {10**60 + 3}"))
+        self.assertIn("accepted by", said.output.splitlines()[1])
+        with self.assertRaisesRegex(lpd.CertificateFault, "line 2 of the certificate has a number past 127 bits.*use --wide"):
+            lpd.check(LEAST, certificate)
 
     def test_an_exponent_that_is_read_at_no_width(self) -> None:
         for words in ((), ("--wide",)):

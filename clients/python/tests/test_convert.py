@@ -16,7 +16,7 @@ from lpd.dialects import DIALECTS, PROFILE, Inexact, written
 from lpd.model import Model, Row
 from lpd.names import Renamed
 
-from .commands import command, reported
+from .commands import AS_EVER, command, reported
 from .models import has_program, some_model
 
 MODELS = Path(__file__).resolve().parents[3] / "examples" / "models"
@@ -306,7 +306,7 @@ class Command(unittest.TestCase):
         self.assertEqual(said.output.splitlines()[1:3], ["answer,OPTIMAL,5,,", "column,x,3,-1,"])
         self.assertEqual(said.complaints, "1 CARD OF OTHER SETS NOT READ: line 11 (docs/FORMATS.md)\n")
         said = command("solve", "-", "--show", "prices", "--decimals", "1", stdin=PLAIN.encode())
-        self.assertEqual(said.output, reported("OPTIMAL 5 (5.0)\n\nrow   price\nneed  2 (2.0)\n\ncolumn  reduced cost\nx       -1 (-1.0)\n"))
+        self.assertEqual(said.output, reported("OPTIMAL 5 (5.0)\n\nrow   price\nneed  2 (2.0)\n\ncolumn  reduced cost\nx       -1 (-1.0)\n", AS_EVER))
 
 
 class ForOthers(unittest.TestCase):

@@ -19,7 +19,7 @@ from lpd.once import has_command
 from lpd.presolving import Size, read_presolved
 from lpd.ways import BOTH, Effort, answered
 
-from .commands import command, reported
+from .commands import command, reported, unwrapped
 from .models import has_program, some_model, the_basis
 
 MODELS = Path(__file__).resolve().parents[3] / "examples" / "models"
@@ -90,7 +90,7 @@ class Ways(unittest.TestCase):
             self.assertEqual(said, (0, reported("OPTIMAL 92.5\n"), "note: this program has no command presolve, so lpd solve was asked\n"))
             with mock.patch("lpd.ways.by_lpd", return_value=lpd.Answered(PAST, [], "lpd solve")):
                 said = command("solve", str(MODELS / "diet.mps"), "--with", "none", "--show", "answer")
-        self.assertEqual((said.status, said.complaints), (0, f"note: lpd solve ends with PAST ADD 1 2\nnote: {NO_WIDE}\n"))
+        self.assertEqual((said.status, said.complaints), (0, f"note: the first try, lpd solve, ran out of digits\nnote: {NO_WIDE}\n"))
         self.assertIn(f"This answer is by {the_basis()} from a basis of its own", said.output)
 
     def test_another_solvers_basis_comes_before_it(self) -> None:
@@ -100,7 +100,7 @@ class Ways(unittest.TestCase):
             found = answered(TEXT, lpd.read_model(TEXT))
         asked.assert_not_called()
         self.assertEqual((found.answer, found.accepted_by, found.solver, found.reduced), (KNOWN.answer, BOTH, "glpsol", None))
-        self.assertEqual((found.way, found.notes), (f"{the_basis()} from glpsol's basis, in 0 pivots", ["lpd solve ends with PAST ADD 1 2", NO_WIDE]))
+        self.assertEqual((found.way, found.notes), (f"{the_basis()} from glpsol's basis, in 0 pivots", ["the first try, lpd solve, ran out of digits", NO_WIDE]))
 
     def test_it_comes_where_no_basis_leads_to_an_answer(self) -> None:
         """Where no other solver is on the path, or the one that is there gives none or is too slow for the seconds."""
@@ -113,7 +113,7 @@ class Ways(unittest.TestCase):
             with self.past(), way, mock.patch("lpd.ways.presolve", return_value=KNOWN), self.subTest(notes):
                 found = answered(TEXT, lpd.read_model(TEXT))
                 self.assertEqual((found.answer, found.way, found.accepted_by, found.reduced), (KNOWN.answer, BY_PRESOLVE, BOTH, Size(1, 2)))
-                self.assertEqual((found.notes, found.solver), (["lpd solve ends with PAST ADD 1 2", NO_WIDE, *notes], None))
+                self.assertEqual((found.notes, found.solver), (["the first try, lpd solve, ran out of digits", NO_WIDE, *notes], None))
 
     def test_where_it_is_not_asked(self) -> None:
         """Where the program alone is wanted, and behind a budget that is spent."""
@@ -145,7 +145,8 @@ class WithTheProgram(unittest.TestCase):
 
     def test_solve(self) -> None:
         said = command("solve", "-", "--presolve", "--show", "answer", stdin=TEXT.encode())
-        self.assertEqual(said, (0, reported(f"OPTIMAL 2\nThis answer is by {BY_PRESOLVE}, accepted by {BOTH}.\n"), ""))
+        told = f"This answer is by {BY_PRESOLVE}, accepted by {BOTH}: its certificate is within 127 bits."
+        self.assertEqual((said.status, unwrapped(said.output), said.complaints), (0, reported(f"OPTIMAL 2\n{told}\n"), ""))
         told = json.loads(command("solve", "-", "--presolve", "--json", stdin=TEXT.encode()).output)
         self.assertEqual((told["reduced"], told["way"]), ({"rows": 1, "columns": 2}, BY_PRESOLVE))
         self.assertNotIn("reduced", json.loads(command("solve", "-", "--json", stdin=TEXT.encode()).output))

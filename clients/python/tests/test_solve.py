@@ -19,7 +19,7 @@ from lpd.certifying import NotAnswered
 from lpd.version import version
 from lpd.ways import ALONE, BOTH
 
-from .commands import command, reported
+from .commands import command, reported, unwrapped
 from .models import has_program, the_basis
 
 PACKAGE = Path(__file__).resolve().parents[1]
@@ -77,7 +77,7 @@ class Shown(unittest.TestCase):
         self.assertEqual(told["columns"]["x"]["value"], "1/3")
         self.assertEqual(told["columns"]["x"]["decimals"], {"value": 1 / 3, "reduced_cost": 0.0})
         self.assertEqual(told["rows"]["need"]["price"], "1/3")
-        self.assertEqual((told["way"], told["accepted_by"], told["cards_not_read"]), ("lpd solve", BOTH, []))
+        self.assertEqual((told["way"], told["accepted_by"], told["cards_not_read"]), ("lpd solve --wide", BOTH, []))
         self.assertEqual(told["lpd"], version())
         told = json.loads(command("solve", "-", "--json", "--decimals", "2", stdin=THIRD.encode()).output)
         self.assertEqual(told["columns"]["x"]["decimals"], {"value": 0.33, "reduced_cost": 0.0})
@@ -190,7 +190,7 @@ class GoingOn(unittest.TestCase):
         said = command("solve", "-", "--with", "none", "--show", "answer", stdin=WIDE.encode())
         self.assertEqual(said.status, 14)
         self.assertEqual(said.output.splitlines()[0], f"OPTIMAL {10**50}/3 (33333333333333333333333333333333333333333333333333.3333333333)")
-        self.assertIn(f"by exact steps in Python from a basis of its own, 0 of them, accepted by {ALONE}, since line 7 of the model has", said.output)
+        self.assertIn(f"by exact steps in Python from a basis of its own, 0 of them, accepted by {ALONE}, since line 7 of the model has", unwrapped(said.output))
         self.assertEqual(command("solve", "-", "--only-lpd", stdin=WIDE.encode()).status, 9)
 
     def test_from_past(self) -> None:
@@ -199,9 +199,9 @@ class GoingOn(unittest.TestCase):
                 with mock.patch("lpd.ways.by_lpd", return_value=PAST), self.subTest(solver):
                     said = command("solve", DIET, "--with", solver)
                     self.assertEqual((said.status, said.output.splitlines()[0]), (0, "OPTIMAL 92.5"))
-                    self.assertIn(f"This answer is by {the_basis()} from {begin}, in 0 pivots", said.output.splitlines()[1])
-                    self.assertIn(f"accepted by {BOTH}.", said.output.splitlines()[1])
-                    self.assertIn("lpd solve ends with PAST ADD 1 2", said.complaints)
+                    told = unwrapped(said.output).splitlines()[1]
+                    self.assertIn(f"This answer is by {the_basis()} from {begin}, in 0 pivots, accepted by {BOTH}: its certificate", told)
+                    self.assertIn("the first try, lpd solve, ran out of digits", said.complaints)
 
     def test_only_lpd(self) -> None:
         with mock.patch("lpd.ways.by_lpd", return_value=PAST):
@@ -226,4 +226,4 @@ class GoingOn(unittest.TestCase):
         with mock.patch("lpd.ways.by_lpd", return_value=PAST):
             told = json.loads(command("solve", DIET, "--with", "none", "--json").output)
         self.assertTrue(told["way"].startswith(f"{the_basis()} from a basis of its own"))
-        self.assertEqual((told["accepted_by"], told["notes"]), (BOTH, ["lpd solve ends with PAST ADD 1 2", "this program has no command solve --wide"]))
+        self.assertEqual((told["accepted_by"], told["notes"]), (BOTH, ["the first try, lpd solve, ran out of digits", "this program has no command solve --wide"]))

@@ -20,7 +20,7 @@ from lpd.once import has_command
 from lpd.ways import ALONE, BOTH, WIDE, Effort, answered
 from lpd.wide import read_wide_solved
 
-from .commands import command, reported
+from .commands import command, reported, unwrapped
 from .models import has_program
 from .standing_in import DOES_NOT_KNOW, program, program_with_wide
 
@@ -85,9 +85,8 @@ class Wide(unittest.TestCase):
             with program("echo YES OPTIMAL 1"):
                 self.assertEqual(said(TEXT), (3, ""))
             narrow = command("check", "-", str(certificate), stdin=TEXT.encode())
-        self.assertEqual((narrow.status, narrow.output), (9, ""))
-        self.assertIn(TOO_WIDE, narrow.complaints)
-        self.assertIn("lpd check --wide", narrow.complaints)
+        self.assertEqual((narrow.status, narrow.output.splitlines()[0], narrow.complaints), (0, f"YES OPTIMAL {VALUE}", ""))
+        self.assertIn("accepted by ", narrow.output.splitlines()[1])
 
     def test_certify(self) -> None:
         with program_with_wide():
@@ -111,7 +110,7 @@ class Wide(unittest.TestCase):
         with program(DOES_NOT_KNOW):
             said = command("solve", "-", "--with", "none", "--show", "answer", stdin=TEXT.encode())
         self.assertEqual(said.status, 14)
-        self.assertIn(f"accepted by {ALONE}, since {TOO_WIDE}, and {NO_COMMAND}.\n", said.output)
+        self.assertIn(f"accepted by {ALONE}, since {TOO_WIDE}, and {NO_COMMAND}.\n", unwrapped(said.output))
 
     def test_batch(self) -> None:
         with tempfile.TemporaryDirectory() as folder:
@@ -154,17 +153,19 @@ class SolveWide(unittest.TestCase):
                 read_wide_solved(lines)
 
     def test_the_way(self) -> None:
-        """It comes before a basis of the front's own or of another solver, and behind that of a solver that is named, if this one
-        gives any."""
+        """It comes first; where a budget is set, before a basis of the front's own or of another solver, and behind that of a solver
+        that is named, if this one gives any."""
         model = lpd.read_model(TEXT)
         with program_with_wide(), self.solved():
             found = answered(TEXT, model)
             self.assertEqual((str(found.answer), found.certificate, found.way, found.accepted_by), (OPTIMAL, CERTIFICATE, "lpd solve --wide", WIDE))
-            self.assertEqual([note.partition(" ends")[0] for note in found.notes], ["lpd solve"])
-            for named, notes in ((None, []), ("glpsol", ["glpsol gives no basis, and says: nothing"])):
+            self.assertEqual(found.notes, [])
+            ended = "the first try, lpd solve, ran out of digits"
+            for named, notes in ((None, [ended]), ("glpsol", [ended, "glpsol gives no basis, and says: nothing"])):
                 with mock.patch("lpd.ways.other_solver", return_value="glpsol"), mock.patch("lpd.ways.ask", return_value=Claim("nothing")):
-                    found = answered(TEXT, model, Effort(solver=named))
-                self.assertEqual((found.way, found.notes[1:]), ("lpd solve --wide", notes))
+                    self.assertEqual(answered(TEXT, model, Effort(solver=named)).notes, [])
+                    found = answered(TEXT, model, Effort(10000, solver=named))
+                self.assertEqual((found.way, found.notes), ("lpd solve --wide", notes))
             self.assertEqual(str(answered(TEXT, model, Effort(only_lpd=True)).answer)[:4], "PAST")
             narrow = answered(TEXT, model, Effort(wide=False))
             self.assertEqual((str(narrow.answer)[:4], narrow.certificate), ("PAST", []))
@@ -195,8 +196,9 @@ class SolveWide(unittest.TestCase):
         said = command("solve", "-", "--wide", "--show", "answer", stdin=TEXT.encode())
         self.assertEqual((said.status, said.complaints), (0, ""))
         self.assertIn(f"This answer is by lpd solve --wide, accepted by {WIDE}.\n", said.output)
-        short = command("solve", "-", "--wide", "--show", "answer", stdin=TEXT.replace("e30", "e3").encode())
-        self.assertIn(f"This answer is by lpd solve --wide, accepted by {BOTH}.\n", short.output)
+        short = command("solve", "-", stdin=TEXT.replace("e30", "e3").encode())
+        told = f"This answer is by lpd solve --wide, accepted by {BOTH}: its certificate is within 127 bits.\n"
+        self.assertIn(told, unwrapped(short.output))
         with tempfile.TemporaryDirectory() as folder:
             (Path(folder) / "long.mps").write_text(TEXT)
             (row,) = csv.DictReader(io.StringIO(command("batch", folder, "--csv").output))

@@ -4,10 +4,10 @@ from __future__ import annotations
 import argparse
 import re
 from dataclasses import replace
-from typing import Dict, List, NamedTuple, Optional, Tuple
+from typing import Dict, List, NamedTuple, Optional, Tuple, Union
 
 from ..certificate import check_lines
-from ..errors import LpdError, ProgramMissing
+from ..errors import TOO_WIDE, CertificateFault, LpdError, ProgramMissing, TextFault
 from ..judging import PYTHON_ALONE, Judged, NotCertified, judged_wide
 from ..model import Model, lines_of, read_lines, words_of
 from ..number_text import NotANumber, number, shown
@@ -38,7 +38,7 @@ def add(commands: "argparse._SubParsersAction[argparse.ArgumentParser]") -> None
     add_options(checks)
     claim = "what the certificate has to show, exactly: the optimal value, INFEASIBLE or UNBOUNDED"
     checks.add_argument("--claim", metavar="ANSWER", help=claim)
-    checks.add_argument("--wide", action="store_true", help="takes numbers of any width, and has lpd check --wide judge too, if the program has it")
+    checks.add_argument("--wide", action="store_true", help="has lpd check --wide judge too, if the program has it, as is done by itself where a number passes 127 bits")
 
 
 def answer_of(claim: str, wide: bool = True) -> Known:
@@ -80,24 +80,46 @@ def without_comments(certificate: str) -> List[str]:
 
 
 class Given(NamedTuple):
-    """A model, the text that spells it, in which form, and the lines behind that."""
+    """A model, the text that spells it, in which form, the lines behind that, and whether numbers may have any width."""
 
     model: Model
     text: str
     is_fixed: bool
     behind: List[str]
+    is_wide: bool
 
 
 def given(words: argparse.Namespace) -> Given:
+    """What is to be checked: as one of any width where --wide is said, or a number of the text passes 127 bits."""
     text = with_newline(as_text(read_model_file(words.model)))
+    try:
+        return given_as(words, text, words.wide)
+    except TextFault as fault:
+        if fault.fault != TOO_WIDE or fault.is_far:
+            raise
+        return given_as(words, text, True)
+
+
+def given_as(words: argparse.Namespace, text: str, is_wide: bool) -> Given:
     lines = lines_of(text)
     if words.convert or words.relax:
-        found = converted(words, text.encode("latin-1"), replace(options_of(words), wide=words.wide))
+        found = converted(words, text.encode("latin-1"), replace(options_of(words), wide=is_wide))
         end = next((n for n, line in enumerate(lines, 1) if line[:1] not in " \t" and words_of(line)[0].upper() == "ENDATA"), len(lines))
-        return Given(found.model, found.text, False, lines[end:])
+        return Given(found.model, found.text, False, lines[end:], is_wide)
     is_fixed = words.form == "fixed"
-    model, count = read_lines(lines, is_fixed, words.wide)
-    return Given(model, lines_text(lines[:count]), is_fixed, lines[count:])
+    model, count = read_lines(lines, is_fixed, is_wide)
+    return Given(model, lines_text(lines[:count]), is_fixed, lines[count:], is_wide)
+
+
+def verdict_on(of: Given, certificate: List[str]) -> Tuple[Union[Accepted, Rejected], bool]:
+    """The verdict of the checker in Python, and whether numbers may have any width: they may where one of the certificate does not
+    fit 127 bits."""
+    try:
+        return check_lines(of.model, certificate, of.is_wide), of.is_wide
+    except CertificateFault as fault:
+        if not fault.is_wide:
+            raise
+        return check_lines(of.model, certificate, wide=True), True
 
 
 def run(words: argparse.Namespace) -> int:
@@ -107,7 +129,7 @@ def run(words: argparse.Namespace) -> int:
     skipped = skipped_words(of.model)
     if skipped:
         tell(skipped)
-    verdict = check_lines(of.model, certificate, words.wide)
+    verdict, is_wide = verdict_on(of, certificate)
     if isinstance(verdict, Rejected):
         why = verdict.why or ""
         print(f"{verdict}\n{why[:1].upper()}{why[1:]}.")
@@ -116,7 +138,7 @@ def run(words: argparse.Namespace) -> int:
     if other is not None:
         print(f"NO CLAIM\n{told(verdict, other)}")
         return 1
-    judge = judge_of(of, certificate, verdict.known) if words.wide else ""
+    judge = judge_of(of, certificate, verdict.known) if is_wide else ""
     print("\n".join([str(verdict), *([judge] if judge else [])]))
     return 0
 

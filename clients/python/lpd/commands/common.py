@@ -14,7 +14,7 @@ from ..model import Model
 from ..names import Renamed
 from ..number_text import rounded, shown
 from ..reading import unpacked
-from ..replies import Answer, Infeasible, Optimal, Past, Unbounded
+from ..replies import Answer, Infeasible, Optimal, Spent, Unbounded
 
 MOST_DECIMALS, MOST_PIVOTS = 1000, 1000000
 WIDEST_LINE, SHORTEST = 120, 14  # characters of a line, and of a column of a table that is cut
@@ -85,7 +85,7 @@ def status_of(answer: Answer) -> int:
         return 10
     if isinstance(answer, Unbounded):
         return 11
-    return 12 if isinstance(answer, Past) else 13
+    return 13 if isinstance(answer, Spent) else 12
 
 
 def with_decimals(value: Optional[Fraction], decimals: Optional[int]) -> str:

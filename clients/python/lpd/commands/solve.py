@@ -19,9 +19,9 @@ from ..reading import is_lp, read_model_file
 from ..replies import Answer, Infeasible, Optimal, Past, Spent, Unbounded
 from ..report import Report, conflict, report
 from ..version import version
-from ..ways import SECONDS, Answered, Effort, answered
+from ..ways import BOTH, SECONDS, Answered, Effort, answered
 from .common import add_options, add_presolve, as_text, budget, converted, csv_line, decimals, number_in, options_of, put_beside, seconds, skipped_words
-from .common import PYTHON_ALONE, status_of, table, tell, with_decimals
+from .common import PYTHON_ALONE, in_lines, status_of, table, tell, with_decimals
 
 if TYPE_CHECKING:
     from ..objective import Aim
@@ -43,7 +43,7 @@ def add(commands: "argparse._SubParsersAction[argparse.ArgumentParser]") -> None
     own = solve.add_mutually_exclusive_group()
     own.add_argument("--budget", type=budget, metavar="N", help="makes at most N pivots and flips, up to 1000000 (10000)")
     add_presolve(own)
-    own.add_argument("--wide", action="store_true", help="goes on past 127 bits in wider numbers, by lpd solve --wide, within --seconds")
+    own.add_argument("--wide", action="store_true", help="asks lpd solve --wide first whatever else is said, as is done where nothing is")
     solve.add_argument("--convert", action="store_true", help="converts the text from other dialects first, as the command convert does")
     add_options(solve)
     add_ways(solve)
@@ -87,7 +87,7 @@ def add_iis(parser: argparse.ArgumentParser) -> None:
 
 
 def effort_of(words: argparse.Namespace) -> Effort:
-    return Effort(words.budget, words.only_lpd, words.solver, words.seconds, presolve=words.presolve, wide_first=words.wide)
+    return Effort(words.budget, words.only_lpd, words.solver, words.seconds, presolve=words.presolve, wide_first=words.wide or None)
 
 
 def words_for(answer: Answer) -> str:
@@ -270,7 +270,10 @@ def run(words: argparse.Namespace) -> int:
         print_answer(words, found, model, point, skipped, aim)
         sys.stdout.flush()
         print_more(words, text, found, model)
-        print(f"\nlpd {version()}")
+        if is_as_ever(found) and words.show != "answer":
+            print(f"\n{in_lines(found.told())}\nlpd {version()}")
+        else:
+            print(f"\nlpd {version()}")
     if number:
         from .range_tables import draw
 
@@ -337,6 +340,11 @@ def print_more(words: argparse.Namespace, text: str, found: Answered, model: Mod
         print_conflicts(words, text, model, found, style_of(words))
 
 
+def is_as_ever(found: Answered) -> bool:
+    """Whether the answer is the program's own, within 127 bits, so that who accepted it is told at the end."""
+    return found.is_by_lpd and found.accepted_by == BOTH
+
+
 def print_answer(words: argparse.Namespace, found: Answered, model: Model, point: Optional[Report], skipped: str, aim: Optional[Aim]) -> None:
     """The answer as people read it: first what was not read, and how the answer came where that was not lpd solve alone."""
     lines = [skipped] if skipped else []
@@ -345,8 +353,8 @@ def print_answer(words: argparse.Namespace, found: Answered, model: Model, point
         from .objectives import sentences
 
         lines += sentences(aim, found, words.decimals, bool(words.output))
-    if not found.is_by_lpd and found.certificate:
-        lines.append(found.told())
+    if found.certificate and not is_as_ever(found):
+        lines.append(in_lines(found.told()))
     print("\n".join(lines))
     for note in found.notes:
         tell(f"note: {note}")
