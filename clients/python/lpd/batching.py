@@ -7,13 +7,14 @@ import os
 import signal
 import threading
 import time
+from collections import Counter
 from concurrent.futures import ProcessPoolExecutor, as_completed
 from concurrent.futures.process import BrokenProcessPool
 from dataclasses import dataclass, field, replace
 from importlib import import_module
 from multiprocessing import connection
 from pathlib import Path
-from typing import Any, Iterable, Iterator, List, Optional, Set, Tuple
+from typing import Any, Callable, Dict, Iterable, Iterator, List, NamedTuple, Optional, Set, Tuple
 
 from .certifying import Certified, NotAnswered, certify
 from .conversion import Options, Question, convert
@@ -22,7 +23,7 @@ from .exact import OutOfTime
 from .model import Model
 from .number_text import shown
 from .presolving import Size
-from .reading import mps_of_file, name_of
+from .reading import end_of, mps_of_file, name_of
 from .replies import Optimal
 from .ways import Effort, answered
 
@@ -98,7 +99,7 @@ def result_of(name: str, path: str, data: bytes, work: Work) -> Result:
         result.rows, result.columns = len(wide.model.rows), len(wide.model.columns)
         result.not_read = len(wide.model.skipped)
         if wide.changes:
-            result.notes.append(f"converted: {len(wide.changes)} changes")
+            result.notes.append(f"converted: {len(wide.changes)} change{'s' if len(wide.changes) > 1 else ''}")
         solve_into(result, wide.text, wide.model, work)
         if work.certifier:
             certify_into(result, wide.text, work)
@@ -114,19 +115,40 @@ def result_of(name: str, path: str, data: bytes, work: Work) -> Result:
     return result
 
 
-def result_of_file(path: Path, work: Work) -> Result:
+class Task(NamedTuple):
+    """A file with a model, and the name of the model in a table."""
+
+    name: str
+    path: Path
+
+
+def tasks_of(words: Iterable[str]) -> List[Task]:
+    """The files that are named, and those of the folders that are, in the order of their names. A model is named as its file without
+    the end that says what it is, or where others are named so with it, or with its folder too."""
+    paths: Dict[Path, None] = {}
+    for word in map(Path, words):
+        paths.update(dict.fromkeys(sorted(path for path in word.iterdir() if end_of(path)) if word.is_dir() else [word]))
+    names = {path: name_of(path) for path in paths}
+    longer_names: List[Callable[[Path], str]] = [lambda path: path.name, str]
+    for longer in longer_names:
+        count = Counter(names.values())
+        names = {path: longer(path) if count[name] > 1 else name for path, name in names.items()}
+    return sorted(Task(name, path) for path, name in names.items())
+
+
+def result_of_file(task: Task, work: Work) -> Result:
     try:
-        return result_of(name_of(path), str(path), path.read_bytes(), work)
+        return result_of(task.name, str(task.path), task.path.read_bytes(), work)
     except OSError as error:
-        return Result(name_of(path), answer=FAILED, notes=[f"{path}: {error.strerror}"])
+        return Result(task.name, answer=FAILED, notes=[f"{task.path}: {error.strerror}"])
 
 
 # ---- engines: each gives the results as they come
 
 
-def one_by_one(paths: List[Path], work: Work) -> Iterator[Result]:
-    for path in paths:
-        yield result_of_file(path, work)
+def one_by_one(tasks: List[Task], work: Work) -> Iterator[Result]:
+    for task in tasks:
+        yield result_of_file(task, work)
 
 
 def begin_worker() -> None:
@@ -152,13 +174,13 @@ def end_workers(workers: Iterable[multiprocessing.process.BaseProcess]) -> None:
                 os.killpg(worker.pid, signal.SIGKILL)
 
 
-def by_processes(paths: List[Path], work: Work, jobs: int) -> Iterator[Result]:
+def by_processes(tasks: List[Task], work: Work, jobs: int) -> Iterator[Result]:
     """Solves so many models at a time. The models of a process that is killed are solved once more, one by one."""
-    done: Set[Path] = set()
+    done: Set[Task] = set()
     others = set(multiprocessing.active_children())
     with ProcessPoolExecutor(jobs, initializer=begin_worker) as pool:
         try:
-            futures = {pool.submit(result_of_file, path, work): path for path in paths}
+            futures = {pool.submit(result_of_file, task, work): task for task in tasks}
             for future in as_completed(futures):
                 if not isinstance(future.exception(), BrokenProcessPool):
                     done.add(futures[future])
@@ -166,10 +188,10 @@ def by_processes(paths: List[Path], work: Work, jobs: int) -> Iterator[Result]:
         except BaseException:  # an interrupt, or nobody takes the results any more
             end_workers(set(multiprocessing.active_children()) - others)
             raise
-    yield from one_by_one([path for path in paths if path not in done], work)
+    yield from one_by_one([task for task in tasks if task not in done], work)
 
 
-def by_dask(paths: List[Path], work: Work, address: str) -> Iterator[Result]:
+def by_dask(tasks: List[Task], work: Work, address: str) -> Iterator[Result]:
     """Gives each model, with its text, to a scheduler of Dask, whose workers run a program lpd of their own. The models of a worker
     that is lost are given to others by the scheduler."""
     try:
@@ -177,12 +199,11 @@ def by_dask(paths: List[Path], work: Work, address: str) -> Iterator[Result]:
     except ImportError:
         raise LpdError("--dask needs Dask (Debian's python3-distributed), here and on the workers") from None
     with distributed.Client(address, timeout=30) as client:
-        futures: List[Tuple[Any, Path]] = []
-        for path in paths:
-            data = path.read_bytes()
-            futures.append((client.submit(result_of, name_of(path), str(path), data, work, pure=False), path))
-        names = {future.key: path for future, path in futures}
+        futures: List[Tuple[Any, Task]] = []
+        for task in tasks:
+            data = task.path.read_bytes()
+            futures.append((client.submit(result_of, task.name, str(task.path), data, work, pure=False), task))
+        names = {future.key: task.name for future, task in futures}
         for future in distributed.as_completed([future for future, _ in futures]):
             error = future.exception()
-            path = names[future.key]
-            yield future.result() if error is None else Result(name_of(path), answer=FAILED, notes=[f"Dask: {error}"])
+            yield future.result() if error is None else Result(names[future.key], answer=FAILED, notes=[f"Dask: {error}"])

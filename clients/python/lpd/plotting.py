@@ -11,6 +11,7 @@ from typing import Callable, List, NamedTuple, Optional, Sequence
 
 from .dialects import PROFILE, written
 from .errors import LpdError
+from .figures import READABLE
 from .model import ZERO, Limits, Model
 from .number_text import shown
 from .ranging import COST, RHS, with_number
@@ -108,7 +109,8 @@ def plane(model: Model, effort: Effort = Effort()) -> str:
     found = answered(written(model, PROFILE).text, model, effort)
     best, sides = optimum_of(model, found), all_sides(model)
     box = view_of(sides, [best] if best else [])
-    picture = Picture(box, f"{model.name or 'model'}: {found.answer}")
+    answer = f"OPTIMAL {READABLE.word(found.answer.value)}" if isinstance(found.answer, Optimal) else found.answer
+    picture = Picture(box, f"{model.name or 'model'}: {answer}")
     region = corners(box)
     for side in sides:
         region = clipped(region, side)

@@ -3,7 +3,7 @@ from __future__ import annotations
 
 from fractions import Fraction
 from typing import List, NamedTuple, Sequence, Tuple
-from .number_text import rounded, shown
+from .figures import READABLE
 
 Point = Tuple[Fraction, Fraction]
 WIDTH, HEIGHT, LEFT, RIGHT, TOP, FOOT = 720, 480, 80, 40, 34, 50
@@ -45,9 +45,8 @@ def ticks(low: Fraction, high: Fraction) -> List[Fraction]:
 
 
 def label(value: Fraction) -> str:
-    """A number in few signs: as it is where that is short, or else rounded."""
-    text = shown(value)
-    return text if len(text) <= 9 else rounded(value, 3 if abs(value) < 1000 else 0)
+    """A number in few signs, behind a mark."""
+    return READABLE.cell(value)
 
 
 class Picture:
@@ -94,9 +93,9 @@ class Picture:
         box = self.box
         self.line([(box.left, box.top), (box.left, box.foot), (box.right, box.foot)], "black", width=1)
         for x in ticks(box.left, box.right):
-            self.text((x, box.foot), label(x), "dimgray", 0, 16, "middle")
+            self.text((x, box.foot), READABLE.plain(x), "dimgray", 0, 16, "middle")
         for y in ticks(box.foot, box.top):
-            self.text((box.left, y), label(y), "dimgray", -6, 4, "end")
+            self.text((box.left, y), READABLE.plain(y), "dimgray", -6, 4, "end")
         self.text((box.right, box.foot), across, across=0, down=34, anchor="end")
         self.text((box.left, box.top), up, across=-6, down=-8, anchor="end")
 

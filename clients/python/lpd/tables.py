@@ -5,13 +5,15 @@ import csv
 import io
 import json
 import os
+import textwrap
 from fractions import Fraction
 from pathlib import Path
-from typing import Dict, List, Optional, Sequence
+from typing import Callable, Dict, List, Optional, Sequence
 
 from .batching import Result
 from .certifying import Certified
 from .errors import LpdError
+from .figures import READABLE, Style
 from .judging import LPD_CHECK, LPD_CHECK_WIDE, PYTHON_ALONE
 from .number_text import NotANumber, number, rounded, shown
 from .ways import BOTH, WIDE
@@ -20,8 +22,10 @@ Cells = Dict[str, str]
 ANSWERED = ["model", "rows", "columns", "answer", "value", "way", "accepted by", "pivots", "seconds"]
 REDUCED = ["rows left", "columns left"]  # by lpd presolve
 CERTIFIED = ["exactly", "judge", "claim", "off", "certify seconds"]
-# How wide the columns of a table are that is written before all its cells are known.
-WIDTHS = {"rows": 4, "columns": 7, "rows left": 9, "columns left": 12, "answer": 10, "value": 24, "way": 42, "accepted by": 16, "pivots": 6, "seconds": 8, "judge": 16}
+# How wide the columns of a table are that is written before all its cells are known, and which they are; what else there is stands
+# below the line of its model.
+WIDTHS = {"model": 26, "rows": 4, "columns": 7, "answer": 10, "value": 14, "optimum": 7, "way": 16, "accepted by": 16, "seconds": 8}
+WIDEST_LINE = 120
 SAME, OTHER = "same", "OTHER"
 
 
@@ -42,9 +46,9 @@ def small(value: Fraction) -> str:
         return rounded(value, 0)
 
 
-def claim_of(found: Certified) -> str:
+def claim_of(found: Certified, number: Callable[[Fraction], str] = shown) -> str:
     value = found.claim.value
-    return found.claim.said if value is None else f"{found.claim.said} {shown(value)}"
+    return found.claim.said if value is None else f"{found.claim.said} {number(value)}"
 
 
 def off_of(found: Certified) -> Optional[str]:
@@ -111,32 +115,29 @@ def csv_text(cells: Sequence[str]) -> str:
     return line.getvalue()
 
 
-def is_long(cell: str) -> bool:
-    return len(cell) > WIDTHS["value"]
+def number_of(cells: Cells) -> Optional[Fraction]:
+    """The value of an optimum."""
+    return number(cells["value"], wide=True) if cells["answer"] == "OPTIMAL" and cells["value"] else None
 
 
-def about(value: str) -> str:
-    """A long number in few digits, behind the sign that it is not exact."""
-    try:
-        found = number(value, wide=True)
-        short = rounded(found, 6)
-        return f"~{short}" if not is_long(short) else f"~{float(found):.9e}"
-    except (NotANumber, OverflowError):
-        return value
+def shortened(text: str, width: int) -> str:
+    return text if len(text) <= width else f"{text[: width - 2]}.."
 
 
 class Writer:
-    """Writes a table line by line, as text, as CSV or as JSON."""
+    """Writes a table line by line, as text, as CSV or as JSON. In text a line has at most 120 characters, and in CSV numbers are such
+    as a spreadsheet reads."""
 
-    def __init__(self, style: str, columns: List[str], names: Sequence[str]) -> None:
-        self.style, self.columns, self.count = style, columns, 0
-        widths = {**WIDTHS, "model": max(map(len, names), default=0)}
-        self.widths = [max(len(column), widths.get(column, 12)) for column in columns]
+    def __init__(self, style: str, columns: List[str], names: Sequence[str], figures: Style = READABLE) -> None:
+        self.style, self.columns, self.count, self.figures = style, columns, 0, figures
+        longest = max(map(len, names), default=0)
+        self.widths = {column: max(len(column), width) for column, width in WIDTHS.items() if column in columns}
+        self.widths["model"] = max(len("model"), min(longest, self.widths["model"]))
 
     def head(self) -> str:
         if self.style == "json":
             return "[\n"
-        return csv_text(self.columns) if self.style == "csv" else self.padded(self.columns)
+        return csv_text(self.with_mark(self.columns, "exact")) if self.style == "csv" else self.padded({column: column for column in self.columns})
 
     def line(self, cells: Cells) -> str:
         self.count += 1
@@ -144,12 +145,31 @@ class Writer:
         if self.style == "json":
             before = ",\n" if self.count > 1 else ""
             return before + json.dumps({**told, **decimals_of(told)}, indent=2)
+        value = number_of(told)
         if self.style == "csv":
-            return csv_text(list(told.values()))
-        return self.padded([about(cell) if column == "value" and is_long(cell) and told["answer"] == "OPTIMAL" else cell for column, cell in told.items()])
+            mark = "" if value is None else self.figures.mark(value)
+            return csv_text(self.with_mark([*{**told, "value": self.figures.plain(value)}.values()], mark))
+        shown = self.figures.cell(value)
+        return self.padded({**told, "value": shown}) + "".join(self.below(told))
 
-    def padded(self, cells: Sequence[str]) -> str:
-        return "  ".join(cell.ljust(width) for cell, width in zip(cells, self.widths)).rstrip() + "\n"
+    def with_mark(self, cells: Sequence[str], mark: str) -> List[str]:
+        """The cells, and behind that of the value whether it is exact."""
+        at = self.columns.index("value") + 1
+        return [*cells[:at], mark, *cells[at:]]
+
+    def padded(self, cells: Cells) -> str:
+        kept = [shortened(cells[column], width if not self.figures.is_exact or column != "value" else 10**6).ljust(width) for column, width in self.widths.items()]
+        return "  ".join(kept).rstrip() + "\n"
+
+    def below(self, cells: Cells) -> List[str]:
+        """What has no column of its own: of the certificate, of a smaller model, and the notes."""
+        kind, _, value = cells.get("exactly", "").partition(" ")
+        certified = {**cells, "exactly": f"{kind} {self.figures.word(number(value, wide=True))}" if value else kind}
+        more = [f"{column} {certified[column]}" for column in (*CERTIFIED, *REDUCED) if certified.get(column)]
+        operands = [f"{cells['answer']} {cells['value']}"] if cells["value"] and cells["answer"] != "OPTIMAL" else []
+        texts = [*(shortened(text, WIDEST_LINE - 2) for text in operands), ", ".join(more), cells.get("note", "")]
+        lines = [line for text in texts for line in textwrap.wrap(text, WIDEST_LINE - 2, break_on_hyphens=False)]
+        return [f"  {line}\n" for line in lines]
 
     def foot(self) -> str:
         return ("\n" if self.count else "") + "]\n" if self.style == "json" else ""

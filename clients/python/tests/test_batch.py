@@ -16,10 +16,11 @@ from pathlib import Path
 from typing import Dict, List
 
 from lpd import tables
-from lpd.batching import Result
+from lpd.batching import Result, tasks_of
+from lpd.figures import FRACTIONS
 from lpd.tables import cells_of
 
-from .commands import command
+from .commands import command, unwrapped
 from .models import has_program
 
 MODELS = Path(__file__).resolve().parents[3] / "examples" / "models"
@@ -32,8 +33,8 @@ COLUMNS = ["model", "rows", "columns", "answer", "value", "way", "accepted by", 
 
 
 def rows_of(text: str) -> List[Dict[str, str]]:
-    """The lines of a table, but for how long each took."""
-    return [{name: cell for name, cell in row.items() if name != "seconds"} for row in csv.DictReader(io.StringIO(text))]
+    """The lines of a table, but for how long each took, and for the marks of values, which a table in a file has not."""
+    return [{name: cell for name, cell in row.items() if name not in ("seconds", "exact")} for row in csv.DictReader(io.StringIO(text))]
 
 
 class Tables(unittest.TestCase):
@@ -64,18 +65,29 @@ class Tables(unittest.TestCase):
         self.assertEqual([row["model"] for row in rows_of(kept.path.read_text())], ["a", "b", "c"])
         self.assertEqual(rows_of(kept.path.read_text())[0]["note"], "one, two; three")
 
-    def test_two_files_of_one_name(self) -> None:
+    def test_files_of_one_name(self) -> None:
+        """They are two models, each with its end, and in two folders each with its folder."""
         with tempfile.TemporaryDirectory() as folder:
-            for name in ("a.mps", "a.lp", "b.mps"):
+            for name in ("a.mps", "a.lp", "b.mps", "c.txt"):
                 (Path(folder) / name).write_text("ENDATA\n")
-            said = command("batch", folder)
-        self.assertEqual((said.status, said.output), (2, ""))
-        self.assertIn("are named a but for their ends", said.complaints)
+            (Path(folder) / "more").mkdir()
+            (Path(folder) / "more" / "b.mps").write_text("ENDATA\n")
+            tasks = tasks_of([folder, f"{folder}/more/b.mps"])
+            self.assertEqual([task.name for task in tasks], [f"{folder}/b.mps", f"{folder}/more/b.mps", "a.lp", "a.mps"])
+            self.assertEqual([task.name for task in tasks_of([f"{folder}/c.txt"])], ["c.txt"])
+            self.assertEqual([task.name for task in tasks_of([f"{folder}/b.mps", f"{folder}/b.mps"])], ["b"])
+            said = command("batch", f"{folder}/none")
+            self.assertEqual((said.status, said.output), (3, ""))
 
     def test_long_values(self) -> None:
         cells = cells_of(Result("a", answer="OPTIMAL", value=f"{10**60}/3"))
-        self.assertIn("~3.333333333e+59", tables.Writer("text", COLUMNS, ["a"]).line(cells))
-        self.assertIn(f"{10**60}/3", tables.Writer("csv", COLUMNS, ["a"]).line(cells))
+        self.assertIn("~3.33333e+59", tables.Writer("text", COLUMNS, ["a"]).line(cells))
+        self.assertIn(",OPTIMAL,3.33333e+59,~,", tables.Writer("csv", COLUMNS, ["a"]).line(cells))
+        for style in ("text", "csv"):
+            self.assertIn(f"{10**60}/3", tables.Writer(style, COLUMNS, ["a"], FRACTIONS).line(cells))
+        past = cells_of(Result("a" * 99, answer="PAST", value=f"MUL {10**60} {10**60}", notes=["why " * 99]))
+        lines = tables.Writer("text", COLUMNS, ["a" * 99]).line(past).splitlines()
+        self.assertLessEqual(max(map(len, lines)), 120)
 
     def test_known_answers(self) -> None:
         known = tables.read_optima("name\toutcome\tvalue\na\toptimal\t1/2\tboth\nb\tinfeasible\t\tboth\n")
@@ -103,8 +115,8 @@ class Batch(unittest.TestCase):
         self.assertIn("8 models: 1 INFEASIBLE, 6 SPENT, 1 UNBOUNDED; 2 accepted by lpd check, 0 by", said.output)
         said = command("batch", str(MODELS), "--csv")
         lines = said.output.splitlines()
-        self.assertEqual((lines[0], len(lines)), (",".join(COLUMNS), 9))
-        self.assertTrue(lines[4].startswith("diet,3,6,OPTIMAL,92.5,lpd solve --wide,lpd check,,"))
+        self.assertEqual((lines[0], len(lines)), (",".join([*COLUMNS[:5], "exact", *COLUMNS[5:]]), 9))
+        self.assertTrue(lines[4].startswith("diet,3,6,OPTIMAL,92.5,=,lpd solve --wide,lpd check,,"))
 
     def test_what_is_refused_and_asked(self) -> None:
         with tempfile.TemporaryDirectory() as folder:
@@ -115,11 +127,12 @@ class Batch(unittest.TestCase):
             (Path(folder) / "e.mps").write_text(SETS)
             rows = json.loads(command("batch", folder, "--json").output)
             self.assertEqual([row["answer"] for row in rows], ["ASKED", "FAILED", "ERR 8 MPS 4 M9", "OPTIMAL", "OPTIMAL"])
-            self.assertEqual(rows[3]["note"], "converted: 1 changes")
+            self.assertEqual(rows[3]["note"], "converted: 1 change")
             said = command("batch", folder)
             self.assertIn(" --relax solves without that\n", said.output)
             self.assertIn("1 CARD OF OTHER SETS NOT READ", said.output)
-            self.assertIn("; 1 WITH CARDS OF OTHER SETS NOT READ\n", said.output)
+            self.assertIn("; 1 WITH CARDS OF OTHER SETS NOT READ\n", unwrapped(said.output))
+            self.assertLessEqual(max(map(len, said.output.splitlines())), 120)
             rows = json.loads(command("batch", folder, "--json", "--relax", "--no-bound", "none").output)
             self.assertEqual(rows[0]["answer"], "OPTIMAL")
         with tempfile.TemporaryDirectory() as folder:
@@ -131,7 +144,7 @@ class Batch(unittest.TestCase):
             optima.write_text("name\toutcome\toptimum\ndiet\toptimal\t185/2\norders\tinfeasible\t-\n")
             said = command("batch", str(MODELS), "--optima", str(optima))
             self.assertEqual(said.status, 0)
-            self.assertIn("; 2 answers as they are known, 0 others\n", said.output)
+            self.assertIn("; 2 answers as they are known, 0 others\n", unwrapped(said.output))
             optima.write_text("name\toutcome\toptimum\ndiet\toptimal\t93\n")
             self.assertEqual(command("batch", str(MODELS), "--optima", str(optima)).status, 1)
 
@@ -143,7 +156,7 @@ class Batch(unittest.TestCase):
     @unittest.skipUnless(shutil.which("clp"), "clp is not on the path")
     def test_certificates(self) -> None:
         said = command("batch", str(MODELS), "--with", "clp")
-        self.assertIn("8 certified by lpd check, 0 by lpd check --wide, 0 by the checker in Python alone", said.output)
+        self.assertIn("8 certified by lpd check, 0 by lpd check --wide, 0 by the checker in Python alone", unwrapped(said.output))
 
 
 @unittest.skipUnless(has_program(), "the program is not built")
@@ -197,9 +210,9 @@ class Interrupted(unittest.TestCase):
         (self.folder / "z.mps").unlink()
         for row in rows_of(self.table.read_text()):
             (self.folder / f"{row['model']}.mps").write_text("what stands here now is not read\n")
-        said = command("batch", str(self.folder), "--csv", "--resume", str(self.table))
+        said = command("batch", str(self.folder), "--csv", "--exact", "--resume", str(self.table))
         self.assertEqual(said.status, 0, said.complaints)
-        whole = rows_of(command("batch", str(MODELS), "--csv").output)
+        whole = rows_of(command("batch", str(MODELS), "--csv", "--exact").output)
         self.assertEqual(rows_of(self.table.read_text()), whole)
         self.assertEqual(sorted(rows_of(said.output), key=lambda row: row["model"]), whole)
 

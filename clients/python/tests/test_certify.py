@@ -223,7 +223,7 @@ class BySolvers(unittest.TestCase):
             self.skipTest("there is no other solver on the path")
         said = command("certify", str(MODELS / "diet.mps"), "--with", solver)
         self.assertEqual(said.status, 0)
-        self.assertIn("exactly       OPTIMAL 92.5 (92.5000000000)\noff by        0,", said.output)
+        self.assertIn("exactly       OPTIMAL 92.5\noff by        0,", said.output)
         self.assertIn("certificate   accepted by lpd check, and by the checker in Python\n", said.output)
         said = command("certify", "-", "--with", solver, "--json", stdin=WIDE.encode())
         self.assertEqual((said.status, json.loads(said.output)["accepted_by_lpd_check"]), (14, False))

@@ -303,10 +303,10 @@ class Command(unittest.TestCase):
         self.assertEqual(command("solve", "-", "--convert", stdin=text).status, 2)
         self.assertEqual(command("solve", "-", "--relax", "--show", "answer", stdin=text)[:2], (0, reported("OPTIMAL 5\n")))
         said = command("solve", "-", "--csv", stdin=plain("UP BND x 3", "UP BND x 3\n UP OTHER x 1").encode())
-        self.assertEqual(said.output.splitlines()[1:3], ["answer,OPTIMAL,5,,", "column,x,3,-1,"])
+        self.assertEqual(said.output.splitlines()[1:3], ["answer,OPTIMAL,5,,,=", "column,x,3,-1,,="])
         self.assertEqual(said.complaints, "1 CARD OF OTHER SETS NOT READ: line 11 (docs/FORMATS.md)\n")
         said = command("solve", "-", "--show", "prices", "--decimals", "1", stdin=PLAIN.encode())
-        self.assertEqual(said.output, reported("OPTIMAL 5 (5.0)\n\nrow   price\nneed  2 (2.0)\n\ncolumn  reduced cost\nx       -1 (-1.0)\n", AS_EVER))
+        self.assertEqual(said.output, reported("OPTIMAL 5.0\n\nrow   price\nneed  =2.0\n\ncolumn  reduced cost\nx       =-1.0\n", AS_EVER))
 
 
 class ForOthers(unittest.TestCase):

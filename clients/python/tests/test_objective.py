@@ -83,14 +83,14 @@ class Solved(unittest.TestCase):
         self.assertEqual(told["objective"], {"row": "hours", "in_place_of": "cost", "value": "42", "decimals": {"value": 42.0}})
         self.assertNotIn("objective", json.loads(self.said("--json").output))
         lines = list(csv.reader(io.StringIO(self.said("--objective", "hours", "--csv").output)))
-        self.assertEqual(lines[1:3], [["answer", "OPTIMAL", "16", "", ""], ["objective", "cost", "42", "", ""]])
+        self.assertEqual(lines[1:3], [["answer", "OPTIMAL", "16", "", "", "="], ["objective", "cost", "42", "", "", "="]])
 
     @unittest.skipUnless(has_program() and has_command("range"), "the program has no command range")
     def test_with_what_else_is_shown(self) -> None:
         said = self.said("--objective", "hours", "--ranges", "--csv")
-        self.assertIn("objective,cost,42,,,,,\n", said.output)
-        self.assertIn("column,quick,10,0,,1,0,3\n", said.output)
-        self.assertIn("row,hours,10,0,,-6,-inf,inf\n", said.output)
+        self.assertIn("objective,cost,42,,,,,,=\n", said.output)
+        self.assertIn("column,quick,10,0,,1,0,3,=\n", said.output)
+        self.assertIn("row,hours,10,0,,-6,-inf,inf,=\n", said.output)
 
     def test_rows_that_are_none(self) -> None:
         said = self.said("--objective", "days")

@@ -52,7 +52,7 @@ class Plot(unittest.TestCase):
     def test_a_region(self) -> None:
         said = command("plot", "-", stdin=SHOP.encode())
         self.assertEqual(len(self.points(said, "polygon")), 4)
-        for words in ("shop: OPTIMAL 410", "tables 7.8, chairs 8.8", ">wood<", ">hours<", "<path "):
+        for words in ("shop: OPTIMAL 410", "tables =7.8, chairs =8.8", ">wood<", ">hours<", "<path "):
             self.assertIn(words, said.output)
 
     def test_other_ends(self) -> None:
@@ -69,7 +69,7 @@ class Plot(unittest.TestCase):
         self.assertIn("the model has 6 columns, and a plane has two: --rhs ROW or --cost COLUMN", said.complaints)
 
     def test_over_a_right_side(self) -> None:
-        said = command("plot", DIET, "--rhs", "energy", "--from", "0", "--to", "4015")
+        said = command("plot", DIET, "--rhs", "energy", "--from", "0", "--to", "4015", "--exact")
         stored = re.findall(r"from (\S+) to (\S+): from (\S+) to (\S+) cents", (EXAMPLES / "python" / "optimum_over_demand.out").read_text())
         told = re.findall(r"^from (\S+) to (\S+): (\S+) to (\S+),", said.complaints, re.M)
         self.assertEqual([list(map(Fraction, line)) for line in told], [list(map(Fraction, line)) for line in stored])

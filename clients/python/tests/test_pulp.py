@@ -155,7 +155,8 @@ class WithPulp(unittest.TestCase):
 
     def test_a_limit_of_time(self) -> None:
         busy = str(Path(__file__).with_name("busy.sh"))
-        with mock.patch("lpd.program.the_program", return_value=busy), mock.patch("lpd.program.SECONDS", 1):
+        asked = [mock.patch(f"lpd.{module}.the_program", return_value=busy) for module in ("program", "once")]
+        with asked[0], asked[1], mock.patch("lpd.program.SECONDS", 1):
             problem = self.diet()
             self.assertEqual(problem.solve(LPD(msg=False, timeLimit=0.2)), pulp.LpStatusNotSolved)
             self.assertEqual((problem.exact, self.bread.varValue), (None, None))

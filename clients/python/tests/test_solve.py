@@ -100,12 +100,52 @@ class Shown(unittest.TestCase):
         def lines(*words: str) -> "list[list[str]]":
             return list(csv.reader(io.StringIO(command("solve", "-", "--csv", *words, stdin=THIRD.encode()).output)))[1:]
 
-        self.assertEqual(lines(), [["answer", "OPTIMAL", "1/3", "", ""], ["column", "x", "1/3", "0", ""], ["row", "need", "1", "1/3", "0"]])
-        self.assertEqual(lines("--decimals", "2")[1], ["column", "x", "0.33", "0.00", ""])
+        third = "0.333333"
+        self.assertEqual(lines(), [["answer", "OPTIMAL", third, "", "", "~"], ["column", "x", third, "0", "", "~"], ["row", "need", "1", third, "0", "~"]])
+        self.assertEqual(lines("--exact")[1:], [["column", "x", "1/3", "0", "", "="], ["row", "need", "1", "1/3", "0", "="]])
+        self.assertEqual(lines("--decimals", "2")[1], ["column", "x", "0.33", "0.00", "", "~"])
+        for line in lines():
+            for cell in line[2:5]:
+                self.assertEqual(cell and float(cell), float(cell or 0) if cell else "")
         self.assertEqual([line[0] for line in lines("--show", "point")], ["answer", "column"])
-        self.assertEqual(lines("--show", "rows")[1], ["row", "need", "1", "1/3", "0"])
-        self.assertEqual(lines("--show", "prices")[1:], [["column", "x", "", "0", ""], ["row", "need", "", "1/3", ""]])
+        self.assertEqual(lines("--show", "rows")[1], ["row", "need", "1", third, "0", "~"])
+        self.assertEqual(lines("--show", "prices")[1:], [["column", "x", "", "0", "", "="], ["row", "need", "", third, "", "~"]])
         self.assertEqual(len(lines("--show", "answer")), 1)
+
+    def test_numbers_that_can_be_read(self) -> None:
+        """Six digits, a mark where that is not all, and fractions where they are asked for. No line is longer than 120 characters."""
+        long = "x" * 64
+        text = THIRD.replace(" x ", f" {long} ").replace("need", "n" * 64)
+        for words in ([], ["--ranges"], ["--all", "--decimals", "3"]):
+            said = command("solve", "-", *words, stdin=text.encode())
+            self.assertEqual(said.status, 0)
+            self.assertLessEqual(max(map(len, said.output.splitlines())), 120)
+        said = command("solve", "-", stdin=THIRD.encode())
+        self.assertEqual(said.output.splitlines()[:5], ["OPTIMAL ~0.333333", "", "column  value      reduced cost", "x       ~0.333333  =0", ""])
+        self.assertEqual(said.output.splitlines()[6], "need  =1   =0     ~0.333333")
+        said = command("solve", "-", "--exact", stdin=THIRD.encode())
+        self.assertEqual((said.output.splitlines()[0], said.output.splitlines()[3]), ("OPTIMAL 1/3", "x       1/3    0"))
+
+    def test_what_counts_first(self) -> None:
+        """Columns that are not 0 and rows that bind; the others where they are asked for."""
+        said = command("solve", DIET)
+        self.assertIn("(3 columns that are 0 are left out: --all shows all)\n", said.output)
+        self.assertIn("(2 rows that do not bind are left out: --all shows all)\n", said.output)
+        self.assertNotIn("chicken", said.output)
+        said = command("solve", DIET, "--all")
+        self.assertIn("\nchicken  =0     =12.4688".replace("=12.4688", "~12.4688"), said.output)
+        self.assertNotIn("left out", said.output)
+
+    def test_unbounded(self) -> None:
+        text = "OBJSENSE MAX\nROWS\n N gain\n L r\nCOLUMNS\n x gain 2 r 1\n y gain 1 r -3\nRHS\n r 4\nENDATA\n"
+        said = command("solve", "-", stdin=text.encode())
+        self.assertEqual(said.status, 11)
+        self.assertRegex(unwrapped(said.output), r"\nFrom the point .* on, with each step .*y grows by \S+.*, and the objective grows by \S+, without end\.\n")
+
+    def test_the_right_side_of_the_objective(self) -> None:
+        said = command("solve", "-", stdin=THIRD.replace("RHS need 1", "RHS need 1 cost 7").encode())
+        self.assertEqual(unwrapped(said.output).count("The value has the offset -7, by the right side of the objective: solvers differ"), 1)
+        self.assertNotIn("offset", command("solve", "-", stdin=THIRD.encode()).output)
 
     def test_cards_that_were_not_read_come_first(self) -> None:
         said = command("solve", "-", stdin=SETS.encode())
@@ -189,7 +229,7 @@ class GoingOn(unittest.TestCase):
     def test_from_a_number_past_127_bits(self) -> None:
         said = command("solve", "-", "--with", "none", "--show", "answer", stdin=WIDE.encode())
         self.assertEqual(said.status, 14)
-        self.assertEqual(said.output.splitlines()[0], f"OPTIMAL {10**50}/3 (33333333333333333333333333333333333333333333333333.3333333333)")
+        self.assertEqual(said.output.splitlines()[0], "OPTIMAL ~3.33333e+49")
         self.assertIn(f"by exact steps in Python from a basis of its own, 0 of them, accepted by {ALONE}, since line 7 of the model has", unwrapped(said.output))
         self.assertEqual(command("solve", "-", "--only-lpd", stdin=WIDE.encode()).status, 9)
 

@@ -92,13 +92,13 @@ class Wide(unittest.TestCase):
         with program_with_wide():
             said = command("certify", "-", "--with", "none", stdin=TEXT.encode())
             self.assertEqual(said.status, 0)
-            self.assertIn(f"certificate   accepted by lpd check --wide, and by the checker in Python: {TOO_WIDE}\n", said.output)
+            self.assertIn(f"certificate   accepted by lpd check --wide, and by the checker in Python: {TOO_WIDE}\n", unwrapped(said.output))
             told = json.loads(command("certify", "-", "--with", "none", "--json", stdin=TEXT.encode()).output)
         self.assertEqual((told["answer"], told["judge"], told["accepted_by_lpd_check"]), (f"OPTIMAL {VALUE}", "lpd check --wide", True))
         with program(DOES_NOT_KNOW):
             said = command("certify", "-", "--with", "none", stdin=TEXT.encode())
         self.assertEqual(said.status, 14)
-        self.assertIn(f"certificate   accepted by the checker in Python alone: {TOO_WIDE}, and {NO_COMMAND}\n", said.output)
+        self.assertIn(f"certificate   accepted by the checker in Python alone: {TOO_WIDE}, and {NO_COMMAND}\n", unwrapped(said.output))
         with program("echo YES OPTIMAL 1"):
             self.assertEqual(command("certify", "-", "--with", "none", stdin=TEXT.encode()).status, 3)
 
@@ -125,7 +125,7 @@ class Wide(unittest.TestCase):
                 self.assertEqual(judges(), [*["lpd check --wide"] * 2, *["lpd check"] * 2])
                 said = command("batch", folder, "--with", "none").output
                 for what in ("accepted", "certified"):
-                    self.assertIn(f"1 {what} by lpd check, 1 by lpd check --wide, 0 by the checker in Python alone", said)
+                    self.assertIn(f"1 {what} by lpd check, 1 by lpd check --wide, 0 by the checker in Python alone", unwrapped(said))
             with program(DOES_NOT_KNOW):
                 self.assertEqual(judges(), [*["python alone"] * 2, *["lpd check"] * 2])
 
@@ -175,12 +175,12 @@ class SolveWide(unittest.TestCase):
         """Then exact steps in Python do, and it is told."""
         for fault, told in ((lpd.OutOfTime("late"), "late: --seconds allows more"), (lpd.CommandMissing("solve --wide"), NO_SOLVE)):
             with program_with_wide(), mock.patch("lpd.ways.solve_wide", side_effect=fault):
-                said = command("solve", "-", "--show", "answer", stdin=TEXT.encode())
+                said = command("solve", "-", "--show", "answer", "--exact", stdin=TEXT.encode())
             self.assertEqual((said.status, said.output.split(" (")[0], said.complaints.count(f"note: {told}\n")), (0, OPTIMAL, 1))
             self.assertIn("This answer is by exact steps in Python from a basis of its own", said.output)
         with program(DOES_NOT_KNOW, "solve --wide"):
             self.assertEqual(command("solve", "-", "--show", "answer", stdin=TEXT.encode()).complaints.count(NO_SOLVE), 1)
-            said = command("solve", "-", "--wide", "--show", "answer", stdin=TEXT.replace("e30", "e3").encode())
+            said = command("solve", "-", "--wide", "--show", "answer", "--exact", stdin=TEXT.replace("e30", "e3").encode())
         self.assertEqual(said, (0, reported(OPTIMAL.replace("0" * 60, "0" * 6) + "\n"), f"note: {NO_SOLVE}, so lpd solve was asked\n"))
 
     def test_a_certificate_that_a_checker_does_not_accept(self) -> None:
@@ -201,7 +201,7 @@ class SolveWide(unittest.TestCase):
         self.assertIn(told, unwrapped(short.output))
         with tempfile.TemporaryDirectory() as folder:
             (Path(folder) / "long.mps").write_text(TEXT)
-            (row,) = csv.DictReader(io.StringIO(command("batch", folder, "--csv").output))
+            (row,) = csv.DictReader(io.StringIO(command("batch", folder, "--csv", "--exact").output))
         self.assertEqual((row["value"], row["way"], row["accepted by"]), (VALUE, "lpd solve --wide", "lpd check --wide"))
 
     @unittest.skipIf(pulp is None, "python3-pulp is not installed")
@@ -250,7 +250,7 @@ class BasisWide(unittest.TestCase):
                 told = json.loads(command("certify", "-", "--with", "none", "--by", "lpd", "--json", stdin=TEXT.encode()).output)
             self.assertEqual((said.status, said.complaints), (0, ""))
             self.assertIn(f"from there    {words}\n", said.output)
-            self.assertIn("certificate   accepted by lpd check --wide, and by the checker in Python", said.output)
+            self.assertIn("certificate   accepted by lpd check --wide, and by the checker in Python", unwrapped(said.output))
             wanted = (f"OPTIMAL {VALUE}", "lpd", BASIS_WIDE, start.partition(" PIVOTS")[0], CERTIFICATE)
             self.assertEqual(tuple(told[name] for name in ("answer", "by", "command", "start", "certificate")), wanted)
             with self.answers(start):
@@ -273,7 +273,7 @@ class BasisWide(unittest.TestCase):
         with self.answers(), tempfile.TemporaryDirectory() as folder:
             told = json.loads(command("solve", "-", "--with", "none", "--json", stdin=TEXT.encode()).output)
             (Path(folder) / "long.mps").write_text(TEXT)
-            (row,) = csv.DictReader(io.StringIO(command("batch", folder, "--with", "none", "--csv").output))
+            (row,) = csv.DictReader(io.StringIO(command("batch", folder, "--with", "none", "--csv", "--exact").output))
         way = "lpd basis --wide from a basis of its own"
         self.assertEqual((told["answer"], told["way"], told["accepted_by"]), (OPTIMAL, f"{way}, in 0 pivots", WIDE))
         self.assertEqual((row["value"], row["way"], row["accepted by"], row["judge"]), (VALUE, way, "lpd check --wide", "lpd check --wide"))

@@ -1,4 +1,4 @@
-"""python3 -m lpd batch FOLDER: a table of the answers to all models of a folder."""
+"""python3 -m lpd batch PATH..: a table of the answers to the models of files and folders."""
 from __future__ import annotations
 
 import argparse
@@ -6,15 +6,15 @@ import sys
 from pathlib import Path
 from typing import Dict, Iterator, List, Optional
 
-from ..batching import FAILED, Result, Work, by_dask, by_processes, one_by_one
+from ..batching import FAILED, Result, Task, Work, by_dask, by_processes, one_by_one, tasks_of
 from ..certifying import WAYS
+from ..figures import Style
 from ..floating import CHOICES
 from ..interrupts import INTERRUPTED, WORDS
 from ..judging import LPD_CHECK, LPD_CHECK_WIDE, PYTHON_ALONE
-from ..reading import end_of, name_of
 from ..tables import OTHER, SAME, Cells, Kept, Writer, against, cells_of, columns_of, read_optima
 from ..ways import SECONDS, Effort
-from .common import add_options, add_presolve, budget, options_of, seconds, tell
+from .common import add_options, add_presolve, budget, options_of, print_prose, seconds, tell
 
 
 def jobs(word: str) -> int:
@@ -24,9 +24,10 @@ def jobs(word: str) -> int:
 
 
 def add(commands: "argparse._SubParsersAction[argparse.ArgumentParser]") -> None:
-    batch = commands.add_parser("batch", help="solves all models of a folder, and shows a table of the answers")
+    batch = commands.add_parser("batch", help="solves models of files and folders, and shows a table of the answers")
     batch.set_defaults(run=run)
-    batch.add_argument("folder", help="a folder; its files *.mps, *.lp and *.mod, also with .gz, are taken in the order of their names")
+    folders = "files, and folders whose files *.mps, *.lp and *.mod, also with .gz, are taken, in the order of their names"
+    batch.add_argument("models", nargs="+", metavar="PATH", help=folders)
     batch.add_argument("--form", choices=["free", "fixed"], help="the form of all texts (for each the one that fits)")
     add_options(batch)
     own = batch.add_mutually_exclusive_group()
@@ -43,18 +44,19 @@ def add(commands: "argparse._SubParsersAction[argparse.ArgumentParser]") -> None
     engine = batch.add_mutually_exclusive_group()
     engine.add_argument("--jobs", type=jobs, metavar="N", default=1, help="solves N models at a time, each in a process (1)")
     engine.add_argument("--dask", metavar="ADDRESS", help="gives the models to the scheduler of Dask at this address")
+    batch.add_argument("--exact", action="store_true", help="shows values as they are, as fractions where they have no short decimal")
     output = batch.add_mutually_exclusive_group()
     output.add_argument("--json", action="store_true", help="a list of objects, as docs/JSON.md has it")
     output.add_argument("--csv", action="store_true")
 
 
-def results(paths: List[Path], words: argparse.Namespace) -> Iterator[Result]:
+def results(tasks: List[Task], words: argparse.Namespace) -> Iterator[Result]:
     """The results by the engine that is asked for, as they come."""
     effort = Effort(words.budget, words.only_lpd, words.solver, words.seconds, presolve=words.presolve)
     work = Work(words.form, options_of(words), effort, words.solver, words.way)
     if words.dask:
-        return by_dask(paths, work, words.dask)
-    return one_by_one(paths, work) if words.jobs == 1 else by_processes(paths, work, words.jobs)
+        return by_dask(tasks, work, words.dask)
+    return one_by_one(tasks, work) if words.jobs == 1 else by_processes(tasks, work, words.jobs)
 
 
 class Progress:
@@ -97,33 +99,33 @@ def summary(rows: List[Cells]) -> str:
 
 
 def run(words: argparse.Namespace) -> int:
-    paths = sorted((path for path in Path(words.folder).iterdir() if end_of(path)), key=lambda path: (name_of(path), path.name))
-    if not paths:
-        tell(f"lpd: {words.folder} has no file *.mps, *.lp or *.mod, nor one of these with .gz")
+    tasks = tasks_of(words.models)
+    if not tasks:
+        tell(f"lpd: {', '.join(words.models)} has no file *.mps, *.lp or *.mod, nor one of these with .gz")
         return 3
-    twice = next((path for path, after in zip(paths, paths[1:]) if name_of(path) == name_of(after)), None)
-    if twice:
-        tell(f"lpd: two files of {words.folder} are named {name_of(twice)} but for their ends, and a table has each name once")
-        return 2
+    missing = next((task.path for task in tasks if not task.path.exists()), None)
+    if missing:
+        tell(f"lpd: there is no {missing}")
+        return 3
     optima = read_optima(Path(words.optima).read_text(encoding="utf-8")) if words.optima else None
     columns = columns_of(bool(words.solver), optima is not None, words.presolve)
     kept = Kept(words.resume, columns) if words.resume else None
-    writer = Writer("json" if words.json else "csv" if words.csv else "text", columns, [name_of(path) for path in paths])
+    writer = Writer("json" if words.json else "csv" if words.csv else "text", columns, [task.name for task in tasks], Style(words.exact))
     rows: List[Cells] = []
     is_whole = False
     print(writer.head(), end="", flush=True)
     try:
-        for cells in found_cells(paths, words, kept, optima):
+        for cells in found_cells(tasks, words, kept, optima):
             rows.append(cells)
             print(writer.line(cells), end="", flush=True)
         is_whole = True
     except KeyboardInterrupt:
-        tell(f"{WORDS}: {len(rows)} of {len(paths)} models are done" + (f", and {words.resume} has them" if kept else ""))
+        tell(f"{WORDS}: {len(rows)} of {len(tasks)} models are done" + (f", and {words.resume} has them" if kept else ""))
     print(writer.foot(), end="")
     if kept:
         kept.write()
     if rows and not (words.json or words.csv):
-        print("\n" + summary(rows))
+        print_prose("\n" + summary(rows))
     if not is_whole:
         return INTERRUPTED
     if any(cells["answer"] == FAILED for cells in rows):
@@ -131,11 +133,11 @@ def run(words: argparse.Namespace) -> int:
     return 1 if any(cells.get("optimum") == OTHER for cells in rows) else 0
 
 
-def found_cells(paths: List[Path], words: argparse.Namespace, kept: Optional[Kept], optima: Optional[Dict[str, str]]) -> Iterator[Cells]:
+def found_cells(tasks: List[Task], words: argparse.Namespace, kept: Optional[Kept], optima: Optional[Dict[str, str]]) -> Iterator[Cells]:
     """The cells of each model: first those of an earlier run, and then the others as they end."""
     old = dict(kept.rows) if kept else {}
-    yield from (old[name_of(path)] for path in paths if name_of(path) in old)
-    left = [path for path in paths if name_of(path) not in old]
+    yield from (old[task.name] for task in tasks if task.name in old)
+    left = [task for task in tasks if task.name not in old]
     progress = Progress(len(left))
     progress.show()
     try:

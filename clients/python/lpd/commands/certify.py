@@ -10,9 +10,9 @@ from typing import Dict
 from ..certifying import PYTHON, WAYS, Certified, NotAnswered, certify
 from ..floating import CHOICES, NONE
 from ..reading import is_lp, read_model_file
-from ..replies import Optimal
 from ..tables import claim_of, off_of
-from .common import PYTHON_ALONE, add_options, converted, decimals, options_of, put_beside, seconds, status_of, tell, with_decimals
+from .common import PYTHON_ALONE, add_options, add_style, converted, options_of, print_prose, put_beside, seconds, status_of, style_of, tell
+from .reports import shown_answer
 
 
 def add(commands: "argparse._SubParsersAction[argparse.ArgumentParser]") -> None:
@@ -25,7 +25,7 @@ def add(commands: "argparse._SubParsersAction[argparse.ArgumentParser]") -> None
     certifies.add_argument("--by", dest="way", choices=WAYS, help=ways)
     certifies.add_argument("--form", choices=["free", "fixed"], help="the form of the text (the one that fits)")
     add_options(certifies)
-    certifies.add_argument("--decimals", type=decimals, metavar="D", default=10, help="shows D decimals, rounded, beside fractions (10)")
+    add_style(certifies)
     certifies.add_argument("-o", "--output", metavar="FILE", help="where the certificate goes; a text that was converted goes beside it, to FILE.mps")
     certifies.add_argument("--json", action="store_true")
 
@@ -71,12 +71,11 @@ def run(words: argparse.Namespace) -> int:
     if words.json:
         print(as_json(found, words.solver, seconds))
     else:
-        exact = f"OPTIMAL {with_decimals(found.known.value, words.decimals)}" if isinstance(found.known, Optimal) else str(found.known)
         if words.solver != NONE:
-            print(f"{words.solver + ' says':14}{claim_of(found)}")
-        print(f"exactly       {exact}")
+            print(f"{words.solver + ' says':14}{claim_of(found, style_of(words).word)}")
+        print(f"exactly       {shown_answer(found.known, style_of(words))}")
         if found.off() is not None:
             print(f"off by        {off_of(found)}, as {words.solver} prints its value")
         print(f"from there    {steps_of(found)}")
-        print(f"certificate   {judge_of(found)}")
+        print_prose(f"certificate   {judge_of(found)}")
     return status_of(found.known) if found.is_proved else PYTHON_ALONE

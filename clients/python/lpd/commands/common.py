@@ -12,7 +12,6 @@ from ..conversion import Converted, Options, convert
 from ..figures import READABLE, Style
 from ..model import Model
 from ..names import Renamed
-from ..number_text import rounded, shown
 from ..reading import unpacked
 from ..replies import Answer, Infeasible, Optimal, Spent, Unbounded
 
@@ -78,6 +77,17 @@ def budget(word: str) -> int:
     return int(word)
 
 
+def add_style(parser: argparse.ArgumentParser) -> None:
+    """How numbers are shown."""
+    parser.add_argument("--exact", action="store_true", help="shows numbers as they are, as fractions where they have no short decimal")
+    places = "shows D decimals in place of 6 digits, and with --exact beside each fraction"
+    parser.add_argument("--decimals", type=decimals, metavar="D", help=places)
+
+
+def style_of(words: argparse.Namespace) -> Style:
+    return Style(words.exact, words.decimals)
+
+
 def status_of(answer: Answer) -> int:
     if isinstance(answer, Optimal):
         return 0
@@ -86,12 +96,6 @@ def status_of(answer: Answer) -> int:
     if isinstance(answer, Unbounded):
         return 11
     return 13 if isinstance(answer, Spent) else 12
-
-
-def with_decimals(value: Optional[Fraction], decimals: Optional[int]) -> str:
-    if value is None:
-        return ""
-    return shown(value) if decimals is None else f"{shown(value)} ({rounded(value, decimals)})"
 
 
 def number_in(value: Optional[Fraction], places: Optional[int]) -> Optional[float]:
@@ -128,7 +132,14 @@ def cut(text: str, width: int) -> str:
 def in_lines(text: str) -> str:
     """Sentences in lines that are no longer than `WIDEST_LINE`, of which all but the first are moved in."""
     front = text[: len(text) - len(text.lstrip())]
-    return textwrap.fill(text, WIDEST_LINE, subsequent_indent=f"{front.strip(chr(10))}  ", break_long_words=False, break_on_hyphens=False, replace_whitespace=False, drop_whitespace=True)
+    return textwrap.fill(
+        text,
+        WIDEST_LINE,
+        subsequent_indent=f"{front.strip(chr(10))}  ",
+        break_long_words=False,
+        break_on_hyphens=False,
+        replace_whitespace=False,
+    )
 
 
 def print_prose(text: str) -> None:

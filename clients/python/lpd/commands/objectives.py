@@ -6,12 +6,13 @@ from fractions import Fraction
 from typing import Dict, List, Mapping, Optional
 
 from ..certificate import matched, read_certificate
+from ..figures import Style
 from ..model import Model
-from ..number_text import rounded, shown
+from ..number_text import shown
 from ..objective import Aim, aimed
 from ..replies import Optimal
 from ..ways import Answered
-from .common import number_in, tell, with_decimals
+from .common import number_in, tell
 
 
 def asked_aim(words: argparse.Namespace, text: str, model: Model) -> Optional[Aim]:
@@ -31,10 +32,10 @@ def value_before(aim: Aim, found: Answered) -> Optional[Fraction]:
     return aim.value_before(matched(aim.model, read_certificate(found.certificate, wide=True))["x"])
 
 
-def sentences(aim: Aim, found: Answered, places: Optional[int], is_written: bool) -> List[str]:
+def sentences(aim: Aim, found: Answered, style: Style, is_written: bool) -> List[str]:
     """That it is another objective, and what the certificate is for, unless that text is written beside it."""
     value = value_before(aim, found)
-    first = "" if value is None else f", which is {with_decimals(value, places)} there"
+    first = "" if value is None else f", which is {style.word(value)} there"
     told = [f"Solved for {aim.row} in place of {aim.before.objective}{first}."]
     if found.certificate and not is_written:
         told.append(f"The certificate is for the text with {aim.row} as its objective: -o FILE writes both, and the command check takes them.")
@@ -45,9 +46,3 @@ def objective_in_json(aim: Aim, found: Answered, places: Optional[int]) -> Dict[
     value = value_before(aim, found)
     decimals = {"value": number_in(value, places)}
     return {"row": aim.row, "in_place_of": aim.before.objective, "value": None if value is None else shown(value), "decimals": decimals}
-
-
-def objective_cells(aim: Aim, found: Answered, places: Optional[int]) -> List[str]:
-    """A line of CSV: the objective that is not solved for, with its value."""
-    value = value_before(aim, found)
-    return ["objective", aim.before.objective, "" if value is None else shown(value) if places is None else rounded(value, places), "", ""]

@@ -5,9 +5,9 @@ import argparse
 from fractions import Fraction
 
 from ..model import Model
-from ..number_text import number, rounded, shown
+from ..number_text import number
 from ..plotting import NoPicture, curve, plane, turns_of
-from .common import add_options, put, tell
+from .common import add_options, add_style, put, style_of, tell
 from .solve import add_ways, effort_of, loaded
 
 
@@ -31,6 +31,7 @@ def add(commands: "argparse._SubParsersAction[argparse.ArgumentParser]") -> None
     over.add_argument("--cost", metavar="COLUMN", help="the optimum over the cost of this column")
     plot.add_argument("--from", dest="low", type=number_word, metavar="A", help="where the number begins (half of what it is)")
     plot.add_argument("--to", dest="high", type=number_word, metavar="B", help="where the number ends (one and a half times what it is)")
+    add_style(plot)
     plot.add_argument("-o", "--output", metavar="FILE", help="where the picture goes (standard output)")
 
 
@@ -52,8 +53,10 @@ def run(words: argparse.Namespace) -> int:
     low, high = around(model, words)
     turns = turns_of(model, words.rhs, words.cost, low, high, effort_of(words))
     name, what = (words.rhs, "right side of") if words.rhs is not None else (words.cost, "cost of")
+    word = style_of(words).word
     for turn, after in zip(turns, turns[1:]):
         slope = (after.value - turn.value) / (after.number - turn.number)
-        tell(f"from {shown(turn.number)} to {shown(after.number)}: {shown(turn.value)} to {shown(after.value)}, {shown(slope)} for each unit ({rounded(slope, 4)})")
+        numbers = f"from {word(turn.number)} to {word(after.number)}: {word(turn.value)} to {word(after.value)}"
+        tell(f"{numbers}, {word(slope)} for each unit")
     put(curve(turns, name, what), words.output)
     return 0

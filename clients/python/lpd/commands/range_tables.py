@@ -8,15 +8,14 @@ from typing import Dict, List, Mapping, Optional, Sequence, Tuple
 
 from ..errors import CommandMissing, Refused
 from ..exact import Watch
+from ..figures import READABLE, Style
 from ..model import Model
-from ..number_text import rounded, shown
+from ..number_text import shown
 from ..pieces import Curve, curve_of, picture_of
 from ..plotting import NoPicture
 from ..ranging import COST, RHS, Range, Ranged, Ranges, ranges
 from ..replies import Answer, Optimal
 from .common import number_in, put, table, tell
-
-PLACES = 4  # of the decimals beside quotients where nothing is said
 
 
 def asked_ranges(text: str, answer: Answer) -> Optional[Ranges]:
@@ -39,35 +38,27 @@ def asked_ranges(text: str, answer: Answer) -> Optional[Ranges]:
 # ---- tables
 
 
-def both(value: Optional[Fraction], places: Optional[int]) -> str:
-    """A number, with a decimal beside it where it is a quotient, or where decimals are asked for."""
-    if value is None:
-        return ""
-    text = shown(value)
-    return text if places is None and "/" not in text else f"{text} ({rounded(value, PLACES if places is None else places)})"
-
-
-def lines_of(name: str, found: Ranged, places: Optional[int]) -> List[List[str]]:
+def lines_of(name: str, found: Ranged, style: Style) -> List[List[str]]:
     """Two lines: of the lower end of the range, and of the upper one."""
     if not isinstance(found, Range):
         return [[name, "", "", str(found), "", ""]]
     ends = [("from", found.low, "-inf", found.below), ("to  ", found.high, "inf", found.above)]
     lines = []
     for word, end, without, limiting in ends:
-        there = "" if end is None else both(found.optimum(end), places)
-        lines.append(["", "", "", f"{word} {both(end, places) or without}", there, "; ".join(limiting)])
-    lines[0][:3] = [name, both(found.now, places), both(found.slope, places)]
+        there = "" if end is None else style.cell(found.optimum(end))
+        lines.append(["", "", "", f"{word} {style.cell(end) or without}", there, "; ".join(limiting)])
+    lines[0][:3] = [name, style.cell(found.now), style.cell(found.slope)]
     return lines
 
 
-def table_of(found: Mapping[str, Ranged], heads: Sequence[str], places: Optional[int]) -> str:
-    return table([list(heads), *(line for name, one in found.items() for line in lines_of(name, one, places))])
+def table_of(found: Mapping[str, Ranged], heads: Sequence[str], style: Style) -> str:
+    return table([list(heads), *(line for name, one in found.items() for line in lines_of(name, one, style))], style)
 
 
-def print_ranges(found: Ranges, places: Optional[int]) -> None:
+def print_ranges(found: Ranges, style: Style) -> None:
     behind = ["obj value at break point", "limiting variable"]
-    print("\n" + table_of(found.costs, ["column", "obj coef", "value", "obj coef range", *behind], places))
-    print("\n" + table_of(found.sides, ["row", "right side", "price", "right side range", *behind], places))
+    print("\n" + table_of(found.costs, ["column", "obj coef", "value", "obj coef range", *behind], style))
+    print("\n" + table_of(found.sides, ["row", "right side", "price", "right side range", *behind], style))
 
 
 def in_json(found: Ranged, places: Optional[int]) -> Dict[str, object]:
@@ -89,21 +80,14 @@ def ranges_in_json(found: Optional[Ranges], places: Optional[int]) -> Optional[D
     return {part: {name: in_json(one, places) for name, one in named.items()} for part, named in parts.items()}
 
 
-def csv_cells(found: Optional[Ranges], what: str, name: str, places: Optional[int]) -> List[str]:
-    """The number as it is, and the ends of its range, or nothing where they are not known."""
-    one = None if found is None else (found.costs if what == COST else found.sides).get(name)
+def csv_cells(found: Ranges, kind: str, name: str, style: Style, numbers: List[Optional[Fraction]]) -> List[str]:
+    """Of a column or a row the number as it is, and the ends of its range, or nothing where they are not known. They are put to the
+    numbers of the line."""
+    one = {"column": found.costs, "row": found.sides}.get(kind, {}).get(name)
     if not isinstance(one, Range):
         return ["", "", ""]
-    ends = [shown(value) if places is None else rounded(value, places) for value in (one.now, one.low, one.high) if value is not None]
-    return [ends.pop(0), "-inf" if one.low is None else ends.pop(0), "inf" if one.high is None else ends.pop(0)]
-
-
-def add_cells(lines: List[List[str]], found: Ranges, places: Optional[int]) -> None:
-    """Puts the cells behind the lines of a table whose first line has the heads."""
-    lines[0] += ["now", "low", "high"]
-    for line in lines[1:]:
-        what = {"column": COST, "row": RHS}.get(line[0])
-        line += csv_cells(found, what, line[1], places) if what else ["", "", ""]
+    numbers += [one.now, one.low, one.high]
+    return [style.plain(one.now), style.plain(one.low) or "-inf", style.plain(one.high) or "inf"]
 
 
 # ---- the picture
@@ -124,7 +108,7 @@ def number_named(model: Model, word: str) -> Tuple[str, str]:
     return found[0], word
 
 
-def draw(model: Model, number: Tuple[str, str], path: Optional[str]) -> None:
+def draw(model: Model, number: Tuple[str, str], path: Optional[str], style: Style = READABLE) -> None:
     """Writes the picture, and tells the pieces of the optimum; or why there is none."""
     what, name = number
     try:
@@ -135,22 +119,23 @@ def draw(model: Model, number: Tuple[str, str], path: Optional[str]) -> None:
     if not isinstance(found, Curve):
         tell(f"lpd: there is no picture: lpd range ends with {answer if found is None else found}")
         return
-    for line in lines_of_curve(found):
+    for line in lines_of_curve(found, style):
         tell(line)
     file = path or f"{Path(name.replace('/', '_')).name}.svg"
     put(picture_of(found, name, "cost of" if what == COST else "right side of"), file)
     tell(f"{file} has the picture")
 
 
-def lines_of_curve(found: Curve) -> List[str]:
+def lines_of_curve(found: Curve, style: Style) -> List[str]:
     """The pieces in words, as the command plot tells them, and what is beyond them."""
-    lines = []
+    lines, word = [], style.word
     for piece in found.pieces:
-        ends = [(None if end is None else shown(end), "" if end is None else shown(piece.optimum(end))) for end in (piece.low, piece.high)]
+        ends = [("", "") if end is None else (word(end), word(piece.optimum(end))) for end in (piece.low, piece.high)]
         span = f"from {ends[0][0] or '-inf'} to {ends[1][0] or 'inf'}"
-        values = " to ".join(value for _, value in ends if value) or shown(piece.value)
-        lines.append(f"{span}: {values}, {shown(piece.slope)} for each unit ({rounded(piece.slope, PLACES)})")
+        values = " to ".join(value for _, value in ends if value) or word(piece.value)
+        lines.append(f"{span}: {values}, {word(piece.slope)} for each unit")
     below, above = found.beyond.get(-1), found.beyond.get(1)
-    lines += [f"below {shown(found.pieces[0].low)}: {below}"] if below and found.pieces[0].low is not None else []
-    lines += [f"above {shown(found.pieces[-1].high)}: {above}"] if above and found.pieces[-1].high is not None else []
+    first, last = found.pieces[0].low, found.pieces[-1].high
+    lines += [f"below {word(first)}: {below}"] if below and first is not None else []
+    lines += [f"above {word(last)}: {above}"] if above and last is not None else []
     return lines

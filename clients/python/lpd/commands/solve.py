@@ -14,21 +14,21 @@ from ..dialects import PROFILE, written
 from ..figures import Style
 from ..floating import CHOICES
 from ..model import Model, read_model
-from ..number_text import rounded, shown
+from ..number_text import shown
 from ..reading import is_lp, read_model_file
-from ..replies import Answer, Infeasible, Optimal, Past, Spent, Unbounded
+from ..replies import Answer, Infeasible, Optimal
 from ..report import Report, conflict, report
 from ..version import version
 from ..ways import BOTH, SECONDS, Answered, Effort, answered
 from .common import add_options, add_presolve, as_text, budget, converted, csv_line, decimals, number_in, options_of, put_beside, seconds, skipped_words
-from .common import PYTHON_ALONE, in_lines, status_of, table, tell, with_decimals
+from .common import PYTHON_ALONE, add_style, in_lines, print_prose, status_of, style_of, tell
+from .reports import offset_words, print_report, shown_answer, words_for
 
 if TYPE_CHECKING:
     from ..objective import Aim
     from ..ranging import Ranges
 
 SHOWN = ["all", "point", "rows", "prices", "answer"]
-LONG = 40  # a fraction of more characters is shown with decimals beside it
 
 
 def add(commands: "argparse._SubParsersAction[argparse.ArgumentParser]") -> None:
@@ -48,8 +48,8 @@ def add(commands: "argparse._SubParsersAction[argparse.ArgumentParser]") -> None
     add_options(solve)
     add_ways(solve)
     solve.add_argument("--show", choices=SHOWN, default="all", help="what of an optimal point is shown (all)")
-    solve.add_argument("--exact", action="store_true", help="shows numbers as they are, as fractions where they have no short decimal")
-    solve.add_argument("--decimals", type=decimals, metavar="D", help="shows D decimals, rounded, beside each fraction; in CSV in place of it")
+    solve.add_argument("--all", action="store_true", help="shows columns that are 0 and rows that do not bind too")
+    add_style(solve)
     solve.add_argument("-o", "--output", metavar="FILE", help="where the answer and its certificate go too, as lpd solve prints them")
     solve.add_argument("--page", metavar="FILE", help="writes a page that checks the model and its certificate in a browser")
     add_ranges(solve)
@@ -88,40 +88,6 @@ def add_iis(parser: argparse.ArgumentParser) -> None:
 
 def effort_of(words: argparse.Namespace) -> Effort:
     return Effort(words.budget, words.only_lpd, words.solver, words.seconds, presolve=words.presolve, wide_first=words.wide or None)
-
-
-def words_for(answer: Answer) -> str:
-    """What an answer without a point means."""
-    if isinstance(answer, Unbounded):
-        return "Feasible points get better without limit, from the x of the certificate along its r."
-    if isinstance(answer, Past):
-        return "The result of this operation does not fit 127 bits, so lpd solve has no answer."
-    return f"The solve is not done after {answer.budget} pivots and flips: --budget allows more." if isinstance(answer, Spent) else ""
-
-
-def style_of(words: argparse.Namespace) -> Style:
-    """How numbers are shown."""
-    return Style(words.exact, words.decimals)
-
-
-def shown_answer(answer: Answer, places: Optional[int]) -> str:
-    """The answer, with decimals where they are wanted, or its value is long."""
-    if isinstance(answer, Optimal) and (places is not None or len(shown(answer.value)) > LONG):
-        return f"OPTIMAL {with_decimals(answer.value, 10 if places is None else places)}"
-    return str(answer)
-
-
-def print_report(found: Report, show: str, places: Optional[int]) -> None:
-    if show in ("point", "all"):
-        columns = [[c.name, with_decimals(c.value, places), with_decimals(c.reduced_cost, places)] for c in found.columns]
-        print("\n" + table([["column", "value", "reduced cost"], *columns]))
-    if show in ("rows", "all"):
-        rows = [[r.name, *(with_decimals(v, places) for v in (r.activity, r.slack, r.price))] for r in found.rows]
-        print("\n" + table([["row", "sum", "slack", "price"], *rows]))
-    if show == "prices":
-        prices = [[r.name, with_decimals(r.price, places)] for r in found.rows if r.price]
-        costs = [[c.name, with_decimals(c.reduced_cost, places)] for c in found.columns if c.reduced_cost]
-        print("\n" + table([["row", "price"], *prices]) + "\n\n" + table([["column", "reduced cost"], *costs]))
 
 
 def numbers(places: Optional[int], **values: Optional[Fraction]) -> Dict[str, object]:
@@ -173,30 +139,39 @@ def as_json(found: Answered, model: Model, point: Optional[Report], show: str, p
     return json.dumps({**told, **more, "certificate": found.certificate, "lpd": version()}, indent=2)
 
 
-def as_csv(found: Answered, aim: Optional[Aim], point: Optional[Report], show: str, places: Optional[int], ranges: Optional[Ranges]) -> str:
+def as_csv(
+    found: Answered,
+    aim: Optional[Aim],
+    point: Optional[Report],
+    show: str,
+    style: Style,
+    ranges: Optional[Ranges],
+) -> str:
     """A line for the answer, one for an objective that is not solved for, one for each column (value, reduced cost), and one for each
-    row (sum, price, slack); of ranges also the cost, or the right side, and the ends of its range."""
-    answer = found.answer
-
-    def cell(value: Optional[Fraction], shows: bool = True) -> str:
-        return "" if value is None or not shows else shown(value) if places is None else rounded(value, places)
-
-    lines = [["kind", "name", "value", "price", "slack"]]
-    lines.append(["answer", str(answer).split(" ")[0], cell(answer.value if isinstance(answer, Optimal) else None), "", ""])
+    row (sum, price, slack); of ranges also the cost, or the right side, and the ends of its range. The last cell of a line is = where
+    all its numbers are exact."""
+    answer, is_whole = found.answer, show != "prices"
+    value = answer.value if isinstance(answer, Optimal) else None
+    lines: List[Line] = [Line("answer", str(answer).split(" ")[0], [value, None, None])]
     if aim:
-        from .objectives import objective_cells
+        from .objectives import value_before
 
-        lines.append(objective_cells(aim, found, places))
-    is_whole = show != "prices"
+        lines.append(Line("objective", aim.before.objective, [value_before(aim, found), None, None]))
     if point and show in ("all", "point", "prices"):
-        lines += [["column", c.name, cell(c.value, is_whole), cell(c.reduced_cost), ""] for c in point.columns]
+        lines += [Line("column", c.name, [c.value if is_whole else None, c.reduced_cost, None]) for c in point.columns]
     if point and show in ("all", "rows", "prices"):
-        lines += [["row", r.name, cell(r.activity, is_whole), cell(r.price), cell(r.slack, is_whole)] for r in point.rows]
-    if ranges:
-        from .range_tables import add_cells
+        rows = ((r, r.activity if is_whole else None, r.slack if is_whole else None) for r in point.rows)
+        lines += [Line("row", r.name, [total, r.price, slack]) for r, total, slack in rows]
+    heads = ["kind", "name", "value", "price", "slack", *(["now", "low", "high"] if ranges else []), "exact"]
+    told = [heads]
+    for line in lines:
+        more: List[str] = []
+        if ranges:
+            from .range_tables import csv_cells
 
-        add_cells(lines, ranges, places)
-    return "\n".join(csv_line(line) for line in lines)
+            more = csv_cells(ranges, line.kind, line.name, style, line.values)
+        told.append([line.kind, line.name, *(style.plain(value) for value in line.values[:3]), *more, style.mark(*line.values)])
+    return "\n".join(csv_line(line) for line in told)
 
 
 def can_be_converted(words: argparse.Namespace, data: bytes) -> bool:
@@ -208,6 +183,14 @@ def can_be_converted(words: argparse.Namespace, data: bytes) -> bool:
     except errors.LpdError:
         return False
     return True
+
+
+class Line(NamedTuple):
+    """A line of CSV: of what it is, and the numbers of its cells."""
+
+    kind: str
+    name: str
+    values: List[Optional[Fraction]]
 
 
 class Loaded(NamedTuple):
@@ -265,7 +248,7 @@ def run(words: argparse.Namespace) -> int:
             tell("lpd: there is no list: --iis is for text and --json, and CSV has no cells for it")
         ranges = ranges_of(words, text, found.answer)
         is_json = as_json(found, model, point, words.show, words.decimals, more_in_json(words, text, model, found, ranges, aim)) if words.json else ""
-        print(is_json or as_csv(found, aim, point, words.show, words.decimals, ranges))
+        print(is_json or as_csv(found, aim, point, words.show, style_of(words), ranges))
     else:
         print_answer(words, found, model, point, skipped, aim)
         sys.stdout.flush()
@@ -277,7 +260,7 @@ def run(words: argparse.Namespace) -> int:
     if number:
         from .range_tables import draw
 
-        draw(model, number, words.picture)
+        draw(model, number, words.picture, style_of(words))
     return status_of(found.answer) if found.is_proved or not found.certificate else PYTHON_ALONE
 
 
@@ -333,7 +316,7 @@ def print_more(words: argparse.Namespace, text: str, found: Answered, model: Mod
     if ranges:
         from .range_tables import print_ranges
 
-        print_ranges(ranges, words.decimals)
+        print_ranges(ranges, style_of(words))
     if words.iis or isinstance(found.answer, Infeasible) and words.show != "answer":
         from .conflicts import print_conflicts
 
@@ -345,20 +328,31 @@ def is_as_ever(found: Answered) -> bool:
     return found.is_by_lpd and found.accepted_by == BOTH
 
 
-def print_answer(words: argparse.Namespace, found: Answered, model: Model, point: Optional[Report], skipped: str, aim: Optional[Aim]) -> None:
+def print_answer(
+    words: argparse.Namespace,
+    found: Answered,
+    model: Model,
+    point: Optional[Report],
+    skipped: str,
+    aim: Optional[Aim],
+) -> None:
     """The answer as people read it: first what was not read, and how the answer came where that was not lpd solve alone."""
-    lines = [skipped] if skipped else []
-    lines.append(shown_answer(found.answer, words.decimals))
+    style = style_of(words)
+    print("\n".join([*([in_lines(skipped)] if skipped else []), shown_answer(found.answer, style)]))
+    lines: List[str] = []
     if aim:
         from .objectives import sentences
 
-        lines += sentences(aim, found, words.decimals, bool(words.output))
+        lines += sentences(aim, found, style, bool(words.output))
     if found.certificate and not is_as_ever(found):
-        lines.append(in_lines(found.told()))
-    print("\n".join(lines))
+        lines.append(found.told())
+    lines += [offset_words(model.offset, style)] if model.offset and point and words.show != "answer" else []
+    for line in lines:
+        print_prose(line)
+    sys.stdout.flush()
     for note in found.notes:
         tell(f"note: {note}")
     if point:
-        print_report(point, words.show, words.decimals)
+        print_report(point, words.show, style, words.all)
     elif words.show != "answer" and not isinstance(found.answer, Infeasible):
-        print(words_for(found.answer))
+        print_prose(words_for(found.answer, model, found.certificate, style))

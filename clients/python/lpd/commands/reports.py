@@ -1,0 +1,95 @@
+"""The report of the command solve, as people read it: the answer, columns that are not 0, and rows that bind."""
+from __future__ import annotations
+
+from fractions import Fraction
+from typing import List, Sequence
+
+from ..certificate import matched, read_certificate
+from ..figures import Style
+from ..model import Model
+from ..replies import Answer, Optimal, Past, Spent, Unbounded
+from ..report import ColumnReport, Report, RowReport
+from .common import table
+
+LONG = 40  # an exact number of more characters has a decimal beside it
+MOST_VALUES = 6  # of a point or a ray
+
+
+def shown_answer(answer: Answer, style: Style) -> str:
+    """The answer in a line."""
+    if not isinstance(answer, Optimal):
+        return str(answer) if len(str(answer)) <= 3 * LONG else f"{str(answer)[: 3 * LONG - 3]} .."
+    word = style.word(answer.value)
+    if style.is_exact and style.places is None and len(word) > LONG:
+        word = Style(True, 10).word(answer.value)
+    return f"OPTIMAL {word}"
+
+
+def words_for(answer: Answer, model: Model, certificate: List[str], style: Style) -> str:
+    """What an answer without a point means."""
+    if isinstance(answer, Unbounded):
+        return growth(model, certificate, style)
+    if isinstance(answer, Past):
+        return "The result of this operation does not fit 127 bits, so lpd solve has no answer."
+    return f"The solve is not done after {answer.budget} pivots and flips: --budget allows more." if isinstance(answer, Spent) else ""
+
+
+def growth(model: Model, certificate: List[str], style: Style) -> str:
+    """Which columns of an unbounded model grow, by how much, and what that is worth."""
+    given = matched(model, read_certificate(certificate, wide=True))
+    moves = [f"{name} {'grows' if step > 0 else 'falls'} by {style.word(abs(step))}" for name, step in given["r"].items() if step]
+    values = [f"{name} {style.word(value)}" for name, value in given["x"].items() if value]
+    gain = model.cost(given["r"])
+    change = f"the objective {'grows' if gain > 0 else 'falls'} by {style.word(abs(gain))}"
+    return f"From the point {some_of(values) or 'with all columns 0'} on, with each step {some_of(moves)}, and {change}, without end."
+
+
+def some_of(texts: Sequence[str]) -> str:
+    more = f" and {len(texts) - MOST_VALUES} more" if len(texts) > MOST_VALUES else ""
+    return ", ".join(texts[:MOST_VALUES]) + more
+
+
+def print_report(found: Report, show: str, style: Style, shows_all: bool) -> None:
+    if show in ("point", "all"):
+        print_columns(found.columns, style, shows_all)
+    if show in ("rows", "all"):
+        print_rows(found.rows, style, shows_all)
+    if show == "prices":
+        prices = [[r.name, style.cell(r.price)] for r in found.rows if r.price]
+        costs = [[c.name, style.cell(c.reduced_cost)] for c in found.columns if c.reduced_cost]
+        print("\n" + table([["row", "price"], *prices], style) + "\n\n" + table([["column", "reduced cost"], *costs], style))
+
+
+def print_columns(columns: Sequence[ColumnReport], style: Style, shows_all: bool) -> None:
+    """Those that are not 0, or all of them."""
+    kept = [column for column in columns if shows_all or column.value]
+    lines = [[c.name, style.cell(c.value), style.cell(c.reduced_cost)] for c in kept]
+    print("\n" + table([["column", "value", "reduced cost"], *lines], style))
+    print_rest(len(columns) - len(kept), "column that is 0 is", "columns that are 0 are")
+
+
+def binds(row: RowReport) -> bool:
+    """Whether the sum of a row is at a limit."""
+    return row.slack == 0
+
+
+def print_rows(rows: Sequence[RowReport], style: Style, shows_all: bool) -> None:
+    """Those that bind, or these first and then the others."""
+    kept = [row for row in rows if binds(row)] + [row for row in rows if shows_all and not binds(row)]
+    lines = [[r.name, *(style.cell(value) for value in (r.activity, r.slack, r.price))] for r in kept]
+    print("\n" + table([["row", "sum", "slack", "price"], *lines], style))
+    print_rest(len(rows) - len(kept), "row that does not bind is", "rows that do not bind are")
+
+
+def print_rest(count: int, one: str, many: str) -> None:
+    if count:
+        print(f"({count} {one if count == 1 else many} left out: --all shows all)")
+
+
+def offset_words(offset: Fraction, style: Style) -> str:
+    """What the right side of the objective does to the value, which solvers do not agree on."""
+    if not offset:
+        return ""
+    less = f"The value has the offset {style.word(offset)}, by the right side of the objective"
+    return f"{less}: solvers differ, and some leave it out, or take it with the other sign."
+
