@@ -28,6 +28,7 @@ from .irreducible import Irreducible, iis, renamed
 from .model import MOST_COLUMNS, MOST_ROWS, Column, Model, Row, is_name, read_model
 from .names import LONGEST, plain
 from .program import the_program
+from .ranging import Ranges, ranges
 from .replies import Answer, Infeasible, Optimal, Unbounded
 from .report import report
 from .ways import Effort, answered
@@ -57,6 +58,13 @@ class Exact:
         """Constraints and bounds of an infeasible problem that contradict each other, none of which can be left out, by PuLP's names,
         from a solve of their own (`lpd iis`), as `lpd.iis` has them."""
         return renamed(iis(self.text), self.rows, self.columns)
+
+    @functools.cached_property
+    def ranges(self) -> Ranges:
+        """The ranges of costs and right sides of an optimum, by PuLP's names, as `lpd.ranges` has them."""
+        found = ranges(self.text)
+        costs = {self.columns[name]: one for name, one in found.costs.items()}
+        return Ranges(found.answer, costs, {self.rows[name]: one for name, one in found.sides.items()})
 
 
 def exactly(value: Any, binary: bool = False) -> Fraction:

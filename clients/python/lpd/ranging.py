@@ -1,5 +1,5 @@
-"""`lpd range`: the interval of a cost, or of a right side, in which the basis of an optimum stays optimal; and what the optimum does
-in it, and what gives the basis up at its ends.
+"""The interval of a cost, or of a right side, in which the basis of an optimum stays optimal; and what the optimum does in it, and
+what gives the basis up at its ends: of one number by `lpd range`, and of all of them by the tableau of one basis.
 
 A range is of a basis, not of the optimum: where an optimum has several bases, another one may have another range
 (docs/RANGES.md).
@@ -8,16 +8,16 @@ from __future__ import annotations
 
 from dataclasses import dataclass, field, replace
 from fractions import Fraction
-from typing import Callable, Dict, List, Mapping, Optional, Sequence, Tuple, Union
+from typing import Callable, Dict, List, Optional, Sequence, Tuple, Union
 
-from .certificate import matched, raise_unknown, read_certificate
+from .certificate import raise_unknown
 from .dialects import PROFILE, Dialect, written
-from .limiting import gaps_of_costs, gaps_of_point, reached
-from .model import Model, read_model, words_of
+from .errors import TOO_WIDE, TextFault
+from .model import ZERO, Model, read_model, words_of
 from .once import answer_in, output_of, unexpected_of
-from .program import Program
-from .replies import Answer, Basis, Optimal, Past
-from .session import Session, body_of, past_of, value_of
+from .replies import Answer, Open, Optimal, Past, Spent
+from .session import body_of, past_of, value_of
+from .tableau import Tableau, tableau_of
 
 COST, RHS = "cost", "rhs"
 # A word that begins with - is no name on the command line.
@@ -105,58 +105,32 @@ class Asked:
 
 
 def range_of(model: Model, what: str, name: str, path: Optional[str] = None) -> Tuple[Answer, Optional[Ranged]]:
-    """The answer to a model, and of an optimum the range of one number: of a column's cost, or of a row's right side."""
-    return Asked(written(model, PROFILE).text, model, path).range(what, name)
+    """The answer to a model, and of an optimum the range of one number: of a column's cost, or of a row's right side. Where the
+    program's numbers are not wide enough it is found in Python."""
+    text = written(model, PROFILE).text
+    try:
+        answer, found = Asked(text, model, path).range(what, name)
+        if not isinstance(answer, (Past, Spent, Open)) and not isinstance(found, Past):
+            return answer, found
+    except TextFault as fault:
+        if fault.fault != TOO_WIDE:
+            raise
+    return exactly(text, model, what, name, path)
 
 
-class Beside:
-    """The basis of an optimum, beside whose range it is said what gives it up. It is had from a session: with another number of the
-    range a solve begins with that basis and makes no step, and so the point and the multipliers are those of the basis."""
-
-    def __init__(self, session: Session, model: Model) -> None:
-        self.session, self.model = session, model
-        self.answer = session.solve()
-        self.gaps = self.gaps_of(model) if isinstance(self.answer, Optimal) else ({}, {})
-
-    def gaps_of(self, model: Model) -> Tuple[Mapping[str, Fraction], Mapping[str, Fraction]]:
-        """For a right side and for a cost, what is 0 or more as long as the basis is optimal."""
-        given = matched(model, read_certificate(self.session.certificate(), wide=True))
-        return gaps_of_point(model, given["x"]), gaps_of_costs(model, given["x"], given["y"])
-
-    def set(self, what: str, name: str, number: Fraction) -> None:
-        if what == COST:
-            self.session.set_cost(name, number)
-        else:
-            self.session.set_rhs(name, number)
-
-    def told(self, what: str, name: str, found: Range) -> Range:
-        """The range with what gives the basis up at its ends, where that can be said."""
-        other = another(found)
-        if other is None or isinstance(self.answer, Optimal) and self.answer.value != found.value:
-            return found
-        self.set(what, name, other)
-        answer, how = self.session.solve(), self.session.how()
-        at = 0 if what == RHS else 1
-        is_same = isinstance(answer, Optimal) and isinstance(how.start, Basis) and how.pivots == 0
-        there = self.gaps_of(with_number(self.model, what, name, other))[at] if is_same else {}
-        self.set(what, name, found.now)
-        below, above = (reached(self.gaps[at], there, other - found.now, end, end_is_high) for end, end_is_high in ends_of(found))
-        return replace(found, below=below, above=above)
+def exactly(text: str, model: Model, what: str, name: str, path: Optional[str] = None) -> Tuple[Answer, Optional[Ranged]]:
+    """The answer, and of an optimum the range of one number, in fractions of any width."""
+    answer, tableau = tableau_of(text, model, path)
+    return answer, None if tableau is None else in_tableau(model, answer, tableau, what, name)
 
 
-def ends_of(found: Range) -> List[Tuple[Optional[Fraction], bool]]:
-    """How far away the ends are, and which is the high one."""
-    return [(None if end is None else end - found.now, is_high) for end, is_high in ((found.low, False), (found.high, True))]
-
-
-def another(found: Range) -> Optional[Fraction]:
-    """Another number of the range than the one of now, if there is one and an end to be told of."""
-    if found.low is None and found.high is None:
-        return None
-    ends = [end for end in (found.high, found.low) if end is not None and end != found.now]
-    if ends:
-        return ends[0]
-    return found.now + 1 if found.high is None else found.now - 1 if found.low is None else None
+def in_tableau(model: Model, answer: Answer, tableau: Tableau, what: str, name: str) -> Ranged:
+    """The range of one number by a tableau."""
+    now, k = number_of(model, what, name), tableau.at[what == RHS, name]
+    ends = tableau.of_cost(name) if what == COST else tableau.of_side(name)
+    slope = tableau.value(k) if what == COST else model.sense * tableau.y.get(k - tableau.simplex.count, ZERO)
+    low, high = (None if ends.down is None else now - ends.down), (None if ends.up is None else now + ends.up)
+    return Range(now, answer.value if isinstance(answer, Optimal) else ZERO, low, high, slope, ends.below, ends.above)
 
 
 def nothing(done: int, count: int) -> None:
@@ -164,20 +138,16 @@ def nothing(done: int, count: int) -> None:
 
 
 def ranges(text: str, fixed: bool = False, path: Optional[str] = None, tell: Callable[[int, int], None] = nothing) -> Ranges:
-    """The ranges of all costs and right sides of the model that a text of the profile spells, as the basis has them with which the
-    program's cold solve ends. For each number the model is solved; `tell` is told how many are done, and of how many."""
-    model = read_model(text, fixed)
-    asked = Asked(written(model, PROFILE).text if fixed else text, model, path)
+    """The ranges of all costs and right sides of the model that a text of the profile spells, as one basis of its optimum has them, in
+    fractions of any width. The model is solved once; `tell` is told how many ranges are done, and of how many."""
+    model = read_model(text, fixed, wide=True)
+    answer, tableau = tableau_of(written(model, PROFILE).text if fixed else text, model, path)
+    found = Ranges(answer)
+    if tableau is None:
+        return found
     numbers = [(COST, name) for name in model.columns] + [(RHS, name) for name in model.rows]
-    with Program(path) as program, Session(program) as session:
-        session.load(text, fixed)
-        basis = Beside(session, model)
-        found = Ranges(basis.answer)
-        for done, (what, name) in enumerate(numbers):
-            tell(done, len(numbers))
-            answer, one = asked.range(what, name)
-            if one is None:
-                return Ranges(answer)
-            kept = found.costs if what == COST else found.sides
-            kept[name] = basis.told(what, name, one) if isinstance(one, Range) else one
+    for done, (what, name) in enumerate(numbers):
+        tell(done, len(numbers))
+        kept = found.costs if what == COST else found.sides
+        kept[name] = in_tableau(model, answer, tableau, what, name)
     return found

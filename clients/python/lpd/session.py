@@ -253,7 +253,7 @@ class Session:
     # ---- what the program's commands of one text say of the model; those modules import this one
 
     def ranges(self) -> Ranges:
-        """The ranges of all costs and right sides of the model, as a program of this machine has them of a cold solve."""
+        """The ranges of all costs and right sides of the model, by a basis with which a program of this machine ends."""
         from .ranging import ranges
 
         return ranges(self.write(), path=self.path())

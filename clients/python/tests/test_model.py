@@ -6,7 +6,6 @@ from typing import Any, Counter as Counted, Dict
 
 import lpd
 from lpd.certificate import check_lines
-from lpd.limiting import gaps_of_costs, gaps_of_point
 from lpd.model import Column, Model, Row
 
 ONE = Fraction(1)
@@ -45,8 +44,6 @@ class Sums(unittest.TestCase):
         certificate = ["OPTIMAL", *(f"x {name} 1" for name in x), *(f"y {name} 1" for name in y), "END"]
         self.assertEqual(check_lines(model, certificate), lpd.Accepted(lpd.Optimal(Fraction(self.SIZE))))
         lpd.report(model, certificate)
-        gaps_of_point(model, x)
-        gaps_of_costs(model, x, y)
         self.assertLess(sum(asked.values()), 20 * self.SIZE)
 
     def test_the_sums(self) -> None:

@@ -14,11 +14,13 @@ from unittest import mock
 from xml.etree import ElementTree
 
 import lpd
-from lpd.limiting import gaps_of_costs, gaps_of_point, reached
+from lpd.dialects import PROFILE, written
+from lpd.exact import BASIC, UPPER, Basis
 from lpd.model import Model
 from lpd.once import has_command
 from lpd.pieces import DOWN, UP, Piece, Walk, edge, picture_of
 from lpd.ranging import COST, RHS, Range, number_of, range_of, read_range, with_number
+from lpd.tableau import Gap, Tableau, ends_of
 
 from .commands import Said, command, reported
 from .models import has_program, some_model
@@ -83,21 +85,25 @@ class Written(unittest.TestCase):
                 read_range(lines, Fraction(0))
 
 
-class Limiting(unittest.TestCase):
-    def test_a_right_side(self) -> None:
-        """With more of R1 x and y go up, and with less y comes to 0."""
-        model, now, there = lpd.read_model(SHOP), {"x": Fraction(3), "y": Fraction(1)}, {"x": Fraction(4), "y": Fraction(2)}
-        gaps = gaps_of_point(model, now), gaps_of_point(with_number(model, RHS, "R1", Fraction(6)), there)
-        self.assertEqual(reached(*gaps, Fraction(2), Fraction(-2), False), ["y comes to its lower bound"])
-        self.assertEqual(reached(*gaps, Fraction(2), None, True), [])
+class Steps(unittest.TestCase):
+    """The ratio test, and the tableau of a basis that is given."""
 
-    def test_a_cost(self) -> None:
-        """At a cost of 2 for y the row R2 gets slack, and at -2 the row R1."""
-        model, x = lpd.read_model(SHOP), {"x": Fraction(3), "y": Fraction(1)}
-        now = gaps_of_costs(model, x, {"R1": Fraction(-3, 2), "R2": Fraction(-1, 2)})
-        there = gaps_of_costs(with_number(model, COST, "y", Fraction(2)), x, {"R1": Fraction(-2)})
-        self.assertEqual(reached(now, there, Fraction(1), Fraction(1), True), ["R2 leaves its upper limit"])
-        self.assertEqual(reached(now, there, Fraction(1), Fraction(-3), False), ["R1 leaves its upper limit"])
+    def test_the_ratio_test(self) -> None:
+        one, two = Fraction(1), Fraction(2)
+        found = ends_of([Gap(one, one, "a"), Gap(two, two, "b"), Gap(two, -one, "c"), Gap(one, Fraction(0), "d")])
+        self.assertEqual(found, (1, 2, ["a", "b"], ["c"]))
+        self.assertEqual(ends_of([]), (None, None, [], []))
+
+    def test_a_tableau(self) -> None:
+        """With more of R1 x and y go up, and with less y comes to 0; at a cost of 2 for y the row R2 gets slack, and at -2 R1."""
+        model = lpd.read_model(SHOP)
+        tableau = Tableau(model, Basis({"x": BASIC, "y": BASIC}, {"R1": UPPER, "R2": UPPER}))
+        self.assertEqual(tableau.simplex.steps, 0)
+        self.assertEqual(tableau.of_side("R1"), (2, None, ["y comes to its lower bound"], []))
+        self.assertEqual(tableau.of_cost("y"), (3, 1, ["R1 leaves its upper limit"], ["R2 leaves its upper limit"]))
+
+    def test_another_basis_is_gone_on_from(self) -> None:
+        self.assertEqual(Tableau(lpd.read_model(SHOP), Basis()).certificate[0], "OPTIMAL")
 
 
 class Pieces(unittest.TestCase):
@@ -270,6 +276,43 @@ class WithTheProgram(unittest.TestCase):
                         tried += 1
                         self.try_range(model, what, name, found)
         self.assertGreater(tried, 0)
+
+    def test_random_models_by_one_basis(self) -> None:
+        """The same of all ranges together, in whatever numbers."""
+        dice = random.Random(int(os.environ.get("SEED", "8")))
+        tried = 0
+        for _ in range(int(os.environ.get("MODELS", "25"))):
+            model = some_model(dice, 3, 3)
+            found = lpd.ranges(written(model, PROFILE).text)
+            for what, kept in ((COST, found.costs), (RHS, found.sides)):
+                for name, one in kept.items():
+                    tried += 1
+                    self.assertIsInstance(one, Range)
+                    if isinstance(one, Range):
+                        self.try_range(model, what, name, one)
+        self.assertGreater(tried, 0)
+
+    def test_the_program_is_asked_once(self) -> None:
+        """Of a transport with 34 rows and 240 columns, whose ranges are 274."""
+        dice = random.Random(1)
+        rows = [f" L s{i}" for i in range(10)] + [f" G d{j}" for j in range(24)]
+        cards = [f" x{i}.{j} cost {dice.randint(1, 99)} s{i} 1\n x{i}.{j} d{j} 1" for i in range(10) for j in range(24)]
+        sides = [f" RHS s{i} 30" for i in range(10)] + [f" RHS d{j} 9.5" for j in range(24)]
+        text = "\n".join(["ROWS", " N cost", *rows, "COLUMNS", *cards, "RHS", *sides, "ENDATA", ""])
+        with mock.patch("lpd.from_basis.output_of", wraps=lpd.once.output_of) as asked, mock.patch("lpd.ranging.output_of") as one_by_one:
+            found = lpd.ranges(text)
+        self.assertEqual((len(found.costs), len(found.sides), asked.call_count), (240, 34, 1))
+        one_by_one.assert_not_called()
+
+    def test_past_127_bits(self) -> None:
+        """Where the rule's own operations pass them, and where a number of the model does."""
+        text = "ROWS\n N cost\n E a\n E b\nCOLUMNS\n x a 3 b -1e30\n y cost 1 b 1\nRHS\n RHS a {}\nENDATA\n"
+        for side in (10**30, 10**45):
+            found = lpd.ranges(text.format(side))
+            self.assertEqual(found.answer, lpd.Optimal(Fraction(10**30 * side, 3)))
+            one = found.sides["a"]
+            self.assertEqual((one.low, one.high, one.slope) if isinstance(one, Range) else one, (0, None, Fraction(10**30, 3)))
+            self.assertEqual(range_of(lpd.read_model(text.format(side), wide=True), RHS, "a")[1], one)
 
     def try_range(self, model: Model, what: str, name: str, found: Range) -> None:
         self.assertIn(found.now, found)
