@@ -2,7 +2,7 @@
 from __future__ import annotations
 
 from fractions import Fraction
-from typing import List, Sequence
+from typing import Dict, List, Optional, Sequence
 
 from ..certificate import matched, read_certificate
 from ..figures import Style
@@ -49,23 +49,30 @@ def some_of(texts: Sequence[str]) -> str:
     return ", ".join(texts[:MOST_VALUES]) + more
 
 
-def print_report(found: Report, show: str, style: Style, shows_all: bool) -> None:
+def print_report(found: Report, show: str, style: Style, shows_all: bool, before: Optional[Report] = None) -> None:
+    """What is asked for of a point, beside that of the model without the numbers that were set, if some were."""
     if show in ("point", "all"):
-        print_columns(found.columns, style, shows_all)
+        print_columns(found.columns, style, shows_all, {c.name: c.value for c in before.columns} if before else None)
     if show in ("rows", "all"):
-        print_rows(found.rows, style, shows_all)
+        print_rows(found.rows, style, shows_all, {r.name: r.activity for r in before.rows} if before else None)
     if show == "prices":
         prices = [[r.name, style.cell(r.price)] for r in found.rows if r.price]
         costs = [[c.name, style.cell(c.reduced_cost)] for c in found.columns if c.reduced_cost]
         print("\n" + table([["row", "price"], *prices], style) + "\n\n" + table([["column", "reduced cost"], *costs], style))
 
 
-def print_columns(columns: Sequence[ColumnReport], style: Style, shows_all: bool) -> None:
-    """Those that are not 0, or all of them."""
-    kept = [column for column in columns if shows_all or column.value]
-    lines = [[c.name, style.cell(c.value), style.cell(c.reduced_cost)] for c in kept]
-    print("\n" + table([["column", "value", "reduced cost"], *lines], style))
+def print_columns(columns: Sequence[ColumnReport], style: Style, shows_all: bool, before: Optional[Dict[str, Fraction]]) -> None:
+    """Those that are not 0, or were not, or all of them."""
+    old = before or {}
+    kept = [column for column in columns if shows_all or column.value or old.get(column.name)]
+    lines = [[c.name, style.cell(c.value), style.cell(old.get(c.name)), style.cell(c.reduced_cost)] for c in kept]
+    print_table([["column", "value", "unchanged", "reduced cost"], *lines], before, style)
     print_rest(len(columns) - len(kept), "column that is 0 is", "columns that are 0 are")
+
+
+def print_table(lines: Sequence[List[str]], before: Optional[Dict[str, Fraction]], style: Style) -> None:
+    """A table, without the numbers of before where there are none."""
+    print("\n" + table([line if before is not None else [*line[:2], *line[3:]] for line in lines], style))
 
 
 def binds(row: RowReport) -> bool:
@@ -73,11 +80,12 @@ def binds(row: RowReport) -> bool:
     return row.slack == 0
 
 
-def print_rows(rows: Sequence[RowReport], style: Style, shows_all: bool) -> None:
+def print_rows(rows: Sequence[RowReport], style: Style, shows_all: bool, before: Optional[Dict[str, Fraction]]) -> None:
     """Those that bind, or these first and then the others."""
     kept = [row for row in rows if binds(row)] + [row for row in rows if shows_all and not binds(row)]
-    lines = [[r.name, *(style.cell(value) for value in (r.activity, r.slack, r.price))] for r in kept]
-    print("\n" + table([["row", "sum", "slack", "price"], *lines], style))
+    old = before or {}
+    lines = [[r.name, *(style.cell(value) for value in (r.activity, old.get(r.name), r.slack, r.price))] for r in kept]
+    print_table([["row", "sum", "unchanged", "slack", "price"], *lines], before, style)
     print_rest(len(rows) - len(kept), "row that does not bind is", "rows that do not bind are")
 
 

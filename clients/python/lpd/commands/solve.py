@@ -6,7 +6,7 @@ import json
 import sys
 from dataclasses import replace
 from fractions import Fraction
-from typing import TYPE_CHECKING, Dict, List, NamedTuple, Optional, Tuple
+from typing import TYPE_CHECKING, Dict, List, NamedTuple, Optional, Sequence, Tuple
 
 from .. import errors
 from ..conversion import Question, convert
@@ -40,6 +40,7 @@ def add(commands: "argparse._SubParsersAction[argparse.ArgumentParser]") -> None
     sense.add_argument("--max", action="store_true", help="maximizes, whatever the text says")
     sense.add_argument("--min", action="store_true", help="minimizes, whatever the text says")
     add_objective(solve)
+    add_changes(solve)
     own = solve.add_mutually_exclusive_group()
     own.add_argument("--budget", type=budget, metavar="N", help="makes at most N pivots and flips, up to 1000000 (10000)")
     add_presolve(own)
@@ -71,6 +72,23 @@ def add_ways(parser: argparse.ArgumentParser) -> None:
 def add_objective(parser: argparse.ArgumentParser) -> None:
     solves = "solves for this row, a later one of type N, in place of the first: its sum less its right side is minimized, or maximized"
     parser.add_argument("--objective", metavar="ROW", help=solves)
+
+
+class Change(argparse.Action):
+    """Puts a change behind those before it, whatever they are of."""
+
+    def __call__(self, parser: argparse.ArgumentParser, words: argparse.Namespace, value: object, option: Optional[str] = None) -> None:
+        words.changes = [*words.changes, (self.dest.partition("_")[2], value)]
+
+
+def add_changes(parser: argparse.ArgumentParser) -> None:
+    """Other numbers than those of the text: any number of them, one after the other."""
+    parser.set_defaults(changes=[])
+    forms = {"rhs": "ROW=NUMBER", "cost": "COLUMN=NUMBER", "bound": "COLUMN=LOW:HIGH", "coef": "ROW:COLUMN=NUMBER"}
+    whats = {"rhs": "right side", "cost": "cost", "bound": "bounds (-inf and inf are none)", "coef": "coefficient"}
+    for what, form in forms.items():
+        told = f"solves with another {whats[what]}, and tells the difference; as often as wanted"
+        parser.add_argument(f"--set-{what}", dest=f"set_{what}", metavar=form, action=Change, help=told)
 
 
 def add_ranges(parser: argparse.ArgumentParser) -> None:
@@ -146,13 +164,18 @@ def as_csv(
     show: str,
     style: Style,
     ranges: Optional[Ranges],
+    before: Optional[Unchanged] = None,
 ) -> str:
-    """A line for the answer, one for an objective that is not solved for, one for each column (value, reduced cost), and one for each
+    """A line for the answer, one for that without the numbers that were set, one for an objective that is not solved for, one for each column (value, reduced cost), and one for each
     row (sum, price, slack); of ranges also the cost, or the right side, and the ends of its range. The last cell of a line is = where
     all its numbers are exact."""
     answer, is_whole = found.answer, show != "prices"
     value = answer.value if isinstance(answer, Optimal) else None
     lines: List[Line] = [Line("answer", str(answer).split(" ")[0], [value, None, None])]
+    if before:
+        old = before.found.answer
+        lines.append(Line("unchanged", str(old).split(" ")[0], [old.value if isinstance(old, Optimal) else None, None, None]))
+        lines.append(Line("difference", "", [before.difference(answer), None, None]))
     if aim:
         from .objectives import value_before
 
@@ -195,12 +218,14 @@ class Line(NamedTuple):
 
 class Loaded(NamedTuple):
     """A text in free form, its model, whether the text is another than that of the file, and the other objective that it was
-    given, if it was."""
+    given, if it was; and where other numbers were set, the model without them, and what they are."""
 
     text: str
     model: Model
     is_other: bool
-    aim: Optional[Aim]
+    aim: Optional[Aim] = None
+    before: Optional[Model] = None
+    changes: Sequence[str] = ()
 
 
 def loaded(words: argparse.Namespace) -> Loaded:
@@ -221,16 +246,49 @@ def loaded(words: argparse.Namespace) -> Loaded:
     if words.max or words.min:
         model, is_other = replace(model, sense=-1 if words.max else 1), True
     text = written(model, PROFILE).text if is_other else text
-    if words.objective is None:
-        return Loaded(text, model, is_other, None)
-    from .objectives import asked_aim
+    given = Loaded(text, model, is_other)
+    if words.objective is not None:
+        from .objectives import asked_aim
 
-    aim = asked_aim(words, text, model)
-    return Loaded(text, model, is_other, None) if aim is None else Loaded(aim.text, aim.model, True, aim)
+        aim = asked_aim(words, text, model)
+        given = given if aim is None else Loaded(aim.text, aim.model, True, aim)
+    return with_changes(given, words.changes)
+
+
+def with_changes(given: Loaded, words: Sequence[Tuple[str, str]]) -> Loaded:
+    """What is to be solved, with other numbers."""
+    if not words:
+        return given
+    from ..what_if import changed
+
+    model, changes = changed(given.model, words)
+    return given._replace(text=written(model, PROFILE).text, model=model, is_other=True, before=given.model, changes=changes)
+
+
+class Unchanged(NamedTuple):
+    """The answer to the model without the numbers that were set, its point, and what these were."""
+
+    found: Answered
+    point: Optional[Report]
+    changes: Sequence[str]
+
+    def difference(self, answer: Answer) -> Optional[Fraction]:
+        """How much more the optimum is with the changes."""
+        before = self.found.answer
+        return answer.value - before.value if isinstance(answer, Optimal) and isinstance(before, Optimal) else None
+
+
+def unchanged(words: argparse.Namespace, given: Loaded) -> Optional[Unchanged]:
+    if given.before is None:
+        return None
+    found = answered(written(given.before, PROFILE).text, given.before, effort_of(words))
+    point = report(given.before, found.certificate) if isinstance(found.answer, Optimal) else None
+    return Unchanged(found, point, given.changes)
 
 
 def run(words: argparse.Namespace) -> int:
-    text, model, is_other, aim = loaded(words)
+    given = loaded(words)
+    text, model, is_other, aim = given[:4]
     number = named_number(words, model)
     found = answered(text, model, effort_of(words))
     if words.output:
@@ -240,6 +298,7 @@ def run(words: argparse.Namespace) -> int:
 
         write_page(words.page, text, found.certificate, found.answer)
     point = report(model, found.certificate) if isinstance(found.answer, Optimal) else None
+    before = unchanged(words, given)
     skipped = skipped_words(model)
     if words.json or words.csv:
         if skipped:
@@ -247,10 +306,10 @@ def run(words: argparse.Namespace) -> int:
         if words.csv and words.iis:
             tell("lpd: there is no list: --iis is for text and --json, and CSV has no cells for it")
         ranges = ranges_of(words, text, found.answer)
-        is_json = as_json(found, model, point, words.show, words.decimals, more_in_json(words, text, model, found, ranges, aim)) if words.json else ""
-        print(is_json or as_csv(found, aim, point, words.show, style_of(words), ranges))
+        is_json = as_json(found, model, point, words.show, words.decimals, more_in_json(words, text, model, found, ranges, aim, before)) if words.json else ""
+        print(is_json or as_csv(found, aim, point, words.show, style_of(words), ranges, before))
     else:
-        print_answer(words, found, model, point, skipped, aim)
+        print_answer(words, found, model, point, skipped, aim, before)
         sys.stdout.flush()
         print_more(words, text, found, model)
         if is_as_ever(found) and words.show != "answer":
@@ -289,6 +348,7 @@ def more_in_json(
     found: Answered,
     ranges: Optional[Ranges],
     aim: Optional[Aim],
+    before: Optional[Unchanged],
 ) -> Dict[str, object]:
     """The members that are asked for by name: null where they are not known."""
     more: Dict[str, object] = {}
@@ -300,6 +360,8 @@ def more_in_json(
         from .objectives import objective_in_json
 
         more["objective"] = objective_in_json(aim, found, words.decimals)
+    if before:
+        more["unchanged"] = unchanged_in_json(found, before, words.decimals)
     if words.iis:
         from . import conflicts
 
@@ -308,6 +370,13 @@ def more_in_json(
         if isinstance(found.answer, Infeasible):
             more["advice"] = conflicts.advice_in_json(conflicts.found_advice(words, model, found.certificate, limits))
     return more
+
+
+def unchanged_in_json(found: Answered, before: Unchanged, places: Optional[int]) -> Dict[str, object]:
+    """What was changed, the answer without that, and how much more the optimum is with it."""
+    answer = before.found.answer
+    values = {"value": answer.value if isinstance(answer, Optimal) else None, "difference": before.difference(found.answer)}
+    return {"changes": list(before.changes), "answer": str(answer), **numbers(places, **values)}
 
 
 def print_more(words: argparse.Namespace, text: str, found: Answered, model: Model) -> None:
@@ -328,6 +397,15 @@ def is_as_ever(found: Answered) -> bool:
     return found.is_by_lpd and found.accepted_by == BOTH
 
 
+def difference_words(found: Answered, before: Unchanged, style: Style) -> str:
+    """What was changed, and what that is worth."""
+    difference = before.difference(found.answer)
+    changes = f"Changed: {'; '.join(before.changes)}. Without that the answer is {shown_answer(before.found.answer, style)}"
+    if difference is None:
+        return f"{changes}."
+    return f"{changes}, so it is worth {style.word(abs(difference))} {'less' if difference < 0 else 'more'}."
+
+
 def print_answer(
     words: argparse.Namespace,
     found: Answered,
@@ -335,11 +413,12 @@ def print_answer(
     point: Optional[Report],
     skipped: str,
     aim: Optional[Aim],
+    before: Optional[Unchanged] = None,
 ) -> None:
     """The answer as people read it: first what was not read, and how the answer came where that was not lpd solve alone."""
     style = style_of(words)
     print("\n".join([*([in_lines(skipped)] if skipped else []), shown_answer(found.answer, style)]))
-    lines: List[str] = []
+    lines: List[str] = [difference_words(found, before, style)] if before else []
     if aim:
         from .objectives import sentences
 
@@ -353,6 +432,6 @@ def print_answer(
     for note in found.notes:
         tell(f"note: {note}")
     if point:
-        print_report(point, words.show, style, words.all)
+        print_report(point, words.show, style, words.all, before.point if before else None)
     elif words.show != "answer" and not isinstance(found.answer, Infeasible):
         print_prose(words_for(found.answer, model, found.certificate, style))
