@@ -1,7 +1,8 @@
 """lpd as a solver of PuLP (Debian's python3-pulp): problem.solve(lpd.pulp.LPD()).
 
-PuLP's numbers are handed over exactly, by a writer of its own: a float as the decimal that Python shows for it, which is what
-was typed, or with binary=True as the binary number that it is; ints, Fractions and Decimals as they are. It sets status,
+PuLP's numbers are handed over by a writer of its own: a float as the decimal of 13 digits that PuLP's own writer of MPS prints, with
+round=False as the decimal that Python shows for it, and with binary=True as the binary number that it is; ints, Fractions and Decimals
+as they are. It sets status,
 varValue, dj, pi and slack as PuLP's own solvers do, in floats, and keeps in problem.exact the fractions and the certificate.
 """
 from __future__ import annotations
@@ -67,7 +68,10 @@ class Exact:
         return Ranges(found.answer, costs, {self.rows[name]: one for name, one in found.sides.items()})
 
 
-def exactly(value: Any, binary: bool = False) -> Fraction:
+ROUNDED, SHOWN, BINARY = "rounded", "shown", "binary"  # how a float is taken
+
+
+def exactly(value: Any, floats: str = ROUNDED) -> Fraction:
     """The number that PuLP holds, as a fraction."""
     if isinstance(value, (Fraction, Decimal)):
         return Fraction(value)
@@ -76,7 +80,34 @@ def exactly(value: Any, binary: bool = False) -> Fraction:
     number = float(value)
     if not math.isfinite(number):
         raise pulp.PulpSolverError(f"lpd: {value!r} is no number of a linear program")
-    return Fraction(number) if binary else Fraction(float.__repr__(number))
+    if floats == BINARY:
+        return Fraction(number)
+    return Fraction(f"{number:.12e}" if floats == ROUNDED else float.__repr__(number))
+
+
+class Numbers:
+    """Takes the numbers of a problem, and keeps those that are taken as others than Python shows."""
+
+    def __init__(self, floats: str) -> None:
+        self.floats = floats
+        self.others: Dict[float, Fraction] = {}
+
+    def of(self, value: Any) -> Fraction:
+        found = exactly(value, self.floats)
+        if self.floats == ROUNDED and isinstance(value, float) and found != Fraction(float.__repr__(value)):
+            self.others[value] = found
+        return found
+
+    def bound(self, value: Any) -> Optional[Fraction]:
+        return None if value is None or value in (math.inf, -math.inf) else self.of(value)
+
+    def told(self) -> List[str]:
+        """How many floats have more digits than PuLP writes, and one of them."""
+        if not self.others:
+            return []
+        value, found = next(iter(self.others.items()))
+        count = f"{len(self.others)} numbers were" if len(self.others) > 1 else "1 number was"
+        return [f"{count} taken with the 13 digits that PuLP writes to MPS, as {abs(float(found))!r} for {abs(value)!r}: round=False takes them as they are"]
 
 
 def text_names(names: Iterable[str]) -> List[str]:
@@ -93,26 +124,22 @@ def text_names(names: Iterable[str]) -> List[str]:
     return found
 
 
-def bound(value: Any, binary: bool) -> Optional[Fraction]:
-    return None if value is None or value in (math.inf, -math.inf) else exactly(value, binary)
-
-
-def model_of(problem: Any, binary: bool = False) -> Model:
+def model_of(problem: Any, take: Optional[Numbers] = None) -> Model:
     """The model of a problem of PuLP, whose rows and columns are in the order of its constraints and variables."""
-    variables = problem.variables()
+    take, variables = take or Numbers(ROUNDED), problem.variables()
     columns = dict(zip((id(variable) for variable in variables), text_names(variable.name for variable in variables)))
     objective, *rows = text_names(["obj", *problem.constraints])
     model = Model("", 1 if problem.sense == pulp.LpMinimize else -1, objective)
     for variable in variables:
-        model.columns[columns[id(variable)]] = Column(Fraction(0), bound(variable.lowBound, binary), bound(variable.upBound, binary))
+        model.columns[columns[id(variable)]] = Column(Fraction(0), take.bound(variable.lowBound), take.bound(variable.upBound))
     if problem.objective is not None:
-        model.offset = exactly(problem.objective.constant, binary)
+        model.offset = take.of(problem.objective.constant)
         for variable, value in problem.objective.items():
-            model.columns[columns[id(variable)]].cost = exactly(value, binary)
+            model.columns[columns[id(variable)]].cost = take.of(value)
     for row, constraint in zip(rows, problem.constraints.values()):
-        model.rows[row] = Row(KINDS[constraint.sense], -exactly(constraint.constant, binary))
+        model.rows[row] = Row(KINDS[constraint.sense], -take.of(constraint.constant))
         for variable, value in constraint.items():
-            if exact := exactly(value, binary):
+            if exact := take.of(value):
                 model.columns[columns[id(variable)]].entries[row] = exact
     return model
 
@@ -144,6 +171,7 @@ class Options(argparse.ArgumentParser):
         self.add_argument("--budget", type=budget_word)
         add_ways(self)
         self.add_argument("--binary", action="store_true")
+        self.add_argument("--round", action="store_true", default=None)
 
     def error(self, message: str) -> NoReturn:
         raise pulp.PulpSolverError(f"lpd: {message}: {self.format_usage().strip()}")
@@ -154,7 +182,8 @@ class LPD(pulp.LpSolver):  # type: ignore[misc]
     within 127 bits it goes on by the basis of the solver that `certify` names (glpsol, clp, cbc, esolver, highs, or none), or of
     the first that is there, and by lpd solve --wide, unless only_lpd=True; where a budget is set it is kept to, unless certify
     names one. With `wide=False` lpd solve --wide is not asked, and no answer is taken whose numbers pass 127 bits, by whichever
-    way: what is accepted is accepted by lpd check. `mip=False` takes whole-number variables as real ones. `options` are words as
+    way: what is accepted is accepted by lpd check. A float is taken with the 13 digits that PuLP writes to MPS, which the log says of those
+    that have more; with `round=False` as Python shows it, and with `binary=True` as it is. `mip=False` takes whole-number variables as real ones. `options` are words as
     those of python3 -m lpd solve, as ["--budget", "500"], and the log, that msg=True shows, goes to the file `logPath` too."""
 
     name = "LPD"
@@ -171,6 +200,7 @@ class LPD(pulp.LpSolver):  # type: ignore[misc]
         options: Optional[List[str]] = None,
         only_lpd: bool = False,
         wide: bool = True,
+        round: bool = True,
     ) -> None:
         super().__init__(mip=mip, msg=msg, options=options, timeLimit=timeLimit, logPath=logPath)
         if certify is not None and certify not in CHOICES:
@@ -178,11 +208,11 @@ class LPD(pulp.LpSolver):  # type: ignore[misc]
         words = Options().parse_args([str(word) for word in options or []])
         self.budget = words.budget if budget is None else budget
         self.binary, self.only_lpd, self.logPath = binary or words.binary, only_lpd or words.only_lpd, logPath
-        self.certify, self.wide = certify or words.solver, wide
+        self.certify, self.wide, self.round = certify or words.solver, wide, words.round or round
         self.seconds: float = words.seconds
 
     def copy(self) -> LPD:
-        ways = (self.only_lpd, self.wide)
+        ways = (self.only_lpd, self.wide, self.round)
         return LPD(self.mip, self.msg, self.budget, self.binary, self.certify, self.timeLimit, self.logPath, self.options, *ways)
 
     def available(self) -> bool:
@@ -195,7 +225,8 @@ class LPD(pulp.LpSolver):  # type: ignore[misc]
         """Solves the problem, and gives PuLP's status: Not Solved where there is no answer in the end."""
         must_be_linear(lp, relaxes=not self.mip)
         must_fit(lp)
-        text = written(model_of(lp, self.binary), PROFILE).text
+        take = Numbers(BINARY if self.binary else ROUNDED if self.round else SHOWN)
+        text = written(model_of(lp, take), PROFILE).text
         lp.exact = None
         try:
             model = read_model(text, wide=True)
@@ -208,7 +239,7 @@ class LPD(pulp.LpSolver):  # type: ignore[misc]
         lp.exact = Exact(found.answer, found.certificate, text, certified_with=found.solver, way=found.way, accepted_by=found.accepted_by)
         lp.exact.rows = dict(zip(model.rows, lp.constraints))
         lp.exact.columns = dict(zip(model.columns, (variable.name for variable in lp.variables())))
-        self.log([f"lpd: {found.answer}", *(f"lpd: {line}" for line in [*found.notes, *([] if found.is_by_lpd else [found.told()])])])
+        self.log([f"lpd: {found.answer}", *(f"lpd: {line}" for line in [*take.told(), *found.notes, *([] if found.is_by_lpd else [found.told()])])])
         put_values(lp, model, lp.exact)
         return put_status(lp, lp.exact.answer)
 

@@ -20,7 +20,7 @@ try:
 except ImportError:
     pulp = None
 if pulp is not None:
-    from lpd.pulp import LPD, exactly, text_names
+    from lpd.pulp import BINARY, LPD, ROUNDED, SHOWN, exactly, text_names
 
 
 def some_problem(dice: random.Random) -> Any:
@@ -75,7 +75,9 @@ class WithPulp(unittest.TestCase):
 
     def test_numbers(self) -> None:
         self.assertEqual(exactly(0.1), Fraction(1, 10))
-        self.assertEqual(exactly(0.1, binary=True), Fraction(0.1))
+        self.assertEqual(exactly(0.1, BINARY), Fraction(0.1))
+        self.assertEqual([exactly(22.759999999999998, floats) for floats in (ROUNDED, SHOWN)], [Fraction("22.76"), Fraction("22.759999999999998")])
+        self.assertEqual(exactly(123456789.123456789), Fraction("123456789.1235"))
         self.assertEqual([exactly(value) for value in (True, 7, Decimal("0.1"), Fraction(1, 3))], [1, 7, Fraction(1, 10), Fraction(1, 3)])
         with self.assertRaises(pulp.PulpSolverError):
             exactly(float("nan"))
@@ -152,6 +154,21 @@ class WithPulp(unittest.TestCase):
                 self.diet().solve(LPD(logPath=path, msg=False))
             self.assertEqual(said.getvalue(), "lpd: OPTIMAL 2.6\n")
             self.assertEqual(len(Path(path).read_text().splitlines()), 2)
+
+    def test_floats_that_are_rounded(self) -> None:
+        """Those of more digits than PuLP writes to MPS are taken so, and that is said."""
+        problem, x = pulp.LpProblem("floats", pulp.LpMinimize), pulp.LpVariable("x", 0)
+        problem += x
+        problem += x >= 22.759999999999998, "need"
+        said = io.StringIO()
+        with contextlib.redirect_stdout(said):
+            problem.solve(LPD())
+        self.assertEqual(problem.exact.values, {"x": Fraction("22.76")})
+        told = "1 number was taken with the 13 digits that PuLP writes to MPS, as 22.76 for 22.759999999999998: round=False takes them as they are"
+        self.assertIn(f"lpd: {told}\n", said.getvalue())
+        problem.solve(LPD(msg=False, round=False))
+        self.assertEqual(problem.exact.values, {"x": Fraction("22.759999999999998")})
+        self.assertEqual(problem.exact.ranges.sides["need"].slope, 1)
 
     def test_a_limit_of_time(self) -> None:
         busy = str(Path(__file__).with_name("busy.sh"))

@@ -13,7 +13,7 @@ from ..model import Model, lines_of, read_lines, words_of
 from ..number_text import NotANumber, number, shown
 from ..reading import read_model_file
 from ..replies import Accepted, Infeasible, Known, Optimal, Rejected, Unbounded
-from .common import add_options, as_text, converted, lines_text, options_of, read, skipped_words, tell
+from .common import add_options, as_text, converted, in_dialect, lines_text, options_of, read, skipped_words, tell
 
 OTHERS: Dict[str, Known] = {"INFEASIBLE": Infeasible(), "UNBOUNDED": Unbounded()}
 KINDS = ("OPTIMAL", "INFEASIBLE", "UNBOUNDED", "CLASH")
@@ -104,11 +104,22 @@ def given_as(words: argparse.Namespace, text: str, is_wide: bool) -> Given:
     lines = lines_of(text)
     if words.convert or words.relax:
         found = converted(words, text.encode("latin-1"), replace(options_of(words), wide=is_wide))
-        end = next((n for n, line in enumerate(lines, 1) if line[:1] not in " \t" and words_of(line)[0].upper() == "ENDATA"), len(lines))
-        return Given(found.model, found.text, False, lines[end:], is_wide)
+        return Given(found.model, found.text, False, behind(lines), is_wide)
     is_fixed = words.form == "fixed"
-    model, count = read_lines(lines, is_fixed, is_wide)
+    try:
+        model, count = read_lines(lines, is_fixed, is_wide)
+    except TextFault as fault:
+        if fault.fault == TOO_WIDE:
+            raise
+        found = in_dialect(words, text.encode("latin-1"), fault, is_wide)
+        return Given(found.model, found.text, False, behind(lines), is_wide)
     return Given(model, lines_text(lines[:count]), is_fixed, lines[count:], is_wide)
+
+
+def behind(lines: List[str]) -> List[str]:
+    """What stands behind the text of a model, in whichever dialect."""
+    end = next((n for n, line in enumerate(lines, 1) if line[:1] not in " \t" and words_of(line)[0].upper() == "ENDATA"), len(lines))
+    return lines[end:]
 
 
 def verdict_on(of: Given, certificate: List[str]) -> Tuple[Union[Accepted, Rejected], bool]:

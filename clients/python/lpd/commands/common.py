@@ -4,11 +4,13 @@ from __future__ import annotations
 import argparse
 import sys
 import textwrap
+from dataclasses import replace
 from fractions import Fraction
 from pathlib import Path
 from typing import List, Optional, Sequence
 
 from ..conversion import Converted, Options, convert
+from ..errors import TextFault
 from ..figures import READABLE, Style
 from ..model import Model
 from ..names import Renamed
@@ -169,6 +171,20 @@ def converted(words: argparse.Namespace, data: bytes, options: Optional[Options]
     """The text in the profile. What was changed goes to standard error."""
     found = convert(data, words.form, options or options_of(words))
     tell_changes(found, words.renames)
+    return found
+
+
+def in_dialect(words: argparse.Namespace, data: bytes, fault: TextFault, wide: bool = True) -> Converted:
+    """The text of another dialect in the profile, where it is one: else the fault is raised with which the profile refuses it, and a
+    question that a reader has to answer is asked."""
+    try:
+        found = convert(data, words.form, replace(options_of(words), wide=wide))
+    except TextFault:
+        raise fault from None
+    count = len(found.changes)
+    changes = "1 change, which" if count == 1 else f"{count} changes, which"
+    tell(f"note: the text is of another dialect of MPS, and was converted, with {changes} the command convert lists")
+    tell_renames(found.names, words.renames)
     return found
 
 

@@ -20,7 +20,7 @@ def number_word(word: str) -> Fraction:
 
 def add(commands: "argparse._SubParsersAction[argparse.ArgumentParser]") -> None:
     plot = commands.add_parser("plot", help="draws a model of two columns, or the optimum over one number, as SVG")
-    plot.set_defaults(run=run, changes=[], max=False, min=False, objective=None, budget=None, presolve=False, wide=False)
+    plot.set_defaults(run=run, changes=[], round=False, max=False, min=False, objective=None, budget=None, presolve=False, wide=False)
     plot.add_argument("model", help="a file of a model, as for solve")
     plot.add_argument("--form", choices=["free", "fixed"], help="the form of the text (free; with --convert or --relax the one that fits)")
     plot.add_argument("--convert", action="store_true", help="converts the text from other dialects first, as the command convert does")

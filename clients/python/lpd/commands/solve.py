@@ -9,7 +9,6 @@ from fractions import Fraction
 from typing import TYPE_CHECKING, Dict, List, NamedTuple, Optional, Sequence, Tuple
 
 from .. import errors
-from ..conversion import Question, convert
 from ..dialects import PROFILE, written
 from ..figures import Style
 from ..floating import CHOICES
@@ -18,10 +17,11 @@ from ..number_text import shown
 from ..reading import is_lp, read_model_file
 from ..replies import Answer, Infeasible, Optimal
 from ..report import Report, conflict, report
+from ..rounding import rounded
 from ..version import version
 from ..ways import BOTH, SECONDS, Answered, Effort, answered
 from .common import add_options, add_presolve, as_text, budget, converted, csv_line, decimals, number_in, options_of, put_beside, seconds, skipped_words
-from .common import PYTHON_ALONE, add_style, in_lines, print_prose, status_of, style_of, tell
+from .common import PYTHON_ALONE, add_style, in_dialect, in_lines, print_prose, status_of, style_of, tell
 from .reports import offset_words, print_report, shown_answer, words_for
 
 if TYPE_CHECKING:
@@ -41,6 +41,8 @@ def add(commands: "argparse._SubParsersAction[argparse.ArgumentParser]") -> None
     sense.add_argument("--min", action="store_true", help="minimizes, whatever the text says")
     add_objective(solve)
     add_changes(solve)
+    rounds = "takes the decimal of at most 12 digits where a number looks as if a float had rounded that"
+    solve.add_argument("--round", action="store_true", help=rounds)
     own = solve.add_mutually_exclusive_group()
     own.add_argument("--budget", type=budget, metavar="N", help="makes at most N pivots and flips, up to 1000000 (10000)")
     add_presolve(own)
@@ -197,17 +199,6 @@ def as_csv(
     return "\n".join(csv_line(line) for line in told)
 
 
-def can_be_converted(words: argparse.Namespace, data: bytes) -> bool:
-    """Whether the text is of a dialect that convert reads, or asks about."""
-    try:
-        convert(data, words.form)
-    except Question:
-        return True
-    except errors.LpdError:
-        return False
-    return True
-
-
 class Line(NamedTuple):
     """A line of CSV: of what it is, and the numbers of its cells."""
 
@@ -231,28 +222,36 @@ class Loaded(NamedTuple):
 def loaded(words: argparse.Namespace) -> Loaded:
     """What is to be solved."""
     data = read_model_file(words.model)
-    if words.convert or words.relax:
+    read = None if words.convert or words.relax else as_it_is(words, data)
+    if read is None:
         found = converted(words, data, replace(options_of(words), wide=True))
-        text, model, is_other = found.text, found.model, bool(found.changes) or is_lp(words.model)
-    else:
-        text = as_text(data)
-        try:
-            model = read_model(text, words.form == "fixed", wide=True)
-        except errors.TextFault:
-            if can_be_converted(words, data):
-                tell("The text is of another dialect, which --convert, or the command convert, turns into the profile.")
-            raise
-        is_other = words.form == "fixed" or is_lp(words.model)
+        read = Loaded(found.text, found.model, bool(found.changes))
+    text, model, is_other = read.text, read.model, read.is_other or words.form == "fixed" or is_lp(words.model)
     if words.max or words.min:
         model, is_other = replace(model, sense=-1 if words.max else 1), True
-    text = written(model, PROFILE).text if is_other else text
-    given = Loaded(text, model, is_other)
+    numbers = rounded(model)
+    if numbers.numbers and words.round:
+        model, is_other = numbers.model, True
+        tell(f"note: {numbers.told()}, which was taken")
+    elif numbers.numbers:
+        tell(f"note: {numbers.told()}: --round takes that")
+    given = Loaded(written(model, PROFILE).text if is_other else text, model, is_other)
     if words.objective is not None:
         from .objectives import asked_aim
 
-        aim = asked_aim(words, text, model)
+        aim = asked_aim(words, given.text, model)
         given = given if aim is None else Loaded(aim.text, aim.model, True, aim)
     return with_changes(given, words.changes)
+
+
+def as_it_is(words: argparse.Namespace, data: bytes) -> Optional[Loaded]:
+    """The model of a text of the profile; or of another dialect, which is told in a line."""
+    text = as_text(data)
+    try:
+        return Loaded(text, read_model(text, words.form == "fixed", wide=True), False)
+    except errors.TextFault as fault:
+        found = in_dialect(words, data, fault)
+    return Loaded(found.text, found.model, True)
 
 
 def with_changes(given: Loaded, words: Sequence[Tuple[str, str]]) -> Loaded:
