@@ -1,4 +1,4 @@
-"""Models in the LP format and in GNU MathProg, which glpsol reads, as MPS.
+"""Models in the LP format, which is read here with all digits, and in GNU MathProg, which glpsol reads, as MPS.
 
 glpsol holds numbers as floats and writes them in 15 digits: a longer number of such a file is not the one that is solved.
 """
@@ -8,14 +8,17 @@ import shutil
 import subprocess
 import tempfile
 from dataclasses import dataclass, field
+from fractions import Fraction
 from pathlib import Path
-from typing import List, Sequence, Tuple
+from typing import List, Optional, Sequence, Tuple
 
 from .errors import LpdError
+from .lp_reader import LpModel, Unfit, read_lp
 from .number_text import parse, shown
 
-# By the end of a file's name: the option of glpsol that reads it, and what it is called.
-FORMATS = {".lp": ("--lp", "the LP format"), ".mod": ("--math", "GNU MathProg")}
+# By the end of a file's name what it is called.
+LP, MATHPROG = ".lp", ".mod"
+FORMATS = {LP: "the LP format", MATHPROG: "GNU MathProg"}
 ROW_KINDS = {"f": "N", "l": "G", "u": "L", "d": "G", "s": "E"}
 
 
@@ -25,14 +28,23 @@ class Unreadable(LpdError):
     ends_with = 9
 
 
-def from_lp(data: bytes, name: str, end: str = ".lp") -> bytes:
-    """The MPS text of a model in the format with this end of a name, as glpsol reads it."""
-    option, what = FORMATS[end]
+def from_lp(data: bytes, name: str, end: str = LP) -> bytes:
+    """The MPS text of a model in the format with this end of a name."""
+    if end == MATHPROG:
+        return by_glpsol(data, name, FORMATS[end])
+    try:
+        return mps_of_lp(read_lp(data.decode("latin-1"))).encode("latin-1")
+    except Unfit as unfit:
+        raise Unreadable(f"{name} is in {FORMATS[end]}, and {unfit}") from None
+
+
+def by_glpsol(data: bytes, name: str, what: str) -> bytes:
+    """The MPS text of a model in GNU MathProg, as glpsol reads it."""
     if not shutil.which("glpsol"):
         raise Unreadable(f"{name} is in {what}, which glpsol reads, and that is not on the path (Debian's glpk-utils)")
     with tempfile.TemporaryDirectory() as folder:
         (Path(folder) / "model").write_bytes(data)
-        command = ["glpsol", option, "model", "--check", "--wglp", "model.glp"]
+        command = ["glpsol", "--math", "model", "--check", "--wglp", "model.glp"]
         done = subprocess.run(command, cwd=folder, capture_output=True, stdin=subprocess.DEVNULL)
         written = Path(folder) / "model.glp"
         if done.returncode or not written.exists():
@@ -40,6 +52,31 @@ def from_lp(data: bytes, name: str, end: str = ".lp") -> bytes:
             why = said[0].replace("model:", "line ") if said else f"its status is {done.returncode}"
             raise Unreadable(f"{name} is in {what}, and glpsol does not read it: {why}")
         return mps_of(written.read_text(encoding="latin-1")).encode("latin-1")
+
+
+def limits_of(lower: Optional[Fraction], upper: Optional[Fraction]) -> "tuple[str, List[str]]":
+    """The letter that says which limits there are, and these."""
+    kind = ("f" if upper is None else "u") if lower is None else "l" if upper is None else "s" if lower == upper else "d"
+    limits = [limit for limit in (lower, upper) if limit is not None]
+    return kind, [shown(limit) for limit in (limits[:1] if kind == "s" else limits)]
+
+
+def mps_of_lp(model: LpModel) -> str:
+    """The MPS text of a model that was read in the LP format."""
+    rows = [Item(model.objective, "f", []), *(Item(row.name, *limits_of(row.lower, row.upper)) for row in model.rows)]
+    columns = {name: Item(name, *limits_of(column.lower, column.upper), column.is_whole) for name, column in model.columns.items()}
+    for number, entries in enumerate([model.costs, *(row.entries for row in model.rows)]):
+        for name, value in entries.items():
+            columns[name].entries.append((number, shown(value)))
+    offset = Item("", "s", [], entries=[(0, shown(model.offset))] if model.offset else [])
+    give_free_name(rows)
+    return "".join(f"{line}\n" for line in mps_lines(model.is_max, rows, [offset, *columns.values()]))
+
+
+def give_free_name(rows: List[Item]) -> None:
+    """Names the objective, which is row 0, as no other row is."""
+    if any(row.name == rows[0].name for row in rows[1:]):
+        rows[0].name = next(name for name in ("OBJ", *(f"OBJ{n}" for n in range(len(rows)))) if all(row.name != name for row in rows[1:]))
 
 
 @dataclass
@@ -99,8 +136,7 @@ def mps_of(text: str) -> str:
         elif words[0] == "a":
             columns[int(words[2])].entries.append((int(words[1]), words[3]))
     leave_out_copy(rows, columns)
-    if any(row.name == rows[0].name for row in rows[1:]):
-        rows[0].name = next(name for name in ("OBJ", *(f"OBJ{n}" for n in range(len(rows)))) if all(row.name != name for row in rows[1:]))
+    give_free_name(rows)
     return "".join(f"{line}\n" for line in mps_lines(head[2] == "max", rows, columns))
 
 

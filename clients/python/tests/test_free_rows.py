@@ -99,7 +99,7 @@ class WithTheProgram(unittest.TestCase):
     def test_a_report_has_the_sum(self) -> None:
         lines = command("solve", "-", stdin=PLAN.encode()).output.splitlines()
         self.assertEqual(lines[0], "OPTIMAL 18")
-        self.assertEqual([line.split() for line in lines if line.startswith(("row ", "hours", "need"))], [["row", "sum", "slack", "price"], ["hours", "26", "0"], ["need", "10", "0", "4"]])
+        self.assertEqual([line.split() for line in lines if line.startswith(("row ", "hours", "need"))], [["row", "sum", "slack", "price"], ["need", "=10", "=0", "=4"], ["hours", "=26", "=0"]])
         told = json.loads(command("solve", "-", "--json", stdin=PLAN.encode()).output)["rows"]["hours"]
         self.assertEqual((told["sum"], told["slack"], told["price"]), ("26", None, "0"))
-        self.assertIn("row,hours,26,0,\n", command("solve", "-", "--csv", stdin=PLAN.encode()).output)
+        self.assertIn("row,hours,26,0,,=\n", command("solve", "-", "--csv", stdin=PLAN.encode()).output)

@@ -187,7 +187,6 @@ class Shown(unittest.TestCase):
             self.assertEqual((said.status, said.output), (9, ""))
             self.assertIn("is no whole gzip file", said.complaints)
 
-    @unittest.skipUnless(shutil.which("glpsol"), "glpsol is not on the path")
     def test_the_lp_format(self) -> None:
         text = "Maximize\n gain: 3 x + 0.1 y + 7 one\nSubject To\n c1: x + y <= 4\n c2: x - y >= -1\n c3: x + y >= 0.1\n"
         text += "Bounds\n x <= 2.5\n y free\n one = 1\nEnd\n"
@@ -198,7 +197,7 @@ class Shown(unittest.TestCase):
             path.write_text(text.replace("End", "Generals\n x\nEnd"))
             self.assertIn("whole-number columns (x)", command("solve", str(path), "--convert").complaints)
             path.write_text("Maximize\n gain: 3 x +\nSubject To\n")
-            self.assertIn("is in the LP format, and glpsol does not read it: line ", command("solve", str(path)).complaints)
+            self.assertIn("is in the LP format, and line 2: a column was expected at the end of a section", command("solve", str(path)).complaints)
 
     @unittest.skipUnless(shutil.which("glpsol"), "glpsol is not on the path")
     def test_mathprog(self) -> None:
@@ -208,12 +207,18 @@ class Shown(unittest.TestCase):
             path.write_text(text)
             self.assertEqual(command("solve", str(path), "--show", "answer")[:2], (0, reported("OPTIMAL 18\n")))
 
-    def test_the_lp_format_without_glpsol(self) -> None:
+    def test_mathprog_without_glpsol(self) -> None:
         with tempfile.TemporaryDirectory() as folder, mock.patch("shutil.which", return_value=None):
-            (Path(folder) / "model.lp").write_text("Minimize\nEnd\n")
-            said = command("solve", f"{folder}/model.lp")
+            (Path(folder) / "model.mod").write_text("end;\n")
+            said = command("solve", f"{folder}/model.mod")
         self.assertEqual(said.status, 9)
-        self.assertIn("is in the LP format, which glpsol reads", said.complaints)
+        self.assertIn("is in GNU MathProg, which glpsol reads", said.complaints)
+
+    def test_all_digits_of_the_lp_format(self) -> None:
+        with tempfile.TemporaryDirectory() as folder:
+            path = Path(folder) / "model.lp"
+            path.write_text("Minimize\n c: 2 x + 2 y\nSubject To\n r: x + y >= 4.123456789012345678\nEnd\n")
+            self.assertEqual(command("solve", str(path), "--exact").output.splitlines()[0], "OPTIMAL 8.246913578024691356")
 
 
 @unittest.skipUnless(has_program(), "the program is not built")

@@ -81,8 +81,9 @@ def binds(row: RowReport) -> bool:
 
 
 def print_rows(rows: Sequence[RowReport], style: Style, shows_all: bool, before: Optional[Dict[str, Fraction]]) -> None:
-    """Those that bind, or these first and then the others."""
-    kept = [row for row in rows if binds(row)] + [row for row in rows if shows_all and not binds(row)]
+    """Those that bind, and behind them those without limits, whose sums somebody wants to know; or the others too."""
+    free = [row for row in rows if row.slack is None]
+    kept = [row for row in rows if binds(row)] + free + [row for row in rows if shows_all and row.slack]
     old = before or {}
     lines = [[r.name, *(style.cell(value) for value in (r.activity, old.get(r.name), r.slack, r.price))] for r in kept]
     print_table([["row", "sum", "unchanged", "slack", "price"], *lines], before, style)

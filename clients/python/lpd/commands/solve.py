@@ -6,6 +6,7 @@ import json
 import sys
 from dataclasses import replace
 from fractions import Fraction
+from pathlib import Path
 from typing import TYPE_CHECKING, Dict, List, NamedTuple, Optional, Sequence, Tuple
 
 from .. import errors
@@ -14,7 +15,8 @@ from ..figures import Style
 from ..floating import CHOICES
 from ..model import Model, read_model
 from ..number_text import shown
-from ..reading import is_lp, read_model_file
+from ..lp_format import MATHPROG
+from ..reading import end_of, is_lp, read_model_file
 from ..replies import Answer, Infeasible, Optimal
 from ..report import Report, conflict, report
 from ..rounding import rounded
@@ -222,6 +224,8 @@ class Loaded(NamedTuple):
 def loaded(words: argparse.Namespace) -> Loaded:
     """What is to be solved."""
     data = read_model_file(words.model)
+    if end_of(Path(words.model)) == MATHPROG:
+        tell("note: glpsol reads .mod, and gives numbers in 15 digits")
     read = None if words.convert or words.relax else as_it_is(words, data)
     if read is None:
         found = converted(words, data, replace(options_of(words), wide=True))
