@@ -13,6 +13,8 @@ import re
 import sys
 from pathlib import Path
 
+from helping import helps
+
 WEB = Path(__file__).resolve().parent.parent / "web"
 PAGE = WEB / "check.html"
 # What decides, without a page: numbers, texts, and the check.
@@ -50,4 +52,5 @@ def main() -> int:
 
 
 if __name__ == "__main__":
+    helps(__doc__)
     sys.exit(main())

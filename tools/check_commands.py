@@ -16,6 +16,8 @@ import subprocess
 import sys
 from pathlib import Path
 
+from helping import helps
+
 TOP = Path(__file__).resolve().parent.parent
 TABLE = TOP / "crates" / "spec_program" / "specs" / "CommandLine.antt"
 PAGE = TOP / "docs" / "lpd.1"
@@ -165,4 +167,5 @@ def main():
 
 
 if __name__ == "__main__":
+    helps(__doc__)
     sys.exit(main())

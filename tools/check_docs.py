@@ -14,6 +14,7 @@ import sys
 from pathlib import Path
 
 from count_definitions import crates_below
+from helping import helps
 
 TOP = Path(__file__).resolve().parent.parent
 PATH = re.compile(r"(?:crates|docs|examples|tools|bench|web)/[\w./-]*")
@@ -120,4 +121,5 @@ def main():
 
 
 if __name__ == "__main__":
+    helps(__doc__)
     sys.exit(main())

@@ -12,6 +12,7 @@ import sys
 from pathlib import Path
 
 from count_definitions import crates_below
+from helping import helps
 
 TOP = Path(__file__).resolve().parent.parent
 PROGRAM = "lpd"
@@ -60,4 +61,5 @@ def main():
 
 
 if __name__ == "__main__":
+    helps(__doc__)
     main()

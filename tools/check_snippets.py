@@ -19,6 +19,8 @@ import tempfile
 import time
 from pathlib import Path
 
+from helping import helps
+
 TOP = Path(__file__).resolve().parent.parent
 PROGRAM = TOP / "crates" / "lpd" / "out" / "lpd"
 SECONDS = 1200
@@ -188,4 +190,5 @@ def main():
 
 
 if __name__ == "__main__":
+    helps(__doc__)
     sys.exit(main())

@@ -26,6 +26,8 @@ from dataclasses import dataclass, field
 from functools import cache
 from pathlib import Path
 
+from helping import helps
+
 TOP = Path(__file__).resolve().parent.parent
 CRATES = TOP / "crates"
 PAGE = TOP / "docs" / "READING.md"
@@ -440,4 +442,5 @@ def main() -> int:
 
 
 if __name__ == "__main__":
+    helps(__doc__)
     sys.exit(main())

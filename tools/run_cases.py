@@ -15,6 +15,8 @@ prints what differs, and at last 'N passed, N failed'.
 import subprocess
 import sys
 
+from helping import helps
+
 
 class Case:
     def __init__(self, name, words):
@@ -107,4 +109,5 @@ def main():
 
 
 if __name__ == "__main__":
+    helps(__doc__)
     sys.exit(main())

@@ -221,4 +221,7 @@ def main(words):
 
 
 if __name__ == "__main__":
+    if {"--help", "-h"} & {*sys.argv[1:]}:
+        print(__doc__.strip())
+        sys.exit(0)
     sys.exit(main(sys.argv[1:]))

@@ -79,7 +79,38 @@ class Launcher(unittest.TestCase):
         self.build()
         self.assertEqual(self.run_lpd("gen", "1").stdout, "ran gen 1\n")
         self.old(self.program, 3600)
-        self.assertEqual(self.run_lpd("gen", "1").returncode, 126)
+        said = self.run_lpd("gen", "1")
+        self.assertEqual(said.returncode, 126)
+        self.assertIn("crates/lpd/out/lpd is there, but a source has a later date", said.stderr)
+        self.assertIn("./lpd record puts that down", said.stderr)
+        self.assertIn("./lpd record", self.run_lpd("--help").stderr)
+        self.assertEqual(self.run_lpd("record").returncode, 0)
+        self.assertEqual(self.run_lpd("gen", "1").stdout, "ran gen 1\n")
+
+    def test_a_copy_whose_dates_are_those_of_the_copying(self) -> None:
+        self.build()
+        self.run_lpd("record")
+        copy = self.top / "copy"
+        shutil.copytree(self.top, copy, ignore=shutil.ignore_patterns("copy"), copy_function=shutil.copyfile)
+        for path in (copy / "lpd", copy / "crates" / "lpd" / "out" / "lpd"):
+            path.chmod(0o755)
+        for path in (copy / "crates" / "lpd" / "out").iterdir():
+            self.old(path, 3600)
+        said = subprocess.run([str(copy / "lpd"), "gen", "1"], env={"PATH": "/usr/bin:/bin"}, capture_output=True, text=True, timeout=300)
+        self.assertEqual((said.stdout, said.stderr), ("ran gen 1\n", ""))
+
+    def test_help_of_its_own_commands(self) -> None:
+        for word in ("build", "record"):
+            said = self.run_lpd(word, "--help")
+            self.assertEqual((said.returncode, said.stderr), (0, ""))
+            self.assertIn(f"./lpd {word} ", said.stdout)
+
+    def test_sources_that_were_changed(self) -> None:
+        self.build()
+        self.run_lpd("record")
+        self.old(self.program.with_name("sources"), 3600)
+        (self.top / "crates" / "low" / "src" / "lib.rt").write_text("// changed\n")
+        self.assertIn("was built from other sources than these", self.run_lpd("gen", "1").stderr)
 
     def test_a_record_of_another_program(self) -> None:
         self.build()

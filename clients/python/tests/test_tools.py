@@ -16,11 +16,16 @@ GATE = TOOLS.parent / ".ci" / "run"
 
 class Help(unittest.TestCase):
     def test_help(self) -> None:
-        for name in ("check_certificate", "check_serve", "check_talk", "check_threads", "check_workers", "talk"):
-            with self.subTest(name):
-                said = subprocess.run([sys.executable, str(TOOLS / f"{name}.py"), "--help"], capture_output=True, text=True, timeout=300)
+        """Of each script that is begun by hand. What others import has no help."""
+        scripts = [path for path in TOOLS.rglob("*") if path.is_file() and path.suffix in ("", ".py") and "__pycache__" not in path.parts]
+        begun = [path for path in scripts if path.read_text().startswith("#!") and "packing" not in path.parts]
+        self.assertGreater(len(begun), 20)
+        for path in begun:
+            with self.subTest(path.name):
+                line = [sys.executable, str(path)] if "python3" in path.read_text().splitlines()[0] else [str(path)]
+                said = subprocess.run([*line, "--help"], capture_output=True, text=True, timeout=300)
                 self.assertEqual((said.returncode, said.stderr), (0, ""))
-                self.assertIn(f"{name}.py", said.stdout)
+                self.assertIn("python3 -m lpd" if path.name == "lpd-py" else path.name, said.stdout)
 
     def test_the_gate_begins_at_no_word(self) -> None:
         """With nothing on the path that a gate could be made of."""
