@@ -143,6 +143,8 @@ class TextFault(Refused):
     def __init__(self, line: int, fault: int, text: Optional[str] = None) -> None:
         self.line, self.fault, self.text = line, fault, text
         what, self.hint = FAULTS[fault]
+        if fault == TOO_MUCH:
+            what = limit_passed(line, text)
         self.is_far = fault == TOO_WIDE and any(is_far(word) for word in (text or "").split())
         if self.is_far:
             what, self.hint = FAR
@@ -213,7 +215,12 @@ class CertificateFault(Refused):
         elif self.is_wide:
             what = "has a number past 127 bits"
             self.hint = "For numbers of any width use --wide, as in lpd check --wide, and in Python wide=True."
+        elif line == 1 and words[:1] == ["OPTIMAL"] or line == 2 and words[:1] in ANSWERS:
+            self.hint = "This is a certificate behind an answer: drop the first line, as sed 1d does."
         super().__init__(f"ERR 14 CERT {line}", f"line {line} of the certificate {what}{quoted(text)}")
+
+
+ANSWERS = (["OPTIMAL"], ["INFEASIBLE"], ["UNBOUNDED"], ["CLASH"])
 
 
 class FreeRow(Refused):
@@ -241,7 +248,21 @@ class FaultWords(NamedTuple):
     hint: str
 
 
-TOO_WIDE = 10
+TOO_WIDE, TOO_MUCH = 10, 16
+LONGEST = 16384  # bytes of a line
+
+
+def limit_passed(line: int, text: Optional[str]) -> str:
+    """Which limit a line passes: its own length; or it names a row, which a card of ROWS does with two words, or a column."""
+    if text is None:
+        return FAULTS[TOO_MUCH].what
+    if len(text) > LONGEST:
+        return f"it has {len(text)} bytes, and a line has at most {LONGEST}"
+    words = text.split()
+    what = "rows, of which there are at most 256" if len(words) == 2 else "columns, of which there are at most 512"
+    return f"{words[-1] if len(words) == 2 else words[0]} is one too many of the {what}"
+
+
 EXPONENTS = "with --wide too, a decimal without the zeros at its end has an exponent from -16384 to 16384."
 FAR = FaultWords(
     "this number does not fit 127 bits, and its exponent is past 16384",
@@ -252,7 +273,11 @@ ADJACENT = "The cards of a column are adjacent."
 FAULTS: Dict[int, FaultWords] = {
     1: FaultWords("this section may not come here", ORDER),
     2: FaultWords("unknown section", ORDER + " A line that begins in column 1 is a section."),
-    3: FaultWords("wrong shape of a card", "docs/FORMATS.md has the fields of each section's cards, in free and in fixed form."),
+    3: FaultWords(
+        "wrong shape of a card",
+        "A card has one or two pairs of a name and a number, and more of them stand on cards of their own; docs/FORMATS.md has the "
+        "fields of each section's cards, in free and in fixed form.",
+    ),
     4: FaultWords("unknown type of a row", "Types are N, L, G and E."),
     5: FaultWords("this row is there already", "Each row is named once, and no row is named as the objective is."),
     6: FaultWords("unknown row", "Each row that a card names has to stand in ROWS."),

@@ -111,6 +111,24 @@ class Checks(unittest.TestCase):
                 lpd.check(LEAST, certificate)
             self.assertEqual(raised.exception.reply, reply)
 
+    def test_what_to_do_with_an_answer(self) -> None:
+        for answer in ("OPTIMAL 4\nOPTIMAL\n", "INFEASIBLE\nINFEASIBLE\n", "UNBOUNDED\nUNBOUNDED\n"):
+            with self.assertRaisesRegex(lpd.CertificateFault, "drop the first line"):
+                lpd.check(LEAST, answer + "END\n")
+
+    def test_limits_that_are_passed(self) -> None:
+        many = {"row": "".join(f" L s{n}\n" for n in range(257)), "column": "".join(f" a{n} cost 1\n" for n in range(513))}
+        cases = {
+            LEAST.replace(" G R1\n", f" G R1\n{many['row']}"): "s255 is one too many of the rows, of which there are at most 256",
+            LEAST.replace(" a cost", f"{many['column']} a cost"): "a512 is one too many of the columns, of which there are at most 512",
+            LEAST.replace(" a cost 1", f" a cost 1{' ' * 17000}"): "bytes, and a line has at most 16384",
+        }
+        for text, why in cases.items():
+            with self.assertRaisesRegex(lpd.TextFault, why):
+                lpd.check(text, "OPTIMAL\nEND\n")
+        with self.assertRaisesRegex(lpd.TextFault, "A card has one or two pairs"):
+            lpd.read_model(LEAST.replace(" a cost 1 R1 1", " a cost 1 R1 1 R1 2"))
+
     def test_faults_of_texts(self) -> None:
         script = (EXAMPLES / "texts.lpd").read_text()
         output = re.findall(r"^\d+ (LOADED .*|ERR 8 .*)$", (EXAMPLES / "texts.out").read_text(), re.M)

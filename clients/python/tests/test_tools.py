@@ -39,6 +39,28 @@ class Help(unittest.TestCase):
                 self.assertEqual(said.stdout if status else said.stderr, "")
 
 
+class Checker(unittest.TestCase):
+    """The checker that is one file."""
+
+    def test_it_is_as_the_package_has_it(self) -> None:
+        said = subprocess.run([sys.executable, str(TOOLS / "build_checker.py"), "--check"], capture_output=True, text=True, timeout=300)
+        self.assertEqual((said.returncode, said.stdout), (0, ""))
+
+    def test_alone(self) -> None:
+        """Copied into an empty folder, by a Python that looks nowhere else."""
+        examples = TOOLS.parent / "examples"
+        with tempfile.TemporaryDirectory() as folder:
+            shutil.copy(TOOLS / "check_certificate.py", folder)
+            line = [sys.executable, "-I", f"{folder}/check_certificate.py"]
+            for path in sorted(examples.glob("*.mps")):
+                said = subprocess.run(line, input=path.read_bytes(), capture_output=True, cwd=folder, timeout=300)
+                self.assertEqual((said.returncode, said.stdout.decode()), (0, path.with_suffix(".said").read_text()))
+            diet = (examples / "models" / "diet.mps").read_text() + (examples / "models" / "diet.solved").read_text()
+            said = subprocess.run(line, input=diet.encode(), capture_output=True, cwd=folder, timeout=300)
+            self.assertEqual((said.returncode, said.stdout.splitlines()[0]), (9, b"ERR 14 CERT 1"))
+            self.assertIn(b"drop the first line", said.stderr)
+
+
 class Talk(unittest.TestCase):
     def talk(self, script: bytes, *replies: bytes) -> "subprocess.CompletedProcess[bytes]":
         server = Server(by_bytes(*replies))

@@ -1,0 +1,142 @@
+#!/usr/bin/env python3
+"""Puts the checker that is one file together: tools/check_certificate.py, from modules of clients/python.
+
+    build_checker.py          writes it
+    build_checker.py --check  says whether it is what would be written, with status 1 where it is not
+
+It takes the definitions that the checker rests on, as they stand, and no others. So the file can be copied to wherever Python is,
+and be read from its top to its end.
+"""
+import ast
+import sys
+from pathlib import Path
+
+from helping import helps
+
+TOP = Path(__file__).resolve().parent.parent
+PACKAGE = TOP / "clients" / "python" / "lpd"
+TARGET = TOP / "tools" / "check_certificate.py"
+# In this order each module stands behind those whose names it uses as it is read.
+MODULES = ("number_text", "errors", "replies", "model", "certificate")
+FIRST = "check"  # what the checker begins with
+HEAD = '''#!/usr/bin/env python3
+"""Checks a certificate of a linear program, as `lpd check` does, with sums of any width.
+
+    check_certificate.py [--form free|fixed] [--wide] < model-and-certificate
+
+It prints YES and what the certificate shows, NO and the number of the first condition that fails, or an ERR line. The status is 0
+behind YES and behind NO, as that of `lpd check` is, and 9 behind an ERR line: a script tests the first word. Why a certificate is not
+accepted goes to standard error. With --wide the numbers in the texts may be of any width too.
+
+This one file is all there is to it, and to read: it needs Python 3.8 or later and its standard library, shares nothing with the
+program, and is written from docs/FORMATS.md alone. tools/build_checker.py makes it of the checker in clients/python.
+"""
+from __future__ import annotations
+
+import argparse
+import re
+import sys
+from dataclasses import dataclass, field
+from fractions import Fraction
+'''
+FOOT = '''
+# ---- the command
+
+
+def main() -> int:
+    parser = argparse.ArgumentParser(description="Checks a certificate after the text of a model.")
+    parser.add_argument("--form", choices=["free", "fixed"], default="free")
+    parser.add_argument("--wide", action="store_true", help="numbers of any width")
+    words = parser.parse_args()
+    try:
+        verdict = check(sys.stdin.buffer.read().decode("latin-1"), fixed=words.form == "fixed", wide=words.wide)
+    except Refused as refused:
+        sys.stdout.buffer.write(refused.reply.encode("latin-1") + b"\\n")
+        print(refused, file=sys.stderr)
+        return 9
+    print(verdict)
+    if isinstance(verdict, Rejected):
+        print(verdict.why, file=sys.stderr)
+    return 0
+
+
+if __name__ == "__main__":
+    sys.exit(main())
+'''
+
+
+class Definition:
+    """A definition at the top of a module: its text, the names that it gives, and those that it uses."""
+
+    def __init__(self, node, lines, module):
+        first = min([node.lineno, *(part.lineno for part in getattr(node, "decorator_list", []))])
+        self.text = "\n".join(lines[first - 1 : node.end_lineno])
+        self.module, self.is_block = module, isinstance(node, (ast.ClassDef, ast.FunctionDef))
+        self.names = {node.name} if self.is_block else {target.id for target in targets_of(node)}
+        self.uses = {part.id for part in ast.walk(ast.parse(self.text)) if isinstance(part, ast.Name)}
+        self.uses |= {word for part in ast.walk(node) if isinstance(part, ast.Constant) and isinstance(part.value, str) for word in [part.value]}
+
+
+def targets_of(node):
+    """The names that an assignment gives."""
+    targets = node.targets if isinstance(node, ast.Assign) else [node.target]
+    return [part for target in targets for part in ast.walk(target) if isinstance(part, ast.Name)]
+
+
+def definitions():
+    found = []
+    for module in MODULES:
+        text = (PACKAGE / f"{module}.py").read_text(encoding="utf-8")
+        kinds = (ast.ClassDef, ast.FunctionDef, ast.Assign, ast.AnnAssign)
+        found += [Definition(node, text.splitlines(), module) for node in ast.parse(text).body if isinstance(node, kinds)]
+    return found
+
+
+def needed(all_of_them):
+    """Those that the first one rests on, in their order. A name that two modules give is taken from the first."""
+    by_name, kept, left = {}, set(), [FIRST]
+    for one in all_of_them:
+        for name in one.names:
+            by_name.setdefault(name, one)
+    while left:
+        one = by_name.get(left.pop())
+        if one is not None and one not in kept:
+            kept.add(one)
+            left += one.uses
+    return [one for one in all_of_them if one in kept]
+
+
+def text_of_checker():
+    kept = needed(definitions())
+    used = {name for one in kept for name in one.uses}
+    typing = {"Callable", "Dict", "Iterable", "List", "Mapping", "NamedTuple", "NoReturn", "Optional", "Sequence", "Set", "Tuple", "Type", "TypeVar", "Union"}
+    parts = [f"from typing import {', '.join(sorted(typing & used))}\n"]
+    before = None
+    for one in kept:
+        if before is None or one.module != before.module:
+            parts.append(f"\n# ---- {one.module}.py\n\n")
+        elif before.is_block or one.is_block:
+            parts.append("\n")
+        if one.is_block and not parts[-1].startswith("\n# ----"):
+            parts.append("\n")
+        elif one.is_block:
+            parts.append("\n")
+        parts.append(f"{one.text}\n")
+        before = one
+    return HEAD + "".join(parts) + "\n" + FOOT
+
+
+def main():
+    text = text_of_checker()
+    if sys.argv[1:] == ["--check"]:
+        is_same = TARGET.read_text(encoding="utf-8") == text
+        if not is_same:
+            print(f"{TARGET.relative_to(TOP)} is not what tools/build_checker.py makes")
+        return 0 if is_same else 1
+    TARGET.write_text(text, encoding="utf-8")
+    return 0
+
+
+if __name__ == "__main__":
+    helps(__doc__)
+    sys.exit(main())
