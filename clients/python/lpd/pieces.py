@@ -187,14 +187,13 @@ def picture_of(curve: Curve, name: str, what: str) -> str:
     points += [(high, last.optimum(high))] if last.high is None else []
     here = (curve.now, next(piece for piece in curve.pieces if holds(piece, curve.now)).optimum(curve.now))
     picture = Picture(box_around([*points, here]), f"the optimum over the {what} {name}")
-    picture.line(points, "steelblue", width=2)
-    for at, point in enumerate(kinks):
-        picture.dot(point, "steelblue")
-        picture.text(point, f"{label(point[0])}: {label(point[1])}", across=8 if at % 2 else -8, down=16 if at % 2 else -8, anchor="start" if at % 2 else "end" if at else "start")
-    picture.dot(here, "firebrick")
-    picture.text(here, f"now {label(here[0])}: {label(here[1])}", "firebrick", across=8, down=30)
-    draw_beyond(picture, curve, picture.box)
     picture.axes(name, "optimum")
+    picture.line(points, "steelblue", width=2)
+    draw_beyond(picture, curve, picture.box)
+    for point, front, fill in [(here, "now ", "firebrick"), *((kink, "", "steelblue") for kink in kinks)]:
+        words = f"{front}{label(point[0])}: {label(point[1])}"
+        picture.dot(point, fill, words)
+        picture.note(point, words, "firebrick" if front else "black")
     return picture.svg()
 
 

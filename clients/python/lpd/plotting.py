@@ -111,6 +111,7 @@ def plane(model: Model, effort: Effort = Effort()) -> str:
     box = view_of(sides, [best] if best else [])
     answer = f"OPTIMAL {READABLE.word(found.answer.value)}" if isinstance(found.answer, Optimal) else found.answer
     picture = Picture(box, f"{model.name or 'model'}: {answer}")
+    picture.axes(*model.columns)
     region = corners(box)
     for side in sides:
         region = clipped(region, side)
@@ -125,8 +126,7 @@ def plane(model: Model, effort: Effort = Effort()) -> str:
             picture.line(across_box(level, box), "black", "2 4")
             draw_direction(picture, best, (-model.sense * cost[0], -model.sense * cost[1]))
         picture.dot(best, "black")
-        picture.text(best, f"{x} {label(best[0])}, {y} {label(best[1])}", across=8, down=18)
-    picture.axes(x, y)
+        picture.note(best, f"{x} {label(best[0])}, {y} {label(best[1])}")
     return picture.svg()
 
 
@@ -136,7 +136,7 @@ def draw_lines(picture: Picture, sides: Sequence[Side], rows: Sequence[str]) -> 
         colour = COLOURS[rows.index(side.name) % len(COLOURS)] if side.name in rows else "gray"
         if len(points) == 2:
             picture.line(points, colour, "" if side.name in rows else "6 3")
-            picture.text(points[1] if side.name in rows else points[0], side.name, colour, -4, 14, "end" if side.name in rows else "start")
+            picture.note(points[1] if side.name in rows else points[0], side.name, colour)
 
 
 def draw_direction(picture: Picture, start: Point, direction: Point) -> None:
@@ -205,9 +205,10 @@ def curve(turns: Sequence[Turn], name: str, what: str) -> str:
     """The optimum over a number as SVG, with a mark at each kink."""
     points = [(turn.number, turn.value) for turn in turns]
     picture = Picture(box_around(points), f"the optimum over the {what} {name}")
-    picture.line(points, "steelblue", width=2)
-    for at, (turn, point) in enumerate(zip(turns, points)):
-        picture.dot(point, "steelblue")
-        picture.text(point, f"{label(turn.number)}: {label(turn.value)}", across=8 if at % 2 else -8, down=16 if at % 2 else -8, anchor="start" if at % 2 else "end" if at else "start")
     picture.axes(name, "optimum")
+    picture.line(points, "steelblue", width=2)
+    for point in points:
+        words = f"{label(point[0])}: {label(point[1])}"
+        picture.dot(point, "steelblue", words)
+        picture.note(point, words)
     return picture.svg()

@@ -8,6 +8,9 @@ from .figures import READABLE
 Point = Tuple[Fraction, Fraction]
 WIDTH, HEIGHT, LEFT, RIGHT, TOP, FOOT = 720, 480, 80, 40, 34, 50
 TICKS = 5
+LETTER = 7.0
+# Places beside a point: across, down, and on which side of that the text stands.
+BESIDE = [(8 * side, down, "start" if side > 0 else "end") for down in (-8, 16, -24, 32, -40, 48, -56, 64) for side in (1, -1)]
 
 
 def escape(text: str) -> str:
@@ -49,9 +52,34 @@ def label(value: Fraction) -> str:
     return READABLE.cell(value)
 
 
+class Place(NamedTuple):
+    """What a text covers of the page: from left to right, and from its top to its foot."""
+
+    left: float
+    right: float
+    top: float
+    foot: float
+
+    def meets(self, other: Place) -> bool:
+        return self.left < other.right and other.left < self.right and self.top < other.foot and other.top < self.foot
+
+    def is_on_page(self) -> bool:
+        return 0 <= self.left and self.right <= WIDTH and 0 <= self.top and self.foot <= HEIGHT
+
+
+def place_of(x: float, y: float, words: str, anchor: str) -> Place:
+    """Where a text is: of twelve points, whose letters are seven wide."""
+    width = LETTER * len(words)
+    left = x - {"start": 0.0, "middle": width / 2, "end": width}[anchor]
+    return Place(left, left + width, y - 10, y + 3)
+
+
 class Picture:
+    """A page to draw on. Texts beside points stand where no other text is, and are left out where there is no such place."""
+
     def __init__(self, box: Box, title: str) -> None:
         self.box = box
+        self.taken: List[Place] = []
         start = f'<svg xmlns="http://www.w3.org/2000/svg" width="{WIDTH}" height="{HEIGHT}" viewBox="0 0 {WIDTH} {HEIGHT}" font-family="sans-serif" font-size="12">'
         self.parts = [start, f'<rect width="{WIDTH}" height="{HEIGHT}" fill="white"/>']
         self.parts.append(f'<text x="{LEFT}" y="20" font-size="14">{escape(title)}</text>')
@@ -80,12 +108,24 @@ class Picture:
         path = f"M{x:.2f},{y:.2f} L{u:.2f},{v:.2f} M{head[0][0]:.2f},{head[0][1]:.2f} L{u:.2f},{v:.2f} L{head[1][0]:.2f},{head[1][1]:.2f}"
         self.parts.append(f'<path d="{path}" fill="none" stroke="{stroke}" stroke-width="2"/>')
 
-    def dot(self, point: Point, fill: str) -> None:
+    def dot(self, point: Point, fill: str, words: str = "") -> None:
+        """A mark, over which a browser shows the words."""
         x, y = self.place(point)
-        self.parts.append(f'<circle cx="{x:.2f}" cy="{y:.2f}" r="4" fill="{fill}"/>')
+        title = f"><title>{escape(words)}</title></circle>" if words else "/>"
+        self.parts.append(f'<circle cx="{x:.2f}" cy="{y:.2f}" r="4" fill="{fill}"{title}')
+
+    def note(self, point: Point, words: str, fill: str = "black") -> None:
+        """A text beside a point, at the first of some places that no other text meets."""
+        x, y = self.place(point)
+        for across, down, anchor in BESIDE:
+            place = place_of(x + across, y + down, words, anchor)
+            if place.is_on_page() and not any(place.meets(other) for other in self.taken):
+                self.text(point, words, fill, across, down, anchor)
+                return
 
     def text(self, point: Point, words: str, fill: str = "black", across: float = 6, down: float = -6, anchor: str = "start") -> None:
         x, y = self.place(point)
+        self.taken.append(place_of(x + across, y + down, words, anchor))
         self.parts.append(f'<text x="{x + across:.2f}" y="{y + down:.2f}" fill="{fill}" text-anchor="{anchor}">{escape(words)}</text>')
 
     def axes(self, across: str, up: str) -> None:

@@ -1,5 +1,7 @@
 """Pictures of models of two columns, and of the optimum over one number."""
+import os
 import re
+import tempfile
 import unittest
 from fractions import Fraction
 from pathlib import Path
@@ -7,8 +9,8 @@ from typing import List
 from xml.etree import ElementTree
 
 import lpd
-from lpd.plotting import Turn, over_number, turns_of
-from lpd.svg import ticks
+from lpd.plotting import Turn, curve, over_number, turns_of
+from lpd.svg import place_of, ticks
 
 from .commands import Said, command
 from .models import has_program
@@ -38,6 +40,18 @@ class Numbers(unittest.TestCase):
         turns = over_number(solve, Fraction(-1), Fraction(40))
         self.assertEqual([turn.number for turn in turns], [-1, Fraction(4, 3), 4, Fraction(91, 4), 40])
 
+    def test_texts_do_not_meet(self) -> None:
+        """Of many kinks near each other, of which each has its words to be shown over it."""
+        turns = [Turn(Fraction(n, 3), Fraction(n * n, 7), Fraction(1)) for n in range(40)]
+        drawn = ElementTree.fromstring(curve(turns, "need", "right side of"))
+        texts = drawn.findall("{http://www.w3.org/2000/svg}text")[1:]
+        places = [place_of(float(one.attrib["x"]), float(one.attrib["y"]), one.text or "", one.attrib["text-anchor"]) for one in texts]
+        self.assertGreater(len(places), 15)
+        for at, one in enumerate(places):
+            for other in places[:at]:
+                self.assertFalse(one.meets(other), (one, other))
+        self.assertEqual(len(drawn.findall(".//{http://www.w3.org/2000/svg}title")), 40)
+
     def test_a_straight_line(self) -> None:
         self.assertEqual(len(over_number(lambda number: Turn(number, 2 * number, Fraction(2)), Fraction(0), Fraction(9))), 2)
 
@@ -50,16 +64,16 @@ class Plot(unittest.TestCase):
         return [] if found is None else [[float(number) for number in point.split(",")] for point in found.attrib["points"].split()]
 
     def test_a_region(self) -> None:
-        said = command("plot", "-", stdin=SHOP.encode())
+        said = command("plot", "-", "-o", "-", stdin=SHOP.encode())
         self.assertEqual(len(self.points(said, "polygon")), 4)
         for words in ("shop: OPTIMAL 410", "tables =7.8, chairs =8.8", ">wood<", ">hours<", "<path "):
             self.assertIn(words, said.output)
 
     def test_other_ends(self) -> None:
-        said = command("plot", "-", stdin=SHOP.replace(" L ", " G ").encode())
+        said = command("plot", "-", "-o", "-", stdin=SHOP.replace(" L ", " G ").encode())
         self.assertIn("UNBOUNDED", said.output)
         self.assertGreater(len(self.points(said, "polygon")), 3)
-        said = command("plot", str(EXAMPLES / "models" / "orders.mps"))
+        said = command("plot", str(EXAMPLES / "models" / "orders.mps"), "-o", "-")
         self.assertIn("INFEASIBLE", said.output)
         self.assertEqual(self.points(said, "polygon"), [])
 
@@ -69,7 +83,7 @@ class Plot(unittest.TestCase):
         self.assertIn("the model has 6 columns, and a plane has two: --rhs ROW or --cost COLUMN", said.complaints)
 
     def test_over_a_right_side(self) -> None:
-        said = command("plot", DIET, "--rhs", "energy", "--from", "0", "--to", "4015", "--exact")
+        said = command("plot", DIET, "--rhs", "energy", "--from", "0", "--to", "4015", "--exact", "-o", "-")
         stored = re.findall(r"from (\S+) to (\S+): from (\S+) to (\S+) cents", (EXAMPLES / "python" / "optimum_over_demand.out").read_text())
         told = re.findall(r"^from (\S+) to (\S+): (\S+) to (\S+),", said.complaints, re.M)
         self.assertEqual([list(map(Fraction, line)) for line in told], [list(map(Fraction, line)) for line in stored])
@@ -85,6 +99,25 @@ class Plot(unittest.TestCase):
                 session.load(Path(DIET).read_text())
                 session.set_cost("milk", turn.number)
                 self.assertEqual(session.solve(), lpd.Optimal(turn.value))
+
+    def test_the_file(self) -> None:
+        """It is named where nobody names one, and is SVG."""
+        with tempfile.TemporaryDirectory() as folder:
+            before = os.getcwd()
+            os.chdir(folder)
+            self.addCleanup(os.chdir, before)
+            (Path(folder) / "shop.mps").write_text(SHOP)
+            said = command("plot", "shop.mps")
+            self.assertEqual((said.status, said.output, said.complaints), (0, "", "shop.svg has the picture\n"))
+            self.assertTrue(command("plot", DIET, "--rhs", "energy").complaints.endswith("\nenergy.svg has the picture\n"))
+            for path in Path(folder).glob("*.svg"):
+                ElementTree.fromstring(path.read_text())
+            os.chdir(before)
+            for words in (["plot", DIET, "--rhs", "energy", "-o", f"{folder}/x.png"], ["solve", DIET, "--plot", "energy", "--picture", f"{folder}/x.png"]):
+                said = command(*words)
+                self.assertEqual((said.status, said.output), (2, ""))
+                self.assertIn("x.png ends with .png: name a file .svg", said.complaints)
+            self.assertEqual(sorted(path.name for path in Path(folder).iterdir()), ["energy.svg", "shop.mps", "shop.svg"])
 
     def test_what_cannot_be_shown(self) -> None:
         cases = {

@@ -3,7 +3,6 @@ picture of the optimum over one number."""
 from __future__ import annotations
 
 from fractions import Fraction
-from pathlib import Path
 from typing import Dict, List, Mapping, Optional, Sequence, Tuple
 
 from ..errors import CommandMissing, Refused
@@ -15,7 +14,8 @@ from ..pieces import Curve, curve_of, picture_of
 from ..plotting import NoPicture
 from ..ranging import COST, RHS, Range, Ranged, Ranges, ranges
 from ..replies import Answer, Optimal
-from .common import number_in, put, table, tell
+from .common import number_in, table, tell
+from .plot import put_picture
 
 
 def asked_ranges(text: str, answer: Answer) -> Optional[Ranges]:
@@ -121,9 +121,7 @@ def draw(model: Model, number: Tuple[str, str], path: Optional[str], style: Styl
         return
     for line in lines_of_curve(found, style):
         tell(line)
-    file = path or f"{Path(name.replace('/', '_')).name}.svg"
-    put(picture_of(found, name, "cost of" if what == COST else "right side of"), file)
-    tell(f"{file} has the picture")
+    put_picture(picture_of(found, name, "cost of" if what == COST else "right side of"), path, name)
 
 
 def lines_of_curve(found: Curve, style: Style) -> List[str]:

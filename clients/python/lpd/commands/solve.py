@@ -330,6 +330,9 @@ def named_number(words: argparse.Namespace, model: Model) -> Optional[Tuple[str,
     """The number over which the optimum is to be drawn."""
     if not words.plot:
         return None
+    from .plot import must_be_svg
+
+    must_be_svg(words.picture)
     from .range_tables import number_named
 
     return number_named(model, words.plot)
