@@ -21,7 +21,7 @@ from page import ended
 TOP = pathlib.Path(__file__).resolve().parent.parent
 sys.path.insert(0, str(TOP / "clients" / "python"))
 
-from lpd.batching import Work, one_by_one  # noqa: E402  (the package of this repository)
+from lpd.batching import Work, one_by_one, tasks_of  # noqa: E402  (the package of this repository)
 from lpd.certifying import BASIS, BASIS_WIDE, WAYS  # noqa: E402
 from lpd.judging import LPD_CHECK, LPD_CHECK_WIDE, PYTHON_ALONE  # noqa: E402
 from lpd.replies import Optimal  # noqa: E402
@@ -83,7 +83,7 @@ def measure(options, faults):
     optima, by_solver = optima_of(options.optima), {}
     for solver in options.solvers:
         work = Work(effort=Effort(LARGEST, only_lpd=True, seconds=options.seconds), certifier=solver, way=options.way)
-        by_solver[solver] = list(one_by_one(sorted(pathlib.Path(options.folder).glob("*.mps")), work))
+        by_solver[solver] = list(one_by_one(tasks_of(map(str, pathlib.Path(options.folder).glob("*.mps"))), work))
     first = by_solver[options.solvers[0]]
     answered = sum(result.answer in ANSWERS for result in first)
     yield f"`solve` answers {answered} of {len(first)} models, {len(after_convert(first))} of them after `convert`."

@@ -34,6 +34,7 @@ program, and is written from docs/FORMATS.md alone. tools/build_checker.py makes
 from __future__ import annotations
 
 import argparse
+import functools
 import re
 import sys
 from dataclasses import dataclass, field

@@ -5,13 +5,14 @@ from __future__ import annotations
 from dataclasses import dataclass, replace
 from typing import List, Optional, Sequence
 
-from .errors import CertificateFault, CommandMissing, LpdError, TextFault
+from .errors import CertificateFault, CommandMissing, LpdError, TextFault, number_in
 from .model import words_of
 from .once import output_of, unexpected_of
 from .replies import Accepted, Known, Past, Verdict
 from .session import Session, body_of, verdict_of
 
 TOO_WIDE = 10  # the fault of a text
+SHORTEST = 38  # characters of a number past 127 bits, if it is no decimal with an exponent, which no certificate of the program has
 LPD_CHECK, LPD_CHECK_WIDE, PYTHON_ALONE = "lpd check", "lpd check --wide", "python alone"
 
 
@@ -49,12 +50,21 @@ def check_wide(text: str, certificate: Sequence[str], fixed: bool = False, path:
 def judged(text: str, certificate: List[str]) -> Judged:
     """By whom a certificate is accepted that the checker in Python accepts."""
     try:
+        must_be_narrow(certificate)
         return Judged(LPD_CHECK, by_check(text, certificate))
     except TextFault as fault:
         return too_wide(fault)
     except TooLong as long:
         found = judged_wide(text, certificate)
         return replace(found, why=f"{long}, and {found.why}" if found.why else str(long))
+
+
+def must_be_narrow(certificate: Sequence[str]) -> None:
+    """That no number of a certificate passes 127 bits, without asking the program."""
+    for n, line in enumerate(certificate, 1):
+        word = line.rpartition(" ")[2]
+        if len(word) >= SHORTEST and not number_in(word).is_narrow:
+            raise TooLong(f"line {n} of the certificate has a number past 127 bits")
 
 
 def judged_wide(text: str, certificate: Sequence[str], fixed: bool = False) -> Judged:

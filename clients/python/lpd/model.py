@@ -102,7 +102,7 @@ class Model:
 
     def priced(self, multipliers: Mapping[str, Fraction], column: str) -> Fraction:
         entries = self.columns[column].entries.items()
-        return sum((multipliers.get(row, ZERO) * entry for row, entry in entries), ZERO)
+        return sum((multipliers[row] * entry for row, entry in entries if multipliers.get(row)), ZERO)
 
 
 # ---- lines

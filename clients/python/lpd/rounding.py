@@ -14,7 +14,7 @@ from .model import Column, Model, Row
 
 DIGITS, LONG = 12, 15
 NEAR = Fraction(1, 10**14)  # how far off, as a part of the number
-MOST_BITS = 1200  # of a number that a float can have been
+FEWEST_BITS, MOST_BITS = 47, 1200  # of a number that has so many digits, and of one that a float can have been
 
 
 @dataclass(frozen=True)
@@ -50,7 +50,8 @@ def is_decimal(value: Fraction) -> bool:
 
 def meant(value: Fraction) -> Optional[Fraction]:
     """What a float rounded to this number, if it looks so."""
-    if value.denominator == 1 or value.denominator.bit_length() > MOST_BITS or not is_decimal(value) or nearest(value, LONG - 1) == value:
+    bits = value.numerator.bit_length() + value.denominator.bit_length()
+    if value.denominator == 1 or not FEWEST_BITS <= bits <= MOST_BITS or not is_decimal(value) or nearest(value, LONG - 1) == value:
         return None
     near = nearest(value)
     return near if abs(near - value) <= abs(value) * NEAR else None

@@ -16,6 +16,7 @@ from unittest import mock
 import lpd
 from lpd.certifying import BASIS_WIDE, certify
 from lpd.floating import Claim
+from lpd.judging import judged
 from lpd.once import has_command
 from lpd.ways import ALONE, BOTH, WIDE, Effort, answered
 from lpd.wide import read_wide_solved
@@ -111,6 +112,13 @@ class Wide(unittest.TestCase):
             said = command("solve", "-", "--with", "none", "--show", "answer", stdin=TEXT.encode())
         self.assertEqual(said.status, 14)
         self.assertIn(f"accepted by {ALONE}, since {TOO_WIDE}, and {NO_COMMAND}.\n", unwrapped(said.output))
+
+    def test_no_load_for_a_certificate_that_is_too_wide(self) -> None:
+        """That of such a one is seen without lpd check, to which the model would have to be given."""
+        with program_with_wide(), mock.patch("lpd.judging.Session") as asked:
+            found = judged(TEXT, CERTIFICATE)
+        self.assertEqual((found.judge, found.why), ("lpd check --wide", TOO_WIDE))
+        asked.assert_not_called()
 
     def test_batch(self) -> None:
         with tempfile.TemporaryDirectory() as folder:
