@@ -8,7 +8,7 @@ and its whole reply is printed before the next one is sent. With --ca the link i
 other side has to be one that FILE vouches for. Connecting, and each reply, may take SECONDS (60).
 
 Where a command is refused as unknown, a line on standard error says where the commands are described, and for a script with
-numbers of sessions how these come out. On a terminal it begins with a line of the commands.
+numbers of sessions how these come out. On a terminal it begins with a line of the commands, and HELP lists all of them.
 
 The status is 0 after BYE, and where the script ended and each command has its reply. It is 1 where there is no link, where
 the link ended early, and where a reply did not come in time; a line on standard error says which. It is 141 where nobody reads
@@ -32,7 +32,16 @@ LONGEST = 16384
 PIECE = 2**16
 LOADS = ([b"LOAD", b"FREE"], [b"LOAD", b"FIXED"])
 BANNER = """talk.py: one session on this link. LOAD FREE, and then the lines of a model until ENDATA; SOLVE; CERT; HOW; SETRHS ROW VALUE;
-talk.py: WRITE FREE; QUIT, and more in docs/PROTOCOL.md, without a session's number."""
+talk.py: WRITE FREE; QUIT, without a session's number. HELP lists all commands; docs/PROTOCOL.md has their replies."""
+HELP = """LOAD FREE, LOAD FIXED   loads the model whose text follows, up to and with ENDATA
+SOLVE                   solves it, within BUDGET n; WIDE does in numbers of any width, and writes the certificate
+CERT, HOW               the certificate of the last answer, and how it was found
+CHECK                   checks a certificate that follows, up to and with END
+WRITE FREE, WRITE FIXED the text of the model
+SETRHS row value, SETCOST column value, SETCOEF row column value, SETRANGE row value|NONE
+SETBOUND column lower upper, SENSE MIN|MAX
+ADDROW name L|G|E|N rhs [range], ADDCOL name cost [row value ..], DELROW name, DELCOL name
+BUDGET n, QUIT"""
 UNKNOWN = "talk.py: docs/PROTOCOL.md describes the commands, of which this is none"
 NUMBERED = "talk.py: a link has one session, and its commands have no number: sed 's/^[0-9][0-9]* //' takes it off the script's lines"
 FOLLOWED = re.compile(rb"(?:TEXT|CERT|WIDE) (\d{1,9})\n")
@@ -139,6 +148,15 @@ def body(words: list[bytes], lines: Iterator[bytes]) -> Iterator[bytes]:
     yield b""
 
 
+def helped(lines: Iterable[bytes]) -> Iterator[bytes]:
+    """The lines of a terminal, but for those that ask for help, which they get on standard error."""
+    for line in lines:
+        if line.strip().upper() == b"HELP":
+            print(HELP, file=sys.stderr)
+        else:
+            yield line
+
+
 def commands(lines: Iterable[bytes]) -> Iterator[tuple[bytes, bool]]:
     """Each command of a script that has a reply, with its body, and whether it is whole. Lines that are skipped stay out."""
     lines = iter(lines)
@@ -196,7 +214,7 @@ def main() -> int:
         print(BANNER, file=sys.stderr)
     try:
         with Link(host, port, given.timeout, given.ca) as link:
-            talk(link, sys.stdin.buffer)
+            talk(link, helped(sys.stdin.buffer) if sys.stdin.isatty() else sys.stdin.buffer)
     except Ended as why:
         print(f"talk.py: {why}", file=sys.stderr)
         return 1

@@ -1,4 +1,6 @@
 """The tools that people begin by hand: their help, and what talk.py says where it is asked for what there is not."""
+import os
+import pty
 import shutil
 import socket
 import subprocess
@@ -75,6 +77,24 @@ class Talk(unittest.TestCase):
     def test_a_command_that_there_is_not(self) -> None:
         said = self.talk(b"SOLV\n", b"ERR 1 WORD\n")
         self.assertIn(b"docs/PROTOCOL.md describes the commands", said.stderr)
+
+    def test_help_on_a_terminal(self) -> None:
+        """It lists the commands, and goes to no server. In a script the word is sent as it is."""
+        server = Server(by_bytes(b"BYE\n"))
+        self.addCleanup(server.join, 300)
+        above, below = pty.openpty()
+        words = [sys.executable, str(TOOLS / "talk.py"), f"{HOST}:{server.port}"]
+        with subprocess.Popen(words, stdin=below, stdout=subprocess.PIPE, stderr=subprocess.PIPE) as run:
+            os.write(above, b"help\nQUIT\n")
+            output, complaints = run.communicate(timeout=300)
+        os.close(above)
+        os.close(below)
+        self.assertEqual((run.returncode, output), (0, b"BYE\n"))
+        protocol = (TOOLS.parent / "docs" / "PROTOCOL.md").read_text()
+        for command in ("LOAD FREE", "SETRHS row value", "SETBOUND column lower upper", "QUIT"):
+            self.assertIn(command.encode(), complaints)
+            self.assertIn(f"`{command}`", protocol)
+        self.assertEqual(self.talk(b"HELP\n", b"ERR 1 WORD\n").stdout, b"ERR 1 WORD\n")
 
     def test_nobody_reads(self) -> None:
         replied: List[bytes] = []
