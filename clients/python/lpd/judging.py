@@ -27,11 +27,12 @@ class TooLong(LpdError):
 @dataclass(frozen=True)
 class Judged:
     """By whom a certificate is accepted beside the checker in Python (LPD_CHECK, LPD_CHECK_WIDE, or nobody: PYTHON_ALONE), what it
-    shows them, and why those before cannot judge it."""
+    shows them, and why those before cannot judge it: whether that is for the model."""
 
     judge: str
     known: Optional[Known] = None
     why: str = ""
+    is_for_model: bool = False
 
 
 def check_wide(text: str, certificate: Sequence[str], fixed: bool = False, path: Optional[str] = None) -> Verdict:
@@ -56,7 +57,7 @@ def judged(text: str, certificate: List[str]) -> Judged:
         return too_wide(fault)
     except TooLong as long:
         found = judged_wide(text, certificate)
-        return replace(found, why=f"{long}, and {found.why}" if found.why else str(long))
+        return found if found.is_for_model else replace(found, why=f"{long}, and {found.why}" if found.why else str(long))
 
 
 def must_be_narrow(certificate: Sequence[str]) -> None:
@@ -82,7 +83,7 @@ def judged_wide(text: str, certificate: Sequence[str], fixed: bool = False) -> J
 def too_wide(fault: TextFault) -> Judged:
     if fault.fault != TOO_WIDE:
         raise fault
-    return Judged(PYTHON_ALONE, why=f"line {fault.line} of the model has a number past 127 bits")
+    return Judged(PYTHON_ALONE, why=f"line {fault.line} of the model has a number past 127 bits", is_for_model=True)
 
 
 def by_check(text: str, certificate: List[str]) -> Known:

@@ -18,7 +18,7 @@ from ..report import conflict
 from ..ways import Answered
 from .common import number_in, print_prose, table, tell
 
-MOST = 12  # sentences
+MOST = 6  # sentences
 MOST_VALUES = 6  # of a point
 SECONDS = 20.0  # for what would be enough
 
