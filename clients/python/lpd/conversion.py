@@ -44,9 +44,14 @@ class Question(LpdError):
     ends_with = 2
 
     def __init__(self, line: int, what: str, option: str, choices: Sequence[str]) -> None:
-        self.line, self.option = line, option
+        self.line, self.option, self.what = line, option, what
         self.choices = tuple(choices)
         super().__init__(f"line {line}: {what}")
+
+    def without_line(self) -> Question:
+        """The same of a text whose lines nobody wrote."""
+        self.args = (self.what,)
+        return self
 
     def told(self) -> str:
         return f"lpd: {self.asked()}."

@@ -144,7 +144,8 @@ class Shown(unittest.TestCase):
 
     def test_the_right_side_of_the_objective(self) -> None:
         said = command("solve", "-", stdin=THIRD.replace("RHS need 1", "RHS need 1 cost 7").encode())
-        self.assertEqual(unwrapped(said.output).count("The value has the offset -7, by the right side of the objective: solvers differ"), 1)
+        told = "The value has the offset -7, by the right side of the objective. Solvers differ there: without it it is ~0.333333, and with the "
+        self.assertEqual(unwrapped(said.output).count(f"{told}other sign ~7.33333.\n"), 1)
         self.assertNotIn("offset", command("solve", "-", stdin=THIRD.encode()).output)
 
     def test_cards_that_were_not_read_come_first(self) -> None:
@@ -195,7 +196,10 @@ class Shown(unittest.TestCase):
             path.write_text(text)
             self.assertEqual(command("solve", str(path), "--show", "answer")[:2], (0, reported("OPTIMAL 14.65\n")))
             path.write_text(text.replace("End", "Generals\n x\nEnd"))
-            self.assertIn("whole-number columns (x)", command("solve", str(path), "--convert").complaints)
+            for words in ([], ["--convert"]):
+                said = command("solve", str(path), *words)
+                told = "lpd: whole-number columns (x): lpd solves linear programs. --relax solves without that.\n"
+                self.assertEqual((said.status, said.complaints), (2, told))
             path.write_text("Maximize\n gain: 3 x +\nSubject To\n")
             self.assertIn("is in the LP format, and line 2: a column was expected at the end of a section", command("solve", str(path)).complaints)
 

@@ -9,12 +9,12 @@ from fractions import Fraction
 from pathlib import Path
 from typing import List, Optional, Sequence
 
-from ..conversion import Converted, Options, convert
+from ..conversion import Converted, Options, Question, convert
 from ..errors import TextFault
 from ..figures import READABLE, Style
 from ..model import Model
 from ..names import Renamed
-from ..reading import unpacked
+from ..reading import is_lp, unpacked
 from ..replies import Answer, Infeasible, Optimal, Spent, Unbounded
 
 MOST_DECIMALS, MOST_PIVOTS = 1000, 1000000
@@ -169,7 +169,10 @@ def options_of(words: argparse.Namespace) -> Options:
 
 def converted(words: argparse.Namespace, data: bytes, options: Optional[Options] = None) -> Converted:
     """The text in the profile. What was changed goes to standard error."""
-    found = convert(data, words.form, options or options_of(words))
+    try:
+        found = convert(data, words.form, options or options_of(words))
+    except Question as question:
+        raise question.without_line() if is_lp(words.model) else question from None
     tell_changes(found, words.renames)
     return found
 
@@ -181,6 +184,8 @@ def in_dialect(words: argparse.Namespace, data: bytes, fault: TextFault, wide: b
         found = convert(data, words.form, replace(options_of(words), wide=wide))
     except TextFault:
         raise fault from None
+    except Question as question:
+        raise question.without_line() if is_lp(words.model) else question from None
     count = len(found.changes)
     changes = "1 change, which" if count == 1 else f"{count} changes, which"
     tell(f"note: the text is of another dialect of MPS, and was converted, with {changes} the command convert lists")

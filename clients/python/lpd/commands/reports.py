@@ -95,10 +95,7 @@ def print_rest(count: int, one: str, many: str) -> None:
         print(f"({count} {one if count == 1 else many} left out: --all shows all)")
 
 
-def offset_words(offset: Fraction, style: Style) -> str:
+def offset_words(offset: Fraction, value: Fraction, style: Style) -> str:
     """What the right side of the objective does to the value, which solvers do not agree on."""
-    if not offset:
-        return ""
-    less = f"The value has the offset {style.word(offset)}, by the right side of the objective"
-    return f"{less}: solvers differ, and some leave it out, or take it with the other sign."
-
+    told = f"The value has the offset {style.word(offset)}, by the right side of the objective. Solvers differ there:"
+    return f"{told} without it it is {style.word(value - offset)}, and with the other sign {style.word(value - 2 * offset)}."

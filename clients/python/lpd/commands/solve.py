@@ -431,7 +431,8 @@ def print_answer(
         lines += sentences(aim, found, style, bool(words.output))
     if found.certificate and not is_as_ever(found):
         lines.append(found.told())
-    lines += [offset_words(model.offset, style)] if model.offset and point and words.show != "answer" else []
+    if model.offset and isinstance(found.answer, Optimal) and words.show != "answer":
+        lines.append(offset_words(model.offset, found.answer.value, style))
     for line in lines:
         print_prose(line)
     sys.stdout.flush()
