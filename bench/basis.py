@@ -31,7 +31,8 @@ from lpd.certificate import check_lines  # noqa: E402
 from lpd.conversion import Options, convert  # noqa: E402
 from lpd.dialects import PROFILE, written  # noqa: E402
 from lpd.exact import Basis  # noqa: E402
-from lpd.floating import CHOICES, ask  # noqa: E402
+from lpd.floating import ask  # noqa: E402
+from lpd.solver_names import CHOICES  # noqa: E402
 from lpd.from_basis import read_answer  # noqa: E402
 from lpd.replies import Accepted, Optimal, Past, Spent  # noqa: E402
 

@@ -14,11 +14,12 @@ from .certificate import check_lines
 from .dialects import PROFILE, written
 from .errors import CommandMissing, LpdError, ProgramEnded, TextFault
 from .exact import Basis, OutOfTime, Simplex, Watch, certificate_lines
-from .floating import NONE, Claim, ask
+from .floating import Claim, ask
 from .from_basis import FromBasis, solve_from
 from .judging import LPD_CHECK, PYTHON_ALONE, TOO_WIDE, NotCertified, judged
 from .model import Model, read_model
 from .replies import Accepted, Answer, Known, Open, Optimal, Past, Spent
+from .solver_names import NONE
 
 PROGRAM, PYTHON = "lpd", "python"
 WAYS = (PROGRAM, PYTHON)

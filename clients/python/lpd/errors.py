@@ -54,6 +54,12 @@ class CommandMissing(ProgramEnded):
         return f"this program has no command {self.command}"
 
 
+class Unreadable(LpdError):
+    """A file holds no text of a model."""
+
+    ends_with = 9
+
+
 class LinkFailed(LpdError):
     """A link to a server failed. It is closed."""
 

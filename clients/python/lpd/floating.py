@@ -16,6 +16,7 @@ from .errors import LpdError
 from .exact import BASIC, LOWER, UPPER, Basis
 from .model import Model, Row
 from .number_text import NotANumber, parse
+from .solver_names import NONE
 
 Parts = Dict[str, Fraction]
 
@@ -139,7 +140,6 @@ def read_highs(said: str, folder: Path) -> Claim:
     return claim
 
 
-NONE = "none"  # no solver: the exact steps begin at a basis that rough steps in Python come to
 SOLVERS = {
     solver.name: solver
     for solver in (
@@ -154,7 +154,6 @@ SOLVERS = {
 }
 
 
-CHOICES = [*SOLVERS, NONE]
 
 
 def command_of(solver: Solver, command: List[str]) -> List[str]:

@@ -12,20 +12,14 @@ from fractions import Fraction
 from pathlib import Path
 from typing import List, Optional, Sequence, Tuple
 
-from .errors import LpdError
+from .errors import Unreadable
 from .lp_reader import LpModel, Unfit, read_lp
 from .number_text import parse, shown
+from .reading import LP, MATHPROG
 
 # By the end of a file's name what it is called.
-LP, MATHPROG = ".lp", ".mod"
 FORMATS = {LP: "the LP format", MATHPROG: "GNU MathProg"}
 ROW_KINDS = {"f": "N", "l": "G", "u": "L", "d": "G", "s": "E"}
-
-
-class Unreadable(LpdError):
-    """A file holds no text of a model."""
-
-    ends_with = 9
 
 
 def from_lp(data: bytes, name: str, end: str = LP) -> bytes:

@@ -24,7 +24,6 @@ from .commands.solve import add_ways
 from .dialects import PROFILE, written
 from .errors import LpdError, ProgramMissing
 from .exact import OutOfTime
-from .floating import CHOICES
 from .irreducible import Irreducible, iis, renamed
 from .model import MOST_COLUMNS, MOST_ROWS, Column, Model, Row, is_name, read_model
 from .names import LONGEST, plain
@@ -32,6 +31,7 @@ from .program import the_program
 from .ranging import Ranges, ranges
 from .replies import Answer, Infeasible, Optimal, Unbounded
 from .report import report
+from .solver_names import CHOICES
 from .ways import Effort, answered
 
 KINDS = {pulp.LpConstraintLE: "L", pulp.LpConstraintEQ: "E", pulp.LpConstraintGE: "G"}

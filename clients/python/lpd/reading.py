@@ -1,23 +1,25 @@
 """Files of models: MPS, as it is or compressed by gzip, and what glpsol reads."""
 from __future__ import annotations
 
-import gzip
-import io
 import sys
-import zlib
 from pathlib import Path
 
-from .lp_format import FORMATS, Unreadable, from_lp
+from .errors import Unreadable
 
 MOST = 2**26  # bytes, which is what the program reads
 GZIP = b"\x1f\x8b"
-ENDS = (".mps", *FORMATS)
+LP, MATHPROG = ".lp", ".mod"
+ENDS = (".mps", LP, MATHPROG)
 
 
 def unpacked(data: bytes, name: str) -> bytes:
     """What is in a file, which may be compressed."""
     if not data.startswith(GZIP):
         return data
+    import gzip  # here, since few files are compressed
+    import io
+    import zlib
+
     try:
         with gzip.GzipFile(fileobj=io.BytesIO(data)) as source:
             text = source.read(MOST + 1)
@@ -42,13 +44,17 @@ def name_of(path: Path) -> str:
 
 def is_lp(path: str) -> bool:
     """Whether a file is one that glpsol reads, by its name."""
-    return end_of(Path(path)) in FORMATS
+    return end_of(Path(path)) in (LP, MATHPROG)
 
 
 def mps_of_file(data: bytes, path: str) -> bytes:
     """The MPS text of a model in a file with this content."""
     text = unpacked(data, path)
-    return from_lp(text, path, end_of(Path(path))) if is_lp(path) else text
+    if not is_lp(path):
+        return text
+    from .lp_format import from_lp  # here, since most files are MPS
+
+    return from_lp(text, path, end_of(Path(path)))
 
 
 def read_model_file(path: str) -> bytes:

@@ -23,11 +23,12 @@ from .certifying import certified
 from .dialects import PROFILE, written
 from .errors import ProgramEnded, ProgramMissing, Refused
 from .exact import Watch
-from .floating import NONE, ask
+from .floating import ask
 from .irreducible import Side, limit_of
 from .judging import NotCertified
 from .model import ZERO, Column, Limits, Model, Row
 from .replies import Accepted, Infeasible, Known, Optimal
+from .solver_names import NONE
 from .wide import solve_wide
 
 Weights = Dict[Side, Fraction]

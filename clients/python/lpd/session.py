@@ -7,7 +7,6 @@ from typing import TYPE_CHECKING, List, Mapping, Optional, Protocol, Sequence, T
 
 from .certificate import check_lines
 from .errors import OutOfMemory, Unexpected, no_reply, refusal
-from .link import TIMEOUT, Link
 from .model import Model, lines_of, read_lines, read_model, words_of
 from .number_text import NotANumber, parse, shown
 from .program import Program
@@ -314,10 +313,12 @@ def encoded(lines: Sequence[str]) -> bytes:
         raise ValueError(f"{text[error.start]!r} is no byte: read a file of another encoding as latin-1") from None
 
 
-def connect(host: str, port: int, timeout: float = TIMEOUT, tls: bool = False, ca: Optional[str] = None) -> Session:
+def connect(host: str, port: int, timeout: float = 60.0, tls: bool = False, ca: Optional[str] = None) -> Session:
     """A session of the server at this address, over a link that ends with it. Connecting, and each reply, may take
     `timeout` seconds. With `tls` the link is encrypted, and the certificate of the other side is one that the file `ca`
     vouches for, or without it the system."""
+    from .link import Link  # here, since most sessions are of a program of this machine
+
     return Session(Link(host, port, timeout, tls, ca), owns_transport=True)
 
 

@@ -18,20 +18,23 @@ import contextlib
 import shutil
 import threading
 from dataclasses import dataclass, field, replace
-from typing import Callable, Iterator, List, Optional
+from typing import TYPE_CHECKING, Callable, Iterator, List, Optional
 
 from .certificate import check_lines
-from .certifying import PROGRAM, Exact, made_exact
 from .errors import CommandMissing, LpdError, ProgramEnded, TextFault
 from .exact import OutOfTime, Watch
-from .floating import NONE, SOLVERS, ask
 from .judging import LPD_CHECK, LPD_CHECK_WIDE, TOO_WIDE, Judged, NotCertified, judged
 from .model import Model
-from .presolving import Presolved, Size, presolve
 from .program import Program
 from .replies import Accepted, Answer, Open, Past, Spent
 from .session import Session
+from .solver_names import NAMES, NONE
 from .wide import solve_wide
+
+if TYPE_CHECKING:
+    from .certifying import Exact
+    from .floating import Claim
+    from .presolving import Presolved, Size
 
 SECONDS = 60.0  # for all ways of a model together but lpd solve
 OUT_OF_MEMORY = 5  # the status of the program
@@ -100,9 +103,30 @@ class Answered:
         return f"This answer is by {self.way}{accepted}{within}." if self.certificate else ""
 
 
+# ---- what the first way mostly does without, so that it is imported where it is asked for
+
+
+def presolve(text: str, seconds: Optional[float]) -> Presolved:
+    from . import presolving
+
+    return presolving.presolve(text, seconds=seconds)
+
+
+def ask(solver: str, model: Model, seconds: Optional[float]) -> Claim:
+    from . import floating
+
+    return floating.ask(solver, model, seconds)
+
+
+def made_exact(text: str, model: Model, claim: Claim, wide: bool, watch: Watch) -> Exact:
+    from . import certifying
+
+    return certifying.made_exact(text, model, claim, watch=watch, wide=wide)
+
+
 def other_solver(named: Optional[str]) -> str:
     """The solver that is named, or else the first that is on the path, or none."""
-    there = [name for name in SOLVERS if shutil.which(name)]
+    there = [name for name in NAMES if shutil.which(name)]
     return named or (there[0] if there else NONE)
 
 
@@ -119,7 +143,7 @@ def by_lpd(text: str, model: Model, budget: Optional[int] = None, seconds: Optio
 
 def by_presolve(text: str, model: Model, seconds: Optional[float] = None) -> Answered:
     """The answer of `lpd presolve`, whose certificate both checkers accept for the model as it is given."""
-    found = presolve(text, seconds=seconds)
+    found = presolve(text, seconds)
     by = judges_of(PRESOLVE, text, model, found.answer, found.certificate)
     notes = [f"lpd presolve solved the model as it is, since the smaller one ended with {found.plain}"] if found.plain else []
     return Answered(found.answer, found.certificate, way_to(found, model), by, None, notes, found.reduced)
@@ -184,7 +208,7 @@ def ended_after(program: Program, seconds: Optional[float]) -> Iterator[None]:
 def way_of(found: Exact, solver: str) -> str:
     """What made the steps from where to the answer."""
     begin = "a basis of its own" if solver == NONE else f"{solver}'s basis"
-    if found.way == PROGRAM:
+    if found.command:
         gave_up = f", which it gave up ({found.start[5:]})" if found.start.startswith("FELL") else ""
         return f"{found.command} from {begin}{gave_up}, in {found.steps} pivots"
     return f"exact steps in Python from {begin}, {found.steps} of them"
@@ -196,7 +220,7 @@ def from_basis(text: str, model: Model, solver: str, wide: bool, watch: Watch) -
     claim = ask(solver, model, watch.left())
     if solver != NONE and claim.basis is None and not claim.parts:
         raise WayFailed(f"{solver} gives no basis, and says: {claim.said}")
-    found = made_exact(text, model, claim, watch=watch, wide=wide)
+    found = made_exact(text, model, claim, wide, watch)
     by = judged(text, found.certificate)
     if by.known not in (None, found.known):
         raise NotCertified(f"{by.judge} says {by.known}, and the checker in Python {found.known}")

@@ -6,6 +6,8 @@ from pathlib import Path
 from typing import Set
 
 import lpd
+from lpd.floating import SOLVERS
+from lpd.solver_names import NAMES
 
 from .models import has_program
 
@@ -15,6 +17,8 @@ SCRIPT = "import sys; from lpd.__main__ import main; main(sys.argv[1:]); print('
 # What takes long: encryption and other protocols, processes, and what is for pictures and for other commands.
 SLOW = {"ssl", "http.client", "xml.sax", "multiprocessing", "concurrent.futures", "importlib.metadata", "difflib"}
 OTHERS = {"lpd.batching", "lpd.plotting", "lpd.svg", "lpd.tables"}
+# What the first way to an answer does without.
+LATER = {"lpd.remedy", "lpd.ranging", "lpd.rough", "lpd.floating", "lpd.certifying", "lpd.conversion", "lpd.lp_reader", "lpd.link", "socket", "gzip"}
 
 
 def imported(*words: str) -> Set[str]:
@@ -32,7 +36,10 @@ class Imports(unittest.TestCase):
     def test_solve(self) -> None:
         found = imported("solve", str(EXAMPLES / "models" / "diet.mps"))
         self.assertIn("lpd.ways", found)
-        self.assertEqual(found & (SLOW | OTHERS | {"lpd.remedy", "lpd.ranging", "lpd.rough"}), set())
+        self.assertEqual(found & (SLOW | OTHERS | LATER), set())
+
+    def test_names_of_solvers(self) -> None:
+        self.assertEqual(list(SOLVERS), list(NAMES))
 
     def test_names_of_the_package(self) -> None:
         for name in lpd.__all__:

@@ -13,10 +13,11 @@ from lpd.certifying import certified
 from lpd.commands.conflicts import in_words
 from lpd.dialects import PROFILE, written
 from lpd.figures import READABLE
-from lpd.floating import NONE, ask
+from lpd.floating import ask
 from lpd.irreducible import Side
 from lpd.model import Model, Row
 from lpd.remedy import Advice, Change, Remedy, advise, changed, elastic
+from lpd.solver_names import NONE
 
 from .commands import command
 from .models import has_program, some_model

@@ -9,9 +9,9 @@ from typing import Dict, Iterator, List, Optional
 from ..batching import FAILED, Result, Task, Work, by_dask, by_processes, one_by_one, tasks_of
 from ..certifying import WAYS
 from ..figures import Style
-from ..floating import CHOICES
 from ..interrupts import INTERRUPTED, WORDS
 from ..judging import LPD_CHECK, LPD_CHECK_WIDE, PYTHON_ALONE
+from ..solver_names import CHOICES
 from ..tables import OTHER, SAME, Cells, Kept, Writer, against, cells_of, columns_of, read_optima
 from ..ways import SECONDS, Effort
 from .common import add_options, add_presolve, budget, options_of, print_prose, seconds, tell

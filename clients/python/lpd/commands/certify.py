@@ -8,8 +8,8 @@ from dataclasses import replace
 from typing import Dict
 
 from ..certifying import PYTHON, WAYS, Certified, NotAnswered, certify
-from ..floating import CHOICES, NONE
 from ..reading import is_lp, read_model_file
+from ..solver_names import CHOICES, NONE
 from ..tables import claim_of, off_of
 from .common import PYTHON_ALONE, add_options, add_style, converted, options_of, print_prose, put_beside, seconds, status_of, style_of, tell
 from .reports import shown_answer

@@ -7,15 +7,17 @@ import textwrap
 from dataclasses import replace
 from fractions import Fraction
 from pathlib import Path
-from typing import List, Optional, Sequence
+from typing import TYPE_CHECKING, List, Optional, Sequence
 
-from ..conversion import Converted, Options, Question, convert
 from ..errors import TextFault
 from ..figures import READABLE, Style
 from ..model import Model
 from ..names import Renamed
 from ..reading import is_lp, unpacked
 from ..replies import Answer, Infeasible, Optimal, Spent, Unbounded
+
+if TYPE_CHECKING:
+    from ..conversion import Converted, Options
 
 MOST_DECIMALS, MOST_PIVOTS = 1000, 1000000
 WIDEST_LINE, SHORTEST = 120, 14  # characters of a line, and of a column of a table that is cut
@@ -164,11 +166,15 @@ def add_presolve(group: "argparse._MutuallyExclusiveGroup") -> None:
 
 
 def options_of(words: argparse.Namespace) -> Options:
+    from ..conversion import Options  # here and below, since most texts need no conversion
+
     return Options(words.relax, words.no_set, words.no_bound)
 
 
 def converted(words: argparse.Namespace, data: bytes, options: Optional[Options] = None) -> Converted:
     """The text in the profile. What was changed goes to standard error."""
+    from ..conversion import Question, convert
+
     try:
         found = convert(data, words.form, options or options_of(words))
     except Question as question:
@@ -180,6 +186,8 @@ def converted(words: argparse.Namespace, data: bytes, options: Optional[Options]
 def in_dialect(words: argparse.Namespace, data: bytes, fault: TextFault, wide: bool = True) -> Converted:
     """The text of another dialect in the profile, where it is one: else the fault is raised with which the profile refuses it, and a
     question that a reader has to answer is asked."""
+    from ..conversion import Question, convert
+
     try:
         found = convert(data, words.form, replace(options_of(words), wide=wide))
     except TextFault:

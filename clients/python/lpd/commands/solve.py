@@ -2,7 +2,6 @@
 from __future__ import annotations
 
 import argparse
-import json
 import sys
 from dataclasses import replace
 from fractions import Fraction
@@ -12,14 +11,13 @@ from typing import TYPE_CHECKING, Dict, List, NamedTuple, Optional, Sequence, Tu
 from .. import errors
 from ..dialects import PROFILE, written
 from ..figures import Style
-from ..floating import CHOICES
 from ..model import Model, read_model
 from ..number_text import shown
-from ..lp_format import MATHPROG
-from ..reading import end_of, is_lp, read_model_file
+from ..reading import MATHPROG, end_of, is_lp, read_model_file
 from ..replies import Answer, Infeasible, Optimal
 from ..report import Report, conflict, report
 from ..rounding import rounded
+from ..solver_names import CHOICES
 from ..version import version
 from ..ways import BOTH, SECONDS, Answered, Effort, answered
 from .common import add_options, add_presolve, as_text, budget, converted, csv_line, decimals, number_in, options_of, put_beside, seconds, skipped_words
@@ -147,6 +145,8 @@ def conflict_in_json(model: Model, certificate: List[str]) -> Dict[str, object]:
 
 def as_json(found: Answered, model: Model, point: Optional[Report], show: str, places: Optional[int], more: Dict[str, object]) -> str:
     """An object with the answer and its parts, and with `more`, which is asked for by name."""
+    import json  # here, since it is asked for seldom
+
     answer = found.answer
     told: Dict[str, object] = {"answer": str(answer), "kind": str(answer).split(" ")[0]}
     if isinstance(answer, Optimal):
