@@ -1,7 +1,7 @@
-"""lpd for people: python3 -m lpd solve, check, convert, certify, batch, or plot, each with --help.
+"""lpd for people: python3 -m lpd solve, check, convert, certify, batch, plot, or theorem, each with --help.
 
 Status: 0 an optimal value, accepted by both checkers (solve), an accepted certificate (check), a text (convert), or a table
-(batch); 1 a certificate that is not accepted; 2 wrong words, or a question that words have to answer; 3 no program, or it
+(batch); 1 a certificate or a theorem that is not accepted; 2 wrong words, or a question that words have to answer; 3 no program, or it
 ended; 9 a refused text, certificate or name; 10 infeasible; 11 unbounded; 12 past 127 bits; 13 the budget or the time is spent; 14 an
 answer whose certificate the checker in Python alone accepts, since a number passes 127 bits (certify).
 """
@@ -19,7 +19,7 @@ from .commands.common import tell
 from .number_text import NotANumber
 from .version import ShowVersion
 
-COMMANDS = ("solve", "check", "convert", "certify", "batch", "plot")
+COMMANDS = ("solve", "check", "convert", "certify", "batch", "plot", "theorem")
 EPILOG = __doc__.partition("\n\n")[2] if __doc__ else None
 CLOSED = 141  # as a shell has it for the signal that ends other programs then
 
