@@ -17,7 +17,7 @@ from count_definitions import crates_below
 from helping import helps
 
 TOP = Path(__file__).resolve().parent.parent
-PATH = re.compile(r"(?:crates|docs|examples|tools|bench|web)/[\w./-]*")
+PATH = re.compile(r"(?:crates|docs|examples|tools|bench|web|coq)/[\w./-]*")
 NAME = re.compile(r"[A-Za-z]\w*(?:[:-]+\w+)*")
 # What a build makes.
 MADE = {"crates/lpd/out/lpd"}

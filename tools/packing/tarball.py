@@ -11,7 +11,7 @@ from .checkout import Checkout, Entry, committed, entries
 
 # What of the repository goes along: the documents, the manual page, the completion, the checkers and the examples.
 PLACES = [
-    "README.md", "CHANGELOG.md", "CONTRIBUTING.md", "SECURITY.md", "LICENSE", "VERSION", "docs", "examples", "web",
+    "README.md", "CHANGELOG.md", "CONTRIBUTING.md", "SECURITY.md", "LICENSE", "VERSION", "docs", "examples", "web", "coq",
     "tools/lpd.bash", "tools/lpd-py", "tools/talk.py", "tools/check_certificate.py",
     "clients/python/lpd", "clients/python/README.md",
 ]  # fmt: skip
