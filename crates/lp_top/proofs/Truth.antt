@@ -4,10 +4,9 @@ use Rattle.std.proofs.Common.{Option, Some, None, Result, Ok, Err, refl, sym, ap
 use Rattle.std.specs.Io.KnownBytes.{Consumes, Appends}
 use Rattle.std.proofs.lemmas.List.Elements.{All-nil, All-map}
 use Rattle.std.proofs.lemmas.List.Folds.{flat_map-map}
-use Rattle.spec_text.specs.Lines.{lines_of, IsPrefixOf}
+use Rattle.spec_text.specs.Lines.{IsPrefixOf}
 use Rattle.spec_gen.specs.Generated.{generated}
 use Rattle.spec_mps.specs.declared.style.Style.{Style}
-use Rattle.spec_mps.specs.Steps.{Spells}
 use Rattle.spec_server.specs.declared.addressing.Addressing.TheVariants.{Numbered, Alone}
 use Rattle.spec_server.specs.declared.asks.Asked.{Asked}
 use Rattle.spec_server.specs.Exchanges.{Exchange, asked_in}
@@ -19,15 +18,14 @@ use Rattle.spec_program.specs.declared.command_line.CommandLine.TheVariants.{Run
 use Rattle.spec_program.specs.CommandLine.{ExactLine, ExactTextCommand}
 use Rattle.spec_commands.specs.GenOut.{GenOut}
 use Rattle.spec_commands.specs.TextOut.{said_of, MayWrite, code_of}
-use Rattle.spec_text_truth.specs.TrueOutput.{IsNumber, IsTrueLine, IsTrueOf, AreTrueReplies, Tells, IsTrueOutput}
-use Rattle.spec_text_truth.proofs.FirstAsks.{AreFirst, ended_first, script_first}
+use Rattle.spec_text_truth.specs.TrueOutput.{IsNumber, IsTrueLine, IsModelOf, IsTrueOf, AreTrueReplies, Tells, IsTrueOutput}
+use Rattle.spec_text_truth.proofs.FirstAsks.{AreFirstIn, ended_first, script_first}
 use Rattle.spec_text_truth.proofs.ToldRuns.{replies_true}
 use Rattle.spec_text_truth.proofs.TrueSeeds.{seed_true}
 use Rattle.spec_text_truth.proofs.TrueTexts.{said_true, none_true, no_seed_true}
-use Rattle.spec_serve.specs.Link.{is_quit, up_to_quit, link_asks_of, link_out, LinkMoves, HoldsOfAll}
-use Rattle.spec_serve.specs.Link as serving
+use Rattle.spec_serve.specs.Link.{is_quit, up_to_quit, link_asks_of, link_out, LinkMoves, AreFirstOf, HoldsOfAll}
 use Rattle.spec_serve.proofs.LinksAlone.{links_run}
-use Rattle.lp_base.specs.Listening.{LinkEvent, Grows, ListenerState}
+use Rattle.lp_base.specs.Listening.{LinkEvent, Given, Returned, Grows, ListenerState}
 use Rattle.spec_serve.specs.Lines.{serve_out}
 use Rattle.lp_serve.specs.declared.fault.ServeFault.{ServeFault}
 use Rattle.lp_serve.specs.declared.fault.ServeFault.TheVariants as fault
@@ -37,7 +35,7 @@ use Rattle.lp_script.specs.Run.{Moves, AreAsked}
 use Rattle.lp_text_commands.specs.Hearing.{Says, SaysInPart, WritesNothing}
 use Rattle.lp_text_commands.specs.TextCommands.{TellsOfText}
 use Rattle.lp_top.specs.Top.{IsStatus, Does, TellsOfLinks, DoesOver}
-use Rattle.lp_top.specs.TrueLinks.{Lent, lent_events, lent_streams, IsTrueListener, AreTrueListeners}
+use Rattle.lp_top.specs.TrueLinks.{Lent, lent_streams, IsTrueListener, AreTrueListeners}
 
 -- the whole is the beginning of it
 all_front : (bytes : List ℕ) → IsPrefixOf bytes bytes
@@ -46,13 +44,14 @@ all_front bytes = ([], append-nil bytes)
 -- ---- a script
 
 asked_first : (after : Option (List ℕ)) (read : List ℕ) (asks : List (Asked ExactAsk)) → AreAsked after read asks →
-    AreFirst Numbered read asks
-asked_first after read asks (inl e) = subst (AreFirst Numbered read) (sym e) (ended_first Numbered read)
-asked_first after read asks (inr (e, at_end)) = subst (AreFirst Numbered read) (sym e) (script_first Numbered read)
+    HoldsOfAll after read (AreFirstIn Numbered asks)
+asked_first after read asks (inl e) = inr λ more.
+    subst (λ (of : List (Asked ExactAsk)). AreFirstIn Numbered of (read ++ more)) (sym e) (ended_first Numbered read more)
+asked_first after read asks (inr (e, at_end)) =
+    inl (at_end, subst (λ (of : List (Asked ExactAsk)). AreFirstIn Numbered of read) (sym e) (script_first Numbered read))
 
 run_true : (workers places : ℕ) (s : Streams) → Moves workers places s → Tells (AreTrueReplies Numbered) s
 run_true workers places s moves =
-    let first = asked_first s.left_after moves.read (map asked_in moves.exchanges) moves.asks in
     record {
       read = moves.read;
       written = moves.written;
@@ -60,14 +59,16 @@ run_true workers places s moves =
       consumed = moves.consumed;
       appended = moves.appended;
       front = moves.front;
-      is_true = replies_true places Numbered moves.read moves.exchanges first.later moves.runs.many.alone first.all;
+      is_true =
+          replies_true places Numbered s.left_after moves.read moves.exchanges moves.runs.many.alone
+          (asked_first s.left_after moves.read (map asked_in moves.exchanges) moves.asks);
     }
 
 -- ---- a text
 
 module _ (command : ExactTextCommand) (style : Style) (s : Streams) where
-  abbrev IsTrue : List ℕ → List ℕ → Type 0
-  IsTrue read output = IsTrueOf (Read command style) read output
+  abbrev IsTrue : Option (List ℕ) → List ℕ → List ℕ → Type 0
+  IsTrue after read output = IsTrueOf (Read command style) after read output
 
   says_true : (code : ℕ) → Says (said_of command style) (MayWrite command) (code_of command) s code → Tells IsTrue s
   says_true code h = record {
@@ -99,7 +100,7 @@ module _ (command : ExactTextCommand) (style : Style) (s : Streams) where
     consumed = consumed;
     appended = none;
     front = all_front [];
-    is_true = none_true command (Spells style (lines_of read));
+    is_true = none_true command (IsModelOf style s.left_after read);
   }
 
   text_true : (code : ℕ) → TellsOfText command style s code → IsStatus (Some (Read command style)) code → Tells IsTrue s
@@ -124,7 +125,7 @@ generated_true seed rows columns s code h (inl e) =
       consumed = h.reads;
       appended = f.written;
       front = all_front f.output;
-      is_true = seed_true seed rows columns [] f.output f.is_output;
+      is_true = seed_true seed rows columns s.left_after [] f.output f.is_output;
     }
 generated_true seed rows columns s code h (inr (inl e)) =
     let f = h.sink e in
@@ -135,7 +136,7 @@ generated_true seed rows columns s code h (inr (inl e)) =
       consumed = h.reads;
       appended = f.written.taken;
       front = f.written.front;
-      is_true = seed_true seed rows columns [] f.output f.is_output;
+      is_true = seed_true seed rows columns s.left_after [] f.output f.is_output;
     }
 generated_true seed rows columns s code h (inr (inr e)) = record {
   read = [];
@@ -196,33 +197,27 @@ quit_first (a ∷ asks) = by (is_quit a.ask) (quit_first asks)
     by false r = (r.0, ap (λ (all : List (Asked ExactAsk)). a ∷ all) r.1)
 
 -- the first asks of a link are the first of its lines
-link_first : (read : List ℕ) (asks : List (Asked ExactAsk)) → serving.AreFirstOf asks (link_asks_of read).asks →
-    AreFirst Alone read asks
+link_first : (bytes : List ℕ) (asks : List (Asked ExactAsk)) → AreFirstOf asks (link_asks_of bytes).asks →
+    AreFirstIn Alone asks bytes
 unfolding link_asks_of
-link_first read asks first =
-    let script = script_first Alone read in
-    let quit = quit_first (script_of Alone read).asks in
-    record {
-      later = first.0 ++ (quit.0 ++ script.later);
-      all =
-          script.all
-          ∙ ap (λ (all : List (Asked ExactAsk)). all ++ script.later) (quit.1 ∙ ap (λ (all : List (Asked ExactAsk)). all ++ quit.0) first.1)
-          ∙ append_assoc (asks ++ first.0) quit.0 script.later ∙ append_assoc asks first.0 (quit.0 ++ script.later);
-    }
+link_first bytes asks first =
+    let script = script_first Alone bytes in
+    let quit = quit_first (script_of Alone bytes).asks in (
+      first.0 ++ (quit.0 ++ script.0),
+      script.1
+          ∙ ap (λ (all : List (Asked ExactAsk)). all ++ script.0) (quit.1 ∙ ap (λ (all : List (Asked ExactAsk)). all ++ quit.0) first.1)
+          ∙ append_assoc (asks ++ first.0) quit.0 script.0 ∙ append_assoc asks first.0 (quit.0 ++ script.0),
+    )
 
-read_first : (after : Option (List ℕ)) (read : List ℕ) (asks : List (Asked ExactAsk)) →
-    HoldsOfAll after read (λ bytes. serving.AreFirstOf asks (link_asks_of bytes).asks) →
-    serving.AreFirstOf asks (link_asks_of read).asks
-read_first after read asks (inl (at_end, first)) = first
-read_first after read asks (inr more) =
-    subst (λ (bytes : List ℕ). serving.AreFirstOf asks (link_asks_of bytes).asks) (append-nil read) (more [])
+link_asked : (after : Option (List ℕ)) (read : List ℕ) (asks : List (Asked ExactAsk)) →
+    HoldsOfAll after read (λ bytes. AreFirstOf asks (link_asks_of bytes).asks) →
+    HoldsOfAll after read (AreFirstIn Alone asks)
+link_asked after read asks (inl (at_end, first)) = inl (at_end, link_first read asks first)
+link_asked after read asks (inr always) = inr λ more. link_first (read ++ more) asks (always more)
 
 link_true : (places : ℕ) (s : Streams) (exchanges : List Exchange) → LinkMoves places s exchanges →
     Tells (AreTrueReplies Alone) s
 link_true places s exchanges moves =
-    let first =
-    link_first moves.read (map asked_in exchanges)
-    (read_first s.left_after moves.read (map asked_in exchanges) moves.asks) in
     record {
       read = moves.read;
       written = moves.written;
@@ -230,7 +225,9 @@ link_true places s exchanges moves =
       consumed = moves.consumed;
       appended = moves.appended;
       front = moves.front;
-      is_true = replies_true places Alone moves.read exchanges first.later (links_run places s exchanges moves) first.all;
+      is_true =
+          replies_true places Alone s.left_after moves.read exchanges (links_run places s exchanges moves)
+          (link_asked s.left_after moves.read (map asked_in exchanges) moves.asks);
     }
 
 lent : Served → Lent
@@ -241,7 +238,7 @@ listened_true : (places each : ℕ) (old new : ListenerState) (served : List Ser
 unfolding lent
 listened_true places each old new served h = record {
   links = map lent served;
-  log = subst (Grows old.log new.log) (sym (flat_map-map lent_events lent served)) h.log;
+  log = subst (Grows old.log new.log) (sym (flat_map-map (λ (x : Lent). Given x.given ∷ Returned x.back ∷ []) lent served)) h.log;
   are_true = All-map (λ (x : Lent). Tells (AreTrueReplies Alone) (lent_streams x)) lent served
       (λ i d l. link_true places _ _ (h.served i d l).serves.0);
 }

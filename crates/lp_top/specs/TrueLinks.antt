@@ -7,7 +7,7 @@ use Rattle.spec_program.specs.declared.command_line.CommandLine.TheVariants.{Ser
 use Rattle.spec_program.specs.CommandLine.{ExactLine}
 use Rattle.spec_text_truth.specs.TrueOutput.{AreTrueReplies, Tells}
 use Rattle.lp_base.specs.LinkState.{LinkState}
-use Rattle.lp_base.specs.Listening.{LinkEvent, Given, Returned, Grows, ListenerState}
+use Rattle.lp_base.specs.Listening.{Given, Returned, Grows, ListenerState}
 use Rattle.lp_serve.specs.Serving.{no_listener}
 
 -- a link, as it was given and as it came back
@@ -15,16 +15,13 @@ pub record Lent : Type 0 where
   pub given : LinkState
   pub back : LinkState
 
-abbrev pub lent_events : Lent → List LinkEvent
-lent_events x = Given x.given ∷ Returned x.back ∷ []
-
 abbrev pub lent_streams : Lent → Streams
 lent_streams x = streams x.given.source.left x.back.source.left x.given.sink.taken x.back.sink.taken
 
 -- It gave these links, each after the one before had come back. To each was written what is true by what was read of it.
 pub record IsTrueListener (old new : ListenerState) : Type 0 where
   pub links : List Lent
-  pub log : Grows old.log new.log (flat_map lent_events links)
+  pub log : Grows old.log new.log (flat_map (λ x. Given x.given ∷ Returned x.back ∷ []) links)
   pub are_true : All (λ x. Tells (AreTrueReplies Alone) (lent_streams x)) links
 
 -- no other command uses a listener

@@ -17,7 +17,7 @@ use Rattle.spec_server.specs.Command.{ExactCommand}
 use Rattle.spec_server.specs.Machine.{ExactAsk}
 use Rattle.spec_server.specs.Script.{Pending, Between, Text, Certificate, ends_text, ends_certificate, ask_of_verdict}
 use Rattle.spec_server.specs.Script.{ask_of_judgement, pending_after_line, asks_of_command, asks_by, asks_of_line, asks_from}
-use Rattle.spec_text_truth.specs.TrueOutput.{Effect, Loads, Edits, Drops, Keeps, Asking, effects_of, asked_by, effect_of_text}
+use Rattle.spec_text_truth.specs.TrueOutput.{Effect, Loads, Edits, Drops, Keeps, Asking, effects_of, asked_of, asked_by, effect_of_text}
 use Rattle.spec_text_truth.specs.TrueOutput.{asked_in_line, asked_from}
 
 -- what an ask does to its session's model
@@ -30,11 +30,8 @@ effect_of other = Keeps
 abbrev pub asking_of : Asked ExactAsk → Asking
 asking_of asked = record { session = asked.session; effect = effect_of asked.ask }
 
-abbrev with_session : ℕ → Effect → Asking
-with_session session effect = record { session = session; effect = effect }
-
 command_effects : (session : ℕ) (c : ExactCommand) →
-    map (with_session session) (effects_of c) ≡ map asking_of (asks_of_command session c)
+    asked_of session (effects_of c) ≡ map asking_of (asks_of_command session c)
 command_effects session (commands.Load form) = refl
 command_effects session commands.Check = refl
 command_effects session (commands.Plain (command.Write form)) = refl
@@ -61,9 +58,9 @@ judgement_effect (certificate.Refused n) = refl
 
 -- the last line of a body
 if_asked : (t : Bool) (session : ℕ) (effect : Effect) (asked : ExactAsk) → effect ≡ effect_of asked →
-    cond t (with_session session effect ∷ []) []
+    asked_of session (cond t (effect ∷ []) [])
     ≡ map asking_of (cond {A = List (Asked ExactAsk)} t (record { session = session; ask = asked } ∷ []) [])
-if_asked true session effect asked e = ap (λ (f : Effect). with_session session f ∷ []) e
+if_asked true session effect asked e = ap (λ (f : Effect). asked_of session (f ∷ [])) e
 if_asked false session effect asked e = refl
 
 line_effects : (addressing : Addressing) (p : Pending) (next : Line (List ℕ)) →

@@ -1,5 +1,5 @@
 -- What `gen` writes: the line of a size and the line of an answer that is shown of the model.
-use Rattle.std.proofs.Common.{◌≡◌, ℕ, List, [], ◌∷◌, ◌++◌, refl, sym, ap, ◌∙◌, append_assoc}
+use Rattle.std.proofs.Common.{◌≡◌, ℕ, false, List, [], ◌∷◌, ◌++◌, refl, sym, ap, ◌∙◌, append_assoc}
 use Rattle.std.specs.Prelude.{codes, decimal, replicate}
 use Rattle.spec_exact.specs.Fraction.{ℚ, 0ℚ}
 use Rattle.spec_model.specs.Model.{Model, width, height}
@@ -14,8 +14,9 @@ use Rattle.spec_server.specs.Machine.{opening_budget, answer_of, pivots_of_solve
 use Rattle.spec_server.specs.Output.{check_line, answer_text, reply_text, pivots_text}
 use Rattle.spec_commands.specs.GenOut.{entry_count, size_text, generated_lines, SolvedOut, GenOut}
 use Rattle.spec_truth.specs.TrueAnswer.{IsTrueOf}
+use Rattle.spec_truth.proofs.ReplyLines.{looks_known}
 use Rattle.spec_truth.proofs.Shown.{IsShownBy, answer_shown, answer_holds}
-use Rattle.spec_truth.proofs.AnswerLines.{same_rest, optimal_line, infeasible_line, unbounded_line}
+use Rattle.spec_truth.proofs.AnswerLines.{same_line, same_rest, optimal_line, infeasible_line, unbounded_line}
 use Rattle.spec_text_truth.specs.TrueOutput.{HasNoFeed}
 use Rattle.spec_text_truth.proofs.PlainText.{tested_no_feed, both_no_feed, decimal_no_feed}
 
@@ -76,18 +77,28 @@ out_answered m written out = record {
   shown = answer_shown m opening_budget out.0.end out.1.may_answer;
 }
 
--- ---- the second line
+-- ---- the first line, and the second
+
+lines_are : (m : Model) (written : List ℕ) (r : IsSizeAndAnswer m written) →
+    written ≡ size_line m ++ 10 ∷ (answer_text r.answer ++ 10 ∷ r.behind)
+lines_are m written r =
+    let answer : List ℕ = answer_text r.answer in
+    r.lines
+    ∙ ap (λ (bs : List ℕ). bs ++ answer ++ 10 ∷ r.behind) (size_ends m)
+    ∙ append_assoc (size_line m ++ 10 ∷ []) answer (10 ∷ r.behind)
+    ∙ append_assoc (size_line m) (10 ∷ []) (answer ++ 10 ∷ r.behind)
+
+first_line : (m : Model) (written size rest : List ℕ) (r : IsSizeAndAnswer m written) → HasNoFeed size →
+    written ≡ size ++ 10 ∷ rest → size_line m ≡ size
+first_line m written size rest r no_feed e =
+    same_line (size_line m) size (answer_text r.answer ++ 10 ∷ r.behind) rest (size_no_feed m) no_feed
+    (sym (lines_are m written r) ∙ e)
 
 second_line : (m : Model) (written size rest : List ℕ) (r : IsSizeAndAnswer m written) → HasNoFeed size →
     written ≡ size ++ 10 ∷ rest → answer_text r.answer ++ 10 ∷ r.behind ≡ rest
 second_line m written size rest r no_feed e =
-    let answer : List ℕ = answer_text r.answer in
-    let all : written ≡ size_line m ++ 10 ∷ (answer ++ 10 ∷ r.behind) =
-    r.lines
-    ∙ ap (λ (bs : List ℕ). bs ++ answer ++ 10 ∷ r.behind) (size_ends m)
-    ∙ append_assoc (size_line m ++ 10 ∷ []) answer (10 ∷ r.behind)
-    ∙ append_assoc (size_line m) (10 ∷ []) (answer ++ 10 ∷ r.behind) in
-    same_rest (size_line m) size (answer ++ 10 ∷ r.behind) rest (size_no_feed m) no_feed (sym all ∙ e)
+    same_rest (size_line m) size (answer_text r.answer ++ 10 ∷ r.behind) rest (size_no_feed m) no_feed
+    (sym (lines_are m written r) ∙ e)
 
 -- ---- the size
 
@@ -119,6 +130,12 @@ module _ (seed rows columns : ℕ) (written : List ℕ) (out : GenOut seed rows 
     (no_feed : HasNoFeed size) where
   answered : IsSizeAndAnswer (generated seed rows columns) written
   answered = out_answered (generated seed rows columns) written out
+
+  -- the first line is none of an answer
+  pub size_other : (rest : List ℕ) → written ≡ size ++ 10 ∷ rest → looks_known size ≡ false
+  unfolding size_line
+  size_other rest e =
+      ap looks_known (sym (first_line (generated seed rows columns) written size rest answered no_feed e))
 
   pub optimal_follows : (text behind : List ℕ) → HasNoFeed text →
       written ≡ size ++ 10 ∷ (codes "OPTIMAL " ++ text ++ 10 ∷ behind) →

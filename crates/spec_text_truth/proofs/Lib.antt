@@ -29,3 +29,7 @@ pub mod PlainAsks
 pub mod PlainFaults
 pub mod PlainSettles
 pub mod PlainReplies
+pub mod ReadTold
+pub mod ComputedExamples
+pub mod FalseTexts
+pub mod FalseReplies

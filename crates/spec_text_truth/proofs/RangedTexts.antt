@@ -101,21 +101,21 @@ pub record SaysNumbers (r : Range ℚ) (low high slope : List ℕ) : Type 0 wher
   pub says_high : SaysEnd high r.ends.high
   pub says_slope : number_of slope ≡ Is r.slope
 
--- a line of a range, byte by byte
-abbrev pub line_with : List ℕ → List ℕ → List ℕ → List ℕ
-line_with low high slope = codes "RANGE " ++ low ++ codes " " ++ high ++ codes " SLOPE " ++ slope ++ 10 ∷ []
+-- a line of a range, byte by byte, and what stands behind it
+abbrev pub line_with : List ℕ → List ℕ → List ℕ → List ℕ → List ℕ
+line_with low high slope behind = codes "RANGE " ++ low ++ codes " " ++ high ++ codes " SLOPE " ++ slope ++ 10 ∷ behind
 
 -- what stands behind its word
-abbrev numbers_with : List ℕ → List ℕ → List ℕ → List ℕ
-numbers_with low high slope = low ++ codes " " ++ high ++ codes " SLOPE " ++ slope ++ 10 ∷ []
+abbrev numbers_with : List ℕ → List ℕ → List ℕ → List ℕ → List ℕ
+numbers_with low high slope behind = low ++ codes " " ++ high ++ codes " SLOPE " ++ slope ++ 10 ∷ behind
 
-grouped : (low high slope : List ℕ) →
-    numbers_with low high slope ≡ low ++ 32 ∷ (high ++ 32 ∷ (codes "SLOPE " ++ (slope ++ 10 ∷ [])))
-grouped low high slope =
-    append_assoc (low ++ codes " " ++ high ++ codes " SLOPE ") slope (10 ∷ [])
-    ∙ append_assoc (low ++ codes " " ++ high) (codes " SLOPE ") (slope ++ 10 ∷ [])
-    ∙ append_assoc (low ++ codes " ") high (codes " SLOPE " ++ (slope ++ 10 ∷ []))
-    ∙ append_assoc low (codes " ") (high ++ (codes " SLOPE " ++ (slope ++ 10 ∷ [])))
+grouped : (low high slope behind : List ℕ) →
+    numbers_with low high slope behind ≡ low ++ 32 ∷ (high ++ 32 ∷ (codes "SLOPE " ++ (slope ++ 10 ∷ behind)))
+grouped low high slope behind =
+    append_assoc (low ++ codes " " ++ high ++ codes " SLOPE ") slope (10 ∷ behind)
+    ∙ append_assoc (low ++ codes " " ++ high) (codes " SLOPE ") (slope ++ 10 ∷ behind)
+    ∙ append_assoc (low ++ codes " ") high (codes " SLOPE " ++ (slope ++ 10 ∷ behind))
+    ∙ append_assoc low (codes " ") (high ++ (codes " SLOPE " ++ (slope ++ 10 ∷ behind)))
 
 behind_word : (x y : List ℕ) → codes "RANGE " ++ x ≡ codes "RANGE " ++ y → x ≡ y
 behind_word x y e = cc
@@ -123,28 +123,29 @@ behind_word x y e = cc
 behind_slope : (x y : List ℕ) → codes "SLOPE " ++ x ≡ codes "SLOPE " ++ y → x ≡ y
 behind_slope x y e = cc
 
-line_said : (r : Range ℚ) (low high slope : List ℕ) → NarrowRange r → HasNo 32 low → HasNo 32 high → HasNo 10 slope →
-    range_line r ≡ line_with low high slope → SaysNumbers r low high slope
+line_said : (r : Range ℚ) (low high slope behind : List ℕ) → NarrowRange r → HasNo 32 low → HasNo 32 high → HasNo 10 slope →
+    range_line r ≡ line_with low high slope behind → SaysNumbers r low high slope
 unfolding range_line
-line_said r low high slope n in_low in_high in_slope e =
+line_said r low high slope behind n in_low in_high in_slope e =
     let numbers =
-    behind_word (numbers_with (end_text r.ends.low) (end_text r.ends.high) (number_text r.slope))
-    (numbers_with low high slope) e
+    behind_word (numbers_with (end_text r.ends.low) (end_text r.ends.high) (number_text r.slope) [])
+    (numbers_with low high slope behind) e
     in
     let one =
     cut_at 32 (end_text r.ends.low) low
     (end_text r.ends.high ++ 32 ∷ (codes "SLOPE " ++ (number_text r.slope ++ 10 ∷ [])))
-    (high ++ 32 ∷ (codes "SLOPE " ++ (slope ++ 10 ∷ [])))
+    (high ++ 32 ∷ (codes "SLOPE " ++ (slope ++ 10 ∷ behind)))
     (end_has_no 32 (omega arith) r.ends.low n.ends.low) in_low
-    (sym (grouped (end_text r.ends.low) (end_text r.ends.high) (number_text r.slope)) ∙ numbers ∙ grouped low high slope)
+    (sym (grouped (end_text r.ends.low) (end_text r.ends.high) (number_text r.slope) []) ∙ numbers
+    ∙ grouped low high slope behind)
     in
     let two =
     cut_at 32 (end_text r.ends.high) high (codes "SLOPE " ++ (number_text r.slope ++ 10 ∷ []))
-    (codes "SLOPE " ++ (slope ++ 10 ∷ [])) (end_has_no 32 (omega arith) r.ends.high n.ends.high) in_high one.1
+    (codes "SLOPE " ++ (slope ++ 10 ∷ behind)) (end_has_no 32 (omega arith) r.ends.high n.ends.high) in_high one.1
     in
     let three =
-    cut_at 10 (number_text r.slope) slope [] [] (number_has_no 10 (omega arith) r.slope n.slope) in_slope
-    (behind_slope (number_text r.slope ++ 10 ∷ []) (slope ++ 10 ∷ []) two.1)
+    cut_at 10 (number_text r.slope) slope [] behind (number_has_no 10 (omega arith) r.slope n.slope) in_slope
+    (behind_slope (number_text r.slope ++ 10 ∷ []) (slope ++ 10 ∷ behind) two.1)
     in
     record {
       says_low = end_said r.ends.low low n.ends.low one.0;
@@ -175,16 +176,16 @@ range_is RightSide name m f basis at v r n place is keeps optimal e = (
 )
 
 module _ (moved : Moved) (name : Name) (m : Model) (n : IsNarrowModel m) (at : ℕ) (place : place_by moved m name ≡ Some at)
-    (value low high slope : List ℕ) (no_feed : HasNo 10 value) (in_low : HasNo 32 low) (in_high : HasNo 32 high)
+    (value low high slope behind : List ℕ) (no_feed : HasNo 10 value) (in_low : HasNo 32 low) (in_high : HasNo 32 high)
     (in_slope : HasNo 10 slope) where
   module _ (basis : List Status) (v : ℚ) (keeps : Keeps m basis) (optimal : IsOptimal m v)
       (says : number_of value ≡ Is v) where
     ranged_says : (f : Form) → form_of (Some number_limit) m ≡ Ok f → (o : Result (Range ℚ) (StartStop ℚ)) →
-        range_of moved (Some number_limit) m f basis at ≡ o → ranged_text o ≡ line_with low high slope →
+        range_of moved (Some number_limit) m f basis at ≡ o → ranged_text o ≡ line_with low high slope behind →
         SaysRange moved name m value low high slope
     ranged_says f is (Ok r) q e =
         let t = range_is moved name m f basis at v r n place is keeps optimal q in
-        let s = line_said r low high slope t.0 in_low in_high in_slope e in
+        let s = line_said r low high slope behind t.0 in_low in_high in_slope e in
         record {
           at = at;
           named = place;
@@ -203,12 +204,12 @@ module _ (moved : Moved) (name : Name) (m : Model) (n : IsNarrowModel m) (at : �
     ranged_says f is (Err stop.Singular) q e = absurd (apart 0 82 refl (ap first e))
 
     based_says : (o : Result Form (FormFault ℚ)) → form_of (Some number_limit) m ≡ o →
-        based_text moved m basis at o ≡ line_with low high slope → SaysRange moved name m value low high slope
+        based_text moved m basis at o ≡ line_with low high slope behind → SaysRange moved name m value low high slope
     based_says (Ok f) is e = ranged_says f is (range_of moved (Some number_limit) m f basis at) refl e
     based_says (Err why) is e = absurd (apart 0 82 refl (ap first e))
 
   abbrev shown_line : List ℕ
-  shown_line = codes "OPTIMAL " ++ value ++ 10 ∷ line_with low high slope
+  shown_line = codes "OPTIMAL " ++ value ++ 10 ∷ line_with low high slope behind
 
   -- by the answer, what stands behind it, and the basis that is left
   end_says : (solved : SolveEnd) → IsSolved m opening_budget None solved → (end : ExactSolveEnd) → solved.end ≡ end →
@@ -219,14 +220,14 @@ module _ (moved : Moved) (name : Name) (m : Model) (n : IsNarrowModel m) (at : �
       let shown : IsShown m (known.Optimal v) = answer_shown m opening_budget (outcome.Ended (known.Optimal v) cert (Some basis) pivots) may in
       let narrow = value_fits m v shown in
       let more : number_text v ++ 10 ∷ based_text moved m basis at (form_of (Some number_limit) m)
-      ≡ value ++ 10 ∷ line_with low high slope = cc in
+      ≡ value ++ 10 ∷ line_with low high slope behind = cc in
       let two = cut_at 10 (number_text v) value _ _ (number_has_no 10 (omega arith) v narrow) no_feed more in
       based_says basis v (solved_keeps m opening_budget solved (known.Optimal v) cert basis pivots is q)
       (shown_holds m (known.Optimal v) shown) (ap number_of (sym two.0) ∙ read_back v narrow)
       (form_of (Some number_limit) m) refl two.1
   end_says solved is (outcome.Ended (known.Optimal v) cert None pivots) q may e =
       let shown : IsShown m (known.Optimal v) = answer_shown m opening_budget (outcome.Ended (known.Optimal v) cert None pivots) may in
-      let more : number_text v ++ 10 ∷ [] ≡ value ++ 10 ∷ line_with low high slope = cc in
+      let more : number_text v ++ 10 ∷ [] ≡ value ++ 10 ∷ line_with low high slope behind = cc in
       let two = cut_at 10 (number_text v) value _ _ (number_has_no 10 (omega arith) v (value_fits m v shown)) no_feed more in
       absurd (apart 0 82 refl (ap first two.1))
   end_says solved is (outcome.Ended known.Infeasible cert basis pivots) q may e = absurd (apart 73 79 refl (ap first e))
@@ -332,13 +333,13 @@ module _ (style : Style) (lines : List (Line (List ℕ))) (m : Model) (moved : M
       let r = answered 85 (apart 69 85 refl) (ap first e) in
       unbounded_line m r.answer r.behind behind r.shown (sym r.line ∙ e)
 
-  pub ranged_range : (value low high slope : List ℕ) → HasNo 10 value → HasNo 32 low → HasNo 32 high →
-      HasNo 10 slope → written ≡ codes "OPTIMAL " ++ value ++ 10 ∷ line_with low high slope →
+  pub ranged_range : (value low high slope behind : List ℕ) → HasNo 10 value → HasNo 32 low → HasNo 32 high →
+      HasNo 10 slope → written ≡ codes "OPTIMAL " ++ value ++ 10 ∷ line_with low high slope behind →
       SaysRange moved name m value low high slope
-  ranged_range value low high slope no_feed in_low in_high in_slope e =
+  ranged_range value low high slope behind no_feed in_low in_high in_slope e =
       let p = answered_by moved name m written 79 (apart 69 79 refl) (ap first e) (place_by moved m name) whole in
       let kept = spelled_kept style lines m spells in
       let o = p.2 in
       end_says moved name m (record { rows = kept.narrow_rows; columns = kept.narrow_columns }) p.0 p.1 value low high
-      slope no_feed in_low in_high in_slope o.0 o.1 o.0.end refl o.1.may_answer
+      slope behind no_feed in_low in_high in_slope o.0 o.1 o.0.end refl o.1.may_answer
       (sym (range_begins moved m p.0 o.0.end) ∙ sym o.2 ∙ e)

@@ -15,6 +15,7 @@ use Rattle.spec_mps.specs.declared.style.Style.{Style}
 use Rattle.spec_mps.specs.Reader.{State, start}
 use Rattle.spec_mps.specs.Steps.{Outcome, More, Done, step, settled, judge, Spelled, Spells}
 use Rattle.spec_commands.specs.InputSaid.{IsSaid}
+use Rattle.spec_text_truth.specs.TrueOutput.{IsModelOf}
 
 abbrev pub Lines : Type 0
 Lines = List (Line (List ℕ))
@@ -57,12 +58,15 @@ goes_on line (b ∷ a) c h = by (nat_eq b 10) refl (goes_on [] a c (All-nil (λ 
         not_both : b ≡ 10 → nat_eq b 10 ≡ false → ⊥
         not_both is other = let z : nat_eq 10 10 ≡ false = sym (ap (λ d. nat_eq d 10) is) ∙ other in cc
 
--- as far as an input may be read, or further
-pub lines_begin : (n : ℕ) (bytes : List ℕ) →
-    (more : Lines) × (lines_of bytes ≡ ended_lines_of (take n bytes) ++ more)
-lines_begin n bytes =
-    let r = goes_on [] (take n bytes) (drop n bytes) (All-nil (λ b. b ≢ 10)) in
-    (r.0, sym (ap lines_of (take-append-drop n bytes)) ∙ r.1)
+-- as far as an input may be read, or further, and whatever follows
+pub lines_begin : (n : ℕ) (bytes more : List ℕ) →
+    (rest : Lines) × (lines_of (bytes ++ more) ≡ ended_lines_of (take n bytes) ++ rest)
+lines_begin n bytes more =
+    let r = goes_on [] (take n bytes) (drop n bytes ++ more) (All-nil (λ b. b ≢ 10)) in
+    let whole : take n bytes ++ (drop n bytes ++ more) ≡ bytes ++ more =
+    sym (append_assoc (take n bytes) (drop n bytes) more)
+    ∙ ap (λ (all : List ℕ). all ++ more) (take-append-drop n bytes) in
+    (r.0, sym (ap lines_of whole) ∙ r.1)
 
 -- ---- what they spell
 
@@ -100,24 +104,26 @@ spelled_before style s n (line ∷ lines) m e =
 
 -- ---- what was said of the bytes that were read
 
--- some lines say it, and what these spell the lines of the bytes spell
-pub record IsSaidOf {R : Type 0} (said : Lines → Option R) (style : Style) (read : List ℕ) (what : R) : Type 0 where
+-- some lines say it, and what these spell the lines of the input spell
+pub record IsSaidOf {R : Type 0} (said : Lines → Option R) (style : Style) (after : Option (List ℕ)) (read : List ℕ)
+    (what : R) : Type 0 where
   pub lines : Lines
   pub says : said lines ≡ Some what
-  pub spells : (m : Model) → Spells style lines m → Spells style (lines_of read) m
+  pub spells : (m : Model) → Spells style lines m → IsModelOf style after read m
 
 pub said_of_read : {R : Type 0} (said : Lines → Option R) (style : Style) (after : Option (List ℕ)) (read : List ℕ)
-    (what : R) → IsSaid said after read what → IsSaidOf said style read what
+    (what : R) → IsSaid said after read what → IsSaidOf said style after read what
 said_of_read said style after read what (inl early) =
-    let begins = lines_begin input_limit read in
+    let first : Lines = ended_lines_of (take input_limit read) in
     record {
-      lines = ended_lines_of (take input_limit read);
+      lines = first;
       says = subst (λ (bytes : List ℕ). said (ended_lines_of (take input_limit bytes)) ≡ Some what) (append-nil read) (early []);
-      spells = λ m h. subst (λ (ls : Lines). Spells style ls m) (sym begins.1)
-          (spells_more style (ended_lines_of (take input_limit read)) begins.0 m h);
+      spells = λ m h. inr λ more.
+          let begins = lines_begin input_limit read more in
+          subst (λ (ls : Lines). Spells style ls m) (sym begins.1) (spells_more style first begins.0 m h);
     }
 said_of_read said style after read what (inr ends) = record {
   lines = lines_of read ++ End ∷ [];
   says = ends.all;
-  spells = λ m h. spelled_before style start 1 (lines_of read) m h;
+  spells = λ m h. inl (ends.at_end, spelled_before style start 1 (lines_of read) m h);
 }

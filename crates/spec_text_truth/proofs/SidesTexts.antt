@@ -127,7 +127,7 @@ side_no_feed m h s a =
 
 -- ---- lines of sides
 
-ended_more : (line : List ℕ) (lines : List (List ℕ)) (more : List ℕ) →
+pub ended_more : (line : List ℕ) (lines : List (List ℕ)) (more : List ℕ) →
     ended_lines (line ∷ lines) ++ more ≡ line ++ 10 ∷ (ended_lines lines ++ more)
 unfolding ended_lines
 ended_more line lines more =

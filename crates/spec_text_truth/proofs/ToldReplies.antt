@@ -1,5 +1,5 @@
 -- What is written of a reply is its line and the lines behind it, as many as it says.
-use Rattle.std.proofs.Common.{◌≡◌, ◌≢◌, ℕ, suc, Bool, true, false, cond, nat_eq, List, [], ◌∷◌, ◌++◌, length, map}
+use Rattle.std.proofs.Common.{◌≡◌, ◌≢◌, ℕ, suc, Bool, true, false, cond, ◌||◌, nat_eq, List, [], ◌∷◌, ◌++◌, length, map}
 use Rattle.std.proofs.Common.{get_or, Option, Some, None, Ok, Err, refl, sym, ap, ◌∙◌, subst, ◌⊎◌, inl, inr, append_assoc}
 use Rattle.std.proofs.Common.{eqb-true}
 use Rattle.std.specs.Prelude.{All, IfSome, codes, decimal}
@@ -18,7 +18,10 @@ use Rattle.spec_mps.specs.Written.{cards_of, cards_text, line_text, free, fixed,
 use Rattle.spec_mps.proofs.WrittenShort.{plain_line, cards_short}
 use Rattle.spec_mps.proofs.WrittenSteps.{IsPlainLine}
 use Rattle.spec_check.specs.declared.certificate.Certificate.{Certificate}
+use Rattle.spec_check.specs.declared.certificate.Known.TheVariants as known
 use Rattle.spec_check.specs.declared.certificate.SettleFault.TheVariants as settle
+use Rattle.spec_check.specs.declared.certificate.Verdict.{Verdict}
+use Rattle.spec_check.specs.declared.certificate.Verdict.TheVariants as verdict
 use Rattle.spec_check.specs.Raw.{ExactRaw}
 use Rattle.spec_check.specs.Settle.{Settled, certificate_for}
 use Rattle.spec_check.specs.declared.solve_end.SolveEnd.TheVariants as outcome
@@ -30,6 +33,8 @@ use Rattle.spec_solve.proofs.WideAnswers.{wide_true}
 use Rattle.spec_certificate.specs.TextWritten.{certificate_lines, wide_certificate_lines}
 use Rattle.spec_board.specs.Reads.{ExactRead}
 use Rattle.spec_server.specs.declared.addressing.Addressing.{Addressing}
+use Rattle.spec_server.specs.declared.answer.Answer.{Answer}
+use Rattle.spec_server.specs.declared.answer.Answer.TheVariants as answer
 use Rattle.spec_server.specs.declared.asks.Ask.TheVariants as ask
 use Rattle.spec_server.specs.declared.asks.Reply.TheVariants as reply
 use Rattle.spec_server.specs.declared.command.Plain.TheVariants as command
@@ -38,13 +43,14 @@ use Rattle.spec_server.specs.Machine.{ExactAsk, ExactReply, ExactLastAnswer, Sta
 use Rattle.spec_server.specs.Machine.{answer_of, write_reply, lines_of_solved, cert_reply, how_reply, solve_due, wide_due}
 use Rattle.spec_server.specs.Machine.{edit_refusal}
 use Rattle.spec_server.specs.Machine.{edit_due, change_due, due}
-use Rattle.spec_server.specs.Output.{front_of, answer_text, reply_text, count_of_lines, ended_lines, lines_behind, reply_lines}
+use Rattle.spec_server.specs.Output.{front_of, answer_text, verdict_text, reply_text, count_of_lines, ended_lines, lines_behind, reply_lines}
 use Rattle.spec_server.specs.WideLines.{wide_known_text, wide_lines}
 use Rattle.spec_server.specs.Step.{AloneStep}
 use Rattle.spec_commands.proofs.PlainLines.{certificate_plain}
 use Rattle.spec_server.proofs.Sessions.{IsGood}
 use Rattle.spec_server.proofs.Simply.{Does, WantsMemory, step_simply}
-use Rattle.spec_text_truth.specs.TrueOutput.{HasNoFeed, Asking, Told, IsFramed}
+use Rattle.spec_truth.proofs.AnswerLines.{first}
+use Rattle.spec_text_truth.specs.TrueOutput.{HasNoFeed, Asking, Told, Announces, IsFramed}
 use Rattle.spec_text_truth.proofs.TrueLines.{answer_no_feed}
 use Rattle.spec_text_truth.proofs.PlainReplies.{IsPlainReply, reply_no_feed}
 use Rattle.spec_text_truth.proofs.PlainWords.{printed_no_feed}
@@ -118,6 +124,27 @@ IsListed (reply.Certified lines) = All HasNoFeed lines
 IsListed (reply.Wide lines) = All HasNoFeed lines
 IsListed other = Unit {0}
 
+-- whether a line begins with the first letter of such a word
+abbrev pub counts : ℕ → Bool
+counts letter = nat_eq letter 84 || nat_eq letter 67 || nat_eq letter 87
+
+pub announced_first : (line more : List ℕ) → Announces line more → counts (first line) ≡ true
+announced_first line more (inl e) = ap (λ (l : List ℕ). counts (first l)) e
+announced_first line more (inr (inl e)) = ap (λ (l : List ℕ). counts (first l)) e
+announced_first line more (inr (inr e)) = ap (λ (l : List ℕ). counts (first l)) e
+
+answer_counts : (what : Answer ℚ) → counts (first (answer_text what)) ≡ false
+answer_counts (answer.Known (known.Optimal v)) = refl
+answer_counts (answer.Known known.Infeasible) = refl
+answer_counts (answer.Known known.Unbounded) = refl
+answer_counts (answer.Past p) = refl
+answer_counts (answer.Spent budget) = refl
+
+verdict_counts : (what : Verdict ℚ) → counts (first (verdict_text what)) ≡ false
+verdict_counts (verdict.Yes what) = refl
+verdict_counts (verdict.No n) = refl
+verdict_counts (verdict.Past p) = refl
+
 module _ (asked : Asking) where
   text_framed : (text : List ℕ) → HasNoFeed (reply_text (reply.Written text)) → AreOfLines text →
       IsFramed (told_by asked (reply.Written text))
@@ -129,34 +156,44 @@ module _ (asked : Asking) where
       record {
         one = one;
         each = subst (All HasNoFeed) (sym same) h.plain;
-        counted = inr (inl (ap (λ (n : ℕ). codes "TEXT " ++ decimal n) count));
+        counted = inl (inl (ap (λ (n : ℕ). codes "TEXT " ++ decimal n) count));
       }
 
   certificate_framed : (lines : List (List ℕ)) → HasNoFeed (reply_text (reply.Certified lines)) → All HasNoFeed lines →
       IsFramed (told_by asked (reply.Certified lines))
   unfolding reply_text
-  certificate_framed lines one h = record { one = one; each = h; counted = inr (inr (inl refl)) }
+  certificate_framed lines one h = record { one = one; each = h; counted = inl (inr (inl refl)) }
 
   wide_framed : (lines : List (List ℕ)) → HasNoFeed (reply_text (reply.Wide lines)) → All HasNoFeed lines →
       IsFramed (told_by asked (reply.Wide lines))
   unfolding reply_text
-  wide_framed lines one h = record { one = one; each = h; counted = inr (inr (inr refl)) }
+  wide_framed lines one h = record { one = one; each = h; counted = inl (inr (inr refl)) }
 
-  alone_framed : (line : List ℕ) → HasNoFeed line → IsFramed (record { asked = asked; line = line; behind = [] })
-  alone_framed line one = record { one = one; each = All-nil HasNoFeed; counted = inl refl }
+  -- a line that begins with another letter
+  alone_framed : (line : List ℕ) → HasNoFeed line → counts (first line) ≡ false →
+      IsFramed (record { asked = asked; line = line; behind = [] })
+  alone_framed line one other = record {
+    one = one;
+    each = All-nil HasNoFeed;
+    counted = inr (refl, λ more announced. not_both (announced_first line _ announced));
+  }
+    where
+      not_both : counts (first line) ≡ true → ⊥
+      not_both e = let z : false ≡ true = sym other ∙ e in cc
 
   by_lines : (replied : ExactReply) → HasNoFeed (reply_text replied) → IsListed replied → IsFramed (told_by asked replied)
+  unfolding reply_text
   by_lines (reply.Written text) one h = text_framed text one h
   by_lines (reply.Certified lines) one h = certificate_framed lines one h
   by_lines (reply.Wide lines) one h = wide_framed lines one h
-  by_lines (reply.Loaded rows columns) one h = alone_framed _ one
-  by_lines reply.Done one h = alone_framed _ one
-  by_lines (reply.Answered what) one h = alone_framed _ one
-  by_lines (reply.Found how pivots publication) one h = alone_framed _ one
-  by_lines (reply.Checked what) one h = alone_framed _ one
-  by_lines reply.Bye one h = alone_framed _ one
-  by_lines reply.Memory one h = alone_framed _ one
-  by_lines (reply.Refused why) one h = alone_framed _ one
+  by_lines (reply.Loaded rows columns) one h = alone_framed _ one refl
+  by_lines reply.Done one h = alone_framed _ one refl
+  by_lines (reply.Answered what) one h = alone_framed _ one (answer_counts what)
+  by_lines (reply.Found how pivots publication) one h = alone_framed _ one refl
+  by_lines (reply.Checked what) one h = alone_framed _ one (verdict_counts what)
+  by_lines reply.Bye one h = alone_framed _ one refl
+  by_lines reply.Memory one h = alone_framed _ one refl
+  by_lines (reply.Refused why) one h = alone_framed _ one refl
 
   pub reply_framed : (replied : ExactReply) → IsPlainReply replied → IsListed replied → IsFramed (told_by asked replied)
   reply_framed replied plain h = by_lines replied (reply_no_feed replied plain) h

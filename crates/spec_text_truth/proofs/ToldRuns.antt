@@ -1,5 +1,5 @@
 -- In a run of sessions, what is told is true of the model that the session has then.
-use Rattle.std.proofs.Common.{◌≡◌, ℕ, Bool, true, false, cond, nat_eq, List, [], ◌∷◌, ◌++◌, map, Some, refl}
+use Rattle.std.proofs.Common.{◌≡◌, ℕ, Bool, true, false, cond, nat_eq, List, [], ◌∷◌, ◌++◌, map, Option, Some, refl, inl, inr}
 use Rattle.std.proofs.Common.{sym, ap, ap₂, ◌∙◌, subst, append_assoc}
 use Rattle.std.specs.Prelude.{All, codes}
 use Rattle.std.specs.List.{flat_map}
@@ -23,9 +23,10 @@ use Rattle.spec_server.specs.Exchanges.{Exchange, asked_in, AloneRun, of_session
 use Rattle.spec_server.proofs.RunLemmas.{of_session-append}
 use Rattle.spec_server.proofs.ScriptKept.{lines_kept}
 use Rattle.spec_server.proofs.Sessions.{IsGood, run_good}
+use Rattle.spec_serve.specs.Link.{AreFirstOf, HoldsOfAll}
 use Rattle.spec_truth.specs.ModelThen.{model_then}
 use Rattle.spec_text_truth.specs.TrueOutput.{IsNumber, IsWideNumber, IsTrueLine, BehindYes, BehindWide, Asking, Told, IsFramed}
-use Rattle.spec_text_truth.specs.TrueOutput.{told_out}
+use Rattle.spec_text_truth.specs.TrueOutput.{asked_from, told_out}
 use Rattle.spec_text_truth.specs.TrueOutput.{model_told, IsTrueReply, AreTrueReplies}
 use Rattle.spec_truth.proofs.Shown.{shown_holds, value_fits}
 use Rattle.spec_truth.proofs.AnswerLines.{read_back}
@@ -224,19 +225,40 @@ asked_at (y ∷ before) behind x h =
 
 -- ---- the whole
 
--- replies to the first asks of the lines that were read
-pub replies_true : (places : ℕ) (addressing : Addressing) (read : List ℕ) (xs : List Exchange)
-    (later : List (Asked ExactAsk)) → RunAlone places xs →
-    asks_from addressing Between (lines_of read) ≡ map asked_in xs ++ later →
-    AreTrueReplies addressing read (flat_map (λ x. reply_lines addressing x.session x.reply) xs)
-replies_true places addressing read xs later alone asks =
+-- what is told of the first asks is told of the first effects
+first_told : (addressing : Addressing) (xs : List Exchange) (bytes : List ℕ) →
+    AreFirstOf (map asked_in xs) (asks_from addressing Between (lines_of bytes)) →
+    AreFirstOf (map (λ (x : Told). x.asked) (map told_of xs)) (asked_from addressing Between (lines_of bytes))
+first_told addressing xs bytes (later, asks) = (
+  map asking_of later,
+  asked_from-is addressing Between (lines_of bytes) ∙ ap (map asking_of) asks
+      ∙ map-append asking_of (map asked_in xs) later
+      ∙ ap (λ (asked : List Asking). asked ++ map asking_of later) (sym (asked_told xs)),
+)
+
+told_of_all : (addressing : Addressing) (after : Option (List ℕ)) (read : List ℕ) (xs : List Exchange) →
+    HoldsOfAll after read (λ bytes. AreFirstOf (map asked_in xs) (asks_from addressing Between (lines_of bytes))) →
+    HoldsOfAll after read
+    (λ bytes. AreFirstOf (map (λ (x : Told). x.asked) (map told_of xs)) (asked_from addressing Between (lines_of bytes)))
+told_of_all addressing after read xs (inl (at_end, first)) = inl (at_end, first_told addressing xs read first)
+told_of_all addressing after read xs (inr always) = inr λ more. first_told addressing xs (read ++ more) (always more)
+
+-- they are the first asks of some bytes
+first_of_some : (addressing : Addressing) (after : Option (List ℕ)) (read : List ℕ) (xs : List Exchange) →
+    HoldsOfAll after read (λ bytes. AreFirstOf (map asked_in xs) (asks_from addressing Between (lines_of bytes))) →
+    (bytes : List ℕ) × AreFirstOf (map asked_in xs) (asks_from addressing Between (lines_of bytes))
+first_of_some addressing after read xs (inl (at_end, first)) = (read, first)
+first_of_some addressing after read xs (inr always) = (read ++ [], always [])
+
+-- replies to the first asks of the lines of the input
+pub replies_true : (places : ℕ) (addressing : Addressing) (after : Option (List ℕ)) (read : List ℕ) (xs : List Exchange) →
+    RunAlone places xs →
+    HoldsOfAll after read (λ bytes. AreFirstOf (map asked_in xs) (asks_from addressing Between (lines_of bytes))) →
+    AreTrueReplies addressing after read (flat_map (λ x. reply_lines addressing x.session x.reply) xs)
+replies_true places addressing after read xs alone asks =
     record {
       told = map told_of xs;
-      later = map asking_of later;
-      asked =
-          asked_from-is addressing Between (lines_of read) ∙ ap (map asking_of) asks
-          ∙ map-append asking_of (map asked_in xs) later
-          ∙ ap (λ (asked : List Asking). asked ++ map asking_of later) (sym (asked_told xs));
+      asked = told_of_all addressing after read xs asks;
       framed = All-map IsFramed told_of xs (λ i d l. reply_framed _ _ (plain i d l) (listed i d l));
       replies = out_told addressing xs listed;
       are_true = λ before behind t e.
@@ -247,15 +269,18 @@ replies_true places addressing read xs later alone asks =
           (then_true places r.front r.rest r.last whole));
     }
   where
+    first : (bytes : List ℕ) × AreFirstOf (map asked_in xs) (asks_from addressing Between (lines_of bytes))
+    first = first_of_some addressing after read xs asks
+
     kept : AreKept (map asked_in xs)
     kept =
-        first_all (λ a. IsKeptAsk a.ask) (map asked_in xs) later
-        (subst AreKept asks (lines_kept addressing Between (lines_of read)))
+        first_all (λ a. IsKeptAsk a.ask) (map asked_in xs) first.1.0
+        (subst AreKept first.1.1 (lines_kept addressing Between (lines_of first.0)))
 
     plain_asks : ArePlainAsks (map asked_in xs)
     plain_asks =
-        first_all (λ a. IsPlainAsk a.ask) (map asked_in xs) later
-        (subst ArePlainAsks asks (asks_plain addressing (lines_of read) (lines_plain read)))
+        first_all (λ a. IsPlainAsk a.ask) (map asked_in xs) first.1.0
+        (subst ArePlainAsks first.1.1 (asks_plain addressing (lines_of first.0) (lines_plain first.0)))
 
     listed : All (λ (x : Exchange). IsListed x.reply) xs
     listed =

@@ -18,7 +18,7 @@ use Rattle.spec_server.specs.declared.answer.Answer.{Answer}
 use Rattle.spec_server.specs.declared.answer.Answer.TheVariants as answer
 use Rattle.spec_server.specs.Output.{known_text, answer_text, op_text, past_text}
 use Rattle.spec_server.specs.WideLines.{wide_known_text}
-use Rattle.spec_text_truth.specs.TrueOutput.{HasNoFeed, IsNumber, IsWideNumber, IsTrueLine, OfFirst, OfSecond}
+use Rattle.spec_text_truth.specs.TrueOutput.{HasNoFeed, IsNumber, IsWideNumber, IsTrueLine, OfFirst, OfFirstTwo}
 use Rattle.spec_truth.proofs.Shown.{IsShown, IsShownBy, shown_holds, value_fits}
 use Rattle.spec_truth.proofs.AnswerLines.{same_line, same_rest, read_back, first, apart}
 use Rattle.spec_text_truth.proofs.PlainText.{tested_no_feed, both_no_feed, decimal_no_feed, either_no_feed, wide_no_feed}
@@ -103,7 +103,7 @@ wide_known_no_feed (known.Optimal v) =
 wide_known_no_feed known.Infeasible = tested_no_feed (codes "INFEASIBLE") refl
 wide_known_no_feed known.Unbounded = tested_no_feed (codes "UNBOUNDED") refl
 
--- ---- the first line, and the second
+-- ---- the first line, and the first two
 
 module _ (IsTrue : List ℕ → Type 0) where
   pub first_true : (output line behind : List ℕ) → output ≡ line ++ 10 ∷ behind → HasNoFeed line → IsTrue line →
@@ -111,10 +111,12 @@ module _ (IsTrue : List ℕ → Type 0) where
   first_true output line behind is plain true_line other rest no_feed e =
       subst IsTrue (same_line line other behind rest plain no_feed (sym is ∙ e)) true_line
 
-  pub second_true : (output line behind : List ℕ) → output ≡ line ++ 10 ∷ behind → HasNoFeed line →
-      OfFirst IsTrue behind → OfSecond IsTrue output
-  second_true output line behind is plain true_rest other rest no_feed e =
-      subst (OfFirst IsTrue) (same_rest line other behind rest plain no_feed (sym is ∙ e)) true_rest
+  pub two_true : (output line behind : List ℕ) → output ≡ line ++ 10 ∷ behind → HasNoFeed line → IsTrue line →
+      OfFirst IsTrue behind → OfFirstTwo IsTrue output
+  two_true output line behind is plain true_line true_rest other rest no_feed e = (
+    first_true output line behind is plain true_line other rest no_feed e,
+    subst (OfFirst IsTrue) (same_rest line other behind rest plain no_feed (sym is ∙ e)) true_rest,
+  )
 
   -- where nothing stands
   pub nothing_true : OfFirst IsTrue []

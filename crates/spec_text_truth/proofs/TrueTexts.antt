@@ -1,9 +1,9 @@
 -- What the commands that read a text write of it is true of the model that it spells.
-use Rattle.std.proofs.Common.{◌≡◌, ℕ, nat_eq, List, [], ◌∷◌, ◌++◌, Option, Some, Ok, Err, ◌⊎◌, inl, inr}
+use Rattle.std.proofs.Common.{◌≡◌, ◌≢◌, ℕ, false, nat_eq, List, [], ◌∷◌, ◌++◌, Option, Some, Ok, Err, ◌⊎◌, inl, inr}
 use Rattle.std.proofs.Common.{refl, sym, ◌∙◌, ap, subst, append_assoc}
-use Rattle.std.specs.Prelude.{codes, decimal}
+use Rattle.std.specs.Prelude.{All, codes, decimal}
 use Rattle.std.specs.List.{remove}
-use Rattle.spec_text.specs.Lines.{lines_of}
+use Rattle.std.proofs.lemmas.List.Elements.{All-nil, All-cons, All-head, All-tail}
 use Rattle.spec_exact.specs.Fraction.{ℚ}
 use Rattle.spec_model.specs.Model.{Model, Name}
 use Rattle.spec_model.specs.Truth.{IsOptimal, IsInfeasible, IsUnbounded}
@@ -47,17 +47,17 @@ use Rattle.spec_commands.specs.BasisWideOut.{BasisWideOut}
 use Rattle.spec_text_truth.specs.Certified.{IsCertifiedBy}
 use Rattle.spec_text_truth.specs.SaidRange.{SaysRange}
 use Rattle.spec_text_truth.specs.SaidSides.{SaysSides}
-use Rattle.spec_text_truth.specs.TrueOutput.{HasNoFeed, IsNumber, IsWideNumber, IsTrueLine, BehindYes, OfFirst, OfSecond}
-use Rattle.spec_text_truth.specs.TrueOutput.{IsTrueRange, SaysTrueRange, AreTrueSides, SaysTrueSides, IsTrueOfText}
+use Rattle.spec_text_truth.specs.TrueOutput.{HasNoFeed, IsNumber, IsWideNumber, IsTrueLine, BehindYes, OfFirst, OfFirstTwo}
+use Rattle.spec_text_truth.specs.TrueOutput.{IsTrueRange, SaysTrueRange, AreTrueSides, SaysTrueSides, IsTrueOfText, IsModelOf}
 use Rattle.spec_truth.proofs.Shown.{IsShown}
 use Rattle.spec_text_truth.proofs.TextLemmas.{said_spelled}
 use Rattle.spec_truth.proofs.AnswerLines.{same_line, first, apart}
 use Rattle.spec_text_truth.proofs.PlainText.{tested_no_feed, both_no_feed, decimal_no_feed}
 use Rattle.spec_text_truth.proofs.ReadLines.{Lines, spells_more, said_of_read}
 use Rattle.spec_text_truth.proofs.TrueLines.{tail_no_feed, past_no_feed, known_no_feed, wide_known_no_feed, answer_no_feed}
-use Rattle.spec_text_truth.proofs.TrueLines.{first_true, second_true, nothing_true, refused_true, known_true, answer_true}
+use Rattle.spec_text_truth.proofs.TrueLines.{first_true, two_true, nothing_true, other_true, refused_true, known_true, answer_true}
 use Rattle.spec_text_truth.proofs.TrueLines.{wide_known_true}
-use Rattle.spec_truth.proofs.ReplyLines.{yes_to, yes_reply, yes_text_is, behind_yes}
+use Rattle.spec_truth.proofs.ReplyLines.{looks_known, yes_to, yes_reply, yes_text_is, behind_yes}
 use Rattle.spec_text_truth.proofs.SolvedTexts as solved
 use Rattle.spec_text_truth.proofs.WideTexts as wide
 use Rattle.spec_text_truth.proofs.BasisTexts as basis
@@ -72,6 +72,10 @@ use Rattle.spec_text_truth.proofs.RangedTexts.{ranged_optimal, ranged_infeasible
 misspelled_first : (fault : MpsFault) → first (check_line (reply.Refused (refusal.Misspelled fault))) ≡ 69
 unfolding check_line reply_text
 misspelled_first fault = refl
+
+misspelled_other : (fault : MpsFault) → looks_known (reply_text (reply.Refused (refusal.Misspelled fault))) ≡ false
+unfolding reply_text
+misspelled_other fault = refl
 
 misspelled_no_feed : (fault : MpsFault) → HasNoFeed (reply_text (reply.Refused (refusal.Misspelled fault)))
 unfolding reply_text fault_text
@@ -119,6 +123,13 @@ wide_yes_reply is h = by (valued_or_same is)
 
 -- ---- ranges, and sides that contradict each other
 
+-- what holds of all elements of two lists holds of all of each
+both_parts : (P : ℕ → Type 0) (a b : List ℕ) → All P (a ++ b) → All P a × All P b
+both_parts P [] b h = (All-nil P, h)
+both_parts P (x ∷ a) b h =
+    let rest = both_parts P a b (All-tail P x (a ++ b) h) in
+    (All-cons P x a (All-head P x (a ++ b) h) rest.0, rest.1)
+
 range_true : (moved : Moved) (name : Name) (m : Model) (value low high slope : List ℕ) →
     SaysRange moved name m value low high slope → IsTrueRange moved name m value low high slope
 range_true moved name m value low high slope s = record {
@@ -137,9 +148,8 @@ range_true moved name m value low high slope s = record {
 sides_true : (m : Model) (count behind : List ℕ) → SaysSides m count behind → AreTrueSides m count behind
 sides_true m count behind s = record {
   sides = s.sides;
-  more = s.more;
   counted = s.counted;
-  listed = s.listed;
+  listed = (s.more, sym s.listed);
   present = s.irreducible.present;
   contrary = λ z met. s.irreducible.infeasible z (meeting_points m s.sides s.irreducible.present z met);
   needed = λ k l.
@@ -272,6 +282,7 @@ module _ (style : Style) (lines : Lines) (IsOf : Model → Type 0) (is_of : (m :
   record IsOneLine (bytes : List ℕ) : Type 0 where
     line : List ℕ
     plain : HasNoFeed line
+    other : looks_known line ≡ false
     is_line : bytes ≡ line ++ 10 ∷ []
 
   way_is_line : (way : Way ℚ) → IsOneLine (way_line way)
@@ -284,30 +295,35 @@ module _ (style : Style) (lines : Lines) (IsOf : Model → Type 0) (is_of : (m :
         (both_no_feed (codes "REDUCED ") (decimal rows) (tested_no_feed (codes "REDUCED ") refl) (decimal_no_feed rows))
         (tested_no_feed (codes " ") refl))
         (decimal_no_feed columns);
+    other = refl;
     is_line = refl;
   }
   way_is_line (Plain (why.Past p)) = record {
     line = codes "PLAIN " ++ past_text p;
     plain = both_no_feed (codes "PLAIN ") (past_text p) (tested_no_feed (codes "PLAIN ") refl) (past_no_feed p);
+    other = refl;
     is_line = sym (append_assoc (codes "PLAIN ") (past_text p) (10 ∷ []));
   }
   way_is_line (Plain why.Spent) =
-      record { line = codes "PLAIN SPENT"; plain = tested_no_feed (codes "PLAIN SPENT") refl; is_line = refl }
+      record { line = codes "PLAIN SPENT"; plain = tested_no_feed (codes "PLAIN SPENT") refl; other = refl; is_line = refl }
 
   presolve_true : (what : TextSaid) → text_said style lines ≡ Some what → PresolveOut what written →
-      OfSecond (IsTrueLine IsOf IsNumber) written
+      OfFirstTwo (IsTrueLine IsOf IsNumber) written
   unfolding check_line
   presolve_true (Ok m) is out =
       let r = out_answered m written out in
       let w = way_is_line r.way in
       let rest : List ℕ = answer_text r.answer ++ 10 ∷ r.behind in
-      second_true (IsTrueLine IsOf IsNumber) written w.line rest
+      two_true (IsTrueLine IsOf IsNumber) written w.line rest
       (r.lines ∙ ap (λ (front : List ℕ). front ++ rest) w.is_line ∙ append_assoc w.line (10 ∷ []) rest) w.plain
+      (other_true IsOf IsNumber w.line w.other)
       (first_true (IsTrueLine IsOf IsNumber) rest (answer_text r.answer) r.behind refl (answer_no_feed r.answer)
       (answer_true IsOf m (is_of m (said_spelled style lines m is)) r.answer r.shown))
   presolve_true (Err fault) is out =
-      second_true (IsTrueLine IsOf IsNumber) written (reply_text (reply.Refused (refusal.Misspelled fault))) []
-      out (misspelled_no_feed fault) (nothing_true (IsTrueLine IsOf IsNumber))
+      two_true (IsTrueLine IsOf IsNumber) written (reply_text (reply.Refused (refusal.Misspelled fault))) []
+      out (misspelled_no_feed fault)
+      (other_true IsOf IsNumber (reply_text (reply.Refused (refusal.Misspelled fault))) (misspelled_other fault))
+      (nothing_true (IsTrueLine IsOf IsNumber))
 
   -- ---- sides and ranges
 
@@ -334,16 +350,18 @@ module _ (style : Style) (lines : Lines) (IsOf : Model → Type 0) (is_of : (m :
         begins_true IsNumber m spells (ranged_optimal style lines m moved name (Ok m) written is out spells)
             (ranged_infeasible style lines m moved name (Ok m) written is out spells)
             (ranged_unbounded style lines m moved name (Ok m) written is out spells),
-        λ value low high slope no_feed in_low in_high in_slope e. (
-          m,
-          is_of m spells,
-          range_true moved name m value low high slope
-              (ranged_range style lines m moved name (Ok m) written is out spells value low high slope no_feed in_low in_high in_slope e),
-        ),
+        λ value low high slope behind no_feed in_ends in_slope e.
+            let ends = both_parts (λ b. b ≢ 32) low high in_ends in (
+              m,
+              is_of m spells,
+              range_true moved name m value low high slope
+                  (ranged_range style lines m moved name (Ok m) written is out spells value low high slope behind no_feed ends.0 ends.1
+                  in_slope e),
+            ),
       )
   ranged_true moved name (Err fault) is out = (
     misspelled_true IsNumber fault out,
-    λ value low high slope no_feed in_low in_high in_slope e.
+    λ value low high slope behind no_feed in_ends in_slope e.
         absurd (apart 69 79 refl (sym (ap first out ∙ misspelled_first fault) ∙ ap first e)),
   )
 
@@ -364,10 +382,10 @@ module _ (style : Style) (lines : Lines) (IsOf : Model → Type 0) (is_of : (m :
 -- what was said of the bytes that were read
 pub said_true : (command : ExactTextCommand) (style : Style) (after : Option (List ℕ)) (read written : List ℕ)
     (what : SaidBy command) → IsSaid (said_of command style) after read what → MayWrite command what written →
-    IsTrueOfText command (Spells style (lines_of read)) written
+    IsTrueOfText command (IsModelOf style after read) written
 said_true command style after read written what is out =
     let s = said_of_read (said_of command style) style after read what is in
-    text_true style s.lines (Spells style (lines_of read)) s.spells written command what s.says out
+    text_true style s.lines (IsModelOf style after read) s.spells written command what s.says out
 
 -- ---- where nothing is written
 
@@ -389,7 +407,7 @@ none_true Presolve IsOf = λ line behind plain e. absurd (no_line line behind e)
 none_true Iis IsOf =
     (nothing_true (IsTrueLine IsOf IsNumber), λ count behind plain e. absurd (no_byte 73 _ e))
 none_true (Range moved name) IsOf =
-    (nothing_true (IsTrueLine IsOf IsNumber), λ value low high slope a b c d e. absurd (no_byte 79 _ e))
+    (nothing_true (IsTrueLine IsOf IsNumber), λ value low high slope behind a b c e. absurd (no_byte 79 _ e))
 
-pub no_seed_true : (IsTrue : List ℕ → Type 0) → OfSecond IsTrue []
+pub no_seed_true : (IsTrue : List ℕ → Type 0) → OfFirstTwo IsTrue []
 no_seed_true IsTrue = λ line behind plain e. absurd (no_line line behind e)

@@ -4,3 +4,4 @@ pub mod AcceptedLines
 pub mod SaidRange
 pub mod SaidSides
 pub mod TrueOutput
+pub mod FalseOutputs

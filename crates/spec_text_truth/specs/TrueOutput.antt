@@ -12,6 +12,7 @@ use Rattle.spec_model.specs.Model.{Model, Name, Limits}
 use Rattle.spec_model.specs.Truth.{IsBetween, IsOptimal, IsInfeasible, IsUnbounded}
 use Rattle.spec_edit.specs.Edited.{ExactEdit}
 use Rattle.spec_gen.specs.Generated.{generated}
+use Rattle.spec_mps.specs.declared.style.Style.{Style}
 use Rattle.spec_mps.specs.NumberText.{Is, number_of}
 use Rattle.spec_mps.specs.Reader.{start}
 use Rattle.spec_mps.specs.Steps.{Verdict, Spelled, Refused, judge, Spells}
@@ -35,6 +36,7 @@ use Rattle.spec_server.specs.Command.{ExactCommand}
 use Rattle.spec_server.specs.Output.{front_of, ended_lines}
 use Rattle.spec_server.specs.Script.{Pending, Between, Text, Certificate, pending_after_line, ends_text, ends_certificate}
 use Rattle.spec_server.specs.Streams.{Streams}
+use Rattle.spec_serve.specs.Link.{AreFirstOf, HoldsOfAll}
 use Rattle.spec_truth.specs.ModelThen.{after_edit}
 use Rattle.spec_text_truth.specs.SaidRange.{number_at, with_number, SaysEnd}
 
@@ -62,12 +64,13 @@ pub record IsTrueLine (IsOf : Model → Type 0) (IsText : List ℕ → ℚ → T
 abbrev pub BehindYes : (List ℕ → Type 0) → List ℕ → Type 0
 BehindYes IsTrue line = (rest : List ℕ) → line ≡ codes "YES " ++ rest → IsTrue rest
 
--- it is so of the first line of an output, or of the second
+-- it is so of the first line of an output, or of the first two
 abbrev pub OfFirst : (List ℕ → Type 0) → List ℕ → Type 0
 OfFirst IsTrue output = (line behind : List ℕ) → HasNoFeed line → output ≡ line ++ 10 ∷ behind → IsTrue line
 
-abbrev pub OfSecond : (List ℕ → Type 0) → List ℕ → Type 0
-OfSecond IsTrue output = (line behind : List ℕ) → HasNoFeed line → output ≡ line ++ 10 ∷ behind → OfFirst IsTrue behind
+abbrev pub OfFirstTwo : (List ℕ → Type 0) → List ℕ → Type 0
+OfFirstTwo IsTrue output =
+    (line behind : List ℕ) → HasNoFeed line → output ≡ line ++ 10 ∷ behind → IsTrue line × OfFirst IsTrue behind
 
 -- ---- the commands that read a text
 
@@ -88,25 +91,22 @@ pub record IsTrueRange (moved : Moved) (name : Name) (m : Model) (value low high
 
 abbrev pub SaysTrueRange : Moved → Name → (Model → Type 0) → List ℕ → Type 0
 SaysTrueRange moved name IsOf output =
-    (value low high slope : List ℕ) → HasNoFeed value → All (λ b. b ≢ 32) low → All (λ b. b ≢ 32) high →
-    HasNoFeed slope →
-    output ≡ codes "OPTIMAL " ++ value ++ 10 ∷ (codes "RANGE " ++ low ++ codes " " ++ high ++ codes " SLOPE " ++ slope ++ 10 ∷ []) →
+    (value low high slope behind : List ℕ) → HasNoFeed value → All (λ b. b ≢ 32) (low ++ high) → HasNoFeed slope →
+    output ≡ codes "OPTIMAL " ++ value ++ 10 ∷ (codes "RANGE " ++ low ++ codes " " ++ high ++ codes " SLOPE " ++ slope ++ 10 ∷ behind) →
     (m : Model) × IsOf m × IsTrueRange moved name m value low high slope
 
 -- So many limits of rows and bounds of columns are listed. No point meets them all, though each set of all but one is met.
 pub record AreTrueSides (m : Model) (count behind : List ℕ) : Type 0 where
   pub sides : List Side
-  pub more : List ℕ
   pub counted : count ≡ decimal (length sides)
-  pub listed : behind ≡ ended_lines (map (side_line m) sides) ++ more
+  pub listed : IsPrefixOf (ended_lines (map (side_line m) sides)) behind
   pub present : All (IsSide m) sides
   pub contrary : (z : List ℚ) → ¬ (MeetsAll m sides z)
   pub needed : (k : ℕ) → k < length sides → (z : List ℚ) × MeetsAll m (remove sides k) z
 
 abbrev pub SaysTrueSides : (Model → Type 0) → List ℕ → Type 0
 SaysTrueSides IsOf output =
-    (count behind : List ℕ) → HasNoFeed count →
-    output ≡ codes "INFEASIBLE" ++ 10 ∷ (codes "IIS " ++ count ++ 10 ∷ behind) →
+    (count behind : List ℕ) → HasNoFeed count → output ≡ codes "INFEASIBLE" ++ 10 ∷ (codes "IIS " ++ count ++ 10 ∷ behind) →
     (m : Model) × IsOf m × AreTrueSides m count behind
 
 -- what each of them writes of the model of its text
@@ -117,7 +117,7 @@ IsTrueOfText Check IsOf output = OfFirst (BehindYes (IsTrueLine IsOf IsNumber)) 
 IsTrueOfText CheckWide IsOf output = OfFirst (BehindYes (IsTrueLine IsOf IsWideNumber)) output
 IsTrueOfText Basis IsOf output = OfFirst (IsTrueLine IsOf IsNumber) output
 IsTrueOfText BasisWide IsOf output = OfFirst (IsTrueLine IsOf IsWideNumber) output
-IsTrueOfText Presolve IsOf output = OfSecond (IsTrueLine IsOf IsNumber) output
+IsTrueOfText Presolve IsOf output = OfFirstTwo (IsTrueLine IsOf IsNumber) output
 IsTrueOfText Iis IsOf output = OfFirst (IsTrueLine IsOf IsNumber) output × SaysTrueSides IsOf output
 IsTrueOfText (Range moved name) IsOf output =
     OfFirst (IsTrueLine IsOf IsNumber) output × SaysTrueRange moved name IsOf output
@@ -143,10 +143,12 @@ effects_of (commands.Plain (command.Change e)) = Edits e ∷ []
 effects_of (commands.Plain command.Quit) = Drops ∷ []
 effects_of other = Keeps ∷ []
 
+abbrev pub asked_of : ℕ → List Effect → List Asking
+asked_of session effects = map (λ effect. record { session = session; effect = effect }) effects
+
 abbrev pub asked_by : Option (Addressed ExactEdit) → List Asking
 asked_by None = []
-asked_by (Some addressed) =
-    map (λ effect. record { session = addressed.session; effect = effect }) (effects_of addressed.command)
+asked_by (Some addressed) = asked_of addressed.session (effects_of addressed.command)
 
 abbrev pub effect_of_text : Verdict → Effect
 effect_of_text (Spelled m) = Loads m
@@ -156,11 +158,9 @@ effect_of_text (Refused n fault) = Keeps
 abbrev pub asked_in_line : Addressing → Pending → Line (List ℕ) → List Asking
 asked_in_line addressing Between next = asked_by (addressed_in addressing next)
 asked_in_line addressing (Text session form body) next =
-    if ends_text next
-    then record { session = session; effect = effect_of_text (judge form start 1 (body ++ next ∷ [])) } ∷ []
-    else []
+    asked_of session (if ends_text next then effect_of_text (judge form start 1 (body ++ next ∷ [])) ∷ [] else [])
 asked_in_line addressing (Certificate session body) next =
-    if ends_certificate next then record { session = session; effect = Keeps } ∷ [] else []
+    asked_of session (if ends_certificate next then Keeps ∷ [] else [])
 
 abbrev pub asked_from : Addressing → Pending → List (Line (List ℕ)) → List Asking
 asked_from addressing pending [] = []
@@ -175,20 +175,20 @@ pub record Told : Type 0 where
   pub line : List ℕ
   pub behind : List (List ℕ)
 
--- It is one line. Behind it stand as many lines as it says, of the text of a model, of a certificate or of a wide solve; or
--- none.
+-- The line begins with the word of lines that stand behind it, those of the text of a model, of a certificate or of a wide
+-- solve, and goes on so.
+abbrev pub Announces : List ℕ → List ℕ → Type 0
+Announces line more = (line ≡ codes "TEXT" ++ more) ⊎ (line ≡ codes "CERT" ++ more) ⊎ (line ≡ codes "WIDE" ++ more)
+
+-- It is one line. Behind it stand exactly as many lines as it says; and none where it does not begin so.
 pub record IsFramed (x : Told) : Type 0 where
   pub one : HasNoFeed x.line
   pub each : All HasNoFeed x.behind
-  pub counted :
-      (x.behind ≡ [])
-      ⊎ (x.line ≡ codes "TEXT " ++ decimal (length x.behind))
-      ⊎ (x.line ≡ codes "CERT " ++ decimal (length x.behind))
-      ⊎ (x.line ≡ codes "WIDE " ++ decimal (length x.behind))
+  pub counted : Announces x.line (codes " " ++ decimal (length x.behind))
+      ⊎ ((x.behind ≡ []) × ((more : List ℕ) → ¬ (Announces x.line more)))
 
 abbrev pub told_out : Addressing → List Told → List ℕ
-told_out addressing told =
-    flat_map (λ x. front_of addressing x.asked.session ++ x.line ++ 10 ∷ ended_lines x.behind) told
+told_out addressing told = flat_map (λ x. front_of addressing x.asked.session ++ x.line ++ 10 ∷ ended_lines x.behind) told
 
 -- the model of a session after an ask, by the one before it and the line of the reply
 abbrev pub after_line : Option Model → Effect → List ℕ → Option Model
@@ -217,36 +217,40 @@ IsTrueReply before x =
     let IsTrue = IsTrueLine IsOf IsNumber in
     IsTrue x.line × BehindYes IsTrue x.line × BehindWide (IsTrueLine IsOf IsWideNumber) x
 
--- The output is that of replies to the first asks of the lines that were read, and each reply is true of the model that its
--- session has then.
-pub record AreTrueReplies (addressing : Addressing) (read output : List ℕ) : Type 0 where
+-- The output is that of replies to the first asks of the input's lines, and each reply is true of the model that its session
+-- has then.
+pub record AreTrueReplies (addressing : Addressing) (after : Option (List ℕ)) (read output : List ℕ) : Type 0 where
   pub told : List Told
-  pub later : List Asking
-  pub asked : asked_from addressing Between (lines_of read) ≡ map (λ x. x.asked) told ++ later
+  pub asked : HoldsOfAll after read
+      (λ bytes. AreFirstOf (map (λ x. x.asked) told) (asked_from addressing Between (lines_of bytes)))
   pub framed : All IsFramed told
   pub replies : output ≡ told_out addressing told
   pub are_true : (before behind : List Told) (x : Told) → told ≡ before ++ x ∷ behind → IsTrueReply before x
 
 -- ---- the whole
 
+-- the lines of the input spell this model: those of what was read, if no more comes, or whatever follows that
+abbrev pub IsModelOf : Style → Option (List ℕ) → List ℕ → Model → Type 0
+IsModelOf style after read m = HoldsOfAll after read (λ bytes. Spells style (lines_of bytes) m)
+
 -- Some bytes were read, and some were written, which are an output or the beginning of one; and the output is true by what
--- was read.
-pub record Tells (IsTrue : List ℕ → List ℕ → Type 0) (s : Streams) : Type 0 where
+-- was read, and by what was left.
+pub record Tells (IsTrue : Option (List ℕ) → List ℕ → List ℕ → Type 0) (s : Streams) : Type 0 where
   pub read : List ℕ
   pub written : List ℕ
   pub output : List ℕ
   pub consumed : Consumes s.left_before s.left_after read
   pub appended : Appends s.taken_before s.taken_after written
   pub front : IsPrefixOf written output
-  pub is_true : IsTrue read output
+  pub is_true : IsTrue s.left_after read output
 
 -- a server writes its answers to links
-abbrev pub IsTrueOf : ExactLine → List ℕ → List ℕ → Type 0
-IsTrueOf (Run workers places) read output = AreTrueReplies Numbered read output
-IsTrueOf (Read command style) read output = IsTrueOfText command (Spells style (lines_of read)) output
-IsTrueOf (Generate seed rows columns) read output =
-    OfSecond (IsTrueLine (λ m. m ≡ generated seed rows columns) IsNumber) output
-IsTrueOf (Serve workers each places) read output = Unit {0}
+abbrev pub IsTrueOf : ExactLine → Option (List ℕ) → List ℕ → List ℕ → Type 0
+IsTrueOf (Run workers places) after read output = AreTrueReplies Numbered after read output
+IsTrueOf (Read command style) after read output = IsTrueOfText command (IsModelOf style after read) output
+IsTrueOf (Generate seed rows columns) after read output =
+    OfFirstTwo (IsTrueLine (λ m. m ≡ generated seed rows columns) IsNumber) output
+IsTrueOf (Serve workers each places) after read output = Unit {0}
 
 -- for words that are no command line nothing is written
 abbrev pub IsTrueOutput : Option ExactLine → Streams → Type 0

@@ -9,6 +9,7 @@
 //! | `IsAccepted` | that `check` says yes to lines with written ones behind them | specs/AcceptedLines |
 //! | `SaysRange` | what a line `RANGE` says of a model | specs/SaidRange |
 //! | `SaysSides` | what the lines behind a line `IIS` say of a model | specs/SaidSides |
+//! | `too_wide_range`, `answered_as_before` | outputs that are false | specs/FalseOutputs |
 #![tactic(auto)]
 
 ghost use Rattle.std.specs.Prelude.{◌≡◌, ◌≢◌, ◌≤◌, ◌↔◌, ◌⊎◌, ℕ, Option, Some, None, Ok, Err};
@@ -35,8 +36,8 @@ ghost use Rattle.spec_check.specs.declared.certificate.Known.{Known};
 ghost use Rattle.spec_check.specs.declared.certificate.Known.TheVariants as known;
 ghost use Rattle.spec_check.specs.declared.certificate.Verdict.TheVariants as verdict;
 ghost use Rattle.spec_server.specs.declared.addressing.Addressing.{Addressing};
+ghost use Rattle.spec_server.specs.declared.addressing.Addressing.TheVariants as addressing;
 ghost use Rattle.spec_server.specs.declared.answer.Answer.{Answer};
-ghost use Rattle.spec_server.specs.declared.asks.Asked.{Asked as asked_of};
 ghost use Rattle.spec_server.specs.declared.asks.Refusal.TheVariants as refusal;
 ghost use Rattle.spec_server.specs.declared.asks.Reply.TheVariants as reply;
 ghost use Rattle.spec_commands.specs.declared.basis.BasisFault.TheVariants as basis_fault;
@@ -54,6 +55,8 @@ ghost use Rattle.spec_commands.specs.BasisWideOut.{BasisWideOut};
 ghost use Rattle.spec_commands.specs.InputSaid.{IsSaidEarly, IsSaid};
 ghost use Rattle.spec_program.specs.declared.command_line.CommandLine.TheVariants as lines;
 ghost use Rattle.spec_program.specs.declared.command_line.Moved.{Moved};
+ghost use Rattle.spec_program.specs.declared.command_line.Moved.TheVariants as moved;
+ghost use Rattle.spec_program.specs.declared.command_line.TextCommand.TheVariants as of_text;
 ghost use Rattle.spec_commands.specs.GenOut.{entry_count, size_text, GenOut};
 ghost use Rattle.spec_commands.specs.IisOut.{IisOut};
 ghost use Rattle.spec_presolve.specs.declared.presolved.Way.{Way};
@@ -67,7 +70,9 @@ ghost use Rattle.spec_text_truth.specs.SaidRange.{SaysRange};
 ghost use Rattle.spec_text_truth.specs.SaidSides.{SaysSides};
 ghost use Rattle.spec_text_truth.specs.SpelledBasis.{BeginsWithText, AreHanded, HaveWrongFile};
 ghost use Rattle.spec_truth.specs.TrueAnswer.{IsTrueOf};
-ghost use Rattle.spec_text_truth.specs.TrueOutput.{IsTrueOfText, AreTrueReplies, IsTrueOf as is_true_of};
+ghost use Rattle.spec_text_truth.specs.FalseOutputs.{unended_text, ended_text, too_wide_range};
+ghost use Rattle.spec_text_truth.specs.FalseOutputs.{asked_twice, answered_as_before};
+ghost use Rattle.spec_text_truth.specs.TrueOutput.{HasNoFeed, IsTrueOfText, IsModelOf, AreTrueReplies, IsTrueOf as is_true_of};
 ghost use Rattle.spec_mps.specs.declared.style.Style.TheVariants as form;
 ghost use Rattle.spec_mps.specs.Written.{free};
 ghost use Rattle.spec_check.specs.declared.certificate.Certificate.{Certificate};
@@ -76,7 +81,7 @@ ghost use Rattle.spec_certificate.specs.TextWritten.{certificate_lines};
 ghost use Rattle.spec_pivot.specs.declared.status.Status.{Status};
 ghost use Rattle.spec_server.specs.Streams.{Streams};
 ghost use Rattle.spec_server.specs.Output.{ended_lines};
-ghost use Rattle.spec_serve.specs.Link.{LinkMoves};
+ghost use Rattle.spec_serve.specs.Link.{AreFirstOf, HoldsOfAll, LinkMoves};
 
 /// What `solve` takes a text for is what the text spells, or the line and the fault that refuse it.
 pub fn solve_reads_what_texts_spell()
@@ -228,9 +233,9 @@ pub fn ranges_of_texts_are_true()
     ensures range { (style : Style) (lines : List (Line (List ℕ))) (m : Model) (moved : Moved) (name : Name)
         (what : TextSaid) (written : List ℕ) →
         text_said style lines ≡ Some what → RangeOut moved name what written → Spells style lines m →
-        (value low high slope : List ℕ) →
+        (value low high slope behind : List ℕ) →
         All (λ b. b ≢ 10) value → All (λ b. b ≢ 32) low → All (λ b. b ≢ 32) high → All (λ b. b ≢ 10) slope →
-        written ≡ codes "OPTIMAL " ++ value ++ 10 ∷ (codes "RANGE " ++ low ++ codes " " ++ high ++ codes " SLOPE " ++ slope ++ 10 ∷ []) →
+        written ≡ codes "OPTIMAL " ++ value ++ 10 ∷ (codes "RANGE " ++ low ++ codes " " ++ high ++ codes " SLOPE " ++ slope ++ 10 ∷ behind) →
         SaysRange moved name m value low high slope }
 {}
 
@@ -351,26 +356,42 @@ pub fn widely_certified_texts_are_true()
         IsWidelyCertified style lines IsUnbounded }
 {}
 
-/// What a command that reads a text may write of it is true of the model that the lines of the text spell.
+/// What a command that reads a text may write of it is true of the model that the lines of the input spell.
 pub fn outputs_of_texts_are_true()
     ensures { (command : ExactTextCommand) (style : Style) (after : Option (List ℕ)) (read written : List ℕ)
         (what : SaidBy command) → IsSaid (said_of command style) after read what → MayWrite command what written →
-        IsTrueOfText command (Spells style (lines_of read)) written }
+        IsTrueOfText command (IsModelOf style after read) written }
 {}
 
 /// What `gen` may write is true of the model that is made from the seed.
 pub fn outputs_of_seeds_are_true()
-    ensures { (seed rows columns : ℕ) (read written : List ℕ) → GenOut seed rows columns written →
-        is_true_of (lines.Generate seed rows columns) read written }
+    ensures { (seed rows columns : ℕ) (after : Option (List ℕ)) (read written : List ℕ) →
+        GenOut seed rows columns written → is_true_of (lines.Generate seed rows columns) after read written }
 {}
 
-/// In a run of sessions that are asked what lines ask first, what is written of the replies is true of the models that
-/// the sessions have then.
+/// In a run of sessions that are asked what the lines of the input ask first, what is written of the replies is true of the
+/// models that the sessions have then.
 pub fn outputs_of_sessions_are_true()
-    ensures { (places : ℕ) (addressing : Addressing) (read : List ℕ) (exchanges : List Exchange)
-        (later : List (asked_of ExactAsk)) → RunAlone places exchanges →
-        asks_from addressing Between (lines_of read) ≡ map asked_in exchanges ++ later →
-        AreTrueReplies addressing read (flat_map (λ x. reply_lines addressing x.session x.reply) exchanges) }
+    ensures { (places : ℕ) (addressing : Addressing) (after : Option (List ℕ)) (read : List ℕ)
+        (exchanges : List Exchange) → RunAlone places exchanges →
+        HoldsOfAll after read
+        (λ bytes. AreFirstOf (map asked_in exchanges) (asks_from addressing Between (lines_of bytes))) →
+        AreTrueReplies addressing after read (flat_map (λ x. reply_lines addressing x.session x.reply) exchanges) }
+{}
+
+/// Outputs that are false are refuted, however they go on: a range in which the value of the optimum is not the stated one;
+/// an answer to a text up to its last line feed but one byte, where another byte is left; and over a link an answer that was
+/// true before an edit, behind a certificate of which each line would be a reply, were it not counted.
+pub fn false_outputs_are_refuted()
+    ensures range { (after : Option (List ℕ)) (behind : List ℕ) →
+        ¬ (is_true_of (lines.Read (of_text.Range moved.RightSide (codes "ROW")) form.Free) after ended_text
+        (too_wide_range ++ behind)) }
+    ensures unended { (left behind : List ℕ) →
+        ¬ (is_true_of (lines.Read of_text.Solve form.Free) (Some (88 ∷ left)) unended_text
+        (codes "OPTIMAL 5" ++ 10 ∷ behind)) }
+    ensures before { (after : Option (List ℕ)) (certificate : List (List ℕ)) (behind : List ℕ) →
+        All HasNoFeed certificate → length certificate ≡ 4 →
+        ¬ (AreTrueReplies addressing.Alone after asked_twice (answered_as_before certificate ++ behind)) }
 {}
 
 /// Whatever a link asked before, the last answer of its session stands up, as `last_answers_stand_up` of `spec_commands`

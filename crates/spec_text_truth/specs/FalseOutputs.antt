@@ -1,0 +1,28 @@
+-- Outputs that are false, and the inputs of which they are so.
+use Rattle.std.specs.Prelude.{ℕ, List, [], ◌∷◌, ◌++◌, codes}
+use Rattle.spec_server.specs.Output.{ended_lines}
+
+-- the text of a model without columns, in which 0 is at most 1 and the value is 5; without the last line feed, and with it
+abbrev pub unended_text : List ℕ
+unended_text =
+    ended_lines (codes "ROWS" ∷ codes " N COST" ∷ codes " L ROW" ∷ codes "COLUMNS" ∷ codes "RHS" ∷ codes " RHS COST -5 ROW 1" ∷ [])
+    ++ codes "ENDATA"
+
+abbrev pub ended_text : List ℕ
+ended_text = unended_text ++ 10 ∷ []
+
+-- the range of the right side of that row, as if 0 were at most each number
+abbrev pub too_wide_range : List ℕ
+too_wide_range = ended_lines (codes "OPTIMAL 5" ∷ codes "RANGE NONE NONE SLOPE 0" ∷ [])
+
+-- what a link asks: to load the model and solve it, for the certificate, to make the value 6, and to solve again
+abbrev pub asked_twice : List ℕ
+asked_twice =
+    ended_lines (codes "LOAD FREE" ∷ []) ++ ended_text
+    ++ ended_lines (codes "SOLVE" ∷ codes "CERT" ∷ codes "SETRHS COST -6" ∷ codes "SOLVE" ∷ codes "HOW" ∷ codes "HOW" ∷ codes "HOW" ∷ codes "HOW" ∷ [])
+
+-- the answer from before as the last one: were the lines of the certificate those of replies, it would be none to a solve
+abbrev pub answered_as_before : List (List ℕ) → List ℕ
+answered_as_before certificate =
+    ended_lines (codes "LOADED 1 0" ∷ codes "OPTIMAL 5" ∷ codes "CERT 4" ∷ []) ++ ended_lines certificate
+    ++ ended_lines (codes "OK" ∷ codes "OPTIMAL 5" ∷ [])
