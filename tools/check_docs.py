@@ -7,7 +7,8 @@ Each path in backquotes in the pages at the top and in docs/ and its folders has
 backquotes in docs/READING.md and docs/PROOFS.md has to be a crate or stand in the sources of one. Each crate stands in one
 layer of the drawing in docs/ARCHITECTURE.md, and names in crates.txt only crates of its layer and of those below. Each has one
 row in the tables there, which says that it stands on crates that crates.txt names for it, and of these leaves out only such
-that one of the others stands on. It prints what is missing; the status is 1 where something is.
+that one of the others stands on. The table of the promises in docs/PROOFS.md has a row for each sentence of each promise of
+README.md, and each clause that a row names is there. It prints what is missing; the status is 1 where something is.
 """
 import re
 import sys
@@ -19,6 +20,10 @@ from helping import helps
 TOP = Path(__file__).resolve().parent.parent
 PATH = re.compile(r"(?:crates|docs|examples|tools|bench|web|coq)/[\w./-]*")
 NAME = re.compile(r"[A-Za-z]\w*(?:[:-]+\w+)*")
+# A clause of a function, or a part of a record, as the table of the promises names it.
+CLAUSE = re.compile(r"\w+\.\w+")
+# Where one sentence of a promise ends and the next begins.
+BETWEEN = re.compile(r"(?<=\.) (?=[A-Z`])")
 # What a build makes.
 MADE = {"crates/lpd/out/lpd"}
 
@@ -51,6 +56,53 @@ def missing_in(document, names):
         elif names and NAME.fullmatch(quoted):
             if not all(part in names for part in quoted.split("::")):
                 yield quoted
+
+
+def clauses_of_functions(source):
+    """The named clauses of the functions of a file of code."""
+    function = ""
+    for line in source.splitlines():
+        function = (re.findall(r"\bfn (\w+)", line) or [function])[0]
+        yield from (f"{function}.{name}" for name in re.findall(r"^ +ensures (\w+) \{", line))
+
+
+def parts_of_records(source):
+    """The parts of the records of a file of definitions."""
+    record = ""
+    for line in source.splitlines():
+        if line and not line.startswith(" "):
+            record = (re.findall(r"^(?:pub )?record (\w+)", line) or [""])[0]
+        elif record:
+            yield from (f"{record}.{name}" for name in re.findall(r"^  (?:pub )?(\w+) :", line))
+
+
+def clauses():
+    found = set()
+    for crate in (TOP / "crates").iterdir():
+        for path in (crate / "src").rglob("*.rt"):
+            found |= {*clauses_of_functions(path.read_text(encoding="utf-8"))}
+        for path in (crate / "specs").rglob("*.antt"):
+            found |= {*parts_of_records(path.read_text(encoding="utf-8"))}
+    return found
+
+
+def section(document, title):
+    text = (TOP / document).read_text(encoding="utf-8")
+    return text.partition(f"## {title}\n")[2].partition("\n## ")[0]
+
+
+def unpromised():
+    """Why the table of the promises is not that of README.md."""
+    table = section("docs/PROOFS.md", "The promises of README")
+    rows = re.findall(r"^\| (\d+\.\d+) \|", table, re.M)
+    promises = re.findall(r"^(\d+)\. (.*)$", section("README.md", "What is promised"), re.M)
+    said = [f"{number}.{k + 1}" for number, text in promises for k in range(len(BETWEEN.split(text)))]
+    for row in sorted({*rows} ^ {*said}):
+        yield f"README.md has no sentence {row}" if row in rows else f"no row for the sentence {row} of README.md"
+    there = clauses()
+    for name in re.findall(r"`([^`\n]+)`", table):
+        if CLAUSE.fullmatch(name) and name not in there and name != "a.b":
+            yield f"there is no clause {name}"
 
 
 def section_of_crates():
@@ -117,7 +169,10 @@ def main():
     wrong = [*misplaced(), *misstated()]
     for what in wrong:
         print(f"docs/ARCHITECTURE.md: {what}")
-    return 1 if missing or wrong else 0
+    promises = [*unpromised()]
+    for what in promises:
+        print(f"docs/PROOFS.md: {what}")
+    return 1 if missing or wrong or promises else 0
 
 
 if __name__ == "__main__":
