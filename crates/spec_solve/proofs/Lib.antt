@@ -8,5 +8,4 @@ pub mod Solves
 pub mod Stated
 pub mod TrueAnswers
 pub mod Left
-pub mod WideAnswers
-pub mod AtBasis
+pub mod ExactAnswers

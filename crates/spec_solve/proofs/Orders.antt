@@ -80,7 +80,7 @@ not_formless : (limit : Option ℕ) (m : Model) (f : Form) (why : FormFault ℚ)
 not_formless limit m f why h k = let z : ◌≡◌ {A = Result Form (FormFault ℚ)} (Ok f) (Err why) = sym h ∙ k in cc
 
 -- what the checker says at a limit it says without one
-check_without : (limit : Option ℕ) (m : Model) (c : Certificate (List ℚ)) (known : Known ℚ) →
+pub check_without : (limit : Option ℕ) (m : Model) (c : Certificate (List ℚ)) (known : Known ℚ) →
     check_run limit m c ≡ Ok known → check_run None m c ≡ Ok known
 unfolding Agrees
 check_without limit m c known h =

@@ -9,10 +9,9 @@
 //! | `MayAnswer` | what a solve may end with, at the limit of the program and within a budget | specs/Answers |
 //! | `HowFits`, `ColdFits`, `WarmFits` | how the end was found | specs/Answers |
 //! | `IsSolved` | all that holds of what a solve ends with, of which a basis may be handed | specs/Answers |
-//! | `WideSolved`, `IsWideSolved` | what a solve ends with whose certificate may have numbers of any width | src/wide_solved, specs/Wide |
-//! | `WideBased`, `WideAnswer`, `IsWideFrom` | the same of one to which a basis may be handed | src/wide_solved, specs/Wide |
-//! | `IsOfSomeBasis` | the answer of any basis of the model's form, to whose certificate the checker says yes | specs/Wide |
-//! | `IsWithoutOptimum` | a certificate that there is no optimum, to which the checker says yes | specs/Wide |
+//! | `ExactEnd`, `IsExactEnd` | what an exact solve ends with, whose numbers may have any width | src/exact, specs/Exact |
+//! | `ExactAnswer`, `IsExactAnswer` | its answer, with a certificate that any reader can check | src/exact, specs/Exact |
+//! | `MayGiveUp` | that a solve at 127 bits may end without an answer | specs/Exact |
 //! | `IsOfBasis`, `StandsAt` | the certificate of a basis | specs/OfBasis |
 //! | `enough_pivots` | so many pivots and flips as are enough | specs/Answers |
 //!
@@ -22,14 +21,14 @@
 //! The solve over whole tableaus alone is that of `spec_runs`, the run over factors that of `spec_factor`.
 #![tactic(auto)]
 
-mod wide_solved;
+mod exact;
 
 ghost use Rattle.std.specs.Prelude.{◌≡◌, ◌⊎◌, ℕ, List, Option, Some, None, Ok, Err, IfSome};
 ghost use Rattle.spec_exact.specs.Fraction.{ℚ};
 ghost use Rattle.spec_exact.specs.declared.past.Past.{Past};
 ghost use Rattle.spec_exact.specs.Narrow.{number_limit};
 ghost use Rattle.spec_model.specs.Model.{Model, value_of};
-ghost use Rattle.spec_model.specs.Truth.{IsOptimal, IsInfeasible, IsUnbounded};
+ghost use Rattle.spec_model.specs.Truth.{IsOptimal};
 ghost use Rattle.spec_model.specs.Kept.{IsModel};
 ghost use Rattle.spec_check.specs.declared.certificate.Certificate.{Certificate};
 ghost use Rattle.spec_check.specs.declared.certificate.Certificate.TheVariants as certificate;
@@ -50,12 +49,10 @@ ghost use Rattle.spec_factor.specs.Over.{over_factors};
 ghost use Rattle.spec_solve.specs.Order.{GivesUp, MayEndCold, MayEnd, cold_over};
 ghost use Rattle.spec_solve.specs.Answers.{MayAnswer, IsSolved};
 ghost use Rattle.spec_solve.specs.OfBasis.{StandsAt};
-ghost use Rattle.spec_solve.specs.declared.wide_solved.WideBased.TheVariants as based;
-ghost use Rattle.spec_solve.specs.declared.wide_solved.WideSolved.TheVariants as wide;
-ghost use Rattle.spec_solve.specs.Wide.{ExactAnswer, IsAtBasis, IsAtHanded, IsOfSomeBasis, IsWithoutOptimum, IsWideSolved};
-ghost use Rattle.spec_solve.specs.Wide.{IsWideFrom};
+ghost use Rattle.spec_solve.specs.declared.exact.ExactEnd.TheVariants as exact;
+ghost use Rattle.spec_solve.specs.Exact.{RationalAnswer, RationalEnd, IsShown, IsExactEnd};
 
-pub use wide_solved::{WideAnswer, WideBased, WideSolved};
+pub use exact::{ExactAnswer, ExactEnd, Origin};
 
 /// The cold part of a solve ends as the cold solve without a limit, or with an operation that is refused.
 pub fn cold_parts_end_as_without_a_limit()
@@ -153,83 +150,39 @@ pub fn solves_leave_bases_of_the_form()
         solved.end ≡ outcome.Ended known cert (Some left) pivots → IsBasisOf f left }
 {}
 
-/// What is answered with numbers of any width is true, and without a limit the checker accepts its certificate, which
-/// is one for the model.
-pub fn wide_answers_are_true()
-    ensures { (m : Model) (budget : ℕ) (known : Known ℚ) (cert : Certificate (List ℚ)) →
-        IsWideSolved m budget (wide.Wide known cert) →
-        Holds m known × IsFor m cert × (check_run None m cert ≡ Ok known) }
+/// What an exact solve answers is true.
+pub fn exact_answers_are_true()
+    ensures { (m : Model) (budget : ℕ) (starting : Option (List Status)) (a : RationalAnswer) →
+        IsExactEnd m budget starting (exact.Answered a) → Holds m a.known }
 {}
 
-/// A wide solve that ends as a solve ends as one, and it ends otherwise only where a solve may be refused an operation.
-pub fn wide_solves_only_add_answers()
-    ensures narrow { (m : Model) (budget : ℕ) (solved : SolveEnd) →
-        IsWideSolved m budget (wide.Narrow solved) → IsSolved m budget None solved }
-    ensures wide { (m : Model) (budget : ℕ) (known : Known ℚ) (cert : Certificate (List ℚ)) →
-        IsWideSolved m budget (wide.Wide known cert) →
-        (solved : SolveEnd) × (p : Past ℚ) × IsSolved m budget None solved × (solved.end ≡ outcome.Past p) }
+/// What is known of a model by two exact solves is the same, whatever their budgets and the bases that they start from.
+pub fn exact_answers_agree()
+    ensures { (m : Model) (budget other : ℕ) (starting given : Option (List Status)) (a b : RationalAnswer) →
+        IsExactEnd m budget starting (exact.Answered a) → IsExactEnd m other given (exact.Answered b) →
+        a.known ≡ b.known }
 {}
 
-/// What is answered with numbers of any width by a solve to which a basis may be handed is true, and without a limit the
-/// checker accepts its certificate, which is one for the model.
-pub fn wide_answers_from_bases_are_true()
-    ensures { (m : Model) (budget : ℕ) (handed : Option (List Status)) (a : ExactAnswer) →
-        IsWideFrom m budget handed (based.Wide a) →
-        Holds m a.known × IsFor m a.certificate × (check_run None m a.certificate ≡ Ok a.known) }
-{}
-
-/// A wide solve with this handed to it that ends as a solve ends as one with this handed to it. It ends otherwise only with
-/// the answer of the basis that is handed, where the start from it is refused an operation, or where such a solve may be
-/// refused one. Where nothing is handed, it ends as a wide solve.
-pub fn wide_solves_from_bases_only_add_answers()
-    ensures narrow { (m : Model) (budget : ℕ) (handed : Option (List Status)) (solved : SolveEnd) →
-        IsWideFrom m budget handed (based.Narrow solved) → IsSolved m budget handed solved }
-    ensures wide { (m : Model) (budget : ℕ) (handed : Option (List Status)) (a : ExactAnswer) →
-        IsWideFrom m budget handed (based.Wide a) → IsAtHanded m budget handed a
-        ⊎ ((solved : SolveEnd) × (p : Past ℚ) × IsSolved m budget handed solved × (solved.end ≡ outcome.Past p)) }
-    ensures nothing { (m : Model) (budget : ℕ) (a : ExactAnswer) → IsWideFrom m budget None (based.Wide a) →
-        IsWideSolved m budget (wide.Wide a.known a.certificate) × (a.route ≡ route.Cold) }
-{}
-
-/// The basis that such an answer leaves is one of the model's form, if the basis that was handed to the solve is.
-pub fn wide_solves_leave_bases_of_the_form()
-    ensures { (m : Model) (budget : ℕ) (f : Form) (handed : Option (List Status)) (a : ExactAnswer) →
-        form_of (Some number_limit) m ≡ Ok f → IfSome handed (IsBasisOf f) →
-        IsWideFrom m budget handed (based.Wide a) → IfSome a.basis (IsBasisOf f) }
-{}
-
-/// What is known of a model does not depend on the basis that is handed, nor on the budget.
-pub fn wide_answers_agree()
-    ensures { (m : Model) (budget other : ℕ) (handed given : Option (List Status)) (a b : ExactAnswer) →
-        IsWideFrom m budget handed (based.Wide a) → IsWideFrom m other given (based.Wide b) → a.known ≡ b.known }
-{}
-
-/// What is known of a model by two wide solves with nothing handed is the same, within each budget, and whether it is known
-/// as the end of the cold solve without a limit, as the answer of a basis, or by a certificate that there is no optimum.
-pub fn wide_solves_agree()
-    ensures { (m : Model) (budget other : ℕ) (known given : Known ℚ) (c d : Certificate (List ℚ)) →
-        IsWideSolved m budget (wide.Wide known c) → IsWideSolved m other (wide.Wide given d) → known ≡ given }
-{}
-
-/// The answer of some basis of the model's form is an optimum at the point of its certificate, which stands at the basis.
-pub fn answers_of_some_basis_are_optimal()
-    ensures { (m : Model) (answer : Known ℚ) (cert : Certificate (List ℚ)) → IsOfSomeBasis m answer cert →
-        (f : Form) × (basis : List Status) × (form_of (Some number_limit) m ≡ Ok f) × IsBasisOf f basis
-        × (x : List ℚ) × (y : List ℚ) × (cert ≡ certificate.Optimal x y) × StandsAt m basis x y
-        × (answer ≡ known.Optimal (value_of m x)) × IsOptimal m (value_of m x) }
-{}
-
-/// What is known by a certificate that there is no optimum is that the model has no feasible point, or that its cost has no
-/// limit, and this is so.
-pub fn answers_without_an_optimum_are_true()
-    ensures { (m : Model) (answer : Known ℚ) (cert : Certificate (List ℚ)) → IsWithoutOptimum m answer cert →
-        ((answer ≡ known.Infeasible) × IsInfeasible m) ⊎ ((answer ≡ known.Unbounded) × IsUnbounded m) }
-{}
-
-/// The answer of a basis that is handed is an optimum at the point of its certificate, which stands at the basis.
-pub fn answers_of_bases_are_optimal()
-    ensures { (m : Model) (budget : ℕ) (basis : List Status) (a : ExactAnswer) →
-        IsWideFrom m budget (Some basis) (based.Wide a) → IsAtBasis m budget basis a →
+/// An answer with a basis is an optimum at the point of its certificate, which stands at the basis.
+pub fn exact_answers_of_bases_are_optimal()
+    ensures { (m : Model) (budget : ℕ) (starting : Option (List Status)) (a : RationalAnswer) (basis : List Status) →
+        IsExactEnd m budget starting (exact.Answered a) → a.basis ≡ Some basis →
         (x : List ℚ) × (y : List ℚ) × (a.certificate ≡ certificate.Optimal x y) × StandsAt m basis x y
         × (a.known ≡ known.Optimal (value_of m x)) × IsOptimal m (value_of m x) }
+{}
+
+/// Where the cold solve at the limit knows something of the model, an exact solve answers the same, whatever basis it
+/// starts from.
+pub fn what_the_cold_solve_finds_is_answered_exactly()
+    ensures { (m : Model) (budget : ℕ) (starting : Option (List Status)) (known : Known ℚ)
+        (cert : Certificate (List ℚ)) (basis : Option (List Status)) (pivots : ℕ) (end : RationalEnd) →
+        cold (Some number_limit) budget m ≡ outcome.Ended known cert basis pivots → IsExactEnd m budget starting end →
+        (a : RationalAnswer) × (end ≡ exact.Answered a) × (a.known ≡ known) }
+{}
+
+/// What a solve at 127 bits may answer, an exact solve may answer with the same certificate.
+pub fn narrow_answers_are_exact()
+    ensures { (m : Model) (budget : ℕ) (known : Known ℚ) (cert : Certificate (List ℚ)) (basis : Option (List Status))
+        (pivots : ℕ) →
+        MayAnswer m budget (outcome.Ended known cert basis pivots) → IsShown m known cert }
 {}
