@@ -21,8 +21,8 @@ use Rattle.spec_simplex.specs.Form.{Form, form_of}
 use Rattle.spec_runs.specs.Cold.{ExactSolveEnd}
 use Rattle.spec_runs.specs.declared.ends.Route.TheVariants as route
 use Rattle.spec_solve.specs.Order.{cold_by, cold_over}
-use Rattle.spec_solve.specs.declared.wide_solved.WideSolved.TheVariants.{Narrow}
-use Rattle.spec_solve.specs.Wide.{WideEnd}
+use Rattle.spec_solve.specs.Exact.{RationalEnd}
+use Rattle.spec_solve.proofs.ExactAnswers.{exact_of, solved_exactly}
 use Rattle.spec_solve.proofs.Stated.{part_is_solved, stated_is_solved}
 use Rattle.spec_board.specs.declared.read.Put.TheVariants.{Full}
 use Rattle.spec_board.specs.declared.read.Read.TheVariants.{Count}
@@ -45,9 +45,9 @@ use Rattle.spec_server.specs.Step.{Concludes, GoesOn, AloneStep}
 abbrev part_end : ℕ → Model → Result Form (FormFault ℚ) → ExactSolveEnd
 part_end budget m o = cold_by (Some number_limit) budget m o
 
--- a wide solve may end as the two stated runs do
-abbrev wide_end : ℕ → Model → WideEnd
-wide_end budget m = Narrow (record { end = cold_over (Some number_limit) budget m; route = route.Cold })
+-- an exact solve may end as the two stated runs do
+abbrev exact_end : ℕ → Model → RationalEnd
+exact_end budget m = exact_of (cold_over (Some number_limit) budget m)
 
 -- ---- with no place claimed for the look, and all of them for the put
 
@@ -72,7 +72,7 @@ solve_ends places end (Err why) = publication.Nothing
 abbrev due_begun : State → Due → Begun
 due_begun state (Replies replied next) = Answers replied next
 due_begun state (Solves m) = solve_begun state m (form_of (Some number_limit) m)
-due_begun state (SolvesWide m) = Answers (reply.Wide (wide_lines m state.budget (wide_end state.budget m))) state
+due_begun state (SolvesWide m) = Answers (reply.Wide (wide_lines m (exact_end state.budget m))) state
 
 abbrev due_reads : ℕ → State → Due → List ExactRead
 due_reads places state (Replies replied next) = []
@@ -82,7 +82,7 @@ due_reads places state (Solves m) =
 
 abbrev due_reply : State → Due → ExactReply
 due_reply state (Replies replied next) = replied
-due_reply state (SolvesWide m) = reply.Wide (wide_lines m state.budget (wide_end state.budget m))
+due_reply state (SolvesWide m) = reply.Wide (wide_lines m (exact_end state.budget m))
 due_reply state (Solves m) = answered state (part_end state.budget m (form_of (Some number_limit) m))
 
 abbrev pub due_next : ℕ → State → Due → State
@@ -144,8 +144,10 @@ module _ (places : ℕ) (state : State) where
   begins (Replies replied next) h = refl
   begins (Solves m) h = refl
   begins (SolvesWide m) h = record {
-    end = wide_end state.budget m;
-    is_solved = stated_is_solved m state.budget h;
+    end = exact_end state.budget m;
+    is_end = solved_exactly m state.budget None
+        (record { end = cold_over (Some number_limit) state.budget m; route = route.Cold })
+        (stated_is_solved m state.budget h);
     answers = refl;
   }
 

@@ -9,7 +9,7 @@ use Rattle.spec_simplex.specs.declared.ends.FormFault.{FormFault}
 use Rattle.spec_simplex.specs.Form.{Form, form_of}
 use Rattle.spec_runs.specs.Cold.{ExactSolveEnd, cold}
 use Rattle.spec_solve.specs.Answers.{MayAnswer}
-use Rattle.spec_solve.specs.Wide.{WideEnd, IsWideSolved}
+use Rattle.spec_solve.specs.Exact.{RationalEnd, IsExactEnd}
 use Rattle.spec_solve.proofs.Solves.{formless_solved}
 use Rattle.spec_board.specs.Reads.{Words, ExactRead, Looked}
 use Rattle.spec_server.specs.declared.answer.How.{How}
@@ -36,12 +36,12 @@ pub record SolveStep (old : State) (m : Model) (replied : ExactReply) (new : Sta
   pub answer : replied ≡ answered old end
   pub kept : new ≡ with_answer old end how publication
 
--- a wide solve replies its lines, and the state stays
+-- an exact solve replies its lines, and the state stays
 pub record WideStep (old : State) (m : Model) (replied : ExactReply) (new : State) : Type 0 where
-  pub end : WideEnd
+  pub end : RationalEnd
   pub held : old.model ≡ Some m
-  pub is_solved : IsWideSolved m old.budget end
-  pub answer : replied ≡ reply.Wide (wide_lines m old.budget end)
+  pub is_end : IsExactEnd m old.budget None end
+  pub answer : replied ≡ reply.Wide (wide_lines m end)
   pub stays : new ≡ old
 
 -- what is due is done
@@ -55,7 +55,7 @@ pub record WantsMemory (old : State) (replied : ExactReply) (new : State) : Type
   pub memory : replied ≡ reply.Memory
   pub stays : new ≡ old
 
--- ---- only the command SOLVE has a solve for its due, and WIDE a wide one, and of the model that is held
+-- ---- only the command SOLVE has a solve for its due, and WIDE an exact one, and of the model that is held
 
 module _ (old : State) (m : Model) where
   solve_held : (held : Option Model) → solve_due old held ≡ Solves m → held ≡ Some m
@@ -196,7 +196,7 @@ module _ (places : ℕ) (old : State) (reads : List ExactRead) (replied : ExactR
       inl (record {
         end = is.end;
         held = (wide_due_held old m asked e).1;
-        is_solved = is.is_solved;
+        is_end = is.is_end;
         answer = w.1;
         stays = w.2;
       })

@@ -154,7 +154,7 @@ check_line replied = reply_text replied ++ 10 ∷ []
 unfoldable pub ended_lines : List (List ℕ) → List ℕ
 ended_lines lines = flat_map (λ line. line ++ 10 ∷ []) lines
 
--- the lines of the text of a model, of a certificate, and of a wide solve, follow the reply
+-- the lines of the text of a model, of a certificate, and of an exact solve, follow the reply
 abbrev pub lines_behind : ExactReply → List ℕ
 lines_behind (reply.Loaded rows columns) = []
 lines_behind (reply.Written text) = text

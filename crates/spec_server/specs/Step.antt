@@ -17,7 +17,7 @@ use Rattle.spec_runs.specs.declared.ends.Route.{Route}
 use Rattle.spec_runs.specs.declared.ends.Route.TheVariants as route
 use Rattle.spec_runs.specs.Solve.{SolveEnd}
 use Rattle.spec_solve.specs.Answers.{IsSolved}
-use Rattle.spec_solve.specs.Wide.{WideEnd, IsWideSolved}
+use Rattle.spec_solve.specs.Exact.{RationalEnd, IsExactEnd}
 use Rattle.spec_board.specs.Words.{shape_of, packed, unpacked}
 use Rattle.spec_board.specs.declared.read.Put.{Put}
 use Rattle.spec_board.specs.Reads.{Words, ExactRead, Looked, LookReads, PutReads}
@@ -53,11 +53,11 @@ solve_begun old m (Err fault) =
     let end : ExactSolveEnd = cold (Some number_limit) old.budget m in
     Answers (answered old end) (with_answer old end how.Cold publication.Nothing)
 
--- the lines of a wide solve of the model, and nothing is kept of it
+-- the lines of an exact solve of the model, and nothing is kept of it
 pub record AnswersWide (old : State) (m : Model) (begun : Begun) : Type 0 where
-  pub end : WideEnd
-  pub is_solved : IsWideSolved m old.budget end
-  pub answers : begun ≡ Answers (reply.Wide (wide_lines m old.budget end)) old
+  pub end : RationalEnd
+  pub is_end : IsExactEnd m old.budget None end
+  pub answers : begun ≡ Answers (reply.Wide (wide_lines m end)) old
 
 abbrev pub BegunBy : State → Due → Begun → Type 0
 BegunBy old (Replies replied next) begun = begun ≡ Answers replied next

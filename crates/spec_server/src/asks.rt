@@ -50,7 +50,7 @@ pub enum Reply<N, F: Debug, T, L> {
         publication: Publication,
     },
     Checked(Verdict<F>),
-    /// The lines of a wide solve: its answer, and then those of its certificate.
+    /// The lines of an exact solve: its answer, and then those of its certificate; or that nothing is known.
     Wide(L),
     /// The session is reset.
     Bye,

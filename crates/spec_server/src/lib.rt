@@ -23,7 +23,9 @@
 //! | `IsWorkers`, `IsPlaces` | how many workers serve sessions, and how many places these share | specs/Shared |
 //! | `Streams` | what a source has left and a sink has taken, before a call and after it | specs/Streams |
 //! | `said_by`, `text_said` | what a step from line to line says of lines, and what the reader of texts says | specs/Said, specs/TextSaid |
-//! | `script_out` | what is written of the replies | specs/Output |
+//! | `reply_text`, `reply_lines` | what is written of a reply | specs/Output |
+//! | `wide_lines` | the lines that an exact solve is answered with | specs/WideLines |
+//! | `script_out` | what is written of the replies of a script | specs/ScriptOut |
 #![tactic(auto)]
 
 ghost use Rattle.std.specs.Prelude.{◌≡◌, ◌⊎◌, ℕ, List, [], map, Option, Some, IfSome};

@@ -18,7 +18,6 @@ use Rattle.spec_server.specs.Machine.{ExactAsk, ExactReply, ExactLastAnswer, Sta
 use Rattle.spec_server.specs.Machine.{answer_of, cert_reply, how_reply, solve_due, wide_due, edit_due, change_due, due}
 use Rattle.spec_server.specs.Step.{AloneStep}
 use Rattle.spec_server.specs.Exchanges.{Exchange, AloneRun}
-use Rattle.spec_solve.specs.Wide.{IsWideSolved}
 use Rattle.spec_server.specs.WideLines.{wide_lines}
 use Rattle.spec_server.proofs.Simply.{SolveStep, WideStep, Does, WantsMemory, step_simply}
 use Rattle.spec_truth.specs.Agree.{IsWon, MayDiffer, IsSameBut, RepliesAgree, HasMemory}
@@ -117,12 +116,9 @@ module _ (a b : State) (alike : IsAlike a b) (replied replied' : ExactReply) (ne
   wides_agree : (m : Model) → WideStep a m replied new → WideStep b m replied' new' →
       StepsAgree (ask.Plain command.Wide) replied replied' new new'
   wides_agree m s s' =
-      let second : replied' ≡ reply.Wide (wide_lines m a.budget s'.end) =
-      s'.answer ∙ ap (λ n. reply.Wide (wide_lines m n s'.end)) (sym alike.budgets) in
-      let won = ends_agree m a.budget s.end s'.end s.is_solved
-      (subst (λ n. IsWideSolved m n s'.end) (sym alike.budgets) s'.is_solved) in
-      stays (ask.Plain command.Wide) (reply.Wide (wide_lines m a.budget s.end)) (reply.Wide (wide_lines m a.budget s'.end))
-      (inr won) (s.answer, s.stays) (second, s'.stays)
+      let won = ends_agree m a.budget b.budget s.end s'.end s.is_end s'.is_end in
+      stays (ask.Plain command.Wide) (reply.Wide (wide_lines m s.end)) (reply.Wide (wide_lines m s'.end))
+      (inr won) (s.answer, s.stays) (s'.answer, s'.stays)
 
   wide_agrees : (held : Option Model) → Does a (wide_due a held) replied new →
       Does b (wide_due b held) replied' new' →

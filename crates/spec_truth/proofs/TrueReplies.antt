@@ -193,9 +193,9 @@ yes_is_shown places old new asked reads what s =
     let d = step_done places old new asked reads (reply.Checked (verdict.Yes what)) 1 s refl in
     yes_by old new asked what (done_sort old new (due old asked) (reply.Checked (verdict.Yes what)) d) d
 
--- ---- a wide solve
+-- ---- an exact solve
 
--- the lines begin with what is true of the model that is held, or with why the solve gave up
+-- the lines begin with what is true of the model that is held, or with the one that says that nothing is known
 pub record IsWideOfHeld (held : Option Model) (lines : List (List ℕ)) : Type 0 where
   pub model : Model
   pub is_held : held ≡ Some model
@@ -212,8 +212,8 @@ wide_shown old new (Some m) lines d =
     record {
       model = m;
       is_held = refl;
-      begins = subst (BeginsTrue m) (sym (lines_same lines (wide_lines m old.budget d.end) d.answer))
-          (lines_true m old.budget d.end d.is_solved);
+      begins = subst (BeginsTrue m) (sym (lines_same lines (wide_lines m d.end) d.answer))
+          (lines_true m old.budget d.end d.is_end);
     }
 
 -- nothing but the command WIDE is answered so

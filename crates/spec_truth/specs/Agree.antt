@@ -1,7 +1,6 @@
 -- Replies that two runs of one session may give to the same asks.
 use Rattle.std.specs.Prelude.{ℕ, ◌≡◌, ◌⊎◌, List, [], ◌∷◌, codes}
 use Rattle.std.specs.List.{AllByRecursion}
-use Rattle.spec_text.specs.Lines.{IsPrefixOf}
 use Rattle.spec_exact.specs.Fraction.{ℚ}
 use Rattle.spec_server.specs.declared.answer.Answer.{Answer}
 use Rattle.spec_server.specs.declared.answer.Answer.TheVariants.{Known, Past, Spent}
@@ -19,13 +18,13 @@ IsWon (Past p) (Known b) = Unit {0}
 IsWon (Spent n) (Known b) = Unit {0}
 IsWon a b = ⊥
 
--- a line that says that a solve gave up
-abbrev pub GivesUp : List ℕ → Type 0
-GivesUp line = IsPrefixOf (codes "PAST ") line ⊎ IsPrefixOf (codes "SPENT ") line
+-- the line of an exact solve that knows nothing
+abbrev pub IsOpen : List ℕ → Type 0
+IsOpen line = line ≡ codes "OPEN"
 
--- the line of the answer is the same, or one of both says that the solve gave up
+-- the line of the answer is the same, or one of both exact solves knows nothing
 abbrev pub IsWonLine : List (List ℕ) → List (List ℕ) → Type 0
-IsWonLine (line ∷ more) (line' ∷ more') = (line ≡ line') ⊎ (GivesUp line ⊎ GivesUp line')
+IsWonLine (line ∷ more) (line' ∷ more') = (line ≡ line') ⊎ (IsOpen line ⊎ IsOpen line')
 IsWonLine lines lines' = ⊥
 
 -- how an answer was found, the lines of its certificate, and an answer that was won

@@ -9,6 +9,7 @@
 //! | `IsTrueOf` | that what an answer says of a model is so | specs/TrueAnswer |
 //! | `IsNarrowKnown` | that a known value is of at most 127 bits | specs/TrueAnswer |
 //! | `RepliesAgree` | replies that two runs of one session may give to the same asks | specs/Agree |
+//! | `IsOpen`, `IsWonLine` | the line of an exact solve that knows nothing; lines of two of them, of which one may | specs/Agree |
 #![tactic(auto)]
 
 ghost use Rattle.std.specs.Prelude.{◌≡◌, ◌⊎◌, ◌≤◌, ℕ, Some, Ok};
@@ -33,7 +34,7 @@ ghost use Rattle.spec_server.specs.declared.asks.Reply.TheVariants as reply;
 ghost use Rattle.spec_server.specs.declared.command.Plain.TheVariants as command;
 ghost use Rattle.spec_server.specs.Machine.{ExactAsk, State, opening};
 ghost use Rattle.spec_server.specs.Exchanges.{Exchange, of_session, AloneRun, RunAlone};
-ghost use Rattle.spec_truth.specs.Agree.{GivesUp, HasMemory, RepliesAgree};
+ghost use Rattle.spec_truth.specs.Agree.{IsOpen, HasMemory, RepliesAgree};
 ghost use Rattle.spec_server.specs.Script.{Between, asks_from, ended_asks_of, script_of};
 ghost use Rattle.spec_server.specs.Output.{reply_text};
 ghost use Rattle.spec_server.specs.WideLines.{wide_known_text};
@@ -88,12 +89,12 @@ pub fn yes_is_true_of_the_model_then()
         (m : Model) × (model_then x.session before ≡ Some m) × Holds m what }
 {}
 
-/// In each run of sessions, the first line that is replied to a wide solve says that it gave up, or is that of an answer
-/// that is true of the model that the session has then.
+/// In each run of sessions, the first line that is replied to an exact solve says that nothing is known, or is that of an
+/// answer that is true of the model that the session has then.
 pub fn wide_answers_are_true_of_the_model_then()
     ensures { (places : ℕ) (before behind : List Exchange) (x : Exchange) (line : List ℕ) (more : List (List ℕ)) →
         RunAlone places (before ++ x ∷ behind) → x.reply ≡ reply.Wide (line ∷ more) →
-        GivesUp line ⊎ ((m : Model) × (what : Known ℚ) × (model_then x.session before ≡ Some m)
+        IsOpen line ⊎ ((m : Model) × (what : Known ℚ) × (model_then x.session before ≡ Some m)
         × (line ≡ wide_known_text what) × Holds m what) }
 {}
 

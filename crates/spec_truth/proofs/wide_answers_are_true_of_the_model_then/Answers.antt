@@ -5,7 +5,7 @@ use Rattle.spec_check.specs.declared.certificate.Known.{Known}
 use Rattle.spec_check.specs.Certificate.{Holds}
 use Rattle.spec_server.specs.WideLines.{wide_known_text}
 use Rattle.spec_server.specs.Exchanges.{Exchange}
-use Rattle.spec_truth.specs.Agree.{GivesUp}
+use Rattle.spec_truth.specs.Agree.{IsOpen}
 use Rattle.spec_truth.specs.ModelThen.{model_then}
 use Rattle.spec_truth.proofs.TrueRuns.{wide_then}
 use Rattle.spec_truth.proofs.WideReplies.{IsKnownLine}
@@ -13,8 +13,8 @@ use Rattle.spec_truth.proofs.wide_answers_are_true_of_the_model_then.Goals as go
 
 -- of the model that the session has then
 of_model : (before : List Exchange) (x : Exchange) (line : List ℕ) (m : Model) → model_then x.session before ≡ Some m →
-    GivesUp line ⊎ IsKnownLine m line →
-    GivesUp line ⊎ ((m : Model) × (what : Known ℚ) × (model_then x.session before ≡ Some m)
+    IsOpen line ⊎ IsKnownLine m line →
+    IsOpen line ⊎ ((m : Model) × (what : Known ℚ) × (model_then x.session before ≡ Some m)
     × (line ≡ wide_known_text what) × Holds m what)
 of_model before x line m held (inl h) = inl h
 of_model before x line m held (inr h) = inr (m, h.what, held, h.is_line, h.holds)
