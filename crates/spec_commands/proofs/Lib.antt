@@ -7,6 +7,8 @@ pub mod WrittenLengths
 pub mod CertificateLengths
 pub mod WrittenChecks
 pub mod WideChecks
+pub mod EndedText
+pub mod WideLengths
 pub mod WideWritten
 pub mod LastAnswers
 pub mod Kept

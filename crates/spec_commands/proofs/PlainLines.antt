@@ -117,7 +117,7 @@ letter_short X = record { fits = omega arith; plain = refl }
 letter_short Y = record { fits = omega arith; plain = refl }
 letter_short R = record { fits = omega arith; plain = refl }
 
-words_plain : (a b c : List ℕ) → IsShort a → IsShort b → length c ≤ 16000 → list_all is_plain c ≡ true →
+words_plain : (a b c : List ℕ) → IsShort a → IsShort b → length c ≤ 16010 → list_all is_plain c ≡ true →
     IsPlainLine (a ++ 32 ∷ (b ++ 32 ∷ c))
 words_plain a b c h k fits plain =
     let p = length-append a (32 ∷ (b ++ 32 ∷ c)) in
@@ -133,8 +133,15 @@ words_plain a b c h k fits plain =
 
 -- behind a letter and a name
 pub record IsFitting (text : ℚ → List ℕ) (v : ℚ) : Type 0 where
-  pub fits : length (text v) ≤ 16000
+  pub fits : length (text v) ≤ 16010
   pub plain : list_all is_plain (text v) ≡ true
+
+pub narrow_fitting : (v : ℚ) → IsNarrow v → IsFitting number_text v
+unfolding is_name
+narrow_fitting v n =
+    let s = (both_short (codes "X") v refl n).short_number in
+    let short = s.fits in
+    record { fits = omega (arith, short); plain = s.plain }
 
 module _ (text : ℚ → List ℕ) where
   abbrev write : Writing ℚ
@@ -214,13 +221,6 @@ module _ (m : Model) (kept : IsModel m) where
         All-append IsPlainLine (kind_text m cert ∷ all_part_lines_by written m cert) (codes "END" ∷ [])
         (All-cons IsPlainLine (kind_text m cert) (all_part_lines_by written m cert) (kind_plain cert f) (parts_plain cert f n))
         (All-cons IsPlainLine (codes "END") [] (record { short = omega arith; plain = refl }) (All-nil IsPlainLine))
-
-  narrow_fitting : (v : ℚ) → IsNarrow v → IsFitting number_text v
-  unfolding is_name
-  narrow_fitting v n =
-      let s = (both_short (codes "X") v refl n).short_number in
-      let short = s.fits in
-      record { fits = omega (arith, short); plain = s.plain }
 
   all_fitting : (xs : List ℚ) → All IsNarrow xs → All (IsFitting number_text) xs
   all_fitting xs h = λ k d l. narrow_fitting (get_or xs k d) (h k d l)

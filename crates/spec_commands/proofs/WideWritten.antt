@@ -1,9 +1,10 @@
 -- What a wide solve writes is true, from a basis too, and `check --wide` accepts its certificate.
 use Rattle.std.proofs.Common.{◌≡◌, ◌⊎◌, inl, inr, ℕ, ◌+◌, List, [], ◌∷◌, ◌++◌, map, get_or, Option, Some}
-use Rattle.std.proofs.Common.{None, Ok, Err, All, ap, ◌∙◌, append_assoc, arith}
+use Rattle.std.proofs.Common.{None, Ok, Err, All, ap, ◌∙◌, append_assoc, arith, ◌≤◌, ◌-◌, length, take}
+use Rattle.std.specs.Prelude.{codes}
 use Rattle.spec_text.specs.declared.line.Line.{Line}
 use Rattle.spec_text.specs.declared.line.Line.TheVariants.{Text}
-use Rattle.spec_text.specs.Lines.{ended_lines_of}
+use Rattle.spec_text.specs.Lines.{ended_lines_of, input_limit}
 use Rattle.spec_exact.specs.Fraction.{ℚ}
 use Rattle.spec_exact.specs.Narrow.{number_limit}
 use Rattle.spec_model.specs.Model.{Model}
@@ -18,8 +19,8 @@ use Rattle.spec_check.specs.declared.certificate.Certificate.{Certificate}
 use Rattle.spec_check.specs.declared.certificate.Certificate.TheVariants.{Optimal, Infeasible, Clash, Unbounded}
 use Rattle.spec_check.specs.declared.certificate.Known.{Known}
 use Rattle.spec_check.specs.declared.certificate.Verdict.TheVariants.{Yes}
-use Rattle.spec_check.specs.Certificate.{IsFor, Holds}
-use Rattle.spec_check.specs.Run.{check_run, verdict_of}
+use Rattle.spec_check.specs.Certificate.{Holds}
+use Rattle.spec_check.specs.Run.{verdict_of}
 use Rattle.spec_check.specs.Settle.{certificate_for}
 use Rattle.spec_simplex.specs.Form.{form_of}
 use Rattle.spec_certificate.specs.declared.progress.Progress.TheVariants as progress
@@ -30,53 +31,55 @@ use Rattle.spec_certificate.specs.TextWritten.{wide_certificate_lines}
 use Rattle.spec_certificate.specs.TextRead.{AllNumbers, IsShortNumber}
 use Rattle.spec_certificate.proofs.ReadBack.{wide_read_back}
 use Rattle.spec_certificate.proofs.WideWords.{wide_word}
-use Rattle.spec_solve.specs.declared.wide_solved.WideBased.TheVariants as based_end
-use Rattle.spec_solve.specs.declared.wide_solved.WideSolved.TheVariants as wide_end
-use Rattle.spec_solve.specs.Wide.{IsWideSolved}
-use Rattle.spec_solve.proofs.WideAnswers.{wide_true, answer_true}
+use Rattle.spec_solve.specs.declared.exact.ExactEnd.TheVariants.{Answered, Open}
+use Rattle.spec_solve.specs.Exact.{FitsLine, FitsLines, IsShown}
+use Rattle.spec_solve.proofs.ExactAnswers.{answer_true}
 use Rattle.spec_server.specs.declared.asks.Reply.TheVariants as reply
-use Rattle.spec_server.specs.Machine.{opening_budget}
 use Rattle.spec_server.specs.Output.{ended_lines}
 use Rattle.spec_server.specs.Said.{follow, said_by}
 use Rattle.spec_commands.specs.CheckOut.{InText, InCertificate, behind_text}
 use Rattle.spec_commands.specs.CheckWideOut.{behind_wide, wide_verdict_on, wide_step, wide_said}
-use Rattle.spec_server.specs.TextSaid.{behind_line, text_step}
-use Rattle.spec_commands.specs.SolveOut.{SolveOut}
-use Rattle.spec_commands.specs.SolveWideOut.{wide_known_line, wide_solved_lines, SolveWideOut, FitsLine}
-use Rattle.spec_commands.specs.BasisOut.{Handed, BasisOut, route_line, final_text}
-use Rattle.spec_commands.specs.BasisWideOut.{solved_of, wide_basis_lines, BasisWideOut}
+use Rattle.spec_server.specs.TextSaid.{behind_line, text_said, text_step}
+use Rattle.spec_server.specs.WideLines.{wide_known_text}
+use Rattle.spec_commands.specs.InputSaid.{IsSaidEarly}
+use Rattle.spec_commands.specs.SolveWideOut.{SolveWideOut}
+use Rattle.spec_commands.specs.BasisOut.{Handed}
+use Rattle.spec_commands.specs.BasisWideOut.{origin_text, based_text, BasisWideOut}
+use Rattle.spec_commands.proofs.EndedText.{ended_behind}
 use Rattle.spec_commands.proofs.PlainLines.{ended_lines_behind, IsFitting, fitting_plain}
+use Rattle.spec_commands.proofs.WideLengths.{wide_few}
+use Rattle.spec_commands.proofs.WrittenLengths.{take_behind}
 
 -- ---- an answer
 
-pub out_true : (m : Model) (written : List ℕ) → SolveWideOut (Ok m) written →
-    SolveOut (Ok m) written ⊎ ((known : Known ℚ) × (behind : List ℕ)
-    × (written ≡ wide_known_line known ++ behind) × Holds m known)
-unfolding wide_solved_lines
-out_true m written (wide_end.Narrow solved, is, lines) = inl (solved, is, lines)
-out_true m written (wide_end.Wide known cert, is, lines) =
-    inr (known, ended_lines (wide_certificate_lines m cert), lines, (wide_true m opening_budget known cert is.1).0)
+-- the line of an open end, or that of an answer which is true
+abbrev pub OpenOrTrue : Model → List ℕ → Type 0
+OpenOrTrue m written = (written ≡ ended_lines (codes "OPEN" ∷ [])) ⊎ ((known : Known ℚ) × (behind : List ℕ)
+    × (written ≡ wide_known_text known ++ 10 ∷ behind) × Holds m known)
+
+pub out_true : (m : Model) (written : List ℕ) → SolveWideOut (Ok m) written → OpenOrTrue m written
+unfolding ended_lines
+out_true m written (Answered a, is, lines) =
+    let rest : List ℕ = ended_lines (wide_certificate_lines m a.certificate) in
+    inr (a.known, rest, lines ∙ append_assoc (wide_known_text a.known) (10 ∷ []) rest, answer_true m a is)
+out_true m written (Open, is, lines) = inl lines
 
 -- and of one to which a basis was handed
 pub based_true : (handed : Handed) (written : List ℕ) → BasisWideOut (Ok handed) written →
-    BasisOut (Ok handed) written ⊎ ((known : Known ℚ) × (behind : List ℕ)
-    × (written ≡ wide_known_line known ++ behind) × Holds handed.model known)
-unfolding wide_basis_lines
-based_true handed written (based_end.Narrow solved, is, lines) = inl (solved, is, lines)
-based_true handed written (based_end.Wide a, is, lines) =
+    OpenOrTrue handed.model written
+unfolding ended_lines
+based_true handed written (Answered a, is, lines) =
     let m = handed.model in
-    let how : List ℕ = route_line (solved_of a) in
-    let certificate : List ℕ = ended_lines (wide_certificate_lines m a.certificate) in
-    let final : List ℕ = final_text m (form_of (Some number_limit) m) (solved_of a).end in
+    let line : List ℕ = wide_known_text a.known in
+    let rest : List ℕ = ended_lines (origin_text a.origin ∷ wide_certificate_lines m a.certificate) in
+    let final : List ℕ = based_text m (form_of (Some number_limit) m) a.basis in
     inr (
       a.known,
-      how ++ (certificate ++ final),
-      lines ∙ regroup (wide_known_line a.known) how certificate final,
-      (answer_true m opening_budget a handed.basis is).0,
+      rest ++ final,
+      lines ∙ append_assoc (line ++ 10 ∷ []) rest final ∙ append_assoc line (10 ∷ []) (rest ++ final),
+      answer_true m a is,
     )
-  where
-    regroup : (a b c d : List ℕ) → ((a ++ b) ++ c) ++ d ≡ a ++ (b ++ (c ++ d))
-    regroup a b c d = append_assoc (a ++ b) c d ∙ append_assoc a b (c ++ d)
+based_true handed written (Open, is, lines) = inl lines
 
 -- ---- lines of a text, and of a certificate
 
@@ -138,54 +141,61 @@ certificate_said m (l ∷ lines) so_far n raw h =
 -- ---- the lines that are written
 
 wide_fitting : (v : ℚ) → FitsLine v → IsFitting wide_text v
-wide_fitting v fits = record { fits = fits; plain = plain_text (wide_text v) (wide_word v).printable }
+wide_fitting v fits = record { fits = wide_few v fits; plain = plain_text (wide_text v) (wide_word v).printable }
 
 all_fitting : (xs : List ℚ) → All FitsLine xs → All (IsFitting wide_text) xs
 all_fitting xs h = λ k d l. wide_fitting (get_or xs k d) (h k d l)
 
-numbers_fitting : (cert : Certificate (List ℚ)) → AllNumbers FitsLine cert → AllNumbers (IsFitting wide_text) cert
+numbers_fitting : (cert : Certificate (List ℚ)) → FitsLines cert → AllNumbers (IsFitting wide_text) cert
 numbers_fitting (Optimal x y) n = (all_fitting x n.0, all_fitting y n.1)
 numbers_fitting (Infeasible y) n = all_fitting y n
 numbers_fitting (Clash j) n = tt
 numbers_fitting (Unbounded x r) n = (all_fitting x n.0, all_fitting r n.1)
 
 short_one : (v : ℚ) → FitsLine v → IsShortNumber v
-short_one v fits = omega (arith, fits)
+short_one v fits = let few = wide_few v fits in omega (arith, few)
 
 all_short : (xs : List ℚ) → All FitsLine xs → All IsShortNumber xs
 all_short xs h = λ k d l. short_one (get_or xs k d) (h k d l)
 
-numbers_short : (cert : Certificate (List ℚ)) → AllNumbers FitsLine cert → AllNumbers IsShortNumber cert
+numbers_short : (cert : Certificate (List ℚ)) → FitsLines cert → AllNumbers IsShortNumber cert
 numbers_short (Optimal x y) n = (all_short x n.0, all_short y n.1)
 numbers_short (Infeasible y) n = all_short y n
 numbers_short (Clash j) n = tt
 numbers_short (Unbounded x r) n = (all_short x n.0, all_short r n.1)
 
--- `check --wide` says yes behind a text of the model to the lines of a certificate that is accepted
+-- `check --wide` says yes behind a text of the model to the lines of a certificate that is shown
 module _ (style : Style) (front : List (Line (List ℕ))) (last : Line (List ℕ)) (m : Model) (known : Known ℚ)
-    (cert : Certificate (List ℚ)) (more : List ℕ) where
-  abbrev AcceptsBehind : Type 0
-  AcceptsBehind = said_by (text_step style) (record { state = start; lines = 0 }) front ≡ None →
-      text.Spells style (front ++ last ∷ []) m → AllNumbers FitsLine cert →
+    (cert : Certificate (List ℚ)) (undecided : text_said style front ≡ None)
+    (spells : text.Spells style (front ++ last ∷ []) m) (shown : IsShown m known cert) where
+  accepted_lines : (more : List ℕ) →
       wide_said style ((front ++ last ∷ []) ++ ended_lines_of (ended_lines (wide_certificate_lines m cert) ++ more))
       ≡ Some (reply.Checked (Yes known))
-
-  pub accepted_behind : IsFor m cert → check_run None m cert ≡ Ok known → AcceptsBehind
   unfolding ended_lines
-  accepted_behind for accepted undecided spells fits =
+  accepted_lines more =
       let kept : IsModel m = spelled_kept style (front ++ last ∷ []) m spells in
-      let r = wide_read_back m cert kept for (numbers_short cert fits) in
+      let r = wide_read_back m cert kept shown.0 (numbers_short cert shown.2) in
       let rest : List (Line (List ℕ)) = ended_lines_of more in
       let lines : List (Line (List ℕ)) = map Text (wide_certificate_lines m cert) ++ rest in
       ap (λ (ls : List (Line (List ℕ))). wide_said style ((front ++ last ∷ []) ++ ls))
       (ended_lines_behind (λ line. line) (wide_certificate_lines m cert) more
-      (fitting_plain m kept wide_text cert for (numbers_fitting cert fits)))
+      (fitting_plain m kept wide_text cert shown.0 (numbers_fitting cert shown.2)))
       ∙ ap (wide_said style) (append_assoc front (last ∷ []) lines)
       ∙ text_leads style start 0 front last lines m undecided spells
       ∙ certificate_said m lines None 0 r.raw (r.spelled rest)
       ∙ ap (λ settled. Some (wide_verdict_on m settled)) r.settled
-      ∙ ap (λ run. Some (reply.Checked (verdict_of run))) accepted
+      ∙ ap (λ run. Some (reply.Checked (verdict_of run))) shown.1
 
-  pub wide_accepted : (budget : ℕ) → IsWideSolved m budget (wide_end.Wide known cert) → AcceptsBehind
-  wide_accepted budget is =
-      let u = wide_true m budget known cert is.1 in accepted_behind u.1 u.2
+  pub accepted_early : (text : List ℕ) → ended_lines_of (text ++ 10 ∷ []) ≡ front ++ last ∷ [] →
+      length ((text ++ 10 ∷ []) ++ ended_lines (wide_certificate_lines m cert)) ≤ input_limit →
+      IsSaidEarly (wide_said style) ((text ++ 10 ∷ []) ++ ended_lines (wide_certificate_lines m cert))
+      (reply.Checked (Yes known))
+  accepted_early text are within more =
+      let lines : List ℕ = ended_lines (wide_certificate_lines m cert) in
+      let read : List ℕ = (text ++ 10 ∷ []) ++ lines in
+      let rest : List ℕ = take (input_limit - length read) more in
+      ap (λ (bytes : List ℕ). wide_said style (ended_lines_of bytes))
+      (take_behind input_limit read more within ∙ append_assoc (text ++ 10 ∷ []) lines rest)
+      ∙ ap (wide_said style) (ended_behind text (lines ++ rest)
+      ∙ ap (λ (ls : List (Line (List ℕ))). ls ++ ended_lines_of (lines ++ rest)) are)
+      ∙ accepted_lines rest

@@ -17,8 +17,8 @@
 //! | `GenOut` | what the command `gen` writes of the model that it makes | specs/GenOut |
 #![tactic(auto)]
 
-ghost use Rattle.std.specs.Prelude.{◌≡◌, ◌⊎◌, ℕ, List, [], ◌∷◌, ◌++◌, map, Option, Some, None, Ok};
-ghost use Rattle.spec_text.specs.Lines.{ended_lines_of};
+ghost use Rattle.std.specs.Prelude.{◌≡◌, ◌⊎◌, ◌≤◌, ℕ, List, [], ◌∷◌, ◌++◌, length, map, codes, Option, Some, None, Ok};
+ghost use Rattle.spec_text.specs.Lines.{ended_lines_of, input_limit};
 ghost use Rattle.spec_text.specs.declared.line.Line.{Line};
 ghost use Rattle.spec_exact.specs.Fraction.{ℚ};
 ghost use Rattle.spec_exact.specs.declared.past.Past.{Past};
@@ -34,25 +34,23 @@ ghost use Rattle.spec_check.specs.declared.certificate.Verdict.{Verdict};
 ghost use Rattle.spec_check.specs.declared.certificate.Verdict.TheVariants as verdict;
 ghost use Rattle.spec_check.specs.Certificate.{Holds};
 ghost use Rattle.spec_certificate.specs.TextWritten.{certificate_lines, wide_certificate_lines};
-ghost use Rattle.spec_certificate.specs.TextRead.{AllNumbers};
 ghost use Rattle.spec_pivot.specs.declared.status.Status.{Status};
 ghost use Rattle.spec_check.specs.declared.solve_end.SolveEnd.TheVariants as outcome;
 ghost use Rattle.spec_solve.specs.Answers.{MayAnswer};
-ghost use Rattle.spec_solve.specs.declared.wide_solved.WideBased.TheVariants as based;
-ghost use Rattle.spec_solve.specs.declared.wide_solved.WideSolved.TheVariants as wide;
-ghost use Rattle.spec_solve.specs.Wide.{ExactAnswer, IsWideSolved, IsWideFrom};
+ghost use Rattle.spec_solve.specs.declared.exact.ExactEnd.TheVariants as exact;
+ghost use Rattle.spec_solve.specs.Exact.{RationalAnswer, IsExactEnd};
 ghost use Rattle.spec_server.specs.declared.asks.Reply.TheVariants as reply;
 ghost use Rattle.spec_server.specs.Machine.{ExactLastAnswer, AreKept};
 ghost use Rattle.spec_server.specs.Machine.{State, opening};
 ghost use Rattle.spec_server.specs.Exchanges.{Exchange, asked_in, AloneRun};
 ghost use Rattle.spec_server.specs.Output.{ended_lines};
+ghost use Rattle.spec_server.specs.WideLines.{wide_known_text};
 ghost use Rattle.spec_commands.specs.InputSaid.{IsSaidEarly};
 ghost use Rattle.spec_commands.specs.CheckOut.{said};
 ghost use Rattle.spec_commands.specs.CheckWideOut.{wide_said};
 ghost use Rattle.spec_server.specs.TextSaid.{text_said};
-ghost use Rattle.spec_commands.specs.SolveOut.{SolveOut};
-ghost use Rattle.spec_commands.specs.SolveWideOut.{SolveWideOut, FitsLine, wide_known_line};
-ghost use Rattle.spec_commands.specs.BasisOut.{Handed, BasisOut};
+ghost use Rattle.spec_commands.specs.SolveWideOut.{SolveWideOut};
+ghost use Rattle.spec_commands.specs.BasisOut.{Handed};
 ghost use Rattle.spec_commands.specs.BasisWideOut.{BasisWideOut};
 ghost use Rattle.spec_runs.specs.Solve.{SolveEnd};
 ghost use Rattle.spec_solve.specs.Answers.{IsSolved};
@@ -98,39 +96,32 @@ pub fn wide_checks_say_the_same()
         (wide_said style lines ≡ Some (reply.Checked v)) ⊎ ((p : Past ℚ) × (v ≡ verdict.Past p)) }
 {}
 
-/// What a wide solve writes of a model is what `solve` writes of it, or begins with the line of an answer that is true of
-/// the model.
-pub fn wide_solves_write_true_answers()
+/// What `solve --wide` writes of a model is the line `OPEN`, or begins with the line of an answer that is true of the model.
+pub fn exact_solves_write_true_answers()
     ensures { (m : Model) (written : List ℕ) → SolveWideOut (Ok m) written →
-        SolveOut (Ok m) written ⊎ ((known : Known ℚ) × (behind : List ℕ)
-        × (written ≡ wide_known_line known ++ behind) × Holds m known) }
+        (written ≡ ended_lines (codes "OPEN" ∷ [])) ⊎ ((known : Known ℚ) × (behind : List ℕ)
+        × (written ≡ wide_known_text known ++ 10 ∷ behind) × Holds m known) }
 {}
 
-/// What a wide solve writes of a model and a basis is what `basis` writes of them, or begins with the line of an answer
-/// that is true of the model.
-pub fn wide_solves_from_bases_write_true_answers()
+/// What `basis --wide` writes of a model and a basis is the line `OPEN`, or begins with the line of an answer that is true
+/// of the model.
+pub fn exact_solves_from_bases_write_true_answers()
     ensures { (handed : Handed) (written : List ℕ) → BasisWideOut (Ok handed) written →
-        BasisOut (Ok handed) written ⊎ ((known : Known ℚ) × (behind : List ℕ)
-        × (written ≡ wide_known_line known ++ behind) × Holds handed.model known) }
+        (written ≡ ended_lines (codes "OPEN" ∷ [])) ⊎ ((known : Known ℚ) × (behind : List ℕ)
+        × (written ≡ wide_known_text known ++ 10 ∷ behind) × Holds handed.model known) }
 {}
 
-/// Anyone can check an answer with numbers of any width: to the lines of a text that spells its model with those of its
-/// certificate behind them `check --wide` says yes, and that the same is known, whatever follows, as long as the text of
-/// no number has more than 16,000 bytes. It is so of an answer from a basis too.
+/// Anyone can check an exact answer: to a text that spells its model with the lines of its certificate behind it
+/// `check --wide` says yes, and that the same is known, whatever follows, as far as an input may be read. It is so of an
+/// answer from a basis too.
 pub fn wide_answers_check_against_the_text()
-    ensures solve { (style : Style) (front : List (Line (List ℕ))) (last : Line (List ℕ)) (m : Model) (budget : ℕ)
-        (known : Known ℚ) (cert : Certificate (List ℚ)) (more : List ℕ) →
-        text_said style front ≡ None → Spells style (front ++ last ∷ []) m →
-        IsWideSolved m budget (wide.Wide known cert) → AllNumbers FitsLine cert →
-        wide_said style ((front ++ last ∷ []) ++ ended_lines_of (ended_lines (wide_certificate_lines m cert) ++ more))
-        ≡ Some (reply.Checked (verdict.Yes known)) }
-    ensures basis { (style : Style) (front : List (Line (List ℕ))) (last : Line (List ℕ)) (m : Model) (budget : ℕ)
-        (handed : Option (List Status)) (a : ExactAnswer) (more : List ℕ) →
-        text_said style front ≡ None → Spells style (front ++ last ∷ []) m →
-        IsWideFrom m budget handed (based.Wide a) → AllNumbers FitsLine a.certificate →
-        wide_said style
-        ((front ++ last ∷ []) ++ ended_lines_of (ended_lines (wide_certificate_lines m a.certificate) ++ more))
-        ≡ Some (reply.Checked (verdict.Yes a.known)) }
+    ensures { (style : Style) (text : List ℕ) (front : List (Line (List ℕ))) (last : Line (List ℕ)) (m : Model)
+        (budget : ℕ) (starting : Option (List Status)) (a : RationalAnswer) →
+        ended_lines_of (text ++ 10 ∷ []) ≡ front ++ last ∷ [] → text_said style front ≡ None →
+        Spells style (front ++ last ∷ []) m → IsExactEnd m budget starting (exact.Answered a) →
+        length ((text ++ 10 ∷ []) ++ ended_lines (wide_certificate_lines m a.certificate)) ≤ input_limit →
+        IsSaidEarly (wide_said style) ((text ++ 10 ∷ []) ++ ended_lines (wide_certificate_lines m a.certificate))
+        (reply.Checked (verdict.Yes a.known)) }
 {}
 
 /// The basis that a solve leaves to which nothing was handed shows that its point is optimal.

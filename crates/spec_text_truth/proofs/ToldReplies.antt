@@ -27,9 +27,8 @@ use Rattle.spec_check.specs.Settle.{Settled, certificate_for}
 use Rattle.spec_check.specs.declared.solve_end.SolveEnd.TheVariants as outcome
 use Rattle.spec_runs.specs.Cold.{ExactSolveEnd}
 use Rattle.spec_solve.specs.Answers.{MayAnswer}
-use Rattle.spec_solve.specs.declared.wide_solved.WideSolved.TheVariants.{Narrow, Wide}
-use Rattle.spec_solve.specs.Wide.{WideEnd, IsWideSolved}
-use Rattle.spec_solve.proofs.WideAnswers.{wide_true}
+use Rattle.spec_solve.specs.declared.exact.ExactEnd.TheVariants.{Answered, Open}
+use Rattle.spec_solve.specs.Exact.{RationalEnd, IsExactEnd}
 use Rattle.spec_certificate.specs.TextWritten.{certificate_lines, wide_certificate_lines}
 use Rattle.spec_board.specs.Reads.{ExactRead}
 use Rattle.spec_server.specs.declared.addressing.Addressing.{Addressing}
@@ -40,7 +39,7 @@ use Rattle.spec_server.specs.declared.asks.Reply.TheVariants as reply
 use Rattle.spec_server.specs.declared.command.Plain.TheVariants as command
 use Rattle.spec_server.specs.LastFits.{LastFits}
 use Rattle.spec_server.specs.Machine.{ExactAsk, ExactReply, ExactLastAnswer, State, verdict_on, check_reply, fixed_reply}
-use Rattle.spec_server.specs.Machine.{answer_of, write_reply, lines_of_solved, cert_reply, how_reply, solve_due, wide_due}
+use Rattle.spec_server.specs.Machine.{write_reply, lines_of_solved, cert_reply, how_reply, solve_due, wide_due}
 use Rattle.spec_server.specs.Machine.{edit_refusal}
 use Rattle.spec_server.specs.Machine.{edit_due, change_due, due}
 use Rattle.spec_server.specs.Output.{front_of, answer_text, verdict_text, reply_text, count_of_lines, ended_lines, lines_behind, reply_lines}
@@ -54,6 +53,7 @@ use Rattle.spec_text_truth.specs.TrueOutput.{HasNoFeed, Asking, Told, Announces,
 use Rattle.spec_text_truth.proofs.TrueLines.{answer_no_feed}
 use Rattle.spec_text_truth.proofs.PlainReplies.{IsPlainReply, reply_no_feed}
 use Rattle.spec_text_truth.proofs.PlainWords.{printed_no_feed}
+use Rattle.spec_text_truth.proofs.PlainText.{tested_no_feed}
 use Rattle.spec_text_truth.proofs.WideReplies.{known_no_feed, certificate_no_feed}
 
 -- ---- lines that a line feed ends
@@ -260,14 +260,13 @@ cert_listed None last kept fits = tt
 cert_listed (Some m) None kept fits = tt
 cert_listed (Some m) (Some last) kept fits = solved_listed m fits.0 last.solved kept fits.1
 
-wide_listed : (m : Model) (budget : ℕ) (end : WideEnd) → IsModel m → IsWideSolved m budget end →
-    All HasNoFeed (wide_lines m budget end)
-wide_listed m budget (Narrow solved) kept h =
-    All-cons HasNoFeed (answer_text (answer_of budget solved.end)) (lines_of_solved m solved.end)
-    (answer_no_feed (answer_of budget solved.end)) (solved_listed m budget solved.end kept h.may_answer)
-wide_listed m budget (Wide what cert) kept h =
-    All-cons HasNoFeed (wide_known_text what) (wide_certificate_lines m cert) (known_no_feed what)
-    (certificate_no_feed m kept cert (wide_true m budget what cert h.1).1)
+wide_listed : (m : Model) (budget : ℕ) (end : RationalEnd) → IsModel m → IsExactEnd m budget None end →
+    All HasNoFeed (wide_lines m end)
+wide_listed m budget (Answered a) kept h =
+    All-cons HasNoFeed (wide_known_text a.known) (wide_certificate_lines m a.certificate) (known_no_feed a.known)
+    (certificate_no_feed m kept a.certificate h.0.0)
+wide_listed m budget Open kept h =
+    All-cons HasNoFeed (codes "OPEN") [] (tested_no_feed (codes "OPEN") refl) (All-nil HasNoFeed)
 
 how_listed : (last : Option ExactLastAnswer) → IsListed (how_reply last)
 how_listed None = tt
@@ -301,7 +300,7 @@ module _ (old new : State) (replied : ExactReply) where
   wide_due_listed : (held : Option Model) → IfSome held IsModel → Does old (wide_due old held) replied new →
       IsListed replied
   wide_due_listed None kept d = as_stated _ d.0 tt
-  wide_due_listed (Some m) kept d = as_stated _ d.answer (wide_listed m old.budget d.end kept d.is_solved)
+  wide_due_listed (Some m) kept d = as_stated _ d.answer (wide_listed m old.budget d.end kept d.is_end)
 
   edit_listed : (r : OrFault Model) → Does old (edit_due old r) replied new → IsListed replied
   edit_listed (Ok m) d = as_stated _ d.0 tt

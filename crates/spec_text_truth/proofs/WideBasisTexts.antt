@@ -1,5 +1,5 @@
 -- What `basis --wide` writes of a model with a basis begins with the line of an answer that is true of the model.
-use Rattle.std.proofs.Common.{◌≡◌, ◌≤◌, ◌⊎◌, inl, inr, ℕ, List, ◌∷◌, ◌++◌, length, Some, Ok, Err, refl, ap}
+use Rattle.std.proofs.Common.{◌≡◌, ◌≤◌, ℕ, List, ◌∷◌, ◌++◌, length, Some, Ok, Err, refl, ap}
 use Rattle.std.specs.Prelude.{codes}
 use Rattle.spec_text.specs.declared.line.Line.{Line}
 use Rattle.spec_exact.specs.Fraction.{ℚ}
@@ -9,24 +9,13 @@ use Rattle.spec_mps.specs.declared.style.Style.{Style}
 use Rattle.spec_mps.specs.Steps.{Spells}
 use Rattle.spec_mps.specs.WideText.{most_zeros, Is, wide_of}
 use Rattle.spec_mps.specs.WideWritten.{wide_text}
-use Rattle.spec_check.specs.declared.certificate.Known.{Known}
-use Rattle.spec_check.specs.Certificate.{Holds}
-use Rattle.spec_commands.specs.BasisOut.{Handed, BasisSaid, basis_said, BasisOut}
+use Rattle.spec_commands.specs.BasisOut.{BasisSaid, basis_said}
 use Rattle.spec_commands.specs.BasisWideOut.{BasisWideOut}
-use Rattle.spec_commands.specs.SolveWideOut.{wide_known_line}
 use Rattle.spec_commands.proofs.WideWritten.{based_true}
 use Rattle.spec_truth.proofs.AnswerLines.{first}
 use Rattle.spec_text_truth.specs.TrueOutput.{HasNoFeed}
-use Rattle.spec_text_truth.proofs.BasisTexts.{handed_spells, out_answered, no_fault}
-use Rattle.spec_text_truth.proofs.WideTexts.{IsEither, either_of, either_optimal, either_infeasible, either_unbounded}
-
-by_either : (handed : Handed) (written : List ℕ) → BasisWideOut (Ok handed) written → IsEither handed.model written
-by_either handed written out = by (based_true handed written out)
-  where
-    by : BasisOut (Ok handed) written ⊎ ((known : Known ℚ) × (behind : List ℕ)
-        × (written ≡ wide_known_line known ++ behind) × Holds handed.model known) → IsEither handed.model written
-    by (inl narrow) = either_of handed.model written (inl (out_answered handed written narrow))
-    by (inr wide) = either_of handed.model written (inr wide)
+use Rattle.spec_text_truth.proofs.BasisTexts.{handed_spells, no_fault}
+use Rattle.spec_text_truth.proofs.WideTexts.{either_optimal, either_infeasible, either_unbounded}
 
 pub optimal_begins : (style : Style) (lines : List (Line (List ℕ))) (what : BasisSaid) (written : List ℕ) →
     basis_said style lines ≡ Some what → BasisWideOut what written →
@@ -34,7 +23,7 @@ pub optimal_begins : (style : Style) (lines : List (Line (List ℕ))) (what : Ba
     (v : ℚ) × (text ≡ wide_text v) × (length text ≤ most_zeros → wide_of text ≡ Is v)
     × ((m : Model) × Spells style lines m × IsOptimal m v)
 optimal_begins style lines (Ok handed) written is out text behind no_feed e =
-    let o = either_optimal handed.model written text behind (by_either handed written out) no_feed e in
+    let o = either_optimal handed.model written text behind (based_true handed written out) no_feed e in
     (o.0, o.1, o.2, (handed.model, handed_spells style lines handed is, o.3))
 optimal_begins style lines (Err why) written is out text behind no_feed e =
     absurd (no_fault why written 79 refl out (ap first e))
@@ -46,7 +35,7 @@ pub infeasible_begins : (style : Style) (lines : List (Line (List ℕ))) (what :
 infeasible_begins style lines (Ok handed) written is out behind e = (
   handed.model,
   handed_spells style lines handed is,
-  either_infeasible handed.model written behind (by_either handed written out) e,
+  either_infeasible handed.model written behind (based_true handed written out) e,
 )
 infeasible_begins style lines (Err why) written is out behind e =
     absurd (no_fault why written 73 refl out (ap first e))
@@ -58,7 +47,7 @@ pub unbounded_begins : (style : Style) (lines : List (Line (List ℕ))) (what : 
 unbounded_begins style lines (Ok handed) written is out behind e = (
   handed.model,
   handed_spells style lines handed is,
-  either_unbounded handed.model written behind (by_either handed written out) e,
+  either_unbounded handed.model written behind (based_true handed written out) e,
 )
 unbounded_begins style lines (Err why) written is out behind e =
     absurd (no_fault why written 85 refl out (ap first e))

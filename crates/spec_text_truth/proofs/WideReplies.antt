@@ -1,6 +1,6 @@
--- The lines that a wide solve replies, and what the first of them says.
+-- The lines that an exact solve replies, and what the first of them says.
 use Rattle.std.proofs.Common.{◌≡◌, ℕ, zero, suc, ◌<◌, Bool, true, false, cond, List, [], ◌∷◌, ◌++◌, refl, sym, ap, ◌∙◌}
-use Rattle.std.proofs.Common.{arith, ◌⊎◌, inl, inr}
+use Rattle.std.proofs.Common.{arith, ◌⊎◌, inl, inr, get_or}
 use Rattle.std.specs.Prelude.{All, codes}
 use Rattle.std.proofs.lemmas.List.Elements.{All-nil, All-cons, All-append}
 use Rattle.spec_exact.specs.Fraction.{ℚ, 0ℚ, eq_ℚ}
@@ -21,7 +21,7 @@ use Rattle.spec_certificate.specs.TextWritten.{column_lines_by, row_lines_by, ki
 use Rattle.spec_certificate.specs.TextWritten.{certificate_lines_by, wide_certificate_lines}
 use Rattle.spec_server.specs.WideLines.{wide_known_text}
 use Rattle.spec_commands.proofs.PlainLines.{column_named, row_named}
-use Rattle.spec_truth.specs.Agree.{GivesUp}
+use Rattle.spec_truth.specs.Agree.{IsOpen}
 use Rattle.spec_truth.proofs.AnswerLines.{first, apart}
 use Rattle.spec_truth.proofs.WideReplies.{IsKnownLine}
 use Rattle.spec_text_truth.specs.TrueOutput.{HasNoFeed, IsWideNumber, IsTrueLine}
@@ -127,18 +127,16 @@ unbounded_known m (known.Optimal v) h e = absurd (apart 79 85 refl (ap first e))
 unbounded_known m known.Infeasible h e = absurd (apart 73 85 refl (ap first e))
 unbounded_known m known.Unbounded h e = h
 
--- a line that says that a solve gave up begins otherwise
-gave_up : (line text : List ℕ) (letter : ℕ) → GivesUp line → (80 ≡ letter → ⊥) → (83 ≡ letter → ⊥) →
-    first text ≡ letter → line ≡ text → ⊥
-gave_up line text letter (inl p) no_p no_s is e = no_p (ap first p.1 ∙ ap first e ∙ is)
-gave_up line text letter (inr p) no_p no_s is e = no_s (ap first p.1 ∙ ap first e ∙ is)
+-- the line of an open end differs from each of them in its third letter
+abbrev pub third : List ℕ → ℕ
+third text = get_or text 2 0
 
-pub line_is_true : (IsOf : Model → Type 0) (m : Model) (line : List ℕ) → IsOf m → GivesUp line ⊎ IsKnownLine m line →
+pub line_is_true : (IsOf : Model → Type 0) (m : Model) (line : List ℕ) → IsOf m → IsOpen line ⊎ IsKnownLine m line →
     IsTrueLine IsOf IsWideNumber line
 line_is_true IsOf m line is (inl g) = record {
-  optimal = λ text e. absurd (gave_up line (codes "OPTIMAL " ++ text) 79 g (apart 80 79 refl) (apart 83 79 refl) refl e);
-  infeasible = λ e. absurd (gave_up line (codes "INFEASIBLE") 73 g (apart 80 73 refl) (apart 83 73 refl) refl e);
-  unbounded = λ e. absurd (gave_up line (codes "UNBOUNDED") 85 g (apart 80 85 refl) (apart 83 85 refl) refl e);
+  optimal = λ text e. absurd (apart 69 84 refl (ap third (sym g ∙ e)));
+  infeasible = λ e. absurd (apart 69 70 refl (ap third (sym g ∙ e)));
+  unbounded = λ e. absurd (apart 69 66 refl (ap third (sym g ∙ e)));
 }
 line_is_true IsOf m line is (inr k) = record {
   optimal = λ text e. (m, is, optimal_known m k.what text k.holds (sym k.is_line ∙ e));
