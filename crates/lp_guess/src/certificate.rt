@@ -9,12 +9,20 @@ ghost use Rattle.lp_guess.specs.Guessed.{IsGuessed};
 
 use crate::guess::{guess, ray, refutation};
 use crate::rough::{Moving, Rough, RoughEnd, is_basis, rough_end};
-use crate::stands::stands;
+use crate::stands::stand_at_basis;
 use lp_check::wide::Certificate;
-use lp_form::{Form, Status};
+use lp_form::{Form, Status, StatusList};
 use lp_frac::Frac;
 use lp_model::Model;
 use std::alloc::{AllocError, Global};
+
+/// A certificate that was guessed. Nothing is claimed of what it shows.
+#[derive(Drop)]
+pub struct Guessed {
+    pub certificate: Certificate,
+    /// Of the basis that it is that of, if it is one's.
+    pub statuses: Option<StatusList>,
+}
 
 /// The certificate of a basis of the model's form: the point at which each column that is not basic stands at its bound,
 /// and the multipliers with which each basic one has the reduced cost 0. Whether it shows an optimum is not looked at.
@@ -35,7 +43,7 @@ pub fn certificate_of_basis(
     let Some((x, y)) = guess(alloc, form, basis)? else {
         return Ok(None);
     };
-    if stands(alloc, model, basis, &x, &y)? {
+    if stand_at_basis(alloc, model, basis, &x, &y)? {
         Ok(Some(Certificate::Optimal { x, y }))
     } else {
         drop(x);
@@ -49,15 +57,24 @@ fn at_optimum(
     alloc: Global,
     model: &Model,
     form: &Form,
-    statuses: &[Status],
-) -> Result<Option<Certificate>, AllocError>
+    statuses: StatusList,
+) -> Result<Option<Guessed>, AllocError>
     requires { form_of (Some number_limit) model.now ≡ Ok form.now }
     ensures { IfOk result (λ o. IfSome o (IsGuessed model.now form.now)) }
 {
-    if is_basis(form, statuses) {
-        certificate_of_basis(alloc, model, form, statuses)
-    } else {
-        Ok(None)
+    if !is_basis(form, statuses.as_slice()) {
+        drop(statuses);
+        return Ok(None);
+    }
+    match certificate_of_basis(alloc, model, form, statuses.as_slice())? {
+        Some(certificate) => Ok(Some(Guessed {
+            certificate,
+            statuses: Some(statuses),
+        })),
+        None => {
+            drop(statuses);
+            Ok(None)
+        }
     }
 }
 
@@ -68,12 +85,15 @@ fn refuting(
     form: &Form,
     statuses: &[Status],
     outside: &[Frac],
-) -> Result<Option<Certificate>, AllocError>
+) -> Result<Option<Guessed>, AllocError>
     requires { form_of (Some number_limit) model.now ≡ Ok form.now }
     ensures { IfOk result (λ o. IfSome o (IsGuessed model.now form.now)) }
 {
     match refutation(alloc, form, statuses, outside)? {
-        Some(y) => Ok(Some(Certificate::Infeasible { y })),
+        Some(y) => Ok(Some(Guessed {
+            certificate: Certificate::Infeasible { y },
+            statuses: None,
+        })),
         None => Ok(None),
     }
 }
@@ -85,18 +105,20 @@ fn unlimited(
     form: &Form,
     statuses: &[Status],
     moving: Moving,
-) -> Result<Option<Certificate>, AllocError>
+) -> Result<Option<Guessed>, AllocError>
     requires { form_of (Some number_limit) model.now ≡ Ok form.now }
     ensures { IfOk result (λ o. IfSome o (IsGuessed model.now form.now)) }
 {
     match ray(alloc, form, statuses, moving)? {
-        Some((x, r)) => Ok(Some(Certificate::Unbounded { x, r })),
+        Some((x, r)) => Ok(Some(Guessed {
+            certificate: Certificate::Unbounded { x, r },
+            statuses: None,
+        })),
         None => Ok(None),
     }
 }
 
-/// The certificate of the end of a run in floats: that of a basis of the form, or one that there is no optimum. Nothing is
-/// claimed of what it shows: that is for the checker.
+/// The certificate of the end of a run in floats: that of a basis of the form, or one that there is no optimum.
 ///
 /// There is none where the run has no end, and where the method finds none, as of `certificate_of_basis`. Only want of
 /// memory is an error.
@@ -104,16 +126,15 @@ pub fn rough_certificate(
     alloc: Global,
     model: &Model,
     form: &Form,
-) -> Result<Option<Certificate>, AllocError>
+) -> Result<Option<Guessed>, AllocError>
     requires { form_of (Some number_limit) model.now ≡ Ok form.now }
     ensures { IfOk result (λ o. IfSome o (IsGuessed model.now form.now)) }
 {
-    let Some(rough) = rough_end(alloc, form)? else {
+    let Some(Rough { statuses, end }) = rough_end(alloc, form)? else {
         return Ok(None);
     };
-    let Rough { statuses, end } = &rough;
-    match end {
-        RoughEnd::Optimal => at_optimum(alloc, model, form, statuses.as_slice()),
+    match &end {
+        RoughEnd::Optimal => at_optimum(alloc, model, form, statuses),
         RoughEnd::Infeasible(outside) => {
             refuting(alloc, model, form, statuses.as_slice(), outside)
         }

@@ -1,11 +1,11 @@
-//! Guesses of a wide solve: how a model is solved, by the simplex method in floats; and the certificate of a basis, or one that
+//! Guesses of an exact solve: how a model is solved, by the simplex method in floats; and the certificate of a basis, or one that
 //! there is no optimum, with numbers of any width, from two systems of the basis alone.
 //!
 //! | Item | What it is | Where |
 //! |---|---|---|
 //! | `certificate_of_basis` | the point and the multipliers of a basis, if they are found | src/certificate |
-//! | `rough_certificate` | the certificate that the end of a run in floats leads to | src/certificate |
-//! | `stands` | whether a point and multipliers are those of a basis | src/stands |
+//! | `rough_certificate`, `Guessed` | the certificate that the end of a run in floats leads to, with its basis | src/certificate |
+//! | `stand_at_basis` | whether a point and multipliers are those of a basis | src/stands |
 //! | `guess`, `refutation`, `ray` | a point and multipliers; multipliers that no point meets; a point with a ray | src/guess |
 //! | `Systems`, `solution` | the two systems of a basis, and their solutions | src/systems |
 //! | `Kernel` | the basic structural columns, and the rows whose logical is not basic | src/kernel |
@@ -16,7 +16,7 @@
 //! | `rough_end` | where the simplex method in floats ends, and with what | src/rough |
 //!
 //! The systems are solved by p-adic lifting (Dixon, "Exact solution of linear equations using p-adic expansions", 1982).
-//! Nothing is claimed of the numbers that the guess finds: what is used of them is what `stands` checks, with the exact
+//! Nothing is claimed of the numbers that the guess finds: what is used of them is what `stand_at_basis` checks, with the exact
 //! sums of lp_check.
 #![tactic(auto)]
 
@@ -36,4 +36,5 @@ mod stands;
 mod systems;
 mod whole;
 
-pub use certificate::{certificate_of_basis, rough_certificate};
+pub use certificate::{Guessed, certificate_of_basis, rough_certificate};
+pub use stands::stand_at_basis;

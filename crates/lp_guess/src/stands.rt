@@ -152,7 +152,7 @@ fn rows_stand(
 
 /// Whether each column that is not basic stands at its bound, a basic one has the reduced cost 0, and the rows so. It ends
 /// at the first that does not.
-pub(crate) fn stands(
+pub fn stand_at_basis(
     alloc: Global,
     model: &Model,
     basis: &[Status],
