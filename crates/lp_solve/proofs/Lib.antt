@@ -2,7 +2,8 @@ pub mod BothPhases
 pub mod Factored
 pub mod Left
 pub mod Pushed
-pub mod RoughEnds
+pub mod ExactLemmas
+pub mod LineLemmas
 pub mod Runs
 pub mod Solved
 pub mod Unlimited

@@ -3,4 +3,4 @@ pub mod Ends
 pub mod Fit
 pub mod Formless
 pub mod Stopped
-pub mod Wide
+pub mod Lines

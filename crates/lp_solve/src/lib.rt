@@ -9,22 +9,24 @@
 //! gives up, the next one has the whole budget. Which comes first is a choice of speed alone. Of an answer over rows the
 //! checker says yes to the certificate, as of each other.
 //!
-//! A wide solve that is refused an operation with little work over rows asks for the certificate that the end of a run in
-//! floats leads to (lp_guess), of a basis or that there is no optimum, before the long runs over rows: whatever the guess
-//! is, it is checked without a limit. A wide solve from a basis whose start is refused an operation asks first for the
-//! certificate of the basis as it is (lp_guess), which no run has to find, and has it checked without a limit.
+//! An exact solve asks first for a certificate that the end of a run in floats leads to (lp_guess), or from a basis for that
+//! of the basis as it is: whatever the guess is, it is checked without a limit. Only where that comes to nothing it solves
+//! the model at 127 bits, and where it is refused an operation there over rows of whole numbers without a limit.
 //!
 //! | Item | What it is | Where |
 //! |---|---|---|
 //! | `solve`, `Solved` | the solve of a model, and how it ends | src/solving |
-//! | `solve_wide`, `WideSolved` | the same, and where it is refused an operation an answer with numbers of any width | src/wide |
-//! | `solve_wide_from`, `WideBased`, `WideAnswer` | the same from a basis of the form that is at hand | src/wide |
+//! | `solve_exactly`, `ExactEnd`, `ExactAnswer` | the exact solve of a model, whose numbers may have any width | src/exact |
+//! | `solve_exactly_from` | the same from a basis of the form that is at hand | src/exact |
+//! | `answered`, `at_basis`, `at_rough_end`, `over_rows` | answers by certificates that are checked without a limit | src/shown |
+//! | `fits_lines` | whether the numbers of a certificate fit their lines | src/lines |
+//! | `widened_certificate` | a certificate of 127 bits as one whose numbers may have any width | src/widened |
 //! | `solve_formed`, `solve_formless` | the same by the model's form, or by why it has none | src/solving |
-//! | `solved_within`, `wide_solved_within` | solves within a budget as commands state it, cold | src/within |
-//! | `solved_from_basis`, `wide_solved_from_basis` | the same from a basis | src/within |
+//! | `solved_within`, `solved_exactly_within` | solves within a budget as commands state it, cold | src/within |
+//! | `solved_from_basis`, `solved_exactly_from_basis` | the same from a basis | src/within |
 //! | `OPENING_BUDGET` | the budget of a new session, and of the commands that solve | src/within |
 //! | `cold_part` | the cold part: over factors, over whole tableaus and over rows | src/factors |
-//! | `over_rows` | the answer that the run over rows of whole numbers wins | src/rows |
+//! | `over_rows` | the answer that the run over rows of whole numbers wins at 127 bits | src/rows |
 //! | `End`, `from_form` | what a solve ends with, and the run over whole tableaus from a form | src/cold |
 //! | `from_basis` | the warm start from a basis | src/warm |
 //! | `Ended` | how both phases of a cold solve ended | src/phases |
@@ -37,18 +39,22 @@
 mod basis;
 mod certificate;
 mod cold;
+mod exact;
 mod factors;
+mod lines;
 mod phases;
 mod rows;
+mod shown;
 mod solving;
 mod warm;
-mod wide;
+mod widened;
 mod within;
 
 pub use cold::End;
+pub use exact::{ExactAnswer, ExactEnd, solve_exactly, solve_exactly_from};
 pub use solving::{Solved, solve, solve_formed, solve_formless};
 pub use spec_runs::{Fall, Route};
-pub use wide::{WideAnswer, WideBased, WideSolved, solve_wide, solve_wide_from};
 pub use within::{
-    OPENING_BUDGET, solved_from_basis, solved_within, wide_solved_from_basis, wide_solved_within,
+    OPENING_BUDGET, solved_exactly_from_basis, solved_exactly_within, solved_from_basis,
+    solved_within,
 };

@@ -39,7 +39,7 @@ fn fall(stop: WarmStop) -> Fall
 }
 
 // From the start that each model has, where the one from a basis has stopped so.
-pub(crate) fn cold_after(
+fn cold_after(
     alloc: Global,
     budget: u64,
     model: &Model,
@@ -84,7 +84,7 @@ fn warm_first(
 }
 
 // From a basis.
-pub(crate) fn ended_warm(end: End) -> Solved
+fn ended_warm(end: End) -> Solved
     ensures { result ≡ record { end = end; route = route.Warm } }
 {
     Solved {
@@ -94,7 +94,7 @@ pub(crate) fn ended_warm(end: End) -> Solved
 }
 
 // From the start that each model has.
-pub(crate) fn ended_cold(end: End) -> Solved
+fn ended_cold(end: End) -> Solved
     ensures { result ≡ record { end = end; route = route.Cold } }
 {
     Solved {

@@ -4,11 +4,11 @@ ghost use Rattle.spec_exact.specs.Narrow.{number_limit};
 ghost use Rattle.spec_simplex.specs.Form.{form_of};
 ghost use Rattle.spec_simplex.specs.Eliminate.{IsBasisOf};
 ghost use Rattle.spec_solve.specs.Answers.{IsSolved};
-ghost use Rattle.spec_solve.specs.Wide.{IsWideSolved, IsWideFrom};
+ghost use Rattle.spec_solve.specs.Exact.{IsExactEnd};
 ghost use Rattle.lp_solve.specs.Fit.{LeavesBasis};
 
+use crate::exact::{ExactEnd, solve_exactly, solve_exactly_from};
 use crate::solving::{Solved, solve, solve_formed};
-use crate::wide::{WideBased, WideSolved, solve_wide, solve_wide_from};
 use lp_form::{Basis, Form};
 use lp_model::Model;
 use std::alloc::{AllocError, Global};
@@ -23,15 +23,15 @@ pub fn solved_within(alloc: Global, model: &Model, budget: u32) -> Result<Solved
     solve(alloc, model, u64::from(budget), None)
 }
 
-/// The same, and where an operation is refused an answer with numbers of any width.
-pub fn wide_solved_within(
+/// What an exact solve of a model ends with, within a budget of pivots and flips.
+pub fn solved_exactly_within(
     alloc: Global,
     model: &Model,
     budget: u32,
-) -> Result<WideSolved, AllocError>
-    ensures { IfOk result (λ solved. IsWideSolved model.now budget solved) }
+) -> Result<ExactEnd, AllocError>
+    ensures { IfOk result (λ end. IsExactEnd model.now budget None end) }
 {
-    solve_wide(alloc, model, u64::from(budget))
+    solve_exactly(alloc, model, u64::from(budget))
 }
 
 /// What a solve ends with from a basis of the model's form.
@@ -50,17 +50,17 @@ pub fn solved_from_basis(
     solve_formed(alloc, model, u64::from(budget), form, Some(basis))
 }
 
-/// The same, and where an operation is refused an answer with numbers of any width.
-pub fn wide_solved_from_basis(
+/// What an exact solve ends with from a basis of the model's form.
+pub fn solved_exactly_from_basis(
     alloc: Global,
     model: &Model,
     budget: u32,
     form: &Form,
     basis: &Basis,
-) -> Result<WideBased, AllocError>
+) -> Result<ExactEnd, AllocError>
     requires formed { form_of (Some number_limit) model.now ≡ Ok form.now }
     requires fits { IsBasisOf form.now basis.now }
-    ensures { IfOk result (λ solved. IsWideFrom model.now budget (Some basis.now) solved) }
+    ensures { IfOk result (λ end. IsExactEnd model.now budget (Some basis.now) end) }
 {
-    solve_wide_from(alloc, model, u64::from(budget), form, basis)
+    solve_exactly_from(alloc, model, u64::from(budget), form, basis)
 }

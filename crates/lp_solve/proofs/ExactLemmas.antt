@@ -1,0 +1,73 @@
+-- What an exact solve answers.
+use Rattle.std.proofs.Common.{◌≡◌, ℕ, List, Option, Some, None, Result, Ok, IfSome, sym, ◌∙◌, subst}
+use Rattle.spec_exact.specs.Fraction.{ℚ}
+use Rattle.spec_exact.specs.Narrow.{number_limit}
+use Rattle.spec_model.specs.Model.{Model}
+use Rattle.spec_check.specs.declared.certificate.Certificate.{Certificate}
+use Rattle.spec_check.specs.declared.certificate.Known.{Known}
+use Rattle.spec_check.specs.declared.solve_end.SolveEnd.TheVariants.{Ended}
+use Rattle.spec_pivot.specs.declared.status.Status.{Status}
+use Rattle.spec_simplex.specs.Eliminate.{IsBasisOf}
+use Rattle.spec_simplex.specs.Form.{Form, form_of}
+use Rattle.spec_runs.specs.Cold.{ExactSolveEnd}
+use Rattle.spec_runs.specs.Solve.{SolveEnd}
+use Rattle.spec_solve.specs.Answers.{MayAnswer, IsSolved}
+use Rattle.spec_solve.specs.OfBasis.{IsOfBasis}
+use Rattle.spec_solve.specs.Order.{GivesUp}
+use Rattle.spec_solve.specs.Exact.{IsShown, IsBasisOfAnswer, MayGiveUp}
+use Rattle.spec_solve.proofs.ExactAnswers.{narrow_shown}
+use Rattle.spec_solve.proofs.Left.{solved_left}
+use Rattle.spec_simplex.specs.declared.ends.FormFault.{FormFault}
+use Rattle.lp_guess.specs.declared.certificate.Guessed.{Guessed}
+use Rattle.lp_guess.specs.Guessed.{IsGuessed}
+
+-- a model has one form
+same_form : (m : Model) (f g : Form) → form_of (Some number_limit) m ≡ Ok f → form_of (Some number_limit) m ≡ Ok g → f ≡ g
+same_form m f g h k = let z : ◌≡◌ {A = Result Form (FormFault ℚ)} (Ok f) (Ok g) = sym h ∙ k in cc
+
+module _ (m : Model) (f : Form) (formed : form_of (Some number_limit) m ≡ Ok f) where
+  -- a basis of this form at which the certificate stands
+  pub of_answer : (cert : Certificate (List ℚ)) (basis : List Status) → IsBasisOf f basis → IsOfBasis m basis cert →
+      IsBasisOfAnswer m cert basis
+  of_answer cert basis fits stands = record {
+    stands = stands;
+    of_form = λ g is. subst (λ g. IsBasisOf g basis) (same_form m f g formed is) fits;
+  }
+
+  -- that of a guess, if it has one
+  pub of_guess : (g : Guessed) → IsGuessed m f g → IfSome g.statuses (IsBasisOfAnswer m g.certificate)
+  of_guess g h = by g.statuses h.at_basis
+    where
+      by : (o : Option (List Status)) → IfSome o (λ basis. IsBasisOf f basis × IsOfBasis m basis g.certificate) →
+          IfSome o (IsBasisOfAnswer m g.certificate)
+      by None h = tt
+      by (Some basis) h = of_answer g.certificate basis h.0 h.1
+
+  pub guess_based : (g : Guessed) → IsGuessed m f g → IfSome g.statuses (λ basis. IsBasisOf f basis)
+  guess_based g h = by g.statuses h.at_basis
+    where
+      by : (o : Option (List Status)) → IfSome o (λ basis. IsBasisOf f basis × IsOfBasis m basis g.certificate) →
+          IfSome o (λ basis. IsBasisOf f basis)
+      by None h = tt
+      by (Some basis) h = h.0
+
+-- ---- a solve at 127 bits
+
+module _ (m : Model) (budget : ℕ) (starting : Option (List Status)) (solved : SolveEnd)
+    (is : IsSolved m budget starting solved) where
+  pub ended_shown : (known : Known ℚ) (cert : Certificate (List ℚ)) (basis : Option (List Status)) (pivots : ℕ) →
+      solved.end ≡ Ended known cert basis pivots → IsShown m known cert
+  ended_shown known cert basis pivots e =
+      let may : MayAnswer m budget (Ended known cert basis pivots) = subst (MayAnswer m budget) e is.may_answer in
+      narrow_shown m known cert may.0 may.1 may.2
+
+  -- and the basis of its end is one of the form, if the one is from which it starts
+  pub end_based : (f : Form) → form_of (Some number_limit) m ≡ Ok f → IfSome starting (IsBasisOf f) →
+      (known : Known ℚ) (cert : Certificate (List ℚ)) (basis : Option (List Status)) (pivots : ℕ) →
+      solved.end ≡ Ended known cert basis pivots → IfSome basis (λ left. IsBasisOf f left)
+  end_based f formed fits known cert None pivots e = tt
+  end_based f formed fits known cert (Some left) pivots e =
+      solved_left known cert left pivots m budget f formed solved e starting fits is
+
+  pub gave_up : (end : ExactSolveEnd) → solved.end ≡ end → GivesUp end → MayGiveUp m budget starting
+  gave_up end e up = (solved, is, subst GivesUp (sym e) up)

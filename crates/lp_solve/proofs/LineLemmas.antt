@@ -1,0 +1,50 @@
+-- Numbers of which the numerator and the denominator take at most half a line.
+use Rattle.std.proofs.Common.{◌≡◌, ◌<◌, ◌^◌, ℕ, Bool, IsTrue, Ordering, nat_cmp, is_lt, unsigned_abs}
+use Rattle.std.proofs.Common.{refl, sym, subst, arith, List, Result, IfOk, All}
+use Rattle.spec_exact.specs.Fraction.{ℚ}
+use Rattle.spec_check.specs.declared.certificate.Certificate.{Certificate}
+use Rattle.spec_check.specs.declared.certificate.Certificate.TheVariants.{Optimal, Infeasible, Unbounded}
+use Rattle.spec_solve.specs.Exact.{FitsLine, FitsLines}
+use Rattle.lp_solve.specs.Lines.{half_line, line_power}
+
+-- what a test of the order tells
+pub below_from : (a b : ℕ) (o : Ordering) (t : Bool) → o ≡ nat_cmp a b → t ≡ is_lt o → IsTrue t → a < b
+below_from a b o t f g h = grind arith
+
+-- so many steps make up the power
+pub power_is : 10000000000000000 ^ 500 ≡ line_power
+unfolding line_power half_line
+power_is = refl
+
+half : (v : ℚ) → unsigned_abs v.num < line_power → v.den < line_power → FitsLine v
+unfolding line_power half_line
+half v top bottom = (8000, 8000, top, bottom, omega arith)
+
+pub fits_of : (v : ℚ) (top bottom power : ℕ) → power ≡ line_power → top ≡ unsigned_abs v.num → bottom ≡ v.den →
+    (top < power) × (bottom < power) → FitsLine v
+fits_of v top bottom power is t b below =
+    half v (subst (λ n. n < line_power) t (subst (λ p. top < p) is below.0))
+    (subst (λ n. n < line_power) b (subst (λ p. bottom < p) is below.1))
+
+-- ---- by the kind of a certificate
+
+module _ {E : Type 0} (result : Result Bool E) (cert : Certificate (List ℚ)) where
+  abbrev Tells : Type 0 → Type 0
+  Tells P = IfOk result (λ b. IsTrue b → P)
+
+  both : (x y xs ys : List ℚ) → xs ≡ x → ys ≡ y → Tells (All FitsLine xs × All FitsLine ys) →
+      Tells (All FitsLine x × All FitsLine y)
+  both x y xs ys p q h =
+      subst (λ x. Tells (All FitsLine x × All FitsLine y)) p (subst (λ y. Tells (All FitsLine xs × All FitsLine y)) q h)
+
+  pub optimal_fits : (x y xs ys : List ℚ) → cert ≡ Optimal x y → xs ≡ x → ys ≡ y →
+      Tells (All FitsLine xs × All FitsLine ys) → Tells (FitsLines cert)
+  optimal_fits x y xs ys is p q h = subst (λ c. Tells (FitsLines c)) (sym is) (both x y xs ys p q h)
+
+  pub unbounded_fits : (x r xs rs : List ℚ) → cert ≡ Unbounded x r → xs ≡ x → rs ≡ r →
+      Tells (All FitsLine xs × All FitsLine rs) → Tells (FitsLines cert)
+  unbounded_fits x r xs rs is p q h = subst (λ c. Tells (FitsLines c)) (sym is) (both x r xs rs p q h)
+
+  pub infeasible_fits : (y ys : List ℚ) → cert ≡ Infeasible y → ys ≡ y → Tells (All FitsLine ys) → Tells (FitsLines cert)
+  infeasible_fits y ys is q h =
+      subst (λ c. Tells (FitsLines c)) (sym is) (subst (λ y. Tells (All FitsLine y)) q h)

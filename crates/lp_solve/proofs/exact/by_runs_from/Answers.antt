@@ -1,0 +1,29 @@
+-- What the solve at 127 bits from the basis has ended with.
+use Rattle.std.proofs.Common.{Some}
+use Rattle.lp_solve.proofs.ExactLemmas.{ended_shown, end_based, gave_up}
+use Rattle.lp_solve.proofs.exact.by_runs_from.Goals as goal
+
+pub settled_at-requires-clause-shown : goal.settled_at-requires-clause-shown
+settled_at-requires-clause-shown c =
+    c.in_ok-answer-in-Ended.ensures c.args.model.now
+    (ended_shown c.args.model.now c.args.budget (Some c.args.basis.now) c.in_ok-end.field-0 c.in_ok-end.ensures.solved
+    _ _ _ _ c.in-Ended.is)
+
+pub settled_at-requires-clause-based : goal.settled_at-requires-clause-based
+settled_at-requires-clause-based c =
+    end_based c.args.model.now c.args.budget (Some c.args.basis.now) c.in_ok-end.field-0 c.in_ok-end.ensures.solved
+    c.args.form.now c.requires.formed c.requires.fits _ _ _ _ c.in-Ended.is
+
+pub returns-in_ok-beyond-in-Past : goal.returns-in_ok-beyond-in-Past
+returns-in_ok-beyond-in-Past c =
+    c.or_open.ensures c.args.model.now c.args.budget (Some c.args.basis.now)
+    (gave_up c.args.model.now c.args.budget (Some c.args.basis.now) c.in_ok-end.field-0 c.in_ok-end.ensures.solved _
+    c.in-Past.is tt)
+    c.in_ok-beyond-in-Past.ensures
+
+pub returns-in_ok-at_rough_end-in-Spent : goal.returns-in_ok-at_rough_end-in-Spent
+returns-in_ok-at_rough_end-in-Spent c =
+    c.or_open-in-Spent.ensures c.args.model.now c.args.budget (Some c.args.basis.now)
+    (gave_up c.args.model.now c.args.budget (Some c.args.basis.now) c.in_ok-end.field-0 c.in_ok-end.ensures.solved _
+    c.in-Spent.is tt)
+    c.in_ok-at_rough_end-in-Spent.ensures

@@ -1,0 +1,10 @@
+-- How many digits the numerator and the denominator of a number of a certificate may have, each.
+use Rattle.std.specs.Prelude.{ℕ, ◌^◌}
+
+-- half of those of a line
+unfoldable pub half_line : ℕ
+half_line = 8000
+
+-- the power of ten below which a natural number has no more digits
+unfoldable pub line_power : ℕ
+line_power = 10 ^ half_line

@@ -1,0 +1,221 @@
+// Answers by certificates that are guessed, or that runs without a limit end with: each is checked.
+ghost use Rattle.std.specs.Prelude.{◌≡◌, IfOk, IfSome, IsTrue, Ok, Some};
+ghost use Rattle.spec_exact.specs.Narrow.{number_limit};
+ghost use Rattle.spec_check.specs.Certificate.{IsFor};
+ghost use Rattle.spec_simplex.specs.Eliminate.{IsBasisOf};
+ghost use Rattle.spec_simplex.specs.Form.{form_of};
+ghost use Rattle.spec_solve.specs.OfBasis.{IsOfBasis};
+ghost use Rattle.spec_solve.specs.Exact.{IsShown, IsBasisOfAnswer, IsExactAnswer};
+
+use crate::basis::basis_of;
+use crate::exact::ExactAnswer;
+use crate::lines::fits_lines;
+use lp_check::wide::{Certificate, Known, Verdict, check};
+use lp_form::{Basis, Form, StatusList};
+use lp_guess::{Guessed, certificate_of_basis, rough_certificate, stand_at_basis};
+use lp_model::Model;
+use lp_ratio::Ratio;
+use lp_row_runs::{RowEnd, wide_cold, wide_warm};
+use spec_runs::Route;
+use spec_solve::Origin;
+use std::alloc::{AllocError, Global};
+
+// The effort of a run without a limit on the numbers of its certificate, some minutes of it.
+const WIDE_WORK: u64 = 64_000_000_000;
+
+// What the certificate shows, if the checker without a limit says yes to it, and its numbers fit their lines.
+fn accepted(
+    alloc: Global,
+    model: &Model,
+    certificate: &Certificate,
+) -> Result<Option<Known>, AllocError>
+    requires { IsFor model.now certificate.now }
+    ensures { IfOk result (λ o. IfSome o (λ known. IsShown model.now known certificate.now)) }
+{
+    let Verdict::Yes(known) = check(alloc, model, certificate)? else {
+        return Ok(None);
+    };
+    if fits_lines(alloc, certificate)? {
+        Ok(Some(known))
+    } else {
+        drop(known);
+        Ok(None)
+    }
+}
+
+// The answer of a certificate, if it is accepted.
+fn answered(
+    alloc: Global,
+    model: &Model,
+    certificate: Certificate,
+    basis: Option<Basis>,
+    origin: Origin,
+) -> Result<Option<ExactAnswer>, AllocError>
+    requires fits { IsFor model.now certificate }
+    requires based { IfSome basis (IsBasisOfAnswer model.now certificate) }
+    ensures { IfOk result (λ o. IfSome o (IsExactAnswer model.now)) }
+{
+    match accepted(alloc, model, &certificate)? {
+        Some(known) => Ok(Some(ExactAnswer {
+            known,
+            certificate,
+            basis,
+            origin,
+        })),
+        None => {
+            drop(certificate);
+            drop(basis);
+            Ok(None)
+        }
+    }
+}
+
+// Whether the certificate stands at the basis.
+fn is_at_basis(
+    alloc: Global,
+    model: &Model,
+    certificate: &Certificate,
+    basis: &Basis,
+) -> Result<bool, AllocError>
+    requires { IsFor model.now certificate.now }
+    ensures { IfOk result (λ b. IsTrue b → IsOfBasis model.now basis.now certificate.now) }
+{
+    match certificate {
+        Certificate::Optimal { x, y } => stand_at_basis(alloc, model, basis.as_slice(), x, y),
+        Certificate::Infeasible { .. } | Certificate::Clash(_) | Certificate::Unbounded { .. } =>
+            Ok(false),
+    }
+}
+
+/// The basis of an end, if the certificate stands at it.
+pub(crate) fn basis_of_answer(
+    alloc: Global,
+    model: &Model,
+    form: &Form,
+    certificate: &Certificate,
+    basis: Option<Basis>,
+) -> Result<Option<Basis>, AllocError>
+    requires formed { form_of (Some number_limit) model.now ≡ Ok form.now }
+    requires fits { IsFor model.now certificate.now }
+    requires based { IfSome basis (λ basis. IsBasisOf form.now basis) }
+    ensures { IfOk result (λ o. IfSome o (IsBasisOfAnswer model.now certificate.now)) }
+{
+    let Some(basis) = basis else {
+        return Ok(None);
+    };
+    if is_at_basis(alloc, model, certificate, &basis)? {
+        Ok(Some(basis))
+    } else {
+        drop(basis);
+        Ok(None)
+    }
+}
+
+/// The answer of the basis, of which nothing is changed.
+pub(crate) fn at_basis(
+    alloc: Global,
+    model: &Model,
+    form: &Form,
+    basis: &Basis,
+) -> Result<Option<ExactAnswer>, AllocError>
+    requires formed { form_of (Some number_limit) model.now ≡ Ok form.now }
+    requires fits { IsBasisOf form.now basis.now }
+    ensures { IfOk result (λ o. IfSome o (IsExactAnswer model.now)) }
+{
+    let statuses = StatusList::from_slice(alloc, basis.as_slice())?;
+    match certificate_of_basis(alloc, model, form, basis.as_slice())? {
+        Some(certificate) => {
+            let same = basis_of(form, Some(statuses));
+            answered(alloc, model, certificate, same, Origin::Warm(0))
+        }
+        None => Ok(None),
+    }
+}
+
+/// That of the end of a run in floating point.
+pub(crate) fn at_rough_end(
+    alloc: Global,
+    model: &Model,
+    form: &Form,
+    origin: Origin,
+) -> Result<Option<ExactAnswer>, AllocError>
+    requires { form_of (Some number_limit) model.now ≡ Ok form.now }
+    ensures { IfOk result (λ o. IfSome o (IsExactAnswer model.now)) }
+{
+    let Some(guessed) = rough_certificate(alloc, model, form)? else {
+        return Ok(None);
+    };
+    let Guessed {
+        certificate,
+        statuses,
+    } = guessed;
+    let basis = basis_of(form, statuses);
+    answered(alloc, model, certificate, basis, origin)
+}
+
+/// From where an answer is that was found on this route.
+pub(crate) fn origin_of(route: Route, pivots: u64) -> Origin {
+    match route {
+        Route::Cold => Origin::Cold,
+        Route::Warm => Origin::Warm(pivots),
+        Route::Fell(_) => Origin::Fell(pivots),
+    }
+}
+
+// The answer of a run over rows on this route.
+fn at_row_end(
+    alloc: Global,
+    model: &Model,
+    form: &Form,
+    end: RowEnd<Ratio>,
+    route: Route,
+) -> Result<Option<ExactAnswer>, AllocError>
+    requires formed { form_of (Some number_limit) model.now ≡ Ok form.now }
+    requires fits { IsFor model.now end.certificate }
+    requires based { IfSome end.basis (λ basis. IsBasisOf form.now basis) }
+    ensures { IfOk result (λ o. IfSome o (IsExactAnswer model.now)) }
+{
+    let RowEnd {
+        certificate,
+        basis,
+        pivots,
+    } = end;
+    let left = basis_of(form, basis);
+    let basis = basis_of_answer(alloc, model, form, &certificate, left)?;
+    answered(alloc, model, certificate, basis, origin_of(route, pivots))
+}
+
+/// That of the run over rows from the start that each model has, without a limit on their numbers.
+pub(crate) fn over_rows(
+    alloc: Global,
+    model: &Model,
+    form: &Form,
+    budget: u64,
+    route: Route,
+) -> Result<Option<ExactAnswer>, AllocError>
+    requires { form_of (Some number_limit) model.now ≡ Ok form.now }
+    ensures { IfOk result (λ o. IfSome o (IsExactAnswer model.now)) }
+{
+    match wide_cold(alloc, form, budget, WIDE_WORK)? {
+        Some(end) => at_row_end(alloc, model, form, end, route),
+        None => Ok(None),
+    }
+}
+
+/// That of the run over rows from the basis.
+pub(crate) fn over_rows_from(
+    alloc: Global,
+    model: &Model,
+    form: &Form,
+    budget: u64,
+    basis: &Basis,
+) -> Result<Option<ExactAnswer>, AllocError>
+    requires formed { form_of (Some number_limit) model.now ≡ Ok form.now }
+    requires fits { IsBasisOf form.now basis.now }
+    ensures { IfOk result (λ o. IfSome o (IsExactAnswer model.now)) }
+{
+    match wide_warm(alloc, form, basis.as_slice(), budget)? {
+        Some(end) => at_row_end(alloc, model, form, end, Route::Warm),
+        None => Ok(None),
+    }
+}
