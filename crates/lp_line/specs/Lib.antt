@@ -1,4 +1,5 @@
 pub mod Body
+pub mod ExactEnds
 pub mod GivesWords
 pub mod Halt
 pub mod Hearing

@@ -10,7 +10,7 @@
 //! | `take`, `Taken` | reads the lines of the next ask | src/taking, specs/Takes |
 //! | `Halt` | why a command halts before it has done all that is asked | src/halt, specs/Halt |
 //! | `answer_of`, `pivots_of`, `certificate_lines` | what is answered of what a solve ended with, its pivots and the lines of its certificate | src/solved |
-//! | `wide_lines`, `push_wide_known` | the lines that a wide solve is answered with, and the text of its answer | src/wide |
+//! | `wide_lines`, `push_wide_known` | the lines that an exact solve is answered with, and the text of its answer | src/wide |
 //! | `verdict_on` | what is replied of a certificate for a model | src/verdict |
 //! | `number_to` | the number that a word gives | src/words |
 //! | `print` | writes a session's reply | src/printing |

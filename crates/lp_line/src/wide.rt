@@ -1,28 +1,24 @@
-// The lines that a wide solve is answered with.
-ghost use Rattle.std.specs.Prelude.{◌≡◌, ◌++◌, None, IfOk, OnOk};
-ghost use Rattle.spec_check.specs.Certificate.{IsFor};
-ghost use Rattle.spec_solve.specs.Answers.{IsSolved};
-ghost use Rattle.spec_solve.specs.Wide.{IsWideSolved};
-ghost use Rattle.spec_solve.specs.declared.wide_solved.WideSolved.TheVariants as ends;
+// The lines that an exact solve is answered with.
+ghost use Rattle.std.specs.Prelude.{◌≡◌, ◌++◌, IfOk, OnOk};
 ghost use Rattle.spec_server.specs.WideLines as wide;
+ghost use Rattle.spec_model.specs.Model.{Model as model};
+ghost use Rattle.spec_check.specs.Certificate.{IsFor};
+ghost use Rattle.spec_solve.specs.declared.exact.ExactEnd.TheVariants as ends;
+ghost use Rattle.lp_line.specs.ExactEnds.{HasFit};
 
-use crate::answers::push_answer;
-use crate::solved::{answer_of, certificate_lines};
 use lp_base::{Bytes, Texts};
 use lp_certificate::cert_text;
-use lp_check::wide::{Certificate, Known, Ratios};
+use lp_check::wide::{Known, Ratios};
 use lp_form::Basis;
-use lp_frac::{Frac, Fracs};
 use lp_model::Model;
 use lp_numtext::wide_text;
 use lp_ratio::Ratio;
 use std::alloc::{AllocError, Global};
 
-// What a solve ends with.
-type Solved = spec_runs::Solved<Frac, Fracs, Basis>;
+// How an exact solve ends, and its answer.
+type ExactEnd = spec_solve::ExactEnd<Ratio, Ratios, Basis>;
 
-// What a wide solve ends with.
-type WideSolved = spec_solve::WideSolved<Solved, Ratio, Ratios>;
+type ExactAnswer = spec_solve::ExactAnswer<Ratio, Ratios, Basis>;
 
 /// Writes an answer whose value may have any width after what is there.
 pub fn push_wide_known(alloc: Global, known: &Known, to: &mut Bytes) -> Result<(), AllocError>
@@ -39,57 +35,36 @@ pub fn push_wide_known(alloc: Global, known: &Known, to: &mut Bytes) -> Result<(
     }
 }
 
-// Of what a solve ended with.
-fn narrow_lines(
-    alloc: Global,
-    model: &Model,
-    budget: u32,
-    solved: &Solved,
-) -> Result<Texts, AllocError>
-    requires { IsSolved model.now budget None solved.now }
-    ensures { IfOk result (λ lines. lines ≡ wide.wide_lines model.now budget (ends.Narrow solved.now)) }
+// Of an answer.
+fn answer_lines(alloc: Global, model: &Model, answer: &ExactAnswer) -> Result<Texts, AllocError>
+    requires { IsFor model.now answer.now.certificate }
+    ensures { IfOk result (λ lines. lines ≡ wide.wide_lines model.now (ends.Answered answer.now)) }
 {
-    let answer = answer_of(budget, &solved.end);
     let mut line = Bytes::new(alloc);
-    push_answer(alloc, &answer, &mut line)?;
-    let mut lines = certificate_lines(alloc, model, &solved.end)?;
+    push_wide_known(alloc, &answer.known, &mut line)?;
+    let mut lines = cert_text(alloc, model, &answer.certificate)?;
     lines.insert(0, line)?;
     Ok(lines)
 }
 
-// Of an answer with numbers of any width.
-fn known_lines(
-    alloc: Global,
-    model: &Model,
-    budget: u32,
-    answer: &Known,
-    certificate: &Certificate,
-) -> Result<Texts, AllocError>
-    requires { IsFor model.now certificate.now }
-    ensures { IfOk result (λ lines. lines ≡ wide.wide_lines model.now budget (ends.Wide answer.now certificate.now)) }
+// That nothing is known.
+fn open_lines(alloc: Global) -> Result<Texts, AllocError>
+    ensures { (m : model) → IfOk result (λ lines. lines ≡ wide.wide_lines m ends.Open) }
 {
     let mut line = Bytes::new(alloc);
-    push_wide_known(alloc, answer, &mut line)?;
-    let mut lines = cert_text(alloc, model, certificate)?;
-    lines.insert(0, line)?;
+    line.extend(b"OPEN")?;
+    let mut lines = Texts::new(alloc);
+    lines.push(line)?;
     Ok(lines)
 }
 
-/// The line of the answer of a wide solve within this budget, and the lines of its certificate.
-pub fn wide_lines(
-    alloc: Global,
-    model: &Model,
-    budget: u32,
-    solved: &WideSolved,
-) -> Result<Texts, AllocError>
-    requires { IsWideSolved model.now budget solved.now }
-    ensures { IfOk result (λ lines. lines ≡ wide.wide_lines model.now budget solved.now) }
+/// The line of the answer of an exact solve, and the lines of its certificate; or the line that nothing is known.
+pub fn wide_lines(alloc: Global, model: &Model, end: &ExactEnd) -> Result<Texts, AllocError>
+    requires { HasFit model.now end.now }
+    ensures { IfOk result (λ lines. lines ≡ wide.wide_lines model.now end.now) }
 {
-    match solved {
-        WideSolved::Narrow(solved) => narrow_lines(alloc, model, budget, solved),
-        WideSolved::Wide {
-            answer,
-            certificate,
-        } => known_lines(alloc, model, budget, answer, certificate),
+    match end {
+        ExactEnd::Answered(answer) => answer_lines(alloc, model, answer),
+        ExactEnd::Open => open_lines(alloc),
     }
 }
