@@ -3,4 +3,3 @@ pub mod Ends
 pub mod Works
 pub mod Boards
 pub mod Formless
-pub mod Widened

@@ -1,17 +1,15 @@
 -- A session between the parts of a step, as the code keeps it.
-use Rattle.std.specs.Prelude.{ℕ, ◌≡◌, Option, Some, None, Ok, List, IfSome}
+use Rattle.std.specs.Prelude.{ℕ, ◌≡◌, Option, Some, None, Ok, IfSome}
 use Rattle.spec_exact.specs.Narrow.{number_limit}
 use Rattle.spec_model.specs.Model.{Model}
 use Rattle.spec_simplex.specs.Form.{Form, form_of}
 use Rattle.spec_runs.specs.Cold.{ExactSolveEnd}
 use Rattle.spec_runs.specs.Solve.{SolveEnd}
 use Rattle.spec_solve.specs.Answers.{MayAnswer, IsSolved}
-use Rattle.spec_solve.specs.Wide.{WideEnd, IsWideSolved}
 use Rattle.spec_board.specs.Words.{IsWellFormed, shape_of}
 use Rattle.spec_board.specs.Reads.{Looked, front}
 use Rattle.spec_server.specs.declared.asks.Reply.TheVariants as reply
 use Rattle.spec_server.specs.Machine.{ExactAsk, ExactReply, State, edit_refusal}
-use Rattle.spec_server.specs.WideLines.{wide_lines}
 use Rattle.spec_server.specs.Step as step
 use Rattle.spec_server.specs.Halves.{Awaits, Nothing, WhatIsFound, WhatBecameOf}
 use Rattle.lp_model.specs.declared.edit.EditError.{EditError}
@@ -42,12 +40,6 @@ FitsForm f found = IfSome found (λ place. IsWellFormed place.words × (front pl
 abbrev pub IsSolvedBy : Option Model → ℕ → Looked → SolveEnd → Type 0
 IsSolvedBy None budget found solved = ⊥
 IsSolvedBy (Some m) budget found solved = IsSolved m budget (step.handed_by found) solved
-
--- they are those of a wide solve of the model
-pub record AreOfWide (m : Model) (budget : ℕ) (lines : List (List ℕ)) : Type 0 where
-  pub end : WideEnd
-  pub is_solved : IsWideSolved m budget end
-  pub lines_are : lines ≡ wide_lines m budget end
 
 -- what is replied to an edit that is not applied
 abbrev pub reply_unapplied : EditError → ExactReply

@@ -5,11 +5,10 @@ ghost use Rattle.spec_server.specs.Step as step;
 ghost use Rattle.spec_server.specs.declared.asks.Ask.TheVariants as asks;
 ghost use Rattle.spec_server.specs.declared.asks.Reply.TheVariants as replies;
 ghost use Rattle.spec_server.specs.declared.command.Plain.TheVariants as commands;
-ghost use Rattle.lp_session.specs.Parts.{IsFormHeld, IsEndOf, FitsForm, BeginsSo, WorksSo, AreOfWide, reply_unapplied};
+ghost use Rattle.lp_session.specs.Parts.{IsFormHeld, IsEndOf, FitsForm, BeginsSo, WorksSo, reply_unapplied};
 
 use crate::awaited::{Begun, Pending, Worked};
 use crate::working::{how_by, is_found, solved_from, words_of_end};
-use lp_base::Texts;
 use lp_certificate::RawCertificate;
 use lp_form::{Basis, Form, form};
 use lp_frac::{Frac, Fracs};
@@ -18,7 +17,7 @@ use lp_line::{
 };
 use lp_model::{Edit, EditError, EditFault, Model, apply};
 use lp_mps::write::{WriteStop, fixed, free};
-use lp_solve::{End, OPENING_BUDGET, solve_formless, wide_solved_within};
+use lp_solve::{End, OPENING_BUDGET, solve_formless, solved_exactly_within};
 use spec_board::{BasisWords, Found};
 use spec_mps::Style;
 use spec_server::{How, Plain, Publication};
@@ -206,14 +205,19 @@ impl Holding {
         }
     }
 
-    // The lines of a wide solve of the model, of which nothing is kept.
+    // The lines of an exact solve of the model, of which nothing is kept.
     fn widen(&self, alloc: Global) -> Reply
         ensures { step.Begins self.now (asks.Plain commands.Wide) (step.Answers result self.now) }
     {
         let Some(model) = &self.model else {
             return Reply::Refused(Refusal::NoModel);
         };
-        match lines_of_wide(alloc, model, self.budget) {
+        let Ok(end) = solved_exactly_within(alloc, model, self.budget) else {
+            return Reply::Memory;
+        };
+        let lines = wide_lines(alloc, model, &end);
+        drop(end);
+        match lines {
             Ok(lines) => Reply::Wide(lines),
             Err(_) => Reply::Memory,
         }
@@ -259,16 +263,6 @@ impl Holding {
         };
         verdict_on(alloc, model, raw).unwrap_or(Reply::Memory)
     }
-}
-
-// The lines that a wide solve of the model is answered with.
-fn lines_of_wide(alloc: Global, model: &Model, budget: u32) -> Result<Texts, AllocError>
-    ensures { IfOk result (AreOfWide model.now budget) }
-{
-    let solved = wide_solved_within(alloc, model, budget)?;
-    let lines = wide_lines(alloc, model, budget, &solved);
-    drop(solved);
-    lines
 }
 
 // What is replied to an edit that is not applied.
