@@ -1,7 +1,7 @@
 -- Lemmas.
 pub mod Solving
 pub mod BasisPrints
-pub mod WideBasisPrints
+pub mod ExactPrints
 pub mod Generating
 pub mod Presolving
 pub mod Lines

@@ -13,13 +13,13 @@ use crate::basis::{BasisSaid, BasisStage};
 use crate::basis_out::print_fault;
 use crate::exit_status::ExitStatus;
 use crate::hearing::{Output, hear_input, write_said};
-use crate::wide_basis::print_wide_handed;
+use crate::wide_basis::print_exactly_handed;
 use lp_base::{Bytes, Sink, Source};
 use lp_line::Halt;
 use lp_mps::read::Reader;
 use std::alloc::{AllocError, Global};
 
-/// What a text and the basis file after it say, where a wide solve is asked for.
+/// What a text and the basis file after it say, where an exact solve is asked for.
 #[derive(Drop)]
 pub(crate) struct WideBasis {
     pub said: BasisSaid,
@@ -34,7 +34,7 @@ impl Output for WideBasis {
         let WideBasis { said } = self;
         match said {
             Ok(handed) => {
-                let printed = print_wide_handed(alloc, &handed, to);
+                let printed = print_exactly_handed(alloc, &handed, to);
                 drop(handed);
                 printed?;
                 Ok(ExitStatus::DONE)
@@ -47,7 +47,7 @@ impl Output for WideBasis {
     }
 }
 
-/// Reads the text that the source gives and the basis file after it, and writes what a wide solve from there ends with.
+/// Reads the text that the source gives and the basis file after it, and writes what an exact solve from there ends with.
 pub(crate) fn say_wide_basis<S: Source, K: Sink>(
     alloc: Global,
     text: Reader,

@@ -21,12 +21,12 @@
 //! | `generate` | makes the model, and writes its size and what a solve of it ends with | src/made |
 //! | `Writes`, `TellsOfWriting` | what it writes, by its answer and by its status | specs/Generating |
 //! | `print_solved` | writes what a solve of a model ends with | src/solve |
-//! | `print_wide_solved` | writes what a wide solve of a model ends with | src/wide |
+//! | `print_exactly_solved` | writes what an exact solve of a model ends with | src/wide |
 //! | `print_answer` | writes the line of the answer that a solve ended with | src/solve |
 //! | `print_end` | writes it, and the certificate behind it | src/solve |
 //! | `Handed`, `Start` | a model, and the basis from which it is solved | src/basis_start |
 //! | `print_handed` | writes what a solve from the basis of a file ends with | src/basis_out |
-//! | `print_wide_handed` | the same of a wide solve | src/wide_basis |
+//! | `print_exactly_handed` | the same of an exact solve | src/wide_basis |
 //! | `print_route`, `print_basis_fault` | writes how a solve from a basis went, and what is wrong with a basis file | src/bases |
 //! | `print_fault` | writes what is wrong with a text or a basis file | src/basis_out |
 //! | `Prints` | what is put after what was printed before | specs/Prints |

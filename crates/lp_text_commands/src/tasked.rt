@@ -13,7 +13,7 @@ use crate::exit_status::ExitStatus;
 use crate::hearing::{Output, hear_input, write_said};
 use crate::iis_out::print_iis;
 use crate::presolve_out::print_presolved;
-use crate::wide::print_wide_solved;
+use crate::wide::print_exactly_solved;
 use lp_base::{Bytes, Sink, Source};
 use lp_line::{Halt, Refusal, Reply, TextSaid};
 use lp_model::Model;
@@ -85,7 +85,7 @@ fn print_model(alloc: Global, task: Task, model: &Model, to: &mut Bytes) -> Resu
     ensures { OnOk result (Prints (TaskOut task (Ok model.now)) to.old to.new) }
 {
     match task {
-        Task::SolveWide => print_wide_solved(alloc, model, to),
+        Task::SolveWide => print_exactly_solved(alloc, model, to),
         Task::Presolve => print_presolved(alloc, model, to),
         Task::Search => print_iis(alloc, model, to),
     }

@@ -1,90 +1,41 @@
 // The solve of a model whose answer may have numbers of any width.
 ghost use Rattle.std.specs.Prelude.{◌≡◌, ◌++◌, Ok, OnOk};
-ghost use Rattle.spec_check.specs.Certificate.{IsFor};
-ghost use Rattle.spec_certificate.specs.TextWritten.{wide_certificate_lines};
-ghost use Rattle.spec_solve.specs.Wide.{IsWideSolved};
-ghost use Rattle.spec_server.specs.Machine.{opening_budget};
 ghost use Rattle.spec_server.specs.Output.{ended_lines};
-ghost use Rattle.spec_commands.specs.SolveWideOut.{SolveWideOut, wide_known_line, wide_end_lines, wide_solved_lines};
+ghost use Rattle.spec_server.specs.WideLines as wide;
+ghost use Rattle.spec_commands.specs.SolveWideOut.{SolveWideOut};
+ghost use Rattle.lp_line.specs.ExactEnds.{HasFit};
 ghost use Rattle.lp_text_commands.specs.Prints.{Prints};
 
-use crate::solve::print_end;
 use lp_base::Bytes;
-use lp_certificate::cert_text;
-use lp_check::wide::{Certificate, Known};
-use lp_line::{print_lines, push_wide_known};
+use lp_line::{print_lines, wide_lines};
 use lp_model::Model;
-use lp_solve::{OPENING_BUDGET, WideSolved, wide_solved_within};
+use lp_solve::{ExactEnd, OPENING_BUDGET, solved_exactly_within};
 use std::alloc::{AllocError, Global};
 
-/// Writes what a wide solve of the model ends with.
-pub(crate) fn print_wide_solved(
+/// Writes what an exact solve of the model ends with.
+pub(crate) fn print_exactly_solved(
     alloc: Global,
     model: &Model,
     to: &mut Bytes,
 ) -> Result<(), AllocError>
     ensures { OnOk result (Prints (SolveWideOut (Ok model.now)) to.old to.new) }
 {
-    let solved = wide_solved_within(alloc, model, OPENING_BUDGET)?;
-    let printed = print_wide_end(alloc, model, &solved, to);
-    drop(solved);
+    let end = solved_exactly_within(alloc, model, OPENING_BUDGET)?;
+    let printed = print_exact_end(alloc, model, &end, to);
+    drop(end);
     printed
 }
 
-// Writes the answer that a wide solve ended with, and its certificate.
-fn print_wide_end(
+// Writes the answer that an exact solve ended with, and its certificate.
+fn print_exact_end(
     alloc: Global,
     model: &Model,
-    solved: &WideSolved,
+    end: &ExactEnd,
     to: &mut Bytes,
 ) -> Result<(), AllocError>
-    requires { IsWideSolved model.now opening_budget solved.now }
-    ensures { OnOk result (to.new ≡ to.old ++ wide_end_lines model.now solved.now) }
+    requires { HasFit model.now end.now }
+    ensures { OnOk result (to.new ≡ to.old ++ ended_lines (wide.wide_lines model.now end.now)) }
 {
-    match solved {
-        WideSolved::Narrow(solved) => print_end(alloc, model, &solved.end, to),
-        WideSolved::Wide {
-            answer,
-            certificate,
-        } => print_wide(alloc, model, answer, certificate, to),
-    }
-}
-
-// Writes an answer with numbers of any width, and its certificate.
-#[tactic(auto, unfolding(spec_commands::specs::SolveWideOut::wide_solved_lines))]
-fn print_wide(
-    alloc: Global,
-    model: &Model,
-    answer: &Known,
-    certificate: &Certificate,
-    to: &mut Bytes,
-) -> Result<(), AllocError>
-    requires { IsFor model.now certificate.now }
-    ensures { OnOk result (to.new ≡ to.old ++ wide_solved_lines model.now answer.now certificate.now) }
-{
-    print_known(alloc, answer, to)?;
-    print_wide_certificate(alloc, model, certificate, to)
-}
-
-/// Writes the line of the answer.
-#[tactic(auto, unfolding(spec_commands::specs::SolveWideOut::wide_known_line))]
-pub(crate) fn print_known(alloc: Global, answer: &Known, to: &mut Bytes) -> Result<(), AllocError>
-    ensures { OnOk result (to.new ≡ to.old ++ wide_known_line answer.now) }
-{
-    push_wide_known(alloc, answer, to)?;
-    to.push(b'\n')
-}
-
-/// Writes the lines of the certificate.
-pub(crate) fn print_wide_certificate(
-    alloc: Global,
-    model: &Model,
-    certificate: &Certificate,
-    to: &mut Bytes,
-) -> Result<(), AllocError>
-    requires { IsFor model.now certificate.now }
-    ensures { OnOk result (to.new ≡ to.old ++ ended_lines (wide_certificate_lines model.now certificate.now)) }
-{
-    let lines = cert_text(alloc, model, certificate)?;
+    let lines = wide_lines(alloc, model, end)?;
     print_lines(&lines, to)
 }

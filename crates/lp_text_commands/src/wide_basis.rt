@@ -1,31 +1,33 @@
 // The solve of a model from the basis of a file, whose answer may have numbers of any width.
-ghost use Rattle.std.specs.Prelude.{◌≡◌, ◌++◌, IfSome, Ok, OnOk, Some};
+ghost use Rattle.std.specs.Prelude.{◌≡◌, ◌++◌, ◌∷◌, IfSome, Ok, OnOk, Some, None};
 ghost use Rattle.spec_exact.specs.Narrow.{number_limit};
 ghost use Rattle.spec_check.specs.Certificate.{IsFor};
+ghost use Rattle.spec_certificate.specs.TextWritten.{wide_certificate_lines};
 ghost use Rattle.spec_simplex.specs.Eliminate.{IsBasisOf};
 ghost use Rattle.spec_simplex.specs.Form.{form_of};
-ghost use Rattle.spec_solve.specs.Wide.{IsWideFrom};
-ghost use Rattle.spec_server.specs.Machine.{opening_budget};
-ghost use Rattle.spec_commands.specs.BasisOut.{final_text};
-ghost use Rattle.spec_commands.specs.BasisWideOut.{BasisWideOut, solved_of};
-ghost use Rattle.lp_text_commands.specs.Ends.{based_lines, found_lines};
+ghost use Rattle.spec_server.specs.Output.{ended_lines};
+ghost use Rattle.spec_server.specs.WideLines.{wide_known_text};
+ghost use Rattle.spec_commands.specs.BasisWideOut.{BasisWideOut, origin_text, based_text};
+ghost use Rattle.lp_line.specs.ExactEnds.{HasFit};
+ghost use Rattle.lp_text_commands.specs.Ends.{exact_lines, whole_lines, LeavesBased};
 ghost use Rattle.lp_text_commands.specs.Handed.{handed_of, IsStartOf};
 ghost use Rattle.lp_text_commands.specs.Prints.{Prints};
 
-use crate::bases::print_route;
-use crate::basis_out::{print_formless, print_whole};
 use crate::basis_start::{Handed, Start};
-use crate::wide::{print_known, print_wide_certificate};
 use lp_bas::write;
 use lp_base::Bytes;
-use lp_check::wide::Known;
-use lp_form::Form;
+use lp_certificate::cert_text;
+use lp_form::{Basis, Form};
+use lp_line::{print_lines, push_numbered, push_wide_known};
 use lp_model::Model;
-use lp_solve::{OPENING_BUDGET, WideAnswer, WideBased, wide_solved_from_basis};
+use lp_solve::{
+    ExactAnswer, ExactEnd, OPENING_BUDGET, solved_exactly_from_basis, solved_exactly_within,
+};
+use spec_solve::Origin;
 use std::alloc::{AllocError, Global};
 
-/// Writes what a wide solve of the model ends with. Of a model without a form it is what a solve ends with.
-pub(crate) fn print_wide_handed(
+/// Writes what an exact solve of the model ends with, from the basis if the model has a form.
+pub(crate) fn print_exactly_handed(
     alloc: Global,
     handed: &Handed,
     to: &mut Bytes,
@@ -33,21 +35,24 @@ pub(crate) fn print_wide_handed(
     ensures { OnOk result (Prints (BasisWideOut (Ok handed.now)) to.old to.new) }
 {
     match &handed.start {
-        Some(start) => print_wide_from(alloc, &handed.model, start, to),
-        None => print_wide_formless(alloc, &handed.model, to),
+        Some(start) => print_exactly_from(alloc, &handed.model, start, to),
+        None => print_exactly_formless(alloc, &handed.model, to),
     }
 }
 
-// A model without a form.
-fn print_wide_formless(alloc: Global, model: &Model, to: &mut Bytes) -> Result<(), AllocError>
+// A model without a form, of which there is no basis.
+fn print_exactly_formless(alloc: Global, model: &Model, to: &mut Bytes) -> Result<(), AllocError>
     requires { IsStartOf model.now None }
     ensures { OnOk result (Prints (BasisWideOut (Ok (handed_of model.now None))) to.old to.new) }
 {
-    print_formless(alloc, model, to)
+    let end = solved_exactly_within(alloc, model, OPENING_BUDGET)?;
+    let printed = print_end(alloc, model, &end, to);
+    drop(end);
+    printed
 }
 
 // From a basis of the model's form.
-fn print_wide_from(
+fn print_exactly_from(
     alloc: Global,
     model: &Model,
     start: &Start,
@@ -56,84 +61,91 @@ fn print_wide_from(
     requires { IsStartOf model.now (Some start.now) }
     ensures { OnOk result (Prints (BasisWideOut (Ok (handed_of model.now (Some start.now)))) to.old to.new) }
 {
-    let solved = wide_solved_from_basis(alloc, model, OPENING_BUDGET, &start.form, &start.basis)?;
-    let printed = print_based_end(alloc, model, start, &solved, to);
-    drop(solved);
+    let end = solved_exactly_from_basis(alloc, model, OPENING_BUDGET, &start.form, &start.basis)?;
+    let printed = print_whole(alloc, model, &start.form, &end, to);
+    drop(end);
     printed
 }
 
-// Writes what a wide solve from a basis ended with, and its basis.
-fn print_based_end(
-    alloc: Global,
-    model: &Model,
-    start: &Start,
-    solved: &WideBased,
-    to: &mut Bytes,
-) -> Result<(), AllocError>
-    requires start { IsStartOf model.now (Some start.now) }
-    requires solved { IsWideFrom model.now opening_budget (Some start.now.basis) solved.now }
-    ensures { OnOk result (to.new ≡ to.old ++ based_lines model.now (Ok start.now.form) solved.now) }
-{
-    match solved {
-        WideBased::Narrow(solved) => print_whole(alloc, model, &start.form, solved, to),
-        WideBased::Wide(found) => print_found(alloc, model, &start.form, found, to),
-    }
-}
-
-// Writes an answer with numbers of any width, and its basis.
-fn print_found(
+// Writes what an exact solve ended with, and its basis.
+fn print_whole(
     alloc: Global,
     model: &Model,
     form: &Form,
-    found: &WideAnswer,
+    end: &ExactEnd,
     to: &mut Bytes,
 ) -> Result<(), AllocError>
     requires formed { form_of (Some number_limit) model.now ≡ Ok form.now }
-    requires fits { IsFor model.now found.now.certificate }
-    requires basis { IfSome found.now.basis (λ basis. IsBasisOf form.now basis) }
-    ensures { OnOk result
-        (to.new ≡ to.old ++ (found_lines model.now found.now ++ final_text model.now (Ok form.now) (solved_of found.now).end)) }
+    requires fits { HasFit model.now end.now }
+    requires based { LeavesBased form.now end.now }
+    ensures { OnOk result (to.new ≡ to.old ++ whole_lines model.now (Ok form.now) end.now) }
 {
-    print_answer(alloc, model, found, to)?;
-    print_final(alloc, model, form, found, to)
+    print_end(alloc, model, end, to)?;
+    match end {
+        ExactEnd::Answered(answer) => print_based(alloc, model, form, &answer.basis, to),
+        ExactEnd::Open => Ok(()),
+    }
+}
+
+// Writes the answer, how it was found, and its certificate; or that nothing is known.
+fn print_end(alloc: Global, model: &Model, end: &ExactEnd, to: &mut Bytes) -> Result<(), AllocError>
+    requires { HasFit model.now end.now }
+    ensures { OnOk result (to.new ≡ to.old ++ exact_lines model.now end.now) }
+{
+    match end {
+        ExactEnd::Answered(answer) => print_answer(alloc, model, answer, to),
+        ExactEnd::Open => to.extend(b"OPEN\n"),
+    }
 }
 
 // Writes the answer, how it was found, and its certificate.
 fn print_answer(
     alloc: Global,
     model: &Model,
-    found: &WideAnswer,
+    answer: &ExactAnswer,
     to: &mut Bytes,
 ) -> Result<(), AllocError>
-    requires { IsFor model.now found.now.certificate }
-    ensures { OnOk result (to.new ≡ to.old ++ found_lines model.now found.now) }
+    requires { IsFor model.now answer.now.certificate }
+    ensures { OnOk result (to.new ≡ to.old ++ ended_lines
+        (wide_known_text answer.now.known ∷ origin_text answer.now.origin
+        ∷ wide_certificate_lines model.now answer.now.certificate)) }
 {
-    print_known(alloc, &found.known, to)?;
-    print_route(alloc, found.route, Some(found.pivots), to)?;
-    print_wide_certificate(alloc, model, &found.certificate, to)
+    push_wide_known(alloc, &answer.known, to)?;
+    to.push(b'\n')?;
+    push_origin(alloc, answer.origin, to)?;
+    to.push(b'\n')?;
+    let lines = cert_text(alloc, model, &answer.certificate)?;
+    print_lines(&lines, to)
 }
 
-// Writes the basis of an optimum, as a file.
-fn print_final(
+// Writes from where an answer was found after what is there.
+fn push_origin(alloc: Global, origin: Origin, to: &mut Bytes) -> Result<(), AllocError>
+    ensures { OnOk result (to.new ≡ to.old ++ origin_text origin) }
+{
+    match origin {
+        Origin::Cold => to.extend(b"COLD"),
+        Origin::Warm(pivots) => push_numbered(alloc, b"WARM PIVOTS ", pivots, to),
+        Origin::Fell(pivots) => push_numbered(alloc, b"FELL PIVOTS ", pivots, to),
+    }
+}
+
+// Writes the basis of an answer, as a file, where there is one.
+fn print_based(
     alloc: Global,
     model: &Model,
     form: &Form,
-    found: &WideAnswer,
+    basis: &Option<Basis>,
     to: &mut Bytes,
 ) -> Result<(), AllocError>
     requires formed { form_of (Some number_limit) model.now ≡ Ok form.now }
-    requires basis { IfSome found.now.basis (λ basis. IsBasisOf form.now basis) }
-    ensures { OnOk result (to.new ≡ to.old ++ final_text model.now (Ok form.now) (solved_of found.now).end) }
+    requires based { IfSome basis.now (λ basis. IsBasisOf form.now basis) }
+    ensures { OnOk result (to.new ≡ to.old ++ based_text model.now (Ok form.now) basis.now) }
 {
-    match found {
-        WideAnswer {
-            known: Known::Optimal(_),
-            basis: Some(basis),
-            ..
-        } => {
+    match basis {
+        Some(basis) => {
             let file = write(alloc, model, form, basis)?;
             to.extend(file.as_slice())
         }
-        WideAnswer { .. } => Ok(()),
+        None => Ok(()),
     }
 }

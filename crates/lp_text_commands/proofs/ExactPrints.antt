@@ -1,0 +1,113 @@
+-- What is written of an exact solve, cold and from the basis of a file.
+use Rattle.std.proofs.Common.{◌≡◌, ℕ, List, [], ◌∷◌, ◌++◌, codes, Option, Some, None, IfSome, Result, Ok, Err, OnOk, refl, ap, sym, ◌∙◌, append-nil, append_assoc}
+use Rattle.spec_exact.specs.Fraction.{ℚ}
+use Rattle.spec_exact.specs.Narrow.{number_limit}
+use Rattle.spec_model.specs.Model.{Model}
+use Rattle.spec_pivot.specs.declared.status.Status.{Status}
+use Rattle.spec_simplex.specs.declared.ends.FormFault.{FormFault}
+use Rattle.spec_simplex.specs.Eliminate.{IsBasisOf}
+use Rattle.spec_simplex.specs.Form.{Form, form_of}
+use Rattle.spec_solve.specs.declared.exact.ExactEnd.TheVariants.{Answered, Open}
+use Rattle.spec_solve.specs.Exact.{RationalEnd, RationalAnswer, IsBasisOfAnswer, IsExactAnswer, IsExactEnd}
+use Rattle.spec_server.specs.Machine.{opening_budget}
+use Rattle.spec_server.specs.Output.{ended_lines}
+use Rattle.spec_certificate.specs.TextWritten.{wide_certificate_lines}
+use Rattle.spec_server.specs.WideLines.{wide_known_text, wide_lines}
+use Rattle.spec_commands.specs.SolveWideOut.{SolveWideOut}
+use Rattle.spec_commands.specs.BasisOut.{Handed}
+use Rattle.spec_commands.specs.BasisWideOut.{BasisWideOut, origin_text, based_lines}
+use Rattle.lp_line.specs.ExactEnds.{HasFit}
+use Rattle.lp_text_commands.specs.Ends.{exact_lines, whole_lines, LeavesBased}
+use Rattle.lp_text_commands.specs.Prints.{Prints}
+
+-- ---- what such an end leaves
+
+pub exact_fits : (m : Model) (budget : ℕ) (starting : Option (List Status)) (end : RationalEnd) →
+    IsExactEnd m budget starting end → HasFit m end
+exact_fits m budget starting (Answered a) is = let h : IsExactAnswer m a = is in h.0.0
+exact_fits m budget starting Open is = tt
+
+leaves : (m : Model) (f : Form) (a : RationalAnswer) (basis : Option (List Status)) →
+    form_of (Some number_limit) m ≡ Ok f → IfSome basis (IsBasisOfAnswer m a.certificate) →
+    IfSome basis (λ basis. IsBasisOf f basis)
+leaves m f a (Some basis) formed at = at.of_form f formed
+leaves m f a None formed at = tt
+
+pub exact_leaves : (m : Model) (f : Form) (budget : ℕ) (starting : Option (List Status)) (end : RationalEnd) →
+    form_of (Some number_limit) m ≡ Ok f → IsExactEnd m budget starting end → LeavesBased f end
+exact_leaves m f budget starting (Answered a) formed is =
+    let h : IsExactAnswer m a = is in leaves m f a a.basis formed h.1
+exact_leaves m f budget starting Open formed is = tt
+
+-- ---- its lines
+
+pub open_line : {T E : Type 0} (m : Model) (end : RationalEnd) (before after : List ℕ) (result : Result T E) →
+    end ≡ Open → OnOk result (after ≡ before ++ codes "OPEN\n") → OnOk result (after ≡ before ++ exact_lines m end)
+unfolding ended_lines
+open_line m end before after (Ok u) e h = h ∙ ap (λ end. before ++ exact_lines m end) (sym e)
+open_line m end before after (Err why) e h = tt
+
+joined : (before k o rest : List ℕ) → ((((before ++ k) ++ 10 ∷ []) ++ o) ++ 10 ∷ []) ++ rest
+    ≡ before ++ ((k ++ 10 ∷ []) ++ ((o ++ 10 ∷ []) ++ rest))
+joined before k o rest =
+    let n : List ℕ = 10 ∷ [] in
+    let front : List ℕ = (before ++ k) ++ n in
+    ap (λ xs. xs ++ rest) (append_assoc front o n) ∙ append_assoc front (o ++ n) rest
+    ∙ ap (λ xs. xs ++ ((o ++ n) ++ rest)) (append_assoc before k n) ∙ append_assoc before (k ++ n) ((o ++ n) ++ rest)
+
+pub answer_lines : {T E : Type 0} (m : Model) (a : RationalAnswer) (before t u v w after : List ℕ)
+    (lines : List (List ℕ)) (result : Result T E) →
+    t ≡ before ++ wide_known_text a.known → u ≡ t ++ 10 ∷ [] → v ≡ u ++ origin_text a.origin → w ≡ v ++ 10 ∷ [] →
+    lines ≡ wide_certificate_lines m a.certificate → OnOk result (after ≡ w ++ ended_lines lines) →
+    OnOk result (after ≡ before ++ ended_lines
+    (wide_known_text a.known ∷ origin_text a.origin ∷ wide_certificate_lines m a.certificate))
+unfolding ended_lines
+answer_lines m a before t u v w after lines (Ok done) is_t is_u is_v is_w are is =
+    is ∙ ap (λ xs. xs ++ ended_lines lines) (is_w ∙ ap (λ xs. xs ++ 10 ∷ []) (is_v
+    ∙ ap (λ xs. xs ++ origin_text a.origin) (is_u ∙ ap (λ xs. xs ++ 10 ∷ []) is_t)))
+    ∙ ap (λ ls. ((((before ++ wide_known_text a.known) ++ 10 ∷ []) ++ origin_text a.origin) ++ 10 ∷ []) ++ ended_lines ls) are
+    ∙ joined before (wide_known_text a.known) (origin_text a.origin) (ended_lines (wide_certificate_lines m a.certificate))
+answer_lines m a before t u v w after lines (Err why) is_t is_u is_v is_w are is = tt
+
+-- ---- the whole
+
+-- the lines of an end are an output of the solve
+pub prints_exact : {T E : Type 0} (m : Model) (end : RationalEnd) (before after : List ℕ) (result : Result T E) →
+    IsExactEnd m opening_budget None end → OnOk result (after ≡ before ++ ended_lines (wide_lines m end)) →
+    OnOk result (Prints (SolveWideOut (Ok m)) before after)
+prints_exact m end before after (Ok u) is lines =
+    record { output = ended_lines (wide_lines m end); is_output = (end, is, refl); behind = lines }
+prints_exact m end before after (Err why) is lines = tt
+
+whole_is : (m : Model) (end : RationalEnd) → whole_lines m (form_of (Some number_limit) m) end ≡ based_lines m end
+whole_is m (Answered a) = refl
+whole_is m Open = refl
+
+-- and with the basis of the answer one from a basis
+pub prints_whole : {T E : Type 0} (handed : Handed) (form : Result Form (FormFault ℚ)) (end : RationalEnd)
+    (before after : List ℕ) (result : Result T E) → form_of (Some number_limit) handed.model ≡ form →
+    IsExactEnd handed.model opening_budget handed.basis end →
+    OnOk result (after ≡ before ++ whole_lines handed.model form end) →
+    OnOk result (Prints (BasisWideOut (Ok handed)) before after)
+prints_whole handed form end before after (Ok u) formed is lines =
+    let m = handed.model in
+    record {
+      output = based_lines m end;
+      is_output = (end, is, refl);
+      behind = lines ∙ ap (λ o. before ++ whole_lines m o end) (sym formed) ∙ ap (λ bs. before ++ bs) (whole_is m end);
+    }
+prints_whole handed form end before after (Err why) formed is lines = tt
+
+-- without a form there is no basis
+formless_is : (m : Model) (why : FormFault ℚ) (end : RationalEnd) → exact_lines m end ≡ whole_lines m (Err why) end
+formless_is m why (Answered a) = sym (append-nil (exact_lines m (Answered a)))
+formless_is m why Open = refl
+
+pub prints_formless : {T E : Type 0} (m : Model) (why : FormFault ℚ) (end : RationalEnd) (before after : List ℕ)
+    (result : Result T E) → form_of (Some number_limit) m ≡ Err why → IsExactEnd m opening_budget None end →
+    OnOk result (after ≡ before ++ exact_lines m end) →
+    OnOk result (Prints (BasisWideOut (Ok (record { model = m; basis = None }))) before after)
+prints_formless {E = E} m why end before after (Ok u) formless is lines =
+    prints_whole {E = E} (record { model = m; basis = None }) (Err why) end before after (Ok u) formless is
+    (lines ∙ ap (λ bs. before ++ bs) (formless_is m why end))
+prints_formless m why end before after (Err u) formless is lines = tt
