@@ -63,7 +63,7 @@ def measured(options, model, faults):
     lines, _ = basis_lines(model.plain, claim.basis)
     handed = model.data + "".join(f"{line}\n" for line in lines).encode()
     said, basis = least(options.runs, lambda: run([*options.program, "basis", "--wide"], handed, options.seconds))
-    answer, how, *rest = (said or "TIME\n\n").splitlines()
+    answer, how, *rest = [*(said or "TIME").splitlines(), ""]
     if answer.split()[0] not in ANSWERS:
         faults.append(f"{model.name}: {answer}")
         return None, how, 0, (solver, basis or options.seconds, 0)

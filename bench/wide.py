@@ -45,7 +45,7 @@ def measured(options, model, faults):
     word, bits, check = answer.split()[0], None, None
     if word in ANSWERS:
         bits, check = bits_of(certificate[1:-1]), checked(options, model, answer, certificate, faults)
-    elif word not in ("PAST", "SPENT", "TIME"):
+    elif word not in ("OPEN", "TIME"):
         faults.append(f"{model.name}: {answer}")
     esolver = by_esolver(options, model, answer if word in ANSWERS else None, faults) if Esolver.is_there() else None
     return Found(word, bits, solve, check, esolver)
@@ -68,7 +68,7 @@ def cells(found, is_kind):
 def summed_up(found, seconds):
     """What the table says in short."""
     answered = [one for one in found if one.ended in ANSWERS]
-    others = [("end `PAST`", "PAST"), ("end `SPENT`", "SPENT"), (f"are not done within {seconds} s", "TIME"), ("fail", "FAILED")]
+    others = [("end `OPEN`", "OPEN"), (f"are not done within {seconds} s", "TIME"), ("fail", "FAILED")]
     counts = [f"{number} {words}" for words, end in others if (number := sum(one.ended == end for one in found))]
     yield f"Of {len(found)} models {len(answered)} are answered" + "".join(f", {words}" for words in counts) + "."
     if answered:

@@ -19,7 +19,7 @@ REPLIES = [
 BEHIND = {5: r" [^ \t]+", 6: r" [^ \t]+", 7: r" (?:ROWS 256|COLUMNS 512)", 8: r" \d+ M\d+", 10: r" [^ \t]+", 12: r" [^ \t]+", 14: r" \d+", 16: r" [^ \t]+"}
 # Lines of the commands that read a text.
 OF_TEXTS = [
-    ANSWER, PAST, r"SPENT \d+", rf"YES (?:{ANSWER})", r"NO [1-5]", r"WARM PIVOTS \d+",
+    ANSWER, PAST, r"SPENT \d+", rf"YES (?:{ANSWER})", r"NO [1-5]", "OPEN", "COLD", r"(?:WARM|FELL) PIVOTS \d+",
     r"FELL (?:SINGULAR|UNFIT|PAST|SPENT) PIVOTS (?:\d+|-)", r"COLD PIVOTS (?:\d+|-)", rf"RANGE (?:{NUMBER}|NONE) (?:{NUMBER}|NONE) SLOPE {NUMBER}",
 ]
 
@@ -98,7 +98,7 @@ def may_both_be(one: Reply, other: Reply) -> bool:
         return False
     if words[0] == words[1] == "WIDE":
         first, second = one.more[0], other.more[0]
-        return first == second or any(line.split(b" ")[0].decode("latin-1") in STOPS for line in (first, second))
+        return first == second or b"OPEN" in (first, second)
     if words[0] == words[1]:
         return words[0] in ("HOW", "CERT")
     return any(first in STOPS and second in ANSWERS for first, second in (words, words[::-1]))
