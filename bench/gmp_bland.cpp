@@ -1,4 +1,4 @@
-// Solves a linear program as lpd's cold solve does (docs/SOLVER.md), in the fractions of GMP: the same start, both
+// Solves a linear program as lpd's cold solve does (docs/ALGORITHMS.md), in the fractions of GMP: the same start, both
 // phases and Bland's rule, hence the same pivots, with no limit on numbers.
 //
 //     g++ -std=c++17 -O3 -march=x86-64-v2 -o gmp_bland gmp_bland.cpp -lgmp

@@ -1,4 +1,4 @@
-"""The smaller model of `lpd presolve`, made here once more by the rules of docs/SOLVER.md, since the program writes its size alone.
+"""The smaller model of `lpd presolve`, made here once more by the rules of docs/ALGORITHMS.md, since the program writes its size alone.
 
 A row without entries goes. One with one entry becomes a bound of its column. A column whose bounds are one number goes into the
 right sides. The first rule that applies is taken, and in it the first row or column, until none applies, or one row or column
