@@ -3,17 +3,19 @@
 
     check_docs.py
 
-Each path in backquotes in the pages at the top and in docs/ and its folders has to exist, each link has to lead to a file, and each name in
-backquotes in docs/READING.md and docs/PROOFS.md has to be a crate or stand in the sources of one. Each crate stands in one
-layer of the drawing in docs/ARCHITECTURE.md, and names in crates.txt only crates of its layer and of those below. Each has one
-row in the tables there, which says that it stands on crates that crates.txt names for it, and of these leaves out only such
-that one of the others stands on. The table of the promises in docs/PROOFS.md has a row for each sentence of each promise of
-README.md, and each clause that a row names is there. It prints what is missing; the status is 1 where something is.
+Each path in backquotes in the pages at the top and in docs/ and its folders has to exist, each link has to lead to a file, and each
+name in backquotes in docs/TRUST.md and docs/HACKING.md has to be a crate or stand in the sources of one. Each crate stands in one
+layer of the drawing in docs/ARCHITECTURE.md, and names in crates.txt only crates of its layer and of those below. The picture and
+the tables there are what tools/draw_crates.py writes, and docs/PROOFS.md is what tools/list_laws.py writes. The table of the
+promises in docs/TRUST.md has a row for each sentence of each promise there, and each clause that a row names is there. It
+prints what is missing; the status is 1 where something is.
 """
 import re
 import sys
 from pathlib import Path
 
+import draw_crates
+import list_laws
 from count_definitions import crates_below
 from helping import helps
 
@@ -91,39 +93,32 @@ def section(document, title):
     return text.partition(f"## {title}\n")[2].partition("\n## ")[0]
 
 
+def numbered(document, title):
+    """The numbers and the texts of a numbered list."""
+    return re.findall(r"^(\d+)\. (.*)$", section(document, title), re.M)
+
+
 def unpromised():
-    """Why the table of the promises is not that of README.md."""
-    table = section("docs/PROOFS.md", "The promises of README")
+    """Why the table of the promises is not that of the promises, or README.md has others."""
+    table = section("docs/TRUST.md", "The promises, clause by clause")
     rows = re.findall(r"^\| (\d+\.\d+) \|", table, re.M)
-    promises = re.findall(r"^(\d+)\. (.*)$", section("README.md", "What is promised"), re.M)
+    promises = numbered("docs/TRUST.md", "The promises, exactly")
     said = [f"{number}.{k + 1}" for number, text in promises for k in range(len(BETWEEN.split(text)))]
     for row in sorted({*rows} ^ {*said}):
-        yield f"README.md has no sentence {row}" if row in rows else f"no row for the sentence {row} of README.md"
+        yield f"no promise has a sentence {row}" if row in rows else f"no row for the sentence {row} of the promises"
+    if [number for number, _ in numbered("README.md", "What is promised")] != [number for number, _ in promises]:
+        yield "README.md has more or fewer promises"
     there = clauses()
     for name in re.findall(r"`([^`\n]+)`", table):
         if CLAUSE.fullmatch(name) and name not in there and name != "a.b":
             yield f"there is no clause {name}"
 
 
-def section_of_crates():
-    text = (TOP / "docs" / "ARCHITECTURE.md").read_text(encoding="utf-8")
-    return text.partition("## The crates\n")[2].partition("### Crates of the kit\n")[0]
-
-
-def layers():
-    """The layer of each crate, counted from the top of the drawing."""
-    drawing = section_of_crates().partition("```\n")[2].partition("```")[0]
-    layer, found = 0, {}
-    for line in drawing.splitlines():
-        # a line of a layer begins with its name, and goes on in lines that begin behind it
-        layer += bool(re.match(r"  \S", line))
-        found |= {name: layer for name in re.findall(r"\b(?:\w+_\w+|lpd)\b", line)}
-    return found
-
-
 def misplaced():
     """Why the drawing of the layers is not that of crates.txt."""
-    layer = layers()
+    page = (TOP / "docs" / "ARCHITECTURE.md").read_text(encoding="utf-8")
+    rows = [crates for half in draw_crates.layers(page).values() for crates in half.values()]
+    layer = {crate: number for number, crates in enumerate(rows) for crate in crates}
     for crate, below in crates_below().items():
         if crate not in layer:
             yield f"no layer for {crate}"
@@ -132,47 +127,29 @@ def misplaced():
                 yield f"{crate} names {name}, of a layer above its own"
 
 
-def standing(names, below):
-    """These crates, and all that they stand on."""
-    found, left = set(), [*names]
-    while left:
-        crate = left.pop()
-        if crate not in found:
-            found.add(crate)
-            left += below.get(crate, [])
-    return found
-
-
-def misstated():
-    """Why the tables of crates do not say what the crates stand on."""
-    below = crates_below()
-    rows = re.findall(r"^\| `(\w+)` \|.*\|([^|]*)\|$", section_of_crates(), re.M)
-    for crate in sorted({*below}.symmetric_difference(crate for crate, _ in rows)):
-        yield f"no row for {crate}" if crate in below else f"a row for {crate}, which crates.txt does not name"
-    for crate, cell in rows:
-        said, names = re.findall(r"`(\w+)`", cell), below.get(crate, [])
-        for name in said:
-            if name not in names:
-                yield f"the row of {crate} says that it stands on {name}, and crates.txt does not"
-        for name in names:
-            if name in below and name not in standing(said, below):
-                yield f"{crate} stands on {name}, and its row names neither it nor a crate above it"
+def wrong():
+    """What is wrong with the pages that are made of others, or speak of them."""
+    for what in misplaced():
+        yield f"docs/ARCHITECTURE.md: {what}"
+    for tool in (draw_crates, list_laws):
+        yield from (f"{path.relative_to(TOP)} is not what tools/{tool.__name__}.py writes" for path in tool.outdated())
+    for what in unpromised():
+        yield f"docs/TRUST.md: {what}"
 
 
 def main():
     names = set(re.findall(r"[\w◌-]+", sources())) | {path.name for path in (TOP / "crates").iterdir()}
-    named = {TOP / "docs" / "READING.md", TOP / "docs" / "PROOFS.md"}
+    named = {TOP / "docs" / "TRUST.md", TOP / "docs" / "HACKING.md"}
     documents = [*sorted(TOP.glob("*.md")), *sorted((TOP / "docs").rglob("*.md"))]
-    missing = [(document, what) for document in documents for what in missing_in(document, names if document in named else None)]
-    for document, what in missing:
-        print(f"{document.relative_to(TOP)}: there is no {what}")
-    wrong = [*misplaced(), *misstated()]
-    for what in wrong:
-        print(f"docs/ARCHITECTURE.md: {what}")
-    promises = [*unpromised()]
-    for what in promises:
-        print(f"docs/PROOFS.md: {what}")
-    return 1 if missing or wrong or promises else 0
+    found = [
+        f"{document.relative_to(TOP)}: there is no {what}"
+        for document in documents
+        for what in missing_in(document, names if document in named else None)
+    ]
+    found += wrong()
+    for what in found:
+        print(what)
+    return 1 if found else 0
 
 
 if __name__ == "__main__":

@@ -5,7 +5,7 @@
 
 Each crate in the table under "Crates of the kit" has to be named in the line of crates.txt, and in a `use` of the sources,
 of a crate that the program stands on; and each crate of the kit that such a crate names in crates.txt has to be in the
-table. docs/PROOFS.md says under "What is trusted" that these crates are. It prints what is not so; the status is 1 where
+table. docs/TRUST.md says under "What is trusted" that these crates are. It prints what is not so; the status is 1 where
 something is.
 """
 import re
@@ -43,8 +43,8 @@ def named():
 
 
 def trusted():
-    """The crates of the kit that docs/PROOFS.md says are trusted."""
-    text = (TOP / "docs" / "PROOFS.md").read_text(encoding="utf-8")
+    """The crates of the kit that docs/TRUST.md says are trusted."""
+    text = (TOP / "docs" / "TRUST.md").read_text(encoding="utf-8")
     section = text.partition("## What is trusted\n")[2].partition("\n#")[0]
     return set(re.findall(r"`(\w+)`", section))
 
@@ -58,9 +58,9 @@ def complaints():
     for name in sorted({name for crate in crates for name in lines[crate]} - set(lines) - kit):
         yield f"a crate below {PROGRAM} names {name} of the kit, but docs/ARCHITECTURE.md does not"
     for name in sorted(kit - trusted()):
-        yield f"docs/PROOFS.md does not say that {name} of the kit is trusted"
+        yield f"docs/TRUST.md does not say that {name} of the kit is trusted"
     for name in sorted(trusted() - kit):
-        yield f"docs/PROOFS.md says that {name} is trusted, but docs/ARCHITECTURE.md does not name it"
+        yield f"docs/TRUST.md says that {name} is trusted, but docs/ARCHITECTURE.md does not name it"
     if not kit:
         yield "docs/ARCHITECTURE.md has no table of the kit's crates"
 

@@ -5,7 +5,7 @@
     count_definitions.py --files      prints the files with these definitions, each behind those that it rests on: how many of
                                       its lines count, for all commands, for `run` alone, for `solve` alone, and for the truth
                                       clause
-    count_definitions.py --check      compares the numbers with those in docs/READING.md, with a line for each that is larger
+    count_definitions.py --check      compares the numbers with those in docs/TRUST.md, with a line for each that is larger
                                       than the page says; the status is 1 where one is
 
 It reads the sources alone. From the clauses of `lpd_top` on, each name leads to what it names, by the `use` lines of the file
@@ -30,7 +30,7 @@ from helping import helps
 
 TOP = Path(__file__).resolve().parent.parent
 CRATES = TOP / "crates"
-PAGE = TOP / "docs" / "READING.md"
+PAGE = TOP / "docs" / "TRUST.md"
 CONTRACT = ("lp_top", "lpd_top")
 # The name of the clause that says that what is written is true, with which those of its further parts begin.
 TRUTH = "truth"
