@@ -85,7 +85,10 @@ def measure(options):
 def main():
     options = read_options(__doc__, "folder", most=20)
     os.environ.update(LPD=options.program[0], PYTHONPATH=str(TOP / "clients" / "python"))
-    lines = list(measure(options))
+    os.environ.pop("PYTHONDONTWRITEBYTECODE", None)
+    with tempfile.TemporaryDirectory() as compiled:
+        os.environ["PYTHONPYCACHEPREFIX"] = compiled  # as it is from the second run on, and nothing is left in the tree
+        lines = list(measure(options))
     print("\n".join(lines))
     return ended(options.write, BEGIN, END, lines, [])
 
