@@ -8,7 +8,7 @@ from typing import List, Optional, Sequence
 from .errors import Unexpected
 from .model import words_of
 from .once import SWITCH, answer_in, output_of, unexpected_of
-from .replies import Answer
+from .replies import Answer, Open
 from .session import FALLS, body_of, count_of
 
 
@@ -30,7 +30,9 @@ def is_start(words: Sequence[str]) -> bool:
 
 
 def read_answer(lines: Sequence[str]) -> FromBasis:
-    """What the program wrote."""
+    """What the program wrote. Behind OPEN, which is no answer, nothing may stand."""
+    if list(lines) == [str(Open())]:
+        return FromBasis(Open(), "", None, [], [])
     if len(lines) < 2:
         raise Unexpected(f"lpd basis wrote {len(lines)} lines, which is no answer")
     answer, words = answer_in(lines, 0, "basis"), words_of(lines[1])

@@ -16,6 +16,7 @@ from unittest import mock
 import lpd
 from lpd.certifying import BASIS_WIDE, certify
 from lpd.floating import Claim
+from lpd.from_basis import read_answer
 from lpd.judging import judged
 from lpd.once import has_command
 from lpd.ways import ALONE, BOTH, WIDE, Effort, answered
@@ -156,6 +157,8 @@ class SolveWide(unittest.TestCase):
         found = read_wide_solved([OPTIMAL, *CERTIFICATE])
         self.assertEqual(found, lpd.WideSolved(lpd.Optimal(Fraction(VALUE)), CERTIFICATE))
         self.assertEqual(read_wide_solved(["PAST MUL 2 3"]), lpd.WideSolved(lpd.Past("MUL", Fraction(2), Fraction(3)), []))
+        self.assertEqual(read_wide_solved(["OPEN"]), lpd.WideSolved(lpd.Open(), []))
+        self.assertEqual(read_answer(["OPEN"]), lpd.FromBasis(lpd.Open(), "", None, [], []))
         for lines in ([], ["YES"], ["REDUCED 1 2"]):
             with self.assertRaises(lpd.Unexpected):
                 read_wide_solved(lines)
@@ -190,6 +193,19 @@ class SolveWide(unittest.TestCase):
             self.assertEqual(command("solve", "-", "--show", "answer", stdin=TEXT.encode()).complaints.count(NO_SOLVE), 1)
             said = command("solve", "-", "--wide", "--show", "answer", "--exact", stdin=TEXT.replace("e30", "e3").encode())
         self.assertEqual(said, (0, reported(OPTIMAL.replace("0" * 60, "0" * 6) + "\n"), f"note: {NO_SOLVE}, so lpd solve was asked\n"))
+
+    def test_no_answer(self) -> None:
+        """A line that later programs write in place of PAST and SPENT: other ways are gone then."""
+        with program_with_wide(), program("/bin/cat >/dev/null; echo OPEN", "solve --wide"):
+            said = command("solve", "-", "--wide", "--only-lpd", stdin=TEXT.encode())
+            self.assertEqual((said.status, said.output.splitlines()[:2]), (12, ["OPEN", "There is no answer, at whatever width the program has."]))
+            said = command("solve", "-", "--show", "answer", "--exact", stdin=TEXT.encode())
+            self.assertEqual((said.status, said.output.split(" (")[0]), (0, OPTIMAL))
+            self.assertIn("note: the first try, lpd solve --wide, has no answer\n", said.complaints)
+            told = json.loads(command("solve", "-", "--wide", "--only-lpd", "--json", stdin=TEXT.encode()).output)
+        self.assertEqual((told["answer"], told["kind"], told["certificate"]), ("OPEN", "OPEN", []))
+        with program_with_wide(), program("/bin/cat >/dev/null; echo OPEN", "basis --wide"):
+            self.assertEqual(command("certify", "-", "--with", "none", "--by", "lpd", stdin=TEXT.encode()).status, 12)
 
     def test_a_certificate_that_a_checker_does_not_accept(self) -> None:
         for wrong in (self.solved("OPTIMAL 1"), self.solved(certificate=[*CERTIFICATE[:4], "y b 2", "END"])):

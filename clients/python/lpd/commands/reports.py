@@ -7,7 +7,7 @@ from typing import Dict, List, Optional, Sequence
 from ..certificate import matched, read_certificate
 from ..figures import Style
 from ..model import Model
-from ..replies import Answer, Optimal, Past, Spent, Unbounded
+from ..replies import Answer, Open, Optimal, Past, Spent, Unbounded
 from ..report import ColumnReport, Report, RowReport
 from .common import table
 
@@ -31,6 +31,8 @@ def words_for(answer: Answer, model: Model, certificate: List[str], style: Style
         return growth(model, certificate, style)
     if isinstance(answer, Past):
         return "The result of this operation does not fit 127 bits, so lpd solve has no answer."
+    if isinstance(answer, Open):
+        return "There is no answer, at whatever width the program has."
     return f"The solve is not done after {answer.budget} pivots and flips: --budget allows more." if isinstance(answer, Spent) else ""
 
 
