@@ -4,7 +4,7 @@ from __future__ import annotations
 
 import functools
 import math
-from dataclasses import dataclass
+from dataclasses import dataclass, replace
 from fractions import Fraction
 from typing import Callable, Dict, List, Optional, Sequence
 
@@ -14,6 +14,7 @@ from .number_text import shown
 
 ZERO = Fraction(0)
 MOST_TERMS = 6  # of a sum that is told
+LONG_MULTIPLIER = 1000
 
 
 @dataclass(frozen=True)
@@ -93,6 +94,14 @@ class Conflict:
     def __str__(self) -> str:
         return self.told(shown)
 
+    def scaled(self) -> Conflict:
+        """The same, but for a factor: where multipliers are long, the least of them is 1."""
+        sizes = [abs(row.multiplier) for row in self.rows]
+        if not sizes or max(sizes) < LONG_MULTIPLIER:
+            return self
+        rows = [replace(row, multiplier=row.multiplier / min(sizes)) for row in self.rows]
+        return Conflict(rows, self.asked / min(sizes), self.allowed / min(sizes))
+
     def told(self, number: Callable[[Fraction], str]) -> str:
         """What contradicts what, in a sentence whose numbers are shown so."""
         if self.column is not None:
@@ -102,13 +111,13 @@ class Conflict:
         lower, upper = [row for row in self.rows if row.is_lower], [row for row in self.rows if not row.is_lower]
         most = sum((-row.multiplier * row.limit for row in upper), ZERO)
         if not lower:
-            return f"{sum_of(upper)} allow {number(most)} at most, and the bounds of the columns ask for {number(-self.allowed)} at least."
+            return f"{sum_of(upper, number)} allow {number(most)} at most, and the bounds of the columns ask for {number(-self.allowed)} at least."
         least, of_bounds = self.asked + most, "the bounds of the columns"
-        asks = f"{sum_of(lower)} ask{'' if len(lower) > 1 else 's'} for {number(least)} at least"
+        asks = f"{sum_of(lower, number)} ask{'' if len(lower) > 1 else 's'} for {number(least)} at least"
         if not upper:
             return f"{asks}, and {of_bounds} allow {number(self.allowed)} at most."
         s = "" if len(upper) > 1 or self.allowed else "s"
-        return f"{asks}, and {sum_of(upper)}{f' with {of_bounds}' if self.allowed else ''} allow{s} {number(most + self.allowed)} at most."
+        return f"{asks}, and {sum_of(upper, number)}{f' with {of_bounds}' if self.allowed else ''} allow{s} {number(most + self.allowed)} at most."
 
     def of_one_row(self, number: Callable[[Fraction], str]) -> str:
         row, times = self.rows[0], abs(self.rows[0].multiplier)
@@ -118,17 +127,17 @@ class Conflict:
         return f"Row {row.name} allows {number(row.limit)} at most, and the bounds of the columns ask for {most} at least."
 
 
-def sum_of(rows: Sequence[ConflictRow]) -> str:
+def sum_of(rows: Sequence[ConflictRow], number: Callable[[Fraction], str]) -> str:
     """The sum of some rows in words, of which many are counted."""
-    terms = [f"{times_of(row)}{row.name}" for row in rows]
+    terms = [f"{times_of(row, number)}{row.name}" for row in rows]
     if len(terms) <= MOST_TERMS:
         return " + ".join(terms)
     return f"{' + '.join(terms[:3])} + .. + {terms[-1]} ({len(terms)} rows)"
 
 
-def times_of(row: ConflictRow) -> str:
+def times_of(row: ConflictRow, number: Callable[[Fraction], str]) -> str:
     times = abs(row.multiplier)
-    return "" if times == 1 else f"{shown(times)} "
+    return "" if times == 1 else f"{number(times)} "
 
 
 def conflict(model: Model, certificate: Sequence[str]) -> Conflict:

@@ -6,6 +6,7 @@ from fractions import Fraction
 from pathlib import Path
 
 import lpd
+from lpd.figures import READABLE
 from lpd.model import Limits
 from lpd.number_text import TooWide, number, shown
 
@@ -258,6 +259,14 @@ class Reports(unittest.TestCase):
         self.assertEqual(str(found), "R2 asks for 2 at least, and R1 with the bounds of the columns allow -0.5 at most.")
         found = lpd.conflict(lpd.read_model(text), ["INFEASIBLE", "y R1 -2", "y R2 1", "END"])
         self.assertEqual(str(found), "R2 asks for 2 at least, and 2 R1 with the bounds of the columns allow 0.5 at most.")
+
+    def test_long_multipliers(self) -> None:
+        text = "ROWS\n N cost\n L R1\n G R2\nCOLUMNS\n x R1 1 R2 0.001\nRHS\n R1 1 R2 2\nENDATA\n"
+        found = lpd.conflict(lpd.read_model(text), ["INFEASIBLE", "y R1 -1/3001", "y R2 1000/3001", "END"])
+        self.assertEqual(str(found), "1000 R2 asks for 2000 at least, and R1 allows 1 at most.")
+        found = lpd.conflict(lpd.read_model(text.replace("0.001", "3/4001")), ["INFEASIBLE", "y R1 -3", "y R2 4001", "END"])
+        self.assertEqual(found.scaled().told(READABLE.word), "~1333.67 R2 asks for ~2667.33 at least, and R1 allows 1 at most.")
+        self.assertEqual(str(found), "4001 R2 asks for 8002 at least, and 3 R1 allows 3 at most.")
 
     def test_sums_that_contradict_each_other(self) -> None:
         rows = [f" G d{n}" for n in range(40)] + [f" L s{n}" for n in range(3)]

@@ -130,6 +130,20 @@ class WithoutTheCommand(unittest.TestCase):
             said = command("solve", str(DEPARTMENTS), "--iis")
             self.assertEqual((said.status, said.complaints), (10, "lpd: there is no list: this program has no command iis\n"))
 
+    def test_it_ran_out_of_digits(self) -> None:
+        """Then it is asked for the limits of the certificate alone."""
+        past, model = lpd.Past("SUB", Fraction(10**50), Fraction(10**60, 7)), lpd.read_model(DEPARTMENTS.read_text())
+        stopped = lpd.Irreducible(lpd.Infeasible(), stopped=past)
+        with mock.patch("lpd.commands.conflicts.iis", side_effect=[stopped, read_iis(model, WRITTEN)]) as asked:
+            said = command("solve", str(DEPARTMENTS))
+        self.assertEqual((said.status, said.complaints, asked.call_count), (10, "", 2))
+        self.assertIn(f"  {SENTENCES[0]}\n", said.output)
+        part = lpd.read_model(asked.call_args_list[1].args[0])
+        self.assertEqual((list(part.rows), part.columns["manuals"].limits()), (["hours", "sales", "service", "training"], (None, None)))
+        with mock.patch("lpd.commands.conflicts.iis", side_effect=[stopped, stopped]):
+            said = command("solve", str(DEPARTMENTS))
+        self.assertEqual(said.complaints, "note: it is not known which limits can be left out: lpd iis ran out of digits\n")
+
     def test_it_takes_too_long(self) -> None:
         with mock.patch("lpd.commands.conflicts.iis", side_effect=lpd.OutOfTime("lpd iis is not done in 1 seconds")):
             said = command("solve", str(DEPARTMENTS))

@@ -6,43 +6,60 @@ from fractions import Fraction
 from typing import Dict, List, Optional, Sequence
 
 from ..certificate import Failed, must_be_feasible
+from ..dialects import PROFILE, written
 from ..errors import CommandMissing, LpdError, Refused
 from ..exact import OutOfTime
 from ..figures import Style, outward
-from ..irreducible import Irreducible, Member, iis
+from ..irreducible import Irreducible, Member, iis, only
 from ..model import Model
 from ..number_text import shown
-from ..remedy import Advice, Change, Remedy, advise, without
-from ..replies import Answer, Infeasible
+from ..remedy import Advice, Change, Remedy, advise, weights_of, without
+from ..replies import Infeasible, Past
 from ..report import conflict
 from ..ways import Answered
 from .common import number_in, print_prose, table, tell
 
 MOST = 6  # sentences
 MOST_VALUES = 6  # of a point
-SECONDS = 20.0  # for what would be enough
+SECONDS, FEW = 20.0, 2.0  # for what would be enough, and for what can be left out of the whole model
 
 
-def found_limits(words: argparse.Namespace, text: str, answer: Answer) -> Optional[Irreducible]:
+def found_limits(words: argparse.Namespace, text: str, model: Model, found: Answered) -> Optional[Irreducible]:
     """The limits of an infeasible model. That they are not known is told in a line, where they are asked for or the program has no
     answer."""
-    if not isinstance(answer, Infeasible):
+    if not isinstance(found.answer, Infeasible):
         if words.iis:
-            tell(f"lpd: there is no list: --iis is for an infeasible model, and the answer is {answer}")
+            tell(f"lpd: there is no list: --iis is for an infeasible model, and the answer is {found.answer}")
         return None
     try:
-        found = iis(text, seconds=words.seconds)
+        return limits_of(words, text, model, found.certificate)
     except CommandMissing as missing:
         if words.iis:
             tell(f"lpd: there is no list: {missing}")
-        return None
-    except (OutOfTime, Refused) as why:
+    except (NotKnown, OutOfTime, Refused) as why:
         tell(f"note: it is not known which limits can be left out: {why}")
-        return None
-    if not found.members:
-        tell(f"note: it is not known which limits can be left out: lpd iis ends with {found.stopped or found.answer}")
-        return None
-    return found
+    return None
+
+
+class NotKnown(LpdError):
+    """Why `lpd iis` finds no limits."""
+
+
+def limits_of(words: argparse.Namespace, text: str, model: Model, certificate: List[str]) -> Irreducible:
+    """What `lpd iis` finds in the whole model, for which it has a few seconds where nobody asks for a list; or else in the limits of a
+    certificate alone, whose numbers are shorter."""
+    try:
+        return known(iis(text, seconds=words.seconds if words.iis else min(words.seconds, FEW)))
+    except (NotKnown, OutOfTime):
+        part = only(model, list(weights_of(model, certificate)))
+        return known(iis(written(part, PROFILE).text, seconds=words.seconds))
+
+
+def known(found: Irreducible) -> Irreducible:
+    if found.members:
+        return found
+    ended = found.stopped or found.answer
+    raise NotKnown("lpd iis ran out of digits" if isinstance(ended, Past) else f"lpd iis ends with {ended}")
 
 
 def found_advice(words: argparse.Namespace, model: Model, certificate: List[str], limits: Optional[Irreducible]) -> Optional[Advice]:
@@ -60,7 +77,7 @@ def found_advice(words: argparse.Namespace, model: Model, certificate: List[str]
 
 def print_conflicts(words: argparse.Namespace, text: str, model: Model, found: Answered, style: Style) -> None:
     """What contradicts what, what is enough, and the list where it is asked for."""
-    limits = found_limits(words, text, found.answer)
+    limits = found_limits(words, text, model, found)
     if isinstance(found.answer, Infeasible) and words.show != "answer":
         print_conflict(model, found.certificate, limits, style)
         advice = found_advice(words, model, found.certificate, limits)
@@ -72,7 +89,7 @@ def print_conflicts(words: argparse.Namespace, text: str, model: Model, found: A
 
 def print_conflict(model: Model, certificate: List[str], limits: Optional[Irreducible], style: Style) -> None:
     """What contradicts what, by as few limits as are known to."""
-    print_prose(conflict(model, limits.certificate if limits else certificate).told(style.word))
+    print_prose(conflict(model, limits.certificate if limits else certificate).scaled().told(style.word))
     if limits and len(limits.members) > 1:
         print_prose(f"These {len(limits.members)} limits contradict each other, and no part of them does:")
         for sentence in limits.sentences(style.word)[:MOST]:

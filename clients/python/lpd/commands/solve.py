@@ -371,7 +371,7 @@ def more_in_json(
     if words.iis:
         from . import conflicts
 
-        limits = conflicts.found_limits(words, text, found.answer)
+        limits = conflicts.found_limits(words, text, model, found)
         more["iis"] = conflicts.limits_in_json(model, limits, words.decimals)
         if isinstance(found.answer, Infeasible):
             more["advice"] = conflicts.advice_in_json(conflicts.found_advice(words, model, found.certificate, limits))
