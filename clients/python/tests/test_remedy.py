@@ -2,6 +2,7 @@
 import json
 import os
 import random
+import re
 import unittest
 from dataclasses import replace
 from fractions import Fraction
@@ -170,6 +171,17 @@ class Told(unittest.TestCase):
         self.assertIn(None, [member["point"] for member in told["iis"]["members"]])
         change = told["advice"]["single"]["changes"][0]
         self.assertEqual(Fraction(change["by"]), abs(Fraction(change["moved_to"]) - Fraction(change["limit"])))
+
+    def test_what_is_said_can_be_tried(self) -> None:
+        """The options that are told make a model with a point."""
+        third = "ROWS\n N c\n G one\n E two\nCOLUMNS\n x c 1 one 3\n x two 7\n y c 1 two 1\nRHS\n one 5 two 20\nBOUNDS\n UP x 1\n UP y 1\nENDATA\n"
+        for text in (FEED, TWO, third, TWO.replace("UP y 4", "UP y 4\n LO x 2")):
+            for words in ([], ["--exact"], ["--decimals", "1"]):
+                said = command("solve", "-", *words, stdin=text.encode())
+                told = re.findall(r"  To try it: (.*(?:\n    .*)*)", said.output)
+                self.assertGreater(len(told), 0, said.output)
+                for options in told:
+                    self.assertEqual(command("solve", "-", *options.split(), stdin=text.encode()).status, 0, options)
 
     def test_what_is_said_is_true(self) -> None:
         """With the changed numbers as they are printed the model is feasible."""

@@ -9,8 +9,8 @@ from ..certificate import Failed, must_be_feasible
 from ..dialects import PROFILE, written
 from ..errors import CommandMissing, LpdError, Refused
 from ..exact import OutOfTime
-from ..figures import Style, outward
-from ..irreducible import Irreducible, Member, iis, only
+from ..figures import NEAR, Style, outward
+from ..irreducible import Irreducible, Member, Side, iis, only
 from ..model import Model
 from ..number_text import shown
 from ..remedy import Advice, Change, Remedy, advise, weights_of, without
@@ -104,6 +104,7 @@ def print_advice(model: Model, advice: Advice, style: Style) -> None:
     if single:
         print_prose(f"The least change of one right side or bound that is enough: {in_words(model, single.changes[0], style)}.")
         print_point(single, style)
+        print_try(model, single, style)
     else:
         print_prose("No change of one right side or bound is enough.")
     if together is None:
@@ -115,19 +116,42 @@ def print_advice(model: Model, advice: Advice, style: Style) -> None:
         if len(together.changes) > MOST:
             print(f"  and {len(together.changes) - MOST} more, which --iis --json lists")
         print_point(together, style)
+        print_try(model, together, style)
 
 
 def in_words(model: Model, change: Change, style: Style) -> str:
     """A change, as a limit that is enough: rounded, if it is, to the side on which it asks for less. A right side that is met exactly is
     shown exactly."""
     side, more = change.side, "more" if change.after > change.before else "less"
-    limits = model.rows[side.name].limits() if side.is_row else model.columns[side.name].limits()
     after = outward(change.after, side.is_upper, style)
     kind = "at most" if side.is_upper else "at least"
-    if side.is_row and limits.lower == limits.upper:
+    if is_met_exactly(model, side):
         kind, after = "equal to", style.word(change.after)
         after = after if style.shows(change.after) else f"{shown(change.after)} ({after})"
     return f"{side.name} {kind} {after} in place of {style.word(change.before)} ({style.word(change.by)} {more})"
+
+
+def is_met_exactly(model: Model, side: Side) -> bool:
+    limits = model.rows[side.name].limits() if side.is_row else None
+    return limits is not None and limits.lower == limits.upper
+
+
+def print_try(model: Model, remedy: Remedy, style: Style) -> None:
+    """The words with which the command solve takes the changes, as they are told."""
+    if len(remedy.changes) <= MOST:
+        print_prose(f"  To try it: {' '.join(option_for(model, change, style) for change in remedy.changes)}")
+
+
+def option_for(model: Model, change: Change, style: Style) -> str:
+    """The option of a change, with the number that is told."""
+    side, after = change.side, change.after
+    if not is_met_exactly(model, side):
+        after = Fraction(outward(after, side.is_upper, Style(places=style.places)).lstrip(NEAR))
+    if side.is_row:
+        return f"--set-rhs {side.name}={shown(model.rows[side.name].rhs + after - change.before)}"
+    lower, upper = model.columns[side.name].limits()
+    ends = ("-inf" if lower is None else shown(lower)), ("inf" if upper is None else shown(upper))
+    return f"--set-bound {side.name}={f'{ends[0]}:{shown(after)}' if side.is_upper else f'{shown(after)}:{ends[1]}'}"
 
 
 def print_point(remedy: Remedy, style: Style) -> None:
