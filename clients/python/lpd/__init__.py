@@ -66,6 +66,7 @@ if TYPE_CHECKING:
     from .remedy import Advice, Change, Remedy, advise
     from .replies import Accepted, Answer, Infeasible, Loaded, Open, Optimal, Past, Rejected, Spent, Unbounded, Verdict
     from .replies import Basis, Cold, Fell, Found, Full, Published, Raced, Same, Unpublished
+    from .rounding import Rounded, rounded
     from .session import Session, connect
     from .ways import Answered, Effort, answered
     from .wide import WideSolved, solve_wide
@@ -97,6 +98,7 @@ HOMES = {
         "Accepted Answer Infeasible Loaded Open Optimal Past Rejected Spent Unbounded Verdict Basis Cold Fell Found Full "
         "Published Raced Same Unpublished"
     ),
+    "rounding": "Rounded rounded",
     "session": "Session connect",
     "ways": "Answered Effort answered",
     "wide": "WideSolved solve_wide",
@@ -180,6 +182,7 @@ __all__ = [
     "Rejected",
     "Remedy",
     "Report",
+    "Rounded",
     "RowReport",
     "Same",
     "Session",
@@ -210,6 +213,7 @@ __all__ = [
     "ranges",
     "read_model",
     "report",
+    "rounded",
     "run",
     "solve_from",
     "solve_wide",
