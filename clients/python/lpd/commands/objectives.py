@@ -3,7 +3,7 @@ from __future__ import annotations
 
 import argparse
 from fractions import Fraction
-from typing import Dict, List, Mapping, Optional
+from typing import Dict, List, Optional
 
 from ..certificate import matched, read_certificate
 from ..figures import Style

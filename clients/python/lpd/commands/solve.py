@@ -20,7 +20,7 @@ from ..rounding import rounded
 from ..solver_names import CHOICES
 from ..version import version
 from ..ways import BOTH, SECONDS, Answered, Effort, answered
-from .common import add_options, add_presolve, as_text, budget, converted, csv_line, decimals, number_in, options_of, put_beside, seconds, skipped_words
+from .common import add_options, add_presolve, as_text, budget, converted, csv_line, number_in, options_of, put_beside, seconds, skipped_words
 from .common import PYTHON_ALONE, add_style, in_dialect, in_lines, print_prose, status_of, style_of, tell
 from .reports import offset_words, print_report, shown_answer, words_for
 
@@ -170,27 +170,10 @@ def as_csv(
     ranges: Optional[Ranges],
     before: Optional[Unchanged] = None,
 ) -> str:
-    """A line for the answer, one for that without the numbers that were set, one for an objective that is not solved for, one for each column (value, reduced cost), and one for each
-    row (sum, price, slack); of ranges also the cost, or the right side, and the ends of its range. The last cell of a line is = where
-    all its numbers are exact."""
-    answer, is_whole = found.answer, show != "prices"
-    value = answer.value if isinstance(answer, Optimal) else None
-    lines: List[Line] = [Line("answer", str(answer).split(" ")[0], [value, None, None])]
-    if before:
-        old = before.found.answer
-        lines.append(Line("unchanged", str(old).split(" ")[0], [old.value if isinstance(old, Optimal) else None, None, None]))
-        lines.append(Line("difference", "", [before.difference(answer), None, None]))
-    if aim:
-        from .objectives import value_before
-
-        lines.append(Line("objective", aim.before.objective, [value_before(aim, found), None, None]))
-    if point and show in ("all", "point", "prices"):
-        lines += [Line("column", c.name, [c.value if is_whole else None, c.reduced_cost, None]) for c in point.columns]
-    if point and show in ("all", "rows", "prices"):
-        rows = ((r, r.activity if is_whole else None, r.slack if is_whole else None) for r in point.rows)
-        lines += [Line("row", r.name, [total, r.price, slack]) for r, total, slack in rows]
-    heads = ["kind", "name", "value", "price", "slack", *(["now", "low", "high"] if ranges else []), "exact"]
-    told = [heads]
+    """Lines whose last cell is = where all their numbers are exact: first those of the answer, then one for each column (value, reduced
+    cost), and one for each row (sum, price, slack); of ranges also the cost, or the right side, and the ends of its range."""
+    lines = lines_of_answer(found, aim, before) + (lines_of_point(point, show) if point else [])
+    told = [["kind", "name", "value", "price", "slack", *(["now", "low", "high"] if ranges else []), "exact"]]
     for line in lines:
         more: List[str] = []
         if ranges:
@@ -199,6 +182,35 @@ def as_csv(
             more = csv_cells(ranges, line.kind, line.name, style, line.values)
         told.append([line.kind, line.name, *(style.plain(value) for value in line.values[:3]), *more, style.mark(*line.values)])
     return "\n".join(csv_line(line) for line in told)
+
+
+def lines_of_answer(found: Answered, aim: Optional[Aim], before: Optional[Unchanged]) -> List[Line]:
+    """The answer, that without the numbers that were set, and an objective that is not solved for."""
+    lines = [line_of("answer", found.answer)]
+    if before:
+        lines.append(line_of("unchanged", before.found.answer))
+        lines.append(Line("difference", "", [before.difference(found.answer), None, None]))
+    if aim:
+        from .objectives import value_before
+
+        lines.append(Line("objective", aim.before.objective, [value_before(aim, found), None, None]))
+    return lines
+
+
+def line_of(kind: str, answer: Answer) -> Line:
+    value = answer.value if isinstance(answer, Optimal) else None
+    return Line(kind, str(answer).split(" ")[0], [value, None, None])
+
+
+def lines_of_point(point: Report, show: str) -> List[Line]:
+    """What is asked for of the columns and the rows: with `prices` these alone."""
+    lines, is_whole = [], show != "prices"
+    if show in ("all", "point", "prices"):
+        lines += [Line("column", c.name, [c.value if is_whole else None, c.reduced_cost, None]) for c in point.columns]
+    if show in ("all", "rows", "prices"):
+        rows = ((r, r.activity if is_whole else None, r.slack if is_whole else None) for r in point.rows)
+        lines += [Line("row", r.name, [total, r.price, slack]) for r, total, slack in rows]
+    return lines
 
 
 class Line(NamedTuple):
