@@ -3,7 +3,7 @@ where a number passes 127 bits, to a certificate whose numbers have any width.""
 from __future__ import annotations
 
 from dataclasses import dataclass
-from typing import List, Optional, Sequence
+from typing import List, Optional, Sequence, Tuple
 
 from .errors import Unexpected
 from .model import words_of
@@ -14,9 +14,9 @@ from .session import FALLS, body_of, count_of
 
 @dataclass(frozen=True)
 class FromBasis:
-    """What is answered; how it was found: WARM from the basis, COLD without one, or FELL and why the basis was given up
-    and the solve began anew; the pivots and flips; the certificate, which Past and Spent have not; and the final basis,
-    which an optimum has, as a basis file."""
+    """What is answered; how it was found: WARM from the basis, COLD without one, or FELL where the basis was given up and the
+    solve began anew, with the reason at 127 bits; the pivots and flips, where they are told; the certificate, which Past,
+    Spent and Open have not; and the final basis, which an optimum has, as a basis file."""
 
     answer: Answer
     start: str
@@ -26,7 +26,16 @@ class FromBasis:
 
 
 def is_start(words: Sequence[str]) -> bool:
-    return list(words) in (["WARM"], ["COLD"]) or len(words) == 2 and words[0] == "FELL" and words[1] in FALLS
+    return list(words) in (["WARM"], ["COLD"], ["FELL"]) or len(words) == 2 and words[0] == "FELL" and words[1] in FALLS
+
+
+def start_in(words: Sequence[str]) -> Tuple[str, Optional[int]]:
+    """How an answer was found, and in how many pivots and flips; an exact one without a basis does not tell these."""
+    if list(words) == ["COLD"]:
+        return words[0], None
+    if len(words) < 3 or words[-2] != "PIVOTS" or not is_start(words[:-2]):
+        raise unexpected_of("basis", words, "WARM, FELL or COLD stands")
+    return " ".join(words[:-2]), None if words[-1] == "-" else count_of(words[-1])
 
 
 def read_answer(lines: Sequence[str]) -> FromBasis:
@@ -35,12 +44,9 @@ def read_answer(lines: Sequence[str]) -> FromBasis:
         return FromBasis(Open(), "", None, [], [])
     if len(lines) < 2:
         raise Unexpected(f"lpd basis wrote {len(lines)} lines, which is no answer")
-    answer, words = answer_in(lines, 0, "basis"), words_of(lines[1])
-    if len(words) < 3 or words[-2] != "PIVOTS" or not is_start(words[:-2]):
-        raise unexpected_of("basis", words, "WARM, FELL or COLD stands")
+    answer, (start, pivots) = answer_in(lines, 0, "basis"), start_in(words_of(lines[1]))
     end = next((n for n, line in enumerate(lines, 1) if words_of(line) == ["END"]), 2)
-    pivots = None if words[-1] == "-" else count_of(words[-1])
-    return FromBasis(answer, " ".join(words[:-2]), pivots, list(lines[2:end]), list(lines[end:]))
+    return FromBasis(answer, start, pivots, list(lines[2:end]), list(lines[end:]))
 
 
 def solve_from(

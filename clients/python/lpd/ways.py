@@ -209,7 +209,8 @@ def way_of(found: Exact, solver: str) -> str:
     """What made the steps from where to the answer."""
     begin = "a basis of its own" if solver == NONE else f"{solver}'s basis"
     if found.command:
-        gave_up = f", which it gave up ({found.start[5:]})" if found.start.startswith("FELL") else ""
+        fell, _, why = found.start.partition(" ")
+        gave_up = f", which it gave up{f' ({why})' if why else ''}" if fell == "FELL" else ""
         return f"{found.command} from {begin}{gave_up}, in {found.steps} pivots"
     return f"exact steps in Python from {begin}, {found.steps} of them"
 

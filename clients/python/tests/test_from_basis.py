@@ -115,6 +115,8 @@ class Answers(unittest.TestCase):
         self.assertEqual(found, wanted)
         found = read_answer(["INFEASIBLE", "FELL SINGULAR PIVOTS 3", "INFEASIBLE", "y R1 -1", "END"])
         self.assertEqual((found.start, found.pivots, found.basis), ("FELL SINGULAR", 3, []))
+        exact = [read_answer([*ANSWER[:1], start, *ANSWER[2:]]) for start in ("COLD", "WARM PIVOTS 2", "FELL PIVOTS 4")]
+        self.assertEqual([(found.start, found.pivots) for found in exact], [("COLD", None), ("WARM", 2), ("FELL", 4)])
         spent = read_answer(["SPENT 10000", "FELL SPENT PIVOTS -"])
         self.assertEqual(spent, FromBasis(lpd.Spent(10000), "FELL SPENT", None, [], []))
         past = read_answer(["PAST MUL 2 3", "COLD PIVOTS -"])

@@ -266,7 +266,7 @@ class BasisWide(unittest.TestCase):
     def test_certify(self) -> None:
         began = {
             "WARM PIVOTS 0": "0 pivots by lpd basis --wide: WARM",
-            "FELL PAST PIVOTS 2": "2 pivots by lpd basis --wide: FELL PAST, so it gave the basis up and began anew",
+            "FELL PIVOTS 2": "2 pivots by lpd basis --wide: FELL, so it gave the basis up and began anew",
         }
         for start, words in began.items():
             with self.answers(start):
@@ -301,9 +301,9 @@ class BasisWide(unittest.TestCase):
         way = "lpd basis --wide from a basis of its own"
         self.assertEqual((told["answer"], told["way"], told["accepted_by"]), (OPTIMAL, f"{way}, in 0 pivots", WIDE))
         self.assertEqual((row["value"], row["way"], row["accepted by"], row["judge"]), (VALUE, way, "lpd check --wide", "lpd check --wide"))
-        with self.answers("FELL PAST PIVOTS 2"):
+        with self.answers("FELL PIVOTS 2"):
             found = answered(TEXT, lpd.read_model(TEXT), Effort(solver="none"))
-        self.assertEqual(found.way, f"{way}, which it gave up (PAST), in 2 pivots")
+        self.assertEqual(found.way, f"{way}, which it gave up, in 2 pivots")
 
     def test_no_wide_answer_is_wanted(self) -> None:
         with self.answers(), mock.patch("lpd.certifying.solve_from", wraps=lpd.solve_from) as asked:
