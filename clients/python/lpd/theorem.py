@@ -18,7 +18,8 @@ from .model import FREE, Model
 from .replies import Infeasible, Known, Optimal
 
 BITS = 56  # of an integer of coq/Packing.v
-MOST_INTEGERS = 2**14  # in one definition, which bounds the memory that Coq takes
+MOST_INTEGERS, MOST_NUMBERS = 2**14, 500  # in one definition, which bounds the memory that Coq takes
+LONG_CERTIFICATE = 2**18  # a certificate of more bits is packed by coq/Packing.v, which Coq reads faster than bytes
 LONG = 60  # a value of more characters is a definition of its own
 KINDS = {"L": "AtMost", "G": "AtLeast", "E": "Equal", FREE: "Free"}
 # Whatever else stands in a name is not put into a comment, which it might end.
@@ -117,24 +118,44 @@ def integers(index: int, value: int) -> List[str]:
     return found
 
 
-def blocks(numbers: Mapping[int, int]) -> Iterator[List[List[str]]]:
+def blocks(numbers: Mapping[int, int]) -> Iterator[Dict[int, int]]:
     """The numbers that are not 0, in blocks of one definition each."""
-    block: List[List[str]] = []
+    block: Dict[int, int] = {}
     count = 0
     for index, value in numbers.items():
         if value:
-            block.append(integers(index, value))
-            count += len(block[-1])
-        if count > MOST_INTEGERS:
+            block[index] = value
+            count += 1 + value.bit_length() // BITS
+        if count > MOST_INTEGERS or len(block) >= MOST_NUMBERS:
             yield block
-            block, count = [], 0
+            block, count = {}, 0
     if block:
         yield block
 
 
-def packed(name: str, block: Sequence[Sequence[str]]) -> str:
-    rows = ";\n".join(f"[: {'; '.join(row)} :]" for row in block)
+def packed(name: str, block: Mapping[int, int]) -> str:
+    """A definition by the integers of coq/Packing.v."""
+    rows = ";\n".join(f"[: {'; '.join(integers(index, value))} :]" for index, value in block.items())
     return f"Definition {name} : packed := Eval vm_compute in pack {{:\n{rows}\n:}}%packing."
+
+
+def byte_words(value: int, count: int = 0) -> List[str]:
+    """The bytes of a number from the lowest on, as coq/Packed.v has them."""
+    return [f"x{byte:02x}" for byte in value.to_bytes(max(count, (value.bit_length() + 7) // 8), "little")]
+
+
+def digits(value: int) -> str:
+    """The bytes of a number above 0, seven at a time as long as they do."""
+    words = byte_words(value)
+    whole = len(words) - len(words) % 7
+    nodes = [f"Digits {' '.join(words[at : at + 7])}" for at in range(0, whole, 7)] + [f"Digit {word}" for word in words[whole:]]
+    return f"{' ('.join(nodes)} End{')' * (len(nodes) - 1)}"
+
+
+def in_bytes(name: str, block: Mapping[int, int]) -> str:
+    """The same definition by bytes alone."""
+    rows = [f"{'Minus' if value < 0 else 'Plus'} {' '.join(byte_words(index, 3))} ({digits(abs(value))}) (" for index, value in block.items()]
+    return f"Definition {name} : packed :=\n" + "\n".join([*rows, "Empty" + ")" * len(rows)]) + "."
 
 
 @dataclass
@@ -142,14 +163,18 @@ class Terms:
     """The definitions of a certificate, the term that has it, and what it shows: an answer and a statement of a model m."""
 
     definitions: List[str] = field(default_factory=list)
+    is_long: bool = False  # whether its numbers are packed by coq/Packing.v
     term: str = ""
     answer: str = ""
     statement: str = ""
 
+    def pack(self, name: str, block: Mapping[int, int]) -> None:
+        self.definitions.append((packed if self.is_long else in_bytes)(name, block))
+
     def numbers(self, name: str, numbers: Mapping[int, int]) -> str:
         term = "nothing"
         for count, block in enumerate(blocks(numbers), 1):
-            self.definitions.append(packed(f"{name}_{count}", block))
+            self.pack(f"{name}_{count}", block)
             term = f"unpacked {name}_{count} {term if count == 1 else f'({term})'}"
         self.definitions.append(f"Definition {name} : numbers := {term}.")
         return name
@@ -158,7 +183,8 @@ class Terms:
         if value.bit_length() <= BITS:
             self.definitions.append(f"Definition {name} : positive := {value}.")
             return name
-        self.definitions += [packed(f"{name}_1", [integers(1, value)]), f"Definition {name} : positive := first {name}_1."]
+        self.pack(f"{name}_1", {1: value})
+        self.definitions.append(f"Definition {name} : positive := first {name}_1.")
         return name
 
     def scales(self, rows: Mapping[int, int], costs: int) -> str:
@@ -185,7 +211,9 @@ class Terms:
 
 def certified(model: Model, certificate: Certificate, known: Known) -> Terms:
     """A certificate that shows this of the model."""
-    found, given = Terms(), matched(model, certificate)
+    given = matched(model, certificate)
+    bits = sum(value.numerator.bit_length() + value.denominator.bit_length() for values in given.values() for value in values.values())
+    found = Terms(is_long=bits > LONG_CERTIFICATE)
     columns = {name: index for index, name in enumerate(model.columns, 1)}
     rows = {name: index for index, name in enumerate(model.rows, 1)}
 
@@ -284,7 +312,9 @@ def file_lines(model: Model, lines: Sequence[str], fixed: bool, found: Terms, so
     names = [f"   {what:12}{source}" for what, source in zip(("model", "certificate"), sources)]
     head = ["(* An answer, as lpd-py theorem wrote it. docs/THEOREM.md says how it is read, and what has to be believed.", *names]
     head += ["   The objective is the row " + plain(model.objective) + ". *)", ""]
-    imports = ["From Coq Require Import QArith List.", "From Lpd Require Import Answer Packing.", "Import ListNotations.", "Open Scope Q_scope.", ""]
+    library = "Answer Packing" if found.is_long else "Answer"
+    imports = ["From Coq Require Import QArith List.", "From Coq.Init Require Import Byte.", f"From Lpd Require Import {library}."]
+    imports += ["Import ListNotations.", "Open Scope Q_scope.", ""]
     form = "FixedForm" if fixed else "FreeForm"
     use = "model_sound m" if as_data else f"text_sound large_limits {form} model_text"
     of_model = Data(model).definitions() if as_data else [text_definition(lines)]

@@ -11,7 +11,7 @@ import lpd
 from lpd import coq
 from lpd.certificate import read_certificate
 from lpd.model import lines_of
-from lpd.theorem import Source, certified, file_lines, integers, over_one, plain
+from lpd.theorem import Source, certified, digits, file_lines, in_bytes, integers, over_one, plain
 
 from .commands import Said, command
 
@@ -37,6 +37,7 @@ class Files(unittest.TestCase):
         self.assertIn("states OPTIMAL 92.5: --check has Coq prove it", said.complaints)
         text = self.path.read_text(encoding="latin-1")
         self.assertIn(STATEMENT, text)
+        self.assertIn("From Lpd Require Import Answer.", text)
         lines = "".join(f'"{line}";\n' for line in lines_of((MODELS / "diet.mps").read_text())[:-1])
         self.assertIn(f'Definition model_text : text := [\n{lines}"ENDATA"\n]%mps.', text)
 
@@ -99,6 +100,12 @@ class Integers(unittest.TestCase):
     def test_packed(self) -> None:
         self.assertEqual(integers(3, 5), ["6", "0x5"])
         self.assertEqual(integers(3, -(2**56)), ["7", "0x0", "0x1"])
+
+    def test_in_bytes(self) -> None:
+        self.assertEqual(digits(5), "Digit x05 End")
+        self.assertEqual(digits(2**56 + 1), "Digits x01 x00 x00 x00 x00 x00 x00 (Digit x01 End)")
+        text = "Definition y : packed :=\nPlus x02 x01 x00 (Digit x05 End) (\nMinus x03 x00 x00 (Digit x07 End) (\nEmpty))."
+        self.assertEqual(in_bytes("y", {258: 5, 3: -7}), text)
 
     def test_over_one_denominator(self) -> None:
         values = lpd.read_model((MODELS / "diet.mps").read_text()).columns["milk"].entries
