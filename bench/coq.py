@@ -32,8 +32,8 @@ from lpd.replies import Infeasible, Known, Optimal, Unbounded
 
 BEGIN, END = "<!-- measured by bench/coq.py -->", "<!-- end of the proofs -->"
 LETTERS = ("x ", "y ", "r ")
-HEAD = ["Model", "Rows", "Columns", "Coefficients", "Bytes of the text", "Bits of the certificate", "Answer"]
-HEAD += ["Text, s", "Memory, MB", "Data, s", "Memory, MB"]
+HEAD = ["Model", "Rows", "Columns", "Coefficients", "Bytes of the text", "Bits of the certificate", "Answer", "Text, s", "Memory, MB"]
+OF_DATA = ["Data, s", "Memory, MB"]
 
 
 class Read(NamedTuple):
@@ -148,18 +148,20 @@ def prove(path: Path, options: argparse.Namespace, done: Dict[str, Proof]) -> No
         print(f"{path.stem}: {str(error)[:200]}", file=sys.stderr, flush=True)
 
 
-def cells(text: Proof, data: Optional[Proof]) -> List[str]:
-    def measured(proof: Optional[Proof]) -> List[str]:
-        if proof is None:
-            return ["", ""]
-        return [proof.failed[:20] or f"{proof.seconds:.1f}", f"{proof.memory:.0f}"]
-
-    return [text.name, *text.numbers, *measured(text), *measured(data)]
+def measured(proof: Optional[Proof]) -> List[str]:
+    if proof is None:
+        return ["", ""]
+    return [proof.failed[:20] or f"{proof.seconds:.1f}", f"{proof.memory:.0f}"]
 
 
 def table(done: Dict[str, Proof]) -> List[str]:
     texts = sorted((proof for proof in done.values() if proof.kind == "text"), key=lambda proof: proof.seconds)
-    rows = [HEAD, ["---"] * len(HEAD), *(cells(proof, done.get(f"{proof.name} data")) for proof in texts)]
+    has_data = any(proof.kind == "data" for proof in done.values())
+    rows = [HEAD + (OF_DATA if has_data else [])]
+    rows.append(["---"] * len(rows[0]))
+    for proof in texts:
+        of_data = measured(done.get(f"{proof.name} data")) if has_data else []
+        rows.append([proof.name, *proof.numbers, *measured(proof), *of_data])
     proved = [proof for proof in texts if not proof.failed]
     within = [proof for proof in proved if int(proof.numbers[0]) <= 256 and int(proof.numbers[1]) <= 512]
     total = sum(proof.seconds for proof in proved)
