@@ -317,14 +317,14 @@ class Cards:
             name, rest = fields[1], fields[2:]
             marks = bool(fields[0])
         else:
-            is_whole = len(fields) in (3, 5)
+            is_whole = len(fields) % 2 == 1
             name, rest = (fields[0], fields[1:]) if is_whole else (None, fields)
-            marks = len(fields) not in (2, 3, 4, 5)
+            marks = not is_whole and len(fields) not in (2, 4)
         if "'MARKER'" in rest[:1]:
             self.marker(line, [word for word in rest if word])
             return
         given = rest[: len(rest) - (2 if self.fixed and rest[2] is None and rest[3] is None else 0)]
-        if marks or len(given) not in (2, 4) or any(word is None for word in given):
+        if marks or len(given) < 2 or len(given) % 2 or any(word is None for word in given):
             raise TextFault(line, 3, text)
         if not name:
             name = next((card.name for card in reversed(self.cards) if card.section == "COLUMNS" and not card.is_head), None)
@@ -333,8 +333,16 @@ class Cards:
             self.note(line, "the column that the card leaves out is put in")
         if self.in_whole:
             self.whole.setdefault(name, line)
+        for pairs in self.parted(line, given):
+            self.cards.append(Card(line, text, "COLUMNS", name=name, pairs=pairs))
+
+    def parted(self, line: int, given: Sequence[Optional[str]]) -> Iterator[List[Tuple[str, str]]]:
+        """The pairs of a card, of which the profile's have one or two."""
         words = [word or "" for word in given]
-        self.cards.append(Card(line, text, "COLUMNS", name=name, pairs=list(zip(words[::2], words[1::2]))))
+        pairs = list(zip(words[::2], words[1::2]))
+        if len(pairs) > 2:
+            self.note(line, f"a card with {len(pairs)} pairs is parted")
+        return (pairs[at : at + 2] for at in range(0, len(pairs), 2))
 
     def marker(self, line: int, words: List[str]) -> None:
         if words[-1] not in ("'INTORG'", "'INTEND'"):
@@ -350,10 +358,10 @@ class Cards:
                 raise TextFault(line, 3, text)
         else:
             name, rest = (fields[0], fields[1:]) if len(fields) % 2 else (None, fields)
-        if len(rest) not in (2, 4) or any(word is None for word in rest):
+        if len(rest) < 2 or len(rest) % 2 or len(rest) > 4 and name is None or any(word is None for word in rest):
             raise TextFault(line, 3, text)
-        words = [word or "" for word in rest]
-        self.cards.append(Card(line, text, self.section, set=name, pairs=list(zip(words[::2], words[1::2]))))
+        for pairs in self.parted(line, rest):
+            self.cards.append(Card(line, text, self.section, set=name, pairs=pairs))
 
     def bound_card(self, line: int, text: str, fields: List[Optional[str]]) -> None:
         kind = (fields[0] or "").upper()
