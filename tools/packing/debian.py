@@ -18,7 +18,7 @@ DOCUMENTS = "usr/share/doc/lpd"
 MAINTAINER = "Feryqtos maintainers <maintainers@users.noreply.feryqtos.example>"
 # What of the repository stands below /usr/share/doc/lpd, at the same paths: the documents, what they link to, and the examples.
 PLACES = [
-    "README.md", "CHANGELOG.md", "CONTRIBUTING.md", "SECURITY.md", "docs/*.md", "docs/*.png", "web/check.html",
+    "README.md", "CHANGELOG.md", "CONTRIBUTING.md", "SECURITY.md", "docs/*.md", "docs/*.png", "docs/*.svg", "web/check.html",
     "clients/python/README.md", "examples",
 ]  # fmt: skip
 DESCRIPTION = """exact solver and server for linear programs

@@ -35,7 +35,7 @@ program with other bytes than the gate's, and all times in the files are those o
 compares. With the kit's proofs kept on that machine this takes minutes, and else as long as the gate does.
 `tools/try_release dist` installs the files and uses them.
 
-What is proved, and what is only tested or trusted, is said in docs/PROOFS.md.
+What is proved is listed in docs/PROOFS.md, and docs/TRUST.md says what is only tested or trusted.
 """
 
 
