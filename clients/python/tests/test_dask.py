@@ -25,7 +25,7 @@ SECONDS = 600.0
 
 def rows_of(text: str) -> List[Dict[str, str]]:
     """The lines of a table, in the order of names and without how long each took."""
-    rows = [{name: cell for name, cell in row.items() if name != "seconds"} for row in csv.DictReader(io.StringIO(text))]
+    rows = [{name: cell for name, cell in row.items() if name not in ("seconds", "exact")} for row in csv.DictReader(io.StringIO(text))]
     return sorted(rows, key=lambda row: row["model"])
 
 
@@ -69,7 +69,7 @@ class Dask(unittest.TestCase):
         wait_until(lambda: bool(self.address()))
         workers = [self.begin("worker", "--nthreads", "1", "--no-nanny", "--no-dashboard") for _ in range(2)]
         table = self.folder / "table.csv"
-        words = ["batch", str(self.folder / "models"), "--csv"]
+        words = ["batch", str(self.folder / "models"), "--csv", "--exact"]
         line = [sys.executable, "-m", "lpd", *words, "--dask", self.address(), "--resume", str(table)]
         with subprocess.Popen(line, cwd=PACKAGE, stdout=subprocess.PIPE, stderr=subprocess.PIPE) as run:
             wait_until(lambda: run.poll() is not None or table.exists() and table.read_text().count("\n") >= 4)
