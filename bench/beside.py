@@ -67,7 +67,8 @@ def by_esolver(model, room, seconds):
 def by_z3(model, room, seconds):
     (room / "model.smt2").write_text(smt_of(model))
     said, spent = limited(["z3", str(room / "model.smt2")], b"", seconds)
-    plain = re.sub(r"\(- (\S+|\(/ \S+ \S+\))\)", r"-\1", said)
+    # long fractions go over several lines
+    plain = re.sub(r"\(- (\S+|\(/ \S+ \S+\))\)", r"-\1", " ".join(said.split()))
     return re.search(rf"{NUMBER}\)\s*\)\s*$", re.sub(r"\(/ (\S+) (\S+)\)", r"\1/\2", plain).replace(".0", "")), spent
 
 
