@@ -9,10 +9,11 @@ use Rattle.std.proofs.lemmas.List.Quantifiers.{all_pairs_push, all_pairs_remove}
 use Rattle.spec_exact.specs.Fraction.{ℚ}
 use Rattle.spec_exact.specs.Narrow.{IsNarrow}
 use Rattle.spec_model.specs.declared.parts.Sense.{Sense}
+use Rattle.spec_model.specs.declared.parts.SizeLimits.{SizeLimits}
 use Rattle.spec_model.specs.Model.{Model, Name, Limits, ExactRow, ExactColumn}
 use Rattle.spec_model.specs.Model.{no_row, no_column, width, height, row, column}
-use Rattle.spec_model.specs.Kept.{IsModel, IsKeptColumn, IsNarrowRow, IsNarrowColumn, FitsKind}
-use Rattle.spec_model.specs.Kept.{is_row_name, row_limit, column_limit, row_names, column_names}
+use Rattle.spec_model.specs.Kept.{IsModelWithin, IsKeptColumn, IsNarrowRow, IsNarrowColumn, FitsKind}
+use Rattle.spec_model.specs.Kept.{is_row_name, row_names, column_names}
 use Rattle.spec_model.proofs.Kept.{kept_higher}
 use Rattle.spec_edit.specs.Changes.{with_row, with_column, changed_row, changed_column, without_entry}
 use Rattle.spec_edit.specs.Changes.{with_entry, without_row, without_column, with_cost, with_coefficient}
@@ -38,14 +39,14 @@ Distinct = AllPairs (λ x y. x ≢ y)
 -- ---- other rows or columns
 
 -- other rows that fit the columns, another sense and another offset
-other_rows-kept : (m : Model) (sense : Sense) (offset : ℚ) (rows : List ExactRow) → IsModel m → IsNarrow offset →
-    length rows ≤ row_limit → All (λ r. IsTrue (is_row_name r.name)) rows → All HasFitRange rows →
+other_rows-kept : {limits : SizeLimits} (m : Model) (sense : Sense) (offset : ℚ) (rows : List ExactRow) →
+    IsModelWithin limits m → IsNarrow offset →
+    length rows ≤ limits.rows → All (λ r. IsTrue (is_row_name r.name)) rows → All HasFitRange rows →
     All (IsKeptColumn (length rows)) m.columns → Distinct (m.objective ∷ map name_of_row rows) → All IsNarrowRow rows →
-    IsModel (record m { sense = sense; offset = offset; rows = rows })
+    IsModelWithin limits (record m { sense = sense; offset = offset; rows = rows })
 other_rows-kept m sense offset rows k narrow few named ranges fit distinct narrow_rows =
     record {
-      few_rows = few;
-      few_columns = k.few_columns;
+      few = record { few_rows = few; few_columns = k.few.few_columns };
       name = k.name;
       objective = k.objective;
       rows = named;
@@ -58,13 +59,13 @@ other_rows-kept m sense offset rows k narrow few named ranges fit distinct narro
       narrow_columns = k.narrow_columns;
     }
 
-other_columns-kept : (m : Model) (columns : List ExactColumn) → IsModel m → length columns ≤ column_limit →
+other_columns-kept : {limits : SizeLimits} (m : Model) (columns : List ExactColumn) → IsModelWithin limits m →
+    length columns ≤ limits.columns →
     All (IsKeptColumn (height m)) columns → Distinct (map name_of_column columns) → All IsNarrowColumn columns →
-    IsModel (record m { columns = columns })
+    IsModelWithin limits (record m { columns = columns })
 other_columns-kept m columns k few kept distinct narrow =
     record {
-      few_rows = k.few_rows;
-      few_columns = few;
+      few = record { few_rows = k.few.few_rows; few_columns = few };
       name = k.name;
       objective = k.objective;
       rows = k.rows;
@@ -79,8 +80,9 @@ other_columns-kept m columns k few kept distinct narrow =
 
 -- ---- one more row or column
 
-pub with_row-kept : (m : Model) (r : ExactRow) → IsModel m → height m < row_limit → IsTrue (is_row_name r.name) →
-    is_row_taken m r.name ≡ false → HasFitRange r → IsNarrowRow r → IsModel (with_row m r)
+pub with_row-kept : {limits : SizeLimits} (m : Model) (r : ExactRow) → IsModelWithin limits m → height m < limits.rows →
+    IsTrue (is_row_name r.name) →
+    is_row_taken m r.name ≡ false → HasFitRange r → IsNarrowRow r → IsModelWithin limits (with_row m r)
 with_row-kept m r k few named new fit narrow =
     let one_more : length (m.rows ++ r ∷ []) ≡ length m.rows + 1 = length-append m.rows (r ∷ []) in
     other_rows-kept m m.sense m.offset (m.rows ++ r ∷ []) k k.offset (omega arith)
@@ -92,8 +94,10 @@ with_row-kept m r k few named new fit narrow =
     (all_pairs_push (λ x y. x ≢ y) (m.objective ∷ row_names m) r.name k.rows_distinct (row_new m r.name new)))
     (All-push IsNarrowRow m.rows r k.narrow_rows narrow)
 
-pub with_column-kept : (m : Model) (c : ExactColumn) → IsModel m → width m < column_limit →
-    is_column_taken m c.name ≡ false → IsKeptColumn (height m) c → IsNarrowColumn c → IsModel (with_column m c)
+pub with_column-kept : {limits : SizeLimits} (m : Model) (c : ExactColumn) → IsModelWithin limits m →
+    width m < limits.columns →
+    is_column_taken m c.name ≡ false → IsKeptColumn (height m) c → IsNarrowColumn c →
+    IsModelWithin limits (with_column m c)
 with_column-kept m c k few new kept narrow =
     let one_more : length (m.columns ++ c ∷ []) ≡ length m.columns + 1 = length-append m.columns (c ∷ []) in
     other_columns-kept m (m.columns ++ c ∷ []) k (omega arith)
@@ -116,13 +120,17 @@ lowered-narrow : (i : ℕ) (c : ExactColumn) → IsNarrowColumn c → IsNarrowCo
 lowered-narrow i c k =
     record { cost = k.cost; lower = k.lower; upper = k.upper; entries = without_entry-narrow i c.entries k.entries }
 
-pub without_row-kept : (m : Model) (i : ℕ) → IsModel m → i < height m → IsModel (without_row m i)
+pub without_row-kept : {limits : SizeLimits} (m : Model) (i : ℕ) → IsModelWithin limits m → i < height m →
+    IsModelWithin limits (without_row m i)
 without_row-kept m i k l =
     let one_less : length (remove m.rows i) + 1 ≡ length m.rows = length-remove m.rows i l in
     let height_is : length m.rows - 1 ≡ length (remove m.rows i) = omega arith in
     record {
-      few_rows = omega arith;
-      few_columns = omega (arith, length-map m.columns (lowered i), k.few_columns);
+      few =
+          record {
+            few_rows = omega (arith, k.few.few_rows);
+            few_columns = omega (arith, length-map m.columns (lowered i), k.few.few_columns);
+          };
       name = k.name;
       objective = k.objective;
       rows = All-remove (λ (r : ExactRow). IsTrue (is_row_name r.name)) m.rows i k.rows;
@@ -145,10 +153,11 @@ without_row-kept m i k l =
           (All-weaker IsNarrowColumn (λ c. IsNarrowColumn (lowered i c)) (lowered-narrow i) m.columns k.narrow_columns);
     }
 
-pub without_column-kept : (m : Model) (j : ℕ) → IsModel m → j < width m → IsModel (without_column m j)
+pub without_column-kept : {limits : SizeLimits} (m : Model) (j : ℕ) → IsModelWithin limits m → j < width m →
+    IsModelWithin limits (without_column m j)
 without_column-kept m j k l =
     let one_less : length (remove m.columns j) + 1 ≡ length m.columns = length-remove m.columns j l in
-    other_columns-kept m (remove m.columns j) k (omega (arith, k.few_columns))
+    other_columns-kept m (remove m.columns j) k (omega (arith, k.few.few_columns))
     (All-remove (IsKeptColumn (length m.rows)) m.columns j k.columns)
     (subst Distinct (sym (map-remove name_of_column m.columns j))
     (all_pairs_remove (λ x y. x ≢ y) (column_names m) j
@@ -157,12 +166,13 @@ without_column-kept m j k l =
 
 -- ---- a row or a column that is changed
 
-pub changed_row-kept : (m : Model) (i : ℕ) (change : ExactRow → ExactRow) → IsModel m → i < height m →
+pub changed_row-kept : {limits : SizeLimits} (m : Model) (i : ℕ) (change : ExactRow → ExactRow) →
+    IsModelWithin limits m → i < height m →
     (change (row m i)).name ≡ (row m i).name → HasFitRange (change (row m i)) → IsNarrowRow (change (row m i)) →
-    IsModel (changed_row change m i)
+    IsModelWithin limits (changed_row change m i)
 changed_row-kept m i change k l named fit narrow =
     let long : length (set m.rows i (change (row m i))) ≡ length m.rows = length-set m.rows i (change (row m i)) in
-    other_rows-kept m m.sense m.offset (set m.rows i (change (row m i))) k k.offset (omega (arith, k.few_rows))
+    other_rows-kept m m.sense m.offset (set m.rows i (change (row m i))) k k.offset (omega (arith, k.few.few_rows))
     (All-set (λ (r : ExactRow). IsTrue (is_row_name r.name)) m.rows i (change (row m i))
     (subst (λ name. IsTrue (is_row_name name)) (sym named) (k.rows i no_row l)) k.rows)
     (All-set HasFitRange m.rows i (change (row m i)) fit k.ranges)
@@ -170,20 +180,22 @@ changed_row-kept m i change k l named fit narrow =
     (subst (λ names. Distinct (m.objective ∷ names)) (sym (row_names-changed m i change l named)) k.rows_distinct)
     (All-set IsNarrowRow m.rows i (change (row m i)) narrow k.narrow_rows)
 
-pub changed_column-kept : (m : Model) (j : ℕ) (change : ExactColumn → ExactColumn) → IsModel m → j < width m →
+pub changed_column-kept : {limits : SizeLimits} (m : Model) (j : ℕ) (change : ExactColumn → ExactColumn) →
+    IsModelWithin limits m → j < width m →
     (change (column m j)).name ≡ (column m j).name → IsKeptColumn (height m) (change (column m j)) →
-    IsNarrowColumn (change (column m j)) → IsModel (changed_column change m j)
+    IsNarrowColumn (change (column m j)) → IsModelWithin limits (changed_column change m j)
 changed_column-kept m j change k l named kept narrow =
     let changed : List ExactColumn = set m.columns j (change (column m j)) in
     let long : length changed ≡ length m.columns = length-set m.columns j (change (column m j)) in
-    other_columns-kept m changed k (omega (arith, k.few_columns))
+    other_columns-kept m changed k (omega (arith, k.few.few_columns))
     (All-set (IsKeptColumn (length m.rows)) m.columns j (change (column m j)) kept k.columns)
     (subst Distinct (sym (column_names-changed m j change l named)) k.columns_distinct)
     (All-set IsNarrowColumn m.columns j (change (column m j)) narrow k.narrow_columns)
 
 -- ---- costs, coefficients and bounds
 
-pub with_cost-kept : (m : Model) (j : ℕ) (v : ℚ) → IsModel m → j < width m → IsNarrow v → IsModel (with_cost m j v)
+pub with_cost-kept : {limits : SizeLimits} (m : Model) (j : ℕ) (v : ℚ) → IsModelWithin limits m → j < width m →
+    IsNarrow v → IsModelWithin limits (with_cost m j v)
 with_cost-kept m j v k l narrow =
     let c = k.columns j no_column l in
     let n = k.narrow_columns j no_column l in
@@ -191,8 +203,9 @@ with_cost-kept m j v k l narrow =
     (record { name = c.name; lower = c.lower; upper = c.upper; entries = c.entries })
     (record { cost = narrow; lower = n.lower; upper = n.upper; entries = n.entries })
 
-pub with_coefficient-kept : (m : Model) (i j : ℕ) (v : ℚ) → IsModel m → i < height m → j < width m → IsNarrow v →
-    IsModel (with_coefficient m i j v)
+pub with_coefficient-kept : {limits : SizeLimits} (m : Model) (i j : ℕ) (v : ℚ) → IsModelWithin limits m →
+    i < height m → j < width m → IsNarrow v →
+    IsModelWithin limits (with_coefficient m i j v)
 with_coefficient-kept m i j v k p q narrow =
     let c = k.columns j no_column q in
     let n = k.narrow_columns j no_column q in
@@ -210,8 +223,9 @@ with_coefficient-kept m i j v k p q narrow =
       entries = with_entry-narrow i v (column m j).entries n.entries narrow;
     })
 
-pub with_bounds-kept : (m : Model) (j : ℕ) (l : Limits) → IsModel m → j < width m → IsKeptBound l.lower →
-    IsKeptBound l.upper → IsModel (with_bounds m j l)
+pub with_bounds-kept : {limits : SizeLimits} (m : Model) (j : ℕ) (l : Limits) → IsModelWithin limits m → j < width m →
+    IsKeptBound l.lower →
+    IsKeptBound l.upper → IsModelWithin limits (with_bounds m j l)
 with_bounds-kept m j l k q lower upper =
     let c = k.columns j no_column q in
     let n = k.narrow_columns j no_column q in
@@ -221,25 +235,29 @@ with_bounds-kept m j l k q lower upper =
 
 -- ---- right sides, ranges, the offset and the sense
 
-pub with_rhs-kept : (m : Model) (i : ℕ) (v : ℚ) → IsModel m → i < height m → IsNarrow v → IsModel (with_rhs m i v)
+pub with_rhs-kept : {limits : SizeLimits} (m : Model) (i : ℕ) (v : ℚ) → IsModelWithin limits m → i < height m →
+    IsNarrow v → IsModelWithin limits (with_rhs m i v)
 with_rhs-kept m i v k l narrow =
     changed_row-kept m i (λ (r : ExactRow). record r { rhs = v }) k l refl (k.ranges i no_row l)
     (record { rhs = narrow; range = (k.narrow_rows i no_row l).range })
 
-pub with_range-kept : (m : Model) (i : ℕ) (range : Option ℚ) → IsModel m → i < height m →
-    FitsKind (row m i).kind range → IfSome range IsNarrow → IsModel (with_range m i range)
+pub with_range-kept : {limits : SizeLimits} (m : Model) (i : ℕ) (range : Option ℚ) → IsModelWithin limits m →
+    i < height m →
+    FitsKind (row m i).kind range → IfSome range IsNarrow → IsModelWithin limits (with_range m i range)
 with_range-kept m i range k l fit narrow =
     changed_row-kept m i (λ (r : ExactRow). record r { range = range }) k l refl fit
     (record { rhs = (k.narrow_rows i no_row l).rhs; range = narrow })
 
 -- the rows as they are, with another sense and another offset
-same_rows-kept : (m : Model) (sense : Sense) (v : ℚ) → IsModel m → IsNarrow v →
-    IsModel (record m { sense = sense; offset = v })
+same_rows-kept : {limits : SizeLimits} (m : Model) (sense : Sense) (v : ℚ) → IsModelWithin limits m → IsNarrow v →
+    IsModelWithin limits (record m { sense = sense; offset = v })
 same_rows-kept m sense v k narrow =
-    other_rows-kept m sense v m.rows k narrow k.few_rows k.rows k.ranges k.columns k.rows_distinct k.narrow_rows
+    other_rows-kept m sense v m.rows k narrow k.few.few_rows k.rows k.ranges k.columns k.rows_distinct k.narrow_rows
 
-pub with_offset-kept : (m : Model) (v : ℚ) → IsModel m → IsNarrow v → IsModel (with_offset m v)
+pub with_offset-kept : {limits : SizeLimits} (m : Model) (v : ℚ) → IsModelWithin limits m → IsNarrow v →
+    IsModelWithin limits (with_offset m v)
 with_offset-kept m v k narrow = same_rows-kept m m.sense v k narrow
 
-pub with_sense-kept : (m : Model) (sense : Sense) → IsModel m → IsModel (with_sense m sense)
+pub with_sense-kept : {limits : SizeLimits} (m : Model) (sense : Sense) → IsModelWithin limits m →
+    IsModelWithin limits (with_sense m sense)
 with_sense-kept m sense k = same_rows-kept m sense m.offset k k.offset

@@ -8,7 +8,7 @@ use Rattle.spec_exact.specs.Fraction.{ℚ}
 use Rattle.spec_exact.specs.Narrow.{IsNarrow}
 use Rattle.spec_exact.proofs.Narrow.{zero_narrow}
 use Rattle.spec_model.specs.Model.{Model, Name, width, height}
-use Rattle.spec_model.specs.Kept.{IsModel, IsKeptColumn, IsNarrowColumn}
+use Rattle.spec_model.specs.Kept.{IsModelWithin, IsKeptColumn, IsNarrowColumn, usual_limits}
 use Rattle.spec_model.specs.Kept.{AreEntries, is_name, column_limit, row_place}
 use Rattle.spec_edit.specs.Changes.{with_entry, with_column}
 use Rattle.spec_edit.specs.Edited.{Pairs, row_named, is_given, entries_of, column_of, is_column_taken, new_column}
@@ -95,11 +95,12 @@ new_column-ok m n name cost pairs h =
       model = same_ok _ n d.2;
     }
 
-pub new_column-kept : (m n : Model) (name : Name) (cost : ℚ) (pairs : Pairs) → IsModel m → IsNarrow cost →
-    All (λ p. IsNarrow p.1) pairs → new_column m name cost pairs ≡ Ok n → IsModel n
+pub new_column-kept : (m n : Model) (name : Name) (cost : ℚ) (pairs : Pairs) → IsModelWithin usual_limits m →
+    IsNarrow cost →
+    All (λ p. IsNarrow p.1) pairs → new_column m name cost pairs ≡ Ok n → IsModelWithin usual_limits n
 new_column-kept m n name cost pairs k c narrow h =
     let s = new_column-ok m n name cost pairs h in
-    subst IsModel s.model
+    subst (IsModelWithin usual_limits) s.model
     (with_column-kept m (column_of name cost s.entries) k s.few s.free
     (column_of-kept (height m) name cost s.entries s.named
     (entries_of-kept m [] pairs [] s.entries s.given (no_entries (height m))))

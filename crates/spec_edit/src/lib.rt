@@ -16,7 +16,7 @@ mod edit;
 
 ghost use Rattle.std.specs.Prelude.{◌≡◌, ◌<◌, ◌↔◌, ℕ, true, false, Some, None, Ok, Err, List};
 ghost use Rattle.spec_exact.specs.Fraction.{ℚ, 0ℚ};
-ghost use Rattle.spec_model.specs.Kept.{IsModel, row_place};
+ghost use Rattle.spec_model.specs.Kept.{IsModel, IsUsualModel, row_place};
 ghost use Rattle.spec_model.specs.Model.{Model, Name, ExactRow, width, height, row, coefficient};
 ghost use Rattle.spec_model.specs.Model.{is_free, value_of};
 ghost use Rattle.spec_model.specs.Truth.{IsFeasible, IsOptimal, IsInfeasible, IsUnbounded};
@@ -29,9 +29,9 @@ ghost use Rattle.spec_edit.specs.Meaning.{IsWithPairs, adds_or_removes, KeepsNam
 
 pub use edit::{Edit, EditFault, Which};
 
-/// An edit leaves a model that may be kept.
+/// An edit leaves a model that sessions may hold.
 pub fn edits_keep_models()
-    ensures { (m n : Model) (e : ExactEdit) → IsModel m → IsKeptEdit e → edited m e ≡ Ok n → IsModel n }
+    ensures { (m n : Model) (e : ExactEdit) → IsUsualModel m → IsKeptEdit e → edited m e ≡ Ok n → IsUsualModel n }
 {}
 
 /// What changes of a model mean, by the numbers of rows and columns.

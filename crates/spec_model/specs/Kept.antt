@@ -6,14 +6,35 @@ use Rattle.spec_text.specs.Words.{same}
 use Rattle.spec_exact.specs.Fraction.{ℚ, 0ℚ, whole, abs_ℚ, ◌<ℚ◌}
 use Rattle.spec_exact.specs.Narrow.{IsNarrow}
 use Rattle.spec_model.specs.declared.parts.Kind.{Kind}
+use Rattle.spec_model.specs.declared.parts.SizeLimits.{SizeLimits}
 use Rattle.spec_model.specs.Model.{Model, Name, ExactRow, ExactColumn, is_free}
 
--- the most rows and columns
+-- the most rows and columns of a model in a session, and of the forms and tableaus that are made of models
 abbrev pub row_limit : ℕ
 row_limit = 256
 
 abbrev pub column_limit : ℕ
 column_limit = 512
+
+abbrev pub usual_limits : SizeLimits
+usual_limits = record { rows = row_limit; columns = column_limit }
+
+-- the most rows and columns of any model
+abbrev pub large_limits : SizeLimits
+large_limits = record { rows = 65536; columns = 131072 }
+
+-- no limit is greater than that of the others
+pub record AreAtMost (few many : SizeLimits) : Type 0 where
+  pub rows : few.rows ≤ many.rows
+  pub columns : few.columns ≤ many.columns
+
+-- a model has no more rows and columns
+pub record IsWithin (limits : SizeLimits) (m : Model) : Type 0 where
+  pub few_rows : length m.rows ≤ limits.rows
+  pub few_columns : length m.columns ≤ limits.columns
+
+abbrev pub IsUsual : Model → Type 0
+IsUsual m = IsWithin usual_limits m
 
 -- a byte that is printed and no blank
 abbrev pub is_printable : ℕ → Bool
@@ -75,9 +96,9 @@ pub record IsNarrowColumn (c : ExactColumn) : Type 0 where
   pub upper : IfSome c.upper IsNarrow
   pub entries : All (λ e. IsNarrow e.1) c.entries
 
-pub record IsModel (m : Model) : Type 0 where
-  pub few_rows : length m.rows ≤ row_limit
-  pub few_columns : length m.columns ≤ column_limit
+-- a model that is kept within limits of size
+pub record IsModelWithin (limits : SizeLimits) (m : Model) : Type 0 where
+  pub few : IsWithin limits m
   pub name : IsTrue (is_model_name m.name)
   pub objective : IsTrue (is_row_name m.objective)
   pub rows : All (λ r. IsTrue (is_row_name r.name)) m.rows
@@ -88,3 +109,10 @@ pub record IsModel (m : Model) : Type 0 where
   pub offset : IsNarrow m.offset
   pub narrow_rows : All IsNarrowRow m.rows
   pub narrow_columns : All IsNarrowColumn m.columns
+
+abbrev pub IsModel : Model → Type 0
+IsModel m = IsModelWithin large_limits m
+
+-- a model that sessions may hold
+abbrev pub IsUsualModel : Model → Type 0
+IsUsualModel m = IsModel m × IsUsual m

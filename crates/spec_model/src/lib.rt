@@ -4,12 +4,15 @@
 //! |---|---|---|
 //! | `Sense`, `Kind`, `Row`, `Column` | the parts of a model, over any names and numbers | src/parts |
 //! | `RowLimit` | a limit of a row, as the operation that gives it | src/parts |
+//! | `SizeLimits` | how many rows and columns a model may have | src/parts |
 //! | `Model` | a model | specs/Model |
 //! | `lower_by`, `upper_by`, `limits_of` | a row's limits, by its kind, its right side and its range | specs/Model |
 //! | `is_free` | whether a kind of row has no limits | specs/Model |
 //! | `lower_run`, `upper_run` | the same where operations may be refused | specs/Model |
 //! | `coefficient`, `activity`, `value_of` | by the numbers of rows and columns | specs/Model |
-//! | `IsModel` | what holds of each model that is kept | specs/Kept |
+//! | `IsModel`, `IsModelWithin` | what holds of each model that is kept, and of one that is kept within limits | specs/Kept |
+//! | `usual_limits`, `large_limits` | the sizes of models for sessions, and for the commands that take large ones | specs/Kept |
+//! | `IsWithin`, `IsUsual`, `IsUsualModel` | a model within limits, within the usual ones, and one that is kept so | specs/Kept |
 //! | `IsFeasible`, `IsBetter` | points | specs/Truth |
 //! | `IsOptimal`, `IsInfeasible`, `IsUnbounded` | the three truths | specs/Truth |
 //!
@@ -25,7 +28,7 @@ ghost use Rattle.spec_model.specs.declared.parts.RowLimit.{RowLimit};
 ghost use Rattle.spec_model.specs.Model.{Model, limit_of, limit_run};
 ghost use Rattle.spec_model.specs.Truth.{IsOptimal, IsInfeasible, IsUnbounded};
 
-pub use parts::{Column, Kind, Row, RowLimit, Sense};
+pub use parts::{Column, Kind, Row, RowLimit, Sense, SizeLimits};
 
 /// No two of the truths hold together, and there is one optimal value.
 pub fn truths_exclude_each_other()

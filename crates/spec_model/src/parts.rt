@@ -49,3 +49,10 @@ pub enum RowLimit<F> {
     Sum(F, F),
     Difference(F, F),
 }
+
+/// How many rows and columns a model may have at most.
+#[derive(Clone, Copy)]
+pub struct SizeLimits {
+    pub rows: u32,
+    pub columns: u32,
+}
