@@ -11,6 +11,7 @@ use Rattle.std.proofs.Math.Seq.{get_or-append_seam}
 use Rattle.spec_text.specs.Words.{same}
 use Rattle.spec_text.proofs.WordLemmas.{same-refl, same_true}
 use Rattle.spec_exact.specs.Fraction.{ℚ, 0ℚ, eq_ℚ}
+use Rattle.spec_model.specs.declared.parts.SizeLimits.{SizeLimits}
 use Rattle.spec_model.specs.Model.{Model, Name, ExactColumn, no_column, column, width}
 use Rattle.spec_mps.specs.declared.fault.Code.TheVariants as code
 use Rattle.spec_mps.specs.declared.section.Section.{Section}
@@ -22,7 +23,7 @@ use Rattle.spec_mps.specs.declared.target.Target.TheVariants.{Objective, Row}
 use Rattle.spec_mps.specs.Fields.{Fields, text_at}
 use Rattle.spec_mps.specs.Reader.{State, is_among, new_column, columns_with, whole_columns}
 use Rattle.spec_mps.specs.Reader.{put_entry, with_number, enter, pairs_of, columns_card}
-use Rattle.spec_mps.specs.Steps.{has_begun, begun, headed, data_card, model_by, Spells}
+use Rattle.spec_mps.specs.Steps.{has_begun, begun, headed, data_card, model_by, SpellsWithin}
 use Rattle.spec_mps.proofs.CheckSteps.{must_ok, same_ok}
 use Rattle.spec_mps.proofs.SpelledKept.{spelled_kept}
 use Rattle.spec_meaning.specs.TextCards.{Lines, cards_in}
@@ -92,7 +93,8 @@ unset_push [] (suc j) h = h zero
 unset_push (b ∷ lowered) zero h = h zero
 unset_push (b ∷ lowered) (suc j) h = unset_push lowered j (λ i. h (suc i))
 
-opens_new : (s : State) (name : Name) (t : State) → Opens s name t → AreNew (whole_columns s) s.lowered →
+opens_new : {limits : SizeLimits} (s : State) (name : Name) (t : State) → Opens limits s name t →
+    AreNew (whole_columns s) s.lowered →
     AreNew (whole_columns t) t.lowered
 opens_new s name t (Same known same) k = subst (λ (u : State). AreNew (whole_columns u) u.lowered) same k
 opens_new s name t (New other free few new) k =
@@ -105,9 +107,10 @@ opens_new s name t (New other free few new) k =
       unset = λ j. unset_push s.lowered j k.unset;
     })
 
-columns_new : (style : Style) (s : State) (card : Fields) (t : State) → columns_card style s card ≡ Ok t →
+columns_new : (limits : SizeLimits) (style : Style) (s : State) (card : Fields) (t : State) →
+    columns_card limits style s card ≡ Ok t →
     AreNew (whole_columns s) s.lowered → AreNew (whole_columns t) t.lowered
-columns_new style s card t h k =
+columns_new limits style s card t h k =
     let d = columns_did style s card t h in
     pairs_keep enter _ column_puts (λ done u. AreNew (whole_columns u) u.lowered)
     (λ done u pair w p n. enter_new u p.place p.value w p.did n)
@@ -135,28 +138,29 @@ bounds_same style cards s t seen columns lowered during k =
       during = during;
     }
 
-bounds_at_card : (style : Style) (c : SoFar) (s t : State) (part : Section) (card : Fields) → IsOrdered s.part s.seen →
-    s.part ≡ Some part → data_card style (Some part) s card ≡ Ok t → ColumnsSay c.columns s →
+bounds_at_card : (limits : SizeLimits) (style : Style) (c : SoFar) (s t : State) (part : Section) (card : Fields) →
+    IsOrdered s.part s.seen →
+    s.part ≡ Some part → data_card limits style (Some part) s card ≡ Ok t → ColumnsSay c.columns s →
     BoundsSay style c.bounds s → BoundsSay style (with_card part card c).bounds t
-bounds_at_card style c s t section.Bounds card o here h columns k =
-    let leads = card_leads style section.Bounds s card t h in
+bounds_at_card limits style c s t section.Bounds card o here h columns k =
+    let leads = card_leads limits style section.Bounds s card t h in
     let st = stays section.Bounds s t leads in
     let at : is_section s.part section.Bounds ≡ true = ap (λ p. is_section p section.Bounds) here in
     let away : is_section s.part section.Columns ≡ false = ap (λ p. is_section p section.Columns) here in
     bounds_card_says style c.bounds card s t (ap (λ (x : Seen). x.bounds) st.1 ∙ o.told.bounds at) at
     (columns.shut away) (ap (λ (u : State). u.column) leads) h k
-bounds_at_card style c s t section.Columns card o here h columns k =
-    let st = stays section.Columns s t (card_leads style section.Columns s card t h) in
+bounds_at_card limits style c s t section.Columns card o here h columns k =
+    let st = stays section.Columns s t (card_leads limits style section.Columns s card t h) in
     let before : s.seen.bounds ≡ false = (o.at_columns (ap (λ p. is_section p section.Columns) here)).bounds in
     let n = k.none before in
-    let new = columns_new style s card t h n.1 in
+    let new = columns_new limits style s card t h n.1 in
     record {
       none = λ f. (n.0, new);
       bounded = new_bounded style c.bounds (whole_columns t) t.lowered n.0 new;
       during = λ f. not_both (is_section t.part section.Bounds) f (ap (λ p. is_section p section.Bounds) (st.0 ∙ here));
     }
-bounds_at_card style c s t part card o here h columns k =
-    let leads = card_leads style part s card t h in
+bounds_at_card limits style c s t part card o here h columns k =
+    let leads = card_leads limits style part s card t h in
     let st = stays part s t leads in
     let b = bounds_stay part s t refl refl leads in
     bounds_same style c.bounds s t (λ f. sym (ap (λ (x : Seen). x.bounds) st.1) ∙ f)
@@ -187,11 +191,12 @@ bounds_at_heading style cards s t part word new h k =
 none_new : AreNew [] []
 none_new = record { bounds = All-nil IsNew; many = refl; unset = λ j. refl }
 
-bounds_kept : (style : Style) → IsKept style (λ c s. ColumnsSay c.columns s × BoundsSay style c.bounds s)
-bounds_kept style =
+bounds_kept : (limits : SizeLimits) (style : Style) → IsKept limits style (λ c s. ColumnsSay c.columns s × BoundsSay
+    style c.bounds s)
+bounds_kept limits style =
     record {
       at_start = (
-        (columns_kept style).at_start,
+        (columns_kept limits style).at_start,
         record {
           none = λ h. (refl, none_new);
           bounded = new_bounded style [] [] [] refl none_new;
@@ -200,13 +205,13 @@ bounds_kept style =
       );
       at_heading =
           λ c s t part words o new h k. (
-            (columns_kept style).at_heading c s t part words o new h k.0,
+            (columns_kept limits style).at_heading c s t part words o new h k.0,
             bounds_at_heading style c.bounds s t part (text_at 2 words) new h k.1,
           );
       at_card =
           λ c s t part card o here h k. (
-            (columns_kept style).at_card c s t part card o here h k.0,
-            bounds_at_card style c s t part card o here h k.0 k.1,
+            (columns_kept limits style).at_card c s t part card o here h k.0,
+            bounds_at_card limits style c s t part card o here h k.0 k.1,
           );
     }
 
@@ -233,13 +238,14 @@ own_place : (names : List Name) (j : ℕ) → AllPairs (λ x y. x ≢ y) names �
 own_place names j h l = rw (own_first names j h l, lt-ltb j (length names) l) refl
 
 -- the bounds of a column are those of its cards
-pub bounds_said : (style : Style) (lines : Lines) (m : Model) → Spells style lines m → (j : ℕ) → j < width m →
+pub bounds_said : (limits : SizeLimits) (style : Style) (lines : Lines) (m : Model) →
+    SpellsWithin limits style lines m → (j : ℕ) → j < width m →
     ((column m j).lower ≡ lower_of style
     (bounds_of_column style (column m j).name (cards_in style section.Bounds lines))) × ((column m j).upper
     ≡ upper_of style (bounds_of_column style (column m j).name (cards_in style section.Bounds lines)))
 unfolding model_by
-bounds_said style lines m h j l =
-    let e = spelled_by style _ (bounds_kept style) lines m h in
+bounds_said limits style lines m h j l =
+    let e = spelled_by limits style _ (bounds_kept limits style) lines m h in
     let columns : whole_columns e.last ≡ m.columns = ap (λ (o : Model). o.columns) e.model_is in
     let k =
     subst (λ cs. AreBounded style (cards_in style section.Bounds lines) cs e.last.lowered) columns e.holds.1.bounded in
@@ -249,6 +255,6 @@ bounds_said style lines m h j l =
     omega (arith, length-map m.columns (λ (c : ExactColumn). c.name)) in
     let place : column_place (column m j).name m.columns ≡ Some j =
     subst (λ n. column_place n m.columns ≡ Some j) name
-    (own_place (column_names m.columns) j (spelled_kept style lines m h).columns_distinct inside) in
+    (own_place (column_names m.columns) j (spelled_kept limits style lines m h).columns_distinct inside) in
     let b = k.said (column m j).name j place in
     (b.lower, b.upper)

@@ -9,6 +9,7 @@ use Rattle.std.proofs.lemmas.Bool.{not-true}
 use Rattle.spec_text.specs.Words.{same}
 use Rattle.spec_text.proofs.WordLemmas.{same_true, same-refl}
 use Rattle.spec_exact.specs.Fraction.{ℚ, 0ℚ}
+use Rattle.spec_model.specs.declared.parts.SizeLimits.{SizeLimits}
 use Rattle.spec_model.specs.Model.{Name, ExactColumn}
 use Rattle.spec_mps.specs.declared.fault.Code.TheVariants as code
 use Rattle.spec_mps.specs.declared.section.Section.TheVariants as section
@@ -239,7 +240,8 @@ opened_new cards card s free k =
         texts_for name (pairs_of_column (column_on card) cards ++ []) ≡ []
     nothing e name = ap (λ ps. texts_for name (ps ++ [])) e ∙ texts_none name
 
-opens : (cards : List Fields) (card : Fields) (s u : State) → Opens s (column_on card) u → ColumnsSay cards s →
+opens : {limits : SizeLimits} (cards : List Fields) (card : Fields) (s u : State) → Opens limits s (column_on card) u →
+    ColumnsSay cards s →
     IsOpened (row_view s) cards card u
 opens cards card s u (Same known same) k =
     subst (IsOpened (row_view s) cards card) same (opened_again cards card s s.column refl known k.last k)
@@ -248,10 +250,12 @@ opens cards card s u (New other free few new) k =
 
 -- ---- a card of COLUMNS
 
-columns_read : (style : Style) (s : State) (card : Fields) (t : State) (name : Name) (more : List (List ℕ)) →
-    columns_card style s card ≡ Ok t → texts_of card ≡ name ∷ more → IsColumn (texts_of card) name (pairs_of more)
+columns_read : (limits : SizeLimits) (style : Style) (s : State) (card : Fields) (t : State) (name : Name)
+    (more : List (List ℕ)) →
+    columns_card limits style s card ≡ Ok t → texts_of card ≡ name ∷ more →
+    IsColumn (texts_of card) name (pairs_of more)
 unfolding columns_card
-columns_read style s card t name more h e =
+columns_read limits style s card t name more h e =
     let a = must_ok (not (same (text_at (marker_field style) card) (codes "'MARKER'"))) code.Integer _ t h in
     let b = step_ok (shaped style section.Columns card) _ t a.1 in
     column_is style card b.0 name more b.1 e
@@ -304,13 +308,14 @@ finish cards card s u t seen here o r =
     or_true true = refl
     or_true false = refl
 
-pub columns_card_says : (style : Style) (cards : List Fields) (card : Fields) (s t : State) → t.seen.columns ≡ true →
-    is_section t.part section.Columns ≡ true → columns_card style s card ≡ Ok t → ColumnsSay cards s →
+pub columns_card_says : (limits : SizeLimits) (style : Style) (cards : List Fields) (card : Fields) (s t : State) →
+    t.seen.columns ≡ true →
+    is_section t.part section.Columns ≡ true → columns_card limits style s card ≡ Ok t → ColumnsSay cards s →
     ColumnsSay (cards ++ card ∷ []) t
-columns_card_says style cards card s t seen here h k =
+columns_card_says limits style cards card s t seen here h k =
     let d = columns_did style s card t h in
-    let c = columns_read style s card t d.name d.more h d.texts_are in
-    let opened = opens cards card s d.between (subst (λ n. Opens s n d.between) (sym c.column_is) d.opens) k in
+    let c = columns_read limits style s card t d.name d.more h d.texts_are in
+    let opened = opens cards card s d.between (subst (λ n. Opens limits s n d.between) (sym c.column_is) d.opens) k in
     let old = pairs_of_column (column_on card) cards in
     let r =
     pairs_keep enter _ column_puts (IsReading (row_view s) old (column_on card) d.between.columns)

@@ -2,6 +2,7 @@
 use Rattle.std.proofs.Common.{◌≡◌, ℕ, ◌<◌, true, false, Some, None, Ok, List, [], ◌∷◌}
 use Rattle.std.proofs.Common.{map, refl, sym, ap, ◌∙◌, subst, subst₂, get_or, All, IfSome}
 use Rattle.std.proofs.lemmas.List.Elements.{All-nil, All-cons, All-head, All-tail, All-map}
+use Rattle.spec_model.specs.declared.parts.SizeLimits.{SizeLimits}
 use Rattle.spec_model.specs.Model.{Model, ExactColumn, no_row, no_column, row, column, height, width, cost, coefficient}
 use Rattle.spec_mps.specs.declared.section.Section.{Section}
 use Rattle.spec_mps.specs.declared.section.Section.TheVariants as section
@@ -10,7 +11,7 @@ use Rattle.spec_mps.specs.declared.style.Style.{Style}
 use Rattle.spec_mps.specs.declared.target.Target.TheVariants.{Objective, Row}
 use Rattle.spec_mps.specs.Fields.{Fields, text_at}
 use Rattle.spec_mps.specs.Reader.{State, start, columns_with, whole_columns}
-use Rattle.spec_mps.specs.Steps.{with_section, begun, headed, data_card, model_by, Spells}
+use Rattle.spec_mps.specs.Steps.{with_section, begun, headed, data_card, model_by, SpellsWithin}
 use Rattle.spec_meaning.specs.NumberCards.{IsTheNumber, texts_for}
 use Rattle.spec_meaning.specs.ColumnCards.{named_columns, pairs_of_column}
 use Rattle.spec_meaning.specs.TextCards.{Lines, cards_in}
@@ -110,21 +111,22 @@ columns_stay section.Ranges s t e h =
 columns_stay section.End s t e h =
     record { column = ap (λ (u : State). u.column) h; columns = ap (λ (u : State). map without_bounds u.columns) h }
 
-columns_at_card : (style : Style) (c : SoFar) (s t : State) (part : Section) (card : Fields) → IsOrdered s.part s.seen →
-    s.part ≡ Some part → data_card style (Some part) s card ≡ Ok t → ColumnsSay c.columns s →
+columns_at_card : (limits : SizeLimits) (style : Style) (c : SoFar) (s t : State) (part : Section) (card : Fields) →
+    IsOrdered s.part s.seen →
+    s.part ≡ Some part → data_card limits style (Some part) s card ≡ Ok t → ColumnsSay c.columns s →
     ColumnsSay (with_card part card c).columns t
-columns_at_card style c s t section.Columns card o here h k =
-    let st = stays section.Columns s t (card_leads style section.Columns s card t h) in
+columns_at_card limits style c s t section.Columns card o here h k =
+    let st = stays section.Columns s t (card_leads limits style section.Columns s card t h) in
     let at : is_section s.part section.Columns ≡ true = ap (λ p. is_section p section.Columns) here in
-    columns_card_says style c.columns card s t (ap (λ (x : Seen). x.columns) st.1 ∙ o.told.columns at)
+    columns_card_says limits style c.columns card s t (ap (λ (x : Seen). x.columns) st.1 ∙ o.told.columns at)
     (ap (λ p. is_section p section.Columns) st.0 ∙ at) h k
-columns_at_card style c s t section.Rows card o here h k =
-    let leads = card_leads style section.Rows s card t h in
+columns_at_card limits style c s t section.Rows card o here h k =
+    let leads = card_leads limits style section.Rows s card t h in
     let st = stays section.Rows s t leads in
     columns_before c.columns s t (o.at_rows (ap (λ p. is_section p section.Rows) here))
     (ap (λ (x : Seen). x.columns) st.1) (ap (λ (u : State). u.columns) leads) (ap (λ (u : State). u.column) leads) k
-columns_at_card style c s t part card o here h k =
-    let leads = card_leads style part s card t h in
+columns_at_card limits style c s t part card o here h k =
+    let leads = card_leads limits style part s card t h in
     let st = stays part s t leads in
     let cs = columns_stay part s t refl leads in
     let away : is_section s.part section.Columns ≡ false = ap (λ p. is_section p section.Columns) here in
@@ -161,8 +163,8 @@ columns_at_heading cards s t part word h k =
       last = subst (λ o. IfSome o (IsOpenSaid (row_view t) cards t.columns t.paired)) (sym closed) tt;
     }
 
-pub columns_kept : (style : Style) → IsKept style (λ c s. ColumnsSay c.columns s)
-columns_kept style =
+pub columns_kept : (limits : SizeLimits) (style : Style) → IsKept limits style (λ c s. ColumnsSay c.columns s)
+columns_kept limits style =
     record {
       at_start = record {
         none = λ h. (refl, refl, refl);
@@ -172,30 +174,33 @@ columns_kept style =
         last = tt;
       };
       at_heading = λ c s t part words o new h k. columns_at_heading c.columns s t part (text_at 2 words) h k;
-      at_card = λ c s t part card o here h k. columns_at_card style c s t part card o here h k;
+      at_card = λ c s t part card o here h k. columns_at_card limits style c s t part card o here h k;
     }
 
 -- ---- the model
 
-rows_and_columns : (style : Style) → IsKept style (λ c s. RowsSay c.rows (row_view s) × ColumnsSay c.columns s)
-rows_and_columns style =
-    both_kept style (λ c s. RowsSay c.rows (row_view s))
-    (λ c s. ColumnsSay c.columns s) (rows_kept style) (columns_kept style)
+rows_and_columns : (limits : SizeLimits) (style : Style) → IsKept limits style
+    (λ c s. RowsSay c.rows (row_view s) × ColumnsSay c.columns s)
+rows_and_columns limits style =
+    both_kept limits style (λ c s. RowsSay c.rows (row_view s))
+    (λ c s. ColumnsSay c.columns s) (rows_kept limits style) (columns_kept limits style)
 
-pub columns_named : (style : Style) (lines : Lines) (m : Model) → Spells style lines m →
+pub columns_named : (limits : SizeLimits) (style : Style) (lines : Lines) (m : Model) →
+    SpellsWithin limits style lines m →
     map (λ c. c.name) m.columns ≡ named_columns (cards_in style section.Columns lines)
 unfolding model_by
-columns_named style lines m h =
-    let e = spelled_by style _ (columns_kept style) lines m h in
+columns_named limits style lines m h =
+    let e = spelled_by limits style _ (columns_kept limits style) lines m h in
     sym (ap (λ (o : Model). map (λ (c : ExactColumn). c.name) o.columns) e.model_is) ∙ e.holds.names
 
-pub coefficient_said : (style : Style) (lines : Lines) (m : Model) → Spells style lines m → (i j : ℕ) → i < height m →
+pub coefficient_said : (limits : SizeLimits) (style : Style) (lines : Lines) (m : Model) →
+    SpellsWithin limits style lines m → (i j : ℕ) → i < height m →
     j < width m →
     IsTheNumber (texts_for (row m i).name (pairs_of_column (column m j).name (cards_in style section.Columns lines)))
     (coefficient m i j)
 unfolding model_by
-coefficient_said style lines m h =
-    let e = spelled_by style _ (rows_and_columns style) lines m h in
+coefficient_said limits style lines m h =
+    let e = spelled_by limits style _ (rows_and_columns limits style) lines m h in
     let k = e.holds.1 in
     let all =
     all_whole (row_view e.last)
@@ -206,12 +211,13 @@ coefficient_said style lines m h =
     (λ i j l k.
     (all j no_column k).numbers (get_or e.last.rows i no_row).name (Row i) (row_place e.last i e.holds.0.placed l))
 
-pub cost_said : (style : Style) (lines : Lines) (m : Model) → Spells style lines m → (j : ℕ) → j < width m →
+pub cost_said : (limits : SizeLimits) (style : Style) (lines : Lines) (m : Model) → SpellsWithin limits style lines m →
+    (j : ℕ) → j < width m →
     IsTheNumber (texts_for m.objective (pairs_of_column (column m j).name (cards_in style section.Columns lines)))
     (cost m j)
 unfolding model_by
-cost_said style lines m h =
-    let e = spelled_by style _ (rows_and_columns style) lines m h in
+cost_said limits style lines m h =
+    let e = spelled_by limits style _ (rows_and_columns limits style) lines m h in
     let k = e.holds.1 in
     let all =
     all_whole (row_view e.last)

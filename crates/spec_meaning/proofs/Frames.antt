@@ -4,6 +4,7 @@ use Rattle.std.proofs.Common.{Some, None, Ok, List, [], ◌∷◌, ◌++◌, map
 use Rattle.std.proofs.Common.{ap, ◌∙◌, subst, get_or}
 use Rattle.spec_text.specs.Words.{same}
 use Rattle.spec_exact.specs.Fraction.{ℚ, 0ℚ}
+use Rattle.spec_model.specs.declared.parts.SizeLimits.{SizeLimits}
 use Rattle.spec_model.specs.declared.parts.Kind.{Kind}
 use Rattle.spec_model.specs.Model.{Name, ExactRow, ExactColumn}
 use Rattle.spec_mps.specs.declared.fault.Code.TheVariants as code
@@ -75,9 +76,10 @@ with_row_leads s kind name = go (is_first s kind)
     go true = refl
     go false = refl
 
-rows_leads : (style : Style) (s : State) (fields : Fields) (t : State) → rows_card style s fields ≡ Ok t →
+rows_leads : (limits : SizeLimits) (style : Style) (s : State) (fields : Fields) (t : State) →
+    rows_card limits style s fields ≡ Ok t →
     Leads section.Rows s t
-rows_leads style s fields t h =
+rows_leads limits style s fields t h =
     let d = rows_did style s fields t h in
     subst (Leads section.Rows s) d.new (with_row_leads s d.kind (text_at 2 fields))
 
@@ -89,13 +91,15 @@ enter_leads s x v t h =
     let a = must_ok (not (is_among x s.paired)) code.EntryRepeated _ t h in
     subst (Leads section.Columns s) (same_ok _ t a.1) refl
 
-opens_leads : (s : State) (name : Name) (t : State) → Opens s name t → Leads section.Columns s t
+opens_leads : {limits : SizeLimits} (s : State) (name : Name) (t : State) → Opens limits s name t →
+    Leads section.Columns s t
 opens_leads s name t (Same known same) = subst (Leads section.Columns s) same refl
 opens_leads s name t (New other free few new) = subst (Leads section.Columns s) new refl
 
-pub columns_leads : (style : Style) (s : State) (fields : Fields) (t : State) → columns_card style s fields ≡ Ok t →
+pub columns_leads : (limits : SizeLimits) (style : Style) (s : State) (fields : Fields) (t : State) →
+    columns_card limits style s fields ≡ Ok t →
     Leads section.Columns s t
-columns_leads style s fields t h =
+columns_leads limits style s fields t h =
     let d = columns_did style s fields t h in
     pairs_keep enter _ column_puts (λ done u. Leads section.Columns s u)
     (λ done u pair w p k. enter_leads u p.place p.value w p.did ∙ k)
@@ -174,13 +178,13 @@ bound_leads s kind texts t (SkippedBound other same) = subst (Leads section.Boun
 
 -- ---- a data card of any section
 
-pub card_leads : (style : Style) (part : Section) (s : State) (fields : Fields) (t : State) →
-    data_card style (Some part) s fields ≡ Ok t → Leads part s t
-card_leads style section.Sense s fields t h = sense_leads style s fields t h
-card_leads style section.Rows s fields t h = rows_leads style s fields t h
-card_leads style section.Columns s fields t h = columns_leads style s fields t h
-card_leads style section.RightSides s fields t h = rhs_leads s _ t (rhs_did style s fields t h)
-card_leads style section.Ranges s fields t h = ranges_leads s _ t (ranges_did style s fields t h)
-card_leads style section.Bounds s fields t h =
+pub card_leads : (limits : SizeLimits) (style : Style) (part : Section) (s : State) (fields : Fields) (t : State) →
+    data_card limits style (Some part) s fields ≡ Ok t → Leads part s t
+card_leads limits style section.Sense s fields t h = sense_leads style s fields t h
+card_leads limits style section.Rows s fields t h = rows_leads limits style s fields t h
+card_leads limits style section.Columns s fields t h = columns_leads limits style s fields t h
+card_leads limits style section.RightSides s fields t h = rhs_leads s _ t (rhs_did style s fields t h)
+card_leads limits style section.Ranges s fields t h = ranges_leads s _ t (ranges_did style s fields t h)
+card_leads limits style section.Bounds s fields t h =
     let d = bounds_did style s fields t h in bound_leads s d.kind d.texts t d.did
-card_leads style part s fields t h = absurd (cc)
+card_leads limits style part s fields t h = absurd (cc)

@@ -2,11 +2,12 @@
 use Rattle.std.proofs.Common.{◌≡◌, Bool, true, false, not, cond, [], ◌∷◌, map, Option, Some}
 use Rattle.std.proofs.Common.{refl, sym, ap, ◌∙◌}
 use Rattle.std.specs.List.{filter}
+use Rattle.spec_model.specs.declared.parts.SizeLimits.{SizeLimits}
 use Rattle.spec_model.specs.declared.parts.Kind.{Kind}
 use Rattle.spec_model.specs.Model.{Model, Name, is_free}
 use Rattle.spec_mps.specs.declared.section.Section.TheVariants as section
 use Rattle.spec_mps.specs.declared.style.Style.{Style}
-use Rattle.spec_mps.specs.Steps.{Spells}
+use Rattle.spec_mps.specs.Steps.{SpellsWithin}
 use Rattle.spec_meaning.specs.RowCards.{Labels, typed_rows, first_free, but_first_free, free_names, limited}
 use Rattle.spec_meaning.specs.TextCards.{Lines, cards_in}
 use Rattle.spec_meaning.proofs.RowsKept.{rows_said, objective_said}
@@ -52,14 +53,14 @@ limited_first (r ∷ rows) = go (is_free r.0) refl (limited_first rows)
     go false e f =
         limited_own r rows e ∙ ap (λ rows. r ∷ rows) f ∙ sym (limited_own r (but_first_free rows) e)
 
-module _ (style : Style) (lines : Lines) (m : Model) (h : Spells style lines m) where
+module _ (limits : SizeLimits) (style : Style) (lines : Lines) (m : Model) (h : SpellsWithin limits style lines m) where
   pub free_said : free_names (typed_rows (cards_in style section.Rows lines))
       ≡ m.objective ∷ free_names (map (λ r. (r.kind, r.name)) m.rows)
   free_said =
-      names_first (typed_rows (cards_in style section.Rows lines)) m.objective (objective_said style lines m h)
-      ∙ ap (λ (rows : Labels). m.objective ∷ free_names rows) (rows_said style lines m h)
+      names_first (typed_rows (cards_in style section.Rows lines)) m.objective (objective_said limits style lines m h)
+      ∙ ap (λ (rows : Labels). m.objective ∷ free_names rows) (rows_said limits style lines m h)
 
   pub limited_said : limited (typed_rows (cards_in style section.Rows lines))
       ≡ limited (map (λ r. (r.kind, r.name)) m.rows)
   limited_said =
-      limited_first (typed_rows (cards_in style section.Rows lines)) ∙ ap limited (rows_said style lines m h)
+      limited_first (typed_rows (cards_in style section.Rows lines)) ∙ ap limited (rows_said limits style lines m h)

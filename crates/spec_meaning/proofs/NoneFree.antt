@@ -5,11 +5,12 @@ use Rattle.std.specs.List.{filter}
 use Rattle.std.proofs.lemmas.List.{length-map}
 use Rattle.std.proofs.lemmas.List.Elements.{All-nil, All-cons}
 use Rattle.std.proofs.Math.ListN.{get_or-map}
+use Rattle.spec_model.specs.declared.parts.SizeLimits.{SizeLimits}
 use Rattle.spec_model.specs.declared.parts.Kind.{Kind}
 use Rattle.spec_model.specs.Model.{Model, Name, ExactRow, no_row, row, height, is_free}
 use Rattle.spec_mps.specs.declared.section.Section.TheVariants as section
 use Rattle.spec_mps.specs.declared.style.Style.{Style}
-use Rattle.spec_mps.specs.Steps.{Spells}
+use Rattle.spec_mps.specs.Steps.{SpellsWithin}
 use Rattle.spec_meaning.specs.NumberCards.{IsTheRange, texts_for, used_pairs}
 use Rattle.spec_meaning.specs.RowCards.{Labels, typed_rows, but_first_free, free_names, limited}
 use Rattle.spec_meaning.specs.TextCards.{Lines, cards_in}
@@ -49,10 +50,11 @@ all_limited (r ∷ rows) = go (is_free r.0) refl (all_limited rows)
     go true e f = f
     go false e f = All-cons (λ (r : Kind × Name). is_free r.0 ≡ false) r (limited rows) e f
 
-module _ (style : Style) (lines : Lines) (m : Model) (h : Spells style lines m)
+module _ (limits : SizeLimits) (style : Style) (lines : Lines) (m : Model) (h : SpellsWithin limits style lines m)
     (one : free_names (typed_rows (cards_in style section.Rows lines)) ≡ m.objective ∷ []) where
   pub rows_limited : map (λ r. (r.kind, r.name)) m.rows ≡ limited (typed_rows (cards_in style section.Rows lines))
-  rows_limited = sym (rows_said style lines m h) ∙ one_free (typed_rows (cards_in style section.Rows lines)) m.objective one
+  rows_limited = sym (rows_said limits style lines m h) ∙ one_free (typed_rows (cards_in style section.Rows lines))
+      m.objective one
 
   row_limited : (i : ℕ) → i < height m → is_free (row m i).kind ≡ false
   row_limited i l =
@@ -63,4 +65,4 @@ module _ (style : Style) (lines : Lines) (m : Model) (h : Spells style lines m)
 
   pub ranges_all : (i : ℕ) → i < height m →
       IsTheRange (texts_for (row m i).name (used_pairs (cards_in style section.Ranges lines))) (row m i).range
-  ranges_all i l = range_said style lines m h i l (row_limited i l)
+  ranges_all i l = range_said limits style lines m h i l (row_limited i l)

@@ -4,6 +4,7 @@ use Rattle.std.proofs.Common.{Some, None, Ok, List, [], ◌∷◌, ◌++◌, len
 use Rattle.std.proofs.Common.{sym, ap, ◌∙◌, subst, get_or, arith, append_assoc, append-nil}
 use Rattle.std.proofs.Math.ListN.{get_or-map}
 use Rattle.spec_exact.specs.Fraction.{ℚ, 0ℚ}
+use Rattle.spec_model.specs.declared.parts.SizeLimits.{SizeLimits}
 use Rattle.spec_model.specs.declared.parts.Kind.{Kind}
 use Rattle.spec_model.specs.declared.parts.Kind.TheVariants.{L}
 use Rattle.spec_model.specs.Model.{Model, Name, ExactRow, no_row, row, height}
@@ -17,7 +18,7 @@ use Rattle.spec_mps.specs.Fields.{Fields, text_at, texts_of}
 use Rattle.spec_mps.specs.Checks.{Check}
 use Rattle.spec_mps.specs.Reader.{State, start, is_among, same_target, new_row, is_first, with_row, place_of, in_turn}
 use Rattle.spec_mps.specs.Sides.{is_used, changed_at}
-use Rattle.spec_mps.specs.Steps.{has_begun, with_section, begun, headed, data_card, model_by, Spells}
+use Rattle.spec_mps.specs.Steps.{has_begun, with_section, begun, headed, data_card, model_by, SpellsWithin}
 use Rattle.spec_mps.proofs.CardsDid.{rows_did, PairDid, pairs_keep, put_of, puts_of, SetDid, Used, Skipped}
 use Rattle.spec_mps.proofs.Sets.{Sets, part_of, pair_of}
 use Rattle.spec_meaning.specs.NumberCards.{Pairs, texts_for, side_of, set_on, pairs_on, used_pairs}
@@ -226,32 +227,33 @@ module _ {V : Type 0} {of_offset : ℚ → V} {of_row : ExactRow → V} {IsNumbe
   none_first Objective = g.no_offset
   none_first (Row i) = g.no_number L []
 
-  beside_rows : (style : Style) (cards : List Fields) (s t : State) (p : Section) (card : Fields) →
+  beside_rows : (limits : SizeLimits) (style : Style) (cards : List Fields) (s t : State) (p : Section)
+      (card : Fields) →
       is_section (Some p) section.Rows ≡ false → IsOrdered s.part s.seen → s.part ≡ Some p →
-      data_card style (Some p) s card ≡ Ok t → NumbersSay cards s →
+      data_card limits style (Some p) s card ≡ Ok t → NumbersSay cards s →
       NumbersSay (pushed (is_section (Some p) part) cards card) t
-  beside_rows style cards s t p card not_rows o here h k = by (is_section (Some p) part) refl
+  beside_rows limits style cards s t p card not_rows o here h k = by (is_section (Some p) part) refl
     where
       leads : Leads p s t
-      leads = card_leads style p s card t h
+      leads = card_leads limits style p s card t h
 
       by : (b : Bool) → is_section (Some p) part ≡ b → NumbersSay (pushed b cards card) t
       by true e =
           let at : is_section s.part part ≡ true = ap (λ q. is_section q part) here ∙ e in
           card_says cards card s t (part_told sets s o at) at (stays p s t leads).1
-          (set_card_did sets style s card t
-          (subst (λ q. data_card style (Some q) s card ≡ Ok t) (same_section p part e) h)) k
+          (set_card_did limits sets style s card t
+          (subst (λ q. data_card limits style (Some q) s card ≡ Ok t) (same_section p part e) h)) k
       by false e =
           let st = stays p s t leads in
           says_same value_of IsNumber counted part (λ x. has_begun x part) cards s t k
           (ap (λ x. has_begun x part) st.1) (rows_stay p s t not_rows leads)
           (g.stay p s t not_rows e leads) (ap (λ q. is_section q part) (st.0 ∙ here) ∙ e)
 
-  at_card : (style : Style) (cards : List Fields) (s t : State) (p : Section) (card : Fields) →
-      IsOrdered s.part s.seen → s.part ≡ Some p → data_card style (Some p) s card ≡ Ok t → NumbersSay cards s →
+  at_card : (limits : SizeLimits) (style : Style) (cards : List Fields) (s t : State) (p : Section) (card : Fields) →
+      IsOrdered s.part s.seen → s.part ≡ Some p → data_card limits style (Some p) s card ≡ Ok t → NumbersSay cards s →
       NumbersSay (pushed (is_section (Some p) part) cards card) t
-  at_card style cards s t section.Rows card o here h k =
-      let st = stays section.Rows s t (card_leads style section.Rows s card t h) in
+  at_card limits style cards s t section.Rows card o here h k =
+      let st = stays section.Rows s t (card_leads limits style section.Rows s card t h) in
       let new : has_begun s.seen part ≡ false = part_later sets s o (ap (λ q. is_section q section.Rows) here) in
       let d = rows_did style s card t h in
       subst (λ b. NumbersSay (pushed b cards card) t) (sym (part_not_rows sets))
@@ -259,7 +261,7 @@ module _ {V : Type 0} {of_offset : ℚ → V} {of_row : ExactRow → V} {IsNumbe
       (subst (λ u. (x : Target) → IsNumber [] (value_of u x)) d.new
       (row_added s d.kind (text_at 2 card) (k.none new).1))
       (ap (λ q. is_section q part) (st.0 ∙ here) ∙ part_not_rows sets))
-  at_card style cards s t p card o here h k = beside_rows style cards s t p card refl o here h k
+  at_card limits style cards s t p card o here h k = beside_rows limits style cards s t p card refl o here h k
 
   at_heading : (cards : List Fields) (s t : State) (p : Section) (word : List ℕ) → has_begun s.seen p ≡ false →
       headed (begun s p) p word ≡ Ok t → NumbersSay cards s → NumbersSay cards t
@@ -295,10 +297,11 @@ module _ {V : Type 0} {of_offset : ℚ → V} {of_row : ExactRow → V} {IsNumbe
       no_place e = cc
 
   -- with the names of rows
-  numbers_kept : (style : Style) →
-      IsKept style (λ c s. RowsSay c.rows (row_view s) × NumbersSay (set_cards sets c) s)
-  numbers_kept style =
-      both_kept style (λ c s. RowsSay c.rows (row_view s)) (λ c s. NumbersSay (set_cards sets c) s) (rows_kept style)
+  numbers_kept : (limits : SizeLimits) (style : Style) →
+      IsKept limits style (λ c s. RowsSay c.rows (row_view s) × NumbersSay (set_cards sets c) s)
+  numbers_kept limits style =
+      both_kept limits style (λ c s. RowsSay c.rows (row_view s)) (λ c s. NumbersSay (set_cards sets c) s)
+      (rows_kept limits style)
       (record {
         at_start = subst (λ l. NumbersSay l start) (sym (cards_first sets)) at_start;
         at_heading =
@@ -306,30 +309,32 @@ module _ {V : Type 0} {of_offset : ℚ → V} {of_row : ExactRow → V} {IsNumbe
             (at_heading (set_cards sets c) s t p (text_at 2 words) new h k);
         at_card =
             λ c s t p card o here h k. subst (λ l. NumbersSay l t) (sym (cards_more sets p card c))
-            (at_card style (set_cards sets c) s t p card o here h k);
+            (at_card limits style (set_cards sets c) s t p card o here h k);
       })
 
   -- ---- the model
 
-  pub row_said : (style : Style) (lines : Lines) (m : Model) → Spells style lines m → (i : ℕ) → i < height m →
+  pub row_said : (limits : SizeLimits) (style : Style) (lines : Lines) (m : Model) → SpellsWithin limits style lines m →
+      (i : ℕ) → i < height m →
       counted (row m i).kind ≡ true →
       IsNumber (texts_for (row m i).name (used_pairs (cards_in style (part_of sets) lines))) (of_row (row m i))
   unfolding model_by
-  row_said style lines m h =
+  row_said limits style lines m h =
       let cards = cards_in style (part_of sets) lines in
-      let e = spelled_by style _ (numbers_kept style) lines m h in
+      let e = spelled_by limits style _ (numbers_kept limits style) lines m h in
       let k : NumbersSay cards e.last = subst (λ l. NumbersSay l e.last) (cards_all sets style lines) e.holds.1 in
       subst (λ (m : Model). (i : ℕ) → i < height m → counted (row m i).kind ≡ true →
       IsNumber (texts_for (row m i).name (used_pairs cards)) (of_row (row m i))) e.model_is
       (λ i l n. k.numbers (get_or e.last.rows i no_row).name (Row i)
       (row_place e.last i e.holds.0.placed l, row_counts counted e.last i ∙ n))
 
-  pub objective_said : (style : Style) (lines : Lines) (m : Model) → Spells style lines m →
+  pub objective_said : (limits : SizeLimits) (style : Style) (lines : Lines) (m : Model) →
+      SpellsWithin limits style lines m →
       IsNumber (texts_for m.objective (used_pairs (cards_in style (part_of sets) lines))) (of_offset m.offset)
   unfolding model_by
-  objective_said style lines m h =
+  objective_said limits style lines m h =
       let cards = cards_in style (part_of sets) lines in
-      let e = spelled_by style _ (numbers_kept style) lines m h in
+      let e = spelled_by limits style _ (numbers_kept limits style) lines m h in
       let k : NumbersSay cards e.last = subst (λ l. NumbersSay l e.last) (cards_all sets style lines) e.holds.1 in
       subst (λ (m : Model). IsNumber (texts_for m.objective (used_pairs cards)) (of_offset m.offset)) e.model_is
       (k.numbers e.objective Objective (objective_place (row_view e.last) e.objective e.objective_is, refl))

@@ -9,6 +9,7 @@ use Rattle.std.proofs.Math.ListN.{get_or-map}
 use Rattle.std.proofs.lemmas.Option.{same_Some}
 use Rattle.spec_exact.specs.Fraction.{ℚ, 0ℚ, neg_ℚ}
 use Rattle.spec_exact.proofs.Ruleset.{neg-neg}
+use Rattle.spec_model.specs.declared.parts.SizeLimits.{SizeLimits}
 use Rattle.spec_model.specs.declared.parts.Kind.{Kind}
 use Rattle.spec_text.specs.Words.{same}
 use Rattle.spec_text.proofs.WordLemmas.{same-refl}
@@ -18,7 +19,7 @@ use Rattle.spec_model.specs.Model.{Model, Name, ExactRow, ExactColumn, no_row}
 use Rattle.spec_model.specs.Model.{no_column, row, column, height, width, entry_of, is_free}
 use Rattle.spec_model.specs.Kept.{AreEntries, IsModel}
 use Rattle.spec_mps.specs.declared.style.Style.{Style}
-use Rattle.spec_mps.specs.Steps.{Spells}
+use Rattle.spec_mps.specs.Steps.{SpellsWithin}
 use Rattle.spec_mps.specs.declared.section.Section.TheVariants as section
 use Rattle.spec_mps.proofs.NarrowNumbers.{same_number}
 use Rattle.spec_meaning.specs.TextCards.{Lines, cards_in}
@@ -36,21 +37,22 @@ use Rattle.spec_meaning.proofs.RangesKept.{range_by_kind}
 use Rattle.spec_meaning.proofs.BoundsSaid.{bounds_said}
 
 -- what a text spells, it means
-pub spelled_means : (style : Style) (lines : Lines) (m : Model) → Spells style lines m → Means style lines m
-spelled_means style lines m h =
+pub spelled_means : (limits : SizeLimits) (style : Style) (lines : Lines) (m : Model) →
+    SpellsWithin limits style lines m → Means style lines m
+spelled_means limits style lines m h =
     record {
-      name = name_said style lines m h;
-      sense = sense_said style lines m h;
-      objective = objective_said style lines m h;
-      rows = sym (rows_said style lines m h);
-      columns = columns_named style lines m h;
-      coefficients = coefficient_said style lines m h;
-      costs = cost_said style lines m h;
-      right_sides = right_side_said style lines m h;
-      offset = offset_said style lines m h;
-      ranges = range_by_kind style lines m h;
-      lower = λ j l. (bounds_said style lines m h j l).0;
-      upper = λ j l. (bounds_said style lines m h j l).1;
+      name = name_said limits style lines m h;
+      sense = sense_said limits style lines m h;
+      objective = objective_said limits style lines m h;
+      rows = sym (rows_said limits style lines m h);
+      columns = columns_named limits style lines m h;
+      coefficients = coefficient_said limits style lines m h;
+      costs = cost_said limits style lines m h;
+      right_sides = right_side_said limits style lines m h;
+      offset = offset_said limits style lines m h;
+      ranges = range_by_kind limits style lines m h;
+      lower = λ j l. (bounds_said limits style lines m h j l).0;
+      upper = λ j l. (bounds_said limits style lines m h j l).1;
     }
 
 -- ---- one number, one range, one sense

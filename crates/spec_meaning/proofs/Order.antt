@@ -3,6 +3,7 @@ use Rattle.std.proofs.Common.{◌≡◌, ℕ, Bool, true, false, ◌||◌, cond,
 use Rattle.std.proofs.lemmas.Bool.{or_left}
 use Rattle.spec_text.specs.declared.line.Line.{Line}
 use Rattle.spec_text.specs.declared.line.Line.TheVariants as line
+use Rattle.spec_model.specs.declared.parts.SizeLimits.{SizeLimits}
 use Rattle.spec_mps.specs.declared.card.Card.TheVariants as card
 use Rattle.spec_mps.specs.declared.style.Style.{Style}
 use Rattle.spec_mps.specs.declared.style.Style.TheVariants.{Free, Fixed}
@@ -165,77 +166,87 @@ begun_ordered here section.End seen may new e o = absurd (cc)
 
 -- ---- what a line did
 
-pub record DataDid (style : Style) (s : State) (bytes : List ℕ) (p : Progress) : Type 0 where
+pub record DataDid (limits : SizeLimits) (style : Style) (s : State) (bytes : List ℕ) (p : Progress) : Type 0 where
   pub part : Section
   pub next : State
   pub here : s.part ≡ Some part
-  pub did : data_card style (Some part) s (fields_in style part bytes) ≡ Ok next
+  pub did : data_card limits style (Some part) s (fields_in style part bytes) ≡ Ok next
   pub goes : More next ≡ p
 
-pub data LineDid (style : Style) (s : State) (bytes : List ℕ) (p : Progress) : Type 0 where
-  Skipped : (skipped : is_skipped bytes ≡ true) → (same : More s ≡ p) → LineDid style s bytes p
+pub data LineDid (limits : SizeLimits) (style : Style) (s : State) (bytes : List ℕ) (p : Progress) : Type 0 where
+  Skipped : (skipped : is_skipped bytes ≡ true) → (same : More s ≡ p) → LineDid limits style s bytes p
   Data : (kept : is_skipped bytes ≡ false) → (blank : begins_with_blank bytes ≡ true) →
-      (did : DataDid style s bytes p) → LineDid style s bytes p
+      (did : DataDid limits style s bytes p) → LineDid limits style s bytes p
   Heading : (kept : is_skipped bytes ≡ false) → (filled : begins_with_blank bytes ≡ false) →
-      (did : section_card s (word_fields bytes) ≡ Ok p) → LineDid style s bytes p
+      (did : section_card s (word_fields bytes) ≡ Ok p) → LineDid limits style s bytes p
 
-line_by : (style : Style) (s : State) (bytes : List ℕ) (p : Progress) (given : CardReading) →
-    on_reading style s (cond (is_skipped bytes) (Is card.Skip)
+line_by : (limits : SizeLimits) (style : Style) (s : State) (bytes : List ℕ) (p : Progress) (given : CardReading) →
+    on_reading limits style s (cond (is_skipped bytes) (Is card.Skip)
     (cond (begins_with_blank bytes) given (Is (card.Section (word_fields bytes))))) ≡ Ok p →
-    (on_reading style s given ≡ Ok p → DataDid style s bytes p) → LineDid style s bytes p
-line_by style s bytes p given h f = go (is_skipped bytes) (begins_with_blank bytes) refl refl h
+    (on_reading limits style s given ≡ Ok p → DataDid limits style s bytes p) → LineDid limits style s bytes p
+line_by limits style s bytes p given h f = go (is_skipped bytes) (begins_with_blank bytes) refl refl h
   where
     go : (skipped blank : Bool) → is_skipped bytes ≡ skipped → begins_with_blank bytes ≡ blank →
-        on_reading style s (cond skipped (Is card.Skip) (cond blank given (Is (card.Section (word_fields bytes)))))
+        on_reading limits style s (cond skipped (Is card.Skip)
+        (cond blank given (Is (card.Section (word_fields bytes)))))
         ≡ Ok p →
-        LineDid style s bytes p
+        LineDid limits style s bytes p
     go true blank e b k = Skipped e (same_ok (More s) p k)
     go false true e b k = Data e b (f k)
     go false false e b k = Heading e b k
 
-data_did : (style : Style) (s : State) (bytes : List ℕ) (p : Progress) (part : Section) → s.part ≡ Some part →
-    more (data_card style s.part s (fields_in style part bytes)) ≡ Ok p → DataDid style s bytes p
-data_did style s bytes p part e h =
-    let a = step_ok (data_card style s.part s (fields_in style part bytes)) (λ t. Ok (More t)) p h in
+data_did : (limits : SizeLimits) (style : Style) (s : State) (bytes : List ℕ) (p : Progress) (part : Section) →
+    s.part ≡ Some part →
+    more (data_card limits style s.part s (fields_in style part bytes)) ≡ Ok p → DataDid limits style s bytes p
+data_did limits style s bytes p part e h =
+    let a = step_ok (data_card limits style s.part s (fields_in style part bytes)) (λ t. Ok (More t)) p h in
     record {
       part = part;
       next = a.0;
       here = e;
-      did = subst (λ here. data_card style here s (fields_in style part bytes) ≡ Ok a.0) e a.1;
+      did = subst (λ here. data_card limits style here s (fields_in style part bytes) ≡ Ok a.0) e a.1;
       goes = same_ok (More a.0) p a.2;
     }
 
-no_data : (style : Style) (s : State) (bytes : List ℕ) (p : Progress) (fields : Fields) → s.part ≡ None →
-    more (data_card style s.part s fields) ≡ Ok p → DataDid style s bytes p
-no_data style s bytes p fields e h =
-    let a = step_ok (data_card style s.part s fields) (λ t. Ok (More t)) p h in
-    let k : data_card style None s fields ≡ Ok a.0 = subst (λ here. data_card style here s fields ≡ Ok a.0) e a.1 in
+no_data : (limits : SizeLimits) (style : Style) (s : State) (bytes : List ℕ) (p : Progress) (fields : Fields) →
+    s.part ≡ None →
+    more (data_card limits style s.part s fields) ≡ Ok p → DataDid limits style s bytes p
+no_data limits style s bytes p fields e h =
+    let a = step_ok (data_card limits style s.part s fields) (λ t. Ok (More t)) p h in
+    let k : data_card limits style None s fields ≡ Ok a.0 = subst (λ here. data_card limits style here s fields ≡ Ok
+    a.0) e a.1 in
     absurd (cc)
 
-placed_did : (style : Style) (s : State) (bytes : List ℕ) (p : Progress) (o : Option ℕ) (fields : Fields) →
-    (more (data_card style s.part s fields) ≡ Ok p → DataDid style s bytes p) →
-    on_reading style s (placed o fields) ≡ Ok p → DataDid style s bytes p
-placed_did style s bytes p None fields f h = f h
-placed_did style s bytes p (Some column) fields f h = absurd (cc)
+placed_did : (limits : SizeLimits) (style : Style) (s : State) (bytes : List ℕ) (p : Progress) (o : Option ℕ)
+    (fields : Fields) →
+    (more (data_card limits style s.part s fields) ≡ Ok p → DataDid limits style s bytes p) →
+    on_reading limits style s (placed o fields) ≡ Ok p → DataDid limits style s bytes p
+placed_did limits style s bytes p None fields f h = f h
+placed_did limits style s bytes p (Some column) fields f h = absurd (cc)
 
-line_did : (style : Style) (here : Option Section) (s : State) (bytes : List ℕ) (p : Progress) → s.part ≡ here →
-    on_reading style s (reading_of style here bytes) ≡ Ok p → LineDid style s bytes p
+line_did : (limits : SizeLimits) (style : Style) (here : Option Section) (s : State) (bytes : List ℕ) (p : Progress) →
+    s.part ≡ here →
+    on_reading limits style s (reading_of style here bytes) ≡ Ok p → LineDid limits style s bytes p
 unfolding free_fields fixed_fields
-line_did Free None s bytes p e h = line_by Free s bytes p _ h (no_data Free s bytes p (word_fields bytes) e)
-line_did Free (Some part) s bytes p e h = line_by Free s bytes p _ h (data_did Free s bytes p part e)
-line_did Fixed None s bytes p e h =
-    line_by Fixed s bytes p _ h (placed_did Fixed s bytes p (misplaced_from 1 bytes)
-    (column_fields bytes) (no_data Fixed s bytes p (column_fields bytes) e))
-line_did Fixed (Some section.Sense) s bytes p e h =
-    line_by Fixed s bytes p _ h (data_did Fixed s bytes p section.Sense e)
-line_did Fixed (Some part) s bytes p e h =
-    line_by Fixed s bytes p _ h
-    (placed_did Fixed s bytes p (misplaced_from 1 bytes) (column_fields bytes) (data_did Fixed s bytes p part e))
+line_did limits Free None s bytes p e h = line_by limits Free s bytes p _ h (no_data limits Free s bytes p
+    (word_fields bytes) e)
+line_did limits Free (Some part) s bytes p e h = line_by limits Free s bytes p _ h (data_did limits Free s bytes p part
+    e)
+line_did limits Fixed None s bytes p e h =
+    line_by limits Fixed s bytes p _ h (placed_did limits Fixed s bytes p (misplaced_from 1 bytes)
+    (column_fields bytes) (no_data limits Fixed s bytes p (column_fields bytes) e))
+line_did limits Fixed (Some section.Sense) s bytes p e h =
+    line_by limits Fixed s bytes p _ h (data_did limits Fixed s bytes p section.Sense e)
+line_did limits Fixed (Some part) s bytes p e h =
+    line_by limits Fixed s bytes p _ h
+    (placed_did limits Fixed s bytes p (misplaced_from 1 bytes) (column_fields bytes) (data_did limits Fixed s bytes p
+    part e))
 
-pub step_did : (style : Style) (s : State) (l : Line (List ℕ)) (p : Progress) → step style s l ≡ Ok p →
-    LineDid style s (bytes_of l) p
+pub step_did : (limits : SizeLimits) (style : Style) (s : State) (l : Line (List ℕ)) (p : Progress) →
+    step limits style s l ≡ Ok p →
+    LineDid limits style s (bytes_of l) p
 unfolding step
-step_did style s (line.Text bytes) p h = line_did style s.part s bytes p refl h
-step_did style s (line.Long len) p h = absurd (cc)
-step_did style s line.End p h = absurd (cc)
-step_did style s line.Over p h = absurd (cc)
+step_did limits style s (line.Text bytes) p h = line_did limits style s.part s bytes p refl h
+step_did limits style s (line.Long len) p h = absurd (cc)
+step_did limits style s line.End p h = absurd (cc)
+step_did limits style s line.Over p h = absurd (cc)

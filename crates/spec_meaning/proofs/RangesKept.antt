@@ -2,6 +2,7 @@
 use Rattle.std.proofs.Common.{◌≡◌, ℕ, ◌<◌, Bool, true, false, not, Option, Some, None, Ok, List, [], ◌∷◌, refl, ap, ◌∙◌, subst}
 use Rattle.std.proofs.lemmas.Bool.{not-true}
 use Rattle.spec_exact.specs.Fraction.{ℚ}
+use Rattle.spec_model.specs.declared.parts.SizeLimits.{SizeLimits}
 use Rattle.spec_model.specs.declared.parts.Kind.{Kind}
 use Rattle.spec_model.specs.Model.{Model, Name, ExactRow, no_row, row, height, is_free}
 use Rattle.spec_model.specs.Kept.{FitsKind}
@@ -13,7 +14,7 @@ use Rattle.spec_mps.specs.declared.target.Target.{Target}
 use Rattle.spec_mps.specs.declared.target.Target.TheVariants.{Objective, Row}
 use Rattle.spec_mps.specs.Reader.{State, is_among, place_of}
 use Rattle.spec_mps.specs.Sides.{new_range}
-use Rattle.spec_mps.specs.Steps.{Spells}
+use Rattle.spec_mps.specs.Steps.{SpellsWithin}
 use Rattle.spec_mps.proofs.CheckSteps.{must_ok, same_ok}
 use Rattle.spec_mps.proofs.Sets.{Ranges}
 use Rattle.spec_mps.proofs.CardsDid.{put_ranged, RangeDid, Forgotten, Kept, put_range_did}
@@ -74,16 +75,18 @@ ranges_give =
       stay = ranges_stay;
     }
 
-pub range_said : (style : Style) (lines : Lines) (m : Model) → Spells style lines m → (i : ℕ) → i < height m →
+pub range_said : (limits : SizeLimits) (style : Style) (lines : Lines) (m : Model) → SpellsWithin limits style lines m →
+    (i : ℕ) → i < height m →
     is_free (row m i).kind ≡ false →
     IsTheRange (texts_for (row m i).name (used_pairs (cards_in style section.Ranges lines))) (row m i).range
-range_said style lines m h i l n = row_said ranges_give style lines m h i l (ap not n)
+range_said limits style lines m h i l n = row_said ranges_give limits style lines m h i l (ap not n)
 
 -- a free row has none
-pub range_by_kind : (style : Style) (lines : Lines) (m : Model) → Spells style lines m → (i : ℕ) → i < height m →
+pub range_by_kind : (limits : SizeLimits) (style : Style) (lines : Lines) (m : Model) →
+    SpellsWithin limits style lines m → (i : ℕ) → i < height m →
     IsTheRangeOf (row m i).kind (texts_for (row m i).name (used_pairs (cards_in style section.Ranges lines)))
     (row m i).range
-range_by_kind style lines m h i l = by (is_free (row m i).kind) refl
+range_by_kind limits style lines m h i l = by (is_free (row m i).kind) refl
   where
     none : (range : Option ℚ) → is_free (row m i).kind ≡ true → FitsKind (row m i).kind range → range ≡ None
     none None e f = refl
@@ -91,8 +94,8 @@ range_by_kind style lines m h i l = by (is_free (row m i).kind) refl
 
     by : (b : Bool) → is_free (row m i).kind ≡ b →
         IsRangeIf b (texts_for (row m i).name (used_pairs (cards_in style section.Ranges lines))) (row m i).range
-    by true e = none (row m i).range e ((spelled_kept style lines m h).ranges i no_row l)
-    by false e = range_said style lines m h i l e
+    by true e = none (row m i).range e ((spelled_kept limits style lines m h).ranges i no_row l)
+    by false e = range_said limits style lines m h i l e
 
 none_given : (texts : List (List ℕ)) → IsTheRange texts None → texts ≡ []
 none_given [] h = refl
@@ -102,6 +105,7 @@ none_given (text ∷ []) h = absurd (no_some h.1)
     no_some e = cc
 none_given (text ∷ other ∷ more) h = absurd h
 
-pub no_range_said : (style : Style) (lines : Lines) (m : Model) → Spells style lines m →
+pub no_range_said : (limits : SizeLimits) (style : Style) (lines : Lines) (m : Model) →
+    SpellsWithin limits style lines m →
     texts_for m.objective (used_pairs (cards_in style section.Ranges lines)) ≡ []
-no_range_said style lines m h = none_given _ (objective_said ranges_give style lines m h)
+no_range_said limits style lines m h = none_given _ (objective_said ranges_give limits style lines m h)

@@ -9,6 +9,7 @@ use Rattle.std.proofs.Math.ListN.{get_or-map}
 use Rattle.std.proofs.Math.Seq.{get_or-append_seam}
 use Rattle.std.proofs.lemmas.List.{map-append, get_or_append_left}
 use Rattle.std.proofs.lemmas.List.Elements.{filter_map-append}
+use Rattle.spec_model.specs.declared.parts.SizeLimits.{SizeLimits}
 use Rattle.spec_model.specs.declared.parts.Kind.{Kind}
 use Rattle.spec_model.specs.Model.{Model, Name, ExactRow, no_row, is_free}
 use Rattle.spec_mps.specs.declared.section.Section.{Section}
@@ -18,7 +19,7 @@ use Rattle.spec_mps.specs.declared.target.Target.TheVariants.{Row}
 use Rattle.spec_mps.specs.Fields.{Fields, text_at}
 use Rattle.spec_mps.specs.Shapes.{row_type_of}
 use Rattle.spec_mps.specs.Reader.{State, new_row, is_first, with_row}
-use Rattle.spec_mps.specs.Steps.{data_card, Spells, model_by}
+use Rattle.spec_mps.specs.Steps.{data_card, SpellsWithin, model_by}
 use Rattle.spec_mps.proofs.Steps.{none_if}
 use Rattle.spec_meaning.specs.RowCards.{Labels, typed, typed_rows, first_free, but_first_free}
 use Rattle.spec_meaning.specs.TextCards.{Lines, cards_in}
@@ -148,40 +149,41 @@ row_push cards card s kind e free k = go (is_first s kind) refl
           placed = placed_push (row_view s) kind name free k.placed;
         })
 
-rows_card_kept : (style : Style) (c : SoFar) (s t : State) (part : Section) (card : Fields) →
-    data_card style (Some part) s card ≡ Ok t → RowsSay c.rows (row_view s) →
+rows_card_kept : (limits : SizeLimits) (style : Style) (c : SoFar) (s t : State) (part : Section) (card : Fields) →
+    data_card limits style (Some part) s card ≡ Ok t → RowsSay c.rows (row_view s) →
     RowsSay (with_card part card c).rows (row_view t)
-rows_card_kept style c s t section.Rows card h k =
+rows_card_kept limits style c s t section.Rows card h k =
     let d = rows_did style s card t h in
     let free : place_in (row_view s) (text_at 2 card) ≡ None =
     sym (place_by_view s (text_at 2 card)) ∙ none_if _ d.free in
     subst (λ u. RowsSay (c.rows ++ card ∷ []) (row_view u)) d.new (row_push c.rows card s d.kind d.kind_is free k)
-rows_card_kept style c s t part card h k =
-    subst (RowsSay c.rows) (sym (rows_stay part s t refl (card_leads style part s card t h))) k
+rows_card_kept limits style c s t part card h k =
+    subst (RowsSay c.rows) (sym (rows_stay part s t refl (card_leads limits style part s card t h))) k
 
-pub rows_kept : (style : Style) → IsKept style (λ c s. RowsSay c.rows (row_view s))
-rows_kept style =
+pub rows_kept : (limits : SizeLimits) (style : Style) → IsKept limits style (λ c s. RowsSay c.rows (row_view s))
+rows_kept limits style =
     record {
       at_start = no_rows;
       at_heading =
           λ c s t part words o new h k. subst (RowsSay c.rows) (sym (rows_stay_headed s part (text_at 2 words) t h)) k;
-      at_card = λ c s t part card o here h k. rows_card_kept style c s t part card h k;
+      at_card = λ c s t part card o here h k. rows_card_kept limits style c s t part card h k;
     }
 
 -- ---- the model's rows
 
-pub rows_said : (style : Style) (lines : Lines) (m : Model) → Spells style lines m →
+pub rows_said : (limits : SizeLimits) (style : Style) (lines : Lines) (m : Model) → SpellsWithin limits style lines m →
     but_first_free (typed_rows (cards_in style section.Rows lines)) ≡ map (λ r. (r.kind, r.name)) m.rows
 unfolding model_by
-rows_said style lines m h =
-    let e = spelled_by style _ (rows_kept style) lines m h in
+rows_said limits style lines m h =
+    let e = spelled_by limits style _ (rows_kept limits style) lines m h in
     e.holds.rows_are ∙ ap (λ (o : Model). labels o.rows) e.model_is
 
-pub objective_said : (style : Style) (lines : Lines) (m : Model) → Spells style lines m →
+pub objective_said : (limits : SizeLimits) (style : Style) (lines : Lines) (m : Model) →
+    SpellsWithin limits style lines m →
     first_free (typed_rows (cards_in style section.Rows lines)) ≡ Some m.objective
 unfolding model_by
-objective_said style lines m h =
-    let e = spelled_by style _ (rows_kept style) lines m h in
+objective_said limits style lines m h =
+    let e = spelled_by limits style _ (rows_kept limits style) lines m h in
     e.holds.objective_is ∙ e.objective_is ∙ ap (λ (o : Model). Some o.objective) e.model_is
 
 -- a row's name stands for it

@@ -3,6 +3,7 @@ use Rattle.std.proofs.Common.{◌≡◌, ℕ, ◌+◌, true, false, not, ◌&&�
 use Rattle.std.proofs.Common.{[], ◌∷◌, refl, sym, ap, ◌∙◌, subst, subst₂, is_some}
 use Rattle.std.proofs.lemmas.Bool.{and_parts, not-true}
 use Rattle.spec_text.specs.declared.line.Line.{Line}
+use Rattle.spec_model.specs.declared.parts.SizeLimits.{SizeLimits}
 use Rattle.spec_model.specs.Model.{Model, Name}
 use Rattle.spec_model.specs.Kept.{is_model_name}
 use Rattle.spec_mps.specs.declared.fault.Code.TheVariants as code
@@ -14,7 +15,7 @@ use Rattle.spec_mps.specs.Shapes.{section_of}
 use Rattle.spec_mps.specs.Reader.{State, start}
 use Rattle.spec_mps.specs.Steps.{take_sense, has_begun, with_section, may_follow, begun, sense_beside}
 use Rattle.spec_mps.specs.Steps.{headed, Progress, More, Done, Outcome, more, model_by, finished}
-use Rattle.spec_mps.specs.Steps.{begin, section_card, data_card, step, Spelled, settled, judge, Spells}
+use Rattle.spec_mps.specs.Steps.{begin, section_card, data_card, step, Spelled, settled, judge, SpellsWithin}
 use Rattle.spec_mps.proofs.CheckSteps.{step_ok, must_ok, need_ok, same_ok}
 use Rattle.spec_mps.proofs.CardsDid.{sense_did}
 use Rattle.spec_mps.proofs.SpelledKept.{same_spelled}
@@ -32,18 +33,20 @@ use Rattle.spec_meaning.proofs.AllCards.{whole_skip, whole_data, whole_heading, 
 
 -- ---- a property of the cards so far and the state
 
-pub record IsKept (style : Style) (Inv : SoFar → State → Type 0) : Type 0 where
+pub record IsKept (limits : SizeLimits) (style : Style) (Inv : SoFar → State → Type 0) : Type 0 where
   pub at_start : Inv nothing start
   pub at_heading : (c : SoFar) (s t : State) (part : Section) (words : Fields) → IsOrdered s.part s.seen →
       has_begun s.seen part ≡ false → headed (begun s part) part (text_at 2 words) ≡ Ok t → Inv c s →
       Inv (with_title part words c) t
   pub at_card : (c : SoFar) (s t : State) (part : Section) (fields : Fields) → IsOrdered s.part s.seen →
-      s.part ≡ Some part → data_card style (Some part) s fields ≡ Ok t → Inv c s → Inv (with_card part fields c) t
+      s.part ≡ Some part → data_card limits style (Some part) s fields ≡ Ok t → Inv c s →
+      Inv (with_card part fields c) t
 
 -- two properties together
-pub both_kept : (style : Style) (P Q : SoFar → State → Type 0) → IsKept style P → IsKept style Q →
-    IsKept style (λ c s. P c s × Q c s)
-both_kept style P Q p q =
+pub both_kept : (limits : SizeLimits) (style : Style) (P Q : SoFar → State → Type 0) → IsKept limits style P →
+    IsKept limits style Q →
+    IsKept limits style (λ c s. P c s × Q c s)
+both_kept limits style P Q p q =
     record {
       at_start = (p.at_start, q.at_start);
       at_heading =
@@ -145,19 +148,19 @@ finished_did s p h =
 same_done : (m o : Model) → Done m ≡ Done o → m ≡ o
 same_done m o h = cc
 
-module _ (style : Style) (Inv : SoFar → State → Type 0) (kept : IsKept style Inv) where
+module _ (limits : SizeLimits) (style : Style) (Inv : SoFar → State → Type 0) (kept : IsKept limits style Inv) where
   -- with the property, the lines after a state lead to the model
   abbrev Leads_on : Lines → Model → State → Type 0
   Leads_on lines m s = (d : SoFar) → IsOrdered s.part s.seen → Inv d s → Ends Inv (whole d style s.part s.seen lines) m
 
   line_goes : (c : SoFar) (s t : State) (l : Line (List ℕ)) (lines : Lines) (m : Model) →
-      LineDid style s (bytes_of l) (More t) → IsOrdered s.part s.seen → Inv c s → Leads_on lines m t →
+      LineDid limits style s (bytes_of l) (More t) → IsOrdered s.part s.seen → Inv c s → Leads_on lines m t →
       Ends Inv (whole c style s.part s.seen (l ∷ lines)) m
   line_goes c s t l lines m (Skipped skipped same) o k f =
       subst (λ w. Ends Inv w m) (whole_skip c style s.part s.seen l lines skipped)
       (subst (Leads_on lines m) (sym (same_more s t same)) f c o k)
   line_goes c s t l lines m (Data not_skipped blank d) o k f =
-      let st = stays d.part s d.next (card_leads style d.part s _ d.next d.did) in
+      let st = stays d.part s d.next (card_leads limits style d.part s _ d.next d.did) in
       let g = subst (Leads_on lines m) (sym (same_more d.next t d.goes)) f in
       let ends =
       g _ (subst₂ IsOrdered (sym st.0) (sym st.1) o)
@@ -193,7 +196,8 @@ module _ (style : Style) (Inv : SoFar → State → Type 0) (kept : IsKept style
           subst (λ w. Ends Inv w m) to ends
 
   line_ends : (c : SoFar) (s : State) (l : Line (List ℕ)) (lines : Lines) (m d : Model) →
-      LineDid style s (bytes_of l) (Done d) → d ≡ m → Inv c s → Ends Inv (whole c style s.part s.seen (l ∷ lines)) m
+      LineDid limits style s (bytes_of l) (Done d) → d ≡ m → Inv c s →
+      Ends Inv (whole c style s.part s.seen (l ∷ lines)) m
   line_ends c s l lines m d (Skipped skipped same) e k = absurd (cc)
   line_ends c s l lines m d (Data not_skipped blank did) e k = absurd (never_done did.goes)
     where
@@ -222,26 +226,29 @@ module _ (style : Style) (Inv : SoFar → State → Type 0) (kept : IsKept style
           never_done e = cc
 
   settled_ends : (c : SoFar) (s : State) (l : Line (List ℕ)) (lines : Lines) (n : ℕ) (m : Model) (out : Outcome) →
-      step style s l ≡ out → settled n (λ t. judge style t (n + 1) lines) out ≡ Spelled m → IsOrdered s.part s.seen →
-      Inv c s → ((t : State) → judge style t (n + 1) lines ≡ Spelled m → Leads_on lines m t) →
+      step limits style s l ≡ out → settled n (λ t. judge limits style t (n + 1) lines) out ≡ Spelled m →
+      IsOrdered s.part s.seen →
+      Inv c s → ((t : State) → judge limits style t (n + 1) lines ≡ Spelled m → Leads_on lines m t) →
       Ends Inv (whole c style s.part s.seen (l ∷ lines)) m
   settled_ends c s l lines n m (Ok (More t)) e h o k f =
-      line_goes c s t l lines m (step_did style s l (More t) e) o k (f t h)
+      line_goes c s t l lines m (step_did limits style s l (More t) e) o k (f t h)
   settled_ends c s l lines n m (Ok (Done d)) e h o k f =
-      line_ends c s l lines m d (step_did style s l (Done d) e) (same_spelled d m h) k
+      line_ends c s l lines m d (step_did limits style s l (Done d) e) (same_spelled d m h) k
   settled_ends c s l lines n m (Err fault) e h o k f = absurd (cc)
 
-  judged_ends : (lines : Lines) (s : State) (n : ℕ) (m : Model) → judge style s n lines ≡ Spelled m → Leads_on lines m s
+  judged_ends : (lines : Lines) (s : State) (n : ℕ) (m : Model) → judge limits style s n lines ≡ Spelled m →
+      Leads_on lines m s
   judged_ends [] s n m h c o k = absurd (cc)
   judged_ends (l ∷ lines) s n m h c o k =
-      settled_ends c s l lines n m (step style s l) refl h o k (λ t e. judged_ends lines t (n + 1) m e)
+      settled_ends c s l lines n m (step limits style s l) refl h o k (λ t e. judged_ends lines t (n + 1) m e)
 
-  pub spelled_ends : (lines : Lines) (m : Model) → Spells style lines m →
+  pub spelled_ends : (lines : Lines) (m : Model) → SpellsWithin limits style lines m →
       Ends Inv (whole nothing style start.part start.seen lines) m
   spelled_ends lines m h = judged_ends lines start 1 m h nothing start_ordered kept.at_start
 
 -- What is kept holds of the state that the model is made of, with the cards of the text.
-pub spelled_by : (style : Style) (Inv : SoFar → State → Type 0) → IsKept style Inv → (lines : Lines) (m : Model) →
-    Spells style lines m → Ends Inv (all_of style lines) m
-spelled_by style Inv kept lines m h =
-    subst (λ c. Ends Inv c m) (whole_is style lines) (spelled_ends style Inv kept lines m h)
+pub spelled_by : (limits : SizeLimits) (style : Style) (Inv : SoFar → State → Type 0) → IsKept limits style Inv →
+    (lines : Lines) (m : Model) →
+    SpellsWithin limits style lines m → Ends Inv (all_of style lines) m
+spelled_by limits style Inv kept lines m h =
+    subst (λ c. Ends Inv c m) (whole_is style lines) (spelled_ends limits style Inv kept lines m h)

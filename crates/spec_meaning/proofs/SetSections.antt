@@ -1,5 +1,6 @@
 -- Where RHS and RANGES stand among the sections, and what their cards are.
 use Rattle.std.proofs.Common.{◌≡◌, true, false, Some, Ok, List, [], refl, sym, ◌∙◌, subst}
+use Rattle.spec_model.specs.declared.parts.SizeLimits.{SizeLimits}
 use Rattle.spec_mps.specs.declared.section.Section.{Section}
 use Rattle.spec_mps.specs.declared.section.Section.TheVariants as section
 use Rattle.spec_mps.specs.declared.section.Seen.{Seen}
@@ -64,10 +65,10 @@ cards_all Sides style lines = refl
 cards_all Ranges style lines = refl
 
 -- what a card did, by its fields
-pub set_card_did : (sets : Sets) (style : Style) (s : State) (card : Fields) (t : State) →
-    data_card style (Some (part_of sets)) s card ≡ Ok t →
+pub set_card_did : (limits : SizeLimits) (sets : Sets) (style : Style) (s : State) (card : Fields) (t : State) →
+    data_card limits style (Some (part_of sets)) s card ≡ Ok t →
     SetDid s (side_of (texts_of card)) (in_turn (pair_of sets)) t
-set_card_did sets style s card t h =
-    let a = step_ok (shaped style (part_of sets) card) _ t (sym (card_is sets style s card) ∙ h) in
+set_card_did limits sets style s card t h =
+    let a = step_ok (shaped style (part_of sets) card) _ t (sym (card_is limits sets style s card) ∙ h) in
     subst (λ x. SetDid s x (in_turn (pair_of sets)) t) (sym (side_is sets style card a.0 a.1))
-    (card_did sets style s card t h)
+    (card_did limits sets style s card t h)

@@ -3,6 +3,7 @@ use Rattle.std.proofs.Common.{◌≡◌, ℕ, ◌<◌, false, not, Some, Ok, ◌
 use Rattle.std.proofs.lemmas.Bool.{not-true}
 use Rattle.spec_exact.specs.Fraction.{ℚ, neg_ℚ}
 use Rattle.spec_exact.proofs.Ruleset.{neg-neg, neg-zero}
+use Rattle.spec_model.specs.declared.parts.SizeLimits.{SizeLimits}
 use Rattle.spec_model.specs.Model.{Model, Name, ExactRow, row, height}
 use Rattle.spec_mps.specs.declared.fault.Code.TheVariants as code
 use Rattle.spec_mps.specs.declared.section.Section.{Section}
@@ -12,7 +13,7 @@ use Rattle.spec_mps.specs.declared.target.Target.{Target}
 use Rattle.spec_mps.specs.declared.target.Target.TheVariants.{Objective, Row}
 use Rattle.spec_mps.specs.Reader.{State, is_among, same_target, place_of}
 use Rattle.spec_mps.specs.Sides.{put_side}
-use Rattle.spec_mps.specs.Steps.{Spells}
+use Rattle.spec_mps.specs.Steps.{SpellsWithin}
 use Rattle.spec_mps.proofs.CheckSteps.{must_ok, same_ok}
 use Rattle.spec_mps.proofs.Sets.{Sides}
 use Rattle.spec_meaning.specs.NumberCards.{IsTheNumber, texts_for, used_pairs}
@@ -69,10 +70,12 @@ sides_give =
       stay = sides_stay;
     }
 
-pub right_side_said : (style : Style) (lines : Lines) (m : Model) → Spells style lines m → (i : ℕ) → i < height m →
+pub right_side_said : (limits : SizeLimits) (style : Style) (lines : Lines) (m : Model) →
+    SpellsWithin limits style lines m → (i : ℕ) → i < height m →
     IsTheNumber (texts_for (row m i).name (used_pairs (cards_in style section.RightSides lines))) (row m i).rhs
-right_side_said style lines m h i l = row_said sides_give style lines m h i l refl
+right_side_said limits style lines m h i l = row_said sides_give limits style lines m h i l refl
 
-pub offset_said : (style : Style) (lines : Lines) (m : Model) → Spells style lines m →
+pub offset_said : (limits : SizeLimits) (style : Style) (lines : Lines) (m : Model) →
+    SpellsWithin limits style lines m →
     IsTheNumber (texts_for m.objective (used_pairs (cards_in style section.RightSides lines))) (neg_ℚ m.offset)
 offset_said = objective_said sides_give

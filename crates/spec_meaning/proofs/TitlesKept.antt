@@ -6,6 +6,7 @@ use Rattle.std.proofs.lemmas.List.{map-append}
 use Rattle.std.proofs.lemmas.Option.{same_Some}
 use Rattle.spec_text.specs.Words.{same, has_bytes}
 use Rattle.spec_text.proofs.WordLemmas.{same_true}
+use Rattle.spec_model.specs.declared.parts.SizeLimits.{SizeLimits}
 use Rattle.spec_model.specs.declared.parts.Sense.{Sense}
 use Rattle.spec_model.specs.declared.parts.Sense.TheVariants.{Min, Max}
 use Rattle.spec_model.specs.Model.{Model, Name}
@@ -19,7 +20,7 @@ use Rattle.spec_mps.specs.Fields.{Fields, text_at}
 use Rattle.spec_mps.specs.Shapes.{look_up, sense_of, shaped}
 use Rattle.spec_mps.specs.Reader.{State}
 use Rattle.spec_mps.specs.Steps.{take_sense, sense_card, has_begun, with_section, begun}
-use Rattle.spec_mps.specs.Steps.{sense_beside, headed, data_card, sense_or_min, model_by, Spells}
+use Rattle.spec_mps.specs.Steps.{sense_beside, headed, data_card, sense_or_min, model_by, SpellsWithin}
 use Rattle.spec_mps.proofs.Steps.{none_if}
 use Rattle.spec_mps.proofs.CardsDid.{sense_did}
 use Rattle.spec_mps.proofs.CheckSteps.{step_ok, must_ok, same_ok}
@@ -81,22 +82,23 @@ card_keeps_name : (part : Section) (s t : State) → Leads part s t → t.name �
 card_keeps_name section.Name s t h = ap (λ (u : State). u.name) h
 card_keeps_name part s t h = ap (λ (u : State). u.name) h
 
-name_kept : (style : Style) → IsKept style (λ c s. NameSays c.name_title s.seen.name s.name)
-name_kept style =
+name_kept : (limits : SizeLimits) (style : Style) → IsKept limits style (λ c s. NameSays c.name_title s.seen.name
+    s.name)
+name_kept limits style =
     record {
       at_start = record { none = λ h. refl; name_is = refl };
       at_heading = λ c s t part words o new h k. name_at_heading c s t part words new h k;
       at_card =
-          λ c s t part card o here h k. let leads = card_leads style part s card t h in
+          λ c s t part card o here h k. let leads = card_leads limits style part s card t h in
           name_same c.name_title s t (ap (λ (x : Seen). x.name) (stays part s t leads).1)
           (card_keeps_name part s t leads) k;
     }
 
-pub name_said : (style : Style) (lines : Lines) (m : Model) → Spells style lines m →
+pub name_said : (limits : SizeLimits) (style : Style) (lines : Lines) (m : Model) → SpellsWithin limits style lines m →
     m.name ≡ second_word (title_of section.Name lines)
 unfolding model_by
-name_said style lines m h =
-    let e = spelled_by style _ (name_kept style) lines m h in
+name_said limits style lines m h =
+    let e = spelled_by limits style _ (name_kept limits style) lines m h in
     sym (ap (λ (o : Model). o.name) e.model_is) ∙ e.holds.name_is
 
 -- ---- OBJSENSE
@@ -148,20 +150,21 @@ sense_same : (title : Option Fields) (cards : List Fields) (s t : State) → t.s
 sense_same title cards s t e f k =
     record { none = λ h. k.none (sym e ∙ h); sense_is = subst (SenseIs (sense_words title cards)) (sym f) k.sense_is }
 
-sense_at_card : (style : Style) (c : SoFar) (s t : State) (part : Section) (card : Fields) → IsOrdered s.part s.seen →
-    s.part ≡ Some part → data_card style (Some part) s card ≡ Ok t →
+sense_at_card : (limits : SizeLimits) (style : Style) (c : SoFar) (s t : State) (part : Section) (card : Fields) →
+    IsOrdered s.part s.seen →
+    s.part ≡ Some part → data_card limits style (Some part) s card ≡ Ok t →
     SenseSays c.sense_title c.senses s.seen.sense s.sense →
     SenseSays (with_card part card c).sense_title (with_card part card c).senses t.seen.sense t.sense
-sense_at_card style c s t section.Sense card o here h k =
+sense_at_card limits style c s t section.Sense card o here h k =
     let seen : t.seen.sense ≡ true =
-    ap (λ (x : Seen). x.sense) (stays section.Sense s t (card_leads style section.Sense s card t h)).1
+    ap (λ (x : Seen). x.sense) (stays section.Sense s t (card_leads limits style section.Sense s card t h)).1
     ∙ o.told.senses (ap (λ p. is_section p section.Sense) here) in
     record {
       none = λ f. not_both t.seen.sense seen f;
       sense_is = sense_card_says style c.sense_title c.senses s t card h k.sense_is;
     }
-sense_at_card style c s t part card o here h k =
-    let leads = card_leads style part s card t h in
+sense_at_card limits style c s t part card o here h k =
+    let leads = card_leads limits style part s card t h in
     sense_same c.sense_title c.senses s t
     (ap (λ (x : Seen). x.sense) (stays part s t leads).1) (ap (λ (u : State). u.sense) leads) k
 
@@ -210,12 +213,13 @@ nothing_said : SenseIs (sense_words None []) None
 unfolding sense_words
 nothing_said = refl
 
-sense_kept : (style : Style) → IsKept style (λ c s. SenseSays c.sense_title c.senses s.seen.sense s.sense)
-sense_kept style =
+sense_kept : (limits : SizeLimits) (style : Style) → IsKept limits style (λ c s. SenseSays c.sense_title c.senses
+    s.seen.sense s.sense)
+sense_kept limits style =
     record {
       at_start = record { none = λ h. (refl, refl); sense_is = nothing_said };
       at_heading = λ c s t part words o new h k. sense_at_heading c s t part words new h k;
-      at_card = λ c s t part card o here h k. sense_at_card style c s t part card o here h k;
+      at_card = λ c s t part card o here h k. sense_at_card limits style c s t part card o here h k;
     }
 
 -- the words of the two senses
@@ -247,9 +251,9 @@ sense_of_words (word ∷ []) sense k =
     sense_word word (sense_or_min sense) (k.1 ∙ ap (λ o. Some (sense_or_min o)) (sym k.2))
 sense_of_words (word ∷ other ∷ more) sense k = absurd k
 
-pub sense_said : (style : Style) (lines : Lines) (m : Model) → Spells style lines m →
+pub sense_said : (limits : SizeLimits) (style : Style) (lines : Lines) (m : Model) → SpellsWithin limits style lines m →
     IsSenseOf (sense_words (title_of section.Sense lines) (cards_in style section.Sense lines)) m.sense
 unfolding model_by
-sense_said style lines m h =
-    let e = spelled_by style _ (sense_kept style) lines m h in
+sense_said limits style lines m h =
+    let e = spelled_by limits style _ (sense_kept limits style) lines m h in
     subst (IsSenseOf _) (ap (λ (o : Model). o.sense) e.model_is) (sense_of_words _ e.last.sense e.holds.sense_is)

@@ -17,19 +17,20 @@
 //! | `lower_of`, `upper_of` | the bounds that cards make together | specs/BoundCards |
 //! | `Means` | all of this | specs/Meaning |
 //!
-//! The laws know nothing of how a text is read: they speak of its cards, whose fields `spec_mps` tells apart.
+//! The laws hold whatever the limits of size are, and know nothing of how a text is read: they speak of its cards, whose fields `spec_mps` tells apart.
 #![tactic(auto)]
 
 ghost use Rattle.std.specs.Prelude.{◌≡◌, ◌<◌, ◌↔◌, ℕ, Some, None, [], ◌∷◌, map};
 ghost use Rattle.spec_exact.specs.Fraction.{ℚ, 0ℚ, ◌+ℚ◌, ◌-ℚ◌, ◌≤ℚ◌, ◌<ℚ◌, abs_ℚ, neg_ℚ};
 ghost use Rattle.spec_model.specs.declared.parts.Kind.TheVariants as kind;
+ghost use Rattle.spec_model.specs.declared.parts.SizeLimits.{SizeLimits};
 ghost use Rattle.spec_model.specs.Model.{Model, ExactRow, limits_of};
 ghost use Rattle.spec_model.specs.Model.{row, column, height, width, cost, coefficient};
 ghost use Rattle.spec_model.specs.Kept.{IsModel};
 ghost use Rattle.spec_model.specs.Truth.{IsBetween};
 ghost use Rattle.spec_mps.specs.declared.section.Section.TheVariants as section;
 ghost use Rattle.spec_mps.specs.declared.style.Style.{Style};
-ghost use Rattle.spec_mps.specs.Steps.{Spells};
+ghost use Rattle.spec_mps.specs.Steps.{SpellsWithin};
 ghost use Rattle.spec_meaning.specs.TextCards.{Lines, cards_in, title_of};
 ghost use Rattle.spec_meaning.specs.BoundCards.{bounds_of_column, lower_of, upper_of};
 ghost use Rattle.spec_meaning.specs.ColumnCards.{named_columns, pairs_of_column};
@@ -40,38 +41,46 @@ ghost use Rattle.spec_meaning.specs.RowCards.{first_free, but_first_free, free_n
 
 /// The name stands beside NAME, and the sense is what OBJSENSE says, MIN where nothing says one.
 pub fn titles_are_names_and_senses()
-    ensures name { (style : Style) (lines : Lines) (m : Model) → Spells style lines m →
+    ensures name { (limits : SizeLimits) (style : Style) (lines : Lines) (m : Model) →
+        SpellsWithin limits style lines m →
         m.name ≡ second_word (title_of section.Name lines) }
-    ensures sense { (style : Style) (lines : Lines) (m : Model) → Spells style lines m →
+    ensures sense { (limits : SizeLimits) (style : Style) (lines : Lines) (m : Model) →
+        SpellsWithin limits style lines m →
         IsSenseOf (sense_words (title_of section.Sense lines) (cards_in style section.Sense lines)) m.sense }
 {}
 
 /// The objective is the first row of type N. The rows are all others, further ones of type N too, in the order of their
 /// cards.
 pub fn rows_cards_are_rows()
-    ensures objective { (style : Style) (lines : Lines) (m : Model) → Spells style lines m →
+    ensures objective { (limits : SizeLimits) (style : Style) (lines : Lines) (m : Model) →
+        SpellsWithin limits style lines m →
         first_free (typed_rows (cards_in style section.Rows lines)) ≡ Some m.objective }
-    ensures rows { (style : Style) (lines : Lines) (m : Model) → Spells style lines m →
+    ensures rows { (limits : SizeLimits) (style : Style) (lines : Lines) (m : Model) →
+        SpellsWithin limits style lines m →
         map (λ r. (r.kind, r.name)) m.rows ≡ but_first_free (typed_rows (cards_in style section.Rows lines)) }
 {}
 
 /// The rows of type N are the objective and, in the order of their cards, the free rows of the model; those of the other
 /// types are its other rows. So a reader that drops each row of type N but the first has these others, as they stand.
 pub fn later_rows_of_type_n_are_free_rows()
-    ensures free { (style : Style) (lines : Lines) (m : Model) → Spells style lines m →
+    ensures free { (limits : SizeLimits) (style : Style) (lines : Lines) (m : Model) →
+        SpellsWithin limits style lines m →
         free_names (typed_rows (cards_in style section.Rows lines))
         ≡ m.objective ∷ free_names (map (λ r. (r.kind, r.name)) m.rows) }
-    ensures limited { (style : Style) (lines : Lines) (m : Model) → Spells style lines m →
+    ensures limited { (limits : SizeLimits) (style : Style) (lines : Lines) (m : Model) →
+        SpellsWithin limits style lines m →
         limited (typed_rows (cards_in style section.Rows lines)) ≡ limited (map (λ r. (r.kind, r.name)) m.rows) }
 {}
 
 /// Where the objective alone is of type N, the rows are those of the other types, and each of them has the range that
 /// RANGES gives it. So such a text means what it means to a reader that knows of no free rows.
 pub fn lone_objectives_leave_rows_with_limits()
-    ensures rows { (style : Style) (lines : Lines) (m : Model) → Spells style lines m →
+    ensures rows { (limits : SizeLimits) (style : Style) (lines : Lines) (m : Model) →
+        SpellsWithin limits style lines m →
         free_names (typed_rows (cards_in style section.Rows lines)) ≡ m.objective ∷ [] →
         map (λ r. (r.kind, r.name)) m.rows ≡ limited (typed_rows (cards_in style section.Rows lines)) }
-    ensures ranges { (style : Style) (lines : Lines) (m : Model) → Spells style lines m →
+    ensures ranges { (limits : SizeLimits) (style : Style) (lines : Lines) (m : Model) →
+        SpellsWithin limits style lines m →
         free_names (typed_rows (cards_in style section.Rows lines)) ≡ m.objective ∷ [] →
         (i : ℕ) → i < height m →
         IsTheRange (texts_for (row m i).name (used_pairs (cards_in style section.Ranges lines))) (row m i).range }
@@ -81,14 +90,17 @@ pub fn lone_objectives_leave_rows_with_limits()
 /// one pair that names the column and the row, and 0 where there is none; and so is a cost, with the objective for the
 /// row.
 pub fn columns_cards_are_columns()
-    ensures order { (style : Style) (lines : Lines) (m : Model) → Spells style lines m →
+    ensures order { (limits : SizeLimits) (style : Style) (lines : Lines) (m : Model) →
+        SpellsWithin limits style lines m →
         map (λ c. c.name) m.columns ≡ named_columns (cards_in style section.Columns lines) }
-    ensures coefficients { (style : Style) (lines : Lines) (m : Model) → Spells style lines m →
+    ensures coefficients { (limits : SizeLimits) (style : Style) (lines : Lines) (m : Model) →
+        SpellsWithin limits style lines m →
         (i j : ℕ) → i < height m → j < width m →
         IsTheNumber
         (texts_for (row m i).name (pairs_of_column (column m j).name (cards_in style section.Columns lines)))
         (coefficient m i j) }
-    ensures costs { (style : Style) (lines : Lines) (m : Model) → Spells style lines m → (j : ℕ) → j < width m →
+    ensures costs { (limits : SizeLimits) (style : Style) (lines : Lines) (m : Model) →
+        SpellsWithin limits style lines m → (j : ℕ) → j < width m →
         IsTheNumber (texts_for m.objective (pairs_of_column (column m j).name (cards_in style section.Columns lines)))
         (cost m j) }
 {}
@@ -96,26 +108,31 @@ pub fn columns_cards_are_columns()
 /// The right side of a row is the number beside its name in the set that RHS names first, and 0 where there is none.
 /// That of the objective is the offset negated.
 pub fn rhs_cards_are_right_sides()
-    ensures rows { (style : Style) (lines : Lines) (m : Model) → Spells style lines m → (i : ℕ) → i < height m →
+    ensures rows { (limits : SizeLimits) (style : Style) (lines : Lines) (m : Model) →
+        SpellsWithin limits style lines m → (i : ℕ) → i < height m →
         IsTheNumber (texts_for (row m i).name (used_pairs (cards_in style section.RightSides lines))) (row m i).rhs }
-    ensures objective { (style : Style) (lines : Lines) (m : Model) → Spells style lines m →
+    ensures objective { (limits : SizeLimits) (style : Style) (lines : Lines) (m : Model) →
+        SpellsWithin limits style lines m →
         IsTheNumber (texts_for m.objective (used_pairs (cards_in style section.RightSides lines))) (neg_ℚ m.offset) }
 {}
 
 /// The range of a row is the number beside its name in the set that RANGES names first, if there is one; a free row has
 /// none, whatever stands there. The objective stands in no such pair.
 pub fn ranges_cards_are_ranges()
-    ensures rows { (style : Style) (lines : Lines) (m : Model) → Spells style lines m → (i : ℕ) → i < height m →
+    ensures rows { (limits : SizeLimits) (style : Style) (lines : Lines) (m : Model) →
+        SpellsWithin limits style lines m → (i : ℕ) → i < height m →
         IsTheRangeOf (row m i).kind
         (texts_for (row m i).name (used_pairs (cards_in style section.Ranges lines))) (row m i).range }
-    ensures objective { (style : Style) (lines : Lines) (m : Model) → Spells style lines m →
+    ensures objective { (limits : SizeLimits) (style : Style) (lines : Lines) (m : Model) →
+        SpellsWithin limits style lines m →
         texts_for m.objective (used_pairs (cards_in style section.Ranges lines)) ≡ [] }
 {}
 
 /// The bounds of a column are what its cards in the set that BOUNDS names first make of 0 and none: the last card that
 /// sets a bound wins, and a negative upper bound takes away a lower bound that no card sets.
 pub fn bounds_cards_are_bounds()
-    ensures { (style : Style) (lines : Lines) (m : Model) → Spells style lines m → (j : ℕ) → j < width m →
+    ensures { (limits : SizeLimits) (style : Style) (lines : Lines) (m : Model) → SpellsWithin limits style lines m →
+        (j : ℕ) → j < width m →
         ((column m j).lower
         ≡ lower_of style (bounds_of_column style (column m j).name (cards_in style section.Bounds lines)))
         × ((column m j).upper
@@ -143,7 +160,8 @@ pub fn rows_have_limits()
 
 /// A text means the model that it spells, and no other model that may be kept: the laws above leave nothing open.
 pub fn texts_have_one_meaning()
-    ensures meant { (style : Style) (lines : Lines) (m : Model) → Spells style lines m → Means style lines m }
+    ensures meant { (limits : SizeLimits) (style : Style) (lines : Lines) (m : Model) →
+        SpellsWithin limits style lines m → Means style lines m }
     ensures one { (style : Style) (lines : Lines) (m o : Model) → Means style lines m → Means style lines o →
         IsModel m → IsModel o → m ≡ o }
 {}

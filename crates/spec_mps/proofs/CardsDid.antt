@@ -4,10 +4,11 @@ use Rattle.std.proofs.Common.{List, [], ◌∷◌, ◌++◌, length, get_or, ref
 use Rattle.std.specs.List.{list_any, position}
 use Rattle.spec_text.specs.Words.{same}
 use Rattle.spec_exact.specs.Fraction.{ℚ}
+use Rattle.spec_model.specs.declared.parts.SizeLimits.{SizeLimits}
 use Rattle.spec_model.specs.declared.parts.Sense.{Sense}
 use Rattle.spec_model.specs.declared.parts.Kind.{Kind}
 use Rattle.spec_model.specs.Model.{Name, no_row, is_free}
-use Rattle.spec_model.specs.Kept.{is_name, is_row_name}
+use Rattle.spec_model.specs.Kept.{is_name, is_row_name, usual_limits}
 use Rattle.spec_mps.specs.declared.bound_kind.BoundKind.{BoundKind}
 use Rattle.spec_mps.specs.declared.fault.Code.TheVariants as code
 use Rattle.spec_mps.specs.declared.section.Section.{Section}
@@ -50,26 +51,28 @@ sense_did s word t h =
 
 -- ---- ROWS
 
-pub record RowsDid (s : State) (fields : Fields) (t : State) : Type 0 where
+pub record RowsDid (limits : SizeLimits) (s : State) (fields : Fields) (t : State) : Type 0 where
   pub kind : Kind
   pub kind_is : row_type_of (text_at 1 fields) ≡ Some kind
   pub name : is_row_name (text_at 2 fields) ≡ true
   pub free : is_none (place_of s (text_at 2 fields)) ≡ true
-  pub few : (is_first s kind || ltb (length s.rows) 256) ≡ true
+  pub few : (is_first s kind || ltb (length s.rows) limits.rows) ≡ true
   pub new : with_row s kind (text_at 2 fields) ≡ t
 
-add_row_did : (s : State) (kind : Kind) (fields : Fields) (t : State) → row_type_of (text_at 1 fields) ≡ Some kind →
-    add_row s kind (text_at 2 fields) ≡ Ok t → RowsDid s fields t
+add_row_did : {limits : SizeLimits} (s : State) (kind : Kind) (fields : Fields) (t : State) →
+    row_type_of (text_at 1 fields) ≡ Some kind →
+    add_row limits s kind (text_at 2 fields) ≡ Ok t → RowsDid limits s fields t
 unfolding add_row
-add_row_did s kind fields t e h =
+add_row_did {limits = limits} s kind fields t e h =
     let name = text_at 2 fields in
     let a = must_ok (is_row_name name) code.Name _ t h in
     let b = must_ok (is_none (place_of s name)) code.RowTaken _ t a.1 in
-    let c = must_ok (is_first s kind || ltb (length s.rows) 256) code.Limit _ t b.1 in
+    let c = must_ok (is_first s kind || ltb (length s.rows) limits.rows) code.Limit _ t b.1 in
     record { kind = kind; kind_is = e; name = a.0; free = b.0; few = c.0; new = same_ok _ t c.1 }
 
-pub rows_did : (style : Style) (s : State) (fields : Fields) (t : State) → rows_card style s fields ≡ Ok t →
-    RowsDid s fields t
+pub rows_did : {limits : SizeLimits} (style : Style) (s : State) (fields : Fields) (t : State) →
+    rows_card limits style s fields ≡ Ok t →
+    RowsDid limits s fields t
 unfolding rows_card
 rows_did style s fields t h =
     let a = step_ok (shaped style section.Rows fields) _ t h in
@@ -185,52 +188,54 @@ puts_of Ranges = range_puts
 -- ---- COLUMNS
 
 -- a new column, or the one that is read
-pub data Opens (s : State) (name : Name) (t : State) : Type 0 where
-  Same : (known : is_open s.column name ≡ true) → (same : s ≡ t) → Opens s name t
+pub data Opens (limits : SizeLimits) (s : State) (name : Name) (t : State) : Type 0 where
+  Same : (known : is_open s.column name ≡ true) → (same : s ≡ t) → Opens limits s name t
   New : (other : is_open s.column name ≡ false) →
       (free : not (list_any (λ c. same c.name name) (whole_columns s)) ≡ true) →
-      (few : ltb (length (whole_columns s)) 512 ≡ true) →
+      (few : ltb (length (whole_columns s)) limits.columns ≡ true) →
       (new : record s {
         columns = whole_columns s;
         column = Some (new_column name);
         lowered = s.lowered ++ false ∷ [];
         paired = [];
       } ≡ t) →
-      Opens s name t
+      Opens limits s name t
 
-opened_did : (s : State) (name : Name) (t : State) → opened s name ≡ Ok t → Opens s name t
+opened_did : {limits : SizeLimits} (s : State) (name : Name) (t : State) → opened limits s name ≡ Ok t →
+    Opens limits s name t
 unfolding opened
-opened_did s name t h = go (is_open s.column name) refl h
+opened_did {limits = limits} s name t h = go (is_open s.column name) refl h
   where
     go : (b : Bool) → is_open s.column name ≡ b →
         cond b (Ok s) (must (not (list_any (λ c. same c.name name) (whole_columns s))) code.ColumnTaken >>=
-        λ _. must (ltb (length (whole_columns s)) 512) code.Limit >>= λ _. Ok (record s {
+        λ _. must (ltb (length (whole_columns s)) limits.columns) code.Limit >>= λ _. Ok (record s {
           columns = whole_columns s;
           column = Some (new_column name);
           lowered = s.lowered ++ false ∷ [];
           paired = [];
         })) ≡ Ok t →
-        Opens s name t
+        Opens limits s name t
     go true e k = Same e (same_ok s t k)
     go false e k =
         let a = must_ok (not (list_any (λ c. same c.name name) (whole_columns s))) code.ColumnTaken _ t k in
-        let b = must_ok (ltb (length (whole_columns s)) 512) code.Limit _ t a.1 in
+        let b = must_ok (ltb (length (whole_columns s)) limits.columns) code.Limit _ t a.1 in
         New e a.0 b.0 (same_ok _ t b.1)
 
-pub record ColumnsDid (s : State) (texts : List (List ℕ)) (t : State) : Type 0 where
+pub record ColumnsDid (limits : SizeLimits) (s : State) (texts : List (List ℕ)) (t : State) : Type 0 where
   pub name : List ℕ
   pub more : List (List ℕ)
   pub texts_are : texts ≡ name ∷ more
   pub name_is : is_name name ≡ true
   pub between : State
-  pub opens : Opens s name between
+  pub opens : Opens limits s name between
   pub pairs : column_pairs between (pairs_of more) ≡ Ok t
 
-column_by_did : (s : State) (texts : List (List ℕ)) (t : State) → column_by s texts ≡ Ok t → ColumnsDid s texts t
+column_by_did : {limits : SizeLimits} (s : State) (texts : List (List ℕ)) (t : State) →
+    column_by limits s texts ≡ Ok t → ColumnsDid limits s texts t
 column_by_did s [] t h = absurd (cc)
-column_by_did s (name ∷ texts) t h =
+column_by_did {limits = limits} s (name ∷ texts) t h =
     let a = must_ok (is_name name) code.Name _ t h in
-    let b = step_ok (opened s name) _ t a.1 in
+    let b = step_ok (opened limits s name) _ t a.1 in
     record {
       name = name;
       more = texts;
@@ -241,14 +246,15 @@ column_by_did s (name ∷ texts) t h =
       pairs = b.2;
     }
 
-pub columns_did : (style : Style) (s : State) (fields : Fields) (t : State) → columns_card style s fields ≡ Ok t →
-    ColumnsDid s (texts_of fields) t
+pub columns_did : {limits : SizeLimits} (style : Style) (s : State) (fields : Fields) (t : State) →
+    columns_card limits style s fields ≡ Ok t →
+    ColumnsDid limits s (texts_of fields) t
 unfolding columns_card
-columns_did style s fields t h =
+columns_did {limits = limits} style s fields t h =
     let a = must_ok (not (same (text_at (marker_field style) fields) (codes "'MARKER'"))) code.Integer _ t h in
     let b = step_ok (shaped style section.Columns fields) _ t a.1 in
     column_by_did s (texts_of fields) t
-    (subst (λ x. column_by s x ≡ Ok t) (sym (shaped_texts style section.Columns fields b.0 b.1)) b.2)
+    (subst (λ x. column_by limits s x ≡ Ok t) (sym (shaped_texts style section.Columns fields b.0 b.1)) b.2)
 
 -- ---- RHS and RANGES
 
@@ -269,22 +275,22 @@ set_did s card does t h = go (is_used s.set card.set) refl h
     go true e k = Used e k
     go false e k = Skipped e (same_ok s t k)
 
-pub card_did : (sets : Sets) (style : Style) (s : State) (fields : Fields) (t : State) →
-    data_card style (Some (part_of sets)) s fields ≡ Ok t →
+pub card_did : (limits : SizeLimits) (sets : Sets) (style : Style) (s : State) (fields : Fields) (t : State) →
+    data_card limits style (Some (part_of sets)) s fields ≡ Ok t →
     SetDid s (set_and_pairs (texts_of fields)) (in_turn (pair_of sets)) t
-card_did sets style s fields t h =
-    let a = step_ok (shaped style (part_of sets) fields) _ t (sym (card_is sets style s fields) ∙ h) in
+card_did limits sets style s fields t h =
+    let a = step_ok (shaped style (part_of sets) fields) _ t (sym (card_is limits sets style s fields) ∙ h) in
     subst (λ x. SetDid s (set_and_pairs x) (in_turn (pair_of sets)) t)
     (sym (shaped_texts style (part_of sets) fields a.0 a.1))
     (set_did s (set_and_pairs a.0) (in_turn (pair_of sets)) t a.2)
 
 pub rhs_did : (style : Style) (s : State) (fields : Fields) (t : State) → rhs_card style s fields ≡ Ok t →
     SetDid s (set_and_pairs (texts_of fields)) side_pairs t
-rhs_did = card_did Sides
+rhs_did = card_did usual_limits Sides
 
 pub ranges_did : (style : Style) (s : State) (fields : Fields) (t : State) → ranges_card style s fields ≡ Ok t →
     SetDid s (set_and_pairs (texts_of fields)) range_pairs t
-ranges_did = card_did Ranges
+ranges_did = card_did usual_limits Ranges
 
 -- what a card's set and each of its pairs keep, the card keeps
 pub set_keeps : (put : State → Target → ℚ → Check State) (run : State → List (List ℕ × List ℕ) → Check State) →

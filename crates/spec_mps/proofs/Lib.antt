@@ -51,3 +51,4 @@ pub mod WrittenColumnsRead
 pub mod Agree
 pub mod AllDigits
 pub mod ReadBack
+pub mod GreaterLimits

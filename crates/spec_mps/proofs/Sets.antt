@@ -1,5 +1,6 @@
 -- RHS and RANGES alike: the sections whose cards have a set and pairs of a row's name and a number.
 use Rattle.std.proofs.Common.{◌≡◌, ℕ, Some, List, refl}
+use Rattle.spec_model.specs.declared.parts.SizeLimits.{SizeLimits}
 use Rattle.spec_model.specs.Model.{Name}
 use Rattle.spec_mps.specs.declared.section.Section.{Section}
 use Rattle.spec_mps.specs.declared.section.Section.TheVariants as section
@@ -31,9 +32,9 @@ shapes_are Sides Fixed = refl
 shapes_are Ranges Free = refl
 shapes_are Ranges Fixed = refl
 
-pub card_is : (sets : Sets) (style : Style) (s : State) (fields : Fields) →
-    data_card style (Some (part_of sets)) s fields
+pub card_is : (limits : SizeLimits) (sets : Sets) (style : Style) (s : State) (fields : Fields) →
+    data_card limits style (Some (part_of sets)) s fields
     ≡ set_card (part_of sets) (if_used (in_turn (pair_of sets))) style s fields
 unfolding rhs_card rhs_by ranges_card ranges_by
-card_is Sides style s fields = refl
-card_is Ranges style s fields = refl
+card_is limits Sides style s fields = refl
+card_is limits Ranges style s fields = refl

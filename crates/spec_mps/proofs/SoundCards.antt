@@ -15,6 +15,7 @@ use Rattle.spec_text.proofs.WordLemmas.{same_false}
 use Rattle.spec_exact.specs.Fraction.{ℚ, abs_ℚ, ◌<ℚ◌}
 use Rattle.spec_exact.specs.Narrow.{IsNarrow}
 use Rattle.spec_exact.proofs.Narrow.{neg_narrow}
+use Rattle.spec_model.specs.declared.parts.SizeLimits.{SizeLimits}
 use Rattle.spec_model.specs.declared.parts.Kind.{Kind}
 use Rattle.spec_model.specs.Model.{Name, ExactRow, ExactColumn, no_row, is_free}
 use Rattle.spec_model.specs.Kept.{IsNarrowRow, FitsKind, is_name, is_row_name}
@@ -54,10 +55,10 @@ abbrev pub HasFitRange : ExactRow → Type 0
 HasFitRange r = FitsKind r.kind r.range
 
 -- what was read is sound
-pub record IsSound (s : State) : Type 0 where
-  pub rows : SoundRows s.name s.objective (row_names s.rows)
+pub record IsSound (limits : SizeLimits) (s : State) : Type 0 where
+  pub rows : SoundRows limits s.name s.objective (row_names s.rows)
   pub fit : All HasFitRange s.rows
-  pub columns : SoundColumns (length (row_names s.rows)) s.columns s.column s.paired
+  pub columns : SoundColumns limits (length (row_names s.rows)) s.columns s.column s.paired
   pub narrow : AreNarrow s.offset s.rows s.columns s.column
 
 -- ---- names of rows
@@ -100,25 +101,29 @@ place_inside s name place h =
 
 -- ---- ROWS
 
-with_row_sound : (s : State) (kind : Kind) (name : Name) → is_row_name name ≡ true → place_of s name ≡ None →
-    (is_first s kind || ltb (length s.rows) 256) ≡ true → IsSound s → IsSound (with_row s kind name)
-with_row_sound s kind name t n few sound = go (is_first s kind) refl few
+with_row_sound : {limits : SizeLimits} (s : State) (kind : Kind) (name : Name) → is_row_name name ≡ true →
+    place_of s name ≡ None →
+    (is_first s kind || ltb (length s.rows) limits.rows) ≡ true → IsSound limits s →
+    IsSound limits (with_row s kind name)
+with_row_sound {limits = limits} s kind name t n few sound = go (is_first s kind) refl few
   where
-    go : (b : Bool) → is_first s kind ≡ b → (b || ltb (length s.rows) 256) ≡ true →
-        IsSound (cond b (record s { objective = Some name }) (record s { rows = s.rows ++ new_row kind name ∷ [] }))
+    go : (b : Bool) → is_first s kind ≡ b → (b || ltb (length s.rows) limits.rows) ≡ true →
+        IsSound limits (cond b (record s { objective = Some name }) (record s {
+          rows = s.rows ++ new_row kind name ∷ [];
+        }))
     go true e k =
         let none : s.objective ≡ None = none_if s.objective (and_parts (is_none s.objective) (is_free kind) e).0 in
         let f = subst (λ o. All (λ n. n ≢ name) (option_to_list o ++ row_names s.rows)) none (free_name s name n) in
         record {
           rows =
               with_objective s.name (row_names s.rows) name t f
-              (subst (λ o. SoundRows s.name o (row_names s.rows)) none sound.rows);
+              (subst (λ o. SoundRows limits s.name o (row_names s.rows)) none sound.rows);
           fit = sound.fit;
           columns = sound.columns;
           narrow = sound.narrow;
         }
     go false e k =
-        let less : length (row_names s.rows) < 256 =
+        let less : length (row_names s.rows) < limits.rows =
         omega (arith, ltb-true _ _ k, length-map s.rows (λ (r : ExactRow). r.name)) in
         let e : row_names (s.rows ++ new_row kind name ∷ []) ≡ row_names s.rows ++ name ∷ [] =
         map-append (λ (r : ExactRow). r.name) s.rows (new_row kind name ∷ []) in
@@ -126,29 +131,31 @@ with_row_sound s kind name t n few sound = go (is_first s kind) refl few
         omega (arith, ap length e, length-append (row_names s.rows) (name ∷ [])) in
         record {
           rows =
-              subst (SoundRows s.name s.objective) (sym e)
+              subst (SoundRows limits s.name s.objective) (sym e)
               (push_row s.name s.objective (row_names s.rows) name t less (free_name s name n) sound.rows);
           fit = All-push HasFitRange s.rows (new_row kind name) sound.fit tt;
           columns = more_rows _ _ s.columns s.column s.paired longer sound.columns;
           narrow = more_narrow s.offset s.rows s.columns s.column sound.narrow kind name;
         }
 
-pub rows_card_sound : (style : Style) (s : State) (fields : Fields) (t : State) → rows_card style s fields ≡ Ok t →
-    IsSound s → IsSound t
+pub rows_card_sound : {limits : SizeLimits} (style : Style) (s : State) (fields : Fields) (t : State) →
+    rows_card limits style s fields ≡ Ok t →
+    IsSound limits s → IsSound limits t
 rows_card_sound style s fields t h sound =
     let d = rows_did style s fields t h in
-    subst IsSound d.new
+    subst (IsSound _) d.new
     (with_row_sound s d.kind (text_at 2 fields) d.name (none_if (place_of s (text_at 2 fields)) d.free) d.few sound)
 
 -- ---- COLUMNS
 
-opens_sound : (s : State) (name : Name) (t : State) → is_name name ≡ true → Opens s name t → IsSound s → IsSound t
-opens_sound s name t named (Same known same) sound = subst IsSound same sound
+opens_sound : {limits : SizeLimits} (s : State) (name : Name) (t : State) → is_name name ≡ true →
+    Opens limits s name t → IsSound limits s → IsSound limits t
+opens_sound s name t named (Same known same) sound = subst (IsSound _) same sound
 opens_sound s name t named (New other free few new) sound =
     let f =
     others (λ (c : ExactColumn). c.name) name (whole_columns s)
     (none_pass (λ (c : ExactColumn). same c.name name) (whole_columns s) (not-true _ free)) in
-    subst IsSound new
+    subst (IsSound _) new
     (record {
       rows = sound.rows;
       fit = sound.fit;
@@ -162,11 +169,12 @@ pair_narrow : {put : State → Target → ℚ → Check State} {s : State} {pair
     (p : PairDid put s pair t) → IsNarrow p.value
 pair_narrow {pair = pair} p = in_narrow pair.1 p.value p.number_is
 
-entered_sound : (s : State) (pair : List ℕ × List ℕ) (t : State) → PairDid enter s pair t → IsSound s → IsSound t
+entered_sound : {limits : SizeLimits} (s : State) (pair : List ℕ × List ℕ) (t : State) → PairDid enter s pair t →
+    IsSound limits s → IsSound limits t
 unfolding enter
 entered_sound s pair t p sound =
     let a = must_ok (not (is_among p.place s.paired)) code.EntryRepeated _ t p.did in
-    subst IsSound (same_ok _ t a.1)
+    subst (IsSound _) (same_ok _ t a.1)
     (record {
       rows = sound.rows;
       fit = sound.fit;
@@ -176,11 +184,11 @@ entered_sound s pair t p sound =
       narrow = entered_narrow s.offset s.rows s.columns s.column sound.narrow p.place p.value (pair_narrow p);
     })
 
-pub columns_card_sound : (style : Style) (s : State) (fields : Fields) (t : State) →
-    columns_card style s fields ≡ Ok t → IsSound s → IsSound t
-columns_card_sound style s fields t h sound =
+pub columns_card_sound : {limits : SizeLimits} (style : Style) (s : State) (fields : Fields) (t : State) →
+    columns_card limits style s fields ≡ Ok t → IsSound limits s → IsSound limits t
+columns_card_sound {limits = limits} style s fields t h sound =
     let d = columns_did style s fields t h in
-    pairs_keep enter _ column_puts (λ done u. IsSound u) (λ done u pair v p k. entered_sound u pair v p k)
+    pairs_keep enter _ column_puts (λ done u. IsSound limits u) (λ done u pair v p k. entered_sound u pair v p k)
     (pairs_of d.more) [] d.between t d.pairs (opens_sound s d.name d.between d.name_is d.opens sound)
 
 -- ---- RHS and RANGES
@@ -192,29 +200,30 @@ changed_rows zero change (r ∷ rows) same_name = ap (λ name. name ∷ row_name
 changed_rows (suc i) change (r ∷ rows) same_name = ap (λ names. r.name ∷ names) (changed_rows i change rows same_name)
 
 -- a number of a row, which keeps its name
-row_sound : (s : State) (t : Target) (i : ℕ) (change : ExactRow → ExactRow) →
+row_sound : {limits : SizeLimits} (s : State) (t : Target) (i : ℕ) (change : ExactRow → ExactRow) →
     ((r : ExactRow) → (change r).name ≡ r.name) → ((r : ExactRow) → IsNarrowRow r → IsNarrowRow (change r)) →
-    All HasFitRange (changed_at i change s.rows) → IsSound s →
-    IsSound (record s { rows = changed_at i change s.rows; paired = t ∷ s.paired })
-row_sound s t i change same_name small fit sound =
+    All HasFitRange (changed_at i change s.rows) → IsSound limits s →
+    IsSound limits (record s { rows = changed_at i change s.rows; paired = t ∷ s.paired })
+row_sound {limits = limits} s t i change same_name small fit sound =
     let e = changed_rows i change s.rows same_name in
     record {
-      rows = subst (SoundRows s.name s.objective) (sym e) sound.rows;
+      rows = subst (SoundRows limits s.name s.objective) (sym e) sound.rows;
       fit = fit;
       columns =
-          subst (λ names. SoundColumns (length names) s.columns s.column (t ∷ s.paired)) (sym e)
+          subst (λ names. SoundColumns limits (length names) s.columns s.column (t ∷ s.paired)) (sym e)
           (more_paired (length (row_names s.rows)) t s.columns s.column s.paired sound.columns);
       narrow = row_narrow s.offset s.rows s.columns s.column sound.narrow i change small;
     }
 
-put_side_sound : (s : State) (pair : List ℕ × List ℕ) (t : State) → PairDid put_side s pair t → IsSound s → IsSound t
+put_side_sound : {limits : SizeLimits} (s : State) (pair : List ℕ × List ℕ) (t : State) → PairDid put_side s pair t →
+    IsSound limits s → IsSound limits t
 unfolding put_side
-put_side_sound s pair t p sound = by p.place p.did
+put_side_sound {limits = limits} s pair t p sound = by p.place p.did
   where
-    by : (place : Target) → put_side s place p.value ≡ Ok t → IsSound t
+    by : (place : Target) → put_side s place p.value ≡ Ok t → IsSound limits t
     by Objective h =
         let a = must_ok (not (is_among Objective s.paired)) code.EntryRepeated _ t h in
-        subst IsSound (same_ok _ t a.1)
+        subst (IsSound _) (same_ok _ t a.1)
         (record {
           rows = sound.rows;
           fit = sound.fit;
@@ -223,7 +232,7 @@ put_side_sound s pair t p sound = by p.place p.did
         })
     by (Row i) h =
         let a = must_ok (not (is_among (Row i) s.paired)) code.EntryRepeated _ t h in
-        subst IsSound (same_ok _ t a.1)
+        subst (IsSound _) (same_ok _ t a.1)
         (row_sound s (Row i) i (λ r. record r { rhs = p.value }) (λ r. refl)
         (λ r k. record { rhs = pair_narrow p; range = k.range })
         (changed_all HasFitRange i (λ r. record r { rhs = p.value }) s.rows (λ r k. k) sound.fit) sound)
@@ -238,39 +247,44 @@ ranged_fit (suc i) v (r ∷ rows) f h =
     All-cons HasFitRange r (changed_at i (λ r. record r { range = Some v }) rows) (All-head HasFitRange r rows h)
     (ranged_fit i v rows f (All-tail HasFitRange r rows h))
 
-put_range_sound : (s : State) (pair : List ℕ × List ℕ) (t : State) → PairDid put_ranged s pair t → IsSound s → IsSound t
+put_range_sound : {limits : SizeLimits} (s : State) (pair : List ℕ × List ℕ) (t : State) → PairDid put_ranged s pair t →
+    IsSound limits s → IsSound limits t
 unfolding new_range
-put_range_sound s pair t p sound = by p.place p.did
+put_range_sound {limits = limits} s pair t p sound = by p.place p.did
   where
-    new : (i : ℕ) → RangeDid s i p.value t → IsSound t
-    new i (Forgotten free same) = subst IsSound same sound
+    new : (i : ℕ) → RangeDid s i p.value t → IsSound limits t
+    new i (Forgotten free same) = subst (IsSound _) same sound
     new i (Kept limited did) =
         let a = must_ok (not (is_among (Row i) s.paired)) code.EntryRepeated _ t did in
-        subst IsSound (same_ok _ t a.1)
+        subst (IsSound _) (same_ok _ t a.1)
         (row_sound s (Row i) i (λ r. record r { range = Some p.value }) (λ r. refl)
         (λ r k. record { rhs = k.rhs; range = pair_narrow p }) (ranged_fit i p.value s.rows limited sound.fit) sound)
 
-    by : (place : Target) → put_ranged s place p.value ≡ Ok t → IsSound t
+    by : (place : Target) → put_ranged s place p.value ≡ Ok t → IsSound limits t
     by Objective h = absurd (cc)
     by (Row i) h = new i (put_range_did s i p.value t h)
 
-with_set : (s : State) (set : Option Name) → IsSound s → IsSound (record s { set = Some set })
+with_set : {limits : SizeLimits} (s : State) (set : Option Name) → IsSound limits s →
+    IsSound limits (record s { set = Some set })
 with_set s set sound = record { rows = sound.rows; fit = sound.fit; columns = sound.columns; narrow = sound.narrow }
 
-pub rhs_card_sound : (style : Style) (s : State) (fields : Fields) (t : State) → rhs_card style s fields ≡ Ok t →
-    IsSound s → IsSound t
+pub rhs_card_sound : {limits : SizeLimits} (style : Style) (s : State) (fields : Fields) (t : State) →
+    rhs_card style s fields ≡ Ok t →
+    IsSound limits s → IsSound limits t
 rhs_card_sound style s fields t h sound =
-    set_keeps put_side _ side_puts IsSound with_set put_side_sound s _ t (rhs_did style s fields t h) sound
+    set_keeps put_side _ side_puts (IsSound _) with_set put_side_sound s _ t (rhs_did style s fields t h) sound
 
-pub ranges_card_sound : (style : Style) (s : State) (fields : Fields) (t : State) → ranges_card style s fields ≡ Ok t →
-    IsSound s → IsSound t
+pub ranges_card_sound : {limits : SizeLimits} (style : Style) (s : State) (fields : Fields) (t : State) →
+    ranges_card style s fields ≡ Ok t →
+    IsSound limits s → IsSound limits t
 ranges_card_sound style s fields t h sound =
-    set_keeps put_ranged _ range_puts IsSound with_set put_range_sound s _ t (ranges_did style s fields t h) sound
+    set_keeps put_ranged _ range_puts (IsSound _) with_set put_range_sound s _ t (ranges_did style s fields t h) sound
 
 -- ---- BOUNDS
 
-with_bound_sound : (s : State) (place : ℕ) (card : BoundCard) → SetsAll (λ q. abs_ℚ q <ℚ infinite) card →
-    SetsAll IsNarrow card → IsSound s → IsSound (with_bound s place card)
+with_bound_sound : {limits : SizeLimits} (s : State) (place : ℕ) (card : BoundCard) →
+    SetsAll (λ q. abs_ℚ q <ℚ infinite) card →
+    SetsAll IsNarrow card → IsSound limits s → IsSound limits (with_bound s place card)
 unfolding with_bound
 with_bound_sound s place card small narrow sound =
     record {
@@ -284,18 +298,20 @@ with_bound_sound s place card small narrow sound =
           (get_or s.lowered place false) card narrow;
     }
 
-bound_sound : (s : State) (kind : BoundKind) (texts : BoundTexts) (t : State) → BoundDid s kind texts t → IsSound s →
-    IsSound t
+bound_sound : {limits : SizeLimits} (s : State) (kind : BoundKind) (texts : BoundTexts) (t : State) →
+    BoundDid s kind texts t → IsSound limits s →
+    IsSound limits t
 bound_sound s kind texts t (UsedBound place card used place_is card_is did) sound =
     let small =
     card_sets (λ q. abs_ℚ q <ℚ infinite) (λ text q e. abs_from_within infinite q (bound_is_within text q e))
     kind texts.value card card_is in
-    subst IsSound did
+    subst (IsSound _) did
     (with_bound_sound _ place card small
     (card_sets IsNarrow bound_narrow kind texts.value card card_is) (with_set s texts.set sound))
-bound_sound s kind texts t (SkippedBound other same) sound = subst IsSound same sound
+bound_sound s kind texts t (SkippedBound other same) sound = subst (IsSound _) same sound
 
-pub bounds_card_sound : (style : Style) (s : State) (fields : Fields) (t : State) → bounds_card style s fields ≡ Ok t →
-    IsSound s → IsSound t
+pub bounds_card_sound : {limits : SizeLimits} (style : Style) (s : State) (fields : Fields) (t : State) →
+    bounds_card style s fields ≡ Ok t →
+    IsSound limits s → IsSound limits t
 bounds_card_sound style s fields t h sound =
     let d = bounds_did style s fields t h in bound_sound s d.kind d.texts t d.did sound

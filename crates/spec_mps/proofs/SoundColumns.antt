@@ -8,6 +8,7 @@ use Rattle.std.proofs.lemmas.List.Elements.{All-nil, All-push, All-weaker}
 use Rattle.std.proofs.lemmas.List.Quantifiers.{all_pairs_push}
 use Rattle.spec_exact.specs.Fraction.{ℚ, 0ℚ, eq_ℚ, abs_ℚ, ◌<ℚ◌}
 use Rattle.spec_exact.proofs.Same.{eq_test}
+use Rattle.spec_model.specs.declared.parts.SizeLimits.{SizeLimits}
 use Rattle.spec_model.specs.Model.{Name, ExactColumn}
 use Rattle.spec_model.specs.Kept.{IsKeptColumn, IsBound, is_name}
 use Rattle.spec_model.proofs.Kept.{zero_bound, kept_higher}
@@ -32,14 +33,14 @@ pub record IsOpen (n : ℕ) (paired : List Target) (c : ExactColumn) : Type 0 wh
   pub entries : Climbs n 0 paired c.entries
 
 -- columns over n rows
-pub record SoundColumns (n : ℕ) (columns : List ExactColumn)
+pub record SoundColumns (limits : SizeLimits) (n : ℕ) (columns : List ExactColumn)
     (column : Option ExactColumn) (paired : List Target) : Type 0 where
-  pub few : length (column_names (columns_with columns column)) ≤ 512
+  pub few : length (column_names (columns_with columns column)) ≤ limits.columns
   pub distinct : AllPairs (λ x y. x ≢ y) (column_names (columns_with columns column))
   pub each : All (IsKeptColumn n) columns
   pub last : IfSome column (IsOpen n paired)
 
-pub no_columns : SoundColumns 0 [] None []
+pub no_columns : {limits : SizeLimits} → SoundColumns limits 0 [] None []
 no_columns =
     record {
       few = omega arith;
@@ -61,8 +62,9 @@ open_higher n m paired (Some c) l h =
       entries = climbs_higher n m 0 paired c.entries l h.entries;
     }
 
-pub more_rows : (n m : ℕ) (columns : List ExactColumn) (column : Option ExactColumn) (paired : List Target) → n ≤ m →
-    SoundColumns n columns column paired → SoundColumns m columns column paired
+pub more_rows : {limits : SizeLimits} (n m : ℕ) (columns : List ExactColumn) (column : Option ExactColumn)
+    (paired : List Target) → n ≤ m →
+    SoundColumns limits n columns column paired → SoundColumns limits m columns column paired
 more_rows n m columns column paired l s =
     record {
       few = s.few;
@@ -77,9 +79,9 @@ open_more n t paired None h = h
 open_more n t paired (Some c) h =
     record { name = h.name; lower = h.lower; upper = h.upper; entries = climbs_more n 0 t paired c.entries h.entries }
 
-pub more_paired : (n : ℕ) (t : Target) (columns : List ExactColumn)
+pub more_paired : {limits : SizeLimits} (n : ℕ) (t : Target) (columns : List ExactColumn)
     (column : Option ExactColumn) (paired : List Target) →
-    SoundColumns n columns column paired → SoundColumns n columns column (t ∷ paired)
+    SoundColumns limits n columns column paired → SoundColumns limits n columns column (t ∷ paired)
 more_paired n t columns column paired s =
     record { few = s.few; distinct = s.distinct; each = s.each; last = open_more n t paired column s.last }
 
@@ -98,8 +100,9 @@ close_column n paired columns (Some c) h k =
       entries = climbs_entries n 0 paired c.entries k.entries;
     })
 
-pub closed : (n : ℕ) (columns : List ExactColumn) (column : Option ExactColumn) (paired : List Target) →
-    SoundColumns n columns column paired → SoundColumns n (columns_with columns column) None []
+pub closed : {limits : SizeLimits} (n : ℕ) (columns : List ExactColumn) (column : Option ExactColumn)
+    (paired : List Target) →
+    SoundColumns limits n columns column paired → SoundColumns limits n (columns_with columns column) None []
 closed n columns column paired s =
     record { few = s.few; distinct = s.distinct; each = close_column n paired columns column s.each s.last; last = tt }
 
@@ -107,9 +110,10 @@ named_new : (columns : List ExactColumn) (name : Name) →
     column_names (columns ++ new_column name ∷ []) ≡ column_names columns ++ name ∷ []
 named_new columns name = map-append (λ (c : ExactColumn). c.name) columns (new_column name ∷ [])
 
-pub with_new : (n : ℕ) (columns : List ExactColumn) (new : Name) → is_name new ≡ true →
-    All (λ x. x ≢ new) (column_names columns) → length columns < 512 → SoundColumns n columns None [] →
-    SoundColumns n columns (Some (new_column new)) []
+pub with_new : {limits : SizeLimits} (n : ℕ) (columns : List ExactColumn) (new : Name) → is_name new ≡ true →
+    All (λ x. x ≢ new) (column_names columns) → length columns < limits.columns →
+    SoundColumns limits n columns None [] →
+    SoundColumns limits n columns (Some (new_column new)) []
 with_new n columns new t f few s =
     record {
       few =
@@ -186,14 +190,14 @@ number_last : (n : ℕ) (paired : List Target) (column : Option ExactColumn) (t 
 number_last n paired None t v i f o = tt
 number_last n paired (Some c) t v i f o = number_open n paired c t v i f o
 
-pub with_pair : (n : ℕ) (columns : List ExactColumn)
+pub with_pair : {limits : SizeLimits} (n : ℕ) (columns : List ExactColumn)
     (column : Option ExactColumn) (paired : List Target) (t : Target) (v : ℚ) →
-    IsInside n t → is_among t paired ≡ false → SoundColumns n columns column paired →
-    SoundColumns n columns (option_map (λ c. with_number c t v) column) (t ∷ paired)
-with_pair n columns column paired t v i f s =
+    IsInside n t → is_among t paired ≡ false → SoundColumns limits n columns column paired →
+    SoundColumns limits n columns (option_map (λ c. with_number c t v) column) (t ∷ paired)
+with_pair {limits = limits} n columns column paired t v i f s =
     let e = number_names columns column t v in
     record {
-      few = subst (λ names. length names ≤ 512) (sym e) s.few;
+      few = subst (λ names. length names ≤ limits.columns) (sym e) s.few;
       distinct = subst (AllPairs (λ x y. x ≢ y)) (sym e) s.distinct;
       each = s.each;
       last = number_last n paired column t v i f s.last;
@@ -241,16 +245,16 @@ names_with columns others (Some c) e =
     ∙ ap (λ names. names ++ c.name ∷ []) e
     ∙ sym (map-append (λ (c : ExactColumn). c.name) others (c ∷ []))
 
-pub with_bounds : (n place : ℕ) (lowered : Bool) (card : BoundCard)
+pub with_bounds : {limits : SizeLimits} (n place : ℕ) (lowered : Bool) (card : BoundCard)
     (columns : List ExactColumn) (column : Option ExactColumn) (paired : List Target) →
-    IsSmall card → SoundColumns n columns column paired →
-    SoundColumns n (changed_at place (bounded lowered card) columns) column paired
-with_bounds n place lowered card columns column paired small s =
+    IsSmall card → SoundColumns limits n columns column paired →
+    SoundColumns limits n (changed_at place (bounded lowered card) columns) column paired
+with_bounds {limits = limits} n place lowered card columns column paired small s =
     let e =
     names_with (changed_at place (bounded lowered card) columns) columns column
     (changed_names place lowered card columns) in
     record {
-      few = subst (λ names. length names ≤ 512) (sym e) s.few;
+      few = subst (λ names. length names ≤ limits.columns) (sym e) s.few;
       distinct = subst (AllPairs (λ x y. x ≢ y)) (sym e) s.distinct;
       each =
           changed_all (IsKeptColumn n) place (bounded lowered card) columns

@@ -6,18 +6,19 @@ use Rattle.std.specs.Option.{option_to_list}
 use Rattle.std.proofs.lemmas.List.Elements.{All-nil, All-push, All-weaker}
 use Rattle.std.proofs.lemmas.List.Kept.{AllPairs-cons}
 use Rattle.std.proofs.lemmas.List.Quantifiers.{all_pairs_push}
+use Rattle.spec_model.specs.declared.parts.SizeLimits.{SizeLimits}
 use Rattle.spec_model.specs.Model.{Name}
 use Rattle.spec_model.specs.Kept.{is_row_name, is_model_name}
 
 -- the names of the model, of its objective and of its rows
-pub record SoundRows (name : Name) (objective : Option Name) (rows : List Name) : Type 0 where
-  pub few : length rows ≤ 256
+pub record SoundRows (limits : SizeLimits) (name : Name) (objective : Option Name) (rows : List Name) : Type 0 where
+  pub few : length rows ≤ limits.rows
   pub model_name : IsTrue (is_model_name name)
   pub objective_name : IfSome objective (λ n. IsTrue (is_row_name n))
   pub each_name : All (λ n. IsTrue (is_row_name n)) rows
   pub distinct : AllPairs (λ x y. x ≢ y) (option_to_list objective ++ rows)
 
-pub no_rows : SoundRows [] None []
+pub no_rows : {limits : SizeLimits} → SoundRows limits [] None []
 unfolding is_model_name
 no_rows =
     record {
@@ -28,8 +29,9 @@ no_rows =
       distinct = λ i j d l k. absurd (omega arith);
     }
 
-pub with_name : (name : Name) (objective : Option Name) (rows : List Name) (new : Name) → is_model_name new ≡ true →
-    SoundRows name objective rows → SoundRows new objective rows
+pub with_name : {limits : SizeLimits} (name : Name) (objective : Option Name) (rows : List Name) (new : Name) →
+    is_model_name new ≡ true →
+    SoundRows limits name objective rows → SoundRows limits new objective rows
 with_name name objective rows new t s =
     record {
       few = s.few;
@@ -39,8 +41,9 @@ with_name name objective rows new t s =
       distinct = s.distinct;
     }
 
-pub with_objective : (name : Name) (rows : List Name) (new : Name) → is_row_name new ≡ true → All (λ n. n ≢ new) rows →
-    SoundRows name None rows → SoundRows name (Some new) rows
+pub with_objective : {limits : SizeLimits} (name : Name) (rows : List Name) (new : Name) → is_row_name new ≡ true →
+    All (λ n. n ≢ new) rows →
+    SoundRows limits name None rows → SoundRows limits name (Some new) rows
 with_objective name rows new t f s =
     record {
       few = s.few;
@@ -52,9 +55,11 @@ with_objective name rows new t f s =
           (All-weaker (λ n. n ≢ new) (λ n. new ≢ n) (λ n g e. g (sym e)) rows f) s.distinct;
     }
 
-pub push_row : (name : Name) (objective : Option Name) (rows : List Name) (new : Name) → is_row_name new ≡ true →
-    length rows < 256 → All (λ n. n ≢ new) (option_to_list objective ++ rows) → SoundRows name objective rows →
-    SoundRows name objective (rows ++ new ∷ [])
+pub push_row : {limits : SizeLimits} (name : Name) (objective : Option Name) (rows : List Name) (new : Name) →
+    is_row_name new ≡ true →
+    length rows < limits.rows → All (λ n. n ≢ new) (option_to_list objective ++ rows) →
+    SoundRows limits name objective rows →
+    SoundRows limits name objective (rows ++ new ∷ [])
 push_row name objective rows new t few f s =
     let longer : length (rows ++ new ∷ []) ≡ length rows + 1 = length-append rows (new ∷ []) in
     record {

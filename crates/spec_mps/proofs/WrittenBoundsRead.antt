@@ -11,7 +11,7 @@ use Rattle.spec_exact.specs.Fraction.{ℚ, 0ℚ}
 use Rattle.spec_exact.specs.Narrow.{IsNarrow}
 use Rattle.spec_exact.proofs.Same.{eq_if}
 use Rattle.spec_model.specs.Model.{Name, Model, ExactColumn}
-use Rattle.spec_model.specs.Kept.{IsModel, IsKeptColumn, IsNarrowColumn, IsBound}
+use Rattle.spec_model.specs.Kept.{IsModel, IsKeptColumn, IsNarrowColumn, IsBound, usual_limits}
 use Rattle.spec_mps.specs.declared.style.Style.{Style}
 use Rattle.spec_mps.specs.declared.section.Section.TheVariants as section
 use Rattle.spec_mps.specs.Cards.{is_skipped}
@@ -165,7 +165,7 @@ unfolding model_by
 is_model s m h = let k = h.known in rw (k.name, k.sense, h.offset, h.rows, k.none_open, h.columns) refl
 
 pub end_step : (style : Style) (s : State) (m : Model) → IsWhole s m →
-    step style s (Text (codes "ENDATA")) ≡ Ok (Done m)
+    step usual_limits style s (Text (codes "ENDATA")) ≡ Ok (Done m)
 unfolding on_section section_of free_fields fixed_fields is_skipped word_fields words_of finished model_by
 end_step style s m h =
     heading_step style s (codes "ENDATA") refl refl

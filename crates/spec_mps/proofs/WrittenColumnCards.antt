@@ -9,7 +9,7 @@ use Rattle.spec_text.specs.Words.{same}
 use Rattle.spec_exact.specs.Fraction.{ℚ}
 use Rattle.spec_exact.specs.Narrow.{IsNarrow}
 use Rattle.spec_model.specs.Model.{Name, ExactColumn}
-use Rattle.spec_model.specs.Kept.{is_name, is_row_name}
+use Rattle.spec_model.specs.Kept.{is_name, is_row_name, usual_limits, column_limit}
 use Rattle.spec_mps.specs.declared.card.Card.TheVariants.{Given}
 use Rattle.spec_mps.specs.declared.style.Style.{Style}
 use Rattle.spec_mps.specs.declared.style.Style.TheVariants.{Free, Fixed}
@@ -52,8 +52,8 @@ unfolding is_row_name
 no_marker name h = not-true (same name (codes "'MARKER'")) (and_parts (is_name name) (not (same name (codes "'MARKER'"))) h).1
 
 columns_read : (style : Style) (s t u : State) (group name text : List ℕ) → is_name group ≡ true →
-    is_row_name name ≡ true → opened s group ≡ Ok t → column_pair t name text ≡ Ok u
-    → columns_card style s (read_as style (number_fields group name text)) ≡ Ok u
+    is_row_name name ≡ true → opened usual_limits s group ≡ Ok t → column_pair t name text ≡ Ok u
+    → columns_card usual_limits style s (read_as style (number_fields group name text)) ≡ Ok u
 unfolding columns_card
 columns_read Free s t u group name text g n o p =
     rw (no_marker name n, has_number_shape Free group name text, g, o, p) refl
@@ -76,30 +76,32 @@ pub record IsColumnCard (style : Style) (s : State) (group name : Name) (value :
   pub narrow : IsNarrow value
 
 pub column_card_goes : (style : Style) (s t u : State) (group name : Name) (value : ℚ) (target : Target) →
-    IsColumnCard style s group name value → opened s group ≡ Ok t → place_of t name ≡ Some target
+    IsColumnCard style s group name value → opened usual_limits s group ≡ Ok t → place_of t name ≡ Some target
     → enter t target value ≡ Ok u → Goes style s (number_card group name value ∷ []) u
 unfolding step
 column_card_goes style s t u group name value target c o p e =
     goes_one style s u (number_card group name value)
-    (ap (on_reading style s) (read_number style s.part group name value c.part c.group_item c.name_item c.number_item)
-    ∙ ap (λ part. more (data_card style part s (read_as style (number_fields group name (number_text value))))) c.part
+    (ap (on_reading usual_limits style s) (read_number style s.part group name value c.part c.group_item c.name_item
+    c.number_item)
+    ∙ ap (λ part. more (data_card usual_limits style part s (read_as style (number_fields group name
+    (number_text value))))) c.part
     ∙ ap more (columns_read style s t u group name (number_text value) c.group_name c.row_name o
     (pair_read t u name value target p c.narrow e)))
 
 -- ---- the column
 
 pub opened_new : (s : State) (name : Name) → is_open s.column name ≡ false →
-    list_any (λ c. same c.name name) (whole_columns s) ≡ false → length (whole_columns s) < 512
-    → opened s name ≡ Ok (record s {
+    list_any (λ c. same c.name name) (whole_columns s) ≡ false → length (whole_columns s) < column_limit
+    → opened usual_limits s name ≡ Ok (record s {
       columns = whole_columns s;
       column = Some (new_column name);
       lowered = s.lowered ++ false ∷ [];
       paired = [];
     })
 unfolding opened
-opened_new s name h k few = rw (h, k, lt-ltb (length (whole_columns s)) 512 few) refl
+opened_new s name h k few = rw (h, k, lt-ltb (length (whole_columns s)) column_limit few) refl
 
-pub opened_open : (s : State) (name : Name) → is_open s.column name ≡ true → opened s name ≡ Ok s
+pub opened_open : (s : State) (name : Name) → is_open s.column name ≡ true → opened usual_limits s name ≡ Ok s
 unfolding opened
 opened_open s name h = rw h refl
 

@@ -9,7 +9,8 @@ use Rattle.std.proofs.lemmas.List.Folds.{list_any-append}
 use Rattle.spec_text.specs.Words.{same}
 use Rattle.spec_exact.specs.Fraction.{ℚ, 0ℚ}
 use Rattle.spec_model.specs.Model.{Model, Name, ExactColumn, no_row, row}
-use Rattle.spec_model.specs.Kept.{IsModel, IsKeptColumn, IsNarrowColumn, is_name, is_row_name}
+use Rattle.spec_model.specs.Kept.{IsModel, IsUsualModel, IsKeptColumn, IsNarrowColumn, is_name, is_row_name}
+use Rattle.spec_model.specs.Kept.{column_limit}
 use Rattle.spec_mps.specs.declared.style.Style.{Style}
 use Rattle.spec_mps.specs.declared.section.Section.TheVariants as section
 use Rattle.spec_mps.specs.declared.target.Target.{Target}
@@ -125,7 +126,7 @@ column_goes : (style : Style) (m : Model) (s : State) (c : ExactColumn) (columns
     (column : Option ExactColumn) (lowered : List Bool) (paired : List Target) → IsModel m → IsWithin m s
     → IsKeptColumn (length m.rows) c → IsNarrowColumn c → is_open column c.name ≡ false →
     list_any (λ d. same d.name c.name) (columns_with columns column) ≡ false →
-    length (columns_with columns column) < 512
+    length (columns_with columns column) < column_limit
     → RoomFor style (column_cards m c)
     → Goes style (at s columns column lowered paired) (column_cards m c) (at s (columns_with columns column)
     (Some (bare_column c)) (lowered ++ false ∷ []) (paired_by (Objective ∷ []) c.entries))
@@ -186,7 +187,7 @@ columns_go : (style : Style) (m : Model) (s : State) (cs columns : List ExactCol
     (column : Option ExactColumn) (lowered : List Bool) (paired : List Target) → IsModel m → IsWithin m s
     → All (IsKeptColumn (length m.rows)) cs → All IsNarrowColumn cs →
     AreFresh (names_of_columns (columns_with columns column)) (names_of_columns cs) →
-    length (columns_with columns column) + length cs ≤ 512
+    length (columns_with columns column) + length cs ≤ column_limit
     → RoomFor style (flat_map (column_cards m) cs)
     → Goes style (at s columns column lowered paired) (flat_map (column_cards m) cs ++ section_card (codes "RHS") ∷ [])
     (record (begun s section.RightSides)
@@ -235,7 +236,7 @@ columns_go style m s (c ∷ cs) columns column lowered paired kept within k n ne
 
 -- ---- the section
 
-pub columns_are_read : (style : Style) (m : Model) → IsModel m → Fits style m → ColumnsAreRead style m
+pub columns_are_read : (style : Style) (m : Model) → IsUsualModel m → Fits style m → ColumnsAreRead style m
 unfolding columns_cards
 columns_are_read style m kept fits s none =
     let one : State = begun s section.Columns in
@@ -246,7 +247,7 @@ columns_are_read style m kept fits s none =
     let within : IsWithin m one = record { part = refl; rows = rows; begun = refl; no_sides = none.no_sides } in
     let F : List ExactColumn → Type 0 = λ cs. AreFresh (names_of_columns cs) (names_of_columns m.columns) in
     let short : length (columns_with s.columns s.column) ≡ 0 = ap length empty in
-    let few : length m.columns ≤ 512 = kept.few_columns in
+    let few : length m.columns ≤ column_limit = kept.1.few_columns in
     let heading : Goes style s (section_card (codes "COLUMNS") ∷ []) one =
     goes_one style s one (section_card (codes "COLUMNS"))
     (columns_step style s m.objective none.rows_are_read none.no_section none.objective) in
@@ -257,8 +258,8 @@ columns_are_read style m kept fits s none =
     let rest : Goes style one (flat_map (column_cards m) m.columns ++ rhs) (with_columns_of s m) =
     subst₂ P (ap (λ (cs : List ExactColumn). cs ++ map bare_column m.columns) empty)
     (ap (λ (ls : List Bool). ls ++ map (λ c. false) m.columns) none.none_lowered)
-    (columns_go style m one m.columns one.columns None s.lowered [] kept within kept.columns kept.narrow_columns
-    (subst F (sym empty) (fresh [] (names_of_columns m.columns) (λ i d l. refl) kept.columns_distinct))
+    (columns_go style m one m.columns one.columns None s.lowered [] kept.0 within kept.0.columns kept.0.narrow_columns
+    (subst F (sym empty) (fresh [] (names_of_columns m.columns) (λ i d l. refl) kept.0.columns_distinct))
     (omega arith) (room_for_columns style m fits)) in
     goes_then style s one (with_columns_of s m) (section_card (codes "COLUMNS"))
     (flat_map (column_cards m) m.columns ++ rhs) heading rest

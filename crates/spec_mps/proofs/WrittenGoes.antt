@@ -2,6 +2,7 @@
 use Rattle.std.proofs.Common.{◌+◌, ◌++◌, length, ap, ◌∙◌, append_assoc, length-append, arith}
 use Rattle.std.proofs.lemmas.List.{map-append}
 use Rattle.spec_text.specs.declared.line.Line.TheVariants.{Text}
+use Rattle.spec_model.specs.Kept.{usual_limits}
 use Rattle.spec_mps.specs.declared.style.Style.{Style}
 use Rattle.spec_mps.specs.Reader.{State}
 use Rattle.spec_mps.specs.Steps.{judge}
@@ -13,9 +14,9 @@ pub goes_append : (style : Style) (s t u : State) (cs ds : WrittenCards) → Goe
 goes_append style s t u cs ds h k =
     record {
       goes = λ n rest.
-          ap (λ ls. judge style s n (ls ++ rest)) (map-append (λ card. Text (line_text style card)) cs ds)
-          ∙ ap (λ ls. judge style s n ls) (append_assoc (card_lines style cs) (card_lines style ds) rest)
+          ap (λ ls. judge usual_limits style s n (ls ++ rest)) (map-append (λ card. Text (line_text style card)) cs ds)
+          ∙ ap (λ ls. judge usual_limits style s n ls) (append_assoc (card_lines style cs) (card_lines style ds) rest)
           ∙ h.goes n (card_lines style ds ++ rest)
           ∙ k.goes (n + length cs) rest
-          ∙ ap (λ i. judge style u i rest) (omega (arith, length-append cs ds));
+          ∙ ap (λ i. judge usual_limits style u i rest) (omega (arith, length-append cs ds));
     }

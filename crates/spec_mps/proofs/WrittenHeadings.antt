@@ -3,6 +3,7 @@ use Rattle.std.proofs.Common.{◌≡◌, true, false, Option, Some, None, Ok, Li
 use Rattle.std.specs.Prelude.{codes}
 use Rattle.spec_text.specs.declared.line.Line.TheVariants.{Text}
 use Rattle.spec_text.specs.Words.{words_of}
+use Rattle.spec_model.specs.Kept.{usual_limits}
 use Rattle.spec_model.specs.Model.{Name}
 use Rattle.spec_mps.specs.declared.card.Card.TheVariants.{Section as Heading}
 use Rattle.spec_mps.specs.declared.style.Style.{Style}
@@ -32,32 +33,33 @@ alike Fixed (Some section.End) line reading a b = b
 
 pub heading_step : (style : Style) (s : State) (word : List ℕ) →
     free_fields word ≡ Is (Heading (field_at 1 word ∷ [])) → fixed_fields word ≡ Is (Heading (field_at 1 word ∷ []))
-    → step style s (Text word) ≡ section_card s (field_at 1 word ∷ [])
+    → step usual_limits style s (Text word) ≡ section_card s (field_at 1 word ∷ [])
 unfolding step
 heading_step style s word a b =
-    ap (on_reading style s) (alike style s.part word (Is (Heading (field_at 1 word ∷ []))) a b)
+    ap (on_reading usual_limits style s) (alike style s.part word (Is (Heading (field_at 1 word ∷ []))) a b)
 
 pub rows_step : (style : Style) (s : State) → s.seen.rows ≡ false →
-    step style s (Text (codes "ROWS")) ≡ Ok (More (begun s section.Rows))
+    step usual_limits style s (Text (codes "ROWS")) ≡ Ok (More (begun s section.Rows))
 unfolding section_card section_of free_fields fixed_fields is_skipped word_fields words_of
 rows_step style s h = heading_step style s (codes "ROWS") refl refl ∙ rw h refl
 
 pub columns_step : (style : Style) (s : State) (objective : Name) → s.seen.rows ≡ true → s.seen.columns ≡ false →
-    s.objective ≡ Some objective → step style s (Text (codes "COLUMNS")) ≡ Ok (More (begun s section.Columns))
+    s.objective ≡ Some objective → step usual_limits style s (Text (codes "COLUMNS")) ≡ Ok
+    (More (begun s section.Columns))
 unfolding section_card section_of free_fields fixed_fields is_skipped word_fields words_of
 columns_step style s objective h k o = heading_step style s (codes "COLUMNS") refl refl ∙ rw (h, k, o) refl
 
 pub sides_step : (style : Style) (s : State) → s.seen.columns ≡ true → s.seen.right_sides ≡ false →
-    step style s (Text (codes "RHS")) ≡ Ok (More (begun s section.RightSides))
+    step usual_limits style s (Text (codes "RHS")) ≡ Ok (More (begun s section.RightSides))
 unfolding section_card section_of free_fields fixed_fields is_skipped word_fields words_of
 sides_step style s h k = heading_step style s (codes "RHS") refl refl ∙ rw (h, k) refl
 
 pub ranges_step : (style : Style) (s : State) → s.seen.columns ≡ true → s.seen.ranges ≡ false →
-    step style s (Text (codes "RANGES")) ≡ Ok (More (begun s section.Ranges))
+    step usual_limits style s (Text (codes "RANGES")) ≡ Ok (More (begun s section.Ranges))
 unfolding section_card section_of free_fields fixed_fields is_skipped word_fields words_of
 ranges_step style s h k = heading_step style s (codes "RANGES") refl refl ∙ rw (h, k) refl
 
 pub bounds_step : (style : Style) (s : State) → s.seen.columns ≡ true → s.seen.bounds ≡ false →
-    step style s (Text (codes "BOUNDS")) ≡ Ok (More (begun s section.Bounds))
+    step usual_limits style s (Text (codes "BOUNDS")) ≡ Ok (More (begun s section.Bounds))
 unfolding section_card section_of free_fields fixed_fields is_skipped word_fields words_of
 bounds_step style s h k = heading_step style s (codes "BOUNDS") refl refl ∙ rw (h, k) refl

@@ -3,6 +3,7 @@ use Rattle.std.proofs.Common.{◌≡◌, ℕ, Bool, true, false, Some, Ok, List,
 use Rattle.spec_text.specs.declared.line.Line.TheVariants.{Text}
 use Rattle.spec_exact.specs.Fraction.{ℚ}
 use Rattle.spec_exact.specs.Narrow.{IsNarrow}
+use Rattle.spec_model.specs.Kept.{usual_limits}
 use Rattle.spec_model.specs.Model.{Name}
 use Rattle.spec_mps.specs.declared.card.Card.TheVariants.{Given}
 use Rattle.spec_mps.specs.declared.style.Style.{Style}
@@ -50,11 +51,12 @@ reading_is Fixed section.End line h = cc
 
 pub given_step : (style : Style) (s : State) (part : Section) (line : List ℕ) (fields : Fields) →
     s.part ≡ Some part → has_numbers part ≡ true → reading_in style line ≡ Is (Given fields)
-    → step style s (Text line) ≡ more (data_card style (Some part) s fields)
+    → step usual_limits style s (Text line) ≡ more (data_card usual_limits style (Some part) s fields)
 unfolding step
 given_step style s part line fields e h k =
-    ap (λ p. on_reading style s (reading_of style p line)) e
-    ∙ ap (on_reading style s) (reading_is style part line h ∙ k) ∙ ap (λ p. more (data_card style p s fields)) e
+    ap (λ p. on_reading usual_limits style s (reading_of style p line)) e
+    ∙ ap (on_reading usual_limits style s) (reading_is style part line h ∙ k)
+    ∙ ap (λ p. more (data_card usual_limits style p s fields)) e
 
 -- ---- numbers
 

@@ -10,7 +10,7 @@ use Rattle.spec_text.specs.Words.{same}
 use Rattle.spec_model.specs.declared.parts.Kind.{Kind}
 use Rattle.spec_model.specs.declared.parts.Kind.TheVariants.{L, G, E, N}
 use Rattle.spec_model.specs.Model.{Name, ExactRow}
-use Rattle.spec_model.specs.Kept.{is_row_name}
+use Rattle.spec_model.specs.Kept.{is_row_name, usual_limits, row_limit}
 use Rattle.spec_mps.specs.declared.card.Card.TheVariants.{Given}
 use Rattle.spec_mps.specs.declared.style.Style.{Style}
 use Rattle.spec_mps.specs.declared.style.Style.TheVariants.{Free, Fixed}
@@ -28,11 +28,11 @@ use Rattle.spec_mps.proofs.WrittenBack.{cards_are_read_back}
 -- ---- cards one after another
 
 pub goes_one : (style : Style) (s t : State) (card : WrittenCard) →
-    step style s (Text (line_text style card)) ≡ Ok (More t) → Goes style s (card ∷ []) t
-goes_one style s t card h = record { goes = λ n rest. ap (settled n (λ u. judge style u (n + 1) rest)) h }
+    step usual_limits style s (Text (line_text style card)) ≡ Ok (More t) → Goes style s (card ∷ []) t
+goes_one style s t card h = record { goes = λ n rest. ap (settled n (λ u. judge usual_limits style u (n + 1) rest)) h }
 
 pub goes_none : (style : Style) (s : State) → Goes style s [] s
-goes_none style s = record { goes = λ n rest. ap (λ k. judge style s k rest) (omega arith) }
+goes_none style s = record { goes = λ n rest. ap (λ k. judge usual_limits style s k rest) (omega arith) }
 
 pub goes_then : (style : Style) (s t u : State) (card : WrittenCard) (cards : WrittenCards) →
     Goes style s (card ∷ []) t → Goes style t cards u → Goes style s (card ∷ cards) u
@@ -40,7 +40,7 @@ goes_then style s t u card cards h k =
     record {
       goes =
           λ n rest. h.goes n (card_lines style cards ++ rest)
-          ∙ k.goes (n + 1) rest ∙ ap (λ i. judge style u i rest) (omega arith);
+          ∙ k.goes (n + 1) rest ∙ ap (λ i. judge usual_limits style u i rest) (omega arith);
     }
 
 -- ---- one row
@@ -63,17 +63,19 @@ has_type_shape Free type name = refl
 has_type_shape Fixed type name = refl
 
 type_read : (style : Style) (s t : State) (type : List ℕ) (name : Name) (kind : Kind) →
-    row_type_of type ≡ Some kind → add_row s kind name ≡ Ok t → rows_card style s (type_fields type name) ≡ Ok t
+    row_type_of type ≡ Some kind → add_row usual_limits s kind name ≡ Ok t →
+    rows_card usual_limits style s (type_fields type name) ≡ Ok t
 unfolding rows_card
 type_read style s t type name kind known added = rw (has_type_shape style type name, known, added) refl
 
 pub type_step : (style : Style) (s t : State) (type : List ℕ) (name : Name) (kind : Kind) →
     s.part ≡ Some section.Rows → IsItem style 2 type → IsItem style 8 name → row_type_of type ≡ Some kind
-    → add_row s kind name ≡ Ok t → step style s (Text (line_text style (type_card type name))) ≡ Ok (More t)
+    → add_row usual_limits s kind name ≡ Ok t → step usual_limits style s
+    (Text (line_text style (type_card type name))) ≡ Ok (More t)
 unfolding step
 type_step style s t type name kind e h k known added =
-    ap (on_reading style s) (read_type style s.part type name e h k)
-    ∙ ap (λ p. more (data_card style p s (type_fields type name))) e
+    ap (on_reading usual_limits style s) (read_type style s.part type name e h k)
+    ∙ ap (λ p. more (data_card usual_limits style p s (type_fields type name))) e
     ∙ ap more (type_read style s t type name kind known added)
 
 kind_item : (style : Style) (kind : Kind) → IsItem style 2 (kind_word kind)
@@ -94,14 +96,14 @@ kind_known E = refl
 kind_known N = refl
 
 row_added : (s : State) (objective : Name) (kind : Kind) (name : Name) → s.objective ≡ Some objective →
-    is_row_name name ≡ true → place_of s name ≡ None → length s.rows < 256 →
-    add_row s kind name ≡ Ok (record s { rows = s.rows ++ new_row kind name ∷ [] })
+    is_row_name name ≡ true → place_of s name ≡ None → length s.rows < row_limit →
+    add_row usual_limits s kind name ≡ Ok (record s { rows = s.rows ++ new_row kind name ∷ [] })
 unfolding add_row
-row_added s objective kind name o h k few = rw (h, k, o, lt-ltb (length s.rows) 256 few) refl
+row_added s objective kind name o h k few = rw (h, k, o, lt-ltb (length s.rows) row_limit few) refl
 
 pub row_goes : (style : Style) (s : State) (objective : Name) (r : ExactRow) → s.part ≡ Some section.Rows →
     s.objective ≡ Some objective → IsItem style 8 r.name → is_row_name r.name ≡ true → place_of s r.name ≡ None →
-    length s.rows < 256 → Goes style s (row_card r ∷ []) (record s { rows = s.rows ++ bare_row r ∷ [] })
+    length s.rows < row_limit → Goes style s (row_card r ∷ []) (record s { rows = s.rows ++ bare_row r ∷ [] })
 row_goes style s objective r e o item name free few =
     goes_one style s (record s { rows = s.rows ++ bare_row r ∷ [] }) (row_card r)
     (type_step style s (record s { rows = s.rows ++ bare_row r ∷ [] }) (kind_word r.kind) r.name r.kind e
@@ -110,7 +112,7 @@ row_goes style s objective r e o item name free few =
 -- ---- the objective
 
 pub objective_added : (s : State) (name : Name) → s.objective ≡ None → is_row_name name ≡ true →
-    place_of s name ≡ None → add_row s N name ≡ Ok (record s { objective = Some name })
+    place_of s name ≡ None → add_row usual_limits s N name ≡ Ok (record s { objective = Some name })
 unfolding add_row
 objective_added s name none h k = rw (h, k, none) refl
 
@@ -157,7 +159,7 @@ names_next objective rows r = ap (λ l. objective ∷ l) (sym (map-append (λ q.
 
 pub rows_go : (style : Style) (s : State) (objective : Name) (rows : List ExactRow) →
     s.part ≡ Some section.Rows → s.objective ≡ Some objective → AreRows style rows
-    → AreFresh (objective ∷ names_of s.rows) (names_of rows) → length s.rows + length rows ≤ 256 →
+    → AreFresh (objective ∷ names_of s.rows) (names_of rows) → length s.rows + length rows ≤ row_limit →
     Goes style s (map row_card rows) (record s { rows = s.rows ++ map bare_row rows })
 rows_go style s objective [] e o known fresh few =
     let P : List ExactRow → Type 0 = λ rs. Goes style s [] (record s { rows = rs }) in

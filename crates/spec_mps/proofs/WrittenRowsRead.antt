@@ -4,7 +4,7 @@ use Rattle.std.specs.Prelude.{codes}
 use Rattle.std.specs.List.{flat_map}
 use borrow.Author.Tests.{ltb-false}
 use Rattle.spec_model.specs.Model.{Name, Model, ExactRow}
-use Rattle.spec_model.specs.Kept.{IsModel, is_row_name}
+use Rattle.spec_model.specs.Kept.{IsUsualModel, is_row_name, row_limit}
 use Rattle.spec_model.specs.declared.parts.Kind.TheVariants.{N}
 use Rattle.spec_mps.specs.declared.style.Style.{Style}
 use Rattle.spec_mps.specs.declared.style.Style.TheVariants.{Free, Fixed}
@@ -46,27 +46,27 @@ nowhere : (s : State) (name : Name) → HasNoRows s → place_of (begun s sectio
 unfolding place_of
 nowhere s name h = rw (h.no_objective, h.no_row) refl
 
-pub rows_are_read : (style : Style) (m : Model) → IsModel m → Fits style m → RowsAreRead style m
+pub rows_are_read : (style : Style) (m : Model) → IsUsualModel m → Fits style m → RowsAreRead style m
 unfolding rows_cards
 rows_are_read style m kept fits s none =
     let one : State = begun s section.Rows in
     let two : State = record one { objective = Some m.objective } in
-    let room = room_for_rows style m kept.objective fits in
+    let room = room_for_rows style m kept.0.objective fits in
     let heading : Goes style s (section_card (codes "ROWS") ∷ []) one =
     goes_one style s one (section_card (codes "ROWS")) (rows_step style s none.no_section) in
     let objective : Goes style one (type_card (codes "N") m.objective ∷ []) two =
     goes_one style one two (type_card (codes "N") m.objective)
     (type_step style one two (codes "N") m.objective N refl (type_item style) room.0 type_known
-    (objective_added one m.objective none.no_objective kept.objective (nowhere s m.objective none))) in
+    (objective_added one m.objective none.no_objective kept.0.objective (nowhere s m.objective none))) in
     let F : List ExactRow → Type 0 = λ rows. AreFresh (m.objective ∷ names_of rows) (names_of m.rows) in
     let P : List ExactRow → Type 0 =
     λ rows. Goes style two (map row_card m.rows) (record two { rows = rows ++ map bare_row m.rows }) in
     let short : length s.rows ≡ 0 = ap length none.no_row in
-    let few : length m.rows ≤ 256 = kept.few_rows in
+    let few : length m.rows ≤ row_limit = kept.1.few_rows in
     let rows : Goes style two (map row_card m.rows) (with_rows_of s m) =
     subst P none.no_row
-    (rows_go style two m.objective m.rows refl refl (rows_known style m.rows kept.rows room.1)
-    (subst F (sym none.no_row) (fresh_names m.objective (names_of m.rows) kept.rows_distinct)) (omega arith)) in
+    (rows_go style two m.objective m.rows refl refl (rows_known style m.rows kept.0.rows room.1)
+    (subst F (sym none.no_row) (fresh_names m.objective (names_of m.rows) kept.0.rows_distinct)) (omega arith)) in
     goes_then style s one (with_rows_of s m) (section_card (codes "ROWS"))
     (type_card (codes "N") m.objective ∷ map row_card m.rows) heading
     (goes_then style one two (with_rows_of s m)

@@ -3,6 +3,7 @@ use Rattle.std.proofs.Common.{◌≡◌, ℕ, true, false, Option, Some, Ok, Lis
 use Rattle.std.proofs.Common.{subst, arith}
 use Rattle.std.specs.Prelude.{codes}
 use Rattle.spec_exact.specs.Fraction.{ℚ}
+use Rattle.spec_model.specs.Kept.{usual_limits}
 use Rattle.spec_model.specs.declared.parts.Kind.{Kind}
 use Rattle.spec_model.specs.Model.{Name, ExactRow, no_row, is_free}
 use Rattle.spec_mps.specs.declared.style.Style.{Style}
@@ -66,7 +67,8 @@ set_shape Ranges Fixed name text = refl
 card_read : (sets : Sets) (style : Style) (s t : State) (name : Name) (text : List ℕ) →
     is_used s.set (Some (group_of sets)) ≡ true →
     pair_of sets (record s { set = Some (Some (group_of sets)) }) name text ≡ Ok t →
-    data_card style (Some (part_of sets)) s (read_as style (number_fields (group_of sets) name text)) ≡ Ok t
+    data_card usual_limits style (Some (part_of sets)) s (read_as style (number_fields (group_of sets) name text)) ≡ Ok
+    t
 unfolding rhs_card rhs_by ranges_card ranges_by set_and_pairs
 card_read Sides style s t name text used put = rw (set_shape Sides style name text, used, put) refl
 card_read Ranges style s t name text used put = rw (set_shape Ranges style name text, used, put) refl

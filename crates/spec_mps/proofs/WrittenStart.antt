@@ -8,7 +8,7 @@ use Rattle.spec_text.specs.Words.{words_of}
 use Rattle.spec_model.specs.declared.parts.Sense.{Sense}
 use Rattle.spec_model.specs.declared.parts.Sense.TheVariants.{Min, Max}
 use Rattle.spec_model.specs.Model.{Name, Model}
-use Rattle.spec_model.specs.Kept.{IsModel, is_model_name, is_printable}
+use Rattle.spec_model.specs.Kept.{IsModel, is_model_name, is_printable, usual_limits}
 use Rattle.spec_mps.specs.declared.card.Card.TheVariants.{Section as Heading}
 use Rattle.spec_mps.specs.declared.style.Style.{Style}
 use Rattle.spec_mps.specs.declared.style.Style.TheVariants.{Free, Fixed}
@@ -56,14 +56,14 @@ unnamed_read Free = refl
 unnamed_read Fixed = refl
 
 name_step : (style : Style) (name : Name) → is_model_name name ≡ true →
-    step style start (Text (line_text style (name_card name))) ≡ Ok (More (named name))
+    step usual_limits style start (Text (line_text style (name_card name))) ≡ Ok (More (named name))
 unfolding step section_card section_of is_model_name
-name_step Free [] h = ap (on_reading Free start) (unnamed_read Free)
-name_step Fixed [] h = ap (on_reading Fixed start) (unnamed_read Fixed)
+name_step Free [] h = ap (on_reading usual_limits Free start) (unnamed_read Free)
+name_step Fixed [] h = ap (on_reading usual_limits Fixed start) (unnamed_read Fixed)
 name_step style (b ∷ bs) h =
     let word : IsWord (b ∷ bs) =
     record { some = refl; printable = (and_parts (nat_le (length (b ∷ bs)) 64) (list_all is_printable (b ∷ bs)) h).1 } in
-    ap (on_reading style start) (named_read style b bs word) ∙ rw h refl
+    ap (on_reading usual_limits style start) (named_read style b bs word) ∙ rw h refl
 
 sense_read : (style : Style) →
     reading_of style (Some section.Name) (codes "OBJSENSE MAX")
@@ -73,9 +73,9 @@ sense_read Free = refl
 sense_read Fixed = refl
 
 sense_step : (style : Style) (name : Name) →
-    step style (named name) (Text (codes "OBJSENSE MAX")) ≡ Ok (More (with_start_of name Max))
+    step usual_limits style (named name) (Text (codes "OBJSENSE MAX")) ≡ Ok (More (with_start_of name Max))
 unfolding step section_card section_of sense_of take_sense
-sense_step style name = ap (on_reading style (named name)) (sense_read style)
+sense_step style name = ap (on_reading usual_limits style (named name)) (sense_read style)
 
 pub start_is_read : (style : Style) (m : Model) → IsModel m → StartIsRead style m
 start_is_read style m kept = by m.sense

@@ -5,6 +5,7 @@ use Rattle.std.specs.List.{All, list_all}
 use Rattle.spec_text.specs.Lines.{line_limit, lines_of}
 use Rattle.spec_text.specs.declared.line.Line.{Line}
 use Rattle.spec_text.specs.declared.line.Line.TheVariants.{Text}
+use Rattle.spec_model.specs.Kept.{usual_limits}
 use Rattle.spec_model.specs.declared.parts.Sense.{Sense}
 use Rattle.spec_model.specs.declared.parts.Sense.TheVariants.{Min, Max}
 use Rattle.spec_exact.specs.Fraction.{0ℚ}
@@ -23,7 +24,8 @@ card_lines style cards = map (λ card. Text (line_text style card)) cards
 -- whatever follows the cards
 pub record Goes (style : Style) (before : State) (cards : WrittenCards) (after : State) : Type 0 where
   pub goes : (n : ℕ) (more : List (Line (List ℕ))) →
-      judge style before n (card_lines style cards ++ more) ≡ judge style after (n + length cards) more
+      judge usual_limits style before n (card_lines style cards ++ more) ≡ judge usual_limits style after
+      (n + length cards) more
 
 -- a row without its right side and range
 abbrev pub bare_row : ExactRow → ExactRow

@@ -13,7 +13,7 @@ use Rattle.spec_model.specs.Model.{Model, Name}
 use Rattle.spec_mps.specs.declared.section.Section.{Section}
 use Rattle.spec_mps.specs.declared.section.Section.TheVariants as section
 use Rattle.spec_mps.specs.declared.section.Seen.{Seen}
-use Rattle.spec_model.specs.Kept.{IsModel}
+use Rattle.spec_model.specs.Kept.{IsUsualModel, usual_limits}
 use Rattle.spec_mps.specs.declared.style.Style.{Style}
 use Rattle.spec_mps.specs.declared.style.Style.TheVariants.{Free, Fixed}
 use Rattle.spec_mps.specs.Reader.{State, start}
@@ -109,7 +109,7 @@ body m =
     (name_card m.name ∷ sense_cards m.sense) ++ rows_cards m
     ++ columns_cards m ++ sides_cards m ++ ranges_cards m ++ bounds_cards m
 
-sides_goes : (style : Style) (m : Model) → IsModel m → Fits style m → ColumnsAreRead style m
+sides_goes : (style : Style) (m : Model) → IsUsualModel m → Fits style m → ColumnsAreRead style m
     → (t : State) × Goes style start
     ((name_card m.name ∷ sense_cards m.sense) ++ rows_cards m ++ columns_cards m ++ sides_cards m) t × HasNoRanges t m
 unfolding sides_cards
@@ -122,9 +122,9 @@ sides_goes style m kept fits columns_are_read =
     let rows = rows_are_read style m kept fits a (rows_first m.name m.sense) in
     let columns = columns_are_read b (columns_then m m.sense) in
     let right =
-    sides_are_read style m kept (room_back style heading (sides m) (room_of style m fits).sides) c
+    sides_are_read style m kept.0 (room_back style heading (sides m) (room_of style m fits).sides) c
     (sides_then m) in
-    let to_rows = goes_append style start a b first (rows_cards m) (start_is_read style m kept) rows in
+    let to_rows = goes_append style start a b first (rows_cards m) (start_is_read style m kept.0) rows in
     let to_columns = goes_append style start b c (first ++ rows_cards m) (columns_cards m ++ heading) to_rows columns in
     let to_sides =
     goes_append style start c right.0
@@ -135,41 +135,43 @@ sides_goes style m kept fits columns_are_read =
       right.2,
     )
 
-body_goes : (style : Style) (m : Model) → IsModel m → Fits style m → ColumnsAreRead style m →
+body_goes : (style : Style) (m : Model) → IsUsualModel m → Fits style m → ColumnsAreRead style m →
     (t : State) × Goes style start (body m) t × IsWhole t m
 body_goes style m kept fits columns_are_read =
     let first : WrittenCards =
     (name_card m.name ∷ sense_cards m.sense) ++ rows_cards m ++ columns_cards m ++ sides_cards m in
     let a = sides_goes style m kept fits columns_are_read in
-    let b = ranges_are_read style m kept (room_of style m fits).ranges a.0 a.2 in
-    let c = bounds_are_read style m kept (room_of style m fits).bounds b.0 b.2 in
+    let b = ranges_are_read style m kept.0 (room_of style m fits).ranges a.0 a.2 in
+    let c = bounds_are_read style m kept.0 (room_of style m fits).bounds b.0 b.2 in
     let to_ranges = goes_append style start a.0 b.0 first (ranges_cards m) a.1 b.1 in
     (c.0, goes_append style start b.0 c.0 (first ++ ranges_cards m) (bounds_cards m) to_ranges c.1, c.2)
 
-cards_spell : (style : Style) (m : Model) → IsModel m → Fits style m → ColumnsAreRead style m →
-    judge style start 1 (card_lines style (cards_of m)) ≡ Spelled m
+cards_spell : (style : Style) (m : Model) → IsUsualModel m → Fits style m → ColumnsAreRead style m →
+    judge usual_limits style start 1 (card_lines style (cards_of m)) ≡ Spelled m
 unfolding cards_of
 cards_spell style m kept fits columns_are_read =
     let g = body_goes style m kept fits columns_are_read in
-    ap (judge style start 1)
+    ap (judge usual_limits style start 1)
     (map-append (λ card. Text (line_text style card)) (body m) (section_card (codes "ENDATA") ∷ []))
     ∙ g.1.goes 1 (Text (codes "ENDATA") ∷ [])
-    ∙ ap (settled (1 + length (body m)) (λ u. judge style u (1 + length (body m) + 1) [])) (end_step style g.0 m g.2)
+    ∙ ap (settled (1 + length (body m)) (λ u. judge usual_limits style u (1 + length (body m) + 1) []))
+    (end_step style g.0 m g.2)
 
 -- ---- the text
 
-text_spells : (style : Style) (m : Model) → IsModel m → Fits style m → ColumnsAreRead style m →
+text_spells : (style : Style) (m : Model) → IsUsualModel m → Fits style m → ColumnsAreRead style m →
     Spells style (lines_of (cards_text style (cards_of m))) m
 text_spells style m kept fits columns_are_read =
-    ap (judge style start 1)
-    (has_its_lines style (cards_of m) (λ i d a. plain_line style (get_or (cards_of m) i d) (cards_short m kept i d a)))
+    ap (judge usual_limits style start 1)
+    (has_its_lines style (cards_of m) (λ i d a. plain_line style (get_or (cards_of m) i d) (cards_short m kept.0 i d
+    a)))
     ∙ cards_spell style m kept fits columns_are_read
 
-pub free_spells : (m : Model) → IsModel m → ColumnsAreRead Free m → Spells Free (lines_of (free m)) m
+pub free_spells : (m : Model) → IsUsualModel m → ColumnsAreRead Free m → Spells Free (lines_of (free m)) m
 unfolding free
 free_spells m kept columns_are_read = text_spells Free m kept tt columns_are_read
 
-pub fixed_spells : (m : Model) → IsModel m → too_wide m ≡ None → ColumnsAreRead Fixed m →
+pub fixed_spells : (m : Model) → IsUsualModel m → too_wide m ≡ None → ColumnsAreRead Fixed m →
     Spells Fixed (lines_of (fixed m)) m
 unfolding fixed
 fixed_spells m kept narrow columns_are_read = text_spells Fixed m kept narrow columns_are_read
@@ -177,7 +179,11 @@ fixed_spells m kept narrow columns_are_read = text_spells Fixed m kept narrow co
 -- a text of a model is one of no other
 pub no_other : (style : Style) (lines : List (Line (List ℕ))) (m n : Model) → Spells style lines m →
     (Spells style lines n ↔ (n ≡ m))
-no_other style lines m n h = (same (judge style start 1 lines) h, λ e. subst (λ x. Spells style lines x) (sym e) h)
+no_other style lines m n h = (
+  same (judge usual_limits style start 1 lines) h,
+  λ e. subst (λ x. Spells style lines x)
+      (sym e) h,
+)
   where
     same : (v : Verdict) → v ≡ Spelled m → v ≡ Spelled n → n ≡ m
     same v e f = cc

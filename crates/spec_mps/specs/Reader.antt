@@ -6,8 +6,9 @@ use Rattle.spec_text.specs.Words.{same}
 use Rattle.spec_exact.specs.Fraction.{ℚ, 0ℚ, eq_ℚ}
 use Rattle.spec_model.specs.declared.parts.Kind.{Kind}
 use Rattle.spec_model.specs.declared.parts.Sense.{Sense}
+use Rattle.spec_model.specs.declared.parts.SizeLimits.{SizeLimits}
 use Rattle.spec_model.specs.Model.{Name, ExactRow, ExactColumn, is_free}
-use Rattle.spec_model.specs.Kept.{is_name, is_row_name, row_limit, column_limit}
+use Rattle.spec_model.specs.Kept.{is_name, is_row_name}
 use Rattle.spec_mps.specs.declared.fault.Code.TheVariants as code
 use Rattle.spec_mps.specs.declared.style.Style.{Style}
 use Rattle.spec_mps.specs.declared.style.Style.TheVariants.{Free, Fixed}
@@ -102,18 +103,18 @@ abbrev pub with_row : State → Kind → Name → State
 with_row s kind name =
     if is_first s kind then record s { objective = Some name } else record s { rows = s.rows ++ new_row kind name ∷ [] }
 
-unfoldable pub add_row : State → Kind → Name → Check State
-add_row s kind name = do
+unfoldable pub add_row : SizeLimits → State → Kind → Name → Check State
+add_row limits s kind name = do
   _ ← must (is_row_name name) code.Name
   _ ← must (is_none (place_of s name)) code.RowTaken
-  _ ← must (is_first s kind || nat_lt (length s.rows) row_limit) code.Limit
+  _ ← must (is_first s kind || nat_lt (length s.rows) limits.rows) code.Limit
   Ok (with_row s kind name)
 
-unfoldable pub rows_card : Style → State → Fields → Check State
-rows_card style s fields = do
+unfoldable pub rows_card : SizeLimits → Style → State → Fields → Check State
+rows_card limits style s fields = do
   _ ← shaped style section.Rows fields
   kind ← need (row_type_of (text_at 1 fields)) code.RowType
-  add_row s kind (text_at 2 fields)
+  add_row limits s kind (text_at 2 fields)
 
 -- ---- COLUMNS: a marker, shape, the column's name, a name that is taken, too many columns, then the pairs
 
@@ -134,12 +135,12 @@ is_open None name = false
 is_open (Some column) name = same column.name name
 
 -- the column of a card: the one that is read, or a new one whose name is not taken
-unfoldable pub opened : State → Name → Check State
-opened s name =
+unfoldable pub opened : SizeLimits → State → Name → Check State
+opened limits s name =
     if is_open s.column name then Ok s
     else (do
       _ ← must (not (list_any (λ c. same c.name name) (whole_columns s))) code.ColumnTaken
-      _ ← must (nat_lt (length (whole_columns s)) column_limit) code.Limit
+      _ ← must (nat_lt (length (whole_columns s)) limits.columns) code.Limit
       Ok (record s {
         columns = whole_columns s;
         column = Some (new_column name);
@@ -184,11 +185,11 @@ abbrev pub column_pairs : State → List (List ℕ × List ℕ) → Check State
 column_pairs = in_turn column_pair
 
 -- a column's name, and pairs of a row's name and a number
-abbrev pub column_by : State → List (List ℕ) → Check State
-column_by s [] = Err code.CardShape
-column_by s (name ∷ texts) = do
+abbrev pub column_by : SizeLimits → State → List (List ℕ) → Check State
+column_by limits s [] = Err code.CardShape
+column_by limits s (name ∷ texts) = do
   _ ← must (is_name name) code.Name
-  t ← opened s name
+  t ← opened limits s name
   column_pairs t (pairs_of texts)
 
 -- the field that says 'MARKER' on a card that marks whole columns
@@ -196,8 +197,8 @@ abbrev pub marker_field : Style → ℕ
 marker_field Free = 2
 marker_field Fixed = 3
 
-unfoldable pub columns_card : Style → State → Fields → Check State
-columns_card style s fields = do
+unfoldable pub columns_card : SizeLimits → Style → State → Fields → Check State
+columns_card limits style s fields = do
   _ ← must (not (same (text_at (marker_field style) fields) (codes "'MARKER'"))) code.Integer
   texts ← shaped style section.Columns fields
-  column_by s texts
+  column_by limits s texts

@@ -5,8 +5,9 @@ use Rattle.spec_text.specs.declared.line.Line.{Line}
 use Rattle.spec_text.specs.declared.line.Line.TheVariants.{Text, Long, End, Over}
 use Rattle.spec_model.specs.declared.parts.Sense.{Sense}
 use Rattle.spec_model.specs.declared.parts.Sense.TheVariants.{Min}
+use Rattle.spec_model.specs.declared.parts.SizeLimits.{SizeLimits}
 use Rattle.spec_model.specs.Model.{Model, Name}
-use Rattle.spec_model.specs.Kept.{is_model_name}
+use Rattle.spec_model.specs.Kept.{is_model_name, usual_limits}
 use Rattle.spec_mps.specs.declared.card.Card.{Card}
 use Rattle.spec_mps.specs.declared.card.Card.TheVariants as card
 use Rattle.spec_mps.specs.declared.fault.Code.{Code}
@@ -132,23 +133,23 @@ section_card s fields = do
   begin s part (text_at 2 fields)
 
 -- none stands before ROWS but under OBJSENSE
-abbrev pub data_card : Style → Option Section → State → Fields → Check State
-data_card style (Some section.Sense) s fields = sense_card style s fields
-data_card style (Some section.Rows) s fields = rows_card style s fields
-data_card style (Some section.Columns) s fields = columns_card style s fields
-data_card style (Some section.RightSides) s fields = rhs_card style s fields
-data_card style (Some section.Ranges) s fields = ranges_card style s fields
-data_card style (Some section.Bounds) s fields = bounds_card style s fields
-data_card style part s fields = Err code.CardShape
+abbrev pub data_card : SizeLimits → Style → Option Section → State → Fields → Check State
+data_card limits style (Some section.Sense) s fields = sense_card style s fields
+data_card limits style (Some section.Rows) s fields = rows_card limits style s fields
+data_card limits style (Some section.Columns) s fields = columns_card limits style s fields
+data_card limits style (Some section.RightSides) s fields = rhs_card style s fields
+data_card limits style (Some section.Ranges) s fields = ranges_card style s fields
+data_card limits style (Some section.Bounds) s fields = bounds_card style s fields
+data_card limits style part s fields = Err code.CardShape
 
-abbrev pub on_card : Style → State → Card Fields → Outcome
-on_card style s card.Skip = Ok (More s)
-on_card style s (card.Section fields) = section_card s fields
-on_card style s (card.Given fields) = more (data_card style s.part s fields)
+abbrev pub on_card : SizeLimits → Style → State → Card Fields → Outcome
+on_card limits style s card.Skip = Ok (More s)
+on_card limits style s (card.Section fields) = section_card s fields
+on_card limits style s (card.Given fields) = more (data_card limits style s.part s fields)
 
-abbrev pub on_reading : Style → State → CardReading → Outcome
-on_reading style s (Is c) = on_card style s c
-on_reading style s (Misplaced column) = Err code.CardShape
+abbrev pub on_reading : SizeLimits → Style → State → CardReading → Outcome
+on_reading limits style s (Is c) = on_card limits style s c
+on_reading limits style s (Misplaced column) = Err code.CardShape
 
 -- under OBJSENSE a card is read by its words in both forms
 abbrev pub reading_of : Style → Option Section → List ℕ → CardReading
@@ -156,11 +157,11 @@ reading_of Free part bytes = free_fields bytes
 reading_of Fixed (Some section.Sense) bytes = free_fields bytes
 reading_of Fixed part bytes = fixed_fields bytes
 
-unfoldable pub step : Style → State → Line (List ℕ) → Outcome
-step style s (Text bytes) = on_reading style s (reading_of style s.part bytes)
-step style s (Long len) = Err code.Limit
-step style s End = Err code.Cut
-step style s Over = Err code.Cut
+unfoldable pub step : SizeLimits → Style → State → Line (List ℕ) → Outcome
+step limits style s (Text bytes) = on_reading limits style s (reading_of style s.part bytes)
+step limits style s (Long len) = Err code.Limit
+step limits style s End = Err code.Cut
+step limits style s Over = Err code.Cut
 
 -- ---- a whole text
 
@@ -175,23 +176,33 @@ settled n next (Ok (Done m)) = Spelled m
 settled n next (Err code) = Refused n code
 
 -- The first of the lines is line n. Where they end too early, the line that would come next is wrong.
-abbrev pub judge : Style → State → ℕ → List (Line (List ℕ)) → Verdict
-judge style s n [] = Refused n code.Cut
-judge style s n (line ∷ lines) = settled n (λ t. judge style t (n + 1) lines) (step style s line)
+abbrev pub judge : SizeLimits → Style → State → ℕ → List (Line (List ℕ)) → Verdict
+judge limits style s n [] = Refused n code.Cut
+judge limits style s n (line ∷ lines) = settled n (λ t. judge limits style t (n + 1) lines) (step limits style s line)
 
--- the lines up to ENDATA spell this model
-abbrev pub Spells : Style → List (Line (List ℕ)) → Model → Type 0
-Spells style lines m = judge style start 1 lines ≡ Spelled m
+-- the lines up to ENDATA spell this model, which is within these limits
+abbrev pub SpellsWithin : SizeLimits → Style → List (Line (List ℕ)) → Model → Type 0
+SpellsWithin limits style lines m = judge limits style start 1 lines ≡ Spelled m
 
 -- line n is the first that is wrong, with this fault
+abbrev pub RefusesWithin : SizeLimits → Style → List (Line (List ℕ)) → ℕ → Code → Type 0
+RefusesWithin limits style lines n fault = judge limits style start 1 lines ≡ Refused n fault
+
+-- the same within the usual limits
+abbrev pub Spells : Style → List (Line (List ℕ)) → Model → Type 0
+Spells = SpellsWithin usual_limits
+
 abbrev pub Refuses : Style → List (Line (List ℕ)) → ℕ → Code → Type 0
-Refuses style lines n fault = judge style start 1 lines ≡ Refused n fault
+Refuses = RefusesWithin usual_limits
 
 -- exactly one of the two, with one model, or one line and one fault
-pub record IsJudged (style : Style) (lines : List (Line (List ℕ))) : Type 0 where
-  pub some : ((m : Model) × Spells style lines m) ⊎ ((n : ℕ) × (fault : Code) × Refuses style lines n fault)
-  pub one_model : (m o : Model) → Spells style lines m → Spells style lines o → m ≡ o
-  pub not_both : (m : Model) (n : ℕ) (fault : Code) → Spells style lines m → ¬ (Refuses style lines n fault)
-  pub one_line : (n k : ℕ) (fault other : Code) → Refuses style lines n fault → Refuses style lines k other → n ≡ k
-  pub one_fault : (n k : ℕ) (fault other : Code) → Refuses style lines n fault → Refuses style lines k other →
-      fault ≡ other
+pub record IsJudged (limits : SizeLimits) (style : Style) (lines : List (Line (List ℕ))) : Type 0 where
+  pub some : ((m : Model) × SpellsWithin limits style lines m)
+      ⊎ ((n : ℕ) × (fault : Code) × RefusesWithin limits style lines n fault)
+  pub one_model : (m o : Model) → SpellsWithin limits style lines m → SpellsWithin limits style lines o → m ≡ o
+  pub not_both : (m : Model) (n : ℕ) (fault : Code) → SpellsWithin limits style lines m →
+      ¬ (RefusesWithin limits style lines n fault)
+  pub one_line : (n k : ℕ) (fault other : Code) → RefusesWithin limits style lines n fault →
+      RefusesWithin limits style lines k other → n ≡ k
+  pub one_fault : (n k : ℕ) (fault other : Code) → RefusesWithin limits style lines n fault →
+      RefusesWithin limits style lines k other → fault ≡ other

@@ -16,7 +16,8 @@
 //! | `rhs_card`, `ranges_card` | what a card of RHS and of RANGES does | specs/Sides |
 //! | `bounds_card` | what a card of BOUNDS does | specs/Bounds |
 //! | `cards_of`, `free`, `fixed`, `too_wide` | the cards and the text that a model is written as | specs/Written |
-//! | `step`, `Spells`, `Refuses` | the step of a line, and what a whole text is | specs/Steps |
+//! | `step`, `SpellsWithin`, `RefusesWithin` | the step of a line, and what a whole text is, within limits of size | specs/Steps |
+//! | `Spells`, `Refuses` | what a whole text is within the usual limits | specs/Steps |
 //! | `is_skipped` | the lines that count for nothing | specs/Cards |
 //! | `wide_of`, `wide_text` | numbers of any width as text, both ways, with their laws | src/wide, specs/WideText |
 //!
@@ -38,15 +39,16 @@ ghost use Rattle.spec_text.specs.Lines.{lines_of};
 ghost use Rattle.spec_text.specs.declared.line.Line.{Line};
 ghost use Rattle.spec_exact.specs.Fraction.{ℚ, abs_ℚ, ◌<ℚ◌};
 ghost use Rattle.spec_exact.specs.Narrow.{number_limit};
+ghost use Rattle.spec_model.specs.declared.parts.SizeLimits.{SizeLimits};
 ghost use Rattle.spec_model.specs.Model.{Model};
-ghost use Rattle.spec_model.specs.Kept.{IsModel};
+ghost use Rattle.spec_model.specs.Kept.{AreAtMost, IsModelWithin, IsUsualModel};
 ghost use Rattle.spec_mps.specs.declared.style.Style.{Style};
 ghost use Rattle.spec_mps.specs.declared.style.Style.TheVariants as form;
 ghost use Rattle.spec_mps.specs.NumberText.{Is, number_of};
 ghost use Rattle.spec_mps.specs.BoundText.{Finite, bound_of, infinite};
 ghost use Rattle.spec_mps.specs.NumberWritten.{IsWord, number_text};
 ghost use Rattle.spec_mps.specs.Written.{free, fixed, too_wide};
-ghost use Rattle.spec_mps.specs.Steps.{IsJudged, Spells};
+ghost use Rattle.spec_mps.specs.Steps.{IsJudged, Spells, SpellsWithin};
 
 pub use bound_kind::BoundKind;
 pub use card::Card;
@@ -60,14 +62,21 @@ pub use wide::{
     written_wide_numbers_are_read,
 };
 
-/// Each text spells one model, or one line refuses it with one fault.
+/// Each text spells one model, or one line refuses it with one fault, whatever the limits of size are.
 pub fn texts_are_judged()
-    ensures { (style : Style) (lines : List (Line (List ℕ))) → IsJudged style lines }
+    ensures { (limits : SizeLimits) (style : Style) (lines : List (Line (List ℕ))) → IsJudged limits style lines }
 {}
 
-/// What a text spells is a model that may be kept.
+/// What a text spells is a model that may be kept, within the limits that it was read with.
 pub fn spelled_texts_are_kept()
-    ensures { (style : Style) (lines : List (Line (List ℕ))) (m : Model) → Spells style lines m → IsModel m }
+    ensures { (limits : SizeLimits) (style : Style) (lines : List (Line (List ℕ))) (m : Model) →
+        SpellsWithin limits style lines m → IsModelWithin limits m }
+{}
+
+/// A text that spells a model spells it within greater limits too.
+pub fn greater_limits_read_the_same()
+    ensures { (few many : SizeLimits) (style : Style) (lines : List (Line (List ℕ))) (m : Model) →
+        AreAtMost few many → SpellsWithin few style lines m → SpellsWithin many style lines m }
 {}
 
 /// The text of a fraction within the width is read as that fraction.
@@ -82,8 +91,8 @@ pub fn written_numbers_are_words()
 
 /// The text that a model is written as spells that model and no other, in both forms.
 pub fn written_texts_spell_their_models()
-    ensures free { (m n : Model) → IsModel m → (Spells form.Free (lines_of (free m)) n ↔ (n ≡ m)) }
-    ensures fixed { (m n : Model) → IsModel m → too_wide m ≡ None →
+    ensures free { (m n : Model) → IsUsualModel m → (Spells form.Free (lines_of (free m)) n ↔ (n ≡ m)) }
+    ensures fixed { (m n : Model) → IsUsualModel m → too_wide m ≡ None →
         (Spells form.Fixed (lines_of (fixed m)) n ↔ (n ≡ m)) }
 {}
 

@@ -6,4 +6,4 @@ pub returns-clause-objective : goal.returns-clause-objective
 returns-clause-objective c = objective_said
 
 pub returns-clause-rows : goal.returns-clause-rows
-returns-clause-rows c = λ style lines m h. sym (rows_said style lines m h)
+returns-clause-rows c = λ limits style lines m h. sym (rows_said limits style lines m h)

@@ -22,11 +22,11 @@ one_fault : (v : Verdict) (n k : ℕ) (fault other : Code) → v ≡ Refused n f
 one_fault v n k fault other e f = cc
 
 pub returns : goal.returns
-returns c = λ style lines.
+returns c = λ limits style lines.
     record {
-      some = some_verdict (judge style start 1 lines);
-      one_model = one_model (judge style start 1 lines);
-      not_both = not_both (judge style start 1 lines);
-      one_line = one_line (judge style start 1 lines);
-      one_fault = one_fault (judge style start 1 lines);
+      some = some_verdict (judge limits style start 1 lines);
+      one_model = one_model (judge limits style start 1 lines);
+      not_both = not_both (judge limits style start 1 lines);
+      one_line = one_line (judge limits style start 1 lines);
+      one_fault = one_fault (judge limits style start 1 lines);
     }
