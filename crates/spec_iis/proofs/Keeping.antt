@@ -9,8 +9,9 @@ use Rattle.spec_exact.specs.Narrow.{IsNarrow}
 use Rattle.spec_exact.specs.Run.{made}
 use Rattle.spec_exact.proofs.Stops.{length-made, get_or-made}
 use Rattle.spec_exact.proofs.Narrow.{zero_narrow}
+use Rattle.spec_model.specs.declared.parts.SizeLimits.{SizeLimits}
 use Rattle.spec_model.specs.Model.{Model, Name, ExactRow, ExactColumn, no_row, no_column, width, height, row, column, limits_of}
-use Rattle.spec_model.specs.Kept.{IsModel, IsKeptColumn, IsNarrowRow, IsNarrowColumn, IsBound, FitsKind}
+use Rattle.spec_model.specs.Kept.{IsModelWithin, IsWithin, IsKeptColumn, IsNarrowRow, IsNarrowColumn, IsBound, FitsKind}
 use Rattle.spec_model.specs.Kept.{is_row_name, row_names, column_names}
 use Rattle.spec_iis.specs.declared.side.Side.{Side}
 use Rattle.spec_iis.specs.Only.{has_lower, has_upper, stays, with_sides, only_row, picked, rank, only_row_at}
@@ -56,7 +57,22 @@ name_at : {X : Type 0} (f : X → Name) (xs : List X) (i : ℕ) (d : X) (e : Nam
     get_or (map f xs) i e ≡ f (get_or xs i d)
 name_at f xs i d e l = get_or-map f xs i d e l
 
-module _ (m : Model) (sides : List Side) (k : IsModel m) where
+pub only_within : {limits : SizeLimits} (m : Model) (sides : List Side) → IsWithin limits m →
+    IsWithin limits (only m sides)
+unfolding only
+only_within m sides k =
+    record {
+      few_rows =
+          omega (
+            arith,
+            length-picked (stays sides) (only_row_at m sides) (height m),
+            rank_few (stays sides) (height m),
+            k.few_rows,
+          );
+      few_columns = omega (arith, length-made (width m) (only_column_at m sides), k.few_columns);
+    }
+
+module _ {limits : SizeLimits} (m : Model) (sides : List Side) (k : IsModelWithin limits m) where
   row_names-only : row_names (only m sides) ≡ picked (stays sides) (λ i. (only_row_at m sides i).name) (height m)
   unfolding only
   row_names-only = map-picked (stays sides) (λ (r : ExactRow). r.name) (only_row_at m sides) (height m)
@@ -133,17 +149,10 @@ module _ (m : Model) (sides : List Side) (k : IsModel m) where
         entries = only_entries-narrow (stays sides) (column m j).entries c.entries;
       }
 
-  pub only_kept : All IsNarrowRow (only m sides).rows → IsModel (only m sides)
+  pub only_kept : All IsNarrowRow (only m sides).rows → IsModelWithin limits (only m sides)
   unfolding only
   only_kept narrow = record {
-    few_rows =
-        omega (
-          arith,
-          length-picked (stays sides) (only_row_at m sides) (height m),
-          rank_few (stays sides) (height m),
-          k.few_rows,
-        );
-    few_columns = omega (arith, few, k.few_columns);
+    few = only_within m sides k.few;
     name = k.name;
     objective = k.objective;
     rows = All-picked (stays sides) (only_row_at m sides) (λ (r : ExactRow). IsTrue (is_row_name r.name)) (height m)

@@ -25,7 +25,7 @@ mod side;
 ghost use Rattle.std.specs.Prelude.{◌≡◌, ◌↔◌, ◌++◌, ◌∷◌, [], ℕ, List, All, Option, Ok, false};
 ghost use Rattle.spec_exact.specs.Fraction.{ℚ};
 ghost use Rattle.spec_model.specs.Model.{Model};
-ghost use Rattle.spec_model.specs.Kept.{IsModel, IsNarrowRow};
+ghost use Rattle.spec_model.specs.Kept.{IsUsualModel, IsNarrowRow};
 ghost use Rattle.spec_model.specs.Truth.{IsFeasible, IsInfeasible};
 ghost use Rattle.spec_check.specs.declared.certificate.Certificate.{Certificate};
 ghost use Rattle.spec_check.specs.declared.certificate.Known.TheVariants as known;
@@ -78,10 +78,10 @@ pub fn sides_beside_a_clash_are_not_needed()
         IsClash m (kept ++ x ∷ rest) few → is_listed few x ≡ false → IsClash m (kept ++ rest) few }
 {}
 
-/// Some sides alone of a model that may be kept make one that may be kept, if the limits in it are narrow.
+/// Some sides alone of a usual model that may be kept make one that may be kept, if the limits in it are narrow.
 pub fn sides_alone_may_be_kept()
     ensures { (m : Model) (sides : List Side) →
-        IsModel m → All IsNarrowRow (only m sides).rows → IsModel (only m sides) }
+        IsUsualModel m → All IsNarrowRow (only m sides).rows → IsUsualModel (only m sides) }
 {}
 
 /// On the way of the rule: it begins with sides that are infeasible together; a side is left out where the others are,

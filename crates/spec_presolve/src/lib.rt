@@ -25,7 +25,7 @@ ghost use Rattle.std.specs.List.{filter};
 ghost use Rattle.spec_exact.specs.Fraction.{ℚ, 0ℚ};
 ghost use Rattle.spec_model.specs.Model.{Model, width, height, row, part, is_free};
 ghost use Rattle.spec_exact.specs.Narrow.{number_limit};
-ghost use Rattle.spec_model.specs.Kept.{IsModel};
+ghost use Rattle.spec_model.specs.Kept.{IsUsualModel};
 ghost use Rattle.spec_model.specs.Truth.{IsOptimal, IsInfeasible, IsUnbounded};
 ghost use Rattle.spec_check.specs.declared.certificate.Certificate.{Certificate};
 ghost use Rattle.spec_check.specs.declared.certificate.Known.{Known};
@@ -103,10 +103,10 @@ pub fn reductions_end()
         length r.steps + (width r.last + height r.last) ≡ width m + height m }
 {}
 
-/// At the limit of 127 bits each reduction of a model that may be kept leads to one that may be kept.
+/// At the limit of 127 bits each reduction of a usual model that may be kept leads to one that may be kept.
 pub fn reduced_models_may_be_kept()
-    ensures { (m : Model) (r : Reductions) → IsModel m → reduced (Some number_limit) m ≡ Ok r →
-        All (λ s. IsModel s.1) r.steps × IsModel r.last }
+    ensures { (m : Model) (r : Reductions) → IsUsualModel m → reduced (Some number_limit) m ≡ Ok r →
+        All (λ s. IsUsualModel s.1) r.steps × IsUsualModel r.last }
 {}
 
 /// What is known by a smaller model is true of the model itself.

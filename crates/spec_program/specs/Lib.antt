@@ -1,3 +1,4 @@
 pub mod CommandLine
 pub mod Spelled
 pub mod Fits
+pub mod TextLimits

@@ -6,6 +6,7 @@
 //! | `command_line_of` | what the words of one ask, by the table of commands | specs/CommandLine |
 //! | `spelled`, `told` | a command line with the names themselves, by that with names behind references | specs/Spelled |
 //! | `Fits` | the numbers that a command line may have | specs/Fits |
+//! | `limits_of` | how many rows and columns the model of a text may have, by the command | specs/TextLimits |
 //! | `address_of` | where a server listens, and for how many workers | specs/CommandLine |
 #![tactic(auto)]
 

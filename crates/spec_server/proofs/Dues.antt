@@ -4,7 +4,8 @@ use Rattle.std.specs.Prelude.{IfSome}
 use Rattle.spec_exact.specs.Fraction.{ℚ}
 use Rattle.spec_exact.specs.Narrow.{number_limit}
 use Rattle.spec_model.specs.Model.{Model, Name}
-use Rattle.spec_model.specs.Kept.{IsModel}
+use Rattle.spec_model.specs.Kept.{IsUsualModel}
+use Rattle.spec_model.proofs.Kept.{usual_from_within, within_from_usual}
 use Rattle.spec_mps.specs.declared.style.Style.{Style}
 use Rattle.spec_mps.specs.declared.style.Style.TheVariants as style
 use Rattle.spec_mps.specs.Written.{too_wide}
@@ -95,8 +96,8 @@ due_next places state (Solves m) =
 -- a model that is held, and is to be solved, may be kept
 abbrev IsKeptDue : State → Due → Type 0
 IsKeptDue state (Replies replied next) = Unit {0}
-IsKeptDue state (Solves m) = (state.model ≡ Some m) × IsModel m
-IsKeptDue state (SolvesWide m) = IsModel m
+IsKeptDue state (Solves m) = (state.model ≡ Some m) × IsUsualModel m
+IsKeptDue state (SolvesWide m) = IsUsualModel m
 
 module _ (places : ℕ) (state : State) where
   -- after the look
@@ -117,7 +118,7 @@ module _ (places : ℕ) (state : State) where
 
   solve_goes_on : (m : Model) (r : Result Form (FormFault ℚ)) → form_of (Some number_limit) m ≡ r →
       state.model ≡ Some m →
-      IsModel m →
+      IsUsualModel m →
       GoesOn places state (solve_begun state m r) (solve_reads places (part_end state.budget m r) r)
       (answered state (part_end state.budget m r))
       (with_answer state (part_end state.budget m r) how.Cold (solve_ends places (part_end state.budget m r) r))
@@ -134,7 +135,7 @@ module _ (places : ℕ) (state : State) where
       solved = record { end = part_end state.budget m (Ok f); route = route.Cold };
       held = held;
       formed = is;
-      is_solved = part_is_solved m state.budget f is kept;
+      is_solved = part_is_solved m state.budget f is kept.0;
       goes_on = refl;
     });
     concludes = concludes (part_end state.budget m (Ok f)) (words_of_end f (part_end state.budget m (Ok f)));
@@ -147,7 +148,7 @@ module _ (places : ℕ) (state : State) where
     end = exact_end state.budget m;
     is_end = solved_exactly m state.budget None
         (record { end = cold_over (Some number_limit) state.budget m; route = route.Cold })
-        (stated_is_solved m state.budget h);
+        (stated_is_solved m state.budget h.0);
     answers = refl;
   }
 
@@ -159,14 +160,15 @@ module _ (places : ℕ) (state : State) where
   does (SolvesWide m) h = (refl, refl, refl)
 
 abbrev pub IsKeptState : State → Type 0
-IsKeptState state = IfSome state.model IsModel
+IsKeptState state = IfSome state.model IsUsualModel
 
 module _ (state : State) where
-  solve_kept : (held : Option Model) → state.model ≡ held → IfSome held IsModel → IsKeptDue state (solve_due state held)
+  solve_kept : (held : Option Model) → state.model ≡ held → IfSome held IsUsualModel →
+      IsKeptDue state (solve_due state held)
   solve_kept None e h = tt
   solve_kept (Some m) e h = (e, h)
 
-  wide_kept : (held : Option Model) → IfSome held IsModel → IsKeptDue state (wide_due state held)
+  wide_kept : (held : Option Model) → IfSome held IsUsualModel → IsKeptDue state (wide_due state held)
   wide_kept None h = tt
   wide_kept (Some m) h = h
 
@@ -211,15 +213,16 @@ module _ (places : ℕ) (state : State) (h : IsKeptState state) where
   after_wide None = h
   after_wide (Some m) = h
 
-  after_edit : (r : OrFault Model) → ((m : Model) → r ≡ Ok m → IsModel m) →
+  after_edit : (r : OrFault Model) → ((m : Model) → r ≡ Ok m → IsUsualModel m) →
       IsKeptState (due_next places state (edit_due state r))
   after_edit (Ok m) go = go m refl
   after_edit (Err why) go = h
 
-  after_change : (held : Option Model) (e : ExactEdit) → IfSome held IsModel → IsKeptEdit e →
+  after_change : (held : Option Model) (e : ExactEdit) → IfSome held IsUsualModel → IsKeptEdit e →
       IsKeptState (due_next places state (change_due state held e))
   after_change None e kept may = h
-  after_change (Some m) e kept may = after_edit (edited m e) (λ n is. edited-kept m n e kept may is)
+  after_change (Some m) e kept may = after_edit (edited m e)
+      (λ n is. usual_from_within n (edited-kept m n e (within_from_usual m kept) may is))
 
   pub after_kept : (asked : ExactAsk) → IsKeptAsk asked → IsKeptState (state_after places state asked)
   after_kept (ask.Plain command.Solve) k = after_solve state.model

@@ -5,6 +5,8 @@ use Rattle.std.specs.Prelude.{nat_le}
 use Rattle.std.proofs.lemmas.List.Elements.{All-nil, All-cons, All-append}
 use Rattle.spec_text.specs.declared.line.Line.{Line}
 use Rattle.spec_text.specs.Lines.{lines_of, ended_lines_of, input_limit}
+use Rattle.spec_model.specs.Kept.{usual_limits}
+use Rattle.spec_model.proofs.Kept.{usual_from_within}
 use Rattle.spec_mps.specs.declared.style.Style.{Style}
 use Rattle.spec_mps.specs.Reader.{start}
 use Rattle.spec_mps.specs.Steps.{Verdict, Spelled, Refused, judge}
@@ -32,9 +34,10 @@ none_kept = All-nil (λ (a : Asked ExactAsk). IsKeptAsk a.ask)
 one_kept : (a : Asked ExactAsk) → IsKeptAsk a.ask → AreKept (a ∷ [])
 one_kept a h = All-cons (λ (a : Asked ExactAsk). IsKeptAsk a.ask) a [] h none_kept
 
-verdict_kept : (style : Style) (lines : List (Line (List ℕ))) (v : Verdict) → judge style start 1 lines ≡ v →
+verdict_kept : (style : Style) (lines : List (Line (List ℕ))) (v : Verdict) →
+    judge usual_limits style start 1 lines ≡ v →
     IsKeptAsk (ask_of_verdict v)
-verdict_kept style lines (Spelled m) e = spelled_kept style lines m e
+verdict_kept style lines (Spelled m) e = usual_from_within m (spelled_kept usual_limits style lines m e)
 verdict_kept style lines (Refused n fault) e = tt
 
 judgement_kept : (j : certificate.Judgement) → IsKeptAsk (ask_of_judgement j)
@@ -59,7 +62,8 @@ if_kept false session asked h = none_kept
 line_kept : (addressing : Addressing) (p : Pending) (next : Line (List ℕ)) → AreKept (asks_of_line addressing p next)
 line_kept addressing Between next = asks_kept (addressed_in addressing next) (line_is_kept addressing next)
 line_kept addressing (Text session form body) next =
-    if_kept (ends_text next) session _ (verdict_kept form (body ++ next ∷ []) (judge form start 1 (body ++ next ∷ []))
+    if_kept (ends_text next) session _ (verdict_kept form (body ++ next ∷ []) (judge usual_limits form start 1
+    (body ++ next ∷ []))
     refl)
 line_kept addressing (Certificate session body) next =
     if_kept (ends_certificate next) session _ (judgement_kept (certificate.judge None 1 (body ++ next ∷ [])))

@@ -3,7 +3,7 @@ use Rattle.std.specs.Prelude.{ℕ, Bool, true, false, Option, Some, None, Ok, Er
 use Rattle.spec_exact.specs.Fraction.{ℚ}
 use Rattle.spec_exact.specs.Narrow.{number_limit}
 use Rattle.spec_model.specs.Model.{Model, Name}
-use Rattle.spec_model.specs.Kept.{IsModel}
+use Rattle.spec_model.specs.Kept.{IsUsualModel}
 use Rattle.spec_check.specs.declared.certificate.Certificate.{Certificate}
 use Rattle.spec_check.specs.declared.certificate.SettleFault.{SettleFault}
 use Rattle.spec_check.specs.declared.certificate.SettleFault.TheVariants as settle
@@ -49,7 +49,7 @@ IsKeptPlain (command.Change e) = edits.IsKeptEdit e
 IsKeptPlain asked = Unit {0}
 
 abbrev pub IsKeptAsk : ExactAsk → Type 0
-IsKeptAsk (ask.Loaded m) = IsModel m
+IsKeptAsk (ask.Loaded m) = IsUsualModel m
 IsKeptAsk (ask.Plain asked) = IsKeptPlain asked
 IsKeptAsk asked = Unit {0}
 

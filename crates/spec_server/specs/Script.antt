@@ -9,6 +9,7 @@ use Rattle.spec_edit.specs.Edited.{ExactEdit}
 use Rattle.spec_mps.specs.Cards.{begins_with_blank}
 use Rattle.spec_mps.specs.declared.style.Style.{Style}
 use Rattle.spec_mps.specs.Reader.{start}
+use Rattle.spec_model.specs.Kept.{usual_limits}
 use Rattle.spec_mps.specs.Steps.{Verdict, Spelled, Refused, judge}
 use Rattle.spec_certificate.specs.NarrowText.{is_end}
 use Rattle.spec_certificate.specs.NarrowText as certificate
@@ -91,7 +92,7 @@ abbrev pub asks_of_line : Addressing → Pending → Line (List ℕ) → List (A
 asks_of_line addressing Between next = asks_by (addressed_in addressing next)
 asks_of_line addressing (Text session form body) next =
     if ends_text next
-    then record { session = session; ask = ask_of_verdict (judge form start 1 (body ++ next ∷ [])) } ∷ []
+    then record { session = session; ask = ask_of_verdict (judge usual_limits form start 1 (body ++ next ∷ [])) } ∷ []
     else []
 asks_of_line addressing (Certificate session body) next =
     if ends_certificate next

@@ -1,7 +1,9 @@
 -- What is said of the lines of a text: the model that it spells, or what is wrong with it.
 use Rattle.std.specs.Prelude.{ℕ, ◌+◌, Option, Result, Ok, Err, List}
 use Rattle.spec_text.specs.declared.line.Line.{Line}
+use Rattle.spec_model.specs.declared.parts.SizeLimits.{SizeLimits}
 use Rattle.spec_model.specs.Model.{Model}
+use Rattle.spec_model.specs.Kept.{usual_limits}
 use Rattle.spec_mps.specs.declared.fault.MpsFault.{MpsFault}
 use Rattle.spec_mps.specs.declared.style.Style.{Style}
 use Rattle.spec_mps.specs.Reader.{State, start}
@@ -23,9 +25,13 @@ behind_line n (Ok (text.More s)) = On (record { state = s; lines = n })
 behind_line n (Ok (text.Done m)) = Says (Ok m)
 behind_line n (Err code) = Says (Err (record { line = n; code = code }))
 
-unfoldable pub text_step : Style → TextStage → Line (List ℕ) → Step TextStage TextSaid
-text_step style stage line = behind_line (stage.lines + 1) (text.step style stage.state line)
+unfoldable pub text_step : SizeLimits → Style → TextStage → Line (List ℕ) → Step TextStage TextSaid
+text_step limits style stage line = behind_line (stage.lines + 1) (text.step limits style stage.state line)
 
--- what lines say; nothing where more are needed
+-- what lines say where the model is within these limits; nothing where more are needed
+abbrev pub text_said_within : SizeLimits → Style → List (Line (List ℕ)) → Option TextSaid
+text_said_within limits style lines = said_by (text_step limits style) (record { state = start; lines = 0 }) lines
+
+-- the same within the usual limits
 abbrev pub text_said : Style → List (Line (List ℕ)) → Option TextSaid
-text_said style lines = said_by (text_step style) (record { state = start; lines = 0 }) lines
+text_said = text_said_within usual_limits

@@ -34,7 +34,7 @@ ghost use Rattle.spec_text.specs.declared.line.Line.{Line};
 ghost use Rattle.spec_exact.specs.Fraction.{ℚ};
 ghost use Rattle.spec_exact.specs.Narrow.{number_limit};
 ghost use Rattle.spec_model.specs.Model.{Model};
-ghost use Rattle.spec_model.specs.Kept.{IsModel};
+ghost use Rattle.spec_model.specs.Kept.{IsModel, IsUsualModel};
 ghost use Rattle.spec_check.specs.declared.certificate.Certificate.{Certificate};
 ghost use Rattle.spec_check.specs.declared.certificate.Known.{Known};
 ghost use Rattle.spec_check.specs.declared.certificate.Verdict.TheVariants as verdict;
@@ -101,12 +101,12 @@ pub fn last_answers_fit()
         AloneStep places old asked reads replied new → LastFits old.model old.last → LastFits new.model new.last }
 {}
 
-/// A session whose asks have models and edits that may be kept holds no model but one that may be kept.
+/// A session whose asks have usual models and edits that may be kept holds no model but a usual one that may be kept.
 pub fn sessions_keep_models()
-    ensures opening { IfSome opening.model IsModel }
+    ensures opening { IfSome opening.model IsUsualModel }
     ensures steps { (places : ℕ) (old new : State) (asked : ExactAsk) (reads : List ExactRead) (replied : ExactReply) →
-        AloneStep places old asked reads replied new → IsKeptAsk asked → IfSome old.model IsModel →
-        IfSome new.model IsModel }
+        AloneStep places old asked reads replied new → IsKeptAsk asked → IfSome old.model IsUsualModel →
+        IfSome new.model IsUsualModel }
 {}
 
 /// The certificate of an answer is accepted if its lines are given to a session that holds the model.

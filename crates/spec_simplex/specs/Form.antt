@@ -9,9 +9,10 @@ use Rattle.std.specs.declared.cmp.Ordering.{Ordering}
 use Rattle.std.specs.declared.cmp.Ordering.TheVariants.{Less, Equal, Greater}
 use Rattle.spec_exact.specs.Fraction.{ℚ, 0ℚ, neg_ℚ}
 use Rattle.spec_model.specs.declared.parts.Sense.{Sense}
+use Rattle.spec_model.specs.declared.parts.SizeLimits.{SizeLimits}
 use Rattle.spec_model.specs.declared.parts.Sense.TheVariants.{Min, Max}
 use Rattle.spec_model.specs.Model.{Model, ExactRow, width, height, row, column, entry_of, lower_run, upper_run}
-use Rattle.spec_model.specs.Kept.{AreEntries, row_limit, column_limit}
+use Rattle.spec_model.specs.Kept.{AreEntries, usual_limits}
 use Rattle.spec_simplex.specs.declared.ends.FormFault.{FormFault}
 use Rattle.spec_simplex.specs.declared.ends.FormFault.TheVariants as fault
 use Rattle.spec_exact.specs.Run.{Run, ◌>>=◌, refused_as, order_run, steps, list_run}
@@ -24,14 +25,19 @@ pub record Form : Type 0 where
   pub upper : List (Option ℚ)
   pub cost : List ℚ
 
-pub record IsForm (f : Form) : Type 0 where
-  pub few_rows : f.rows ≤ row_limit
-  pub few_columns : f.cols ≤ column_limit
+-- a form within limits of size
+pub record IsFormWithin (limits : SizeLimits) (f : Form) : Type 0 where
+  pub few_rows : f.rows ≤ limits.rows
+  pub few_columns : f.cols ≤ limits.columns
   pub all_entries : length f.entries ≡ f.cols
   pub all_lower : length f.lower ≡ f.cols + f.rows
   pub all_upper : length f.upper ≡ f.cols + f.rows
   pub all_costs : length f.cost ≡ f.cols + f.rows
   pub columns : All (AreEntries f.rows) f.entries
+
+-- a form of which tableaus are made
+abbrev pub IsForm : Form → Type 0
+IsForm f = IsFormWithin usual_limits f
 
 -- a_ij, the coefficient of column j in row i
 abbrev pub form_entry : Form → ℕ → ℕ → ℚ

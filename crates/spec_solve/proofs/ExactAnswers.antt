@@ -4,6 +4,7 @@ use Rattle.std.proofs.Common.{IfSome, arith}
 use Rattle.spec_exact.specs.Fraction.{ℚ}
 use Rattle.spec_exact.specs.Narrow.{number_limit, IsNarrow}
 use Rattle.spec_model.specs.Model.{Model, value_of}
+use Rattle.spec_model.specs.Kept.{IsUsual}
 use Rattle.spec_model.specs.Truth.{IsOptimal}
 use Rattle.spec_check.specs.declared.certificate.Certificate.{Certificate}
 use Rattle.spec_check.specs.declared.certificate.Certificate.TheVariants.{Optimal, Infeasible, Clash, Unbounded}
@@ -103,23 +104,24 @@ solved_exactly m budget starting solved is = by solved.end refl
     by (Ended known cert basis pivots) e =
         let may : MayAnswer m budget (Ended known cert basis pivots) = subst (MayAnswer m budget) e is.may_answer in
         (narrow_shown m known cert may.0 may.1 may.2, tt)
-    by (Past p) e = (solved, is, subst GivesUp (sym e) tt)
-    by Spent e = (solved, is, subst GivesUp (sym e) tt)
+    by (Past p) e = λ _. (solved, is, subst GivesUp (sym e) tt)
+    by Spent e = λ _. (solved, is, subst GivesUp (sym e) tt)
 
 module _ (m : Model) (budget : ℕ) (starting : Option (List Status)) (known : Known ℚ) (cert : Certificate (List ℚ))
     (basis : Option (List Status)) (pivots : ℕ) where
   not_given_up : (end : ExactSolveEnd) → EndsSo m budget known cert basis pivots end → ¬ (GivesUp end)
   not_given_up end (c, b, n, is) up = subst GivesUp is up
 
-  -- where the cold solve finds something, a solve may not give up
-  pub found_exactly : (end : RationalEnd) → cold (Some number_limit) budget m ≡ Ended known cert basis pivots →
+  -- where the cold solve finds something of a usual model, a solve may not give up
+  pub found_exactly : (end : RationalEnd) → IsUsual m → cold (Some number_limit) budget m ≡ Ended known cert basis pivots →
       IsExactEnd m budget starting end → (a : RationalAnswer) × (end ≡ Answered a) × (a.known ≡ known)
-  found_exactly (Answered a) found h = (
+  found_exactly (Answered a) usual found h = (
     a,
     refl,
     one_truth m a.known known (answer_true m a h)
         (ended_is_true (Some number_limit) budget m known cert basis pivots found).0,
   )
-  found_exactly Open found h =
-      let may = h.1.may_answer in
-      absurd (not_given_up h.0.end (cold_found m budget known cert basis pivots h.0.end found may) h.2)
+  found_exactly Open usual found h =
+      let gave = h usual in
+      let may = gave.1.may_answer in
+      absurd (not_given_up gave.0.end (cold_found m budget known cert basis pivots gave.0.end found may) gave.2)

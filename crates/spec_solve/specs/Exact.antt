@@ -3,6 +3,7 @@ use Rattle.std.specs.Prelude.{◌≡◌, ◌+◌, ◌^◌, ◌<◌, ◌≤◌, �
 use Rattle.spec_exact.specs.Fraction.{ℚ}
 use Rattle.spec_exact.specs.Narrow.{number_limit}
 use Rattle.spec_model.specs.Model.{Model}
+use Rattle.spec_model.specs.Kept.{IsUsual}
 use Rattle.spec_check.specs.declared.certificate.Certificate.{Certificate}
 use Rattle.spec_check.specs.declared.certificate.Certificate.TheVariants.{Optimal, Infeasible, Clash, Unbounded}
 use Rattle.spec_check.specs.declared.certificate.Known.{Known}
@@ -54,7 +55,8 @@ abbrev pub MayGiveUp : Model → ℕ → Option (List Status) → Type 0
 MayGiveUp m budget starting = (solved : SolveEnd) × IsSolved m budget starting solved × GivesUp solved.end
 
 -- What an exact solve of a model may end with, within a budget and with this basis to start from, if there is one: with an
--- answer of which nothing but its certificate is asked; or without one, only where a solve at 127 bits may end so too.
+-- answer of which nothing but its certificate is asked; or without one, within the usual limits only where a solve at 127
+-- bits may end so too.
 abbrev pub IsExactEnd : Model → ℕ → Option (List Status) → RationalEnd → Type 0
 IsExactEnd m budget starting (Answered a) = IsExactAnswer m a
-IsExactEnd m budget starting Open = MayGiveUp m budget starting
+IsExactEnd m budget starting Open = IsUsual m → MayGiveUp m budget starting

@@ -29,7 +29,7 @@ ghost use Rattle.spec_exact.specs.declared.past.Past.{Past};
 ghost use Rattle.spec_exact.specs.Narrow.{number_limit};
 ghost use Rattle.spec_model.specs.Model.{Model, value_of};
 ghost use Rattle.spec_model.specs.Truth.{IsOptimal};
-ghost use Rattle.spec_model.specs.Kept.{IsModel};
+ghost use Rattle.spec_model.specs.Kept.{IsModel, IsUsual};
 ghost use Rattle.spec_check.specs.declared.certificate.Certificate.{Certificate};
 ghost use Rattle.spec_check.specs.declared.certificate.Certificate.TheVariants as certificate;
 ghost use Rattle.spec_check.specs.declared.certificate.Known.{Known};
@@ -171,11 +171,11 @@ pub fn exact_answers_of_bases_are_optimal()
         × (a.known ≡ known.Optimal (value_of m x)) × IsOptimal m (value_of m x) }
 {}
 
-/// Where the cold solve at the limit knows something of the model, an exact solve answers the same, whatever basis it
-/// starts from.
+/// Where the cold solve at the limit knows something of a model within the usual limits, an exact solve answers the same,
+/// whatever basis it starts from.
 pub fn what_the_cold_solve_finds_is_answered_exactly()
     ensures { (m : Model) (budget : ℕ) (starting : Option (List Status)) (known : Known ℚ)
-        (cert : Certificate (List ℚ)) (basis : Option (List Status)) (pivots : ℕ) (end : RationalEnd) →
+        (cert : Certificate (List ℚ)) (basis : Option (List Status)) (pivots : ℕ) (end : RationalEnd) → IsUsual m →
         cold (Some number_limit) budget m ≡ outcome.Ended known cert basis pivots → IsExactEnd m budget starting end →
         (a : RationalAnswer) × (end ≡ exact.Answered a) × (a.known ≡ known) }
 {}
