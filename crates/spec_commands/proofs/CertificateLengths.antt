@@ -8,7 +8,7 @@ use Rattle.spec_exact.specs.Narrow.{IsNarrow}
 use Rattle.spec_exact.proofs.Narrow.{zero_narrow}
 use Rattle.spec_text.specs.Lines.{input_limit}
 use Rattle.spec_model.specs.Model.{Model, Name, width, height, row, column, part}
-use Rattle.spec_model.specs.Kept.{IsModel, is_name}
+use Rattle.spec_model.specs.Kept.{IsUsualModel, is_name}
 use Rattle.spec_mps.specs.declared.style.Style.{Style}
 use Rattle.spec_mps.specs.NumberWritten.{number_text}
 use Rattle.spec_mps.specs.Written.{cards_of}
@@ -78,22 +78,23 @@ below_fit letter names values (suc n) h k =
     let p = part_fits letter (names n) (part values n) (h n (omega arith)) (k n (omega arith)) in
     omega arith
 
-module _ (m : Model) (kept : IsModel m) where
+module _ (m : Model) (kept : IsUsualModel m) where
   columns_fit : (letter : Letter) (xs : List ℚ) → length xs ≡ width m → All IsNarrow xs →
       size (column_lines m letter xs) ≤ 204 * width m
   columns_fit letter xs e h =
-      below_fit letter (λ j. (column m j).name) xs (width m) (column_named m kept) (λ k l. h k 0ℚ (omega (arith, l, e)))
+      below_fit letter (λ j. (column m j).name) xs (width m) (column_named m kept.0)
+      (λ k l. h k 0ℚ (omega (arith, l, e)))
 
   rows_fit : (letter : Letter) (xs : List ℚ) → length xs ≡ height m → All IsNarrow xs →
       size (row_lines m letter xs) ≤ 204 * height m
   rows_fit letter xs e h =
-      below_fit letter (λ i. (row m i).name) xs (height m) (row_named m kept) (λ k l. h k 0ℚ (omega (arith, l, e)))
+      below_fit letter (λ i. (row m i).name) xs (height m) (row_named m kept.0) (λ k l. h k 0ℚ (omega (arith, l, e)))
 
   wide : width m ≤ 512
-  wide = kept.few_columns
+  wide = kept.1.few_columns
 
   high : height m ≤ 256
-  high = kept.few_rows
+  high = kept.1.few_rows
 
   parts_fit : (cert : Certificate (List ℚ)) → IsFor m cert → IsNarrowCertificate cert →
       size (all_part_lines m cert) ≤ 208896
@@ -118,7 +119,7 @@ module _ (m : Model) (kept : IsModel m) where
   kind_fits (Infeasible y) f = omega arith
   kind_fits (Unbounded x r) f = omega arith
   kind_fits (Clash j) f =
-      let s = both_short (column m j).name 0ℚ (column_named m kept j f) zero_narrow in
+      let s = both_short (column m j).name 0ℚ (column_named m kept.0 j f) zero_narrow in
       let x = s.short_name.fits in
       let a = length-append (codes "CLASH") (32 ∷ (column m j).name) in
       omega arith
@@ -135,7 +136,7 @@ module _ (m : Model) (kept : IsModel m) where
       let end = size_one (codes "END") in
       omega arith
 
-pub text_fits : (style : Style) (m : Model) → IsModel m → (cert : Certificate (List ℚ)) → IsFor m cert →
+pub text_fits : (style : Style) (m : Model) → IsUsualModel m → (cert : Certificate (List ℚ)) → IsFor m cert →
     IsNarrowCertificate cert →
     length (cards_text style (cards_of m) ++ ended_lines (certificate_lines m cert)) ≤ input_limit
 unfolding size

@@ -2,7 +2,7 @@
 use Rattle.std.proofs.Common.{◌≡◌, ℕ, List, ◌++◌, Option, Some, IfSome, map, subst}
 use Rattle.spec_exact.specs.Fraction.{ℚ}
 use Rattle.spec_model.specs.Model.{Model}
-use Rattle.spec_model.specs.Kept.{IsModel}
+use Rattle.spec_model.specs.Kept.{IsUsualModel}
 use Rattle.spec_mps.specs.declared.style.Style.TheVariants.{Free}
 use Rattle.spec_mps.specs.Written.{free}
 use Rattle.spec_check.specs.declared.certificate.Certificate.{Certificate}
@@ -32,7 +32,7 @@ StandsUp m known cert =
 
 answer_stands : (m : Model) (budget : ℕ) (known : Known ℚ) (cert : Certificate (List ℚ)) (basis : Option (List Status))
     (pivots : ℕ) →
-    IsModel m → MayAnswer m budget (Ended known cert basis pivots) → StandsUp m known cert
+    IsUsualModel m → MayAnswer m budget (Ended known cert basis pivots) → StandsUp m known cert
 answer_stands m budget known cert basis pivots kept h =
     (ended_true m budget known cert basis pivots h, free_checks m budget known cert basis pivots kept h)
 
@@ -46,5 +46,5 @@ last_stands places xs state m last known cert basis pivots may run held is ended
     subst (λ (model : Option Model). LastFits model (Some last)) held
     (subst (λ (last : Option ExactLastAnswer). LastFits state.model last) is good.fits) in
     answer_stands m fits.0 known cert basis pivots
-    (subst (λ (model : Option Model). IfSome model IsModel) held good.kept)
+    (subst (λ (model : Option Model). IfSome model IsUsualModel) held good.kept)
     (subst (MayAnswer m fits.0) ended fits.1)

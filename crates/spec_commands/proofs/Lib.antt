@@ -13,3 +13,10 @@ pub mod WideWritten
 pub mod LastAnswers
 pub mod Kept
 pub mod NarrowRanges
+pub mod GeneratedNames
+pub mod GeneratedNumbers
+pub mod GeneratedLists
+pub mod GeneratedEntries
+pub mod GeneratedKept
+pub mod GeneratedSteps
+pub mod GeneratedFeasible

@@ -70,8 +70,7 @@ unfolding is_name is_row_name is_model_name
 cost_kept name v h n =
     let c : ExactColumn = record { name = name; cost = v; lower = None; upper = None; entries = [] } in
     record {
-      few_rows = omega arith;
-      few_columns = omega arith;
+      few = record { few_rows = omega arith; few_columns = omega arith };
       name = refl;
       objective = refl;
       rows = λ k d l. absurd (omega arith);

@@ -5,6 +5,7 @@ use Rattle.std.specs.Prelude.{codes}
 use Rattle.spec_text.specs.declared.line.Line.{Line}
 use Rattle.spec_text.specs.declared.line.Line.TheVariants as line
 use Rattle.spec_text.specs.Words.{same, words_of}
+use Rattle.spec_model.specs.declared.parts.SizeLimits.{SizeLimits}
 use Rattle.spec_model.specs.Model.{Model}
 use Rattle.spec_mps.specs.declared.card.Card.TheVariants as card
 use Rattle.spec_mps.specs.declared.fault.Code.TheVariants as code
@@ -48,13 +49,14 @@ card_ends s fields m h =
     let b = must_ok (may_follow s.seen a.0 && not (has_begun s.seen a.0)) code.SectionOrder _ (Done m) a.2 in
     a.1 ∙ ap Some (begins_end s a.0 (text_at 2 fields) m b.1)
 
-reading_ends : (style : Style) (s : State) (reading : CardReading) (m : Model) →
-    on_reading style s reading ≡ Ok (Done m) → IsEndCard reading
-reading_ends style s (Is card.Skip) m h = absurd (let z : ◌≡◌ {A = Outcome} (Ok (More s)) (Ok (Done m)) = h in cc)
-reading_ends style s (Is (card.Section fields)) m h =
+reading_ends : (limits : SizeLimits) (style : Style) (s : State) (reading : CardReading) (m : Model) →
+    on_reading limits style s reading ≡ Ok (Done m) → IsEndCard reading
+reading_ends limits style s (Is card.Skip) m h = absurd (let z : ◌≡◌ {A = Outcome} (Ok (More s)) (Ok (Done m)) = h in cc)
+reading_ends limits style s (Is (card.Section fields)) m h =
     record { fields = fields; is = refl; word = card_ends s fields m h }
-reading_ends style s (Is (card.Given fields)) m h = absurd (not_more (data_card style s.part s fields) m h)
-reading_ends style s (Misplaced column) m h =
+reading_ends limits style s (Is (card.Given fields)) m h =
+    absurd (not_more (data_card limits style s.part s fields) m h)
+reading_ends limits style s (Misplaced column) m h =
     absurd (let z : ◌≡◌ {A = Outcome} (Err code.CardShape) (Ok (Done m)) = h in cc)
 
 -- ---- what the line is
@@ -139,12 +141,13 @@ unfolding ends_text word_fields
 line_ends bytes fields h e =
     rw (h.first, words_end (words_of bytes) (ap (λ fs. section_of (text_at 1 fs)) h.words ∙ e)) refl
 
-pub done_ends : (style : Style) (s : State) (l : Line (List ℕ)) (m : Model) → step style s l ≡ Ok (Done m) →
+pub done_ends : (limits : SizeLimits) (style : Style) (s : State) (l : Line (List ℕ)) (m : Model) →
+    step limits style s l ≡ Ok (Done m) →
     ends_text l ≡ true
 unfolding step
-done_ends style s (line.Text bytes) m h =
-    let r = reading_ends style s (reading_of style s.part bytes) m h in
+done_ends limits style s (line.Text bytes) m h =
+    let r = reading_ends limits style s (reading_of style s.part bytes) m h in
     line_ends bytes r.fields (heading style s.part bytes r.fields r.is) r.word
-done_ends style s (line.Long len) m h = absurd (let z : ◌≡◌ {A = Outcome} (Err code.Limit) (Ok (Done m)) = h in cc)
-done_ends style s line.End m h = absurd (let z : ◌≡◌ {A = Outcome} (Err code.Cut) (Ok (Done m)) = h in cc)
-done_ends style s line.Over m h = absurd (let z : ◌≡◌ {A = Outcome} (Err code.Cut) (Ok (Done m)) = h in cc)
+done_ends limits style s (line.Long len) m h = absurd (let z : ◌≡◌ {A = Outcome} (Err code.Limit) (Ok (Done m)) = h in cc)
+done_ends limits style s line.End m h = absurd (let z : ◌≡◌ {A = Outcome} (Err code.Cut) (Ok (Done m)) = h in cc)
+done_ends limits style s line.Over m h = absurd (let z : ◌≡◌ {A = Outcome} (Err code.Cut) (Ok (Done m)) = h in cc)

@@ -1,14 +1,17 @@
 -- What a check at 127 bits says is said with wide numbers too.
 use Rattle.std.proofs.Common.{◌≡◌, ℕ, ◌+◌, Option, Some, None, Ok, Err, List, [], ◌∷◌, ◌⊎◌, inl, inr}
-use Rattle.std.proofs.Common.{sym, ap, ◌∙◌, subst}
+use Rattle.std.proofs.Common.{refl, sym, ap, ◌∙◌, subst}
 use Rattle.spec_text.specs.declared.line.Line.{Line}
 use Rattle.spec_exact.specs.Fraction.{ℚ}
 use Rattle.spec_exact.specs.declared.past.Past.{Past}
 use Rattle.spec_exact.specs.Narrow.{number_limit}
 use Rattle.spec_model.specs.Model.{Model}
+use Rattle.spec_model.specs.Kept.{usual_limits, large_limits}
+use Rattle.spec_model.proofs.Kept.{usual_below_large}
 use Rattle.spec_mps.specs.declared.style.Style.{Style}
 use Rattle.spec_mps.specs.Reader.{State, start}
 use Rattle.spec_mps.specs.Steps as text
+use Rattle.spec_mps.proofs.GreaterLimits.{step_more}
 use Rattle.spec_check.specs.declared.certificate.Certificate.{Certificate}
 use Rattle.spec_check.specs.declared.certificate.SettleFault.TheVariants as settle
 use Rattle.spec_check.specs.declared.certificate.Verdict.{Verdict}
@@ -120,8 +123,20 @@ from_text : (lines : List (Line (List ℕ))) (style : Style) (s : State) (n : �
 unfolding check_step wide_step
 from_text [] style s n v e = cc
 from_text (line ∷ lines) style s n v e =
-    in_text style (n + 1) lines v (λ s. from_text lines style s (n + 1) v) (λ m. from_certificate lines m None 0 v)
-    (text.step style s line) e
+    by (text.step usual_limits style s line) refl e (λ s. from_text lines style s (n + 1) v)
+    (λ m. from_certificate lines m None 0 v)
+  where
+    by : (o : text.Outcome) → text.step usual_limits style s line ≡ o →
+        follow (behind_text style (n + 1) o) (says lines) ≡ Some (reply.Checked v) →
+        ((s : State) → Keeps lines (InText style s (n + 1)) v) →
+        ((m : Model) → Keeps lines (InCertificate m None 0) v) →
+        (follow (behind_text style (n + 1) (text.step large_limits style s line)) (wide_says lines)
+        ≡ Some (reply.Checked v)) ⊎ IsPast v
+    by (Ok p) is e more done =
+        let same = step_more usual_limits large_limits usual_below_large style s line p is in
+        subst (λ (o : text.Outcome). (follow (behind_text style (n + 1) o) (wide_says lines) ≡ Some (reply.Checked v))
+        ⊎ IsPast v) (sym same) (in_text style (n + 1) lines v more done (Ok p) e)
+    by (Err code) is e more done = cc
 
 pub same_check : (style : Style) (lines : List (Line (List ℕ))) (v : Verdict ℚ) →
     said style lines ≡ Some (reply.Checked v) → (wide_said style lines ≡ Some (reply.Checked v)) ⊎ IsPast v

@@ -8,7 +8,7 @@ use Rattle.spec_text.specs.Lines.{ended_lines_of, input_limit}
 use Rattle.spec_exact.specs.Fraction.{ℚ}
 use Rattle.spec_exact.specs.Narrow.{number_limit}
 use Rattle.spec_model.specs.Model.{Model}
-use Rattle.spec_model.specs.Kept.{IsModel}
+use Rattle.spec_model.specs.Kept.{IsModel, large_limits}
 use Rattle.spec_mps.specs.declared.style.Style.{Style}
 use Rattle.spec_mps.specs.Reader.{State, start}
 use Rattle.spec_mps.specs.Steps as text
@@ -39,7 +39,7 @@ use Rattle.spec_server.specs.Output.{ended_lines}
 use Rattle.spec_server.specs.Said.{follow, said_by}
 use Rattle.spec_commands.specs.CheckOut.{InText, InCertificate, behind_text}
 use Rattle.spec_commands.specs.CheckWideOut.{behind_wide, wide_verdict_on, wide_step, wide_said}
-use Rattle.spec_server.specs.TextSaid.{behind_line, text_said, text_step}
+use Rattle.spec_server.specs.TextSaid.{behind_line, text_said_within, text_step}
 use Rattle.spec_server.specs.WideLines.{wide_known_text}
 use Rattle.spec_commands.specs.InputSaid.{IsSaidEarly}
 use Rattle.spec_commands.specs.SolveWideOut.{SolveWideOut}
@@ -86,13 +86,14 @@ based_true handed written (Open, is, lines) = inl lines
 -- after the text the certificate begins
 text_leads : (style : Style) (s : State) (n : ℕ) (front : List (Line (List ℕ))) (last : Line (List ℕ))
     (behind : List (Line (List ℕ))) (m : Model) →
-    said_by (text_step style) (record { state = s; lines = n }) front ≡ None →
-    text.judge style s (n + 1) (front ++ last ∷ []) ≡ text.Spelled m →
+    said_by (text_step large_limits style) (record { state = s; lines = n }) front ≡ None →
+    text.judge large_limits style s (n + 1) (front ++ last ∷ []) ≡ text.Spelled m →
     said_by wide_step (InText style s n) (front ++ last ∷ behind) ≡ said_by wide_step (InCertificate m None 0) behind
 unfolding wide_step text_step
-text_leads style s n [] last behind m none spelled = by (text.step style s last) spelled
+text_leads style s n [] last behind m none spelled = by (text.step large_limits style s last) spelled
   where
-    by : (o : text.Outcome) → text.settled (n + 1) (λ t. text.judge style t (n + 1 + 1) []) o ≡ text.Spelled m →
+    by : (o : text.Outcome) → text.settled (n + 1) (λ t. text.judge large_limits style t (n + 1 + 1) [])
+        o ≡ text.Spelled m →
         follow (behind_text style (n + 1) o) (λ stage. said_by wide_step stage behind)
         ≡ said_by wide_step (InCertificate m None 0) behind
     by (Ok (text.More t)) e = cc
@@ -100,13 +101,14 @@ text_leads style s n [] last behind m none spelled = by (text.step style s last)
         let same : d ≡ m = cc in ap (λ d. said_by wide_step (InCertificate d None 0) behind) same
     by (Err why) e = cc
 text_leads style s n (line ∷ front) last behind m none spelled =
-    by (text.step style s line) none spelled (λ t. text_leads style t (n + 1) front last behind m)
+    by (text.step large_limits style s line) none spelled (λ t. text_leads style t (n + 1) front last behind m)
   where
     by : (o : text.Outcome) →
-        follow (behind_line (n + 1) o) (λ next. said_by (text_step style) next front) ≡ None →
-        text.settled (n + 1) (λ t. text.judge style t (n + 1 + 1) (front ++ last ∷ [])) o ≡ text.Spelled m →
-        ((t : State) → said_by (text_step style) (record { state = t; lines = n + 1 }) front ≡ None →
-        text.judge style t (n + 1 + 1) (front ++ last ∷ []) ≡ text.Spelled m →
+        follow (behind_line (n + 1) o) (λ next. said_by (text_step large_limits style) next front) ≡ None →
+        text.settled (n + 1) (λ t. text.judge large_limits style t (n + 1 + 1) (front ++ last ∷ [])) o ≡ text.Spelled
+        m →
+        ((t : State) → said_by (text_step large_limits style) (record { state = t; lines = n + 1 }) front ≡ None →
+        text.judge large_limits style t (n + 1 + 1) (front ++ last ∷ []) ≡ text.Spelled m →
         said_by wide_step (InText style t (n + 1)) (front ++ last ∷ behind)
         ≡ said_by wide_step (InCertificate m None 0) behind) →
         follow (behind_text style (n + 1) o) (λ stage. said_by wide_step stage (front ++ last ∷ behind))
@@ -166,14 +168,14 @@ numbers_short (Unbounded x r) n = (all_short x n.0, all_short r n.1)
 
 -- `check --wide` says yes behind a text of the model to the lines of a certificate that is shown
 module _ (style : Style) (front : List (Line (List ℕ))) (last : Line (List ℕ)) (m : Model) (known : Known ℚ)
-    (cert : Certificate (List ℚ)) (undecided : text_said style front ≡ None)
-    (spells : text.Spells style (front ++ last ∷ []) m) (shown : IsShown m known cert) where
+    (cert : Certificate (List ℚ)) (undecided : text_said_within large_limits style front ≡ None)
+    (spells : text.SpellsWithin large_limits style (front ++ last ∷ []) m) (shown : IsShown m known cert) where
   accepted_lines : (more : List ℕ) →
       wide_said style ((front ++ last ∷ []) ++ ended_lines_of (ended_lines (wide_certificate_lines m cert) ++ more))
       ≡ Some (reply.Checked (Yes known))
   unfolding ended_lines
   accepted_lines more =
-      let kept : IsModel m = spelled_kept style (front ++ last ∷ []) m spells in
+      let kept : IsModel m = spelled_kept large_limits style (front ++ last ∷ []) m spells in
       let r = wide_read_back m cert kept shown.0 (numbers_short cert shown.2) in
       let rest : List (Line (List ℕ)) = ended_lines_of more in
       let lines : List (Line (List ℕ)) = map Text (wide_certificate_lines m cert) ++ rest in

@@ -9,7 +9,7 @@ use Rattle.spec_text.specs.declared.line.Line.TheVariants.{Text}
 use Rattle.spec_text.specs.Lines.{lines_of, ended_lines_of, input_limit}
 use Rattle.spec_exact.specs.Fraction.{ℚ}
 use Rattle.spec_model.specs.Model.{Model}
-use Rattle.spec_model.specs.Kept.{IsModel}
+use Rattle.spec_model.specs.Kept.{IsUsualModel, usual_limits}
 use Rattle.spec_mps.specs.declared.style.Style.{Style}
 use Rattle.spec_mps.specs.declared.style.Style.TheVariants.{Free, Fixed}
 use Rattle.spec_mps.specs.Reader.{State, start}
@@ -51,31 +51,32 @@ use Rattle.spec_commands.proofs.CertificateLengths.{text_fits}
 -- after it the certificate begins
 text_leads : (style : Style) (m : Model) (lines : List (Line (List ℕ))) (last : Line (List ℕ)) (s : State) (n : ℕ) →
     All (λ l. ends_text l ≡ false) lines
-    → text.judge style s (n + 1) (lines ++ last ∷ []) ≡ text.Spelled m
+    → text.judge usual_limits style s (n + 1) (lines ++ last ∷ []) ≡ text.Spelled m
     → (more : List (Line (List ℕ))) → said_from (InText style s n) (lines ++ last ∷ more) ≡ said_from
     (InCertificate m None 0) more
 unfolding check_step
-text_leads style m [] last s n inner h more = by (text.step style s last) h
+text_leads style m [] last s n inner h more = by (text.step usual_limits style s last) h
   where
-    by : (o : text.Outcome) → text.settled (n + 1) (λ t. text.judge style t (n + 1 + 1) []) o ≡ text.Spelled m
+    by : (o : text.Outcome) → text.settled (n + 1) (λ t. text.judge usual_limits style t (n + 1 + 1) [])
+        o ≡ text.Spelled m
         → follow (behind_text style (n + 1) o) (λ stage. said_from stage more) ≡ said_from (InCertificate m None 0) more
     by (Ok (text.More t)) e = cc
     by (Ok (text.Done d)) e = let same : d ≡ m = cc in ap (λ d. said_from (InCertificate d None 0) more) same
     by (Err code) e = cc
 text_leads style m (l ∷ lines) last s n inner h more =
-    by (text.step style s l) refl h (λ t. text_leads style m lines last t (n + 1)
+    by (text.step usual_limits style s l) refl h (λ t. text_leads style m lines last t (n + 1)
     (λ k d p. inner (suc k) d (omega arith)))
   where
-    by : (o : text.Outcome) → text.step style s l ≡ o → text.settled (n + 1)
-        (λ t. text.judge style t (n + 1 + 1) (lines ++ last ∷ [])) o ≡ text.Spelled m
-        → ((t : State) → text.judge style t (n + 1 + 1) (lines ++ last ∷ []) ≡ text.Spelled m →
+    by : (o : text.Outcome) → text.step usual_limits style s l ≡ o → text.settled (n + 1)
+        (λ t. text.judge usual_limits style t (n + 1 + 1) (lines ++ last ∷ [])) o ≡ text.Spelled m
+        → ((t : State) → text.judge usual_limits style t (n + 1 + 1) (lines ++ last ∷ []) ≡ text.Spelled m →
         (more : List (Line (List ℕ))) → said_from (InText style t (n + 1)) (lines ++ last ∷ more) ≡ said_from
         (InCertificate m None 0) more)
         → follow (behind_text style (n + 1) o) (λ stage. said_from stage (lines ++ last ∷ more)) ≡ said_from
         (InCertificate m None 0) more
     by (Ok (text.More t)) q e go = go t e more
     by (Ok (text.Done d)) q e go =
-        absurd (let z : true ≡ false = sym (done_ends style s l d q) ∙ inner 0 l (omega arith) in cc)
+        absurd (let z : true ≡ false = sym (done_ends usual_limits style s l d q) ∙ inner 0 l (omega arith) in cc)
     by (Err code) q e go = cc
 
 -- ---- a certificate's text
@@ -104,12 +105,12 @@ certificate_said m (l ∷ lines) so_far n raw h = by (certificate.step so_far l)
 
 -- ---- both
 
-module _ (style : Style) (m : Model) (kept : IsModel m)
+module _ (style : Style) (m : Model) (kept : IsUsualModel m)
     (spells : text.Spells style (lines_of (cards_text style (cards_of m))) m)
     (budget : ℕ) (known : Known ℚ) (cert : Certificate (List ℚ)) (basis : Option (List Status)) (pivots : ℕ)
     (h : MayAnswer m budget (Ended known cert basis pivots)) where
   plain_cards : All (λ card. IsPlainLine (line_text style card)) (cards_of m)
-  plain_cards = λ i d l. plain_line style (get_or (cards_of m) i d) (cards_short m kept i d l)
+  plain_cards = λ i d l. plain_line style (get_or (cards_of m) i d) (cards_short m kept.0 i d l)
 
   -- the cards before ENDATA, and ENDATA
   abbrev body : List (Line (List ℕ))
@@ -124,9 +125,10 @@ module _ (style : Style) (m : Model) (kept : IsModel m)
       All-map (λ (l : Line (List ℕ)). ends_text l ≡ false) (λ card. Text (line_text style card)) (inner_cards m)
       (inner_lines style m)
 
-  body_spells : text.judge style start (0 + 1) (body ++ Text (codes "ENDATA") ∷ []) ≡ text.Spelled m
+  body_spells : text.judge usual_limits style start (0 + 1) (body ++ Text (codes "ENDATA") ∷ []) ≡ text.Spelled m
   body_spells =
-      ap (text.judge style start 1) (sym (has_its_lines style (cards_of m) plain_cards ∙ lines_split)) ∙ spells
+      ap (text.judge usual_limits style start 1) (sym (has_its_lines style (cards_of m) plain_cards ∙ lines_split))
+      ∙ spells
 
   abbrev model : List ℕ
   model = cards_text style (cards_of m)
@@ -142,7 +144,7 @@ module _ (style : Style) (m : Model) (kept : IsModel m)
       ap ended_lines_of (append_assoc model (ended_lines (certificate_lines m cert)) more)
       ∙ ended_lines_behind (line_text style) (cards_of m) (ended_lines (certificate_lines m cert) ++ more) plain_cards
       ∙ ap (λ ls. card_lines style (cards_of m) ++ ls) (ended_lines_behind (λ line. line) (certificate_lines m cert)
-      more (certificate_plain m kept cert h.0 h.1))
+      more (certificate_plain m kept.0 cert h.0 h.1))
       ∙ ap (λ ls. ls ++ rest) lines_split
       ∙ append_assoc body (Text (codes "ENDATA") ∷ []) rest
 
@@ -150,7 +152,7 @@ module _ (style : Style) (m : Model) (kept : IsModel m)
   within : (limit : ℕ) (more : List ℕ) → length (model ++ behind) ≤ limit →
       said style (ended_lines_of (take limit ((model ++ behind) ++ more))) ≡ Some (reply.Checked (Yes known))
   within limit more fits =
-      let r = read_back m cert kept h.0 h.1 in
+      let r = read_back m cert kept.0 h.0 h.1 in
       let rest : List ℕ = take (limit - length (model ++ behind)) more in
       ap (λ bs. said style (ended_lines_of bs)) (take_behind limit (model ++ behind) more fits)
       ∙ ap (said style) (whole_lines rest)
@@ -165,14 +167,14 @@ module _ (style : Style) (m : Model) (kept : IsModel m)
   checks more = within input_limit more (text_fits style m kept cert h.0 h.1)
 
 pub free_checks : (m : Model) (budget : ℕ) (known : Known ℚ) (cert : Certificate (List ℚ))
-    (basis : Option (List Status)) (pivots : ℕ) → IsModel m → MayAnswer m budget (Ended known cert basis pivots)
+    (basis : Option (List Status)) (pivots : ℕ) → IsUsualModel m → MayAnswer m budget (Ended known cert basis pivots)
     → IsSaidEarly (said Free) (free m ++ ended_lines (certificate_lines m cert)) (reply.Checked (Yes known))
 unfolding free
 free_checks m budget known cert basis pivots kept h =
     checks Free m kept (free_spells m kept (columns_are_read Free m kept tt)) budget known cert basis pivots h
 
 pub fixed_checks : (m : Model) (budget : ℕ) (known : Known ℚ) (cert : Certificate (List ℚ))
-    (basis : Option (List Status)) (pivots : ℕ) → IsModel m → too_wide m ≡ None → MayAnswer m budget
+    (basis : Option (List Status)) (pivots : ℕ) → IsUsualModel m → too_wide m ≡ None → MayAnswer m budget
     (Ended known cert basis pivots)
     → IsSaidEarly (said Fixed) (fixed m ++ ended_lines (certificate_lines m cert)) (reply.Checked (Yes known))
 unfolding fixed

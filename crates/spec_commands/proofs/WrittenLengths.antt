@@ -10,7 +10,7 @@ use Rattle.spec_exact.specs.Fraction.{ℚ, 0ℚ, eq_ℚ, neg_ℚ, lt_ℚ}
 use Rattle.spec_model.specs.declared.parts.Sense.{Sense}
 use Rattle.spec_model.specs.declared.parts.Sense.TheVariants.{Min, Max}
 use Rattle.spec_model.specs.Model.{Model, Name, ExactRow, ExactColumn, row, column}
-use Rattle.spec_model.specs.Kept.{IsModel, IsKeptColumn}
+use Rattle.spec_model.specs.Kept.{IsModel, IsUsualModel, IsKeptColumn}
 use Rattle.spec_mps.specs.declared.style.Style.{Style}
 use Rattle.spec_mps.specs.declared.style.Style.TheVariants.{Free, Fixed}
 use Rattle.spec_mps.specs.Fields.{Fields}
@@ -240,7 +240,7 @@ most rows columns r c =
     let each : 454 + 454 * rows ≤ 116678 = omega arith in
     mul-le-mul each c
 
-cards_weigh : (m : Model) → IsModel m → weights (cards_of m) ≤ 61000000
+cards_weigh : (m : Model) → IsUsualModel m → weights (cards_of m) ≤ 61000000
 unfolding cards_of
 cards_weigh m kept =
     let start : WrittenCards = name_card m.name ∷ sense_cards m.sense in
@@ -254,17 +254,17 @@ cards_weigh m kept =
     m) (section_card (codes "ENDATA") ∷ []) in
     let sense = sense_weighs m.sense in
     let rows = rows_weigh m in
-    let columns = columns_weigh m kept in
+    let columns = columns_weigh m kept.0 in
     let sides = sides_weigh m in
     let ranges = ranges_weigh m in
     let bounds = bounds_weigh m in
-    let few_rows = kept.few_rows in
-    let few_columns = kept.few_columns in
-    let largest = most (length m.rows) (length m.columns) kept.few_rows kept.few_columns in
+    let few_rows = kept.1.few_rows in
+    let few_columns = kept.1.few_columns in
+    let largest = most (length m.rows) (length m.columns) kept.1.few_rows kept.1.few_columns in
     omega arith
 
-pub model_fits : (style : Style) (m : Model) → IsModel m → length (cards_text style (cards_of m)) ≤ 61000000
+pub model_fits : (style : Style) (m : Model) → IsUsualModel m → length (cards_text style (cards_of m)) ≤ 61000000
 model_fits style m kept =
     let w = cards_weigh m kept in
-    let f = cards_fit style (cards_of m) (cards_short m kept) in
+    let f = cards_fit style (cards_of m) (cards_short m kept.0) in
     omega arith

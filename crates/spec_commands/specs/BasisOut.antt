@@ -5,6 +5,7 @@ use Rattle.spec_text.specs.declared.line.Line.{Line}
 use Rattle.spec_exact.specs.Fraction.{ℚ}
 use Rattle.spec_exact.specs.Narrow.{number_limit}
 use Rattle.spec_model.specs.Model.{Model}
+use Rattle.spec_model.specs.declared.parts.SizeLimits.{SizeLimits}
 use Rattle.spec_mps.specs.declared.style.Style.{Style}
 use Rattle.spec_mps.specs.Reader.{State, start}
 use Rattle.spec_mps.specs.Steps as text
@@ -62,16 +63,17 @@ behind_file m f n (Ok (file.More s)) = On (InFile m f s n)
 behind_file m f n (Ok (file.Done basis)) = Says (Ok (record { model = m; basis = Some basis }))
 behind_file m f n (Err code) = Says (Err (fault.File (record { line = n; code = code })))
 
-unfoldable pub basis_step : Stage → Line (List ℕ) → Step Stage BasisSaid
-basis_step (InText style s n) line = behind_text style (n + 1) (text.step style s line)
-basis_step (InFile m f s n) line = behind_file m f (n + 1) (file.step m f s line)
+unfoldable pub basis_step : SizeLimits → Stage → Line (List ℕ) → Step Stage BasisSaid
+basis_step limits (InText style s n) line = behind_text style (n + 1) (text.step limits style s line)
+basis_step limits (InFile m f s n) line = behind_file m f (n + 1) (file.step m f s line)
 
 -- what lines say after a stage; nothing where more are needed
-abbrev pub basis_said_from : Stage → List (Line (List ℕ)) → Option BasisSaid
-basis_said_from stage lines = said_by basis_step stage lines
+abbrev pub basis_said_from : SizeLimits → Stage → List (Line (List ℕ)) → Option BasisSaid
+basis_said_from limits stage lines = said_by (basis_step limits) stage lines
 
-abbrev pub basis_said : Style → List (Line (List ℕ)) → Option BasisSaid
-basis_said style lines = basis_said_from (InText style start 0) lines
+-- where the model is within these limits
+abbrev pub basis_said : SizeLimits → Style → List (Line (List ℕ)) → Option BasisSaid
+basis_said limits style lines = basis_said_from limits (InText style start 0) lines
 
 -- ---- what is written
 

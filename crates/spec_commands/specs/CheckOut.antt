@@ -3,6 +3,7 @@
 use Rattle.std.specs.Prelude.{ℕ, ◌≡◌, ◌+◌, Option, Some, None, Ok, Err, List}
 use Rattle.spec_text.specs.declared.line.Line.{Line}
 use Rattle.spec_model.specs.Model.{Model}
+use Rattle.spec_model.specs.Kept.{usual_limits}
 use Rattle.spec_mps.specs.declared.style.Style.{Style}
 use Rattle.spec_mps.specs.Reader.{State, start}
 use Rattle.spec_mps.specs.Steps as text
@@ -34,7 +35,7 @@ behind_certificate m n (progress.Done raw) = Says (verdict_on m (certificate_for
 behind_certificate m n progress.Unfit = Says (reply.Refused (refusal.Unfit n))
 
 unfoldable pub check_step : Stage → Line (List ℕ) → Step Stage ExactReply
-check_step (InText style s n) line = behind_text style (n + 1) (text.step style s line)
+check_step (InText style s n) line = behind_text style (n + 1) (text.step usual_limits style s line)
 check_step (InCertificate m so_far n) line = behind_certificate m (n + 1) (certificate.step so_far line)
 
 -- what lines say after a stage; nothing where more are needed

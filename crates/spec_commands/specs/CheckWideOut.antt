@@ -1,5 +1,5 @@
 -- What the command `check` says of its input where the certificate's numbers may have any width. It is what CheckOut has,
--- with the verdict of the run without a limit, and the value of an optimum written at any width.
+-- for large models too, with the verdict of the run without a limit, and the value of an optimum written at any width.
 use Rattle.std.specs.Prelude.{ℕ, ◌≡◌, ◌+◌, Option, Some, None, Ok, Err, List, [], ◌∷◌, ◌++◌, codes}
 use Rattle.spec_text.specs.declared.line.Line.{Line}
 use Rattle.spec_exact.specs.Fraction.{ℚ}
@@ -17,6 +17,8 @@ use Rattle.spec_certificate.specs.declared.progress.Progress.TheVariants as prog
 use Rattle.spec_certificate.specs.Text.{step_by}
 use Rattle.spec_certificate.specs.NarrowText as certificate
 use Rattle.spec_certificate.specs.WideText.{wide}
+use Rattle.spec_program.specs.declared.command_line.TextCommand.TheVariants.{CheckWide}
+use Rattle.spec_program.specs.TextLimits.{limits_of}
 use Rattle.spec_server.specs.declared.asks.Reply.TheVariants as reply
 use Rattle.spec_server.specs.declared.asks.Refusal.TheVariants as refusal
 use Rattle.spec_server.specs.Machine.{ExactReply, settle_reply}
@@ -36,7 +38,7 @@ behind_wide m n (progress.Done raw) = Says (wide_verdict_on m (certificate_for m
 behind_wide m n progress.Unfit = Says (reply.Refused (refusal.Unfit n))
 
 unfoldable pub wide_step : Stage → Line (List ℕ) → Step Stage ExactReply
-wide_step (InText style s n) line = behind_text style (n + 1) (text.step style s line)
+wide_step (InText style s n) line = behind_text style (n + 1) (text.step (limits_of CheckWide) style s line)
 wide_step (InCertificate m so_far n) line = behind_wide m (n + 1) (step_by wide so_far line)
 
 abbrev pub wide_said : Style → List (Line (List ℕ)) → Option ExactReply

@@ -3,7 +3,7 @@
 use Rattle.std.specs.Prelude.{ℕ, ◌≡◌, None, List, [], ◌∷◌, ◌++◌, length, sum_by, codes, decimal}
 use Rattle.spec_model.specs.Model.{Model, width, height}
 use Rattle.spec_runs.specs.Cold.{ExactSolveEnd}
-use Rattle.spec_gen.specs.Generated.{generated}
+use Rattle.spec_commands.specs.Generated.{generated}
 use Rattle.spec_runs.specs.Solve.{SolveEnd}
 use Rattle.spec_solve.specs.Answers.{IsSolved}
 use Rattle.spec_server.specs.declared.asks.Reply.TheVariants as reply

@@ -9,4 +9,6 @@ pub mod PresolveOut
 pub mod IisOut
 pub mod RangeOut
 pub mod TextOut
+pub mod Draws
+pub mod Generated
 pub mod GenOut

@@ -5,13 +5,14 @@ use Rattle.spec_text.specs.declared.line.Line.{Line}
 use Rattle.spec_mps.specs.declared.style.Style.{Style}
 use Rattle.spec_program.specs.declared.command_line.TextCommand.TheVariants.{Solve, SolveWide, Check, CheckWide, Basis, BasisWide, Presolve, Iis, Range}
 use Rattle.spec_program.specs.CommandLine.{ExactTextCommand}
+use Rattle.spec_program.specs.TextLimits.{limits_of}
 use Rattle.spec_commands.specs.PresolveOut.{PresolveOut, presolve_code}
 use Rattle.spec_commands.specs.IisOut.{IisOut, iis_code}
 use Rattle.spec_commands.specs.RangeOut.{RangeOut, range_code}
 use Rattle.spec_server.specs.Machine.{ExactReply}
 use Rattle.spec_commands.specs.CheckOut.{said, CheckOut, check_code}
 use Rattle.spec_commands.specs.CheckWideOut.{wide_said, WideCheckOut}
-use Rattle.spec_server.specs.TextSaid.{TextSaid, text_said}
+use Rattle.spec_server.specs.TextSaid.{TextSaid, text_said, text_said_within}
 use Rattle.spec_commands.specs.SolveOut.{SolveOut, solve_code}
 use Rattle.spec_commands.specs.SolveWideOut.{SolveWideOut}
 use Rattle.spec_commands.specs.BasisOut.{BasisSaid, basis_said, BasisOut, basis_code}
@@ -32,11 +33,11 @@ SaidBy (Range moved name) = TextSaid
 -- by the lines of the input; nothing where more are needed
 abbrev pub said_of : (command : ExactTextCommand) → Style → List (Line (List ℕ)) → Option (SaidBy command)
 said_of Solve style lines = text_said style lines
-said_of SolveWide style lines = text_said style lines
+said_of SolveWide style lines = text_said_within (limits_of SolveWide) style lines
 said_of Check style lines = said style lines
 said_of CheckWide style lines = wide_said style lines
-said_of Basis style lines = basis_said style lines
-said_of BasisWide style lines = basis_said style lines
+said_of Basis style lines = basis_said (limits_of Basis) style lines
+said_of BasisWide style lines = basis_said (limits_of BasisWide) style lines
 said_of Presolve style lines = text_said style lines
 said_of Iis style lines = text_said style lines
 said_of (Range moved name) style lines = text_said style lines

@@ -14,19 +14,25 @@
 //! | `RangeOut` | what the command `range` writes of a text | specs/RangeOut |
 //! | `PresolveOut` | what the command `presolve` writes of a text | specs/PresolveOut |
 //! | `IisOut` | what the command `iis` writes of a text | specs/IisOut |
+//! | `next`, `draw`, `draws` | the states of a generator of numbers, and what is drawn | specs/Draws |
+//! | `generated` | the model of a seed, with so many rows and columns | specs/Generated |
 //! | `GenOut` | what the command `gen` writes of the model that it makes | specs/GenOut |
+//!
+//! Models of seeds are linear programs as large as the usual limits allow, the same wherever they are made: rows are of kind
+//! `L` with right sides above 0, and columns have both bounds, of which the lower one is 0.
 #![tactic(auto)]
 
-ghost use Rattle.std.specs.Prelude.{◌≡◌, ◌⊎◌, ◌≤◌, ℕ, List, [], ◌∷◌, ◌++◌, length, map, codes, Option, Some, None, Ok};
+ghost use Rattle.std.specs.Prelude.{◌≡◌, ◌⊎◌, ◌≤◌, ℕ, List, [], ◌∷◌, ◌++◌, length, map, replicate, codes, Option, Some, None, Ok};
 ghost use Rattle.spec_text.specs.Lines.{ended_lines_of, input_limit};
 ghost use Rattle.spec_text.specs.declared.line.Line.{Line};
-ghost use Rattle.spec_exact.specs.Fraction.{ℚ};
+ghost use Rattle.spec_exact.specs.Fraction.{ℚ, 0ℚ};
 ghost use Rattle.spec_exact.specs.declared.past.Past.{Past};
 ghost use Rattle.spec_model.specs.Model.{Model};
-ghost use Rattle.spec_model.specs.Kept.{IsModel};
+ghost use Rattle.spec_model.specs.Kept.{IsUsualModel, large_limits, row_limit, column_limit};
+ghost use Rattle.spec_model.specs.Truth.{IsFeasible, IsUnbounded};
 ghost use Rattle.spec_mps.specs.declared.style.Style.{Style};
 ghost use Rattle.spec_mps.specs.declared.style.Style.TheVariants as form;
-ghost use Rattle.spec_mps.specs.Steps.{Spells};
+ghost use Rattle.spec_mps.specs.Steps.{SpellsWithin};
 ghost use Rattle.spec_mps.specs.Written.{free, fixed, too_wide};
 ghost use Rattle.spec_check.specs.declared.certificate.Certificate.{Certificate};
 ghost use Rattle.spec_check.specs.declared.certificate.Known.{Known};
@@ -48,10 +54,12 @@ ghost use Rattle.spec_server.specs.WideLines.{wide_known_text};
 ghost use Rattle.spec_commands.specs.InputSaid.{IsSaidEarly};
 ghost use Rattle.spec_commands.specs.CheckOut.{said};
 ghost use Rattle.spec_commands.specs.CheckWideOut.{wide_said};
-ghost use Rattle.spec_server.specs.TextSaid.{text_said};
+ghost use Rattle.spec_server.specs.TextSaid.{text_said_within};
 ghost use Rattle.spec_commands.specs.SolveWideOut.{SolveWideOut};
 ghost use Rattle.spec_commands.specs.BasisOut.{Handed};
 ghost use Rattle.spec_commands.specs.BasisWideOut.{BasisWideOut};
+ghost use Rattle.spec_commands.specs.Draws.{draws};
+ghost use Rattle.spec_commands.specs.Generated.{generated};
 ghost use Rattle.spec_runs.specs.Solve.{SolveEnd};
 ghost use Rattle.spec_solve.specs.Answers.{IsSolved};
 ghost use Rattle.spec_range.specs.Span.{Keeps};
@@ -79,12 +87,12 @@ pub fn last_answers_stand_up()
 pub fn answers_check_against_the_written_text()
     ensures free { (m : Model) (budget : ℕ) (known : Known ℚ) (cert : Certificate (List ℚ))
         (basis : Option (List Status)) (pivots : ℕ) →
-        IsModel m → MayAnswer m budget (outcome.Ended known cert basis pivots) →
+        IsUsualModel m → MayAnswer m budget (outcome.Ended known cert basis pivots) →
         IsSaidEarly (said form.Free) (free m ++ ended_lines (certificate_lines m cert))
         (reply.Checked (verdict.Yes known)) }
     ensures fixed { (m : Model) (budget : ℕ) (known : Known ℚ) (cert : Certificate (List ℚ))
         (basis : Option (List Status)) (pivots : ℕ) →
-        IsModel m → too_wide m ≡ None → MayAnswer m budget (outcome.Ended known cert basis pivots) →
+        IsUsualModel m → too_wide m ≡ None → MayAnswer m budget (outcome.Ended known cert basis pivots) →
         IsSaidEarly (said form.Fixed) (fixed m ++ ended_lines (certificate_lines m cert))
         (reply.Checked (verdict.Yes known)) }
 {}
@@ -117,8 +125,8 @@ pub fn exact_solves_from_bases_write_true_answers()
 pub fn wide_answers_check_against_the_text()
     ensures { (style : Style) (text : List ℕ) (front : List (Line (List ℕ))) (last : Line (List ℕ)) (m : Model)
         (budget : ℕ) (starting : Option (List Status)) (a : RationalAnswer) →
-        ended_lines_of (text ++ 10 ∷ []) ≡ front ++ last ∷ [] → text_said style front ≡ None →
-        Spells style (front ++ last ∷ []) m → IsExactEnd m budget starting (exact.Answered a) →
+        ended_lines_of (text ++ 10 ∷ []) ≡ front ++ last ∷ [] → text_said_within large_limits style front ≡ None →
+        SpellsWithin large_limits style (front ++ last ∷ []) m → IsExactEnd m budget starting (exact.Answered a) →
         length ((text ++ 10 ∷ []) ++ ended_lines (wide_certificate_lines m a.certificate)) ≤ input_limit →
         IsSaidEarly (wide_said style) ((text ++ 10 ∷ []) ++ ended_lines (wide_certificate_lines m a.certificate))
         (reply.Checked (verdict.Yes a.known)) }
@@ -129,4 +137,23 @@ pub fn solved_bases_keep_models()
     ensures { (m : Model) (budget : ℕ) (solved : SolveEnd) (known : Known ℚ) (cert : Certificate (List ℚ))
         (left : List Status) (pivots : ℕ) →
         IsSolved m budget None solved → solved.end ≡ outcome.Ended known cert (Some left) pivots → Keeps m left }
+{}
+
+/// The draws begin as those of the C standard's example do.
+#[tactic(auto, unfolding(crate::specs::Draws::next, crate::specs::Draws::draw))]
+pub fn draws_are_those_of_the_c_standard()
+    ensures { draws 5 1 ≡ 16838 ∷ 5758 ∷ 10113 ∷ 17515 ∷ 31051 ∷ [] }
+{}
+
+/// Each generated model within the usual limits may be kept in a session.
+pub fn generated_models_may_be_kept()
+    ensures { (seed rows columns : ℕ) → rows ≤ row_limit → columns ≤ column_limit →
+        IsUsualModel (generated seed rows columns) }
+{}
+
+/// The point 0 is feasible in each generated model, and its points have no values without limit: the model is neither
+/// infeasible nor unbounded.
+pub fn generated_models_are_feasible_and_bounded()
+    ensures feasible { (seed rows columns : ℕ) → IsFeasible (generated seed rows columns) (replicate columns 0ℚ) }
+    ensures bounded { (seed rows columns : ℕ) → ¬ (IsUnbounded (generated seed rows columns)) }
 {}

@@ -6,8 +6,8 @@ use Rattle.spec_exact.specs.Fraction.{ℚ, 0ℚ, ◌≤ℚ◌, ◌<ℚ◌, whole
 use Rattle.spec_exact.proofs.Sizes.{abs_above}
 use Rattle.spec_exact.specs.Narrow.{IsNarrow}
 use Rattle.spec_model.specs.Kept.{IsBound}
-use Rattle.spec_gen.specs.Draws.{draw}
-use Rattle.spec_gen.specs.Generated.{number_from}
+use Rattle.spec_commands.specs.Draws.{draw}
+use Rattle.spec_commands.specs.Generated.{number_from}
 
 whole_narrow : (n : ℕ) → n ≤ 100 → IsNarrow (whole (pos n))
 unfolding whole

@@ -16,9 +16,9 @@ use Rattle.spec_model.specs.Model.{Model, ExactRow, ExactColumn, no_row, no_colu
 use Rattle.spec_model.specs.Model.{bounds_of, limits_of, cost, coefficient, part, activity, cost_of, value_of}
 use Rattle.spec_model.specs.Truth.{IsBetween, IsFeasible, IsUnbounded}
 use Rattle.spec_model.proofs.ListParts.{part_zeros}
-use Rattle.spec_gen.specs.Draws.{next, draw, after}
-use Rattle.spec_gen.specs.Generated.{at_column, generated_column, generated_columns}
-use Rattle.spec_gen.specs.Generated.{generated_row, generated_rows, generated}
+use Rattle.spec_commands.specs.Draws.{next, draw, after}
+use Rattle.spec_commands.specs.Generated.{at_column, generated_column, generated_columns}
+use Rattle.spec_commands.specs.Generated.{generated_row, generated_rows, generated}
 
 -- ---- the parts of a generated model, by their numbers
 

@@ -6,9 +6,9 @@ use Rattle.std.proofs.lemmas.List.Quantifiers.{all_pairs_push}
 use Rattle.spec_exact.specs.Fraction.{ℚ, 0ℚ}
 use Rattle.spec_exact.specs.Narrow.{IsNarrow}
 use Rattle.spec_model.specs.Kept.{AreEntries}
-use Rattle.spec_gen.specs.Draws.{next}
-use Rattle.spec_gen.specs.Generated.{number_from, has_entry, at_row, entry, entries}
-use Rattle.spec_gen.proofs.Numbers.{number_from_narrow, number_from_not_zero}
+use Rattle.spec_commands.specs.Draws.{next}
+use Rattle.spec_commands.specs.Generated.{number_from, has_entry, at_row, entry, entries}
+use Rattle.spec_commands.proofs.GeneratedNumbers.{number_from_narrow, number_from_not_zero}
 
 -- the entries of one row more
 more_entries : (b : Bool) (n : ℕ) (q : ℚ) (es : List (ℕ × ℚ)) → q ≢ 0ℚ → AreEntries n es →

@@ -7,7 +7,7 @@ use Rattle.std.proofs.lemmas.List.Folds.{list_all-append}
 use Rattle.std.proofs.lemmas.Fmt.{decimal_by_steps, length-decimal-le, decimal_injective}
 use borrow.Author.Tests.{le-leb, lt-ltb}
 use Rattle.spec_model.specs.Kept.{is_printable, is_name, is_row_name}
-use Rattle.spec_gen.specs.Generated.{row_name, column_name}
+use Rattle.spec_commands.specs.Generated.{row_name, column_name}
 
 digit_printed : (d : ℕ) → d < 10 → is_printable (48 + d) ≡ true
 digit_printed d h = rw (le-leb 33 (48 + d) (omega arith), le-leb (48 + d) 126 (omega arith)) refl

@@ -2,9 +2,9 @@
 use Rattle.std.proofs.Common.{◌≡◌, ◌≢◌, ℕ, ◌+◌, ◌%◌, [], ◌∷◌, ◌++◌, refl, ap, add-one, ◌∙◌, append-nil, arith}
 use borrow.Author.Tests.{eq-eqb, ne_eqb}
 use Rattle.std.proofs.lemmas.List.FromFn.{map-range_with_len_more}
-use Rattle.spec_gen.specs.Draws.{next, draw, after}
-use Rattle.spec_gen.specs.Generated.{number_from, has_entry, entry, entries, at_row, at_column}
-use Rattle.spec_gen.specs.Generated.{generated_column, generated_columns, generated_row, generated_rows}
+use Rattle.spec_commands.specs.Draws.{next, draw, after}
+use Rattle.spec_commands.specs.Generated.{number_from, has_entry, entry, entries, at_row, at_column}
+use Rattle.spec_commands.specs.Generated.{generated_column, generated_columns, generated_row, generated_rows}
 
 pub after_more : (n s : ℕ) → after (n + 1) s ≡ next (after n s)
 after_more n s = ap (λ k. after k s) (add-one n)

@@ -6,7 +6,7 @@ use Rattle.spec_exact.specs.Fraction.{ℚ, 0ℚ, whole}
 use Rattle.spec_model.specs.declared.parts.Sense.TheVariants.{Max}
 use Rattle.spec_model.specs.declared.parts.Kind.TheVariants.{L}
 use Rattle.spec_model.specs.Model.{Model, Name, ExactRow, ExactColumn}
-use Rattle.spec_gen.specs.Draws.{next, draw, after}
+use Rattle.spec_commands.specs.Draws.{next, draw, after}
 
 -- least, least + 1 and so on, `many` numbers in all: which of them is drawn at state s
 abbrev pub number_from : ℕ → ℕ → ℕ → ℚ
