@@ -7,7 +7,8 @@ use Rattle.spec_text.specs.declared.line.Line.TheVariants.{Text}
 use Rattle.spec_text.specs.Lines.{ended_lines_of}
 use Rattle.spec_exact.specs.Fraction.{ℚ}
 use Rattle.spec_model.specs.Model.{Model}
-use Rattle.spec_model.specs.Kept.{IsModel}
+use Rattle.spec_model.specs.Kept.{IsModel, usual_limits}
+use Rattle.spec_model.proofs.Kept.{usual_from_within}
 use Rattle.spec_mps.specs.declared.style.Style.{Style}
 use Rattle.spec_mps.specs.Reader.{State, start}
 use Rattle.spec_mps.specs.Steps as text
@@ -52,26 +53,28 @@ use Rattle.spec_text_truth.proofs.PlainReplies.{fall_no_feed, pivots_no_feed}
 -- after it the certificate begins
 text_leads : (style : Style) (s : State) (n : ℕ) (front : List (Line (List ℕ))) (last : Line (List ℕ))
     (behind : List (Line (List ℕ))) (m : Model) →
-    said_by (text_step style) (record { state = s; lines = n }) front ≡ None →
-    text.judge style s (n + 1) (front ++ last ∷ []) ≡ text.Spelled m →
+    said_by (text_step usual_limits style) (record { state = s; lines = n }) front ≡ None →
+    text.judge usual_limits style s (n + 1) (front ++ last ∷ []) ≡ text.Spelled m →
     said_from (InText style s n) (front ++ last ∷ behind) ≡ said_from (InCertificate m None 0) behind
 unfolding check_step text_step
-text_leads style s n [] last behind m none spelled = by (text.step style s last) spelled
+text_leads style s n [] last behind m none spelled = by (text.step usual_limits style s last) spelled
   where
-    by : (o : text.Outcome) → text.settled (n + 1) (λ t. text.judge style t (n + 1 + 1) []) o ≡ text.Spelled m →
+    by : (o : text.Outcome) → text.settled (n + 1) (λ t. text.judge usual_limits style t (n + 1 + 1) [])
+        o ≡ text.Spelled m →
         follow (behind_text style (n + 1) o) (λ stage. said_from stage behind)
         ≡ said_from (InCertificate m None 0) behind
     by (Ok (text.More t)) e = cc
     by (Ok (text.Done d)) e = let same : d ≡ m = cc in ap (λ d. said_from (InCertificate d None 0) behind) same
     by (Err why) e = cc
 text_leads style s n (line ∷ front) last behind m none spelled =
-    by (text.step style s line) none spelled (λ t. text_leads style t (n + 1) front last behind m)
+    by (text.step usual_limits style s line) none spelled (λ t. text_leads style t (n + 1) front last behind m)
   where
     by : (o : text.Outcome) →
-        follow (behind_line (n + 1) o) (λ next. said_by (text_step style) next front) ≡ None →
-        text.settled (n + 1) (λ t. text.judge style t (n + 1 + 1) (front ++ last ∷ [])) o ≡ text.Spelled m →
-        ((t : State) → said_by (text_step style) (record { state = t; lines = n + 1 }) front ≡ None →
-        text.judge style t (n + 1 + 1) (front ++ last ∷ []) ≡ text.Spelled m →
+        follow (behind_line (n + 1) o) (λ next. said_by (text_step usual_limits style) next front) ≡ None →
+        text.settled (n + 1) (λ t. text.judge usual_limits style t (n + 1 + 1) (front ++ last ∷ [])) o ≡ text.Spelled
+        m →
+        ((t : State) → said_by (text_step usual_limits style) (record { state = t; lines = n + 1 }) front ≡ None →
+        text.judge usual_limits style t (n + 1 + 1) (front ++ last ∷ []) ≡ text.Spelled m →
         said_from (InText style t (n + 1)) (front ++ last ∷ behind) ≡ said_from (InCertificate m None 0) behind) →
         follow (behind_text style (n + 1) o) (λ stage. said_from stage (front ++ last ∷ behind))
         ≡ said_from (InCertificate m None 0) behind
@@ -82,13 +85,13 @@ text_leads style s n (line ∷ front) last behind m none spelled =
 -- ---- the certificate behind it
 
 module _ (style : Style) (lines : List (Line (List ℕ))) (m : Model) (after : List (Line (List ℕ)))
-    (begins : BeginsWithText style lines m after) where
+    (begins : BeginsWithText usual_limits style lines m after) where
   -- the lines of the text
   abbrev own : List (Line (List ℕ))
   own = begins.front ++ begins.last ∷ []
 
   kept : IsModel m
-  kept = spelled_kept style own m begins.spelled
+  kept = (usual_from_within m (spelled_kept usual_limits style own m begins.spelled)).0
 
   known_accepted : (budget : ℕ) (what : Known ℚ) (cert : Certificate (List ℚ)) (basis : Option (List Status))
       (pivots : ℕ) → MayAnswer m budget (Ended what cert basis pivots) → (more : List ℕ) →
@@ -177,7 +180,7 @@ front_no_feed solved =
     (pivots_no_feed (pivots_of_solved solved.end))
 
 pub basis_accepted : (style : Style) (lines : List (Line (List ℕ))) (handed : Handed) (written : List ℕ)
-    (h : AreHanded style lines handed) → BasisOut (Ok handed) written →
+    (h : AreHanded usual_limits style lines handed) → BasisOut (Ok handed) written →
     (a : Answer ℚ) × (how behind : List ℕ)
     × (written ≡ reply_text (reply.Answered a) ++ 10 ∷ (how ++ 10 ∷ behind)) × HasNoFeed how
     × IsAccepted style (h.text.front ++ h.text.last ∷ []) a behind

@@ -1,8 +1,12 @@
 -- What lines ask of the models of sessions is what their asks do to them.
 use Rattle.std.proofs.Common.{◌≡◌, ℕ, Bool, true, false, cond, Option, Some, None, List, [], ◌∷◌, ◌++◌, map, refl, sym, ap, ◌∙◌}
+use Rattle.std.specs.Prelude.{codes, option_map, unwrap_or}
 use Rattle.std.proofs.lemmas.List.{map-append}
 use Rattle.spec_text.specs.declared.line.Line.{Line}
+use Rattle.spec_text.specs.Words.{same}
+use Rattle.spec_model.specs.Model.{Model}
 use Rattle.spec_edit.specs.Edited.{ExactEdit}
+use Rattle.spec_model.specs.Kept.{usual_limits}
 use Rattle.spec_mps.specs.Reader.{start}
 use Rattle.spec_mps.specs.Steps.{Verdict, Spelled, Refused, judge}
 use Rattle.spec_certificate.specs.NarrowText as certificate
@@ -17,15 +21,28 @@ use Rattle.spec_server.specs.Command.{ExactCommand}
 use Rattle.spec_server.specs.Machine.{ExactAsk}
 use Rattle.spec_server.specs.Script.{Pending, Between, Text, Certificate, ends_text, ends_certificate, ask_of_verdict}
 use Rattle.spec_server.specs.Script.{ask_of_judgement, pending_after_line, asks_of_command, asks_by, asks_of_line, asks_from}
-use Rattle.spec_text_truth.specs.TrueOutput.{Effect, Loads, Edits, Drops, Keeps, Asking, effects_of, asked_of, asked_by, effect_of_text}
+use Rattle.spec_truth.specs.ModelThen.{after_edit}
+use Rattle.spec_text_truth.specs.TrueOutput.{Effect, Asking, effects_of, asked_of, effect_of_text}
 use Rattle.spec_text_truth.specs.TrueOutput.{asked_in_line, asked_from}
+
+abbrev pub loads : Model → Effect
+loads m held line = Some m
+
+abbrev pub edits : ExactEdit → Effect
+edits e held line = cond (same line (codes "OK")) (after_edit held e) held
+
+abbrev pub drops : Effect
+drops held line = None
+
+abbrev pub keeps : Effect
+keeps held line = held
 
 -- what an ask does to its session's model
 abbrev pub effect_of : ExactAsk → Effect
-effect_of (ask.Plain (command.Change e)) = Edits e
-effect_of (ask.Plain command.Quit) = Drops
-effect_of (ask.Loaded m) = Loads m
-effect_of other = Keeps
+effect_of (ask.Plain (command.Change e)) = edits e
+effect_of (ask.Plain command.Quit) = drops
+effect_of (ask.Loaded m) = loads m
+effect_of other = keeps
 
 abbrev pub asking_of : Asked ExactAsk → Asking
 asking_of asked = record { session = asked.session; effect = effect_of asked.ask }
@@ -44,7 +61,8 @@ command_effects session (commands.Plain (command.Change e)) = refl
 command_effects session (commands.Plain command.Quit) = refl
 command_effects session (commands.Bad fault) = refl
 
-by_effects : (o : Option (Addressed ExactEdit)) → asked_by o ≡ map asking_of (asks_by o)
+by_effects : (o : Option (Addressed ExactEdit)) →
+    unwrap_or (option_map (λ a. asked_of a.session (effects_of a.command)) o) [] ≡ map asking_of (asks_by o)
 by_effects None = refl
 by_effects (Some addressed) = command_effects addressed.session addressed.command
 
@@ -52,7 +70,7 @@ verdict_effect : (v : Verdict) → effect_of_text v ≡ effect_of (ask_of_verdic
 verdict_effect (Spelled m) = refl
 verdict_effect (Refused n fault) = refl
 
-judgement_effect : (j : certificate.Judgement) → Keeps ≡ effect_of (ask_of_judgement j)
+judgement_effect : (j : certificate.Judgement) → keeps ≡ effect_of (ask_of_judgement j)
 judgement_effect (certificate.Spelled raw) = refl
 judgement_effect (certificate.Refused n) = refl
 
@@ -67,9 +85,9 @@ line_effects : (addressing : Addressing) (p : Pending) (next : Line (List ℕ)) 
     asked_in_line addressing p next ≡ map asking_of (asks_of_line addressing p next)
 line_effects addressing Between next = by_effects (addressed_in addressing next)
 line_effects addressing (Text session form body) next =
-    if_asked (ends_text next) session _ _ (verdict_effect (judge form start 1 (body ++ next ∷ [])))
+    if_asked (ends_text next) session _ _ (verdict_effect (judge usual_limits form start 1 (body ++ next ∷ [])))
 line_effects addressing (Certificate session body) next =
-    if_asked (ends_certificate next) session Keeps _ (judgement_effect (certificate.judge None 1 (body ++ next ∷ [])))
+    if_asked (ends_certificate next) session keeps _ (judgement_effect (certificate.judge None 1 (body ++ next ∷ [])))
 
 pub asked_from-is : (addressing : Addressing) (p : Pending) (lines : List (Line (List ℕ))) →
     asked_from addressing p lines ≡ map asking_of (asks_from addressing p lines)

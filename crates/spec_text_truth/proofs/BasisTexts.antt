@@ -4,8 +4,10 @@ use Rattle.std.proofs.Common.{◌∙◌, append_assoc}
 use Rattle.std.specs.Prelude.{codes}
 use Rattle.spec_text.specs.declared.line.Line.{Line}
 use Rattle.spec_exact.specs.Fraction.{ℚ}
+use Rattle.spec_model.specs.declared.parts.SizeLimits.{SizeLimits}
 use Rattle.spec_model.specs.Model.{Model}
 use Rattle.spec_model.specs.Truth.{IsOptimal, IsInfeasible, IsUnbounded}
+use Rattle.spec_model.specs.Kept.{usual_limits}
 use Rattle.spec_mps.specs.declared.style.Style.{Style}
 use Rattle.spec_mps.specs.NumberText.{Is, number_of}
 use Rattle.spec_mps.specs.Reader.{start}
@@ -30,16 +32,16 @@ use Rattle.spec_text_truth.proofs.BasisLemmas.{said_handed}
 
 -- ---- the text
 
-begins_spells : (style : Style) (lines : List (Line (List ℕ))) (m : Model) (behind : List (Line (List ℕ))) →
-    BeginsWithText style lines m behind → text.Spells style lines m
-begins_spells style lines m behind t =
-    ap (text.judge style start 1) (t.cut ∙ sym (append_assoc t.front (t.last ∷ []) behind))
-    ∙ spells_more style (t.front ++ t.last ∷ []) behind m t.spelled
+begins_spells : (limits : SizeLimits) (style : Style) (lines : List (Line (List ℕ))) (m : Model) (behind : List (Line (List ℕ))) →
+    BeginsWithText limits style lines m behind → text.SpellsWithin limits style lines m
+begins_spells limits style lines m behind t =
+    ap (text.judge limits style start 1) (t.cut ∙ sym (append_assoc t.front (t.last ∷ []) behind))
+    ∙ spells_more limits style (t.front ++ t.last ∷ []) behind m t.spelled
 
-pub handed_spells : (style : Style) (lines : List (Line (List ℕ))) (handed : Handed) →
-    basis_said style lines ≡ Some (Ok handed) → text.Spells style lines handed.model
-handed_spells style lines handed is =
-    let h = said_handed style lines handed is in begins_spells style lines handed.model h.behind h.text
+pub handed_spells : (limits : SizeLimits) (style : Style) (lines : List (Line (List ℕ))) (handed : Handed) →
+    basis_said limits style lines ≡ Some (Ok handed) → text.SpellsWithin limits style lines handed.model
+handed_spells limits style lines handed is =
+    let h = said_handed limits style lines handed is in begins_spells limits style lines handed.model h.behind h.text
 
 -- ---- what is written
 
@@ -81,47 +83,47 @@ no_fault why written letter h is e = apart 69 letter h (sym (ap first is ∙ fau
 -- ---- the answer
 
 pub answer_begins : (style : Style) (lines : List (Line (List ℕ))) (handed : Handed) (written : List ℕ) →
-    basis_said style lines ≡ Some (Ok handed) → BasisOut (Ok handed) written →
+    basis_said usual_limits style lines ≡ Some (Ok handed) → BasisOut (Ok handed) written →
     text.Spells style lines handed.model
     × ((a : Answer ℚ) × (behind : List ℕ) × (written ≡ reply_text (reply.Answered a) ++ 10 ∷ behind)
     × IsTrueOf handed.model a)
 unfolding reply_text
 answer_begins style lines handed written is out =
     let r = out_answered handed written out in
-    (handed_spells style lines handed is, (r.answer, r.behind, r.line, answer_holds handed.model r.answer r.shown))
+    (handed_spells usual_limits style lines handed is, (r.answer, r.behind, r.line, answer_holds handed.model r.answer r.shown))
 
 pub optimal_begins : (style : Style) (lines : List (Line (List ℕ))) (what : BasisSaid) (written : List ℕ) →
-    basis_said style lines ≡ Some what → BasisOut what written →
+    basis_said usual_limits style lines ≡ Some what → BasisOut what written →
     (value behind : List ℕ) → HasNoFeed value → written ≡ codes "OPTIMAL " ++ value ++ 10 ∷ behind →
     (v : ℚ) × (number_of value ≡ Is v) × ((m : Model) × text.Spells style lines m × IsOptimal m v)
 optimal_begins style lines (Ok handed) written is out value behind no_feed e =
     let r = out_answered handed written out in
     let o = optimal_line handed.model r.answer value r.behind behind r.shown no_feed (sym r.line ∙ e) in
-    (o.0, o.1, (handed.model, handed_spells style lines handed is, o.2))
+    (o.0, o.1, (handed.model, handed_spells usual_limits style lines handed is, o.2))
 optimal_begins style lines (Err why) written is out value behind no_feed e =
     absurd (no_fault why written 79 refl out (ap first e))
 
 pub infeasible_begins : (style : Style) (lines : List (Line (List ℕ))) (what : BasisSaid) (written : List ℕ) →
-    basis_said style lines ≡ Some what → BasisOut what written →
+    basis_said usual_limits style lines ≡ Some what → BasisOut what written →
     (behind : List ℕ) → written ≡ codes "INFEASIBLE" ++ 10 ∷ behind →
     (m : Model) × text.Spells style lines m × IsInfeasible m
 infeasible_begins style lines (Ok handed) written is out behind e =
     let r = out_answered handed written out in (
       handed.model,
-      handed_spells style lines handed is,
+      handed_spells usual_limits style lines handed is,
       infeasible_line handed.model r.answer r.behind behind r.shown (sym r.line ∙ e),
     )
 infeasible_begins style lines (Err why) written is out behind e =
     absurd (no_fault why written 73 refl out (ap first e))
 
 pub unbounded_begins : (style : Style) (lines : List (Line (List ℕ))) (what : BasisSaid) (written : List ℕ) →
-    basis_said style lines ≡ Some what → BasisOut what written →
+    basis_said usual_limits style lines ≡ Some what → BasisOut what written →
     (behind : List ℕ) → written ≡ codes "UNBOUNDED" ++ 10 ∷ behind →
     (m : Model) × text.Spells style lines m × IsUnbounded m
 unbounded_begins style lines (Ok handed) written is out behind e =
     let r = out_answered handed written out in (
       handed.model,
-      handed_spells style lines handed is,
+      handed_spells usual_limits style lines handed is,
       unbounded_line handed.model r.answer r.behind behind r.shown (sym r.line ∙ e),
     )
 unbounded_begins style lines (Err why) written is out behind e =

@@ -3,7 +3,9 @@
 use Rattle.std.proofs.Common.{◌≡◌, ℕ, ◌+◌, List, [], ◌∷◌, ◌++◌, Option, Some, None, Ok, Err, refl, sym, ◌∙◌, ap}
 use Rattle.spec_text.specs.declared.line.Line.{Line}
 use Rattle.spec_exact.specs.Fraction.{ℚ}
+use Rattle.spec_model.specs.declared.parts.SizeLimits.{SizeLimits}
 use Rattle.spec_model.specs.Model.{Model, Name}
+use Rattle.spec_model.specs.Kept.{usual_limits, large_limits}
 use Rattle.spec_mps.specs.declared.style.Style.{Style}
 use Rattle.spec_mps.specs.Reader.{State, start}
 use Rattle.spec_mps.specs.Steps as text
@@ -40,10 +42,10 @@ behind_by on m n (progress.Done raw) = Says (on m (certificate_for m raw))
 behind_by on m n progress.Unfit = Says (reply.Refused (refusal.Unfit n))
 
 -- lines of a text, and of a certificate whose numbers are read so
-module _ (read : Reading ℚ) (on : Model → Settled (Certificate (List ℚ)) → ExactReply)
+module _ (read : Reading ℚ) (limits : SizeLimits) (on : Model → Settled (Certificate (List ℚ)) → ExactReply)
     (next : Stage → Line (List ℕ) → Step Stage ExactReply)
     (next_in_text : (style : Style) (s : State) (n : ℕ) (line : Line (List ℕ)) →
-    next (InText style s n) line ≡ behind_text style (n + 1) (text.step style s line))
+    next (InText style s n) line ≡ behind_text style (n + 1) (text.step limits style s line))
     (next_in_certificate : (m : Model) (so_far : Option ExactRaw) (n : ℕ) (line : Line (List ℕ)) →
     next (InCertificate m so_far n) line ≡ behind_by on m (n + 1) (step_by read so_far line)) where
   abbrev says : List (Line (List ℕ)) → Stage → Option ExactReply
@@ -95,9 +97,9 @@ module _ (read : Reading ℚ) (on : Model → Settled (Certificate (List ℚ)) �
     last : Line (List ℕ)
     behind : List (Line (List ℕ))
     cut : lines ≡ front ++ last ∷ behind
-    undecided : said_by (text_step style) (record { state = s; lines = n }) front ≡ None
+    undecided : said_by (text_step limits style) (record { state = s; lines = n }) front ≡ None
     model : Model
-    judged : text.judge style s (n + 1) (front ++ last ∷ []) ≡ text.Spelled model
+    judged : text.judge limits style s (n + 1) (front ++ last ∷ []) ≡ text.Spelled model
     yes : says behind (InCertificate model None 0) ≡ Some (yes_to what)
 
   in_text : (style : Style) (s : State) (n : ℕ) (lines : List (Line (List ℕ))) (what : Known ℚ) →
@@ -105,11 +107,11 @@ module _ (read : Reading ℚ) (on : Model → Settled (Certificate (List ℚ)) �
   unfolding text_step
   in_text style s n [] what h = cc
   in_text style s n (line ∷ lines) what h =
-      by (text.step style s line) refl
+      by (text.step limits style s line) refl
       (sym (ap (λ t. follow t (says lines)) (next_in_text style s n line)) ∙ h)
       (λ t. in_text style t (n + 1) lines what)
     where
-      by : (o : text.Outcome) → text.step style s line ≡ o
+      by : (o : text.Outcome) → text.step limits style s line ≡ o
           → follow (behind_text style (n + 1) o) (says lines) ≡ Some (yes_to what)
           → ((t : State) → says lines (InText style t (n + 1)) ≡ Some (yes_to what)
           → IsText style t (n + 1) lines what)
@@ -122,11 +124,11 @@ module _ (read : Reading ℚ) (on : Model → Settled (Certificate (List ℚ)) �
             behind = c.behind;
             cut = ap (λ ls. line ∷ ls) c.cut;
             undecided =
-                ap (λ o. follow (behind_line (n + 1) o) (λ next. said_by (text_step style) next c.front)) is
+                ap (λ o. follow (behind_line (n + 1) o) (λ next. said_by (text_step limits style) next c.front)) is
                 ∙ c.undecided;
             model = c.model;
             judged =
-                ap (text.settled (n + 1) (λ t. text.judge style t (n + 1 + 1) (c.front ++ c.last ∷ []))) is
+                ap (text.settled (n + 1) (λ t. text.judge limits style t (n + 1 + 1) (c.front ++ c.last ∷ []))) is
                 ∙ c.judged;
             yes = c.yes;
           }
@@ -138,7 +140,7 @@ module _ (read : Reading ℚ) (on : Model → Settled (Certificate (List ℚ)) �
             cut = refl;
             undecided = refl;
             model = m;
-            judged = ap (text.settled (n + 1) (λ t. text.judge style t (n + 1 + 1) [])) is;
+            judged = ap (text.settled (n + 1) (λ t. text.judge limits style t (n + 1 + 1) [])) is;
             yes = e;
           }
       by (Err code) is e more =
@@ -147,7 +149,7 @@ module _ (read : Reading ℚ) (on : Model → Settled (Certificate (List ℚ)) �
   -- with what follows of the model
   certified_by : (style : Style) (lines : List (Line (List ℕ))) (what : Known ℚ) (IsSo : Model → Type 0) →
       ((m : Model) (raw : ExactRaw) → on m (certificate_for m raw) ≡ yes_to what → IsSo m) →
-      says lines (InText style start 0) ≡ Some (yes_to what) → IsCertifiedBy read style lines IsSo
+      says lines (InText style start 0) ≡ Some (yes_to what) → IsCertifiedBy read limits style lines IsSo
   certified_by style lines what IsSo go h =
       let t = in_text style start 0 lines what h in
       let c = in_certificate t.model None 0 t.behind what t.yes in
@@ -172,7 +174,7 @@ narrow_behind m n (progress.Done raw) = refl
 narrow_behind m n progress.Unfit = refl
 
 narrow_in_text : (style : Style) (s : State) (n : ℕ) (line : Line (List ℕ)) →
-    check_step (InText style s n) line ≡ behind_text style (n + 1) (text.step style s line)
+    check_step (InText style s n) line ≡ behind_text style (n + 1) (text.step usual_limits style s line)
 unfolding check_step
 narrow_in_text style s n line = refl
 
@@ -184,7 +186,7 @@ narrow_in_certificate m so_far n line = narrow_behind m (n + 1) (step_by narrow 
 pub certified : (style : Style) (lines : List (Line (List ℕ))) (what : Known ℚ) (IsSo : Model → Type 0) →
     ((m : Model) → IsShown m what → IsSo m) → said style lines ≡ Some (yes_to what) → IsCertified style lines IsSo
 certified style lines what IsSo go h =
-    certified_by narrow verdict_on check_step narrow_in_text narrow_in_certificate style lines what IsSo
+    certified_by narrow usual_limits verdict_on check_step narrow_in_text narrow_in_certificate style lines what IsSo
     (λ m raw e. go m (yes_shown m raw what e)) h
 
 pub yes_holds : (style : Style) (lines : List (Line (List ℕ))) (what : Known ℚ) →
@@ -199,7 +201,7 @@ wide_behind m n (progress.Done raw) = refl
 wide_behind m n progress.Unfit = refl
 
 wide_in_text : (style : Style) (s : State) (n : ℕ) (line : Line (List ℕ)) →
-    wide_step (InText style s n) line ≡ behind_text style (n + 1) (text.step style s line)
+    wide_step (InText style s n) line ≡ behind_text style (n + 1) (text.step large_limits style s line)
 unfolding wide_step
 wide_in_text style s n line = refl
 
@@ -211,5 +213,5 @@ wide_in_certificate m so_far n line = wide_behind m (n + 1) (step_by wide so_far
 pub wide_yes_is : (style : Style) (lines : List (Line (List ℕ))) (what : Known ℚ) →
     wide_said style lines ≡ Some (yes_to what) → IsWidelyCertified style lines (λ m. Holds m what)
 wide_yes_is style lines what h =
-    certified_by wide wide_verdict_on wide_step wide_in_text wide_in_certificate style lines what
+    certified_by wide large_limits wide_verdict_on wide_step wide_in_text wide_in_certificate style lines what
     (λ m. Holds m what) (λ m raw e. wide_yes_holds m raw what e) h

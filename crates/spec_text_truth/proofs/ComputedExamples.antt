@@ -12,8 +12,9 @@ use Rattle.spec_server.specs.Addressing.{addressed_in}
 use Rattle.spec_server.specs.Command.{budget_of, style_of, command_word_of}
 use Rattle.spec_server.specs.EditCommand.{number_in as edit_number_in, edit_by}
 use Rattle.spec_server.specs.Script.{Between, ends_text, ends_certificate}
-use Rattle.spec_text_truth.specs.FalseOutputs.{unended_text, ended_text, asked_twice}
-use Rattle.spec_text_truth.specs.TrueOutput.{Effect, Loads, Edits, Keeps, Asking, asked_from}
+use Rattle.spec_text_truth.specs.FalseOutputs.{unended_text, ended_text, asked_twice, asked_widely}
+use Rattle.spec_text_truth.specs.TrueOutput.{Effect, asked_from}
+use Rattle.spec_text_truth.proofs.AskedEffects.{loads, edits, keeps}
 use Rattle.spec_text.specs.Lines.{lines_of, line_of}
 use Rattle.spec_server.specs.Output.{ended_lines}
 use Rattle.spec_mps.specs.Steps.{Spelled, Refused, judge, step, section_card, finished, model_by}
@@ -21,7 +22,7 @@ use Rattle.spec_mps.specs.Fields.{free_fields, word_fields}
 use Rattle.spec_mps.specs.Cards.{is_skipped}
 use Rattle.spec_mps.specs.Shapes.{section_of, shaped, has_shape, row_type_of}
 use Rattle.spec_text.specs.Words.{words_of}
-use Rattle.spec_model.specs.Kept.{is_model_name, is_row_name, is_name}
+use Rattle.spec_model.specs.Kept.{is_model_name, is_row_name, is_name, usual_limits}
 use Rattle.spec_mps.specs.Reader.{start, rows_card, add_row, column_pair, columns_card, enter, number_in, opened, place_of}
 use Rattle.spec_exact.specs.Fraction.{eq_ℚ, lt_ℚ, neg_ℚ, over, whole}
 use Rattle.spec_exact.specs.Gcd.{gcd}
@@ -39,22 +40,26 @@ model_with side = record {
   columns = [];
 }
 
-pub ended_is : judge style.Free start 1 (lines_of ended_text) ≡ Spelled (model_with (negsuc 4))
+pub ended_is : judge usual_limits style.Free start 1 (lines_of ended_text) ≡ Spelled (model_with (negsuc 4))
 unfolding lines_of ended_lines step line_of free_fields is_skipped section_card section_of word_fields words_of is_model_name rows_card shaped has_shape row_type_of add_row is_row_name eq_ℚ lt_ℚ neg_ℚ over whole gcd is_name decimal_of exponent_of is_narrow mantissa_of number_by number_of parts_of quotient_of scaled unsigned_parts value_of column_pair columns_card enter number_in opened place_of put_side rhs_by rhs_card set_and_pairs side_pair finished model_by
 ended_is = refl
 
 -- with a byte more in its last line
-pub cut_is : judge style.Free start 1 (lines_of (unended_text ++ 88 ∷ [])) ≡ Refused 7 code.UnknownSection
+pub cut_is : judge usual_limits style.Free start 1 (lines_of (unended_text ++ 88 ∷ [])) ≡ Refused 7 code.UnknownSection
 unfolding lines_of ended_lines step line_of free_fields is_skipped section_card section_of word_fields words_of is_model_name rows_card shaped has_shape row_type_of add_row is_row_name eq_ℚ lt_ℚ neg_ℚ over whole gcd is_name decimal_of exponent_of is_narrow mantissa_of number_by number_of parts_of quotient_of scaled unsigned_parts value_of column_pair columns_card enter number_in opened place_of put_side rhs_by rhs_card set_and_pairs side_pair finished model_by
 cut_is = refl
 
-abbrev keeps : Asking
-keeps = record { session = 0; effect = Keeps }
-
 abbrev pub asked_effects : List Effect
 asked_effects =
-    Loads (model_with (negsuc 4)) ∷ Keeps ∷ Keeps ∷ Edits (edit.SetRhs (codes "COST") (whole (negsuc 5))) ∷ Keeps ∷ Keeps ∷ Keeps ∷ Keeps ∷ Keeps ∷ []
+    loads (model_with (negsuc 4)) ∷ keeps ∷ keeps ∷ edits (edit.SetRhs (codes "COST") (whole (negsuc 5))) ∷ keeps ∷ keeps ∷ keeps ∷ keeps ∷ keeps ∷ []
 
 pub asked_is : asked_from Alone Between (lines_of asked_twice) ≡ map (λ effect. record { session = 0; effect = effect }) asked_effects
 unfolding lines_of ended_lines step line_of free_fields is_skipped section_card section_of word_fields words_of is_model_name rows_card shaped has_shape row_type_of add_row is_row_name eq_ℚ lt_ℚ neg_ℚ over whole gcd is_name decimal_of exponent_of is_narrow mantissa_of number_by number_of parts_of quotient_of scaled unsigned_parts value_of column_pair columns_card enter number_in opened place_of put_side rhs_by rhs_card set_and_pairs side_pair finished model_by addressed_in budget_of style_of command_word_of edit_number_in edit_by ends_text ends_certificate
 asked_is = refl
+
+abbrev pub widely_effects : List Effect
+widely_effects = loads (model_with (negsuc 4)) ∷ keeps ∷ []
+
+pub widely_is : asked_from Alone Between (lines_of asked_widely) ≡ map (λ effect. record { session = 0; effect = effect }) widely_effects
+unfolding lines_of ended_lines step line_of free_fields is_skipped section_card section_of word_fields words_of is_model_name rows_card shaped has_shape row_type_of add_row is_row_name eq_ℚ lt_ℚ neg_ℚ over whole gcd is_name decimal_of exponent_of is_narrow mantissa_of number_by number_of parts_of quotient_of scaled unsigned_parts value_of column_pair columns_card enter number_in opened place_of put_side rhs_by rhs_card set_and_pairs side_pair finished model_by addressed_in budget_of style_of command_word_of edit_number_in edit_by ends_text ends_certificate
+widely_is = refl

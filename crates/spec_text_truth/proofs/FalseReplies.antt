@@ -16,10 +16,11 @@ use Rattle.spec_server.specs.Output.{ended_lines}
 use Rattle.spec_server.specs.Script.{Between}
 use Rattle.spec_serve.specs.Link.{AreFirstOf, HoldsOfAll}
 use Rattle.spec_text_truth.specs.FalseOutputs.{asked_twice, answered_as_before}
-use Rattle.spec_text_truth.specs.TrueOutput.{HasNoFeed, Effect, Loads, Edits, Keeps, Asking, Told}
+use Rattle.spec_text_truth.specs.TrueOutput.{HasNoFeed, Effect, Asking, Told}
 use Rattle.spec_text_truth.specs.TrueOutput.{asked_from, asked_of, told_out, model_told, IsTrueReply, AreTrueReplies}
 use Rattle.spec_text_truth.proofs.PlainText.{tested_no_feed}
 use Rattle.spec_text_truth.proofs.ReadTold.{first_told, alone_told, four_behind, behind_lines}
+use Rattle.spec_text_truth.proofs.AskedEffects.{loads, edits, keeps}
 use Rattle.spec_text_truth.proofs.ComputedExamples.{model_with, asked_effects, asked_is}
 
 -- ---- the value 6 is not 5
@@ -39,10 +40,10 @@ not_five v five h =
 
 -- ---- what was told, by what was asked and by its lines
 
-abbrev of_asked : Effect → List ℕ → List (List ℕ) → Told
+abbrev pub of_asked : Effect → List ℕ → List (List ℕ) → Told
 of_asked effect line behind = record { asked = record { session = 0; effect = effect }; line = line; behind = behind }
 
-told_is : (x : Told) (effect : Effect) (line : List ℕ) → x.asked ≡ record { session = 0; effect = effect } → x.line ≡ line →
+pub told_is : (x : Told) (effect : Effect) (line : List ℕ) → x.asked ≡ record { session = 0; effect = effect } → x.line ≡ line →
     x ≡ of_asked effect line x.behind
 told_is x effect line asked is =
     ap₂ (λ (asked : Asking) (line : List ℕ). record { asked = asked; line = line; behind = x.behind }) asked is
@@ -73,22 +74,22 @@ module _ (loaded solved certified changed again : Told) (more : List Told)
   unfolding edited with_right_side
   model_is =
       let e = asks.1 in
-      let one : record { session = 0; effect = Loads (model_with (negsuc 4)) } ≡ loaded.asked = cc in
-      let two : record { session = 0; effect = Keeps } ≡ solved.asked = cc in
-      let three : record { session = 0; effect = Keeps } ≡ certified.asked = cc in
-      let four : record { session = 0; effect = Edits (edit.SetRhs (codes "COST") (whole (negsuc 5))) } ≡ changed.asked = cc in
-      let five : record { session = 0; effect = Keeps } ≡ again.asked = cc in
+      let one : record { session = 0; effect = loads (model_with (negsuc 4)) } ≡ loaded.asked = cc in
+      let two : record { session = 0; effect = keeps } ≡ solved.asked = cc in
+      let three : record { session = 0; effect = keeps } ≡ certified.asked = cc in
+      let four : record { session = 0; effect = edits (edit.SetRhs (codes "COST") (whole (negsuc 5))) } ≡ changed.asked = cc in
+      let five : record { session = 0; effect = keeps } ≡ again.asked = cc in
       ap (λ (session : ℕ). model_told session (loaded ∷ solved ∷ certified ∷ changed ∷ [])) (ap (λ (a : Asking). a.session) (sym five))
       ∙ ap (λ (x : Told). model_told 0 (x ∷ solved ∷ certified ∷ changed ∷ []))
-      (told_is loaded (Loads (model_with (negsuc 4))) loaded.line (sym one) refl)
-      ∙ ap (λ (x : Told). model_told 0 (of_asked (Loads (model_with (negsuc 4))) loaded.line loaded.behind ∷ x ∷ certified ∷ changed ∷ []))
-      (told_is solved Keeps solved.line (sym two) refl)
-      ∙ ap (λ (x : Told). model_told 0 (of_asked (Loads (model_with (negsuc 4))) loaded.line loaded.behind
-      ∷ of_asked Keeps solved.line solved.behind ∷ x ∷ changed ∷ []))
-      (told_is certified Keeps certified.line (sym three) refl)
-      ∙ ap (λ (x : Told). model_told 0 (of_asked (Loads (model_with (negsuc 4))) loaded.line loaded.behind
-      ∷ of_asked Keeps solved.line solved.behind ∷ of_asked Keeps certified.line certified.behind ∷ x ∷ []))
-      (told_is changed (Edits (edit.SetRhs (codes "COST") (whole (negsuc 5)))) (codes "OK") (sym four) ok)
+      (told_is loaded (loads (model_with (negsuc 4))) loaded.line (sym one) refl)
+      ∙ ap (λ (x : Told). model_told 0 (of_asked (loads (model_with (negsuc 4))) loaded.line loaded.behind ∷ x ∷ certified ∷ changed ∷ []))
+      (told_is solved keeps solved.line (sym two) refl)
+      ∙ ap (λ (x : Told). model_told 0 (of_asked (loads (model_with (negsuc 4))) loaded.line loaded.behind
+      ∷ of_asked keeps solved.line solved.behind ∷ x ∷ changed ∷ []))
+      (told_is certified keeps certified.line (sym three) refl)
+      ∙ ap (λ (x : Told). model_told 0 (of_asked (loads (model_with (negsuc 4))) loaded.line loaded.behind
+      ∷ of_asked keeps solved.line solved.behind ∷ of_asked keeps certified.line certified.behind ∷ x ∷ []))
+      (told_is changed (edits (edit.SetRhs (codes "COST") (whole (negsuc 5)))) (codes "OK") (sym four) ok)
 
   stale : again.line ≡ codes "OPTIMAL 5" →
       IsTrueReply (loaded ∷ solved ∷ certified ∷ changed ∷ []) again → ⊥

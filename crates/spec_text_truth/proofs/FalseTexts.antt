@@ -26,10 +26,10 @@ use Rattle.spec_text_truth.proofs.RangedTexts.{printed_has_no}
 -- ---- a range that is too wide
 
 -- what the text spells, of whatever else is left
-spelled_is : (after : Option (List ℕ)) (m : Model) → IsModelOf style.Free after ended_text m → m ≡ model_with (negsuc 4)
+spelled_is : (after : Option (List ℕ)) (m : Model) → IsModelOf (Range RightSide (codes "ROW")) style.Free after ended_text m → m ≡ model_with (negsuc 4)
 spelled_is after m h = by (spells h)
   where
-    spells : IsModelOf style.Free after ended_text m → Spells style.Free (lines_of ended_text) m
+    spells : IsModelOf (Range RightSide (codes "ROW")) style.Free after ended_text m → Spells style.Free (lines_of ended_text) m
     spells (inl (at_end, e)) = e
     spells (inr always) = subst (λ (bytes : List ℕ). Spells style.Free (lines_of bytes) m) (append-nil ended_text) (always [])
 
@@ -90,7 +90,7 @@ wide_range_refuted after behind h =
 -- ---- a text that is not all read
 
 -- a byte more in the last line makes it none
-unended_no_model : (left : List ℕ) (m : Model) → IsModelOf style.Free (Some (88 ∷ left)) unended_text m → ⊥
+unended_no_model : (left : List ℕ) (m : Model) → IsModelOf Solve style.Free (Some (88 ∷ left)) unended_text m → ⊥
 unended_no_model left m (inl (at_end, e)) = by at_end
   where
     by : ◌≡◌ {A = List ℕ} (88 ∷ left) [] → ⊥

@@ -5,8 +5,8 @@ use Rattle.spec_exact.specs.Fraction.{ℚ, 0ℚ}
 use Rattle.spec_model.specs.Model.{Model, width, height}
 use Rattle.spec_model.specs.Truth.{IsOptimal}
 use Rattle.spec_mps.specs.NumberText.{Is, number_of}
-use Rattle.spec_gen.specs.Generated.{generated}
-use Rattle.spec_gen.proofs.Feasible.{zero_feasible, bounded, height_is, width_is}
+use Rattle.spec_commands.specs.Generated.{generated}
+use Rattle.spec_commands.proofs.GeneratedFeasible.{zero_feasible, bounded, height_is, width_is}
 use Rattle.spec_runs.specs.Cold.{ExactSolveEnd}
 use Rattle.spec_server.specs.declared.answer.Answer.{Answer}
 use Rattle.spec_server.specs.declared.asks.Reply.TheVariants as reply

@@ -33,3 +33,4 @@ pub mod ReadTold
 pub mod ComputedExamples
 pub mod FalseTexts
 pub mod FalseReplies
+pub mod FalseWide

@@ -9,6 +9,7 @@ use Rattle.spec_exact.specs.Fraction.{ℚ}
 use Rattle.spec_model.specs.Model.{Name}
 use Rattle.spec_edit.specs.declared.edit.Edit.TheVariants as edit
 use Rattle.spec_edit.specs.Edited.{ExactEdit, Pairs}
+use Rattle.spec_model.specs.Kept.{usual_limits}
 use Rattle.spec_mps.specs.declared.style.Style.{Style}
 use Rattle.spec_mps.specs.Reader.{start}
 use Rattle.spec_mps.specs.Shapes.{look_up}
@@ -398,7 +399,7 @@ line_asks_plain : (addressing : Addressing) (p : Pending) (next : Line (List ℕ
 line_asks_plain addressing Between next h k =
     asks_by_plain (addressed_in addressing next) (addressed_plain addressing next k)
 line_asks_plain addressing (Text session form body) next h k =
-    if_plain (ends_text next) session _ (verdict_plain (judge form start 1 (body ++ next ∷ [])))
+    if_plain (ends_text next) session _ (verdict_plain (judge usual_limits form start 1 (body ++ next ∷ [])))
 line_asks_plain addressing (Certificate session body) next h k =
     if_plain (ends_certificate next) session _
     (judgement_plain (certificate.judge None 1 (body ++ next ∷ []))

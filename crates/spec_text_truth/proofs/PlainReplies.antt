@@ -6,7 +6,7 @@ use Rattle.std.specs.List.{find, flat_map}
 use Rattle.std.proofs.lemmas.List.Elements.{All-nil, All-cons, All-head, All-tail, All-append}
 use Rattle.spec_exact.specs.Fraction.{ℚ}
 use Rattle.spec_model.specs.Model.{Model, Name}
-use Rattle.spec_model.specs.Kept.{IsModel}
+use Rattle.spec_model.specs.Kept.{IsModel, IsUsualModel}
 use Rattle.spec_edit.specs.declared.edit.EditFault.{EditFault}
 use Rattle.spec_edit.specs.declared.edit.EditFault.TheVariants as fault
 use Rattle.spec_edit.specs.declared.edit.Which.{Which}
@@ -256,10 +256,10 @@ wide_plain m kept =
 
 -- ---- the reply to an ask
 
-write_plain : (held : Option Model) (form : Style) → IfSome held IsModel → IsPlainReply (write_reply held form)
+write_plain : (held : Option Model) (form : Style) → IfSome held IsUsualModel → IsPlainReply (write_reply held form)
 write_plain None form kept = tt
 write_plain (Some m) style.Free kept = tt
-write_plain (Some m) style.Fixed kept = by (too_wide m) (wide_plain m kept)
+write_plain (Some m) style.Fixed kept = by (too_wide m) (wide_plain m kept.0)
   where
     by : (item : Option (List ℕ)) → IfSome item HasNoFeed → IsPlainReply (fixed_reply m item)
     by None h = tt
@@ -303,7 +303,8 @@ module _ (old new : State) (replied : ExactReply) where
   change_plain None e h d = as_stated _ d.0 tt
   change_plain (Some m) e h d = edit_plain (edited m e) (edited_plain m e h) d
 
-  due_plain : (asked : ExactAsk) → IfSome old.model IsModel → IsPlainAsk asked → Does old (due old asked) replied new →
+  due_plain : (asked : ExactAsk) → IfSome old.model IsUsualModel → IsPlainAsk asked →
+      Does old (due old asked) replied new →
       IsPlainReply replied
   due_plain (ask.Plain (command.Write form)) kept h d = as_stated _ d.0 (write_plain old.model form kept)
   due_plain (ask.Plain command.Solve) kept h d = solve_plain old.model d
@@ -320,7 +321,8 @@ module _ (old new : State) (replied : ExactReply) where
   due_plain (ask.Bad why) kept h d = as_stated _ d.0 tt
 
 pub step_plain : (places : ℕ) (old new : State) (asked : ExactAsk) (reads : List ExactRead) (replied : ExactReply) →
-    AloneStep places old asked reads replied new → IfSome old.model IsModel → IsPlainAsk asked → IsPlainReply replied
+    AloneStep places old asked reads replied new → IfSome old.model IsUsualModel → IsPlainAsk asked →
+    IsPlainReply replied
 step_plain places old new asked reads replied s kept h = by (step_simply places old reads replied new asked s)
   where
     by : Does old (due old asked) replied new ⊎ WantsMemory old replied new → IsPlainReply replied

@@ -4,6 +4,7 @@ use Rattle.std.proofs.Common.{◌≡◌, ℕ, List, [], ◌∷◌, ◌++◌, Opt
 use Rattle.std.specs.Prelude.{codes, decimal}
 use Rattle.spec_text.specs.declared.line.Line.{Line}
 use Rattle.spec_exact.specs.Fraction.{ℚ}
+use Rattle.spec_model.specs.Kept.{usual_limits}
 use Rattle.spec_model.specs.Model.{Model}
 use Rattle.spec_model.specs.Truth.{IsOptimal, IsInfeasible, IsUnbounded}
 use Rattle.spec_mps.specs.declared.style.Style.{Style}
@@ -54,7 +55,7 @@ out_answered m written out = record {
 answered : (style : Style) (lines : List (Line (List ℕ))) (m : Model) (what : TextSaid) (written : List ℕ) →
     text_said style lines ≡ Some what → PresolveOut what written → Spells style lines m → IsWayAndAnswer m written
 answered style lines m what written is out spells =
-    let said : ◌≡◌ {A = Option TextSaid} (Some what) (Some (Ok m)) = sym is ∙ spelled_said style lines m spells in
+    let said : ◌≡◌ {A = Option TextSaid} (Some what) (Some (Ok m)) = sym is ∙ spelled_said usual_limits style lines m spells in
     let same : what ≡ Ok m = cc in
     out_answered m written (subst (λ (w : TextSaid). PresolveOut w written) same out)
 

@@ -12,7 +12,7 @@ use Rattle.spec_exact.specs.declared.past.Past.{Past}
 use Rattle.spec_exact.specs.Narrow.{IsNarrow, number_limit}
 use Rattle.spec_model.specs.Model.{Model, Name}
 use Rattle.spec_model.specs.Truth.{IsOptimal, IsInfeasible, IsUnbounded}
-use Rattle.spec_model.specs.Kept.{is_printable}
+use Rattle.spec_model.specs.Kept.{is_printable, usual_limits}
 use Rattle.spec_model.proofs.NamePlaces.{column_inside, row_inside}
 use Rattle.spec_mps.specs.declared.style.Style.{Style}
 use Rattle.spec_mps.specs.NumberText.{Is, number_of}
@@ -261,7 +261,7 @@ module _ (moved : Moved) (name : Name) (m : Model) (written : List ℕ) where
   out_of : (style : Style) (lines : List (Line (List ℕ))) (what : TextSaid) → text_said style lines ≡ Some what →
       RangeOut moved name what written → Spells style lines m → Out (place_by moved m name)
   out_of style lines what is out spells =
-      let said : ◌≡◌ {A = Option TextSaid} (Some what) (Some (Ok m)) = sym is ∙ spelled_said style lines m spells in
+      let said : ◌≡◌ {A = Option TextSaid} (Some what) (Some (Ok m)) = sym is ∙ spelled_said usual_limits style lines m spells in
       let same : what ≡ Ok m = cc in
       subst (λ (w : TextSaid). RangeOut moved name w written) same out
 
@@ -338,7 +338,7 @@ module _ (style : Style) (lines : List (Line (List ℕ))) (m : Model) (moved : M
       SaysRange moved name m value low high slope
   ranged_range value low high slope behind no_feed in_low in_high in_slope e =
       let p = answered_by moved name m written 79 (apart 69 79 refl) (ap first e) (place_by moved m name) whole in
-      let kept = spelled_kept style lines m spells in
+      let kept = spelled_kept usual_limits style lines m spells in
       let o = p.2 in
       end_says moved name m (record { rows = kept.narrow_rows; columns = kept.narrow_columns }) p.0 p.1 value low high
       slope behind no_feed in_low in_high in_slope o.0 o.1 o.0.end refl o.1.may_answer

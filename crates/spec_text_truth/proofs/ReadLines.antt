@@ -10,10 +10,13 @@ use Rattle.spec_text.specs.declared.line.Line.{Line}
 use Rattle.spec_text.specs.declared.line.Line.TheVariants.{End}
 use Rattle.spec_text.specs.Lines.{line_of, lines_of, ended_lines_of, input_limit}
 use Rattle.spec_text.proofs.LineLemmas.{lines_of_line, ended_lines_of_line, ended_lines_of_last}
+use Rattle.spec_model.specs.declared.parts.SizeLimits.{SizeLimits}
 use Rattle.spec_model.specs.Model.{Model}
 use Rattle.spec_mps.specs.declared.style.Style.{Style}
 use Rattle.spec_mps.specs.Reader.{State, start}
-use Rattle.spec_mps.specs.Steps.{Outcome, More, Done, step, settled, judge, Spelled, Spells}
+use Rattle.spec_mps.specs.Steps.{Outcome, More, Done, step, settled, judge, Spelled, SpellsWithin}
+use Rattle.spec_program.specs.CommandLine.{ExactTextCommand}
+use Rattle.spec_program.specs.TextLimits.{limits_of}
 use Rattle.spec_commands.specs.InputSaid.{IsSaid}
 use Rattle.spec_text_truth.specs.TrueOutput.{IsModelOf}
 
@@ -71,33 +74,36 @@ lines_begin n bytes more =
 -- ---- what they spell
 
 -- what lines spell they spell with others behind them
-spelled_more : (style : Style) (s : State) (n : ℕ) (lines more : Lines) (m : Model) →
-    judge style s n lines ≡ Spelled m → judge style s n (lines ++ more) ≡ Spelled m
-spelled_more style s n [] more m e = cc
-spelled_more style s n (line ∷ lines) more m e =
-    by (step style s line) e (λ t. spelled_more style t (n + 1) lines more m)
+spelled_more : (limits : SizeLimits) (style : Style) (s : State) (n : ℕ) (lines more : Lines) (m : Model) →
+    judge limits style s n lines ≡ Spelled m → judge limits style s n (lines ++ more) ≡ Spelled m
+spelled_more limits style s n [] more m e = cc
+spelled_more limits style s n (line ∷ lines) more m e =
+    by (step limits style s line) e (λ t. spelled_more limits style t (n + 1) lines more m)
   where
-    by : (o : Outcome) → settled n (λ t. judge style t (n + 1) lines) o ≡ Spelled m →
-        ((t : State) → judge style t (n + 1) lines ≡ Spelled m → judge style t (n + 1) (lines ++ more) ≡ Spelled m) →
-        settled n (λ t. judge style t (n + 1) (lines ++ more)) o ≡ Spelled m
+    by : (o : Outcome) → settled n (λ t. judge limits style t (n + 1) lines) o ≡ Spelled m →
+        ((t : State) → judge limits style t (n + 1) lines ≡ Spelled m →
+        judge limits style t (n + 1) (lines ++ more) ≡ Spelled m) →
+        settled n (λ t. judge limits style t (n + 1) (lines ++ more)) o ≡ Spelled m
     by (Ok (More t)) h go = go t h
     by (Ok (Done d)) h go = h
     by (Err why) h go = cc
 
-pub spells_more : (style : Style) (lines more : Lines) (m : Model) → Spells style lines m → Spells style (lines ++ more) m
-spells_more style lines more m e = spelled_more style start 1 lines more m e
+pub spells_more : (limits : SizeLimits) (style : Style) (lines more : Lines) (m : Model) →
+    SpellsWithin limits style lines m → SpellsWithin limits style (lines ++ more) m
+spells_more limits style lines more m e = spelled_more limits style start 1 lines more m e
 
 -- the end of the input ends no text
-spelled_before : (style : Style) (s : State) (n : ℕ) (lines : Lines) (m : Model) →
-    judge style s n (lines ++ End ∷ []) ≡ Spelled m → judge style s n lines ≡ Spelled m
+spelled_before : (limits : SizeLimits) (style : Style) (s : State) (n : ℕ) (lines : Lines) (m : Model) →
+    judge limits style s n (lines ++ End ∷ []) ≡ Spelled m → judge limits style s n lines ≡ Spelled m
 unfolding step
-spelled_before style s n [] m e = cc
-spelled_before style s n (line ∷ lines) m e =
-    by (step style s line) e (λ t. spelled_before style t (n + 1) lines m)
+spelled_before limits style s n [] m e = cc
+spelled_before limits style s n (line ∷ lines) m e =
+    by (step limits style s line) e (λ t. spelled_before limits style t (n + 1) lines m)
   where
-    by : (o : Outcome) → settled n (λ t. judge style t (n + 1) (lines ++ End ∷ [])) o ≡ Spelled m →
-        ((t : State) → judge style t (n + 1) (lines ++ End ∷ []) ≡ Spelled m → judge style t (n + 1) lines ≡ Spelled m) →
-        settled n (λ t. judge style t (n + 1) lines) o ≡ Spelled m
+    by : (o : Outcome) → settled n (λ t. judge limits style t (n + 1) (lines ++ End ∷ [])) o ≡ Spelled m →
+        ((t : State) → judge limits style t (n + 1) (lines ++ End ∷ []) ≡ Spelled m →
+        judge limits style t (n + 1) lines ≡ Spelled m) →
+        settled n (λ t. judge limits style t (n + 1) lines) o ≡ Spelled m
     by (Ok (More t)) h go = go t h
     by (Ok (Done d)) h go = h
     by (Err why) h go = cc
@@ -105,25 +111,27 @@ spelled_before style s n (line ∷ lines) m e =
 -- ---- what was said of the bytes that were read
 
 -- some lines say it, and what these spell the lines of the input spell
-pub record IsSaidOf {R : Type 0} (said : Lines → Option R) (style : Style) (after : Option (List ℕ)) (read : List ℕ)
-    (what : R) : Type 0 where
+pub record IsSaidOf {R : Type 0} (said : Lines → Option R) (command : ExactTextCommand) (style : Style)
+    (after : Option (List ℕ)) (read : List ℕ) (what : R) : Type 0 where
   pub lines : Lines
   pub says : said lines ≡ Some what
-  pub spells : (m : Model) → Spells style lines m → IsModelOf style after read m
+  pub spells : (m : Model) → SpellsWithin (limits_of command) style lines m → IsModelOf command style after read m
 
-pub said_of_read : {R : Type 0} (said : Lines → Option R) (style : Style) (after : Option (List ℕ)) (read : List ℕ)
-    (what : R) → IsSaid said after read what → IsSaidOf said style after read what
-said_of_read said style after read what (inl early) =
+pub said_of_read : {R : Type 0} (said : Lines → Option R) (command : ExactTextCommand) (style : Style)
+    (after : Option (List ℕ)) (read : List ℕ)
+    (what : R) → IsSaid said after read what → IsSaidOf said command style after read what
+said_of_read said command style after read what (inl early) =
     let first : Lines = ended_lines_of (take input_limit read) in
     record {
       lines = first;
       says = subst (λ (bytes : List ℕ). said (ended_lines_of (take input_limit bytes)) ≡ Some what) (append-nil read) (early []);
       spells = λ m h. inr λ more.
           let begins = lines_begin input_limit read more in
-          subst (λ (ls : Lines). Spells style ls m) (sym begins.1) (spells_more style first begins.0 m h);
+          subst (λ (ls : Lines). SpellsWithin (limits_of command) style ls m) (sym begins.1)
+          (spells_more (limits_of command) style first begins.0 m h);
     }
-said_of_read said style after read what (inr ends) = record {
+said_of_read said command style after read what (inr ends) = record {
   lines = lines_of read ++ End ∷ [];
   says = ends.all;
-  spells = λ m h. inl (ends.at_end, spelled_before style start 1 (lines_of read) m h);
+  spells = λ m h. inl (ends.at_end, spelled_before (limits_of command) style start 1 (lines_of read) m h);
 }

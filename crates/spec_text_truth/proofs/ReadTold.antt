@@ -98,7 +98,7 @@ glyph_four d = by (nat_lt d 10)
     by true e = omega (arith, e)
     by false e = absurd (omega (arith, e))
 
-is_four : (n : ℕ) → decimal n ≡ 52 ∷ [] → n ≡ 4
+pub is_four : (n : ℕ) → decimal n ≡ 52 ∷ [] → n ≡ 4
 unfolding digits
 is_four n e = by (nat_eq (n / 10) 0) refl e
   where

@@ -7,8 +7,9 @@ use Rattle.spec_text.specs.declared.line.Line.{Line}
 use Rattle.spec_exact.specs.Fraction.{ℚ}
 use Rattle.spec_model.specs.Model.{Model, Name, no_row, no_column, width, height, row, column}
 use Rattle.spec_model.specs.Truth.{IsOptimal, IsInfeasible, IsUnbounded}
-use Rattle.spec_model.specs.Kept.{IsModel, row_place, column_place}
+use Rattle.spec_model.specs.Kept.{IsModel, row_place, column_place, usual_limits}
 use Rattle.spec_model.proofs.NamePlaces.{row_at, column_at}
+use Rattle.spec_model.proofs.Kept.{usual_from_within}
 use Rattle.spec_mps.specs.declared.style.Style.{Style}
 use Rattle.spec_mps.specs.NumberText.{Is, number_of}
 use Rattle.spec_mps.specs.Steps.{Spells}
@@ -269,7 +270,7 @@ module _ (style : Style) (lines : List (Line (List ℕ))) (m : Model) (what : Te
     (is : text_said style lines ≡ Some what) (out : IisOut what written) (spells : Spells style lines m) where
   whole : IisOut (Ok m) written
   whole =
-      let same : what ≡ Ok m = same_said what (Ok m) (sym is ∙ spelled_said style lines m spells) in
+      let same : what ≡ Ok m = same_said what (Ok m) (sym is ∙ spelled_said usual_limits style lines m spells) in
       subst (λ (w : TextSaid). IisOut w written) same out
 
   answered : IsAnswered m written
@@ -296,4 +297,5 @@ module _ (style : Style) (lines : List (Line (List ℕ))) (m : Model) (what : Te
   pub iis_sides : (count behind : List ℕ) → HasNoFeed count →
       written ≡ codes "INFEASIBLE" ++ 10 ∷ (codes "IIS " ++ count ++ 10 ∷ behind) → SaysSides m count behind
   iis_sides count behind no_feed e =
-      found_says m (spelled_kept style lines m spells) count behind no_feed whole.0 whole.1 (sym whole.2 ∙ e)
+      found_says m (usual_from_within m (spelled_kept usual_limits style lines m spells)).0 count behind no_feed whole.0
+      whole.1 (sym whole.2 ∙ e)

@@ -1,7 +1,7 @@
 -- The model that a session has, as the lines of its replies say.
 use Rattle.std.proofs.Common.{◌≡◌, ℕ, Bool, true, false, cond, List, [], ◌∷◌, map, Option, Some, None, refl, sym, ap, ◌∙◌, subst}
 use Rattle.std.proofs.Common.{inl, inr, nat_eq}
-use Rattle.std.specs.Prelude.{codes}
+use Rattle.std.specs.Prelude.{codes, fold}
 use Rattle.std.specs.List.{filter}
 use Rattle.spec_model.specs.Model.{Model}
 use Rattle.spec_edit.specs.Edited.{ExactEdit}
@@ -18,7 +18,7 @@ use Rattle.spec_server.specs.Output.{reply_text}
 use Rattle.spec_server.specs.Step.{Begins, GoesOn, AloneStep}
 use Rattle.spec_server.specs.Exchanges.{Exchange, asked_in, AloneRun, of_session}
 use Rattle.spec_truth.specs.ModelThen.{after_edit, after_change}
-use Rattle.spec_text_truth.specs.TrueOutput.{Told, after_line, after_lines, model_told}
+use Rattle.spec_text_truth.specs.TrueOutput.{Told, model_told}
 use Rattle.spec_truth.proofs.HeldThen.{step_then}
 use Rattle.spec_text_truth.proofs.AskedEffects.{effect_of, asking_of}
 use Rattle.spec_text_truth.proofs.ToldReplies.{told_by}
@@ -71,7 +71,7 @@ quit_told places old new reads replied s = by s.begins
 
 step_told : (places : ℕ) (old new : State) (asked : ExactAsk) (reads : List ExactRead) (replied : ExactReply) →
     AloneStep places old asked reads replied new →
-    new.model ≡ after_line old.model (effect_of asked) (reply_text replied)
+    new.model ≡ effect_of asked old.model (reply_text replied)
 step_told places old new (ask.Loaded m) reads replied s = loaded_told places old new m reads replied s
 step_told places old new (ask.Plain command.Quit) reads replied s = quit_told places old new reads replied s
 step_told places old new (ask.Plain (command.Change e)) reads replied s =
@@ -89,13 +89,17 @@ step_told places old new (ask.Bad why) reads replied s = step_then places old ne
 
 -- ---- runs
 
+-- the model behind these, by the one before them
+abbrev after_lines : Option Model → List Told → Option Model
+after_lines held told = fold (λ held (x : Told). x.asked.effect held x.line) held told
+
 run_told : (places : ℕ) (old new : State) (xs : List Exchange) (held : Option Model) → old.model ≡ held →
     AloneRun places old xs new → new.model ≡ after_lines held (map told_of xs)
 run_told places old new [] held is run = ap (λ (s : State). s.model) run ∙ is
 run_told places old new (x ∷ xs) held is run =
-    run_told places run.0 new xs (after_line held (effect_of x.ask) (reply_text x.reply))
+    run_told places run.0 new xs (effect_of x.ask held (reply_text x.reply))
     (step_told places old run.0 x.ask x.reads x.reply run.1
-    ∙ ap (λ h. after_line h (effect_of x.ask) (reply_text x.reply)) is)
+    ∙ ap (λ h. effect_of x.ask h (reply_text x.reply)) is)
     run.2
 
 -- what is told of a session is told of its exchanges

@@ -8,7 +8,7 @@ use Rattle.std.proofs.lemmas.List.Elements.{All-nil, All-cons, All-head, All-tai
 use Rattle.std.proofs.lemmas.List.Folds.{flat_map-map}
 use Rattle.spec_exact.specs.Fraction.{ℚ}
 use Rattle.spec_model.specs.Model.{Model, Name}
-use Rattle.spec_model.specs.Kept.{IsModel}
+use Rattle.spec_model.specs.Kept.{IsModel, IsUsualModel}
 use Rattle.spec_edit.specs.declared.edit.EditFault.{EditFault}
 use Rattle.spec_edit.specs.declared.edit.EditFault.TheVariants as fault
 use Rattle.spec_edit.specs.Edited.{ExactEdit, OrFault, edited}
@@ -50,7 +50,6 @@ use Rattle.spec_server.proofs.Sessions.{IsGood}
 use Rattle.spec_server.proofs.Simply.{Does, WantsMemory, step_simply}
 use Rattle.spec_truth.proofs.AnswerLines.{first}
 use Rattle.spec_text_truth.specs.TrueOutput.{HasNoFeed, Asking, Told, Announces, IsFramed}
-use Rattle.spec_text_truth.proofs.TrueLines.{answer_no_feed}
 use Rattle.spec_text_truth.proofs.PlainReplies.{IsPlainReply, reply_no_feed}
 use Rattle.spec_text_truth.proofs.PlainWords.{printed_no_feed}
 use Rattle.spec_text_truth.proofs.PlainText.{tested_no_feed}
@@ -237,14 +236,14 @@ cards_are_lines form m kept = record {
 
 -- ---- the replies of a session
 
-write_listed : (held : Option Model) (form : Style) → IfSome held IsModel → IsListed (write_reply held form)
+write_listed : (held : Option Model) (form : Style) → IfSome held IsUsualModel → IsListed (write_reply held form)
 unfolding free fixed
 write_listed None form kept = tt
-write_listed (Some m) style.Free kept = cards_are_lines style.Free m kept
+write_listed (Some m) style.Free kept = cards_are_lines style.Free m kept.0
 write_listed (Some m) style.Fixed kept = by (too_wide m)
   where
     by : (item : Option (List ℕ)) → IsListed (fixed_reply m item)
-    by None = cards_are_lines style.Fixed m kept
+    by None = cards_are_lines style.Fixed m kept.0
     by (Some item) = tt
 
 solved_listed : (m : Model) (budget : ℕ) (end : ExactSolveEnd) → IsModel m → MayAnswer m budget end →
@@ -254,11 +253,11 @@ solved_listed m budget (outcome.Ended known cert basis pivots) kept may =
 solved_listed m budget (outcome.Past p) kept may = All-nil HasNoFeed
 solved_listed m budget outcome.Spent kept may = All-nil HasNoFeed
 
-cert_listed : (held : Option Model) (last : Option ExactLastAnswer) → IfSome held IsModel → LastFits held last →
+cert_listed : (held : Option Model) (last : Option ExactLastAnswer) → IfSome held IsUsualModel → LastFits held last →
     IsListed (cert_reply held last)
 cert_listed None last kept fits = tt
 cert_listed (Some m) None kept fits = tt
-cert_listed (Some m) (Some last) kept fits = solved_listed m fits.0 last.solved kept fits.1
+cert_listed (Some m) (Some last) kept fits = solved_listed m fits.0 last.solved kept.0 fits.1
 
 wide_listed : (m : Model) (budget : ℕ) (end : RationalEnd) → IsModel m → IsExactEnd m budget None end →
     All HasNoFeed (wide_lines m end)
@@ -297,10 +296,10 @@ module _ (old new : State) (replied : ExactReply) where
   solve_listed None d = as_stated _ d.0 tt
   solve_listed (Some m) d = as_stated _ d.answer tt
 
-  wide_due_listed : (held : Option Model) → IfSome held IsModel → Does old (wide_due old held) replied new →
+  wide_due_listed : (held : Option Model) → IfSome held IsUsualModel → Does old (wide_due old held) replied new →
       IsListed replied
   wide_due_listed None kept d = as_stated _ d.0 tt
-  wide_due_listed (Some m) kept d = as_stated _ d.answer (wide_listed m old.budget d.end kept d.is_end)
+  wide_due_listed (Some m) kept d = as_stated _ d.answer (wide_listed m old.budget d.end kept.0 d.is_end)
 
   edit_listed : (r : OrFault Model) → Does old (edit_due old r) replied new → IsListed replied
   edit_listed (Ok m) d = as_stated _ d.0 tt

@@ -1,5 +1,5 @@
 -- In a run of sessions, what is told is true of the model that the session has then.
-use Rattle.std.proofs.Common.{◌≡◌, ℕ, Bool, true, false, cond, nat_eq, List, [], ◌∷◌, ◌++◌, map, Option, Some, refl, inl, inr}
+use Rattle.std.proofs.Common.{◌≡◌, ℕ, Bool, true, false, cond, nat_eq, List, [], ◌∷◌, ◌++◌, map, Option, Some, refl, ◌⊎◌, inl, inr}
 use Rattle.std.proofs.Common.{sym, ap, ap₂, ◌∙◌, subst, append_assoc}
 use Rattle.std.specs.Prelude.{All, codes}
 use Rattle.std.specs.List.{flat_map}
@@ -16,7 +16,7 @@ use Rattle.spec_server.specs.declared.addressing.Addressing.{Addressing}
 use Rattle.spec_server.specs.declared.asks.Asked.{Asked}
 use Rattle.spec_server.specs.declared.asks.Reply.TheVariants as reply
 use Rattle.spec_server.specs.Machine.{ExactAsk, IsKeptAsk, AreKept, State, opening}
-use Rattle.spec_server.specs.Output.{reply_text, reply_lines}
+use Rattle.spec_server.specs.Output.{reply_text, reply_lines, ended_lines}
 use Rattle.spec_server.specs.Script.{Between, asks_from}
 use Rattle.spec_server.specs.Step.{AloneStep}
 use Rattle.spec_server.specs.Exchanges.{Exchange, asked_in, AloneRun, of_session, RunAlone}
@@ -24,12 +24,14 @@ use Rattle.spec_server.proofs.RunLemmas.{of_session-append}
 use Rattle.spec_server.proofs.ScriptKept.{lines_kept}
 use Rattle.spec_server.proofs.Sessions.{IsGood, run_good}
 use Rattle.spec_serve.specs.Link.{AreFirstOf, HoldsOfAll}
+use Rattle.spec_truth.specs.Agree.{IsOpen}
 use Rattle.spec_truth.specs.ModelThen.{model_then}
 use Rattle.spec_text_truth.specs.TrueOutput.{IsNumber, IsWideNumber, IsTrueLine, BehindYes, BehindWide, Asking, Told, IsFramed}
 use Rattle.spec_text_truth.specs.TrueOutput.{asked_from, told_out}
 use Rattle.spec_text_truth.specs.TrueOutput.{model_told, IsTrueReply, AreTrueReplies}
 use Rattle.spec_truth.proofs.Shown.{shown_holds, value_fits}
-use Rattle.spec_truth.proofs.AnswerLines.{read_back}
+use Rattle.spec_truth.proofs.AnswerLines.{read_back, same_line}
+use Rattle.spec_truth.proofs.WideReplies.{IsKnownLine}
 use Rattle.spec_truth.proofs.HeldThen.{holds_then}
 use Rattle.spec_truth.proofs.ReplyLines.{optimal_answer, infeasible_answer, unbounded_answer, optimal_yes, infeasible_yes}
 use Rattle.spec_truth.proofs.ReplyLines.{unbounded_yes, wide_reply}
@@ -39,7 +41,7 @@ use Rattle.spec_text_truth.proofs.PlainAsks.{IsPlainAsk, ArePlainAsks, asks_plai
 use Rattle.spec_text_truth.proofs.PlainReplies.{IsPlainReply, step_plain}
 use Rattle.spec_text_truth.proofs.PlainWords.{lines_plain}
 use Rattle.spec_text_truth.proofs.ToldReplies.{behind_of, IsListed, reply_framed, reply_lines_told, step_listed}
-use Rattle.spec_text_truth.proofs.WideReplies.{line_is_true}
+use Rattle.spec_text_truth.proofs.WideReplies.{line_no_feed, line_is_true}
 use Rattle.spec_text_truth.proofs.ToldModels.{told_of, told_then}
 
 -- ---- a session before an exchange
@@ -83,6 +85,10 @@ reached places before behind x alone =
     split_run places opening run.0 (of_session s before) (x ∷ of_session s behind)
     (subst (λ (ys : List Exchange). AloneRun places opening ys run.0) cut run.1) in
     record { old = parts.middle; new = parts.second.0; run = parts.first; step = parts.second.1 }
+
+no_line : (line rest : List ℕ) → [] ≡ line ++ 10 ∷ rest → ⊥
+no_line [] rest e = cc
+no_line (b ∷ line) rest e = cc
 
 -- ---- its reply
 
@@ -147,11 +153,21 @@ module _ (places : ℕ) (before behind : List Exchange) (x : Exchange) (alone : 
   }
 
   wide_line : BehindWide (IsTrueLine IsThen IsWideNumber) (told_of x)
-  wide_line count line more said_wide lines_are =
+  unfolding ended_lines
+  wide_line count said_wide line rest plain e =
       let y = wide_reply x.reply count said_wide in
-      let same : y.0 ≡ line ∷ more = sym (ap behind_of y.1) ∙ lines_are in
-      let w = wide_then places before behind x (line ∷ more) alone (y.1 ∙ ap (λ ls. reply.Wide ls) same) in
-      line_is_true IsThen w.0 line (is_then w.0 w.1) w.2
+      by y.0 y.1 (ap ended_lines (sym (ap behind_of y.1)) ∙ e)
+    where
+      by : (lines : List (List ℕ)) → x.reply ≡ reply.Wide lines → ended_lines lines ≡ line ++ 10 ∷ rest →
+          IsTrueLine IsThen IsWideNumber line
+      by [] is e = absurd (no_line line rest e)
+      by (first ∷ more) is e =
+          let w = wide_then places before behind x (first ∷ more) alone is in
+          let same : first ≡ line =
+          same_line first line (ended_lines more) rest (line_no_feed w.0 first w.2) plain
+          (sym (append_assoc first (10 ∷ []) (ended_lines more)) ∙ e) in
+          line_is_true IsThen w.0 line (is_then w.0 w.1)
+          (subst (λ (l : List ℕ). IsOpen l ⊎ IsKnownLine w.0 l) same w.2)
 
   pub then_true : IsTrueReply (map told_of before) (told_of x)
   then_true = (answer_line, yes_line, wide_line)

@@ -2,7 +2,7 @@
 use Rattle.std.proofs.Common.{◌≡◌, ℕ, Option, List, ◌∷◌, ◌++◌, refl, ap, ◌∙◌, subst}
 use Rattle.std.specs.Prelude.{codes}
 use Rattle.spec_model.specs.Model.{Model}
-use Rattle.spec_gen.specs.Generated.{generated}
+use Rattle.spec_commands.specs.Generated.{generated}
 use Rattle.spec_program.specs.declared.command_line.CommandLine.TheVariants.{Generate}
 use Rattle.spec_commands.specs.GenOut.{GenOut}
 use Rattle.spec_text_truth.specs.TrueOutput.{HasNoFeed, IsNumber, IsTrueLine, OfFirst, IsTrueOf}

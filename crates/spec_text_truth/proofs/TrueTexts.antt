@@ -5,13 +5,15 @@ use Rattle.std.specs.Prelude.{All, codes, decimal}
 use Rattle.std.specs.List.{remove}
 use Rattle.std.proofs.lemmas.List.Elements.{All-nil, All-cons, All-head, All-tail}
 use Rattle.spec_exact.specs.Fraction.{ℚ}
+use Rattle.spec_model.specs.declared.parts.SizeLimits.{SizeLimits}
 use Rattle.spec_model.specs.Model.{Model, Name}
+use Rattle.spec_model.specs.Kept.{usual_limits, large_limits}
 use Rattle.spec_model.specs.Truth.{IsOptimal, IsInfeasible, IsUnbounded}
 use Rattle.spec_edit.proofs.ListLemmas.{All-remove}
 use Rattle.spec_mps.specs.declared.fault.MpsFault.{MpsFault}
 use Rattle.spec_mps.specs.declared.style.Style.{Style}
 use Rattle.spec_mps.specs.Checks.{code_number}
-use Rattle.spec_mps.specs.Steps.{Spells}
+use Rattle.spec_mps.specs.Steps.{Spells, SpellsWithin}
 use Rattle.spec_check.specs.declared.certificate.Known.{Known}
 use Rattle.spec_check.specs.declared.certificate.Known.TheVariants as known
 use Rattle.spec_check.specs.Certificate.{Holds}
@@ -27,6 +29,7 @@ use Rattle.spec_program.specs.declared.command_line.Moved.{Moved}
 use Rattle.spec_program.specs.declared.command_line.TextCommand.TheVariants.{Solve, SolveWide, Check, CheckWide, Basis, BasisWide}
 use Rattle.spec_program.specs.declared.command_line.TextCommand.TheVariants.{Presolve, Iis, Range}
 use Rattle.spec_program.specs.CommandLine.{ExactTextCommand}
+use Rattle.spec_program.specs.TextLimits.{limits_of}
 use Rattle.spec_commands.specs.IisOut.{IisOut}
 use Rattle.spec_commands.specs.PresolveOut.{way_line, PresolveOut}
 use Rattle.spec_commands.specs.RangeOut.{RangeOut}
@@ -38,7 +41,7 @@ use Rattle.spec_server.specs.Output.{check_line, reply_text, known_text, answer_
 use Rattle.spec_commands.specs.InputSaid.{IsSaid}
 use Rattle.spec_commands.specs.CheckOut.{said}
 use Rattle.spec_commands.specs.CheckWideOut.{wide_said, wide_reply_text, wide_check_line}
-use Rattle.spec_server.specs.TextSaid.{TextSaid, text_said}
+use Rattle.spec_server.specs.TextSaid.{TextSaid, text_said, text_said_within}
 use Rattle.spec_commands.specs.SolveOut.{SolveOut}
 use Rattle.spec_server.specs.WideLines.{wide_known_text}
 use Rattle.spec_commands.specs.SolveWideOut.{SolveWideOut}
@@ -98,11 +101,12 @@ begins [] x letter other e = absurd (other (ap first e))
 begins (b ∷ a) x letter other e = ap first e
 
 -- the model of a certified text
-certified_spells : (read : Reading ℚ) (style : Style) (lines : Lines) (IsSo : Model → Type 0)
-    (c : IsCertifiedBy read style lines IsSo) → Spells style lines c.model
-certified_spells read style lines IsSo c =
-    subst (λ (ls : Lines). Spells style ls c.model) (append_assoc c.front (c.last ∷ []) c.behind ∙ sym c.cut)
-    (spells_more style (c.front ++ c.last ∷ []) c.behind c.model c.spelled)
+certified_spells : (read : Reading ℚ) (limits : SizeLimits) (style : Style) (lines : Lines) (IsSo : Model → Type 0)
+    (c : IsCertifiedBy read limits style lines IsSo) → SpellsWithin limits style lines c.model
+certified_spells read limits style lines IsSo c =
+    subst (λ (ls : Lines). SpellsWithin limits style ls c.model) (append_assoc c.front (c.last ∷ []) c.behind
+    ∙ sym c.cut)
+    (spells_more limits style (c.front ++ c.last ∷ []) c.behind c.model c.spelled)
 
 yes_is : (is : ExactReply) (rest : List ℕ) → first (reply_text is) ≡ 89 → (what : Known ℚ) × (is ≡ yes_to what)
 yes_is is rest h = yes_reply is (ap (λ b. nat_eq b 89) h)
@@ -159,10 +163,9 @@ sides_true m count behind s = record {
 
 -- ---- by the command
 
-module _ (style : Style) (lines : Lines) (IsOf : Model → Type 0) (is_of : (m : Model) → Spells style lines m → IsOf m)
-    (written : List ℕ) where
+module _ (IsOf : Model → Type 0) (written : List ℕ) where
   -- by what follows of each first line
-  module _ (IsText : List ℕ → ℚ → Type 0) (m : Model) (spells : Spells style lines m)
+  module _ (IsText : List ℕ → ℚ → Type 0) (m : Model) (is_of : IsOf m)
       (optimal : (text behind : List ℕ) → HasNoFeed text → written ≡ codes "OPTIMAL " ++ text ++ 10 ∷ behind →
       (v : ℚ) × IsText text v × IsOptimal m v)
       (infeasible : (behind : List ℕ) → written ≡ codes "INFEASIBLE" ++ 10 ∷ behind → IsInfeasible m)
@@ -171,38 +174,30 @@ module _ (style : Style) (lines : Lines) (IsOf : Model → Type 0) (is_of : (m :
     begins_true line behind no_feed e = record {
       optimal = λ text is. (
         m,
-        is_of m spells,
+        is_of,
         optimal text behind (tail_no_feed (codes "OPTIMAL ") text (subst HasNoFeed is no_feed))
             (e ∙ ap (λ (l : List ℕ). l ++ 10 ∷ behind) is),
       );
-      infeasible = λ is. (m, is_of m spells, infeasible behind (e ∙ ap (λ (l : List ℕ). l ++ 10 ∷ behind) is));
-      unbounded = λ is. (m, is_of m spells, unbounded behind (e ∙ ap (λ (l : List ℕ). l ++ 10 ∷ behind) is));
+      infeasible = λ is. (m, is_of, infeasible behind (e ∙ ap (λ (l : List ℕ). l ++ 10 ∷ behind) is));
+      unbounded = λ is. (m, is_of, unbounded behind (e ∙ ap (λ (l : List ℕ). l ++ 10 ∷ behind) is));
     }
 
   misspelled_true : (IsText : List ℕ → ℚ → Type 0) (fault : MpsFault) →
       written ≡ check_line (reply.Refused (refusal.Misspelled fault)) → OfFirst (IsTrueLine IsOf IsText) written
   misspelled_true IsText fault e = refused_true IsOf IsText written (ap first e ∙ misspelled_first fault)
 
+module _ (style : Style) (lines : Lines) (IsOf : Model → Type 0) (is_of : (m : Model) → Spells style lines m → IsOf m)
+    (written : List ℕ) where
   solve_true : (what : TextSaid) → text_said style lines ≡ Some what → SolveOut what written →
       OfFirst (IsTrueLine IsOf IsNumber) written
   solve_true (Ok m) is out =
-      let spells = said_spelled style lines m is in
-      begins_true IsNumber m spells (solved.optimal_begins style lines m (Ok m) written is out spells)
+      let spells = said_spelled usual_limits style lines m is in
+      begins_true IsOf written IsNumber m (is_of m spells) (solved.optimal_begins style lines m (Ok m) written is out spells)
       (solved.infeasible_begins style lines m (Ok m) written is out spells)
       (solved.unbounded_begins style lines m (Ok m) written is out spells)
-  solve_true (Err fault) is out = misspelled_true IsNumber fault out
+  solve_true (Err fault) is out = misspelled_true IsOf written IsNumber fault out
 
-  solve_wide_true : (what : TextSaid) → text_said style lines ≡ Some what → SolveWideOut what written →
-      OfFirst (IsTrueLine IsOf IsWideNumber) written
-  solve_wide_true (Ok m) is out =
-      let spells = said_spelled style lines m is in
-      begins_true IsWideNumber m spells
-      (λ text behind no_feed e. let o = wide.optimal_begins style lines m (Ok m) written is out spells text behind no_feed e in (o.0, o.1, o.3))
-      (wide.infeasible_begins style lines m (Ok m) written is out spells)
-      (wide.unbounded_begins style lines m (Ok m) written is out spells)
-  solve_wide_true (Err fault) is out = misspelled_true IsWideNumber fault out
-
-  basis_true : (what : BasisSaid) → basis_said style lines ≡ Some what → BasisOut what written →
+  basis_true : (what : BasisSaid) → basis_said usual_limits style lines ≡ Some what → BasisOut what written →
       OfFirst (IsTrueLine IsOf IsNumber) written
   basis_true what is out line behind no_feed e = record {
     optimal = λ text same.
@@ -217,36 +212,14 @@ module _ (style : Style) (lines : Lines) (IsOf : Model → Type 0) (is_of : (m :
         (o.0, is_of o.0 o.1, o.2);
   }
 
-  basis_wide_true : (what : BasisSaid) → basis_said style lines ≡ Some what → BasisWideOut what written →
-      OfFirst (IsTrueLine IsOf IsWideNumber) written
-  basis_wide_true what is out line behind no_feed e = record {
-    optimal = λ text same.
-        let o = wide_basis.optimal_begins style lines what written is out text behind
-        (tail_no_feed (codes "OPTIMAL ") text (subst HasNoFeed same no_feed)) (e ∙ ap (λ (l : List ℕ). l ++ 10 ∷ behind) same) in
-        (o.3.0, is_of o.3.0 o.3.1, (o.0, o.1, o.3.2));
-    infeasible = λ same.
-        let o = wide_basis.infeasible_begins style lines what written is out behind
-        (e ∙ ap (λ (l : List ℕ). l ++ 10 ∷ behind) same) in
-        (o.0, is_of o.0 o.1, o.2);
-    unbounded = λ same.
-        let o = wide_basis.unbounded_begins style lines what written is out behind
-        (e ∙ ap (λ (l : List ℕ). l ++ 10 ∷ behind) same) in
-        (o.0, is_of o.0 o.1, o.2);
-  }
-
   -- ---- certificates
 
   yes_true : (what : Known ℚ) → said style lines ≡ Some (yes_to what) → (rest : List ℕ) → known_text what ≡ rest →
       IsTrueLine IsOf IsNumber rest
   yes_true what is rest same =
       let c = certified style lines what (λ m. IsShown m what) (λ m s. s) is in
-      known_true IsOf c.model (is_of c.model (certified_spells narrow style lines (λ m. IsShown m what) c)) what rest c.is_so same
-
-  wide_yes_true : (what : Known ℚ) → wide_said style lines ≡ Some (yes_to what) → (rest : List ℕ) →
-      wide_known_text what ≡ rest → IsTrueLine IsOf IsWideNumber rest
-  wide_yes_true what is rest same =
-      let c = wide_yes_is style lines what is in
-      wide_known_true IsOf c.model (is_of c.model (certified_spells wide_numbers style lines (λ m. Holds m what) c)) what rest c.is_so same
+      known_true IsOf c.model (is_of c.model (certified_spells narrow usual_limits style lines (λ m. IsShown m what) c))
+      what rest c.is_so same
 
   check_true : (what : ExactReply) → said style lines ≡ Some what → written ≡ check_line what →
       OfFirst (BehindYes (IsTrueLine IsOf IsNumber)) written
@@ -261,21 +234,6 @@ module _ (style : Style) (lines : Lines) (IsOf : Model → Type 0) (is_of : (m :
       same_line (codes "YES " ++ known_text k.0) (codes "YES " ++ rest) [] behind plain (subst HasNoFeed said_yes no_feed)
       (sym (ap (λ (l : List ℕ). l ++ 10 ∷ []) text) ∙ all) in
       yes_true k.0 (is ∙ ap Some k.1) rest (behind_yes (known_text k.0) rest same)
-
-  wide_check_true : (what : ExactReply) → wide_said style lines ≡ Some what → written ≡ wide_check_line what →
-      OfFirst (BehindYes (IsTrueLine IsOf IsWideNumber)) written
-  unfolding wide_check_line
-  wide_check_true what is out line behind no_feed e rest said_yes =
-      let all : wide_reply_text what ++ 10 ∷ [] ≡ (codes "YES " ++ rest) ++ 10 ∷ behind =
-      sym out ∙ e ∙ ap (λ (l : List ℕ). l ++ 10 ∷ behind) said_yes in
-      let k = wide_yes_reply what (begins (wide_reply_text what) _ 89 (apart 10 89 refl) all) in
-      let text : wide_reply_text what ≡ codes "YES " ++ wide_known_text k.0 = ap wide_reply_text k.1 ∙ wide_yes_text k.0 in
-      let plain =
-      both_no_feed (codes "YES ") (wide_known_text k.0) (tested_no_feed (codes "YES ") refl) (wide_known_no_feed k.0) in
-      let same =
-      same_line (codes "YES " ++ wide_known_text k.0) (codes "YES " ++ rest) [] behind plain (subst HasNoFeed said_yes no_feed)
-      (sym (ap (λ (l : List ℕ). l ++ 10 ∷ []) text) ∙ all) in
-      wide_yes_true k.0 (is ∙ ap Some k.1) rest (behind_yes (wide_known_text k.0) rest same)
 
   -- ---- a model made smaller first
 
@@ -318,7 +276,7 @@ module _ (style : Style) (lines : Lines) (IsOf : Model → Type 0) (is_of : (m :
       (r.lines ∙ ap (λ (front : List ℕ). front ++ rest) w.is_line ∙ append_assoc w.line (10 ∷ []) rest) w.plain
       (other_true IsOf IsNumber w.line w.other)
       (first_true (IsTrueLine IsOf IsNumber) rest (answer_text r.answer) r.behind refl (answer_no_feed r.answer)
-      (answer_true IsOf m (is_of m (said_spelled style lines m is)) r.answer r.shown))
+      (answer_true IsOf m (is_of m (said_spelled usual_limits style lines m is)) r.answer r.shown))
   presolve_true (Err fault) is out =
       two_true (IsTrueLine IsOf IsNumber) written (reply_text (reply.Refused (refusal.Misspelled fault))) []
       out (misspelled_no_feed fault)
@@ -330,15 +288,15 @@ module _ (style : Style) (lines : Lines) (IsOf : Model → Type 0) (is_of : (m :
   iis_true : (what : TextSaid) → text_said style lines ≡ Some what → IisOut what written →
       OfFirst (IsTrueLine IsOf IsNumber) written × SaysTrueSides IsOf written
   iis_true (Ok m) is out =
-      let spells = said_spelled style lines m is in (
-        begins_true IsNumber m spells (iis_optimal style lines m (Ok m) written is out spells)
+      let spells = said_spelled usual_limits style lines m is in (
+        begins_true IsOf written IsNumber m (is_of m spells) (iis_optimal style lines m (Ok m) written is out spells)
             (iis_infeasible style lines m (Ok m) written is out spells)
             (iis_unbounded style lines m (Ok m) written is out spells),
         λ count behind no_feed e.
             (m, is_of m spells, sides_true m count behind (iis_sides style lines m (Ok m) written is out spells count behind no_feed e)),
       )
   iis_true (Err fault) is out = (
-    misspelled_true IsNumber fault out,
+    misspelled_true IsOf written IsNumber fault out,
     λ count behind no_feed e. absurd (apart 69 73 refl (sym (ap first out ∙ misspelled_first fault) ∙ ap first e)),
   )
 
@@ -346,8 +304,8 @@ module _ (style : Style) (lines : Lines) (IsOf : Model → Type 0) (is_of : (m :
       RangeOut moved name what written →
       OfFirst (IsTrueLine IsOf IsNumber) written × SaysTrueRange moved name IsOf written
   ranged_true moved name (Ok m) is out =
-      let spells = said_spelled style lines m is in (
-        begins_true IsNumber m spells (ranged_optimal style lines m moved name (Ok m) written is out spells)
+      let spells = said_spelled usual_limits style lines m is in (
+        begins_true IsOf written IsNumber m (is_of m spells) (ranged_optimal style lines m moved name (Ok m) written is out spells)
             (ranged_infeasible style lines m moved name (Ok m) written is out spells)
             (ranged_unbounded style lines m moved name (Ok m) written is out spells),
         λ value low high slope behind no_feed in_ends in_slope e.
@@ -360,32 +318,92 @@ module _ (style : Style) (lines : Lines) (IsOf : Model → Type 0) (is_of : (m :
             ),
       )
   ranged_true moved name (Err fault) is out = (
-    misspelled_true IsNumber fault out,
+    misspelled_true IsOf written IsNumber fault out,
     λ value low high slope behind no_feed in_ends in_slope e.
         absurd (apart 69 79 refl (sym (ap first out ∙ misspelled_first fault) ∙ ap first e)),
   )
 
-  -- ---- all of them
+-- large models, and numbers of any width
+module _ (style : Style) (lines : Lines) (IsOf : Model → Type 0)
+    (is_of : (m : Model) → SpellsWithin large_limits style lines m → IsOf m) (written : List ℕ) where
+  solve_wide_true : (what : TextSaid) → text_said_within large_limits style lines ≡ Some what → SolveWideOut what written →
+      OfFirst (IsTrueLine IsOf IsWideNumber) written
+  solve_wide_true (Ok m) is out =
+      let spells = said_spelled large_limits style lines m is in
+      begins_true IsOf written IsWideNumber m (is_of m spells)
+      (λ text behind no_feed e. let o = wide.optimal_begins style lines m (Ok m) written is out spells text behind no_feed e in (o.0, o.1, o.3))
+      (wide.infeasible_begins style lines m (Ok m) written is out spells)
+      (wide.unbounded_begins style lines m (Ok m) written is out spells)
+  solve_wide_true (Err fault) is out = misspelled_true IsOf written IsWideNumber fault out
 
-  text_true : (command : ExactTextCommand) (what : SaidBy command) → said_of command style lines ≡ Some what →
-      MayWrite command what written → IsTrueOfText command IsOf written
-  text_true Solve what is out = solve_true what is out
-  text_true SolveWide what is out = solve_wide_true what is out
-  text_true Check what is out = check_true what is out
-  text_true CheckWide what is out = wide_check_true what is out
-  text_true Basis what is out = basis_true what is out
-  text_true BasisWide what is out = basis_wide_true what is out
-  text_true Presolve what is out = presolve_true what is out
-  text_true Iis what is out = iis_true what is out
-  text_true (Range moved name) what is out = ranged_true moved name what is out
+  basis_wide_true : (what : BasisSaid) → basis_said large_limits style lines ≡ Some what → BasisWideOut what written →
+      OfFirst (IsTrueLine IsOf IsWideNumber) written
+  basis_wide_true what is out line behind no_feed e = record {
+    optimal = λ text same.
+        let o = wide_basis.optimal_begins style lines what written is out text behind
+        (tail_no_feed (codes "OPTIMAL ") text (subst HasNoFeed same no_feed)) (e ∙ ap (λ (l : List ℕ). l ++ 10 ∷ behind) same) in
+        (o.3.0, is_of o.3.0 o.3.1, (o.0, o.1, o.3.2));
+    infeasible = λ same.
+        let o = wide_basis.infeasible_begins style lines what written is out behind
+        (e ∙ ap (λ (l : List ℕ). l ++ 10 ∷ behind) same) in
+        (o.0, is_of o.0 o.1, o.2);
+    unbounded = λ same.
+        let o = wide_basis.unbounded_begins style lines what written is out behind
+        (e ∙ ap (λ (l : List ℕ). l ++ 10 ∷ behind) same) in
+        (o.0, is_of o.0 o.1, o.2);
+  }
+
+  wide_yes_true : (what : Known ℚ) → wide_said style lines ≡ Some (yes_to what) → (rest : List ℕ) →
+      wide_known_text what ≡ rest → IsTrueLine IsOf IsWideNumber rest
+  wide_yes_true what is rest same =
+      let c = wide_yes_is style lines what is in
+      wide_known_true IsOf c.model (is_of c.model (certified_spells wide_numbers large_limits style lines
+      (λ m. Holds m what) c)) what rest c.is_so same
+
+  wide_check_true : (what : ExactReply) → wide_said style lines ≡ Some what → written ≡ wide_check_line what →
+      OfFirst (BehindYes (IsTrueLine IsOf IsWideNumber)) written
+  unfolding wide_check_line
+  wide_check_true what is out line behind no_feed e rest said_yes =
+      let all : wide_reply_text what ++ 10 ∷ [] ≡ (codes "YES " ++ rest) ++ 10 ∷ behind =
+      sym out ∙ e ∙ ap (λ (l : List ℕ). l ++ 10 ∷ behind) said_yes in
+      let k = wide_yes_reply what (begins (wide_reply_text what) _ 89 (apart 10 89 refl) all) in
+      let text : wide_reply_text what ≡ codes "YES " ++ wide_known_text k.0 = ap wide_reply_text k.1 ∙ wide_yes_text
+      k.0 in
+      let plain =
+      both_no_feed (codes "YES ") (wide_known_text k.0) (tested_no_feed (codes "YES ") refl) (wide_known_no_feed k.0) in
+      let same =
+      same_line (codes "YES " ++ wide_known_text k.0) (codes "YES " ++ rest) [] behind plain (subst HasNoFeed said_yes
+      no_feed)
+      (sym (ap (λ (l : List ℕ). l ++ 10 ∷ []) text) ∙ all) in
+      wide_yes_true k.0 (is ∙ ap Some k.1) rest (behind_yes (wide_known_text k.0) rest same)
+
+-- ---- all of them
+
+text_true : (command : ExactTextCommand) (style : Style) (lines : Lines) (IsOf : Model → Type 0) →
+    ((m : Model) → SpellsWithin (limits_of command) style lines m → IsOf m) → (written : List ℕ)
+    (what : SaidBy command) → said_of command style lines ≡ Some what → MayWrite command what written →
+    IsTrueOfText command IsOf written
+text_true Solve style lines IsOf is_of written what is out = solve_true style lines IsOf is_of written what is out
+text_true SolveWide style lines IsOf is_of written what is out = solve_wide_true style lines IsOf is_of written what is
+    out
+text_true Check style lines IsOf is_of written what is out = check_true style lines IsOf is_of written what is out
+text_true CheckWide style lines IsOf is_of written what is out = wide_check_true style lines IsOf is_of written what is
+    out
+text_true Basis style lines IsOf is_of written what is out = basis_true style lines IsOf is_of written what is out
+text_true BasisWide style lines IsOf is_of written what is out = basis_wide_true style lines IsOf is_of written what is
+    out
+text_true Presolve style lines IsOf is_of written what is out = presolve_true style lines IsOf is_of written what is out
+text_true Iis style lines IsOf is_of written what is out = iis_true style lines IsOf is_of written what is out
+text_true (Range moved name) style lines IsOf is_of written what is out =
+    ranged_true style lines IsOf is_of written moved name what is out
 
 -- what was said of the bytes that were read
 pub said_true : (command : ExactTextCommand) (style : Style) (after : Option (List ℕ)) (read written : List ℕ)
     (what : SaidBy command) → IsSaid (said_of command style) after read what → MayWrite command what written →
-    IsTrueOfText command (IsModelOf style after read) written
+    IsTrueOfText command (IsModelOf command style after read) written
 said_true command style after read written what is out =
-    let s = said_of_read (said_of command style) style after read what is in
-    text_true style s.lines (IsModelOf style after read) s.spells written command what s.says out
+    let s = said_of_read (said_of command style) command style after read what is in
+    text_true command style s.lines (IsModelOf command style after read) s.spells written what s.says out
 
 -- ---- where nothing is written
 

@@ -1,6 +1,6 @@
 -- The lines that an exact solve replies, and what the first of them says.
 use Rattle.std.proofs.Common.{◌≡◌, ℕ, zero, suc, ◌<◌, Bool, true, false, cond, List, [], ◌∷◌, ◌++◌, refl, sym, ap, ◌∙◌}
-use Rattle.std.proofs.Common.{arith, ◌⊎◌, inl, inr, get_or}
+use Rattle.std.proofs.Common.{arith, ◌⊎◌, inl, inr, get_or, subst}
 use Rattle.std.specs.Prelude.{All, codes}
 use Rattle.std.proofs.lemmas.List.Elements.{All-nil, All-cons, All-append}
 use Rattle.spec_exact.specs.Fraction.{ℚ, 0ℚ, eq_ℚ}
@@ -130,6 +130,10 @@ unbounded_known m known.Unbounded h e = h
 -- the line of an open end differs from each of them in its third letter
 abbrev pub third : List ℕ → ℕ
 third text = get_or text 2 0
+
+pub line_no_feed : (m : Model) (line : List ℕ) → IsOpen line ⊎ IsKnownLine m line → HasNoFeed line
+line_no_feed m line (inl unknown) = subst HasNoFeed (sym unknown) (tested_no_feed (codes "OPEN") refl)
+line_no_feed m line (inr k) = subst HasNoFeed (sym k.is_line) (known_no_feed k.what)
 
 pub line_is_true : (IsOf : Model → Type 0) (m : Model) (line : List ℕ) → IsOf m → IsOpen line ⊎ IsKnownLine m line →
     IsTrueLine IsOf IsWideNumber line

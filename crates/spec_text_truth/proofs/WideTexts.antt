@@ -4,16 +4,17 @@ use Rattle.std.specs.Prelude.{codes}
 use Rattle.spec_text.specs.declared.line.Line.{Line}
 use Rattle.spec_exact.specs.Fraction.{ℚ}
 use Rattle.spec_model.specs.Model.{Model}
+use Rattle.spec_model.specs.Kept.{large_limits}
 use Rattle.spec_model.specs.Truth.{IsOptimal, IsInfeasible, IsUnbounded}
 use Rattle.spec_mps.specs.declared.style.Style.{Style}
-use Rattle.spec_mps.specs.Steps.{Spells}
+use Rattle.spec_mps.specs.Steps.{SpellsWithin}
 use Rattle.spec_mps.specs.WideText.{most_zeros, Is, wide_of}
 use Rattle.spec_mps.specs.WideWritten.{wide_text}
 use Rattle.spec_mps.proofs.ReadBack.{read_again}
 use Rattle.spec_check.specs.declared.certificate.Known.{Known}
 use Rattle.spec_check.specs.declared.certificate.Known.TheVariants as known
 use Rattle.spec_check.specs.Certificate.{Holds}
-use Rattle.spec_server.specs.TextSaid.{TextSaid, text_said}
+use Rattle.spec_server.specs.TextSaid.{TextSaid, text_said_within}
 use Rattle.spec_server.specs.WideLines.{wide_known_text}
 use Rattle.spec_server.specs.Output.{ended_lines}
 use Rattle.spec_commands.specs.SolveWideOut.{SolveWideOut}
@@ -87,26 +88,26 @@ module _ (m : Model) (written : List ℕ) where
 -- ---- the laws
 
 either : (style : Style) (lines : List (Line (List ℕ))) (m : Model) (what : TextSaid) (written : List ℕ) →
-    text_said style lines ≡ Some what → SolveWideOut what written → Spells style lines m → OpenOrTrue m written
+    text_said_within large_limits style lines ≡ Some what → SolveWideOut what written → SpellsWithin large_limits style lines m → OpenOrTrue m written
 either style lines m what written is out spells =
-    let same : what ≡ Ok m = same_said what (Ok m) (sym is ∙ spelled_said style lines m spells) in
+    let same : what ≡ Ok m = same_said what (Ok m) (sym is ∙ spelled_said large_limits style lines m spells) in
     out_true m written (subst (λ (w : TextSaid). SolveWideOut w written) same out)
 
 pub optimal_begins : (style : Style) (lines : List (Line (List ℕ))) (m : Model) (what : TextSaid) (written : List ℕ) →
-    text_said style lines ≡ Some what → SolveWideOut what written → Spells style lines m →
+    text_said_within large_limits style lines ≡ Some what → SolveWideOut what written → SpellsWithin large_limits style lines m →
     (text behind : List ℕ) → HasNoFeed text → written ≡ codes "OPTIMAL " ++ text ++ 10 ∷ behind →
     (v : ℚ) × (text ≡ wide_text v) × (length text ≤ most_zeros → wide_of text ≡ Is v) × IsOptimal m v
 optimal_begins style lines m what written is out spells text behind =
     either_optimal m written text behind (either style lines m what written is out spells)
 
 pub infeasible_begins : (style : Style) (lines : List (Line (List ℕ))) (m : Model) (what : TextSaid)
-    (written : List ℕ) → text_said style lines ≡ Some what → SolveWideOut what written → Spells style lines m →
+    (written : List ℕ) → text_said_within large_limits style lines ≡ Some what → SolveWideOut what written → SpellsWithin large_limits style lines m →
     (behind : List ℕ) → written ≡ codes "INFEASIBLE" ++ 10 ∷ behind → IsInfeasible m
 infeasible_begins style lines m what written is out spells behind =
     either_infeasible m written behind (either style lines m what written is out spells)
 
 pub unbounded_begins : (style : Style) (lines : List (Line (List ℕ))) (m : Model) (what : TextSaid) (written : List ℕ) →
-    text_said style lines ≡ Some what → SolveWideOut what written → Spells style lines m →
+    text_said_within large_limits style lines ≡ Some what → SolveWideOut what written → SpellsWithin large_limits style lines m →
     (behind : List ℕ) → written ≡ codes "UNBOUNDED" ++ 10 ∷ behind → IsUnbounded m
 unbounded_begins style lines m what written is out spells behind =
     either_unbounded m written behind (either style lines m what written is out spells)

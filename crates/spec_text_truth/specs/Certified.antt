@@ -2,34 +2,38 @@
 use Rattle.std.specs.Prelude.{ℕ, ◌≡◌, None, List, [], ◌∷◌, ◌++◌}
 use Rattle.spec_text.specs.declared.line.Line.{Line}
 use Rattle.spec_exact.specs.Fraction.{ℚ}
+use Rattle.spec_model.specs.declared.parts.SizeLimits.{SizeLimits}
 use Rattle.spec_model.specs.Model.{Model}
+use Rattle.spec_model.specs.Kept.{usual_limits}
 use Rattle.spec_mps.specs.declared.style.Style.{Style}
 use Rattle.spec_mps.specs.Steps as text
 use Rattle.spec_check.specs.Raw.{ExactRaw}
 use Rattle.spec_certificate.specs.Text.{Reading, SpellsBy}
 use Rattle.spec_certificate.specs.NarrowText.{narrow}
 use Rattle.spec_certificate.specs.WideText.{wide}
-use Rattle.spec_server.specs.TextSaid.{text_said}
+use Rattle.spec_program.specs.declared.command_line.TextCommand.TheVariants.{CheckWide}
+use Rattle.spec_program.specs.TextLimits.{limits_of}
+use Rattle.spec_server.specs.TextSaid.{text_said_within}
 
--- The lines up to the first one that ends the text of a model, the lines of a certificate after it, whose numbers are read
+-- The lines up to the first one that ends the text of a model within limits, the lines of a certificate after it, whose numbers are read
 -- so, and what is so of the model.
-pub record IsCertifiedBy (read : Reading ℚ) (style : Style) (lines : List (Line (List ℕ)))
+pub record IsCertifiedBy (read : Reading ℚ) (limits : SizeLimits) (style : Style) (lines : List (Line (List ℕ)))
     (IsSo : Model → Type 0) : Type 0 where
   pub front : List (Line (List ℕ))
   pub last : Line (List ℕ)
   pub behind : List (Line (List ℕ))
   pub cut : lines ≡ front ++ last ∷ behind
-  pub undecided : text_said style front ≡ None
+  pub undecided : text_said_within limits style front ≡ None
   pub model : Model
-  pub spelled : text.Spells style (front ++ last ∷ []) model
+  pub spelled : text.SpellsWithin limits style (front ++ last ∷ []) model
   pub raw : ExactRaw
   pub certified : SpellsBy read behind raw
   pub is_so : IsSo model
 
 -- numbers of the certificate are of 127 bits
 abbrev pub IsCertified : Style → List (Line (List ℕ)) → (Model → Type 0) → Type 0
-IsCertified = IsCertifiedBy narrow
+IsCertified = IsCertifiedBy narrow usual_limits
 
--- they may have any width
+-- they may have any width, and the model may be large
 abbrev pub IsWidelyCertified : Style → List (Line (List ℕ)) → (Model → Type 0) → Type 0
-IsWidelyCertified = IsCertifiedBy wide
+IsWidelyCertified = IsCertifiedBy wide (limits_of CheckWide)

@@ -26,3 +26,11 @@ abbrev pub answered_as_before : List (List ℕ) → List ℕ
 answered_as_before certificate =
     ended_lines (codes "LOADED 1 0" ∷ codes "OPTIMAL 5" ∷ codes "CERT 4" ∷ []) ++ ended_lines certificate
     ++ ended_lines (codes "OK" ∷ codes "OPTIMAL 5" ∷ [])
+
+-- to load the text, and to solve it with numbers of any width
+abbrev pub asked_widely : List ℕ
+asked_widely = ended_lines (codes "LOAD FREE" ∷ []) ++ ended_text ++ ended_lines (codes "WIDE" ∷ [])
+
+-- another value behind the line of the answer to that
+abbrev pub answered_widely : List ℕ
+answered_widely = ended_lines (codes "LOADED 1 0" ∷ codes "WIDE 4" ∷ codes "OPTIMAL 6" ∷ [])

@@ -4,6 +4,7 @@ use Rattle.std.specs.Prelude.{ℕ, ◌≡◌, Option, Some, None, Result, Ok, Er
 use Rattle.spec_text.specs.declared.line.Line.{Line}
 use Rattle.spec_exact.specs.Fraction.{ℚ}
 use Rattle.spec_exact.specs.Narrow.{number_limit}
+use Rattle.spec_model.specs.declared.parts.SizeLimits.{SizeLimits}
 use Rattle.spec_model.specs.Model.{Model}
 use Rattle.spec_mps.specs.declared.style.Style.{Style}
 use Rattle.spec_mps.specs.Steps as text
@@ -13,17 +14,17 @@ use Rattle.spec_simplex.specs.Form.{Form, form_of}
 use Rattle.spec_bas.specs.declared.fault.BasCode.{BasCode}
 use Rattle.spec_bas.specs.Steps as file
 use Rattle.spec_bas.specs.Spelled.{SpellsBasis}
-use Rattle.spec_server.specs.TextSaid.{text_said}
+use Rattle.spec_server.specs.TextSaid.{text_said_within}
 use Rattle.spec_commands.specs.BasisOut.{Handed}
 
--- the lines up to the first one that ends the text of a model, and those behind it
-pub record BeginsWithText (style : Style) (lines : List (Line (List ℕ))) (m : Model) (behind : List (Line (List ℕ))) :
-    Type 0 where
+-- the lines up to the first one that ends the text of a model within limits of size, and those behind it
+pub record BeginsWithText (limits : SizeLimits) (style : Style) (lines : List (Line (List ℕ))) (m : Model)
+    (behind : List (Line (List ℕ))) : Type 0 where
   pub front : List (Line (List ℕ))
   pub last : Line (List ℕ)
   pub cut : lines ≡ front ++ last ∷ behind
-  pub undecided : text_said style front ≡ None
-  pub spelled : text.Spells style (front ++ last ∷ []) m
+  pub undecided : text_said_within limits style front ≡ None
+  pub spelled : text.SpellsWithin limits style (front ++ last ∷ []) m
 
 -- the form of a model at the limit of the server's numbers, if it has one there
 abbrev pub form_at_limit : Model → Result Form (FormFault ℚ)
@@ -36,16 +37,17 @@ IsFileOf m (Ok f) lines None = ⊥
 IsFileOf m (Err why) lines basis = basis ≡ None
 
 -- the lines spell the model and, behind its text, the basis
-pub record AreHanded (style : Style) (lines : List (Line (List ℕ))) (handed : Handed) : Type 0 where
+pub record AreHanded (limits : SizeLimits) (style : Style) (lines : List (Line (List ℕ))) (handed : Handed) : Type 0 where
   pub behind : List (Line (List ℕ))
-  pub text : BeginsWithText style lines handed.model behind
+  pub text : BeginsWithText limits style lines handed.model behind
   pub file : IsFileOf handed.model (form_at_limit handed.model) behind handed.basis
 
 -- the lines spell a model with a form and, behind its text, no file: its line n is the first wrong one
-pub record HaveWrongFile (style : Style) (lines : List (Line (List ℕ))) (n : ℕ) (code : BasCode) : Type 0 where
+pub record HaveWrongFile (limits : SizeLimits) (style : Style) (lines : List (Line (List ℕ))) (n : ℕ)
+    (code : BasCode) : Type 0 where
   pub model : Model
   pub form : Form
   pub behind : List (Line (List ℕ))
-  pub text : BeginsWithText style lines model behind
+  pub text : BeginsWithText limits style lines model behind
   pub formed : form_at_limit model ≡ Ok form
   pub refused : file.Refuses model form behind n code

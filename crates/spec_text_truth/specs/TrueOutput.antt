@@ -1,7 +1,7 @@
 -- That what the program writes is true, by its command line and by what it has read: each answer that stands there is so
 -- of the model that a text spells, of the one that is made from a seed, or of the one that a session has then.
 use Rattle.std.specs.Prelude.{ℕ, ◌≡◌, ◌≢◌, ◌<◌, ◌==◌, ◌⊎◌, Option, Some, None, List, [], ◌∷◌, ◌++◌, length, map, All}
-use Rattle.std.specs.Prelude.{codes, decimal, if◌then◌else◌}
+use Rattle.std.specs.Prelude.{codes, decimal, fold, option_map, unwrap_or, if◌then◌else◌}
 use Rattle.std.specs.List.{filter, flat_map, remove}
 use Rattle.std.specs.Io.KnownBytes.{Consumes, Appends}
 use Rattle.spec_text.specs.declared.line.Line.{Line}
@@ -9,26 +9,26 @@ use Rattle.spec_text.specs.Lines.{lines_of, IsPrefixOf}
 use Rattle.spec_text.specs.Words.{same}
 use Rattle.spec_exact.specs.Fraction.{ℚ, ◌+ℚ◌, ◌-ℚ◌, ◌*ℚ◌}
 use Rattle.spec_model.specs.Model.{Model, Name, Limits}
+use Rattle.spec_model.specs.Kept.{usual_limits}
 use Rattle.spec_model.specs.Truth.{IsBetween, IsOptimal, IsInfeasible, IsUnbounded}
-use Rattle.spec_edit.specs.Edited.{ExactEdit}
-use Rattle.spec_gen.specs.Generated.{generated}
+use Rattle.spec_commands.specs.Generated.{generated}
 use Rattle.spec_mps.specs.declared.style.Style.{Style}
 use Rattle.spec_mps.specs.NumberText.{Is, number_of}
 use Rattle.spec_mps.specs.Reader.{start}
-use Rattle.spec_mps.specs.Steps.{Verdict, Spelled, Refused, judge, Spells}
+use Rattle.spec_mps.specs.Steps.{Verdict, Spelled, Refused, judge, SpellsWithin}
 use Rattle.spec_mps.specs.WideWritten.{wide_text}
 use Rattle.spec_iis.specs.declared.side.Side.{Side}
 use Rattle.spec_iis.specs.Sides.{IsSide, MeetsAll}
 use Rattle.spec_program.specs.declared.command_line.CommandLine.TheVariants.{Run, Read, Generate, Serve}
 use Rattle.spec_program.specs.declared.command_line.Moved.{Moved}
-use Rattle.spec_program.specs.declared.command_line.TextCommand.TheVariants.{Solve, SolveWide, Check, CheckWide, Basis, BasisWide}
+use Rattle.spec_program.specs.declared.command_line.TextCommand.TheVariants.{SolveWide, Check, CheckWide, BasisWide}
 use Rattle.spec_program.specs.declared.command_line.TextCommand.TheVariants.{Presolve, Iis, Range}
 use Rattle.spec_program.specs.CommandLine.{ExactLine, ExactTextCommand}
+use Rattle.spec_program.specs.TextLimits.{limits_of}
 use Rattle.spec_commands.specs.IisOut.{side_line}
 use Rattle.spec_commands.specs.RangeOut.{place_by}
 use Rattle.spec_server.specs.declared.addressing.Addressing.{Addressing}
 use Rattle.spec_server.specs.declared.addressing.Addressing.TheVariants.{Numbered}
-use Rattle.spec_server.specs.declared.addressing.Addressed.{Addressed}
 use Rattle.spec_server.specs.declared.command.Command.TheVariants as commands
 use Rattle.spec_server.specs.declared.command.Plain.TheVariants as command
 use Rattle.spec_server.specs.Addressing.{addressed_in}
@@ -109,58 +109,56 @@ SaysTrueSides IsOf output =
     (count behind : List ℕ) → HasNoFeed count → output ≡ codes "INFEASIBLE" ++ 10 ∷ (codes "IIS " ++ count ++ 10 ∷ behind) →
     (m : Model) × IsOf m × AreTrueSides m count behind
 
--- what each of them writes of the model of its text
+-- What each of them writes of the model of its text: an answer in the first line, behind the word YES, or in one of two lines,
+-- and what stands behind the answer's line. `solve` and `basis` write an answer first.
 abbrev pub IsTrueOfText : ExactTextCommand → (Model → Type 0) → List ℕ → Type 0
-IsTrueOfText Solve IsOf output = OfFirst (IsTrueLine IsOf IsNumber) output
 IsTrueOfText SolveWide IsOf output = OfFirst (IsTrueLine IsOf IsWideNumber) output
 IsTrueOfText Check IsOf output = OfFirst (BehindYes (IsTrueLine IsOf IsNumber)) output
 IsTrueOfText CheckWide IsOf output = OfFirst (BehindYes (IsTrueLine IsOf IsWideNumber)) output
-IsTrueOfText Basis IsOf output = OfFirst (IsTrueLine IsOf IsNumber) output
 IsTrueOfText BasisWide IsOf output = OfFirst (IsTrueLine IsOf IsWideNumber) output
 IsTrueOfText Presolve IsOf output = OfFirstTwo (IsTrueLine IsOf IsNumber) output
 IsTrueOfText Iis IsOf output = OfFirst (IsTrueLine IsOf IsNumber) output × SaysTrueSides IsOf output
 IsTrueOfText (Range moved name) IsOf output =
     OfFirst (IsTrueLine IsOf IsNumber) output × SaysTrueRange moved name IsOf output
+IsTrueOfText command IsOf output = OfFirst (IsTrueLine IsOf IsNumber) output
 
 -- ---- what lines ask of sessions, as far as it changes their models
 
--- an ask loads a model, edits the one that is there, drops it, or keeps it
-pub data Effect : Type 0 where
-  Loads : (model : Model) → Effect
-  Edits : (edit : ExactEdit) → Effect
-  Drops : Effect
-  Keeps : Effect
+-- the model of a session after an ask, by the one before it and the line of the reply
+abbrev pub Effect : Type 0
+Effect = Option Model → List ℕ → Option Model
 
 pub record Asking : Type 0 where
   pub session : ℕ
   pub effect : Effect
 
--- nothing is asked by a command before its body has ended
+-- An edit that is answered OK changes the model, QUIT drops it, and all else keeps it. Nothing is asked by a command before
+-- its body has ended.
 abbrev pub effects_of : ExactCommand → List Effect
 effects_of (commands.Load form) = []
 effects_of commands.Check = []
-effects_of (commands.Plain (command.Change e)) = Edits e ∷ []
-effects_of (commands.Plain command.Quit) = Drops ∷ []
-effects_of other = Keeps ∷ []
+effects_of (commands.Plain (command.Change e)) =
+    (λ held line. if same line (codes "OK") then after_edit held e else held) ∷ []
+effects_of (commands.Plain command.Quit) = (λ held line. None) ∷ []
+effects_of other = (λ held line. held) ∷ []
+
+-- a text that spells a model loads it
+abbrev pub effect_of_text : Verdict → Effect
+effect_of_text (Spelled m) = λ held line. Some m
+effect_of_text (Refused n fault) = λ held line. held
 
 abbrev pub asked_of : ℕ → List Effect → List Asking
 asked_of session effects = map (λ effect. record { session = session; effect = effect }) effects
 
-abbrev pub asked_by : Option (Addressed ExactEdit) → List Asking
-asked_by None = []
-asked_by (Some addressed) = asked_of addressed.session (effects_of addressed.command)
-
-abbrev pub effect_of_text : Verdict → Effect
-effect_of_text (Spelled m) = Loads m
-effect_of_text (Refused n fault) = Keeps
-
 -- what a line asks, if it completes an ask
 abbrev pub asked_in_line : Addressing → Pending → Line (List ℕ) → List Asking
-asked_in_line addressing Between next = asked_by (addressed_in addressing next)
+asked_in_line addressing Between next =
+    unwrap_or (option_map (λ a. asked_of a.session (effects_of a.command)) (addressed_in addressing next)) []
 asked_in_line addressing (Text session form body) next =
-    asked_of session (if ends_text next then effect_of_text (judge form start 1 (body ++ next ∷ [])) ∷ [] else [])
+    asked_of session
+    (if ends_text next then effect_of_text (judge usual_limits form start 1 (body ++ next ∷ [])) ∷ [] else [])
 asked_in_line addressing (Certificate session body) next =
-    asked_of session (if ends_certificate next then Keeps ∷ [] else [])
+    asked_of session (if ends_certificate next then (λ held line. held) ∷ [] else [])
 
 abbrev pub asked_from : Addressing → Pending → List (Line (List ℕ)) → List Asking
 asked_from addressing pending [] = []
@@ -190,25 +188,13 @@ pub record IsFramed (x : Told) : Type 0 where
 abbrev pub told_out : Addressing → List Told → List ℕ
 told_out addressing told = flat_map (λ x. front_of addressing x.asked.session ++ x.line ++ 10 ∷ ended_lines x.behind) told
 
--- the model of a session after an ask, by the one before it and the line of the reply
-abbrev pub after_line : Option Model → Effect → List ℕ → Option Model
-after_line held (Loads m) line = Some m
-after_line held (Edits e) line = if same line (codes "OK") then after_edit held e else held
-after_line held Drops line = None
-after_line held Keeps line = held
-
-abbrev pub after_lines : Option Model → List Told → Option Model
-after_lines held [] = held
-after_lines held (x ∷ told) = after_lines (after_line held x.asked.effect x.line) told
-
 -- none at first
 abbrev pub model_told : ℕ → List Told → Option Model
-model_told session told = after_lines None (filter (λ x. x.asked.session == session) told)
+model_told session told = fold (λ held x. x.asked.effect held x.line) None (filter (λ x. x.asked.session == session) told)
 
 -- it is so of the first line behind the word WIDE and a number
 abbrev pub BehindWide : (List ℕ → Type 0) → Told → Type 0
-BehindWide IsTrue x =
-    (count line : List ℕ) (more : List (List ℕ)) → x.line ≡ codes "WIDE " ++ count → x.behind ≡ line ∷ more → IsTrue line
+BehindWide IsTrue x = (count : List ℕ) → x.line ≡ codes "WIDE " ++ count → OfFirst IsTrue (ended_lines x.behind)
 
 -- a reply's line, of the model that the session has then
 abbrev pub IsTrueReply : List Told → Told → Type 0
@@ -229,9 +215,10 @@ pub record AreTrueReplies (addressing : Addressing) (after : Option (List ℕ)) 
 
 -- ---- the whole
 
--- the lines of the input spell this model: those of what was read, if no more comes, or whatever follows that
-abbrev pub IsModelOf : Style → Option (List ℕ) → List ℕ → Model → Type 0
-IsModelOf style after read m = HoldsOfAll after read (λ bytes. Spells style (lines_of bytes) m)
+-- the lines of the input spell this model for the command: those of what was read, if no more comes, or whatever follows that
+abbrev pub IsModelOf : ExactTextCommand → Style → Option (List ℕ) → List ℕ → Model → Type 0
+IsModelOf command style after read m =
+    HoldsOfAll after read (λ bytes. SpellsWithin (limits_of command) style (lines_of bytes) m)
 
 -- Some bytes were read, and some were written, which are an output or the beginning of one; and the output is true by what
 -- was read, and by what was left.
@@ -247,7 +234,7 @@ pub record Tells (IsTrue : Option (List ℕ) → List ℕ → List ℕ → Type 
 -- a server writes its answers to links
 abbrev pub IsTrueOf : ExactLine → Option (List ℕ) → List ℕ → List ℕ → Type 0
 IsTrueOf (Run workers places) after read output = AreTrueReplies Numbered after read output
-IsTrueOf (Read command style) after read output = IsTrueOfText command (IsModelOf style after read) output
+IsTrueOf (Read command style) after read output = IsTrueOfText command (IsModelOf command style after read) output
 IsTrueOf (Generate seed rows columns) after read output =
     OfFirstTwo (IsTrueLine (λ m. m ≡ generated seed rows columns) IsNumber) output
 IsTrueOf (Serve workers each places) after read output = Unit {0}

@@ -18,17 +18,19 @@ ghost use Rattle.std.specs.List.{flat_map};
 ghost use Rattle.spec_text.specs.Lines.{lines_of};
 ghost use Rattle.spec_text.specs.declared.line.Line.{Line};
 ghost use Rattle.spec_exact.specs.Fraction.{ℚ};
+ghost use Rattle.spec_model.specs.declared.parts.SizeLimits.{SizeLimits};
+ghost use Rattle.spec_model.specs.Kept.{usual_limits};
 ghost use Rattle.spec_model.specs.Model.{Model, Name};
 ghost use Rattle.spec_model.specs.Truth.{IsOptimal, IsInfeasible, IsUnbounded};
 ghost use Rattle.spec_mps.specs.declared.fault.Code.TheVariants as code;
 ghost use Rattle.spec_mps.specs.declared.fault.MpsFault.{MpsFault};
 ghost use Rattle.spec_mps.specs.declared.style.Style.{Style};
 ghost use Rattle.spec_mps.specs.NumberText.{Is, number_of};
-ghost use Rattle.spec_mps.specs.Steps.{Spells, Refuses};
+ghost use Rattle.spec_mps.specs.Steps.{Spells, SpellsWithin, RefusesWithin};
 ghost use Rattle.spec_mps.specs.WideText.{most_zeros, wide_of};
 ghost use Rattle.spec_mps.specs.WideText as wide;
 ghost use Rattle.spec_mps.specs.WideWritten.{wide_text};
-ghost use Rattle.spec_gen.specs.Generated.{generated};
+ghost use Rattle.spec_commands.specs.Generated.{generated};
 ghost use Rattle.spec_bas.specs.declared.fault.BasCode.TheVariants as file_code;
 ghost use Rattle.spec_bas.specs.declared.fault.BasFault.{BasFault};
 ghost use Rattle.spec_check.specs.Certificate.{Holds};
@@ -47,7 +49,7 @@ ghost use Rattle.spec_server.specs.Script.{Between, asks_from};
 ghost use Rattle.spec_server.specs.Output.{check_line, reply_text, reply_lines};
 ghost use Rattle.spec_commands.specs.CheckOut.{said};
 ghost use Rattle.spec_commands.specs.CheckWideOut.{wide_said, wide_check_line};
-ghost use Rattle.spec_server.specs.TextSaid.{TextSaid, text_said};
+ghost use Rattle.spec_server.specs.TextSaid.{TextSaid, text_said, text_said_within};
 ghost use Rattle.spec_commands.specs.SolveOut.{SolveOut};
 ghost use Rattle.spec_commands.specs.SolveWideOut.{SolveWideOut};
 ghost use Rattle.spec_commands.specs.BasisOut.{Handed, BasisSaid, basis_said, BasisOut};
@@ -63,6 +65,7 @@ ghost use Rattle.spec_presolve.specs.declared.presolved.Way.{Way};
 ghost use Rattle.spec_commands.specs.PresolveOut.{way_line, PresolveOut};
 ghost use Rattle.spec_commands.specs.RangeOut.{place_by, RangeOut};
 ghost use Rattle.spec_program.specs.CommandLine.{ExactTextCommand};
+ghost use Rattle.spec_program.specs.TextLimits.{limits_of};
 ghost use Rattle.spec_commands.specs.TextOut.{SaidBy, said_of, MayWrite};
 ghost use Rattle.spec_text_truth.specs.AcceptedLines.{IsAccepted};
 ghost use Rattle.spec_text_truth.specs.Certified.{IsCertified, IsWidelyCertified};
@@ -71,7 +74,7 @@ ghost use Rattle.spec_text_truth.specs.SaidSides.{SaysSides};
 ghost use Rattle.spec_text_truth.specs.SpelledBasis.{BeginsWithText, AreHanded, HaveWrongFile};
 ghost use Rattle.spec_truth.specs.TrueAnswer.{IsTrueOf};
 ghost use Rattle.spec_text_truth.specs.FalseOutputs.{unended_text, ended_text, too_wide_range};
-ghost use Rattle.spec_text_truth.specs.FalseOutputs.{asked_twice, answered_as_before};
+ghost use Rattle.spec_text_truth.specs.FalseOutputs.{asked_twice, answered_as_before, asked_widely, answered_widely};
 ghost use Rattle.spec_text_truth.specs.TrueOutput.{HasNoFeed, IsTrueOfText, IsModelOf, AreTrueReplies, IsTrueOf as is_true_of};
 ghost use Rattle.spec_mps.specs.declared.style.Style.TheVariants as form;
 ghost use Rattle.spec_mps.specs.Written.{free};
@@ -83,14 +86,15 @@ ghost use Rattle.spec_server.specs.Streams.{Streams};
 ghost use Rattle.spec_server.specs.Output.{ended_lines};
 ghost use Rattle.spec_serve.specs.Link.{AreFirstOf, HoldsOfAll, LinkMoves};
 
-/// What `solve` takes a text for is what the text spells, or the line and the fault that refuse it.
+/// What `solve` takes a text for is what the text spells within the limits of size, or the line and the fault that refuse it.
 pub fn solve_reads_what_texts_spell()
-    ensures spelled { (style : Style) (lines : List (Line (List ℕ))) (m : Model) →
-        text_said style lines ≡ Some (Ok m) ↔ Spells style lines m }
-    ensures refused { (style : Style) (lines : List (Line (List ℕ))) (fault : MpsFault) →
-        text_said style lines ≡ Some (Err fault) → Refuses style lines fault.line fault.code }
-    ensures cut { (style : Style) (lines : List (Line (List ℕ))) → text_said style lines ≡ None →
-        (n : ℕ) × Refuses style lines n code.Cut }
+    ensures spelled { (limits : SizeLimits) (style : Style) (lines : List (Line (List ℕ))) (m : Model) →
+        text_said_within limits style lines ≡ Some (Ok m) ↔ SpellsWithin limits style lines m }
+    ensures refused { (limits : SizeLimits) (style : Style) (lines : List (Line (List ℕ))) (fault : MpsFault) →
+        text_said_within limits style lines ≡ Some (Err fault) →
+        RefusesWithin limits style lines fault.line fault.code }
+    ensures cut { (limits : SizeLimits) (style : Style) (lines : List (Line (List ℕ))) →
+        text_said_within limits style lines ≡ None → (n : ℕ) × RefusesWithin limits style lines n code.Cut }
 {}
 
 /// What `solve` writes of a text that spells a model begins with the line of an answer, which is true of the model. The
@@ -117,49 +121,49 @@ pub fn solved_texts_have_true_answers()
 /// power of ten may have zeros.
 pub fn wide_solved_texts_have_true_answers()
     ensures optimal { (style : Style) (lines : List (Line (List ℕ))) (m : Model) (what : TextSaid) (written : List ℕ) →
-        text_said style lines ≡ Some what → SolveWideOut what written → Spells style lines m →
+        text_said_within (limits_of of_text.SolveWide) style lines ≡ Some what → SolveWideOut what written → SpellsWithin (limits_of of_text.SolveWide) style lines m →
         (text behind : List ℕ) → All (λ b. b ≢ 10) text → written ≡ codes "OPTIMAL " ++ text ++ 10 ∷ behind →
         (v : ℚ) × (text ≡ wide_text v) × (length text ≤ most_zeros → wide_of text ≡ wide.Is v) × IsOptimal m v }
     ensures infeasible { (style : Style) (lines : List (Line (List ℕ))) (m : Model) (what : TextSaid)
-        (written : List ℕ) → text_said style lines ≡ Some what → SolveWideOut what written → Spells style lines m →
+        (written : List ℕ) → text_said_within (limits_of of_text.SolveWide) style lines ≡ Some what → SolveWideOut what written → SpellsWithin (limits_of of_text.SolveWide) style lines m →
         (behind : List ℕ) → written ≡ codes "INFEASIBLE" ++ 10 ∷ behind → IsInfeasible m }
     ensures unbounded { (style : Style) (lines : List (Line (List ℕ))) (m : Model) (what : TextSaid)
-        (written : List ℕ) → text_said style lines ≡ Some what → SolveWideOut what written → Spells style lines m →
+        (written : List ℕ) → text_said_within (limits_of of_text.SolveWide) style lines ≡ Some what → SolveWideOut what written → SpellsWithin (limits_of of_text.SolveWide) style lines m →
         (behind : List ℕ) → written ≡ codes "UNBOUNDED" ++ 10 ∷ behind → IsUnbounded m }
 {}
 
-/// What `basis` takes its input for is the model that the text spells and, behind it, the basis that the file spells for
+/// What `basis` takes its input for is the model that the text spells within the limits of size and, behind it, the basis that the file spells for
 /// the model's form; or it is the line and the fault that refuse the text, or the file.
 pub fn basis_reads_what_texts_and_files_spell()
-    ensures spelled { (style : Style) (lines : List (Line (List ℕ))) (handed : Handed) →
-        basis_said style lines ≡ Some (Ok handed) ↔ AreHanded style lines handed }
-    ensures text_refused { (style : Style) (lines : List (Line (List ℕ))) (fault : MpsFault) →
-        basis_said style lines ≡ Some (Err (basis_fault.Text fault)) → Refuses style lines fault.line fault.code }
-    ensures file_refused { (style : Style) (lines : List (Line (List ℕ))) (fault : BasFault) →
-        basis_said style lines ≡ Some (Err (basis_fault.File fault)) →
-        HaveWrongFile style lines fault.line fault.code }
-    ensures cut { (style : Style) (lines : List (Line (List ℕ))) → basis_said style lines ≡ None →
-        ((n : ℕ) × Refuses style lines n code.Cut) ⊎ ((n : ℕ) × HaveWrongFile style lines n file_code.Cut) }
+    ensures spelled { (limits : SizeLimits) (style : Style) (lines : List (Line (List ℕ))) (handed : Handed) →
+        basis_said limits style lines ≡ Some (Ok handed) ↔ AreHanded limits style lines handed }
+    ensures text_refused { (limits : SizeLimits) (style : Style) (lines : List (Line (List ℕ))) (fault : MpsFault) →
+        basis_said limits style lines ≡ Some (Err (basis_fault.Text fault)) → RefusesWithin limits style lines fault.line fault.code }
+    ensures file_refused { (limits : SizeLimits) (style : Style) (lines : List (Line (List ℕ))) (fault : BasFault) →
+        basis_said limits style lines ≡ Some (Err (basis_fault.File fault)) →
+        HaveWrongFile limits style lines fault.line fault.code }
+    ensures cut { (limits : SizeLimits) (style : Style) (lines : List (Line (List ℕ))) → basis_said limits style lines ≡ None →
+        ((n : ℕ) × RefusesWithin limits style lines n code.Cut) ⊎ ((n : ℕ) × HaveWrongFile limits style lines n file_code.Cut) }
 {}
 
 /// What `basis` writes of a model and a basis begins with the line of an answer, which is true of the model that the
 /// text spells. The first line alone says it: after the word OPTIMAL stands the text of the optimal value.
 pub fn answers_from_bases_are_true()
     ensures answer { (style : Style) (lines : List (Line (List ℕ))) (handed : Handed) (written : List ℕ) →
-        basis_said style lines ≡ Some (Ok handed) → BasisOut (Ok handed) written →
+        basis_said (limits_of of_text.Basis) style lines ≡ Some (Ok handed) → BasisOut (Ok handed) written →
         Spells style lines handed.model
         × ((answer : Answer ℚ) × (behind : List ℕ)
         × (written ≡ reply_text (reply.Answered answer) ++ 10 ∷ behind) × IsTrueOf handed.model answer) }
     ensures optimal { (style : Style) (lines : List (Line (List ℕ))) (what : BasisSaid) (written : List ℕ) →
-        basis_said style lines ≡ Some what → BasisOut what written →
+        basis_said (limits_of of_text.Basis) style lines ≡ Some what → BasisOut what written →
         (text behind : List ℕ) → All (λ b. b ≢ 10) text → written ≡ codes "OPTIMAL " ++ text ++ 10 ∷ behind →
         (v : ℚ) × (number_of text ≡ Is v) × ((m : Model) × Spells style lines m × IsOptimal m v) }
     ensures infeasible { (style : Style) (lines : List (Line (List ℕ))) (what : BasisSaid) (written : List ℕ) →
-        basis_said style lines ≡ Some what → BasisOut what written →
+        basis_said (limits_of of_text.Basis) style lines ≡ Some what → BasisOut what written →
         (behind : List ℕ) → written ≡ codes "INFEASIBLE" ++ 10 ∷ behind →
         (m : Model) × Spells style lines m × IsInfeasible m }
     ensures unbounded { (style : Style) (lines : List (Line (List ℕ))) (what : BasisSaid) (written : List ℕ) →
-        basis_said style lines ≡ Some what → BasisOut what written →
+        basis_said (limits_of of_text.Basis) style lines ≡ Some what → BasisOut what written →
         (behind : List ℕ) → written ≡ codes "UNBOUNDED" ++ 10 ∷ behind →
         (m : Model) × Spells style lines m × IsUnbounded m }
 {}
@@ -169,34 +173,34 @@ pub fn answers_from_bases_are_true()
 /// where it is no longer than a power of ten may have zeros.
 pub fn answers_from_bases_are_true_at_any_width()
     ensures optimal { (style : Style) (lines : List (Line (List ℕ))) (what : BasisSaid) (written : List ℕ) →
-        basis_said style lines ≡ Some what → BasisWideOut what written →
+        basis_said (limits_of of_text.BasisWide) style lines ≡ Some what → BasisWideOut what written →
         (text behind : List ℕ) → All (λ b. b ≢ 10) text → written ≡ codes "OPTIMAL " ++ text ++ 10 ∷ behind →
         (v : ℚ) × (text ≡ wide_text v) × (length text ≤ most_zeros → wide_of text ≡ wide.Is v)
-        × ((m : Model) × Spells style lines m × IsOptimal m v) }
+        × ((m : Model) × SpellsWithin (limits_of of_text.BasisWide) style lines m × IsOptimal m v) }
     ensures infeasible { (style : Style) (lines : List (Line (List ℕ))) (what : BasisSaid) (written : List ℕ) →
-        basis_said style lines ≡ Some what → BasisWideOut what written →
+        basis_said (limits_of of_text.BasisWide) style lines ≡ Some what → BasisWideOut what written →
         (behind : List ℕ) → written ≡ codes "INFEASIBLE" ++ 10 ∷ behind →
-        (m : Model) × Spells style lines m × IsInfeasible m }
+        (m : Model) × SpellsWithin (limits_of of_text.BasisWide) style lines m × IsInfeasible m }
     ensures unbounded { (style : Style) (lines : List (Line (List ℕ))) (what : BasisSaid) (written : List ℕ) →
-        basis_said style lines ≡ Some what → BasisWideOut what written →
+        basis_said (limits_of of_text.BasisWide) style lines ≡ Some what → BasisWideOut what written →
         (behind : List ℕ) → written ≡ codes "UNBOUNDED" ++ 10 ∷ behind →
-        (m : Model) × Spells style lines m × IsUnbounded m }
+        (m : Model) × SpellsWithin (limits_of of_text.BasisWide) style lines m × IsUnbounded m }
 {}
 
 /// Behind the answer's line `solve` and `presolve` write the lines of a certificate, and so does `basis` behind the line
 /// after it: to the lines of the text with these behind them `check` says yes, and that the same is known.
 pub fn written_certificates_are_accepted()
     ensures solve { (style : Style) (lines : List (Line (List ℕ))) (m : Model) (after : List (Line (List ℕ)))
-        (written : List ℕ) (text : BeginsWithText style lines m after) → SolveOut (Ok m) written →
+        (written : List ℕ) (text : BeginsWithText usual_limits style lines m after) → SolveOut (Ok m) written →
         (answer : Answer ℚ) × (behind : List ℕ) × (written ≡ reply_text (reply.Answered answer) ++ 10 ∷ behind)
         × IsAccepted style (text.front ++ text.last ∷ []) answer behind }
     ensures basis { (style : Style) (lines : List (Line (List ℕ))) (handed : Handed) (written : List ℕ)
-        (are : AreHanded style lines handed) → BasisOut (Ok handed) written →
+        (are : AreHanded usual_limits style lines handed) → BasisOut (Ok handed) written →
         (answer : Answer ℚ) × (how behind : List ℕ)
         × (written ≡ reply_text (reply.Answered answer) ++ 10 ∷ (how ++ 10 ∷ behind)) × All (λ b. b ≢ 10) how
         × IsAccepted style (are.text.front ++ are.text.last ∷ []) answer behind }
     ensures presolve { (style : Style) (lines : List (Line (List ℕ))) (m : Model) (after : List (Line (List ℕ)))
-        (written : List ℕ) (text : BeginsWithText style lines m after) → PresolveOut (Ok m) written →
+        (written : List ℕ) (text : BeginsWithText usual_limits style lines m after) → PresolveOut (Ok m) written →
         (way : Way ℚ) × (answer : Answer ℚ) × (behind : List ℕ)
         × (written ≡ way_line way ++ (reply_text (reply.Answered answer) ++ 10 ∷ behind))
         × IsAccepted style (text.front ++ text.last ∷ []) answer behind }
@@ -360,7 +364,7 @@ pub fn widely_certified_texts_are_true()
 pub fn outputs_of_texts_are_true()
     ensures { (command : ExactTextCommand) (style : Style) (after : Option (List ℕ)) (read written : List ℕ)
         (what : SaidBy command) → IsSaid (said_of command style) after read what → MayWrite command what written →
-        IsTrueOfText command (IsModelOf style after read) written }
+        IsTrueOfText command (IsModelOf command style after read) written }
 {}
 
 /// What `gen` may write is true of the model that is made from the seed.
@@ -381,7 +385,8 @@ pub fn outputs_of_sessions_are_true()
 
 /// Outputs that are false are refuted, however they go on: a range in which the value of the optimum is not the stated one;
 /// an answer to a text up to its last line feed but one byte, where another byte is left; and over a link an answer that was
-/// true before an edit, behind a certificate of which each line would be a reply, were it not counted.
+/// true before an edit, behind a certificate of which each line would be a reply, were it not counted, or another value as that
+/// of a wide solve.
 pub fn false_outputs_are_refuted()
     ensures range { (after : Option (List ℕ)) (behind : List ℕ) →
         ¬ (is_true_of (lines.Read (of_text.Range moved.RightSide (codes "ROW")) form.Free) after ended_text
@@ -392,6 +397,8 @@ pub fn false_outputs_are_refuted()
     ensures before { (after : Option (List ℕ)) (certificate : List (List ℕ)) (behind : List ℕ) →
         All HasNoFeed certificate → length certificate ≡ 4 →
         ¬ (AreTrueReplies addressing.Alone after asked_twice (answered_as_before certificate ++ behind)) }
+    ensures wide { (after : Option (List ℕ)) (behind : List ℕ) →
+        ¬ (AreTrueReplies addressing.Alone after asked_widely (answered_widely ++ behind)) }
 {}
 
 /// Whatever a link asked before, the last answer of its session stands up, as `last_answers_stand_up` of `spec_commands`

@@ -5,6 +5,7 @@ use Rattle.spec_text.specs.Lines.{lines_of, ended_lines_of, input_limit}
 use Rattle.spec_text.specs.declared.line.Line.{Line}
 use Rattle.spec_edit.specs.Edited.{ExactEdit}
 use Rattle.spec_model.specs.Model.{Model}
+use Rattle.spec_model.specs.Kept.{usual_limits}
 use Rattle.spec_mps.specs.declared.style.Style.{Style}
 use Rattle.spec_mps.specs.Reader.{start}
 use Rattle.spec_mps.specs.Steps.{Verdict, Spelled, Refused, judge}
@@ -204,7 +205,8 @@ module _ (addressing : Addressing) where
           let second : f ≡ form = cc in
           let third : b ++ next ∷ [] ≡ g.begun_with = cc in
           let none : asks_of_line addressing (Text s f b) next ≡ [] =
-          ap (λ t. cond {A = Asks} t (asks_at s (ask_of_verdict (judge f start 1 (b ++ next ∷ []))) ∷ []) []) e in
+          ap (λ t. cond {A = Asks} t (asks_at s (ask_of_verdict (judge usual_limits f start 1 (b ++ next ∷ []))) ∷ [])
+          []) e in
           record {
             begun_with = b;
             is = ap (λ s. Text s f b) first ∙ ap (λ f. Text session f b) second;
@@ -308,7 +310,8 @@ module _ (addressing : Addressing) where
       r : IsAskedAt Between lines before (loaded session m)
       r = asked_at Between lines before behind (loaded session m) e
 
-      in_text : (s : ℕ) (f : Style) (b : Lines) → IsSpelled s (judge f start 1 (b ++ r.last ∷ [])) session m →
+      in_text : (s : ℕ) (f : Style) (b : Lines) → IsSpelled s (judge usual_limits f start 1 (b ++ r.last ∷ [])) session
+          m →
           IsBegun Between r.front s f b ⊎ GoesOn Between r.front s f b → IsLoadedFrom addressing lines before session m
       in_text s f b h (inl g) =
           record {
@@ -332,7 +335,7 @@ module _ (addressing : Addressing) where
           asks_of_line addressing p r.last ≡ loaded session m ∷ [] → IsLoadedFrom addressing lines before session m
       by Between is h = absurd (not_by (addressed_in addressing r.last) session m h)
       by (Text s f b) is h =
-          in_text s f b (spelled_by (ends_text r.last) s (judge f start 1 (b ++ r.last ∷ [])) session m h)
+          in_text s f b (spelled_by (ends_text r.last) s (judge usual_limits f start 1 (b ++ r.last ∷ [])) session m h)
           (begins Between r.front s f b is)
       by (Certificate s b) is h =
           absurd

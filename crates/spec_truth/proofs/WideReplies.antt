@@ -1,5 +1,6 @@
 -- The first line that an exact solve replies says what is true of the model, or that nothing is known.
-use Rattle.std.proofs.Common.{◌≡◌, ℕ, List, [], ◌∷◌, None, refl, sym, ap, ◌∙◌, ◌⊎◌, inl, inr}
+use Rattle.std.specs.Prelude.{codes}
+use Rattle.std.proofs.Common.{◌≡◌, ◌≢◌, ℕ, List, [], ◌∷◌, None, refl, sym, ap, ◌∙◌, ◌⊎◌, inl, inr}
 use Rattle.spec_exact.specs.Fraction.{ℚ}
 use Rattle.spec_model.specs.Model.{Model}
 use Rattle.spec_check.specs.declared.certificate.Known.{Known}
@@ -9,7 +10,11 @@ use Rattle.spec_solve.specs.Exact.{RationalEnd, IsExactEnd}
 use Rattle.spec_solve.proofs.ExactAnswers.{answer_true}
 use Rattle.spec_solve.proofs.TrueAnswers.{one_truth}
 use Rattle.spec_server.specs.WideLines.{wide_known_text, wide_lines}
-use Rattle.spec_truth.specs.Agree.{IsOpen, IsWonLine}
+use Rattle.spec_server.specs.declared.asks.Ask.TheVariants as ask
+use Rattle.spec_server.specs.declared.asks.Reply.TheVariants as reply
+use Rattle.spec_server.specs.declared.command.Plain.TheVariants as command
+use Rattle.spec_server.specs.Machine.{ExactReply}
+use Rattle.spec_truth.specs.Agree.{IsOpen, IsWonLine, IsSameBut}
 
 -- the line of an answer that is true of the model
 pub record IsKnownLine (m : Model) (line : List ℕ) : Type 0 where
@@ -46,3 +51,21 @@ pub ends_agree : (m : Model) (budget other : ℕ) (a b : RationalEnd) → IsExac
     IsExactEnd m other None b → IsWonLine (wide_lines m a) (wide_lines m b)
 ends_agree m budget other a b h k =
     lines_agree m (wide_lines m a) (wide_lines m b) (lines_true m budget a h) (lines_true m other b k)
+
+-- where neither knows nothing, both say the same
+first_line : List (List ℕ) → List ℕ
+first_line [] = []
+first_line (line ∷ more) = line
+
+lines_of : ExactReply → List (List ℕ)
+lines_of (reply.Wide lines) = lines
+lines_of other = []
+
+pub same_wide : (line line' : List ℕ) (more more' : List (List ℕ)) →
+    IsSameBut (ask.Plain command.Wide) (reply.Wide (line ∷ more)) (reply.Wide (line' ∷ more')) →
+    line ≢ codes "OPEN" → line' ≢ codes "OPEN" → line ≡ line'
+unfolding first_line lines_of
+same_wide line line' more more' (inl same) known known' = ap (λ (r : ExactReply). first_line (lines_of r)) same
+same_wide line line' more more' (inr (inl same)) known known' = same
+same_wide line line' more more' (inr (inr (inl unknown))) known known' = absurd (known unknown)
+same_wide line line' more more' (inr (inr (inr unknown))) known known' = absurd (known' unknown)

@@ -12,7 +12,7 @@
 //! | `IsOpen`, `IsWonLine` | the line of an exact solve that knows nothing; lines of two of them, of which one may | specs/Agree |
 #![tactic(auto)]
 
-ghost use Rattle.std.specs.Prelude.{◌≡◌, ◌⊎◌, ◌≤◌, ℕ, Some, Ok};
+ghost use Rattle.std.specs.Prelude.{◌≡◌, ◌≢◌, ◌⊎◌, ◌≤◌, ℕ, Some, Ok};
 ghost use Rattle.std.specs.Prelude.{List, [], ◌∷◌, ◌++◌, length, take, map, codes};
 ghost use Rattle.spec_text.specs.Lines.{lines_of, ended_lines_of, input_limit};
 ghost use Rattle.spec_text.specs.declared.line.Line.{Line};
@@ -34,7 +34,7 @@ ghost use Rattle.spec_server.specs.declared.asks.Reply.TheVariants as reply;
 ghost use Rattle.spec_server.specs.declared.command.Plain.TheVariants as command;
 ghost use Rattle.spec_server.specs.Machine.{ExactAsk, State, opening};
 ghost use Rattle.spec_server.specs.Exchanges.{Exchange, of_session, AloneRun, RunAlone};
-ghost use Rattle.spec_truth.specs.Agree.{IsOpen, HasMemory, RepliesAgree};
+ghost use Rattle.spec_truth.specs.Agree.{IsOpen, IsSameBut, HasMemory, RepliesAgree};
 ghost use Rattle.spec_server.specs.Script.{Between, asks_from, ended_asks_of, script_of};
 ghost use Rattle.spec_server.specs.Output.{reply_text};
 ghost use Rattle.spec_server.specs.WideLines.{wide_known_text};
@@ -137,4 +137,11 @@ pub fn runs_of_the_same_asks_agree()
     ensures { (places places' : ℕ) (xs ys : List Exchange) (last last' : State) →
         AloneRun places opening xs last → AloneRun places' opening ys last' →
         map (λ x. x.ask) xs ≡ map (λ y. y.ask) ys → HasMemory xs → HasMemory ys → RepliesAgree xs ys }
+{}
+
+/// Where the replies to a wide solve agree, and neither begins with the line `OPEN`, both begin with the same line.
+pub fn wide_answers_to_the_same_asks_are_the_same()
+    ensures { (line line' : List ℕ) (more more' : List (List ℕ)) →
+        IsSameBut (ask.Plain command.Wide) (reply.Wide (line ∷ more)) (reply.Wide (line' ∷ more')) →
+        line ≢ codes "OPEN" → line' ≢ codes "OPEN" → line ≡ line' }
 {}

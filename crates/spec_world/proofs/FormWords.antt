@@ -5,11 +5,12 @@ use Rattle.std.proofs.lemmas.List.{length-map, length-append, length-replicate}
 use Rattle.std.proofs.lemmas.List.Elements.{All-map, All-weaker}
 use Rattle.spec_exact.specs.Fraction.{ℚ, 0ℚ}
 use Rattle.spec_model.specs.Model.{Model, ExactColumn, height}
-use Rattle.spec_model.specs.Kept.{AreEntries, IsKeptColumn, IsModel}
+use Rattle.spec_model.specs.Kept.{AreEntries, IsKeptColumn, IsUsualModel}
 use Rattle.spec_simplex.specs.Form.{Form, IsForm, least_cost, formed, form_of}
 use Rattle.spec_simplex.proofs.Formed.{form_is}
 
-formed_kept : (m : Model) (ls : List (Option ℚ × Option ℚ)) → IsModel m → length ls ≡ height m → IsForm (formed m ls)
+formed_kept : (m : Model) (ls : List (Option ℚ × Option ℚ)) → IsUsualModel m → length ls ≡ height m →
+    IsForm (formed m ls)
 formed_kept m ls h all =
     let lower : length (map (λ (c : ExactColumn). c.lower) m.columns) ≡ length m.columns =
     length-map m.columns (λ (c : ExactColumn). c.lower) in
@@ -23,8 +24,8 @@ formed_kept m ls h all =
     length-map ls (λ (l : Option ℚ × Option ℚ). l.1) in
     let none : length (replicate {A = ℚ} (height m) 0ℚ) ≡ height m = length-replicate {A = ℚ} (height m) 0ℚ in
     record {
-      few_rows = h.few_rows;
-      few_columns = h.few_columns;
+      few_rows = h.1.few_rows;
+      few_columns = h.1.few_columns;
       all_entries = length-map m.columns (λ (c : ExactColumn). c.entries);
       all_lower =
           length-append (map (λ (c : ExactColumn). c.lower) m.columns) (map (λ (l : Option ℚ × Option ℚ). l.0) ls)
@@ -42,10 +43,10 @@ formed_kept m ls h all =
       columns =
           All-map (AreEntries (height m)) (λ (c : ExactColumn). c.entries) m.columns
           (All-weaker (IsKeptColumn (height m)) (λ (c : ExactColumn). AreEntries (height m) c.entries)
-          (λ c k. k.entries) m.columns h.columns);
+          (λ c k. k.entries) m.columns h.0.columns);
     }
 
 -- the form of a model that may be kept
-pub form_kept : (limit : Option ℕ) (m : Model) (f : Form) → IsModel m → form_of limit m ≡ Ok f → IsForm f
+pub form_kept : (limit : Option ℕ) (m : Model) (f : Form) → IsUsualModel m → form_of limit m ≡ Ok f → IsForm f
 form_kept limit m f h e =
     let o = form_is limit m f e in subst IsForm o.2 (formed_kept m o.0 h o.1.all)

@@ -5,7 +5,7 @@ use Rattle.spec_text.proofs.WordLemmas.{same_is_equal}
 use Rattle.spec_exact.specs.Fraction.{ℚ}
 use Rattle.spec_exact.specs.Narrow.{number_limit}
 use Rattle.spec_model.specs.Model.{Model}
-use Rattle.spec_model.specs.Kept.{IsModel}
+use Rattle.spec_model.specs.Kept.{IsUsualModel}
 use Rattle.spec_check.specs.declared.certificate.Known.TheVariants as known
 use Rattle.spec_simplex.specs.declared.ends.FormFault.{FormFault}
 use Rattle.spec_simplex.specs.Form.{Form, IsForm, form_of}
@@ -96,14 +96,14 @@ module _ (state : State) (found : Looked) (pending : Pending) (s : SolvesWith st
   by_end Spent e w = cc
 
 pub published_formed : (state : State) (shape : Words) (found : Looked) (reads : List ExactRead) (pending : Pending) →
-    IfSome state.model IsModel → Begins state solve (Looks shape) → LookReads shape reads found →
+    IfSome state.model IsUsualModel → Begins state solve (Looks shape) → LookReads shape reads found →
     IsFormedFound found → Works state found (Publishes pending) → IsWellFormed pending.words
 published_formed state shape found reads pending kept begins look formed works = by works
   where
     by : SolvesWith state found (Publishes pending) ⊎ (Publishes pending ≡ Ends reply.Memory state) →
         IsWellFormed pending.words
     by (inl s) =
-        let model : IsModel s.model = subst (λ (h : Option Model). IfSome h IsModel) s.held kept in
+        let model : IsUsualModel s.model = subst (λ (h : Option Model). IfSome h IsUsualModel) s.held kept in
         let is : IsForm s.form = form_kept (Some number_limit) s.model s.form model s.formed in
         let shape_so : shape ≡ shape_of s.form = shape_is state s.model s.form shape s.held s.formed begins in
         let shaped : HasShape (shape_of s.form) found =

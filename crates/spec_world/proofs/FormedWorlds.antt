@@ -3,7 +3,7 @@ use Rattle.std.proofs.Common.{◌≡◌, ℕ, zero, suc, Bool, true, false, cond
 use Rattle.std.proofs.Common.{length, Option, Some, None, IfSome, refl, sym, ap, ◌∙◌, subst, ◌⊎◌, inl, inr}
 use Rattle.std.proofs.lemmas.Bool.{eqb-false}
 use Rattle.spec_model.specs.Model.{Model}
-use Rattle.spec_model.specs.Kept.{IsModel}
+use Rattle.spec_model.specs.Kept.{IsUsualModel}
 use Rattle.spec_runs.specs.Cold.{ExactSolveEnd}
 use Rattle.spec_board.specs.Words.{IsWellFormed}
 use Rattle.spec_board.specs.declared.place.Place.TheVariants as place
@@ -42,7 +42,7 @@ IsFormedStage other = Unit {0}
 
 -- its model may be kept, and the words that it found or publishes are well formed
 record IsFormedSession (s : Session) : Type 0 where
-  kept : IfSome s.state.model IsModel
+  kept : IfSome s.state.model IsUsualModel
   stage : IsFormedStage s.stage
 
 abbrev ArePlacesFormed : List ExactPlace → Type 0
@@ -76,7 +76,7 @@ works_model old found replied next (inr e) = let z : next ≡ old = cc in ap (λ
 -- ---- acts
 
 module _ (server : Server) (me : ℕ) (now : List ExactPlace) (state : State) (finished : List Exchange)
-    (kept : IfSome state.model IsModel) (formed : ArePlacesFormed now) where
+    (kept : IfSome state.model IsUsualModel) (formed : ArePlacesFormed now) where
   abbrev session : Stage → Session
   session stage = record { state = state; stage = stage; finished = finished }
 
@@ -120,7 +120,8 @@ module _ (server : Server) (me : ℕ) (now : List ExactPlace) (state : State) (f
       IsFormedLeft (worked_left me now (session (Solving found reads)) reads worked)
   worked_formed found reads (Ends replied next) h fits works = record {
     session = record {
-      kept = subst (λ (m : Option Model). IfSome m IsModel) (sym (works_model state found replied next works)) kept;
+      kept = subst (λ (m : Option Model). IfSome m IsUsualModel) (sym (works_model state found replied next works))
+          kept;
       stage = tt;
     };
     places = formed;

@@ -3,7 +3,7 @@ use Rattle.spec_text_truth.proofs.basis_reads_what_texts_and_files_spell.Goals a
 
 pub returns : goal.returns
 returns c = record {
-  spelled = λ style lines handed. (said_handed style lines handed, handed_said style lines handed);
+  spelled = λ limits style lines handed. (said_handed limits style lines handed, handed_said limits style lines handed);
   text_refused = said_text_refused;
   file_refused = said_file_refused;
   cut = said_both_cut;

@@ -3,7 +3,7 @@ use Rattle.spec_text_truth.proofs.solve_reads_what_texts_spell.Goals as goal
 
 pub returns : goal.returns
 returns c = record {
-  spelled = λ style lines m. (said_spelled style lines m, spelled_said style lines m);
+  spelled = λ limits style lines m. (said_spelled limits style lines m, spelled_said limits style lines m);
   refused = said_refused;
   cut = said_cut;
 }
