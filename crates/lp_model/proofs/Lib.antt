@@ -7,3 +7,4 @@ pub mod Columns
 pub mod Kept
 pub mod NewColumn
 pub mod PairSteps
+pub mod Sizes

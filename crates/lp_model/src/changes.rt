@@ -3,7 +3,7 @@ ghost use Rattle.std.specs.Prelude.{◌≡◌, ◌<◌, false, All, IsTrue, map,
 ghost use Rattle.std.specs.List.{AllPairs};
 ghost use Rattle.spec_exact.specs.Narrow.{IsNarrow};
 ghost use Rattle.spec_model.specs.Model.{ExactColumn, width, height, row};
-ghost use Rattle.spec_model.specs.Kept.{IsBound, IsKeptColumn, FitsKind, row_limit, column_limit};
+ghost use Rattle.spec_model.specs.Kept.{IsBound, IsKeptColumn, FitsKind, large_limits};
 ghost use Rattle.spec_model.specs.Kept.{is_row_name};
 ghost use Rattle.spec_edit.specs.Changes as changes;
 ghost use Rattle.spec_edit.specs.Edited.{is_row_taken, is_column_taken};
@@ -19,7 +19,7 @@ use std::alloc::AllocError;
 impl Model {
     /// Adds a row at the end.
     pub fn push_row(&mut self, row: Row) -> Result<(), AllocError>
-        requires few { height self.old < row_limit }
+        requires few { height self.old < large_limits.rows }
         requires name { IsTrue (is_row_name row.name) }
         requires free { is_row_taken self.old row.name ≡ false }
         requires range { FitsKind row.kind row.range }
@@ -34,7 +34,7 @@ impl Model {
 
     /// Adds a column at the end.
     pub fn push_col(&mut self, column: Column) -> Result<(), AllocError>
-        requires few { width self.old < column_limit }
+        requires few { width self.old < large_limits.columns }
         requires kept { IsKeptColumn (height self.old) column }
         requires narrow { All (λ e. IsNarrow e.1) column.entries }
         requires free { is_column_taken self.old column.name ≡ false }

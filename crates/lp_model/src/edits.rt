@@ -11,6 +11,7 @@ use crate::edit::{ColumnBounds, Edit, EditError, EditFault, Pairs};
 use crate::limits::is_free;
 use crate::model::{Column, Model, Row};
 use crate::names::{is_name, is_row_name};
+use crate::usual::UsualModel;
 use lp_base::{Name, are_same};
 use lp_frac::{Frac, neg, zero};
 use spec_edit::Which;
@@ -176,9 +177,9 @@ fn set_bounds(model: &mut Model, name: Name, bounds: ColumnBounds) -> Result<(),
     Ok(())
 }
 
-/// Applies an edit. One that is refused leaves the model as it was, and so does one for which there is no memory.
+// What an edit makes of a model. One that is refused leaves it as it was.
 #[tactic(auto, unfolding(spec_edit::specs::Edited::edited))]
-pub fn apply(alloc: Global, model: &mut Model, edit: Edit) -> Result<(), EditError>
+fn change(alloc: Global, model: &mut Model, edit: Edit) -> Result<(), EditError>
     ensures { Applies model.old edit model.new result }
 {
     match edit {
@@ -213,4 +214,11 @@ pub fn apply(alloc: Global, model: &mut Model, edit: Edit) -> Result<(), EditErr
             Ok(())
         }
     }
+}
+
+/// Applies an edit. One that is refused leaves the model as it was, and so does one for which there is no memory.
+pub fn apply(alloc: Global, model: &mut UsualModel, edit: Edit) -> Result<(), EditError>
+    ensures { Applies model.old edit model.new result }
+{
+    change(alloc, &mut model.model, edit)
 }

@@ -3,6 +3,8 @@
 //! | Item | What it is | Where |
 //! |---|---|---|
 //! | `Model` | a model that may be kept; to contracts a record of plain data, `spec_model`'s `Model` | src/model |
+//! | `UsualModel` | a model within the usual limits, as sessions hold them | src/usual |
+//! | `USUAL_LIMITS`, `LARGE_LIMITS` | how many rows and columns there may be | src/usual |
 //! | `Row`, `Column` | its parts, with names and numbers as the code holds them | src/model |
 //! | `Sense`, `Kind` | whether the objective is to be least or greatest; the kinds of rows | `spec_model` |
 //! | `RowLimit`, `lower_of`, `upper_of` | the limits of a row, as the operations that give them | src/limits |
@@ -11,7 +13,7 @@
 //! | `put_entry` | puts a coefficient among the entries of a column | src/entries |
 //! | `NameIndex` | distinct names that are found by their hashes | src/name_index |
 //! | `is_name`, `is_row_name`, `is_model_name` | whether a text may be a name | src/names |
-//! | `apply` | changes a model by an edit, or refuses the edit and leaves the model | src/edits |
+//! | `apply` | changes a usual model by an edit, or refuses the edit and leaves the model | src/edits |
 //! | `Edit` | an edit, whose rows and columns are named | src/edit |
 //! | `Pairs`, `ColumnBounds` | the numbers of a new column, and the bounds of a column | src/edit |
 //! | `EditError`, `EditFault`, `Which` | why an edit is not applied | src/edit, `spec_edit` |
@@ -32,6 +34,7 @@ mod model;
 mod name_index;
 mod names;
 mod narrow;
+mod usual;
 
 pub use edit::{ColumnBounds, Edit, EditError, EditFault, Pairs};
 pub use edits::apply;
@@ -42,3 +45,4 @@ pub use name_index::NameIndex;
 pub use names::{is_model_name, is_name, is_row_name};
 pub use spec_edit::Which;
 pub use spec_model::{Kind, Sense};
+pub use usual::{LARGE_LIMITS, USUAL_LIMITS, UsualModel};

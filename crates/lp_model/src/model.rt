@@ -17,7 +17,7 @@ pub type Row = spec_model::Row<Name, Frac>;
 /// A column: a variable with its cost, its bounds and its coefficients.
 pub type Column = spec_model::Column<Name, Frac, Entries>;
 
-/// A linear program. It has at most 256 rows and 512 columns, with distinct names.
+/// A linear program. It has at most 65,536 rows and 131,072 columns, with distinct names.
 pub struct Model {
     pub(crate) name: Name,
     pub(crate) sense: Sense,
@@ -147,7 +147,7 @@ impl Model {
     /// How many rows there are.
     pub fn rows(&self) -> u32
         ensures value { result ≡ height self.now }
-        ensures bound { result ≤ 256 }
+        ensures bound { result ≤ 65536 }
     {
         self.rows.len() as u32
     }
@@ -155,7 +155,7 @@ impl Model {
     /// How many columns there are.
     pub fn cols(&self) -> u32
         ensures value { result ≡ width self.now }
-        ensures bound { result ≤ 512 }
+        ensures bound { result ≤ 131072 }
     {
         self.columns.len() as u32
     }

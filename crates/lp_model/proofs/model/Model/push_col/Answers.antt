@@ -1,6 +1,6 @@
 use Rattle.std.proofs.Common.{◌≡◌, ◌<◌, ◌++◌, ◌∷◌, [], ◌∙◌, false, subst, sym, ap}
 use Rattle.spec_model.specs.Model.{ExactColumn, width, height}
-use Rattle.spec_model.specs.Kept.{IsKeptColumn, column_limit}
+use Rattle.spec_model.specs.Kept.{IsKeptColumn, large_limits}
 use Rattle.spec_edit.specs.Edited.{is_column_taken}
 use Rattle.spec_edit.proofs.NameLemmas.{column_new}
 use Rattle.spec_edit.proofs.Keeping.{with_column-kept}
@@ -19,7 +19,7 @@ invariant_of-self-2 c =
       model =
           rw (c.in_ok-push.ensures.items, c.narrow_column.ensures.value)
           (with_column-kept _ c.args.column c.self.invariant.model
-          (subst (λ m. width m < column_limit) (sym c.self.view_is) c.requires.few)
+          (subst (λ m. width m < large_limits.columns) (sym c.self.view_is) c.requires.few)
           (subst (λ m. is_column_taken m c.args.column.name ≡ false) (sym c.self.view_is) c.requires.free)
           (subst (λ m. IsKeptColumn (height m) c.args.column) (sym c.self.view_is) c.requires.kept)
           c.narrow_column.ensures.narrow);

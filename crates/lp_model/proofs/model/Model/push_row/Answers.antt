@@ -1,7 +1,7 @@
 use Rattle.std.proofs.Common.{◌≡◌, ◌≢◌, ◌<◌, ◌++◌, ◌∷◌, [], ◌∙◌, false, subst, sym, ap}
 use Rattle.std.proofs.lemmas.List.Elements.{All-tail}
 use Rattle.spec_model.specs.Model.{ExactRow, height}
-use Rattle.spec_model.specs.Kept.{row_limit}
+use Rattle.spec_model.specs.Kept.{large_limits}
 use Rattle.spec_edit.specs.Edited.{is_row_taken}
 use Rattle.spec_edit.proofs.NameLemmas.{row_new}
 use Rattle.spec_edit.proofs.Keeping.{with_row-kept}
@@ -21,7 +21,7 @@ invariant_of-self-2 c =
       model =
           rw (c.in_ok-push.ensures.items, c.narrow_row.ensures.value)
           (with_row-kept _ c.args.row c.self.invariant.model
-          (subst (λ m. height m < row_limit) (sym c.self.view_is) c.requires.few) c.requires.name
+          (subst (λ m. height m < large_limits.rows) (sym c.self.view_is) c.requires.few) c.requires.name
           (subst (λ m. is_row_taken m c.args.row.name ≡ false) (sym c.self.view_is) c.requires.free)
           c.requires.range c.narrow_row.ensures.narrow);
       rows =
