@@ -2,24 +2,24 @@
 use Rattle.std.proofs.Common.{◌≡◌, Bool, true, false, Option, Some, Ok, Err, List, [], ◌∷◌, ◌++◌}
 use Rattle.std.proofs.Common.{length, nat_lt, refl, sym, ap, ◌∙◌}
 use Rattle.spec_model.specs.declared.parts.Kind.{Kind}
+use Rattle.spec_model.specs.declared.parts.SizeLimits.{SizeLimits}
 use Rattle.spec_model.specs.Model.{Name, ExactRow}
-use Rattle.spec_model.specs.Kept.{row_limit}
 use Rattle.spec_mps.specs.declared.fault.Code.TheVariants as code
 use Rattle.spec_mps.specs.Reader.{State, is_first, new_row}
 use Rattle.lp_mps.specs.Parts.{put_row}
 
-abbrev has_room : State → Bool
-has_room s = nat_lt (length s.rows) row_limit
+abbrev has_room : SizeLimits → State → Bool
+has_room limits s = nat_lt (length s.rows) limits.rows
 
-module _ (s : State) (kind : Kind) (name : Name) where
+module _ (limits : SizeLimits) (s : State) (kind : Kind) (name : Name) where
   pub objective_put : (new : Option Name) → is_first s kind ≡ true → new ≡ Some name →
-      put_row s kind name ≡ Ok (record s { objective = new })
+      put_row limits s kind name ≡ Ok (record s { objective = new })
   objective_put new o e = rw o (ap (λ x. Ok (record s { objective = x })) (sym e))
 
-  pub row_put : (row : ExactRow) (new : List ExactRow) → is_first s kind ≡ false → has_room s ≡ true →
-      row ≡ new_row kind name → new ≡ s.rows ++ row ∷ [] → put_row s kind name ≡ Ok (record s { rows = new })
+  pub row_put : (row : ExactRow) (new : List ExactRow) → is_first s kind ≡ false → has_room limits s ≡ true →
+      row ≡ new_row kind name → new ≡ s.rows ++ row ∷ [] → put_row limits s kind name ≡ Ok (record s { rows = new })
   row_put row new o r e f =
       rw (o, r) (ap (λ xs. Ok (record s { rows = xs })) (sym (f ∙ ap (λ x. s.rows ++ x ∷ []) e)))
 
-  pub row_full : is_first s kind ≡ false → has_room s ≡ false → put_row s kind name ≡ Err code.Limit
+  pub row_full : is_first s kind ≡ false → has_room limits s ≡ false → put_row limits s kind name ≡ Err code.Limit
   row_full o r = rw (o, r) refl

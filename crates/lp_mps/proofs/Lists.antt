@@ -1,5 +1,5 @@
 -- One place of a list, and one number of a column.
-use Rattle.std.proofs.Common.{◌≡◌, ℕ, zero, suc, ◌<◌, ◌≤◌, Bool, true, false, List, [], ◌∷◌}
+use Rattle.std.proofs.Common.{◌≡◌, ℕ, zero, suc, ◌<◌, ◌≤◌, Bool, true, false, List, [], ◌∷◌, ◌++◌}
 use Rattle.std.proofs.Common.{length, reverse, ◌||◌, get_or, cond, refl, ap, ◌∙◌, arith, Result, Ok, Err, OnOk}
 use Rattle.std.specs.List.{list_any}
 use Rattle.std.proofs.Math.ListN.{set}
@@ -11,6 +11,8 @@ use Rattle.spec_model.specs.Model.{ExactColumn}
 use Rattle.spec_mps.specs.declared.target.Target.TheVariants as target
 use Rattle.spec_mps.specs.Reader.{put_entry, with_number}
 use Rattle.spec_mps.specs.Sides.{changed_at}
+use Rattle.lp_mps.specs.InOrder.{in_order, ordered}
+use Rattle.lp_mps.proofs.EntryOrder.{put_pushed}
 
 -- the item at a place is written
 pub changed_at-set : {A : Type 0} (xs : List A) (i : ℕ) (f : A → A) (d : A) → i < length xs →
@@ -30,12 +32,14 @@ number_zero c i v e = rw (eq_test v 0ℚ e) refl
 
 -- any other is put among them, unless there is no memory
 pub number_put : {T E : Type 0} (result : Result T E) (c : ExactColumn) (i : ℕ) (v : ℚ) (new : List (ℕ × ℚ))
-    (is_zero : Bool) → (v ≡ 0ℚ → is_zero ≡ true) → is_zero ≡ false → OnOk result (new ≡ put_entry i v c.entries) →
-    OnOk result (record c { entries = new } ≡ with_number c (target.Row i) v)
-number_put (Ok done) c i v new is_zero e f h = ap (λ es. record c { entries = es }) h ∙ go (eq_ℚ v 0ℚ) refl
+    (is_zero : Bool) → (v ≡ 0ℚ → is_zero ≡ true) → is_zero ≡ false → OnOk result (new ≡ c.entries ++ (i, v) ∷ []) →
+    OnOk result (ordered (record c { entries = new }) ≡ with_number (ordered c) (target.Row i) v)
+number_put (Ok done) c i v new is_zero e f h =
+    ap (λ es. record c { entries = es }) (ap in_order h ∙ put_pushed [] c.entries (i, v)) ∙ go (eq_ℚ v 0ℚ) refl
   where
     go : (b : Bool) → eq_ℚ v 0ℚ ≡ b →
-        record c { entries = put_entry i v c.entries } ≡ cond b c (record c { entries = put_entry i v c.entries })
+        record c { entries = put_entry i v (in_order c.entries) }
+        ≡ cond b (ordered c) (record c { entries = put_entry i v (in_order c.entries) })
     go true q = absurd (let t = e (eq_if v 0ℚ q) in cc)
     go false q = refl
 number_put (Err fault) c i v new is_zero e f h = tt

@@ -1,7 +1,8 @@
 -- Names that stand for nothing yet.
-use Rattle.std.proofs.Common.{◌≡◌, ◌≢◌, ℕ, zero, suc, ◌≤◌, Bool, true, false, cond, Option, Some, None, List}
+use Rattle.std.proofs.Common.{◌≡◌, ◌≢◌, ℕ, zero, suc, ◌<◌, ◌^◌, Bool, true, false, cond, Option, Some, None, List}
 use Rattle.std.proofs.Common.{[], ◌∷◌, ◌++◌, length, map, take, drop, All, refl, sym, ap, ◌∙◌, subst, arith}
 use Rattle.std.specs.List.{position}
+use Rattle.std.specs.Prelude.{option_map}
 use Rattle.std.proofs.lemmas.List.{map-append, append-nil, drop_all, take_all}
 use Rattle.std.proofs.lemmas.List.Elements.{All-map, All-weaker}
 use Rattle.spec_text.specs.Words.{same}
@@ -13,6 +14,7 @@ use Rattle.spec_mps.specs.Sides.{changed_at}
 use Rattle.spec_mps.proofs.Names.{nowhere}
 use Rattle.spec_mps.proofs.NarrowSoFar.{changed_length}
 use Rattle.lp_model.proofs.NamePlaces.{place_named}
+use Rattle.lp_mps.specs.InOrder.{ordered}
 use Rattle.lp_mps.specs.Named.{AreRows}
 
 -- ---- a name that stands for nothing
@@ -63,7 +65,7 @@ pub rows_changed : (i : ℕ) (change : ExactRow → ExactRow) (n : ℕ) (xs seen
 rows_changed i change n xs seen new names keeps e l g h =
     let written = written_back i change n xs seen new e l g in
     record {
-      few = subst (λ ys. length ys ≤ 256) (sym written) (omega (arith, changed_length i change xs, h.few));
+      few = subst (λ ys. length ys < 2 ^ 32) (sym written) (omega (arith, changed_length i change xs, h.few));
       named =
           h.named ∙ sym (ap (map (λ (r : ExactRow). r.name)) written
           ∙ names_changed (λ (r : ExactRow). r.name) i change keeps xs);
@@ -85,6 +87,25 @@ pub names_current : (xs : List ExactColumn) (c d : ExactColumn) → name_of d �
     map name_of (columns_with xs (Some d)) ≡ map name_of (columns_with xs (Some c))
 names_current xs c d e =
     map-append name_of xs (d ∷ []) ∙ ap (λ n. map name_of xs ++ n ∷ []) e ∙ sym (map-append name_of xs (c ∷ []))
+
+names_parted : (xs : List ExactColumn) (c : Option ExactColumn) →
+    map name_of (columns_with xs c) ≡ map name_of xs ++ map name_of (columns_with [] c)
+names_parted xs None = sym (append-nil (map name_of xs))
+names_parted xs (Some c) = map-append name_of xs (c ∷ [])
+
+name_sorted : (c : Option ExactColumn) →
+    map name_of (columns_with [] (option_map ordered c)) ≡ map name_of (columns_with [] c)
+name_sorted None = refl
+name_sorted (Some c) = refl
+
+-- the names of all of them, where the one that cards are read of keeps its own
+pub names_sorted : (xs : List ExactColumn) (c d : Option ExactColumn) →
+    map name_of (columns_with [] d) ≡ map name_of (columns_with [] c) →
+    map name_of (columns_with xs (option_map ordered d)) ≡ map name_of (columns_with xs (option_map ordered c))
+names_sorted xs c d e =
+    names_parted xs (option_map ordered d)
+    ∙ ap (λ ns. map name_of xs ++ ns) (name_sorted d ∙ e ∙ sym (name_sorted c))
+    ∙ sym (names_parted xs (option_map ordered c))
 
 pub row_placed : (rows : List ExactRow) (names : List Name) (name : Name) → AreRows rows names →
     position (λ x. same x name) names ≡ position (λ (r : ExactRow). same r.name name) rows

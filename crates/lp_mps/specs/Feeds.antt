@@ -1,6 +1,8 @@
 -- What a line is answered.
 use Rattle.std.specs.Prelude.{ℕ, ◌≡◌, Ok, Err}
+use Rattle.spec_model.specs.declared.parts.SizeLimits.{SizeLimits}
 use Rattle.spec_model.specs.Model.{Model}
+use Rattle.spec_model.specs.Kept.{IsWithin}
 use Rattle.spec_mps.specs.declared.fault.MpsFault.{MpsFault}
 use Rattle.spec_mps.specs.declared.style.Style.{Style}
 use Rattle.spec_mps.specs.Steps.{Outcome}
@@ -26,3 +28,8 @@ Feeds outcome style n new feed.More = GoesOn outcome style n new
 Feeds outcome style n new (feed.Done m) = outcome ≡ Ok (steps.Done m)
 Feeds outcome style n new (feed.Refused fault) = IsRefused outcome n fault
 Feeds outcome style n new feed.NoMemory = Unit {0}
+
+-- the model of a text that has ended is within these limits
+abbrev pub IsDoneWithin : SizeLimits → Feed Model MpsFault → Type 0
+IsDoneWithin limits (feed.Done m) = IsWithin limits m
+IsDoneWithin limits answer = Unit {0}

@@ -1,15 +1,17 @@
 -- Runs of lines that are each read.
 use Rattle.std.specs.Prelude.{ℕ, ◌≡◌, Ok, List, [], ◌∷◌}
 use Rattle.spec_text.specs.declared.line.Line.{Line}
+use Rattle.spec_model.specs.declared.parts.SizeLimits.{SizeLimits}
 use Rattle.spec_mps.specs.declared.style.Style.{Style}
 use Rattle.spec_mps.specs.Reader.{State, start}
 use Rattle.spec_mps.specs.Steps.{More, step}
 
 -- the lines lead from one state to another
-abbrev pub Leads : Style → State → List (Line (List ℕ)) → State → Type 0
-Leads style s [] t = s ≡ t
-Leads style s (line ∷ lines) t = (u : State) × (step style s line ≡ Ok (More u)) × Leads style u lines t
+abbrev pub Leads : SizeLimits → Style → State → List (Line (List ℕ)) → State → Type 0
+Leads limits style s [] t = s ≡ t
+Leads limits style s (line ∷ lines) t = (u : State) × (step limits style s line ≡ Ok (More u)) × Leads limits style u
+    lines t
 
 -- some lines lead to a state from the start
-abbrev pub IsReached : Style → State → Type 0
-IsReached style s = (lines : List (Line (List ℕ))) × Leads style start lines s
+abbrev pub IsReached : SizeLimits → Style → State → Type 0
+IsReached limits style s = (lines : List (Line (List ℕ))) × Leads limits style start lines s

@@ -7,6 +7,7 @@ pub mod BoundSeen
 pub mod Draft
 pub mod Feeds
 pub mod Finished
+pub mod InOrder
 pub mod Leads
 pub mod Marks
 pub mod Named

@@ -1,13 +1,13 @@
 -- Parts of steps.
 use Rattle.std.specs.Prelude.{◌||◌, Ok, length, nat_lt}
 use Rattle.spec_model.specs.declared.parts.Kind.{Kind}
+use Rattle.spec_model.specs.declared.parts.SizeLimits.{SizeLimits}
 use Rattle.spec_model.specs.Model.{Name}
-use Rattle.spec_model.specs.Kept.{row_limit}
 use Rattle.spec_mps.specs.declared.fault.Code.TheVariants as code
 use Rattle.spec_mps.specs.Checks.{Check, ◌>>=◌, must}
 use Rattle.spec_mps.specs.Reader.{State, is_first, with_row}
 
 -- a row whose name is not taken
-abbrev pub put_row : State → Kind → Name → Check State
-put_row s kind name =
-    must (is_first s kind || nat_lt (length s.rows) row_limit) code.Limit >>= λ _. Ok (with_row s kind name)
+abbrev pub put_row : SizeLimits → State → Kind → Name → Check State
+put_row limits s kind name =
+    must (is_first s kind || nat_lt (length s.rows) limits.rows) code.Limit >>= λ _. Ok (with_row s kind name)

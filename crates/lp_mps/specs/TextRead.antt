@@ -1,5 +1,6 @@
 -- A text that is read line by line.
 use Rattle.std.specs.Prelude.{ℕ}
+use Rattle.spec_model.specs.declared.parts.SizeLimits.{SizeLimits}
 use Rattle.spec_mps.specs.declared.style.Style.{Style}
 use Rattle.spec_mps.specs.Reader.{State}
 
@@ -8,3 +9,8 @@ pub record TextRead : Type 0 where
   pub style : Style
   pub state : State
   pub lines : ℕ
+
+-- the same, and the limits of its model
+pub record ReadWithin : Type 0 where
+  pub limits : SizeLimits
+  pub text : TextRead

@@ -9,6 +9,7 @@ use crate::read::draft::Draft;
 use crate::read::fault::{Fault, Went};
 use crate::read::numbers::Numbers;
 use lp_base::Line;
+use spec_model::SizeLimits;
 use spec_mps::{Code, Section, Style};
 use std::alloc::Global;
 
@@ -28,49 +29,73 @@ fn read_card(
 }
 
 impl Draft {
-    fn data_card(&mut self, alloc: Global, style: Style, fields: &Fields) -> Result<(), Fault>
-        ensures { GivesState (steps.data_card style (state_of self.old).part (state_of self.old) fields.now)
+    fn data_card(
+        &mut self,
+        alloc: Global,
+        limits: SizeLimits,
+        style: Style,
+        fields: &Fields,
+    ) -> Result<(), Fault>
+        ensures { GivesState (steps.data_card limits style (state_of self.old).part (state_of self.old) fields.now)
             (state_of self.new) result }
     {
         match self.part {
             None | Some(Section::Name | Section::End) => Err(Fault::Code(Code::CardShape)),
             Some(Section::Sense) => self.sense_card(style, fields),
-            Some(Section::Rows) => self.rows_card(alloc, style, fields),
-            Some(Section::Columns) => self.columns_card(alloc, style, fields),
+            Some(Section::Rows) => self.rows_card(alloc, limits, style, fields),
+            Some(Section::Columns) => self.columns_card(alloc, limits, style, fields),
             Some(Section::RightSides) => self.set_card(alloc, Numbers::Sides, style, fields),
             Some(Section::Ranges) => self.set_card(alloc, Numbers::Ranges, style, fields),
             Some(Section::Bounds) => self.bounds_card(alloc, style, fields),
         }
     }
 
-    fn on_card(&mut self, alloc: Global, style: Style, card: &Card) -> Result<Went, Fault>
-        ensures { Goes (steps.on_card style (state_of self.old) card.now) (state_of self.new) result }
+    fn on_card(
+        &mut self,
+        alloc: Global,
+        limits: SizeLimits,
+        style: Style,
+        card: &Card,
+    ) -> Result<Went, Fault>
+        ensures { Goes (steps.on_card limits style (state_of self.old) card.now) (state_of self.new) result }
     {
         match card {
             Card::Skip => Ok(Went::On),
             Card::Section(fields) => self.section_card(alloc, fields),
             Card::Given(fields) => {
-                self.data_card(alloc, style, fields)?;
+                self.data_card(alloc, limits, style, fields)?;
                 Ok(Went::On)
             }
         }
     }
 
-    fn text_line(&mut self, alloc: Global, style: Style, bytes: &[u8]) -> Result<Went, Fault>
-        ensures { Goes (steps.on_reading style (state_of self.old)
+    fn text_line(
+        &mut self,
+        alloc: Global,
+        limits: SizeLimits,
+        style: Style,
+        bytes: &[u8],
+    ) -> Result<Went, Fault>
+        ensures { Goes (steps.on_reading limits style (state_of self.old)
             (steps.reading_of style (state_of self.old).part bytes.now)) (state_of self.new) result }
     {
         let card = read_card(alloc, style, self.part, bytes)?;
-        self.on_card(alloc, style, &card)
+        self.on_card(alloc, limits, style, &card)
     }
 
     /// Reads a line.
     #[tactic(auto, unfolding(spec_mps::specs::Steps::step))]
-    pub(crate) fn step(&mut self, alloc: Global, style: Style, line: &Line) -> Result<Went, Fault>
-        ensures { Goes (steps.step style (state_of self.old) line.now) (state_of self.new) result }
+    pub(crate) fn step(
+        &mut self,
+        alloc: Global,
+        limits: SizeLimits,
+        style: Style,
+        line: &Line,
+    ) -> Result<Went, Fault>
+        ensures { Goes (steps.step limits style (state_of self.old) line.now) (state_of self.new) result }
     {
         match line {
-            Line::Text(bytes) => self.text_line(alloc, style, bytes.as_slice()),
+            Line::Text(bytes) => self.text_line(alloc, limits, style, bytes.as_slice()),
             Line::Long(_) => Err(Fault::Code(Code::Limit)),
             Line::End | Line::Over => Err(Fault::Code(Code::Cut)),
         }

@@ -1,15 +1,14 @@
 // Columns, and the numbers of the one that is read.
-ghost use Rattle.std.specs.Prelude.{◌≡◌, ◌≤◌, ℕ, length, OnOk};
-ghost use Rattle.std.specs.List.{insert};
-ghost use Rattle.std.specs.List.Sorted.{IsNonDecreasingBy};
-ghost use Rattle.spec_exact.specs.Fraction.{ℚ};
+ghost use Rattle.std.specs.Prelude.{◌≡◌, OnOk};
 ghost use Rattle.spec_mps.specs.Reader as reader;
+ghost use Rattle.lp_mps.specs.InOrder.{in_order, ordered};
 
 use lp_base::Name;
 use lp_frac::{Entries, Frac, is_zero, zero};
 use lp_model::Column;
 use spec_mps::Target;
 use std::alloc::{AllocError, Global};
+use std::mem;
 
 /// A column with the bounds 0 and none, and no numbers.
 pub(crate) fn make_column(alloc: Global, name: Name) -> Column
@@ -24,12 +23,10 @@ pub(crate) fn make_column(alloc: Global, name: Name) -> Column
     }
 }
 
-/// Puts a number where it belongs: to the cost, or among the entries, unless it is 0.
+/// Puts a number where it belongs: to the cost, or after the entries so far, unless it is 0.
 pub(crate) fn put_number(column: &mut Column, target: Target, value: Frac) -> Result<(), AllocError>
-    requires { IsNonDecreasingBy (λ e. e.0) column.old.entries }
-    ensures ok { OnOk result (column.new ≡ reader.with_number column.old target value) }
+    ensures ok { OnOk result (ordered column.new ≡ reader.with_number (ordered column.old) target value) }
     ensures named { column.new.name ≡ column.old.name }
-    ensures ordered { IsNonDecreasingBy (λ e. e.0) column.new.entries }
 {
     match target {
         Target::Objective => {
@@ -40,26 +37,25 @@ pub(crate) fn put_number(column: &mut Column, target: Target, value: Frac) -> Re
             if is_zero(value) {
                 return Ok(());
             }
-            put_entry(&mut column.entries, row, value)
+            column.entries.push((row, value))
         }
     }
 }
 
-// In the order of rows.
-fn put_entry(entries: &mut Entries, row: u32, value: Frac) -> Result<(), AllocError>
-    requires { IsNonDecreasingBy (λ e. e.0) entries.old }
-    ensures ok { OnOk result (entries.new ≡ reader.put_entry row value entries.old) }
-    ensures ordered { IsNonDecreasingBy (λ e. e.0) entries.new }
+/// Sorts entries by their rows.
+pub(crate) fn sort_entries(alloc: Global, entries: &mut Entries) -> Result<(), AllocError>
+    ensures { OnOk result (entries.new ≡ in_order entries.old) }
 {
-    let place = place_for(entries.as_slice(), row);
-    entries.insert(place, (row, value))
+    let mut items = mem::replace(entries, Entries::new(alloc)).into_vec();
+    let sorted = sort_items(&mut items);
+    drop(mem::replace(entries, Entries::from_vec(items)));
+    sorted
 }
 
-// Before the first entry of a later row.
-fn place_for(entries: &[(u32, Frac)], row: u32) -> usize
-    requires { IsNonDecreasingBy (λ e. e.0) entries.now }
-    ensures place { (v : ℚ) → insert entries.now result (row, v) ≡ reader.put_entry row v entries.now }
-    ensures inside { result ≤ length entries.now }
+// Of two entries of one row, the first stays the first.
+fn sort_items(items: &mut Vec<(u32, Frac)>) -> Result<(), AllocError>
+    ensures { OnOk result (items.new.items ≡ in_order items.old.items) }
 {
-    entries.partition_point(|e| e.0 <= row)
+    items.sort_by_key(|e| e.0)?;
+    Ok(())
 }

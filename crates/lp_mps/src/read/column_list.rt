@@ -1,14 +1,15 @@
 // The columns that were read.
-ghost use Rattle.std.specs.Prelude.{◌≡◌, [], false, Some, None, length, option_map, OnOk};
+ghost use Rattle.std.specs.Prelude.{◌≡◌, [], false, Some, None, length, map, option_map, OnOk};
 ghost use Rattle.std.specs.List.{list_any, position};
 ghost use Rattle.spec_text.specs.Words.{same};
 ghost use Rattle.spec_mps.specs.Bounds.{bounded};
 ghost use Rattle.spec_mps.specs.Reader.{columns_with, new_column, is_open, with_number};
 ghost use Rattle.spec_mps.specs.Sides.{changed_at};
 ghost use Rattle.lp_mps.specs.BoundSeen.{bound_seen};
+ghost use Rattle.lp_mps.specs.InOrder.{ordered};
 
 use crate::read::bound_card::{BoundCard, bound_at};
-use crate::read::column::{make_column, put_number};
+use crate::read::column::{make_column, put_number, sort_entries};
 use lp_base::{Name, are_same};
 use lp_frac::Frac;
 use lp_model::{Column, NameIndex};
@@ -21,20 +22,25 @@ use std::marker::Model;
 pub(crate) struct Columns {
     /// Those that are whole.
     whole: Vec<Column>,
-    /// The one that cards are read of.
+    /// The one that cards are read of. Its entries stand as the cards gave them, and are sorted once it is whole.
     current: Option<Column>,
     /// The names of all of them, by which they are found.
     names: NameIndex,
 }
 
 impl Model for Columns {
+    ghost use Rattle.std.specs.Prelude.{option_map};
+    ghost use Rattle.lp_mps.specs.InOrder.{ordered};
     ghost use Rattle.lp_mps.specs.Named.{ColumnsRead, AreColumns};
 
     ghost Value = { ColumnsRead };
 
-    ghost view = { λ c. record { whole = c.whole.items; current = c.current } };
+    ghost view = { λ c. record { whole = c.whole.items; current = option_map ordered c.current } };
 
-    ghost invariant = { λ c. AreColumns (record { whole = c.whole.items; current = c.current }) c.names };
+    ghost invariant = { λ c. AreColumns (record {
+      whole = c.whole.items;
+      current = option_map ordered c.current;
+    }) c.names };
 }
 
 impl Columns {
@@ -87,8 +93,9 @@ impl Columns {
         ensures { OnOk result
             (self.new ≡ record { whole = columns_with self.old.whole self.old.current; current = None }) }
     {
-        // Where there is room for the column, nothing more can fail.
+        // Where there is room for the column and its entries are sorted, nothing more can fail.
         self.whole.reserve(1)?;
+        sort_current(*self.whole.allocator(), &mut self.current)?;
         if let Some(column) = self.current.take() {
             self.whole.push_reserved(column);
         }
@@ -138,5 +145,16 @@ impl Columns {
         drop(current);
         drop(names);
         whole
+    }
+}
+
+// Sorts the entries of the column that cards were read of, if there is one.
+fn sort_current(alloc: Global, current: &mut Option<Column>) -> Result<(), AllocError>
+    ensures ok { OnOk result (current.new ≡ option_map ordered current.old) }
+    ensures named { map (λ c. c.name) (columns_with [] current.new) ≡ map (λ c. c.name) (columns_with [] current.old) }
+{
+    match current {
+        Some(column) => sort_entries(alloc, &mut column.entries),
+        None => Ok(()),
     }
 }

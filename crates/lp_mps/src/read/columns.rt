@@ -14,10 +14,9 @@ use crate::read::numbers::Numbers;
 use crate::read::shapes::has_shape;
 use lp_base::are_same;
 use lp_model::is_name;
+use spec_model::SizeLimits;
 use spec_mps::{Code, Section, Style};
 use std::alloc::{AllocError, Global};
-
-const MAX_COLUMNS: usize = 512;
 
 // The field that says 'MARKER' on a card that marks whole columns.
 fn marker_field(style: Style) -> u32
@@ -34,10 +33,12 @@ impl Draft {
     pub(crate) fn columns_card(
         &mut self,
         alloc: Global,
+        limits: SizeLimits,
         style: Style,
         fields: &Fields,
     ) -> Result<(), Fault>
-        ensures { GivesState (reader.columns_card style (state_of self.old) fields.now) (state_of self.new) result }
+        ensures { GivesState (reader.columns_card limits style (state_of self.old) fields.now) (state_of self.new)
+            result }
     {
         if are_same(fields.text_at(marker_field(style)), b"'MARKER'") {
             return Err(Fault::Code(Code::Integer));
@@ -45,12 +46,18 @@ impl Draft {
         if !has_shape(style, Section::Columns, fields.as_slice()) {
             return Err(Fault::Code(Code::CardShape));
         }
-        self.column_by(alloc, fields.as_slice())
+        self.column_by(alloc, limits, fields.as_slice())
     }
 
     // A column's name, and pairs of a row's name and a number.
-    fn column_by(&mut self, alloc: Global, fields: &[Field]) -> Result<(), Fault>
-        ensures { GivesState (reader.column_by (state_of self.old) (texts_of fields.now)) (state_of self.new) result }
+    fn column_by(
+        &mut self,
+        alloc: Global,
+        limits: SizeLimits,
+        fields: &[Field],
+    ) -> Result<(), Fault>
+        ensures { GivesState (reader.column_by limits (state_of self.old) (texts_of fields.now)) (state_of self.new)
+            result }
     {
         let Some((name, pairs)) = fields.split_first() else {
             return Err(Fault::Code(Code::CardShape));
@@ -58,14 +65,14 @@ impl Draft {
         if !is_name(name.text()) {
             return Err(Fault::Code(Code::Name));
         }
-        self.open(alloc, name.text())?;
+        self.open(alloc, limits, name.text())?;
         self.pairs(Numbers::Entries, pairs)
     }
 
     // Cards of this column are read, or of none that is there already.
     #[tactic(auto, unfolding(spec_mps::specs::Reader::opened))]
-    fn open(&mut self, alloc: Global, name: &[u8]) -> Result<(), Fault>
-        ensures { GivesState (reader.opened (state_of self.old) name.now) (state_of self.new) result }
+    fn open(&mut self, alloc: Global, limits: SizeLimits, name: &[u8]) -> Result<(), Fault>
+        ensures { GivesState (reader.opened limits (state_of self.old) name.now) (state_of self.new) result }
     {
         if self.columns.is_open(name) {
             return Ok(());
@@ -74,7 +81,7 @@ impl Draft {
         if self.columns.has(name) {
             return Err(Fault::Code(Code::ColumnTaken));
         }
-        if self.columns.len() >= MAX_COLUMNS {
+        if self.columns.len() >= limits.columns as usize {
             return Err(Fault::Code(Code::Limit));
         }
         self.begin_column(alloc, name)?;

@@ -1,6 +1,6 @@
 // What a line leads to, and the model of a text that has ended.
 ghost use Rattle.std.specs.Prelude.{◌≡◌, [], Option, Some, None, IfOk};
-ghost use Rattle.spec_model.specs.Kept.{IsModel};
+ghost use Rattle.spec_model.specs.Kept.{AreAtMost, IsModel, large_limits};
 ghost use Rattle.spec_mps.specs.Steps as steps;
 ghost use Rattle.lp_mps.specs.Draft.{state_of, name_of};
 ghost use Rattle.lp_mps.specs.Advances.{Advances};
@@ -13,6 +13,7 @@ use crate::read::fault::{Fault, Went};
 use crate::read::row_list::Rows;
 use lp_base::{Line, Name};
 use lp_model::{Model, Sense};
+use spec_model::SizeLimits;
 use spec_mps::{Code, Style};
 use std::alloc::{AllocError, Global};
 use std::mem;
@@ -40,13 +41,15 @@ impl Draft {
     pub(crate) fn advance(
         &mut self,
         alloc: Global,
+        limits: SizeLimits,
         style: Style,
         line: &Line,
     ) -> Result<Option<Model>, Fault>
-        requires { IsReached style (state_of self.old) }
-        ensures { Advances (steps.step style (state_of self.old) line.now) (state_of self.new) result }
+        requires most { AreAtMost limits large_limits }
+        requires reached { IsReached limits style (state_of self.old) }
+        ensures { Advances (steps.step limits style (state_of self.old) line.now) (state_of self.new) result }
     {
-        match self.step(alloc, style, line)? {
+        match self.step(alloc, limits, style, line)? {
             Went::On => Ok(None),
             Went::ToEnd => Ok(Some(self.finish(alloc)?)),
         }

@@ -1,8 +1,8 @@
 // The rows that were read.
-ghost use Rattle.std.specs.Prelude.{◌≡◌, ◌≢◌, ◌<◌, [], ◌∷◌, ◌++◌, All, length, get_or, Some, None, IfOk, OnOk};
+ghost use Rattle.std.specs.Prelude.{◌≡◌, ◌≢◌, ◌<◌, ◌+◌, ◌^◌, [], ◌∷◌, ◌++◌, All, length, get_or, Some, None, IfOk};
+ghost use Rattle.std.specs.Prelude.{OnOk};
 ghost use Rattle.std.specs.List.{position};
 ghost use Rattle.spec_text.specs.Words.{same};
-ghost use Rattle.spec_model.specs.Kept.{row_limit};
 ghost use Rattle.spec_model.specs.Model.{no_row, is_free as has_no_limits};
 ghost use Rattle.spec_mps.specs.Reader.{new_row};
 ghost use Rattle.spec_mps.specs.Sides.{changed_at};
@@ -26,7 +26,7 @@ pub(crate) fn make_row(alloc: Global, kind: Kind, name: &[u8]) -> Result<Row, Al
     })
 }
 
-/// At most 256 rows with distinct names.
+/// Rows with distinct names, fewer than 2^32.
 #[derive(Drop)]
 pub(crate) struct Rows {
     items: Vec<Row>,
@@ -63,7 +63,7 @@ impl Rows {
     }
 
     pub(crate) fn push(&mut self, row: Row) -> Result<(), AllocError>
-        requires few { length self.old < row_limit }
+        requires few { length self.old + 1 < 2 ^ 32 }
         requires new { All (λ r. r.name ≢ row.name) self.old }
         ensures { OnOk result (self.new ≡ self.old ++ row ∷ []) }
     {

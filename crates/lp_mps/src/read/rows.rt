@@ -12,20 +12,20 @@ use crate::read::row_list::make_row;
 use crate::read::shapes::has_shape;
 use crate::read::words::row_type_of;
 use lp_model::{Kind, is_free, is_row_name};
+use spec_model::SizeLimits;
 use spec_mps::{Code, Section, Style};
 use std::alloc::Global;
-
-const MAX_ROWS: usize = 256;
 
 impl Draft {
     #[tactic(auto, unfolding(spec_mps::specs::Reader::rows_card, spec_mps::specs::Shapes::shaped))]
     pub(crate) fn rows_card(
         &mut self,
         alloc: Global,
+        limits: SizeLimits,
         style: Style,
         fields: &Fields,
     ) -> Result<(), Fault>
-        ensures { GivesState (reader.rows_card style (state_of self.old) fields.now) (state_of self.new) result }
+        ensures { GivesState (reader.rows_card limits style (state_of self.old) fields.now) (state_of self.new) result }
     {
         if !has_shape(style, Section::Rows, fields.as_slice()) {
             return Err(Fault::Code(Code::CardShape));
@@ -33,12 +33,18 @@ impl Draft {
         let Some(kind) = row_type_of(fields.text_at(1)) else {
             return Err(Fault::Code(Code::RowType));
         };
-        self.add_row(alloc, kind, fields.text_at(2))
+        self.add_row(alloc, limits, kind, fields.text_at(2))
     }
 
     #[tactic(auto, unfolding(spec_mps::specs::Reader::add_row))]
-    fn add_row(&mut self, alloc: Global, kind: Kind, name: &[u8]) -> Result<(), Fault>
-        ensures { GivesState (reader.add_row (state_of self.old) kind name.now) (state_of self.new) result }
+    fn add_row(
+        &mut self,
+        alloc: Global,
+        limits: SizeLimits,
+        kind: Kind,
+        name: &[u8],
+    ) -> Result<(), Fault>
+        ensures { GivesState (reader.add_row limits (state_of self.old) kind name.now) (state_of self.new) result }
     {
         if !is_row_name(name) {
             return Err(Fault::Code(Code::Name));
@@ -46,7 +52,7 @@ impl Draft {
         if self.place_of(name).is_some() {
             return Err(Fault::Code(Code::RowTaken));
         }
-        self.put_row(alloc, kind, name)
+        self.put_row(alloc, limits, kind, name)
     }
 
     // Whether a row of this kind is the objective.
@@ -59,15 +65,21 @@ impl Draft {
         }
     }
 
-    fn put_row(&mut self, alloc: Global, kind: Kind, name: &[u8]) -> Result<(), Fault>
+    fn put_row(
+        &mut self,
+        alloc: Global,
+        limits: SizeLimits,
+        kind: Kind,
+        name: &[u8],
+    ) -> Result<(), Fault>
         requires { reader.place_of (state_of self.old) name.now ≡ None }
-        ensures { GivesState (put_row (state_of self.old) kind name.now) (state_of self.new) result }
+        ensures { GivesState (put_row limits (state_of self.old) kind name.now) (state_of self.new) result }
     {
         if self.is_first(kind) {
             set_name(&mut self.objective, alloc, name)?;
             return Ok(());
         }
-        if self.rows.len() >= MAX_ROWS {
+        if self.rows.len() >= limits.rows as usize {
             return Err(Fault::Code(Code::Limit));
         }
         let row = make_row(alloc, kind, name)?;

@@ -5,7 +5,7 @@ use Rattle.lp_mps.proofs.read.answers_are_the_verdict.Goals as goal
 pub returns : goal.returns
 returns c =
     record {
-      longer = λ style lines line s t. one_more style start s t lines line;
+      longer = λ limits style lines line s t. one_more limits style start s t lines line;
       spelled = ends;
       refused = refuses;
       cut = cut_off;

@@ -4,5 +4,6 @@ use Rattle.lp_mps.proofs.read.draft.Draft.advance.Goals as goal
 
 pub finish-requires : goal.finish-requires
 finish-requires c =
-    end_kept c.args.style (state_of c.args.self.now)
-    (state_of c.step.new.self) c.args.line.now c.requires (rw c.in-ToEnd.is at c.in_ok-step.ensures)
+    end_kept c.args.limits c.args.style (state_of c.args.self.now)
+    (state_of c.step.new.self) c.args.line.now c.requires.most c.requires.reached
+    (rw c.in-ToEnd.is at c.in_ok-step.ensures)

@@ -1,6 +1,4 @@
-use Rattle.std.proofs.Common.{◌∙◌, sym}
 use Rattle.lp_mps.specs.Draft.{state_of}
-use Rattle.lp_mps.proofs.Adding.{objective_put, row_put, row_full}
 use Rattle.lp_mps.proofs.NewNames.{rows_new}
 use Rattle.lp_mps.proofs.read.draft.Draft.put_row.Goals as goal
 

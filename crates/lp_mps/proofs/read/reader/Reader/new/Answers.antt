@@ -1,7 +1,0 @@
-use Rattle.std.proofs.Common.{sym, subst}
-use Rattle.lp_mps.specs.Leads.{IsReached}
-use Rattle.lp_mps.proofs.Runs.{start_reached}
-use Rattle.lp_mps.proofs.read.reader.Reader.new.Goals as goal
-
-pub invariant_of-result : goal.invariant_of-result
-invariant_of-result c = subst (IsReached c.args.style) (sym c.new.ensures) (start_reached c.args.style)

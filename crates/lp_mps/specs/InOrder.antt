@@ -1,0 +1,16 @@
+-- A column whose entries stand as its cards gave them, with its entries in the order of their rows.
+use Rattle.std.specs.Prelude.{ℕ, List, [], ◌∷◌}
+use Rattle.spec_exact.specs.Fraction.{ℚ}
+use Rattle.spec_model.specs.Model.{ExactColumn}
+use Rattle.spec_mps.specs.Reader.{put_entry}
+
+-- entries that are put one by one among those that stand in order
+abbrev pub put_all : List (ℕ × ℚ) → List (ℕ × ℚ) → List (ℕ × ℚ)
+put_all placed [] = placed
+put_all placed (e ∷ es) = put_all (put_entry e.0 e.1 placed) es
+
+abbrev pub in_order : List (ℕ × ℚ) → List (ℕ × ℚ)
+in_order es = put_all [] es
+
+abbrev pub ordered : ExactColumn → ExactColumn
+ordered c = record c { entries = in_order c.entries }

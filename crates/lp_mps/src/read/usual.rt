@@ -1,0 +1,57 @@
+// A text of a usual model that is read line by line.
+ghost use Rattle.std.specs.Prelude.{◌≡◌, ◌+◌, ◌<◌, ◌-◌, ◌^◌};
+ghost use Rattle.spec_model.specs.Kept.{usual_limits};
+ghost use Rattle.spec_mps.specs.Reader.{start};
+ghost use Rattle.spec_mps.specs.Steps.{step};
+ghost use Rattle.lp_mps.specs.Feeds.{Feeds};
+
+use crate::read::reader::ReaderWithin;
+use lp_base::{Feed, Line};
+use lp_model::{USUAL_LIMITS, UsualModel};
+use spec_mps::{MpsFault, Style};
+use std::alloc::Global;
+use std::marker::Model;
+
+/// A text of a model within the usual limits, which is read line by line. After any answer but `More` the reader has lost
+/// what it read.
+#[derive(Drop)]
+pub struct Reader {
+    within: ReaderWithin,
+}
+
+impl Model for Reader {
+    ghost use Rattle.std.specs.Prelude.{◌≡◌};
+    ghost use Rattle.lp_mps.specs.TextRead.{TextRead};
+    ghost use Rattle.spec_model.specs.Kept.{usual_limits};
+
+    ghost Value = { TextRead };
+
+    ghost view = { λ r. r.within.text };
+
+    ghost invariant = { λ r. r.within.limits ≡ usual_limits };
+}
+
+impl Reader {
+    /// Nothing was read.
+    pub fn new(alloc: Global, style: Style) -> Self
+        ensures { result ≡ record { style = style; state = start; lines = 0 } }
+    {
+        Reader {
+            within: ReaderWithin::new(alloc, USUAL_LIMITS, style),
+        }
+    }
+
+    /// Takes the next line.
+    pub fn feed(&mut self, alloc: Global, line: &Line) -> Feed<UsualModel, MpsFault>
+        requires { self.old.lines < 2 ^ 32 - 1 }
+        ensures { Feeds (step usual_limits self.old.style self.old.state line.now) self.old.style
+            (self.old.lines + 1) self.new result }
+    {
+        match self.within.feed(alloc, line) {
+            Feed::More => Feed::More,
+            Feed::Done(model) => Feed::Done(UsualModel::new(model)),
+            Feed::Refused(fault) => Feed::Refused(fault),
+            Feed::NoMemory => Feed::NoMemory,
+        }
+    }
+}
