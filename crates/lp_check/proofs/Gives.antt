@@ -1,5 +1,5 @@
 -- Steps of a run without a limit, from what each call gives.
-use Rattle.std.proofs.Common.{◌≡◌, ℕ, [], ◌∷◌, List, Option, Some, None, Ok, Err, Bool, true, false, not}
+use Rattle.std.proofs.Common.{◌≡◌, ℕ, zero, suc, ◌<◌, List, Option, Some, None, Ok, Err, Bool, true, false, not, cond}
 use Rattle.std.proofs.Common.{refl, sym, ap, ap₂, ◌∙◌, pos}
 use Rattle.std.specs.Prelude.{⊤, ok_or, int_lt, neg_ℤ, ℤ}
 use Rattle.std.proofs.Common.{arith}
@@ -10,25 +10,28 @@ use Rattle.spec_model.specs.Model.{bounds}
 use Rattle.std.specs.Ordering.{is_lt, is_gt, is_eq}
 use Rattle.std.specs.declared.cmp.Ordering.{Ordering}
 use Rattle.std.specs.declared.cmp.Ordering.TheVariants.{Less, Equal, Greater}
-use Rattle.spec_exact.specs.Fraction.{ℚ, 0ℚ, ◌+ℚ◌, ◌-ℚ◌, ◌*ℚ◌, neg_ℚ, lt_ℚ, eq_ℚ}
+use Rattle.spec_exact.specs.Fraction.{ℚ, 0ℚ, ◌+ℚ◌, ◌*ℚ◌, neg_ℚ, lt_ℚ, eq_ℚ}
 use Rattle.spec_exact.specs.Limit.{add, order}
 use Rattle.spec_exact.specs.declared.past.Op.TheVariants.{Add}
 use Rattle.spec_exact.specs.Run.{◌>>=◌, refused_as}
-use Rattle.spec_exact.proofs.Ring.{◌⊕◌, ◌⊖◌, ◌⊗◌, minus, lit, v0, v1, v2}
-use Rattle.spec_exact.proofs.Field.{by_ring_ℚ, +ℚ_zero, *ℚ_zero, *ℚ_comm}
+use Rattle.spec_exact.proofs.Field.{+ℚ_zero, *ℚ_zero}
 use Rattle.spec_exact.proofs.Ruleset.{zero-*ℚ}
 use Rattle.spec_exact.proofs.Compare.{order_equal}
 use Rattle.spec_exact.proofs.Same.{eq_if, eq_test}
 use Rattle.spec_model.specs.declared.parts.RowLimit.{RowLimit}
-use Rattle.spec_model.specs.Model.{Model, ExactColumn, width, height, column, limit_of, limit_run}
+use Rattle.spec_model.specs.Model.{Model, ExactColumn, width, height, column, row, cost, cost_of, part, limit_of, limit_run}
 use Rattle.spec_model.proofs.RowLimits.{limit_all}
 use Rattle.spec_check.specs.declared.certificate.Certificate.TheVariants.{Optimal, Infeasible, Unbounded, Clash}
 use Rattle.spec_check.specs.declared.certificate.CheckStop.TheVariants as stop
 use Rattle.spec_check.specs.declared.certificate.Known.TheVariants as known
-use Rattle.spec_check.specs.Run.{Run, step, need, each, plus_product, less_product}
+use Rattle.spec_check.specs.Checks.{signed, reduced}
+use Rattle.spec_check.specs.Run.{Run, step, need, each, plus_product, lower_run, upper_run, is_tight, cost_run}
 use Rattle.spec_check.specs.Run.{at_least, at_most, stands_at, columns_run, rows_run}
 use Rattle.spec_check.specs.Run.{column_tight_run, row_tight_run, value_run, check_run}
-use Rattle.spec_check.proofs.StepsComplete.{added, ordered, plus_all, less_all}
+use Rattle.spec_check.proofs.StepsComplete.{added, ordered, plus_all, sum_all, activity_all}
+use Rattle.lp_check.specs.Sums.{AreSums}
+use Rattle.lp_check.specs.Sums as given
+use Rattle.lp_check.proofs.Scaled.{reduced_all}
 
 -- ---- limits
 pub taken_is : (o : RowLimit ℚ) (l : Option ℚ) → l ≡ limit_of o → refused_as stop.Past (limit_run None o) ≡ Ok l
@@ -77,25 +80,6 @@ plus_no_right v w s e =
 
 pub plus_gives : (v w s p r : ℚ) → p ≡ v *ℚ w → r ≡ s +ℚ p → plus_product None v w s ≡ Ok r
 plus_gives v w s p r e f = plus_all v w s ∙ ap Ok (sym (f ∙ ap (λ z. s +ℚ z) e))
-
-turned : (v w s : ℚ) → s +ℚ neg_ℚ w *ℚ v ≡ s -ℚ v *ℚ w
-turned v w s = by_ring_ℚ (v ∷ w ∷ s ∷ []) (v2 ⊕ minus v1 ⊗ v0) (v2 ⊖ v0 ⊗ v1) refl
-
-pub less_gives : (v w s n p r : ℚ) → n ≡ neg_ℚ w → p ≡ n *ℚ v → r ≡ s +ℚ p → less_product None v w s ≡ Ok r
-less_gives v w s n p r d e f =
-    less_all v w s ∙ ap Ok (sym (f ∙ ap (λ z. s +ℚ z) (e ∙ ap (λ z. z *ℚ v) d) ∙ turned v w s))
-
-less_nothing : (v w s p : ℚ) → p ≡ neg_ℚ w *ℚ v → p ≡ 0ℚ → less_product None v w s ≡ Ok s
-less_nothing v w s p e f = less_gives v w s (neg_ℚ w) p s refl e (sym (ap (λ z. s +ℚ z) f ∙ +ℚ_zero s))
-
-neg_none : (w : ℚ) → w ≡ 0ℚ → neg_ℚ w ≡ 0ℚ
-neg_none w e = ap neg_ℚ e ∙ by_ring_ℚ [] (minus (lit (pos 0))) (lit (pos 0)) refl
-
-pub less_no_left : (v w s : ℚ) → v ≡ 0ℚ → less_product None v w s ≡ Ok s
-less_no_left v w s e = less_nothing v w s _ refl (ap (λ z. neg_ℚ w *ℚ z) e ∙ *ℚ_zero (neg_ℚ w))
-
-pub less_no_right : (v w s : ℚ) → w ≡ 0ℚ → less_product None v w s ≡ Ok s
-less_no_right v w s e = less_nothing v w s _ refl (ap (λ z. z *ℚ v) (neg_none w e) ∙ zero-*ℚ v)
 
 -- ---- the value
 pub value_is : (o : Run ℚ) (s f g r : ℚ) → o ≡ Ok s → g ≡ f → r ≡ s +ℚ g →
@@ -146,9 +130,6 @@ missing n o r e f = e ∙ ap (λ z. ok_or z (stop.No n)) f
 
 pub there : (n : ℕ) (o : Option ℚ) (r : Run ℚ) (v : ℚ) → r ≡ ok_or o (stop.No n) → o ≡ Some v → r ≡ Ok v
 there n o r v e f = e ∙ ap (λ z. ok_or z (stop.No n)) f
-
-pub onto_gives : (v w s p r : ℚ) → p ≡ w *ℚ v → r ≡ s +ℚ p → plus_product None v w s ≡ Ok r
-onto_gives v w s p r e f = plus_gives v w s p r (e ∙ *ℚ_comm w v) f
 
 pub no_rows : (m : Model) (y : List ℚ) → rows_ask_run None m y ≡ Err (stop.No 1) →
     check_run None m (Infeasible y) ≡ Err (stop.No 1)
@@ -226,3 +207,46 @@ pub ray_all : (m : Model) (x r : List ℚ) → columns_run None m x ≡ Ok tt �
     check_run None m (Unbounded x r) ≡ Ok known.Unbounded
 unfolding check_run
 ray_all m x r a b c d e = rw (a, b, c, d, e) refl
+
+-- ---- conditions where the rows' sums and the reduced costs are given
+each_same : (n : ℕ) (f g : ℕ → Run ⊤) → ((i : ℕ) → i < n → f i ≡ g i) → each n f ≡ each n g
+each_same zero f g h = refl
+each_same (suc n) f g h =
+    ap₂ (λ o r. o >>= λ _. r) (each_same n f g (λ i l. h i (omega (arith, l)))) (h n (omega arith))
+
+pub within_are : (m : Model) (x sums : List ℚ) → AreSums m x sums →
+    each (height m) (λ i. given.row_within m i (part sums i)) ≡ rows_run None m x
+within_are m x sums h =
+    each_same (height m) _ _ (λ i l. ap (given.row_within m i) (h.1 i l)
+    ∙ sym (ap (λ o. o >>= λ v. given.row_within m i v) (activity_all m x i)))
+
+pub tight_are : (m : Model) (x y sums : List ℚ) → AreSums m x sums →
+    each (height m) (λ i. given.row_tight m y i (part sums i)) ≡ each (height m) (row_tight_run None m x y)
+tight_are m x y sums h =
+    each_same (height m) _ _ (λ i l. ap (given.row_tight m y i) (h.1 i l)
+    ∙ sym (ap (λ o. cond (lt_ℚ 0ℚ (part y i)) (o >>= λ v. lower_run None (row m i) >>= λ l. need 4 (stands_at l v))
+    (cond (lt_ℚ (part y i) 0ℚ) (o >>= λ v. upper_run None (row m i) >>= λ u. need 4 (stands_at u v)) (Ok tt)))
+    (activity_all m x i)))
+
+pub columns_are : (m : Model) (x y ds : List ℚ) → ((j : ℕ) → j < width m → part ds j ≡ reduced m y j) →
+    each (width m) (λ j. given.column_tight m x j (part ds j)) ≡ each (width m) (column_tight_run None m x y)
+columns_are m x y ds h =
+    each_same (width m) _ _ (λ j l. ap (given.column_tight m x j) (h j l)
+    ∙ sym (ap (λ o. o >>= λ d. need 3 (is_tight (bounds m j) d (part x j))) (reduced_all m y j)))
+
+pub allows_are : (m : Model) (r sums : List ℚ) → AreSums m r sums →
+    each (height m) (λ i. given.row_allows m i (part sums i)) ≡ each (height m) (row_allows_run None m r)
+allows_are m r sums h =
+    each_same (height m) _ _ (λ i l. ap (given.row_allows m i) (h.1 i l)
+    ∙ sym (ap (λ o. o >>= λ v. given.row_allows m i v) (activity_all m r i)))
+
+cost_all : (m : Model) (z : List ℚ) → cost_run None m z ≡ Ok (cost_of m z)
+cost_all m z = sum_all (width m) (cost m) (λ j. part z j)
+
+pub better_is : (m : Model) (r : List ℚ) (c : ℚ) (b : Bool) → c ≡ cost_of m r → b ≡ lt_ℚ (signed m.sense c) 0ℚ →
+    better_run None m r ≡ need 5 b
+better_is m r c b e f =
+    ap (λ o. o >>= λ s. need 5 (lt_ℚ (signed m.sense s) 0ℚ)) (cost_all m r ∙ ap Ok (sym e)) ∙ ap (need 5) (sym f)
+
+pub worth_is : (m : Model) (x : List ℚ) (c v : ℚ) → c ≡ cost_of m x → v ≡ c +ℚ m.offset → value_run None m x ≡ Ok v
+worth_is m x c v e f = value_is (cost_run None m x) c m.offset m.offset v (cost_all m x ∙ ap Ok (sym e)) refl f

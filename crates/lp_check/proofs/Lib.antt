@@ -1,1 +1,3 @@
 pub mod Gives
+mod Scaled
+mod Walks

@@ -6,11 +6,12 @@ ghost use Rattle.spec_check.specs.declared.certificate.Certificate.TheVariants.{
 ghost use Rattle.spec_check.specs.Certificate.{IsFor};
 
 use crate::wide::certificate::{Certificate, Known, Ratios, Verdict};
-use crate::wide::common::brought;
 use crate::wide::farkas::{clash, infeasible};
 use crate::wide::multipliers::{columns_tight, rows_tight};
 use crate::wide::point::{columns_within, rows_within, value};
-use crate::wide::ray::{better, columns_allow, rows_allow};
+use crate::wide::prices::reduced_costs;
+use crate::wide::ray::{columns_allow, gets_better, rows_allow};
+use crate::wide::sums::evaluated;
 use lp_model::Model;
 use std::alloc::{AllocError, Global};
 
@@ -23,16 +24,18 @@ fn optimal(alloc: Global, model: &Model, x: &Ratios, y: &Ratios) -> Result<Verdi
     if !columns_within(alloc, model, x)? {
         return Ok(Verdict::No(1));
     }
-    if !rows_within(alloc, model, x)? {
+    let point = evaluated(alloc, model, x)?;
+    if !rows_within(alloc, model, &point.sums)? {
         return Ok(Verdict::No(2));
     }
-    if !columns_tight(alloc, model, x, y)? {
+    let reduced = reduced_costs(alloc, model, y)?;
+    if !columns_tight(alloc, model, x, &reduced)? {
         return Ok(Verdict::No(3));
     }
-    if !rows_tight(alloc, model, x, y)? {
+    if !rows_tight(alloc, model, y, &point.sums)? {
         return Ok(Verdict::No(4));
     }
-    let value = value(alloc, model, x)?;
+    let value = value(alloc, model, &point.cost)?;
     Ok(Verdict::Yes(Known::Optimal(value)))
 }
 
@@ -45,58 +48,21 @@ fn unbounded(alloc: Global, model: &Model, x: &Ratios, r: &Ratios) -> Result<Ver
     if !columns_within(alloc, model, x)? {
         return Ok(Verdict::No(1));
     }
-    if !rows_within(alloc, model, x)? {
+    let point = evaluated(alloc, model, x)?;
+    if !rows_within(alloc, model, &point.sums)? {
         return Ok(Verdict::No(2));
     }
     if !columns_allow(model, r) {
         return Ok(Verdict::No(3));
     }
-    if !rows_allow(alloc, model, r)? {
+    let ray = evaluated(alloc, model, r)?;
+    if !rows_allow(alloc, model, &ray.sums)? {
         return Ok(Verdict::No(4));
     }
-    if !better(alloc, model, r)? {
+    if !gets_better(model.sense(), &ray.cost) {
         return Ok(Verdict::No(5));
     }
     Ok(Verdict::Yes(Known::Unbounded))
-}
-
-// The same of lists that are over one denominator each.
-fn optimal_brought(
-    alloc: Global,
-    model: &Model,
-    x: &Ratios,
-    y: &Ratios,
-) -> Result<Verdict, AllocError>
-    requires point { length x.now ≡ width model.now }
-    requires multipliers { length y.now ≡ height model.now }
-    ensures { IfOk result (Says model.now (Optimal x.now y.now)) }
-{
-    let point = brought(alloc, model, x)?;
-    let multipliers = brought(alloc, model, y)?;
-    optimal(alloc, model, &point, &multipliers)
-}
-
-fn infeasible_brought(alloc: Global, model: &Model, y: &Ratios) -> Result<Verdict, AllocError>
-    requires { length y.now ≡ height model.now }
-    ensures { IfOk result (Says model.now (Infeasible y.now)) }
-{
-    let multipliers = brought(alloc, model, y)?;
-    infeasible(alloc, model, &multipliers)
-}
-
-fn unbounded_brought(
-    alloc: Global,
-    model: &Model,
-    x: &Ratios,
-    r: &Ratios,
-) -> Result<Verdict, AllocError>
-    requires point { length x.now ≡ width model.now }
-    requires ray { length r.now ≡ width model.now }
-    ensures { IfOk result (Says model.now (Unbounded x.now r.now)) }
-{
-    let point = brought(alloc, model, x)?;
-    let ray = brought(alloc, model, r)?;
-    unbounded(alloc, model, &point, &ray)
 }
 
 /// Whether the certificate shows something of the model: `Yes` with what it shows, or `No` with the number of the first
@@ -106,9 +72,9 @@ pub fn check(alloc: Global, model: &Model, cert: &Certificate) -> Result<Verdict
     ensures { IfOk result (Says model.now cert.now) }
 {
     match cert {
-        Certificate::Optimal { x, y } => optimal_brought(alloc, model, x, y),
-        Certificate::Infeasible { y } => infeasible_brought(alloc, model, y),
+        Certificate::Optimal { x, y } => optimal(alloc, model, x, y),
+        Certificate::Infeasible { y } => infeasible(alloc, model, y),
         Certificate::Clash(j) => clash(alloc, model, *j),
-        Certificate::Unbounded { x, r } => unbounded_brought(alloc, model, x, r),
+        Certificate::Unbounded { x, r } => unbounded(alloc, model, x, r),
     }
 }

@@ -9,9 +9,11 @@ ghost use Rattle.lp_check.specs.Said.{Says};
 
 use crate::wide::certificate::{Known, Ratios, Verdict};
 use crate::wide::limits::{limit_of, lower_limit, upper_limit};
-use crate::wide::steps::{part, plus_wide_product, product_onto};
+use crate::wide::prices::priced;
+use crate::wide::steps::{part, plus_wide_product};
+use lp_base::Items;
 use lp_model::Model;
-use lp_ratio::Ratio;
+use lp_ratio::{Ratio, common_denominator, multiples};
 use std::alloc::{AllocError, Global};
 
 // `d` times a limit that a condition asks for, onto `s`; nothing where the limit is not there.
@@ -72,19 +74,6 @@ fn rows_ask(alloc: Global, model: &Model, y: &Ratios) -> Result<Option<Ratio>, A
     Ok(Some(sum))
 }
 
-// The multipliers' part in column `j`.
-fn priced(alloc: Global, model: &Model, y: &Ratios, j: u32) -> Result<Ratio, AllocError>
-    requires inside { j < width model.now }
-    requires multipliers { length y.now ≡ height model.now }
-    ensures { IfOk result (λ g. run.priced_run None model.now y.now j ≡ Ok g) }
-{
-    let mut sum = Ratio::zero(alloc)?;
-    for i in 0..model.rows() {
-        sum = product_onto(alloc, part(y, i), model.entry(i, j), sum)?;
-    }
-    Ok(sum)
-}
-
 // The most that column `j` gives, onto `sum`.
 fn column_gives(
     alloc: Global,
@@ -98,7 +87,7 @@ fn column_gives(
     ensures { IfOk result (λ o. run.column_gives_run None model.now y.now j sum ≡ ok_or o (stop.No 2)) }
 {
     let column = model.col(j);
-    let priced = priced(alloc, model, y, j)?;
+    let priced = priced(alloc, model, y.as_slice(), j)?;
     if priced.is_positive() {
         let upper = limit_of(alloc, column.upper)?;
         weighed_at(alloc, &priced, upper, sum)
@@ -126,7 +115,7 @@ fn columns_give(alloc: Global, model: &Model, y: &Ratios) -> Result<Option<Ratio
 }
 
 // What multipliers show with which the columns give less than the rows ask for.
-pub(crate) fn infeasible(alloc: Global, model: &Model, y: &Ratios) -> Result<Verdict, AllocError>
+fn judged(alloc: Global, model: &Model, y: &Ratios) -> Result<Verdict, AllocError>
     requires { length y.now ≡ height model.now }
     ensures { IfOk result (Says model.now (Infeasible y.now)) }
 {
@@ -144,6 +133,16 @@ pub(crate) fn infeasible(alloc: Global, model: &Model, y: &Ratios) -> Result<Ver
     } else {
         Ok(Verdict::No(3))
     }
+}
+
+// The same of any multipliers: they show what they show when each is taken as many times as their common denominator.
+pub(crate) fn infeasible(alloc: Global, model: &Model, y: &Ratios) -> Result<Verdict, AllocError>
+    requires { length y.now ≡ height model.now }
+    ensures { IfOk result (Says model.now (Infeasible y.now)) }
+{
+    let times = common_denominator(alloc, y.as_slice())?;
+    let numbers = Items::from_vec(multiples(alloc, y.as_slice(), &times)?);
+    judged(alloc, model, &numbers)
 }
 
 // Condition 1: both bounds are there, and the lower one is above the upper one.

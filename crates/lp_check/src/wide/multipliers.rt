@@ -1,40 +1,15 @@
 // Conditions 3 and 4: multipliers of the rows that are complementary to a point.
-ghost use Rattle.std.specs.Prelude.{◌≡◌, ◌<◌, Ok, None, IfOk, length};
-ghost use Rattle.spec_model.specs.Model.{width, height, bounds_of};
-ghost use Rattle.spec_check.specs.Checks.{signed as signed_by};
+ghost use Rattle.std.specs.Prelude.{◌≡◌, ◌<◌, IfOk, length};
+ghost use Rattle.spec_model.specs.Model.{width, height, bounds_of, part as part_of};
 ghost use Rattle.spec_check.specs.Run as run;
+ghost use Rattle.lp_check.specs.Sums as given;
 
 use crate::wide::certificate::Ratios;
 use crate::wide::limits::{limit_of, lower_limit, upper_limit};
-use crate::wide::point::activity;
-use crate::wide::steps::{less_product, part, stands_at};
-use lp_frac::{Frac, neg};
-use lp_model::{Column, Model, Sense};
+use crate::wide::steps::{part, stands_at};
+use lp_model::{Column, Model};
 use lp_ratio::Ratio;
 use std::alloc::{AllocError, Global};
-
-// The cost to be made least.
-fn signed(sense: Sense, cost: Frac) -> Frac
-    ensures { result ≡ signed_by sense cost }
-{
-    match sense {
-        Sense::Min => cost,
-        Sense::Max => neg(cost),
-    }
-}
-
-/// What is left of the cost of column `j`, which is to be made least, without the multipliers' part.
-pub fn reduced(alloc: Global, model: &Model, y: &Ratios, j: u32) -> Result<Ratio, AllocError>
-    requires inside { j < width model.now }
-    requires multipliers { length y.now ≡ height model.now }
-    ensures { IfOk result (λ d. run.reduced_run None model.now y.now j ≡ Ok d) }
-{
-    let mut rest = Ratio::new(alloc, signed(model.sense(), model.col(j).cost))?;
-    for i in 0..model.rows() {
-        rest = less_product(alloc, part(y, i), model.entry(i, j), rest)?;
-    }
-    Ok(rest)
-}
 
 // `value` stands at the column's bound that a reduced cost of this sign asks for.
 fn is_tight(
@@ -61,16 +36,15 @@ fn column_tight(
     alloc: Global,
     model: &Model,
     x: &Ratios,
-    y: &Ratios,
     j: u32,
+    reduced: &Ratio,
 ) -> Result<bool, AllocError>
     requires inside { j < width model.now }
     requires point { length x.now ≡ width model.now }
-    requires multipliers { length y.now ≡ height model.now }
-    ensures { IfOk result (λ b. run.column_tight_run None model.now x.now y.now j ≡ run.need 3 b) }
+    ensures { IfOk result (λ b. given.column_tight model.now x.now j reduced.now ≡ run.need 3 b) }
 {
-    let reduced = reduced(alloc, model, y, j)?;
-    is_tight(alloc, model.col(j), &reduced, part(x, j))
+    let tight = is_tight(alloc, model.col(j), reduced, part(x, j))?;
+    Ok(tight)
 }
 
 // Each column's value stands at the bound that its reduced cost asks for.
@@ -78,43 +52,41 @@ pub(crate) fn columns_tight(
     alloc: Global,
     model: &Model,
     x: &Ratios,
-    y: &Ratios,
+    reduced: &Ratios,
 ) -> Result<bool, AllocError>
     requires point { length x.now ≡ width model.now }
-    requires multipliers { length y.now ≡ height model.now }
-    ensures { IfOk result (λ b. run.each (width model.now) (run.column_tight_run None model.now x.now y.now) ≡ run.need 3 b) }
+    requires reduced { length reduced.now ≡ width model.now }
+    ensures { IfOk result (λ b.
+        run.each (width model.now) (λ j. given.column_tight model.now x.now j (part_of reduced.now j)) ≡ run.need 3 b) }
 {
     for j in 0..model.cols() {
-        if !column_tight(alloc, model, x, y, j)? {
+        if !column_tight(alloc, model, x, j, part(reduced, j))? {
             return Ok(false);
         }
     }
     Ok(true)
 }
 
-// Condition 4 at row `i`. The row's sum and limit are taken again.
+// Condition 4 at row `i`.
 fn row_tight(
     alloc: Global,
     model: &Model,
-    x: &Ratios,
     y: &Ratios,
     i: u32,
+    sum: &Ratio,
 ) -> Result<bool, AllocError>
     requires inside { i < height model.now }
-    requires point { length x.now ≡ width model.now }
     requires multipliers { length y.now ≡ height model.now }
-    ensures { IfOk result (λ b. run.row_tight_run None model.now x.now y.now i ≡ run.need 4 b) }
+    ensures { IfOk result (λ b. given.row_tight model.now y.now i sum.now ≡ run.need 4 b) }
 {
     let multiplier = part(y, i);
     let row = model.row(i);
     if multiplier.is_positive() {
-        let sum = activity(alloc, model, x, i)?;
         let lower = lower_limit(alloc, row)?;
-        stands_at(alloc, lower, &sum)
+        stands_at(alloc, lower, sum)
     } else if multiplier.is_negative() {
-        let sum = activity(alloc, model, x, i)?;
         let upper = upper_limit(alloc, row)?;
-        stands_at(alloc, upper, &sum)
+        stands_at(alloc, upper, sum)
     } else {
         Ok(true)
     }
@@ -124,15 +96,16 @@ fn row_tight(
 pub(crate) fn rows_tight(
     alloc: Global,
     model: &Model,
-    x: &Ratios,
     y: &Ratios,
+    sums: &Ratios,
 ) -> Result<bool, AllocError>
-    requires point { length x.now ≡ width model.now }
     requires multipliers { length y.now ≡ height model.now }
-    ensures { IfOk result (λ b. run.each (height model.now) (run.row_tight_run None model.now x.now y.now) ≡ run.need 4 b) }
+    requires sums { length sums.now ≡ height model.now }
+    ensures { IfOk result (λ b.
+        run.each (height model.now) (λ i. given.row_tight model.now y.now i (part_of sums.now i)) ≡ run.need 4 b) }
 {
     for i in 0..model.rows() {
-        if !row_tight(alloc, model, x, y, i)? {
+        if !row_tight(alloc, model, y, i, part(sums, i))? {
             return Ok(false);
         }
     }

@@ -1,11 +1,13 @@
 // Conditions 1 and 2: a point is feasible. And its value.
 ghost use Rattle.std.specs.Prelude.{◌≡◌, ◌<◌, Ok, None, IfOk, length};
-ghost use Rattle.spec_model.specs.Model.{width, height};
+ghost use Rattle.spec_exact.specs.Fraction.{◌+ℚ◌};
+ghost use Rattle.spec_model.specs.Model.{width, height, part as part_of};
 ghost use Rattle.spec_check.specs.Run as run;
+ghost use Rattle.lp_check.specs.Sums as given;
 
 use crate::wide::certificate::Ratios;
 use crate::wide::limits::{limit_of, lower_limit, upper_limit};
-use crate::wide::steps::{is_at_least, is_at_most, part, plus_product};
+use crate::wide::steps::{is_at_least, is_at_most, part};
 use lp_model::Model;
 use lp_ratio::Ratio;
 use std::alloc::{AllocError, Global};
@@ -39,67 +41,38 @@ pub(crate) fn columns_within(alloc: Global, model: &Model, x: &Ratios) -> Result
     Ok(true)
 }
 
-/// The sum of row `i`.
-pub fn activity(alloc: Global, model: &Model, x: &Ratios, i: u32) -> Result<Ratio, AllocError>
-    requires inside { i < height model.now }
-    requires point { length x.now ≡ width model.now }
-    ensures { IfOk result (λ s. run.activity_run None model.now x.now i ≡ Ok s) }
-{
-    let mut sum = Ratio::zero(alloc)?;
-    for j in 0..model.cols() {
-        sum = plus_product(alloc, model.entry(i, j), part(x, j), sum)?;
-    }
-    Ok(sum)
-}
-
 // The sum of row `i` is within the row's limits.
-fn row_within(alloc: Global, model: &Model, x: &Ratios, i: u32) -> Result<bool, AllocError>
-    requires inside { i < height model.now }
-    requires point { length x.now ≡ width model.now }
-    ensures { IfOk result (λ b. run.row_within_run None model.now x.now i ≡ run.need 2 b) }
+fn row_within(alloc: Global, model: &Model, i: u32, sum: &Ratio) -> Result<bool, AllocError>
+    requires { i < height model.now }
+    ensures { IfOk result (λ b. given.row_within model.now i sum.now ≡ run.need 2 b) }
 {
-    let sum = activity(alloc, model, x, i)?;
     let row = model.row(i);
     let lower = lower_limit(alloc, row)?;
-    if !is_at_least(alloc, lower, &sum)? {
+    if !is_at_least(alloc, lower, sum)? {
         return Ok(false);
     }
     let upper = upper_limit(alloc, row)?;
-    is_at_most(alloc, upper, &sum)
+    is_at_most(alloc, upper, sum)
 }
 
 // Each row's sum is within the row's limits.
-pub(crate) fn rows_within(alloc: Global, model: &Model, x: &Ratios) -> Result<bool, AllocError>
-    requires { length x.now ≡ width model.now }
-    ensures { IfOk result (λ b. run.rows_run None model.now x.now ≡ run.need 2 b) }
+pub(crate) fn rows_within(alloc: Global, model: &Model, sums: &Ratios) -> Result<bool, AllocError>
+    requires { length sums.now ≡ height model.now }
+    ensures { IfOk result (λ b. run.each (height model.now) (λ i. given.row_within model.now i (part_of sums.now i))
+        ≡ run.need 2 b) }
 {
     for i in 0..model.rows() {
-        if !row_within(alloc, model, x, i)? {
+        if !row_within(alloc, model, i, part(sums, i))? {
             return Ok(false);
         }
     }
     Ok(true)
 }
 
-// The sum of the costs.
-pub(crate) fn cost(alloc: Global, model: &Model, x: &Ratios) -> Result<Ratio, AllocError>
-    requires { length x.now ≡ width model.now }
-    ensures { IfOk result (λ s. run.cost_run None model.now x.now ≡ Ok s) }
+// What the objective is at a point with these costs.
+pub(crate) fn value(alloc: Global, model: &Model, cost: &Ratio) -> Result<Ratio, AllocError>
+    ensures { IfOk result (λ s. s ≡ cost.now +ℚ model.now.offset) }
 {
-    let mut sum = Ratio::zero(alloc)?;
-    for j in 0..model.cols() {
-        sum = plus_product(alloc, model.col(j).cost, part(x, j), sum)?;
-    }
-    Ok(sum)
-}
-
-// What the objective is at the point.
-pub(crate) fn value(alloc: Global, model: &Model, x: &Ratios) -> Result<Ratio, AllocError>
-    requires { length x.now ≡ width model.now }
-    ensures { IfOk result (λ s. run.value_run None model.now x.now ≡ Ok s) }
-{
-    let cost = cost(alloc, model, x)?;
     let offset = Ratio::new(alloc, model.offset())?;
-    let value = cost.plus(alloc, &offset)?;
-    Ok(value)
+    cost.plus(alloc, &offset)
 }

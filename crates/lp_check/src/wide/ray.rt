@@ -1,13 +1,13 @@
 // Conditions 3 to 5 of a ray: points stay feasible along it, and get better.
-ghost use Rattle.std.specs.Prelude.{◌≡◌, ◌<◌, None, IfOk, length};
+ghost use Rattle.std.specs.Prelude.{◌≡◌, ◌<◌, IfOk, length};
 ghost use Rattle.spec_exact.specs.Fraction.{ℚ, 0ℚ, lt_ℚ};
-ghost use Rattle.spec_model.specs.Model.{width, height};
+ghost use Rattle.spec_model.specs.Model.{width, height, part as part_of};
 ghost use Rattle.spec_check.specs.Checks.{signed as signed_by};
 ghost use Rattle.spec_check.specs.Run as run;
+ghost use Rattle.lp_check.specs.Sums as given;
 
 use crate::wide::certificate::Ratios;
 use crate::wide::limits::{lower_limit, upper_limit};
-use crate::wide::point::{activity, cost};
 use crate::wide::steps::part;
 use lp_frac::Frac;
 use lp_model::{Model, Sense};
@@ -78,49 +78,40 @@ pub(crate) fn columns_allow(model: &Model, r: &Ratios) -> bool
 }
 
 // Condition 4 at row `i`.
-fn row_allows(alloc: Global, model: &Model, r: &Ratios, i: u32) -> Result<bool, AllocError>
-    requires inside { i < height model.now }
-    requires ray { length r.now ≡ width model.now }
-    ensures { IfOk result (λ b. run.row_allows_run None model.now r.now i ≡ run.need 4 b) }
+fn row_allows(alloc: Global, model: &Model, i: u32, sum: &Ratio) -> Result<bool, AllocError>
+    requires { i < height model.now }
+    ensures { IfOk result (λ b. given.row_allows model.now i sum.now ≡ run.need 4 b) }
 {
-    let sum = activity(alloc, model, r, i)?;
     let row = model.row(i);
     let lower = lower_limit(alloc, row)?;
-    if !is_not_below(&lower, &sum) {
+    if !is_not_below(&lower, sum) {
         return Ok(false);
     }
     let upper = upper_limit(alloc, row)?;
-    Ok(is_not_above(&upper, &sum))
+    Ok(is_not_above(&upper, sum))
 }
 
 // Each row's limits allow the ray.
-pub(crate) fn rows_allow(alloc: Global, model: &Model, r: &Ratios) -> Result<bool, AllocError>
-    requires { length r.now ≡ width model.now }
-    ensures { IfOk result (λ b. run.each (height model.now) (run.row_allows_run None model.now r.now) ≡ run.need 4 b) }
+pub(crate) fn rows_allow(alloc: Global, model: &Model, sums: &Ratios) -> Result<bool, AllocError>
+    requires { length sums.now ≡ height model.now }
+    ensures { IfOk result (λ b. run.each (height model.now) (λ i. given.row_allows model.now i (part_of sums.now i))
+        ≡ run.need 4 b) }
 {
     for i in 0..model.rows() {
-        if !row_allows(alloc, model, r, i)? {
+        if !row_allows(alloc, model, i, part(sums, i))? {
             return Ok(false);
         }
     }
     Ok(true)
 }
 
-// Whether a cost to be made least is below 0.
-fn gets_better(sense: Sense, cost: &Ratio) -> bool
+// Condition 5: whether the objective gets better along a ray with this sum of costs, which is below 0 once it is to be made
+// least.
+pub(crate) fn gets_better(sense: Sense, cost: &Ratio) -> bool
     ensures { result ≡ lt_ℚ (signed_by sense cost.now) 0ℚ }
 {
     match sense {
         Sense::Min => cost.is_negative(),
         Sense::Max => cost.is_positive(),
     }
-}
-
-// Condition 5: the objective gets better along the ray.
-pub(crate) fn better(alloc: Global, model: &Model, r: &Ratios) -> Result<bool, AllocError>
-    requires { length r.now ≡ width model.now }
-    ensures { IfOk result (λ b. run.better_run None model.now r.now ≡ run.need 5 b) }
-{
-    let cost = cost(alloc, model, r)?;
-    Ok(gets_better(model.sense(), &cost))
 }

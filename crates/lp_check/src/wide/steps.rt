@@ -4,7 +4,6 @@ ghost use Rattle.spec_model.specs.Model.{part as part_of};
 ghost use Rattle.spec_check.specs.Run as run;
 
 use crate::wide::certificate::Ratios;
-use lp_frac::{Frac, is_zero, neg};
 use lp_ratio::Ratio;
 use std::alloc::{AllocError, Global};
 
@@ -17,21 +16,6 @@ pub fn part(z: &Ratios, k: u32) -> &Ratio
 }
 
 // `v * w` onto `s`.
-pub(crate) fn plus_product(alloc: Global, v: Frac, w: &Ratio, s: Ratio) -> Result<Ratio, AllocError>
-    ensures { IfOk result (λ r. run.plus_product None v w.now s ≡ Ok r) }
-{
-    if is_zero(v) {
-        return Ok(s);
-    }
-    if w.is_zero() {
-        return Ok(s);
-    }
-    let product = w.scaled(alloc, v)?;
-    let sum = s.plus(alloc, &product)?;
-    Ok(sum)
-}
-
-// `v * w` onto `s`, of two numbers of any width.
 pub(crate) fn plus_wide_product(
     alloc: Global,
     v: &Ratio,
@@ -41,36 +25,6 @@ pub(crate) fn plus_wide_product(
     ensures { IfOk result (λ r. run.plus_product None v.now w.now s ≡ Ok r) }
 {
     let product = v.times(alloc, w)?;
-    let sum = s.plus(alloc, &product)?;
-    Ok(sum)
-}
-
-// `v * w` onto `s`, of which the second is narrow.
-pub(crate) fn product_onto(alloc: Global, v: &Ratio, w: Frac, s: Ratio) -> Result<Ratio, AllocError>
-    ensures { IfOk result (λ r. run.plus_product None v.now w s ≡ Ok r) }
-{
-    if is_zero(w) {
-        return Ok(s);
-    }
-    if v.is_zero() {
-        return Ok(s);
-    }
-    let product = v.scaled(alloc, w)?;
-    let sum = s.plus(alloc, &product)?;
-    Ok(sum)
-}
-
-// `v * w` off `s`.
-pub(crate) fn less_product(alloc: Global, v: &Ratio, w: Frac, s: Ratio) -> Result<Ratio, AllocError>
-    ensures { IfOk result (λ r. run.less_product None v.now w s ≡ Ok r) }
-{
-    if is_zero(w) {
-        return Ok(s);
-    }
-    if v.is_zero() {
-        return Ok(s);
-    }
-    let product = v.scaled(alloc, neg(w))?;
     let sum = s.plus(alloc, &product)?;
     Ok(sum)
 }

@@ -1,0 +1,32 @@
+-- The sums of all rows, and conditions of rows and columns where their sums and reduced costs are given.
+use Rattle.std.specs.Prelude.{◌≡◌, ◌<◌, ℕ, ⊤, List, length, None, Ok, cond}
+use Rattle.spec_exact.specs.Fraction.{ℚ, 0ℚ, lt_ℚ}
+use Rattle.spec_exact.specs.Run.{◌>>=◌}
+use Rattle.spec_model.specs.Model.{Model, height, row, bounds, activity, part}
+use Rattle.spec_check.specs.Run.{Run, need, lower_run, upper_run, at_least, at_most, stands_at, is_tight}
+use Rattle.spec_check.specs.Run.{not_below, not_above}
+
+-- a sum for each row
+abbrev pub AreSums : Model → List ℚ → List ℚ → Type 0
+AreSums m z sums = (length sums ≡ height m) × ((i : ℕ) → i < height m → part sums i ≡ activity m z i)
+
+-- condition 2 at row i, where its sum is s
+abbrev pub row_within : Model → ℕ → ℚ → Run ⊤
+row_within m i s =
+    lower_run None (row m i) >>= λ l. at_least 2 None l s >>= λ _. upper_run None (row m i) >>= λ u. at_most 2 None u s
+
+-- condition 3 at column j, where its reduced cost is d
+abbrev pub column_tight : Model → List ℚ → ℕ → ℚ → Run ⊤
+column_tight m x j d = need 3 (is_tight (bounds m j) d (part x j))
+
+-- condition 4 at row i, where its sum is s
+abbrev pub row_tight : Model → List ℚ → ℕ → ℚ → Run ⊤
+row_tight m y i s =
+    cond (lt_ℚ 0ℚ (part y i)) (lower_run None (row m i) >>= λ l. need 4 (stands_at l s))
+    (cond (lt_ℚ (part y i) 0ℚ) (upper_run None (row m i) >>= λ u. need 4 (stands_at u s)) (Ok tt))
+
+-- condition 4 of a ray at row i, where its sum over the ray is s
+abbrev pub row_allows : Model → ℕ → ℚ → Run ⊤
+row_allows m i s =
+    lower_run None (row m i) >>= λ l. need 4 (not_below l s) >>= λ _.
+    upper_run None (row m i) >>= λ u. need 4 (not_above u s)
