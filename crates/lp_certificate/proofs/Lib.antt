@@ -3,3 +3,4 @@ pub mod Inside
 pub mod Lines
 pub mod Numbers
 pub mod Places
+mod Marking

@@ -9,52 +9,60 @@ use Rattle.lp_certificate.specs.declared.settled.SettleError.{SettleError}
 use Rattle.lp_certificate.specs.declared.settled.SettleError.TheVariants.{Fault, NoMemory}
 use Rattle.lp_certificate.specs.Answer.{IsErrorOf}
 
--- the parts from i on, put to the certificate so far, give what all of them give
-abbrev pub IsOnTheWay : {F : Type 0} → F → Model → RawOf F → ℕ → Certificate (List F) → Type 0
-IsOnTheWay v m raw i cert = put_all m (take i raw.parts) (drop i raw.parts) cert ≡ certificate_by v m raw
+-- the parts from i on, put to the certificate so far, give what all of them give from the first one on
+abbrev pub IsOnTheWay : {F : Type 0} → Model → List (PartOf F) → Certificate (List F) → ℕ → Certificate (List F) → Type 0
+IsOnTheWay m parts first i cert = put_all m (take i parts) (drop i parts) cert ≡ put_all m [] parts first
 
-module _ {F : Type 0} (v : F) where
-  pub at_start : (m : Model) (raw : RawOf F) (cert : Certificate (List F)) → blank v m raw.kind ≡ Ok cert →
-      IsOnTheWay v m raw 0 cert
-  unfolding certificate_by
-  at_start m raw cert e = sym (ap (λ o. o >>= λ cert. put_all m [] raw.parts cert) e)
+module _ {F : Type 0} where
+  pub front_of : (parts : List (PartOf F)) (i : ℕ) (p : PartOf F) → i < length parts → get_or parts i p ≡ p →
+      take i parts ++ p ∷ [] ≡ take (i + 1) parts
+  front_of parts i p h g = sym (take_more parts i p h ∙ ap (λ q. take i parts ++ q ∷ []) g)
 
   -- the next part is put
-  step_of : (m : Model) (raw : RawOf F) (i : ℕ) (p : PartOf F) (cert : Certificate (List F)) →
-      i < length raw.parts → get_or raw.parts i p ≡ p
-      → put_all m (take i raw.parts) (drop i raw.parts) cert
-      ≡ (put m (take i raw.parts) p cert >>= λ next. put_all m (take (i + 1) raw.parts) (drop (i + 1) raw.parts) next)
-  step_of m raw i p cert h g =
-      let next : drop i raw.parts ≡ p ∷ drop (i + 1) raw.parts =
-      drop_more raw.parts i p h ∙ ap (λ q. q ∷ drop (i + 1) raw.parts) g in
-      let front : take i raw.parts ++ p ∷ [] ≡ take (i + 1) raw.parts =
-      sym (take_more raw.parts i p h ∙ ap (λ q. take i raw.parts ++ q ∷ []) g) in
-      ap (λ ps. put_all m (take i raw.parts) ps cert) next
-      ∙ ap (λ b. put m (take i raw.parts) p cert >>= λ next. put_all m b (drop (i + 1) raw.parts) next) front
+  step_of : (m : Model) (parts : List (PartOf F)) (i : ℕ) (p : PartOf F) (cert : Certificate (List F)) →
+      i < length parts → get_or parts i p ≡ p → put_all m (take i parts) (drop i parts) cert
+      ≡ (put m (take i parts) p cert >>= λ next. put_all m (take (i + 1) parts) (drop (i + 1) parts) next)
+  step_of m parts i p cert h g =
+      let next : drop i parts ≡ p ∷ drop (i + 1) parts =
+      drop_more parts i p h ∙ ap (λ q. q ∷ drop (i + 1) parts) g in
+      ap (λ ps. put_all m (take i parts) ps cert) next
+      ∙ ap (λ b. put m (take i parts) p cert >>= λ next. put_all m b (drop (i + 1) parts) next) (front_of parts i p h g)
 
-  pub one_more : (m : Model) (raw : RawOf F) (i : ℕ) (p : PartOf F) (cert next : Certificate (List F)) →
-      i < length raw.parts → get_or raw.parts i p ≡ p
-      → IsOnTheWay v m raw i cert → put m (take i raw.parts) p cert ≡ Ok next → IsOnTheWay v m raw (i + 1) next
-  one_more m raw i p cert next h g way e =
-      sym (step_of m raw i p cert h g
-      ∙ ap (λ o. o >>= λ next. put_all m (take (i + 1) raw.parts) (drop (i + 1) raw.parts) next) e) ∙ way
+  pub one_more : (m : Model) (parts : List (PartOf F)) (i : ℕ) (p : PartOf F) (first cert next : Certificate (List F)) →
+      i < length parts → get_or parts i p ≡ p
+      → IsOnTheWay m parts first i cert → put m (take i parts) p cert ≡ Ok next → IsOnTheWay m parts first (i + 1) next
+  one_more m parts i p first cert next h g way e =
+      sym (step_of m parts i p cert h g
+      ∙ ap (λ o. o >>= λ next. put_all m (take (i + 1) parts) (drop (i + 1) parts) next) e) ∙ way
 
-  pub stopped : (m : Model) (raw : RawOf F) (i : ℕ) (p : PartOf F) (cert : Certificate (List F)) (error : SettleError) →
-      i < length raw.parts → get_or raw.parts i p ≡ p
-      → IsOnTheWay v m raw i cert → IsErrorOf (put m (take i raw.parts) p cert) error →
-      IsErrorOf (certificate_by v m raw) error
-  stopped m raw i p cert NoMemory h g way e = tt
-  stopped m raw i p cert (Fault fault) h g way e =
-      sym way ∙ step_of m raw i p cert h g
-      ∙ ap (λ o. o >>= λ next. put_all m (take (i + 1) raw.parts) (drop (i + 1) raw.parts) next) e
-
-  pub blank_stopped : (m : Model) (raw : RawOf F) (error : SettleError) → IsErrorOf (blank v m raw.kind) error →
-      IsErrorOf (certificate_by v m raw) error
-  unfolding certificate_by
-  blank_stopped m raw NoMemory e = tt
-  blank_stopped m raw (Fault fault) e = ap (λ o. o >>= λ cert. put_all m [] raw.parts cert) e
+  pub stopped : (m : Model) (parts : List (PartOf F)) (i : ℕ) (p : PartOf F) (first cert : Certificate (List F))
+      (error : SettleError) → i < length parts → get_or parts i p ≡ p
+      → IsOnTheWay m parts first i cert → IsErrorOf (put m (take i parts) p cert) error →
+      IsErrorOf (put_all m [] parts first) error
+  stopped m parts i p first cert NoMemory h g way e = tt
+  stopped m parts i p first cert (Fault fault) h g way e =
+      sym way ∙ step_of m parts i p cert h g
+      ∙ ap (λ o. o >>= λ next. put_all m (take (i + 1) parts) (drop (i + 1) parts) next) e
 
   -- none is left
-  pub all_put : (m : Model) (raw : RawOf F) (i : ℕ) (cert : Certificate (List F)) → length raw.parts ≤ i →
-      IsOnTheWay v m raw i cert → certificate_by v m raw ≡ Ok cert
-  all_put m raw i cert h way = sym way ∙ at_drop_all (λ ps. put_all m (take i raw.parts) ps cert) raw.parts i h
+  pub all_put : (m : Model) (parts : List (PartOf F)) (i : ℕ) (first cert : Certificate (List F)) → length parts ≤ i →
+      IsOnTheWay m parts first i cert → put_all m [] parts first ≡ Ok cert
+  all_put m parts i first cert h way = sym way ∙ at_drop_all (λ ps. put_all m (take i parts) ps cert) parts i h
+
+  -- ---- with the certificate that they are put to
+  pub whole : (v : F) (m : Model) (raw : RawOf F) (first cert : Certificate (List F)) → blank v m raw.kind ≡ Ok first →
+      put_all m [] raw.parts first ≡ Ok cert → certificate_by v m raw ≡ Ok cert
+  unfolding certificate_by
+  whole v m raw first cert e f = ap (λ o. o >>= λ cert. put_all m [] raw.parts cert) e ∙ f
+
+  pub unfit : (v : F) (m : Model) (raw : RawOf F) (first : Certificate (List F)) (error : SettleError) →
+      blank v m raw.kind ≡ Ok first → IsErrorOf (put_all m [] raw.parts first) error → IsErrorOf (certificate_by v m raw) error
+  unfolding certificate_by
+  unfit v m raw first NoMemory e f = tt
+  unfit v m raw first (Fault fault) e f = ap (λ o. o >>= λ cert. put_all m [] raw.parts cert) e ∙ f
+
+  pub blank_stopped : (v : F) (m : Model) (raw : RawOf F) (error : SettleError) → IsErrorOf (blank v m raw.kind) error →
+      IsErrorOf (certificate_by v m raw) error
+  unfolding certificate_by
+  blank_stopped v m raw NoMemory e = tt
+  blank_stopped v m raw (Fault fault) e = ap (λ o. o >>= λ cert. put_all m [] raw.parts cert) e

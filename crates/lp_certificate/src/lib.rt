@@ -17,6 +17,7 @@
 #![tactic(auto)]
 
 mod certificate;
+mod given;
 mod narrow;
 mod number;
 mod reader;

@@ -1,13 +1,16 @@
 // The parts of a certificate, put to the rows and columns of a model.
-ghost use Rattle.std.specs.Prelude.{◌≡◌, ◌<◌, ◌==◌, length, replicate, IfOk, IfSome, Ok};
+ghost use Rattle.std.specs.Prelude.{◌≡◌, ◌<◌, ◌++◌, ◌∷◌, [], List, length, replicate, IfOk, OnOk, IfSome, Ok};
 ghost use Rattle.spec_check.specs.Certificate.{IsFor};
 ghost use Rattle.spec_check.specs.Settle as settling;
 ghost use Rattle.lp_certificate.specs.Answer.{Settles, Puts, IsPlace, IsInside, IsUnknown, IsRepeated};
+ghost use Rattle.lp_certificate.specs.Marks.{HasMarks, AreMarks};
+ghost use Rattle.spec_check.specs.Raw.{PartOf as Part};
 ghost use Rattle.lp_certificate.specs.declared.settled.SettleError.TheVariants.{NoMemory};
 
 use crate::certificate::{CertificateKind, CertificateOf, PartOf, RawOf, SettleFault};
+use crate::given::Given;
 use crate::number::Number;
-use lp_base::{Items, Name, are_same};
+use lp_base::{Items, Name};
 use lp_model::Model;
 use spec_check::{Certificate, Letter};
 use std::alloc::{AllocError, Global};
@@ -135,41 +138,53 @@ fn set<N: Drop>(cert: &mut CertificateOf<N>, letter: Letter, k: u32, value: N)
     }
 }
 
-fn is_same_letter(letter: Letter, other: Letter) -> bool
-    ensures { result ≡ settling.same_letter letter other }
-{
-    letter == other
-}
-
-// Whether one of the parts has this letter and this name.
-fn is_given<N>(part: &PartOf<N>, parts: &[PartOf<N>]) -> bool
-    ensures { result ≡ settling.is_given part.now.letter part.now.name parts.now }
-{
-    parts.iter().any(|p| is_same_letter(p.letter, part.letter)
-        && are_same(p.name.as_slice(), part.name.as_slice()))
-}
-
-// Puts the part into its place, after those before it.
+// Puts the part into its place, after those before it, whose places are marked.
 #[tactic(auto, unfolding(spec_check::specs::Settle::put))]
 fn put<N: Number>(
     alloc: Global,
     model: &Model,
-    before: &[PartOf<N>],
+    given: &mut Given,
     part: &PartOf<N>,
     cert: &mut CertificateOf<N>,
 ) -> Result<(), SettleError>
-    requires { IsFor model.now cert.old }
-    ensures answer { Puts (settling.put model.now before.now part.now cert.old) cert.new result }
+    requires places { HasMarks model.now given.old }
+    requires fits { IsFor model.now cert.old }
+    ensures answer { (before : List (Part N)) → AreMarks model.now before given.old →
+        Puts (settling.put model.now before part.now cert.old) cert.new result }
+    ensures marks { OnOk result ((before : List (Part N)) → AreMarks model.now before given.old →
+        AreMarks model.now (before ++ part.now ∷ []) given.new) }
+    ensures places { HasMarks model.now given.new }
     ensures fits { IsFor model.now cert.new }
 {
     let Some(k) = place_of(model, part.letter, part.name.as_slice()) else {
         return Err(unknown(alloc, &part.name));
     };
-    if is_given(part, before) {
+    if given.has(part.letter, k) {
         return Err(repeated(alloc, &part.name));
     }
     let value = part.value.copied(alloc)?;
+    given.mark(part.letter, k);
     set(cert, part.letter, k, value);
+    Ok(())
+}
+
+// The certificate with all parts put to it.
+fn put_all<N: Number>(
+    alloc: Global,
+    model: &Model,
+    parts: &[PartOf<N>],
+    cert: &mut CertificateOf<N>,
+) -> Result<(), SettleError>
+    requires { IsFor model.now cert.old }
+    ensures answer { Puts (settling.put_all model.now [] parts.now cert.old) cert.new result }
+    ensures fits { IsFor model.now cert.new }
+{
+    let mut given = Given::nothing(alloc, model)?;
+    for i in 0..parts.len() {
+        if let Err(error) = put(alloc, model, &mut given, &parts[i], cert) {
+            return Err(error);
+        }
+    }
     Ok(())
 }
 
@@ -184,12 +199,11 @@ pub fn settle<N: Number>(
     ensures fits { IfOk result (IsFor model.now) }
 {
     let mut cert = blank(alloc, model, &raw.kind)?;
-    let parts = raw.parts.as_slice();
-    for i in 0..parts.len() {
-        if let Err(error) = put(alloc, model, &parts[..i], &parts[i], &mut cert) {
+    match put_all(alloc, model, raw.parts.as_slice(), &mut cert) {
+        Ok(()) => Ok(cert),
+        Err(error) => {
             drop(cert);
-            return Err(error);
+            Err(error)
         }
     }
-    Ok(cert)
 }
