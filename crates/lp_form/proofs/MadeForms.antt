@@ -5,11 +5,12 @@ use Rattle.std.specs.Prelude.{All}
 use Rattle.std.proofs.lemmas.List.{length-append, length-map, length-replicate, map_more, append_assoc, map-append}
 use Rattle.spec_exact.specs.Fraction.{ℚ, 0ℚ}
 use Rattle.spec_model.specs.Model.{Model, ExactColumn, width, height, row, no_column}
-use Rattle.spec_model.specs.Kept.{AreEntries}
+use Rattle.spec_model.specs.Kept.{AreEntries, IsUsual, large_limits}
 use Rattle.spec_simplex.specs.declared.ends.FormFault.{FormFault}
 use Rattle.spec_simplex.specs.declared.ends.FormFault.TheVariants as fault
 use Rattle.spec_exact.specs.Run.{◌>>=◌, refused_as, list_run, steps}
-use Rattle.spec_simplex.specs.Form.{Form, IsForm, limits_run, column_clash, least_cost, formed, form_of}
+use Rattle.spec_simplex.specs.Form.{Form, IsForm, IsFormWithin, limits_run, column_clash, least_cost, formed, form_of}
+use Rattle.spec_simplex.proofs.Formed.{form_is as form_of_is}
 use Rattle.lp_form.specs.Answer.{IsFaultOf, IsStopOf}
 use Rattle.spec_exact.proofs.Stops.{list_more}
 use Rattle.spec_exact.specs.Narrow.{number_limit}
@@ -73,8 +74,8 @@ module _ (m : Model) (limits : List (Option ℚ × Option ℚ)) (rows cols : ℕ
         g,
       )
 
-  pub is_form : length limits ≡ height m → rows ≤ 256 → cols ≤ 512 → All (AreEntries (height m)) entries →
-      IsForm (record { rows = rows; cols = cols; entries = entries; lower = lower; upper = upper; cost = cost })
+  pub is_form : length limits ≡ height m → rows ≤ 65536 → cols ≤ 131072 → All (AreEntries (height m)) entries →
+      IsFormWithin large_limits (record { rows = rows; cols = cols; entries = entries; lower = lower; upper = upper; cost = cost })
   is_form g h i k =
       record {
         few_rows = h;
@@ -94,6 +95,21 @@ module _ (m : Model) (limits : List (Option ℚ × Option ℚ)) (rows cols : ℕ
             );
         columns = subst (λ n. All (AreEntries n) entries) (sym a) k;
       }
+
+-- the form of a usual model is within the usual limits
+pub usual_form : (m : Model) (f : Form) → IsUsual m → form_of (Some number_limit) m ≡ Ok f →
+    IsFormWithin large_limits f → IsForm f
+usual_form m f usual made within =
+    let is = form_of_is (Some number_limit) m f made in
+    record {
+      few_rows = subst (λ (f : Form). f.rows ≤ 256) is.2 usual.few_rows;
+      few_columns = subst (λ (f : Form). f.cols ≤ 512) is.2 usual.few_columns;
+      all_entries = within.all_entries;
+      all_lower = within.all_lower;
+      all_upper = within.all_upper;
+      all_costs = within.all_costs;
+      columns = within.columns;
+    }
 
 -- ---- the form, or why there is none
 module _ (limit : Option ℕ) (m : Model) where

@@ -1,25 +1,16 @@
-// Forms and their readers.
+// Forms of which tableaus are made.
 ghost use Rattle.std.specs.Prelude.{◌≡◌, ◌<◌, ◌≤◌, ◌+◌, [], get_or};
-ghost use Rattle.spec_model.specs.Model.{entry_of};
 ghost use Rattle.spec_model.specs.Kept.{AreEntries};
 ghost use Rattle.spec_simplex.specs.Form.{IsForm, form_entry, form_lower, form_upper};
 
-use crate::lists::{BoundList, Columns};
-use lp_frac::{Frac, Fracs, zero};
+use crate::large::LargeForm;
+use lp_frac::Frac;
 use std::marker::Model;
 
-/// The form of a linear program: the relation `s_i = sum of a_ij x_j` for each row i, bounds of the
-/// structural columns x_j and of the logical columns s_i, and costs to be made least.
-///
-/// Column j below `cols` is structural, column `cols + i` is the logical of row i. There are at most
-/// 256 rows and 512 structural columns.
+/// A form within the usual limits: at most 256 rows and 512 structural columns. To contracts it is the form.
+#[derive(Drop)]
 pub struct Form {
-    rows: u32,
-    cols: u32,
-    entries: Columns,
-    lower: BoundList,
-    upper: BoundList,
-    cost: Fracs,
+    form: LargeForm,
 }
 
 impl Model for Form {
@@ -27,78 +18,24 @@ impl Model for Form {
 
     ghost Value = { forms.Form };
 
-    ghost view = { λ f. record {
-      rows = f.rows;
-      cols = f.cols;
-      entries = f.entries;
-      lower = f.lower;
-      upper = f.upper;
-      cost = f.cost;
-    } };
+    ghost view = { λ f. f.form };
 
-    ghost invariant = { λ f. forms.IsForm (record {
-      rows = f.rows;
-      cols = f.cols;
-      entries = f.entries;
-      lower = f.lower;
-      upper = f.upper;
-      cost = f.cost;
-    }) };
-}
-
-impl Drop for Form {
-    fn drop(self) {
-        let Form {
-            rows: _,
-            cols: _,
-            entries,
-            lower,
-            upper,
-            cost,
-        } = self;
-        drop(entries);
-        drop(lower);
-        drop(upper);
-        drop(cost);
-    }
+    ghost invariant = { λ f. forms.IsForm f.form };
 }
 
 impl Form {
-    /// The form of these parts: the entries of each structural column, then the bounds and the cost
-    /// of each structural and each logical column.
-    pub fn new(
-        rows: u32,
-        cols: u32,
-        entries: Columns,
-        lower: BoundList,
-        upper: BoundList,
-        cost: Fracs,
-    ) -> Form
-        requires { IsForm (record {
-          rows = rows;
-          cols = cols;
-          entries = entries;
-          lower = lower;
-          upper = upper;
-          cost = cost;
-        }) }
-        ensures { result ≡ record {
-          rows = rows;
-          cols = cols;
-          entries = entries;
-          lower = lower;
-          upper = upper;
-          cost = cost;
-        } }
+    pub fn new(form: LargeForm) -> Form
+        requires { IsForm form }
+        ensures { result ≡ form }
     {
-        Form {
-            rows,
-            cols,
-            entries,
-            lower,
-            upper,
-            cost,
-        }
+        Form { form }
+    }
+
+    pub fn as_large(&self) -> &LargeForm
+        ensures value { result.now ≡ self.now }
+        ensures kept { IsForm result.now }
+    {
+        &self.form
     }
 
     /// How many rows there are.
@@ -107,7 +44,7 @@ impl Form {
         ensures bound { result ≤ 256 }
         ensures kept { IsForm self.now }
     {
-        self.rows
+        self.form.rows()
     }
 
     /// How many structural columns there are.
@@ -115,7 +52,7 @@ impl Form {
         ensures value { result ≡ self.now.cols }
         ensures bound { result ≤ 512 }
     {
-        self.cols
+        self.form.cols()
     }
 
     /// The logical column of row `i`.
@@ -124,77 +61,61 @@ impl Form {
         ensures value { result ≡ self.now.cols + i }
         ensures inside { result < self.now.cols + self.now.rows }
     {
-        self.cols + i
+        self.form.logical(i)
     }
 
     /// The coefficient of structural column `j` in row `i`.
-    #[tactic(auto, using(std::proofs::lemmas::Option::get_or_from_slice_get))]
     pub fn entry(&self, i: u32, j: u32) -> Frac
         requires i_in_range { i < self.now.rows }
         requires j_in_range { j < self.now.cols }
         ensures { result ≡ form_entry self.now i j }
     {
-        entry_at(self.entries.get(j as usize).as_slice(), i)
+        self.form.entry(i, j)
     }
 
     /// The entries of structural column `j`: rows, each with its coefficient.
-    #[tactic(auto, using(std::proofs::lemmas::Option::get_or_from_slice_get))]
     pub fn entries(&self, j: u32) -> &[(u32, Frac)]
         requires { j < self.now.cols }
         ensures value { result.now ≡ get_or self.now.entries j [] }
         ensures kept { AreEntries self.now.rows result.now }
     {
-        self.entries.get(j as usize).as_slice()
+        self.form.entries(j)
     }
 
     /// The lower bound of structural or logical column `k`.
-    #[tactic(auto, using(std::proofs::lemmas::Option::get_or_from_slice_get))]
     pub fn lower(&self, k: u32) -> Option<Frac>
         requires { k < self.now.cols + self.now.rows }
         ensures { result ≡ form_lower self.now k }
     {
-        self.lower.at(k as usize)
+        self.form.lower(k)
     }
 
     /// The upper bound of structural or logical column `k`.
-    #[tactic(auto, using(std::proofs::lemmas::Option::get_or_from_slice_get))]
     pub fn upper(&self, k: u32) -> Option<Frac>
         requires { k < self.now.cols + self.now.rows }
         ensures { result ≡ form_upper self.now k }
     {
-        self.upper.at(k as usize)
+        self.form.upper(k)
     }
 
     /// The cost of each structural and then each logical column.
     pub fn costs(&self) -> &[Frac]
         ensures { result.now ≡ self.now.cost }
     {
-        self.cost.as_slice()
+        self.form.costs()
     }
 
     /// The lower bounds of all structural and then all logical columns.
     pub fn lowers(&self) -> &[Option<Frac>]
         ensures { result.now ≡ self.now.lower }
     {
-        self.lower.as_slice()
+        self.form.lowers()
     }
 
     /// The upper bounds, in the same order.
     pub fn uppers(&self) -> &[Option<Frac>]
         ensures { result.now ≡ self.now.upper }
     {
-        self.upper.as_slice()
+        self.form.uppers()
     }
-}
-
-// What stands at row `i`, 0 where nothing does.
-fn entry_at(entries: &[(u32, Frac)], i: u32) -> Frac
-    ensures { result ≡ entry_of entries.now i }
-{
-    for (row, value) in entries {
-        if *row == i {
-            return *value;
-        }
-    }
-    zero()
 }

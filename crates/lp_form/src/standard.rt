@@ -2,7 +2,7 @@
 ghost use Rattle.std.specs.Prelude.{◌≡◌, [], ◌∷◌, ◌++◌, map, replicate, All, IfOk, IfErr, OnOk, Ok, Some, length};
 ghost use Rattle.spec_exact.specs.Fraction.{0ℚ};
 ghost use Rattle.spec_model.specs.Model.{width, height, row};
-ghost use Rattle.spec_model.specs.Kept.{AreEntries};
+ghost use Rattle.spec_model.specs.Kept.{AreEntries, IsUsual, large_limits};
 ghost use Rattle.spec_exact.specs.Run.{list_run, steps};
 ghost use Rattle.spec_exact.specs.Narrow.{number_limit};
 ghost use Rattle.spec_simplex.specs.Form as forms;
@@ -11,6 +11,7 @@ ghost use Rattle.lp_form.specs.Bounds.{AreBounds};
 
 use crate::fault::{FormStop, stop_of};
 use crate::forms::Form;
+use crate::large::LargeForm;
 use crate::lists::{BoundList, Columns};
 use crate::row_limits::{clash, limits};
 use lp_frac::{Entries, Frac, Fracs, neg, zero};
@@ -104,8 +105,9 @@ fn costs(alloc: Global, model: &Model) -> Result<Fracs, AllocError>
 /// The form of the model: its columns, and a logical column for each row. The limits of the rows are
 /// taken first, in order, then the bounds of the columns are compared, in order; the first refused
 /// operation, or the first clash, is why there is none.
-pub fn form(alloc: Global, model: &Model) -> Result<Form, FormStop>
+pub fn large_form(alloc: Global, model: &Model) -> Result<LargeForm, FormStop>
     ensures ok { IfOk result (λ f. forms.form_of (Some number_limit) model.now ≡ Ok f) }
+    ensures kept { IfOk result (λ f. forms.IsFormWithin large_limits f) }
     ensures err { IfErr result (IsFaultOf (forms.form_of (Some number_limit) model.now)) }
 {
     let mut lower = BoundList::new(alloc);
@@ -116,5 +118,15 @@ pub fn form(alloc: Global, model: &Model) -> Result<Form, FormStop>
     }
     let entries = entries(alloc, model)?;
     let cost = costs(alloc, model)?;
-    Ok(Form::new(model.rows(), model.cols(), entries, lower, upper, cost))
+    Ok(LargeForm::new(model.rows(), model.cols(), entries, lower, upper, cost))
+}
+
+/// The form of a usual model, of which tableaus can be made.
+pub fn form(alloc: Global, model: &Model) -> Result<Form, FormStop>
+    requires { IsUsual model.now }
+    ensures ok { IfOk result (λ f. forms.form_of (Some number_limit) model.now ≡ Ok f) }
+    ensures err { IfErr result (IsFaultOf (forms.form_of (Some number_limit) model.now)) }
+{
+    let form = large_form(alloc, model)?;
+    Ok(Form::new(form))
 }

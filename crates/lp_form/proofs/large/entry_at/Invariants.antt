@@ -1,6 +1,6 @@
 use Rattle.std.proofs.Common.{◌≡◌, drop}
 use Rattle.spec_model.specs.Model.{entry_of}
-use Rattle.lp_form.proofs.forms.entry_at.Given as goal
+use Rattle.lp_form.proofs.large.entry_at.Given as goal
 
 -- the entries that were passed over are of other rows
 abbrev pub invariant-loop-row : goal.invariant-loop-row
