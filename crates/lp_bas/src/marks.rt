@@ -10,7 +10,7 @@ ghost use Rattle.lp_bas.specs.Single.{single_step, put_step};
 use crate::reading::{Card, Reading, reading_of};
 use crate::statuses::{Limit, lower_first, status_at, usual_status};
 use lp_base::Line;
-use lp_form::{Basis, Form, Status};
+use lp_form::{Basis, LargeForm, Status};
 use lp_model::Model;
 use spec_bas::BasCode;
 use std::alloc::{AllocError, Global};
@@ -66,7 +66,7 @@ impl std::marker::Model for Marks {
 
 impl Marks {
     /// There was no card.
-    pub fn new(alloc: Global, form: &Form) -> Result<Self, AllocError>
+    pub fn new(alloc: Global, form: &LargeForm) -> Result<Self, AllocError>
         ensures { IfOk result (λ marks. marks ≡ file.start form.now) }
     {
         let columns = form.cols() + form.rows();
@@ -108,7 +108,7 @@ impl Marks {
     fn pair(
         &mut self,
         model: &Model,
-        form: &Form,
+        form: &LargeForm,
         column: &[u8],
         row: &[u8],
         limit: Limit,
@@ -137,7 +137,7 @@ impl Marks {
     fn single(
         &mut self,
         model: &Model,
-        form: &Form,
+        form: &LargeForm,
         column: &[u8],
         stands: Stands,
     ) -> Result<(), BasCode>
@@ -154,7 +154,7 @@ impl Marks {
         self.put(form, j, stands)
     }
 
-    fn put(&mut self, form: &Form, j: u32, stands: Stands) -> Result<(), BasCode>
+    fn put(&mut self, form: &LargeForm, j: u32, stands: Stands) -> Result<(), BasCode>
         requires all { length self.old.marks ≡ form.now.cols + form.now.rows }
         requires column { j < form.now.cols }
         ensures { IsStep (put_step stands form.now self.old j) self.old self.new result }
@@ -175,7 +175,7 @@ impl Marks {
     }
 
     #[tactic(auto, unfolding(spec_bas::specs::Steps::upper_step, spec_bas::specs::Steps::usual_step))]
-    fn card(&mut self, model: &Model, form: &Form, card: &Card) -> Result<(), BasCode>
+    fn card(&mut self, model: &Model, form: &LargeForm, card: &Card) -> Result<(), BasCode>
         requires sizes { HasSizeOf model.now form.now }
         requires all { length self.old.marks ≡ form.now.cols + form.now.rows }
         ensures { IsStep (file.card_step model.now form.now self.old card.now) self.old self.new result }
@@ -193,7 +193,7 @@ impl Marks {
     }
 
     // The status of column `k` in all.
-    fn status(&self, form: &Form, k: u32) -> Status
+    fn status(&self, form: &LargeForm, k: u32) -> Status
         requires all { length self.now.marks ≡ form.now.cols + form.now.rows }
         requires inside { k < form.now.cols + form.now.rows }
         ensures { result ≡ file.status_of form.now self.now k }
@@ -206,7 +206,7 @@ impl Marks {
 
     // The statuses of all columns.
     #[tactic(auto, unfolding(spec_bas::specs::Steps::marked_basis))]
-    fn basis(&self, alloc: Global, form: &Form) -> Result<Basis, AllocError>
+    fn basis(&self, alloc: Global, form: &LargeForm) -> Result<Basis, AllocError>
         requires all { length self.now.marks ≡ form.now.cols + form.now.rows }
         requires fits { IsBasisOf form.now (file.marked_basis form.now self.now) }
         ensures { IfOk result (λ basis. basis ≡ file.marked_basis form.now self.now) }
@@ -224,7 +224,7 @@ impl Marks {
         &mut self,
         alloc: Global,
         model: &Model,
-        form: &Form,
+        form: &LargeForm,
         line: &Line,
     ) -> Result<Option<Basis>, StepFault>
         requires sizes { HasSizeOf model.now form.now }

@@ -6,7 +6,7 @@ ghost use Rattle.lp_bas.specs.Feeds.{Feeds};
 
 use crate::marks::{Marks, StepFault};
 use lp_base::{Feed, Line};
-use lp_form::{Basis, Form};
+use lp_form::{Basis, LargeForm};
 use lp_model::Model;
 use spec_bas::BasFault;
 use std::alloc::{AllocError, Global};
@@ -35,7 +35,7 @@ impl Drop for BasReader {
 
 impl BasReader {
     /// Nothing was read.
-    pub fn new(alloc: Global, form: &Form) -> Result<Self, AllocError>
+    pub fn new(alloc: Global, form: &LargeForm) -> Result<Self, AllocError>
         ensures state { IfOk result (λ reader. reader ≡ record { state = steps.start form.now; lines = 0 }) }
         ensures marking { IfOk result (λ reader. IsMarking form.now reader.state) }
     {
@@ -48,7 +48,7 @@ impl BasReader {
         &mut self,
         alloc: Global,
         model: &Model,
-        form: &Form,
+        form: &LargeForm,
         line: &Line,
     ) -> Feed<Basis, BasFault>
         requires sizes { HasSizeOf model.now form.now }

@@ -3,7 +3,7 @@ ghost use Rattle.std.specs.Prelude.{◌≡◌, ◌+◌, ◌<◌};
 ghost use Rattle.spec_bas.specs.Steps as steps;
 ghost use Rattle.lp_bas.specs.Limits.{status_at};
 
-use lp_form::{Form, Status};
+use lp_form::{LargeForm, Status};
 
 /// The limit of a row at which it is to stand.
 #[derive(Clone, Copy)]
@@ -13,7 +13,7 @@ pub(crate) enum Limit {
 }
 
 /// At the lower bound of column `k`, else at its upper one, else at 0.
-pub(crate) fn lower_first(form: &Form, k: u32) -> Status
+pub(crate) fn lower_first(form: &LargeForm, k: u32) -> Status
     requires { k < form.now.cols + form.now.rows }
     ensures { result ≡ steps.lower_first form.now k }
 {
@@ -25,7 +25,7 @@ pub(crate) fn lower_first(form: &Form, k: u32) -> Status
 }
 
 /// At the upper bound of column `k`, else at its lower one, else at 0.
-pub(crate) fn upper_first(form: &Form, k: u32) -> Status
+pub(crate) fn upper_first(form: &LargeForm, k: u32) -> Status
     requires { k < form.now.cols + form.now.rows }
     ensures { result ≡ steps.upper_first form.now k }
 {
@@ -37,7 +37,7 @@ pub(crate) fn upper_first(form: &Form, k: u32) -> Status
 }
 
 /// At this limit of column `k`, or at the other one where it has no such limit.
-pub(crate) fn status_at(limit: Limit, form: &Form, k: u32) -> Status
+pub(crate) fn status_at(limit: Limit, form: &LargeForm, k: u32) -> Status
     requires { k < form.now.cols + form.now.rows }
     ensures { result ≡ status_at limit form.now k }
 {
@@ -48,7 +48,7 @@ pub(crate) fn status_at(limit: Limit, form: &Form, k: u32) -> Status
 }
 
 /// Where column `k` stands without a card.
-pub(crate) fn usual_status(form: &Form, k: u32) -> Status
+pub(crate) fn usual_status(form: &LargeForm, k: u32) -> Status
     requires { k < form.now.cols + form.now.rows }
     ensures { result ≡ steps.usual_status form.now k }
 {

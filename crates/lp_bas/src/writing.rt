@@ -12,7 +12,7 @@ ghost use Rattle.lp_bas.specs.Words.{pair_word};
 ghost use Rattle.lp_bas.specs.Listed.{is_listed};
 
 use lp_base::Bytes;
-use lp_form::{Basis, Form, Status};
+use lp_form::{Basis, LargeForm, Status};
 use lp_model::Model;
 use std::alloc::{AllocError, Global};
 
@@ -54,7 +54,12 @@ fn is_listed(which: Listed, basis: &Basis, k: u32) -> bool
 }
 
 // The columns of the model that stand so.
-fn columns(alloc: Global, form: &Form, basis: &Basis, which: Listed) -> Result<Vec<u32>, AllocError>
+fn columns(
+    alloc: Global,
+    form: &LargeForm,
+    basis: &Basis,
+    which: Listed,
+) -> Result<Vec<u32>, AllocError>
     requires { length basis.now ≡ form.now.cols + form.now.rows }
     ensures { IfOk result
         (λ found. found.items ≡ written.chosen form.now.cols (λ j. is_listed which (basis_at basis.now j))) }
@@ -69,7 +74,7 @@ fn columns(alloc: Global, form: &Form, basis: &Basis, which: Listed) -> Result<V
 }
 
 // The rows whose logical columns are not basic.
-fn other_rows(alloc: Global, form: &Form, basis: &Basis) -> Result<Vec<u32>, AllocError>
+fn other_rows(alloc: Global, form: &LargeForm, basis: &Basis) -> Result<Vec<u32>, AllocError>
     requires { length basis.now ≡ form.now.cols + form.now.rows }
     ensures { IfOk result (λ found. found.items ≡ written.other_rows form.now basis.now) }
 {
@@ -133,7 +138,7 @@ fn push_upper(column: &[u8], to: &mut Bytes) -> Result<(), AllocError>
 // The card of a column and a row.
 fn push_pair_of(
     model: &Model,
-    form: &Form,
+    form: &LargeForm,
     basis: &Basis,
     j: u32,
     i: u32,
@@ -154,7 +159,7 @@ fn push_pair_of(
 // The cards of these columns and rows, side by side.
 fn push_pairs(
     model: &Model,
-    form: &Form,
+    form: &LargeForm,
     basis: &Basis,
     columns: &[u32],
     rows: &[u32],
@@ -190,7 +195,7 @@ fn push_uppers(model: &Model, columns: &[u32], to: &mut Bytes) -> Result<(), All
 fn push_cards(
     alloc: Global,
     model: &Model,
-    form: &Form,
+    form: &LargeForm,
     basis: &Basis,
     to: &mut Bytes,
 ) -> Result<(), AllocError>
@@ -209,7 +214,12 @@ fn push_cards(
 
 /// The file of a basis: `NAME`, pairs of a basic column and a row that is not, columns at their upper bounds, `ENDATA`.
 #[tactic(auto, unfolding(spec_bas::specs::Written::bas_text, spec_bas::specs::Written::written_cards))]
-pub fn write(alloc: Global, model: &Model, form: &Form, basis: &Basis) -> Result<Bytes, AllocError>
+pub fn write(
+    alloc: Global,
+    model: &Model,
+    form: &LargeForm,
+    basis: &Basis,
+) -> Result<Bytes, AllocError>
     requires sizes { HasSizeOf model.now form.now }
     requires all { length basis.now ≡ form.now.cols + form.now.rows }
     ensures { IfOk result (λ file. file ≡ written.bas_text model.now form.now basis.now) }
