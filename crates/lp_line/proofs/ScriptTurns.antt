@@ -3,6 +3,7 @@ use Rattle.std.proofs.Common.{◌≡◌, ◌≢◌, ℕ, ◌+◌, ◌≤◌, Lis
 use Rattle.std.proofs.Common.{false, cond, arith, ap, sym, ◌∙◌, append_assoc, refl, subst}
 use Rattle.spec_text.specs.declared.line.Line.{Line}
 use Rattle.spec_text.specs.declared.line.Line.TheVariants as line
+use Rattle.spec_model.specs.Kept.{usual_limits}
 use Rattle.spec_mps.specs.declared.style.Style.{Style}
 use Rattle.spec_mps.specs.declared.fault.Code.TheVariants.{Cut}
 use Rattle.spec_mps.specs.Reader.{State, start}
@@ -41,24 +42,25 @@ same_said a b e = cc
 
 -- ---- where all lines of a text were read, its end says the verdict
 
-text_cut : (form : Style) (s : State) → text.step form s line.End ≡ Err Cut
+text_cut : (form : Style) (s : State) → text.step usual_limits form s line.End ≡ Err Cut
 unfolding text.step
 text_cut form s = refl
 
 text_judged : (form : Style) (s : State) (n : ℕ) (lines : List (Line (List ℕ))) →
-    said_by (text_step form) (record { state = s; lines = n }) (lines ++ line.End ∷ []) ≡
-    Some (verdict_said (text.judge form s (n + 1) lines))
+    said_by (text_step usual_limits form) (record { state = s; lines = n }) (lines ++ line.End ∷ []) ≡
+    Some (verdict_said (text.judge usual_limits form s (n + 1) lines))
 unfolding text_step
 text_judged form s n [] =
-    ap (λ (o : text.Outcome). follow (behind_line (n + 1) o) (λ next. said_by (text_step form) next []))
+    ap (λ (o : text.Outcome). follow (behind_line (n + 1) o) (λ next. said_by (text_step usual_limits form) next []))
     (text_cut form s)
-text_judged form s n (here ∷ lines) = by (text.step form s here) (λ t. text_judged form t (n + 1) lines)
+text_judged form s n (here ∷ lines) = by (text.step usual_limits form s here) (λ t. text_judged form t (n + 1) lines)
   where
     by : (o : text.Outcome)
-        → ((t : State) → said_by (text_step form) (record { state = t; lines = n + 1 }) (lines ++ line.End ∷ []) ≡
-        Some (verdict_said (text.judge form t (n + 1 + 1) lines)))
-        → follow (behind_line (n + 1) o) (λ next. said_by (text_step form) next (lines ++ line.End ∷ []))
-        ≡ Some (verdict_said (text.settled (n + 1) (λ t. text.judge form t (n + 1 + 1) lines) o))
+        → ((t : State) → said_by (text_step usual_limits form) (record { state = t; lines = n + 1 })
+        (lines ++ line.End ∷ []) ≡
+        Some (verdict_said (text.judge usual_limits form t (n + 1 + 1) lines)))
+        → follow (behind_line (n + 1) o) (λ next. said_by (text_step usual_limits form) next (lines ++ line.End ∷ []))
+        ≡ Some (verdict_said (text.settled (n + 1) (λ t. text.judge usual_limits form t (n + 1 + 1) lines) o))
     by (Ok (text.More t)) rest = rest t
     by (Ok (text.Done m)) rest = refl
     by (Err code) rest = refl
@@ -99,12 +101,13 @@ text_passes : (form : Style) (lines : List (Line (List ℕ))) (held next : Body 
     (here : Line (List ℕ)) →
     TextFits form lines held → PassesTo TextSays lines_read held here next → TextFits form (lines ++ here ∷ []) next
 text_passes form lines held next here fits p = λ more answer h.
-    ap (said_by (text_step form) (record { state = start; lines = 0 })) (append_assoc lines (here ∷ []) more)
+    ap (said_by (text_step usual_limits form) (record { state = start; lines = 0 })) (append_assoc lines (here ∷ [])
+    more)
     ∙ fits (here ∷ more) answer (p.behind more answer h)
 
 text_closes : (form : Style) (lines : List (Line (List ℕ))) (held : Body TextRead TextSaid) (what : TextSaid) →
     TextFits form lines held → BodySays TextSays held (line.End ∷ []) (Some what) →
-    verdict_said (text.judge form start 1 lines) ≡ what
+    verdict_said (text.judge usual_limits form start 1 lines) ≡ what
 text_closes form lines held what fits h =
     same_said _ what (sym (text_judged form start 0 lines) ∙ fits (line.End ∷ []) (Some what) h)
 
@@ -224,7 +227,11 @@ text_goes_on own held next here no_end e p = leads_on (stage.Text own held) (sta
       no_asks = fit_text (λ a p. asks_of_line a p here ≡ []) own held
           (λ addressing form lines fits.
           ap (λ (t : Bool). cond t
-          (record { session = own; ask = ask_of_verdict (text.judge form start 1 (lines ++ here ∷ [])) } ∷ []) [])
+          (record {
+            session = own;
+            ask = ask_of_verdict (text.judge usual_limits form start 1
+                (lines ++ here ∷ []));
+          } ∷ []) [])
           (sym e));
       fits = fit_text (λ a p. Fits a (pending_after_line a p here) (stage.Text own next)) own held
           (λ addressing form lines fits.
@@ -246,7 +253,8 @@ text_ends own held next here said ask what no_end e p closed asks is =
     (fit_text (λ a p. asks_of_line a p here ≡ record { session = own; ask = ask } ∷ []) own held
     (λ addressing form lines fits.
     ap (λ (t : Bool). cond t
-    (record { session = own; ask = ask_of_verdict (text.judge form start 1 (lines ++ here ∷ [])) } ∷ []) []) (sym e)
+    (record { session = own; ask = ask_of_verdict (text.judge usual_limits form start 1 (lines ++ here ∷ [])) } ∷ [])
+    []) (sym e)
     ∙ ap (λ (a : ExactAsk). record { session = own; ask = a } ∷ [])
     (asks _ (text_closes form (lines ++ here ∷ []) next said (text_passes form lines held next here fits p) closed))))
     is

@@ -3,6 +3,7 @@ use Rattle.std.proofs.Common.{◌≡◌, ℕ, ◌+◌, Option, Some, Ok, Err, Li
 use Rattle.spec_text.specs.declared.line.Line.{Line}
 use Rattle.spec_text.specs.declared.line.Line.TheVariants.{End}
 use Rattle.spec_model.specs.Model.{Model}
+use Rattle.spec_model.specs.declared.parts.SizeLimits.{SizeLimits}
 use Rattle.spec_mps.specs.declared.fault.MpsFault.{MpsFault}
 use Rattle.spec_mps.specs.declared.style.Style.{Style}
 use Rattle.spec_mps.specs.Reader.{State}
@@ -17,7 +18,7 @@ use Rattle.lp_mps.specs.TextRead.{TextRead}
 use Rattle.lp_certificate.specs.Feeds as certificate_feeds
 use Rattle.lp_line.specs.declared.hearing.Step.TheVariants.{On, Says}
 use Rattle.lp_line.specs.Hearing.{Leads}
-use Rattle.lp_line.specs.Stages.{NarrowRead, TextSays, CertificateSaid, certificate_step, CertificateSays}
+use Rattle.lp_line.specs.Stages.{NarrowRead, TextSaysWithin, CertificateSaid, certificate_step, CertificateSays}
 use Rattle.lp_line.specs.Stages as stages
 
 abbrev lines_read : TextRead → ℕ
@@ -25,49 +26,53 @@ lines_read reader = reader.lines
 
 -- ---- a text
 
--- none goes on after the end of the input
-no_text_behind_end : (style : Style) (state next : State) → text.step style state End ≡ Ok (text.More next) → ⊥
-unfolding text.step
-no_text_behind_end style state next e = cc
+module _ (limits : SizeLimits) where
+  -- none goes on after the end of the input
+  no_text_behind_end : (style : Style) (state next : State) → text.step limits style state End ≡ Ok
+      (text.More next) → ⊥
+  unfolding text.step
+  no_text_behind_end style state next e = cc
 
-at_same : (style form : Style) (state : State) (n m : ℕ) (more : List (Line (List ℕ))) → style ≡ form → n ≡ m →
-    said_by (text_step style) (record { state = state; lines = n }) more ≡
-    said_by (text_step form) (record { state = state; lines = m }) more
-at_same style form state n m more e d =
-    ap (λ (s : Style). said_by (text_step s) (record { state = state; lines = n }) more) e
-    ∙ ap (λ (k : ℕ). said_by (text_step form) (record { state = state; lines = k }) more) d
+  at_same : (style form : Style) (state : State) (n m : ℕ) (more : List (Line (List ℕ))) → style ≡ form → n ≡ m →
+      said_by (text_step limits style) (record { state = state; lines = n }) more ≡
+      said_by (text_step limits form) (record { state = state; lines = m }) more
+  at_same style form state n m more e d =
+      ap (λ (s : Style). said_by (text_step limits s) (record { state = state; lines = n }) more) e
+      ∙ ap (λ (k : ℕ). said_by (text_step limits form) (record { state = state; lines = k }) more) d
 
-by_outcome : (old : TextRead) (line : Line (List ℕ)) (more : List (Line (List ℕ))) (outcome : text.Outcome) →
-    text.step old.style old.state line ≡ outcome →
-    said_by (text_step old.style) (record { state = old.state; lines = old.lines }) (line ∷ more)
-    ≡ follow (behind_line (old.lines + 1) outcome) (λ next. said_by (text_step old.style) next more)
-unfolding text_step
-by_outcome old line more outcome e =
-    ap (λ (o : text.Outcome). follow (behind_line (old.lines + 1) o) (λ next. said_by (text_step old.style) next more))
-    e
+  by_outcome : (old : TextRead) (line : Line (List ℕ)) (more : List (Line (List ℕ))) (outcome : text.Outcome) →
+      text.step limits old.style old.state line ≡ outcome →
+      said_by (text_step limits old.style) (record { state = old.state; lines = old.lines }) (line ∷ more)
+      ≡ follow (behind_line (old.lines + 1) outcome) (λ next. said_by (text_step limits old.style) next more)
+  unfolding text_step
+  by_outcome old line more outcome e =
+      ap (λ (o : text.Outcome). follow (behind_line (old.lines + 1) o) (λ next. said_by (text_step limits old.style)
+      next more))
+      e
 
-pub text_goes_on : (old new : TextRead) (line : Line (List ℕ)) →
-    feeds.GoesOn (text.step old.style old.state line) old.style (old.lines + 1) new →
-    Leads TextSays lines_read old line (On new)
-text_goes_on old new line g = record {
-  behind = λ more answer h.
-      by_outcome old line more (Ok (text.More new.state)) g.state
-      ∙ at_same old.style new.style new.state (old.lines + 1) new.lines more (sym g.style) (sym g.lines) ∙ h;
-  counts = omega (arith, g.lines);
-  no_end = λ h. no_text_behind_end old.style old.state new.state (ap (text.step old.style old.state) (sym h) ∙ g.state);
-}
+  pub text_goes_on : (old new : TextRead) (line : Line (List ℕ)) →
+      feeds.GoesOn (text.step limits old.style old.state line) old.style (old.lines + 1) new →
+      Leads (TextSaysWithin limits) lines_read old line (On new)
+  text_goes_on old new line g = record {
+    behind = λ more answer h.
+        by_outcome old line more (Ok (text.More new.state)) g.state
+        ∙ at_same old.style new.style new.state (old.lines + 1) new.lines more (sym g.style) (sym g.lines) ∙ h;
+    counts = omega (arith, g.lines);
+    no_end = λ h. no_text_behind_end old.style old.state new.state (ap (text.step limits old.style old.state)
+        (sym h) ∙ g.state);
+  }
 
-pub text_spells : (old : TextRead) (line : Line (List ℕ)) (m : Model) →
-    text.step old.style old.state line ≡ Ok (text.Done m) →
-    Leads TextSays lines_read old line (Says (Ok m))
-text_spells old line m e = λ more. by_outcome old line more (Ok (text.Done m)) e
+  pub text_spells : (old : TextRead) (line : Line (List ℕ)) (m : Model) →
+      text.step limits old.style old.state line ≡ Ok (text.Done m) →
+      Leads (TextSaysWithin limits) lines_read old line (Says (Ok m))
+  text_spells old line m e = λ more. by_outcome old line more (Ok (text.Done m)) e
 
-pub text_is_wrong : (old : TextRead) (line : Line (List ℕ)) (fault : MpsFault) →
-    feeds.IsRefused (text.step old.style old.state line) (old.lines + 1) fault →
-    Leads TextSays lines_read old line (Says (Err fault))
-text_is_wrong old line fault r = λ more.
-    by_outcome old line more (Err fault.code) r.code
-    ∙ ap (λ (n : ℕ). Some (Err (record { line = n; code = fault.code }))) (sym r.line)
+  pub text_is_wrong : (old : TextRead) (line : Line (List ℕ)) (fault : MpsFault) →
+      feeds.IsRefused (text.step limits old.style old.state line) (old.lines + 1) fault →
+      Leads (TextSaysWithin limits) lines_read old line (Says (Err fault))
+  text_is_wrong old line fault r = λ more.
+      by_outcome old line more (Err fault.code) r.code
+      ∙ ap (λ (n : ℕ). Some (Err (record { line = n; code = fault.code }))) (sym r.line)
 
 -- ---- a certificate
 

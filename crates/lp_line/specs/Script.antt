@@ -2,6 +2,7 @@
 use Rattle.std.specs.Prelude.{ℕ, ◌≡◌, ◌≤◌, ◌+◌, List, [], ◌∷◌, ◌++◌, Option, None, Ok, Err}
 use Rattle.spec_text.specs.declared.line.Line.{Line}
 use Rattle.spec_text.specs.declared.line.Line.TheVariants as line
+use Rattle.spec_model.specs.Kept.{usual_limits}
 use Rattle.spec_mps.specs.declared.style.Style.{Style}
 use Rattle.spec_mps.specs.Reader.{start}
 use Rattle.spec_mps.specs.Steps as text
@@ -54,7 +55,7 @@ script_step addressing pending line.Over =
 abbrev pub TextFits : Style → List (Line (List ℕ)) → Body text_reading.TextRead TextSaid → Type 0
 TextFits form lines body =
     (more : List (Line (List ℕ))) (answer : Option TextSaid) → BodySays TextSays body more answer →
-    said_by (text_step form) (record { state = start; lines = 0 }) (lines ++ more) ≡ answer
+    said_by (text_step usual_limits form) (record { state = start; lines = 0 }) (lines ++ more) ≡ answer
 
 abbrev pub CertificateFits : List (Line (List ℕ)) → Body NarrowRead CertificateSaid → Type 0
 CertificateFits lines body =

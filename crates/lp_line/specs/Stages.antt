@@ -2,6 +2,8 @@
 use Rattle.std.specs.Prelude.{ℕ, ◌≡◌, ◌+◌, Option, Some, Result, Ok, Err, List}
 use Rattle.spec_text.specs.declared.line.Line.{Line}
 use Rattle.spec_exact.specs.Fraction.{ℚ}
+use Rattle.spec_model.specs.declared.parts.SizeLimits.{SizeLimits}
+use Rattle.spec_model.specs.Kept.{usual_limits, large_limits}
 use Rattle.spec_certificate.specs.declared.progress.Progress.TheVariants as progress
 use Rattle.spec_certificate.specs.NarrowText as certificate
 use Rattle.spec_server.specs.Said.{Step, On, Says, said_by}
@@ -9,10 +11,17 @@ use Rattle.spec_server.specs.TextSaid.{TextSaid, text_step}
 use Rattle.lp_mps.specs.TextRead as text
 use Rattle.lp_certificate.specs.CertificateRead.{CertificateRead}
 
--- after a reader of a text
+-- after a reader of a text whose model is within these limits
+abbrev pub TextSaysWithin : SizeLimits → text.TextRead → List (Line (List ℕ)) → Option TextSaid → Type 0
+TextSaysWithin limits reader lines answer =
+    said_by (text_step limits reader.style) (record { state = reader.state; lines = reader.lines }) lines ≡ answer
+
 abbrev pub TextSays : text.TextRead → List (Line (List ℕ)) → Option TextSaid → Type 0
-TextSays reader lines answer =
-    said_by (text_step reader.style) (record { state = reader.state; lines = reader.lines }) lines ≡ answer
+TextSays reader lines answer = TextSaysWithin usual_limits reader lines answer
+
+-- of a model that may be large
+abbrev pub LargeSays : text.TextRead → List (Line (List ℕ)) → Option TextSaid → Type 0
+LargeSays reader lines answer = TextSaysWithin large_limits reader lines answer
 
 -- a text of a certificate that is read, of numbers of 127 bits
 abbrev pub NarrowRead : Type 0

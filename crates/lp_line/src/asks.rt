@@ -2,7 +2,7 @@
 use lp_base::{Bytes, Name, Texts};
 use lp_certificate::RawCertificate;
 use lp_frac::Frac;
-use lp_model::{Edit, Model};
+use lp_model::{Edit, UsualModel};
 
 /// What the words of a line ask.
 pub type Command = spec_server::Command<Edit>;
@@ -14,7 +14,7 @@ pub type Addressed = spec_server::Addressed<Edit>;
 pub type Plain = spec_server::Plain<Edit>;
 
 /// What a session is asked.
-pub type Ask = spec_server::Ask<Model, RawCertificate, Edit>;
+pub type Ask = spec_server::Ask<UsualModel, RawCertificate, Edit>;
 
 /// An ask with the number of its session.
 pub type Asked = spec_server::Asked<Ask>;

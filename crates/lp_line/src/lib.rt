@@ -45,7 +45,7 @@ pub use hearing::{Heard, Stage, Step, hear};
 pub use printing::{print, print_lines, print_said};
 pub use solved::{answer_of, certificate_lines, pivots_of};
 pub use spec_server::{Addressing, How, LineFault, Publication};
-pub use stages::{CertificateSaid, TextSaid};
+pub use stages::{CertificateSaid, LargeSaid, TextSaid};
 pub use taking::{Taken, take};
 pub use verdict::verdict_on;
 pub use wide::{push_wide_known, wide_lines};
