@@ -1,0 +1,12 @@
+-- What a step from a basis ends with.
+use Rattle.std.specs.Prelude.{⊤}
+use Rattle.spec_model.specs.Model.{Model}
+use Rattle.spec_check.specs.Certificate.{IsFor}
+use Rattle.lp_lift.specs.declared.answer.Step.{Step}
+use Rattle.lp_lift.specs.declared.answer.Step.TheVariants.{Moved, Ended, Lost}
+
+-- a certificate for the model
+abbrev pub EndsFor : Model → Step → Type 0
+EndsFor m Moved = ⊤
+EndsFor m (Ended c) = IsFor m c
+EndsFor m Lost = ⊤

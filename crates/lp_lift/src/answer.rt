@@ -1,0 +1,418 @@
+// The answer of a basis, or of one that is reached from it in a few steps.
+ghost use Rattle.std.specs.Prelude.{◌≡◌, ◌+◌, IfOk, IfSome, length};
+ghost use Rattle.spec_model.specs.Model.{height, width};
+ghost use Rattle.spec_check.specs.Certificate.{IsFor};
+ghost use Rattle.lp_lift.specs.Ends.{EndsFor};
+
+use crate::kernel::{Preparation, Prepared, prepare};
+use crate::moves::{
+    Entering, Leaving, advance, blocked, dual_entering, exchange, flip_wrong, furthest_outside,
+    most_wrong,
+};
+use crate::near::near_fraction;
+use crate::numbers::numbers;
+use crate::program::{Program, program_of};
+use crate::shifts::shift;
+use crate::sides::{of_logical, part};
+use crate::solution::Solved;
+use crate::solving::{solve_columns, solve_rows};
+use crate::standing::{Room, rates_of, reduced_costs, rooms};
+use crate::statuses::{fitting_statuses, standings};
+use lp_check::wide::Certificate;
+use lp_frac::{Frac, neg, one, zero};
+use lp_model::Model;
+use spec_pivot::Status;
+use std::alloc::{AllocError, Global};
+
+/// A certificate that is likely right, the statuses of the basis that it comes from, and how many steps led to it.
+#[derive(Drop)]
+pub struct Lifted {
+    pub certificate: Certificate,
+    pub statuses: Vec<Status>,
+    pub steps: u32,
+}
+
+// The point and the multipliers of a basis, and how its columns stand.
+struct Found {
+    columns: Solved,
+    rows: Solved,
+    values: Vec<Frac>,
+    rooms: Vec<Room>,
+    reduced: Vec<f64>,
+}
+
+impl Drop for Found {
+    fn drop(self) {
+        let Found {
+            columns,
+            rows,
+            values,
+            rooms,
+            reduced,
+        } = self;
+        drop(columns);
+        drop(rows);
+        drop(values);
+        drop(rooms);
+        drop(reduced);
+    }
+}
+
+// A basis on the way, the costs there, and how many steps it took.
+struct Run {
+    statuses: Vec<Status>,
+    costs: Vec<Frac>,
+    are_shifted: bool,
+    steps: u32,
+}
+
+impl Drop for Run {
+    fn drop(self) {
+        let Run {
+            statuses,
+            costs,
+            are_shifted: _,
+            steps: _,
+        } = self;
+        drop(statuses);
+        drop(costs);
+    }
+}
+
+// What is found at a basis.
+fn found_at(
+    alloc: Global,
+    program: &Program<'_>,
+    prepared: &Prepared,
+    run: &Run,
+) -> Result<Option<Found>, AllocError> {
+    let Prepared { kernel, whole, .. } = prepared;
+    let values = standings(alloc, program, &run.statuses)?;
+    let Some(columns) = solve_columns(alloc, program, prepared, &values)? else {
+        return Ok(None);
+    };
+    let Some(rows) = solve_rows(alloc, program, prepared, &run.costs)? else {
+        return Ok(None);
+    };
+    let Some(rooms) = rooms(alloc, program, kernel, &whole.scales, &columns, &values)? else {
+        return Ok(None);
+    };
+    match reduced_costs(alloc, program, kernel, &run.statuses, &rows, &run.costs)? {
+        Some(reduced) => Ok(Some(Found {
+            columns,
+            rows,
+            values,
+            rooms,
+            reduced,
+        })),
+        None => Ok(None),
+    }
+}
+
+// 1 or its opposite.
+fn unit(is_positive: bool) -> Frac {
+    if is_positive { one() } else { neg(one()) }
+}
+
+// Numbers of all columns: this one has 1 or its opposite, and the others 0.
+fn units(alloc: Global, len: usize, k: usize, is_positive: bool) -> Result<Vec<Frac>, AllocError> {
+    let mut list = Vec::from_elem(alloc, zero(), len)?;
+    if let Some(number) = list.get_mut(k) {
+        *number = unit(is_positive);
+    }
+    Ok(list)
+}
+
+// The opposites of the costs of the logicals.
+fn of_logicals(
+    alloc: Global,
+    program: &Program<'_>,
+    costs: &[Frac],
+) -> Result<Vec<Frac>, AllocError> {
+    let mut list = Vec::with_capacity(alloc, program.rows())?;
+    for i in 0..program.rows() {
+        list.push(of_logical(program, costs, i))?;
+    }
+    Ok(list)
+}
+
+/// What a step comes to.
+#[derive(Drop)]
+enum Step {
+    Moved,
+    Ended(Certificate),
+    Lost,
+}
+
+// The certificate of an optimum.
+fn optimal(
+    alloc: Global,
+    program: &Program<'_>,
+    prepared: &Prepared,
+    found: &Found,
+) -> Result<Step, AllocError>
+    ensures { IfOk result (EndsFor program.now.model.now) }
+{
+    let kernel = &prepared.kernel;
+    let places = &kernel.column_places;
+    let x = numbers(
+        alloc,
+        program.model.cols(),
+        places,
+        &found.columns,
+        false,
+        &found.values,
+    )?;
+    let others = of_logicals(alloc, program, &program.costs)?;
+    let y = numbers(
+        alloc,
+        program.model.rows(),
+        &kernel.row_places,
+        &found.rows,
+        false,
+        &others,
+    )?;
+    Ok(Step::Ended(Certificate::Optimal { x, y }))
+}
+
+// A step of the dual method, or multipliers that no point meets.
+fn dual_step(
+    alloc: Global,
+    program: &Program<'_>,
+    prepared: &Prepared,
+    run: &mut Run,
+    found: &Found,
+    leaving: Leaving,
+) -> Result<Step, AllocError>
+    ensures { IfOk result (EndsFor program.now.model.now) }
+{
+    let kernel = &prepared.kernel;
+    let costs = units(alloc, run.statuses.len(), leaving.column, true)?;
+    let Some(solved) = solve_rows(alloc, program, prepared, &costs)? else {
+        return Ok(Step::Lost);
+    };
+    let Some(rates) = reduced_costs(alloc, program, kernel, &run.statuses, &solved, &costs)? else {
+        return Ok(Step::Lost);
+    };
+    match dual_entering(program, &run.statuses, leaving, &found.reduced, &rates) {
+        Some(entering) => {
+            exchange(
+                &mut run.statuses,
+                entering,
+                leaving.column,
+                leaving.is_below,
+            );
+            Ok(Step::Moved)
+        }
+        None => {
+            let outside = units(alloc, run.statuses.len(), leaving.column, !leaving.is_below)?;
+            let others = of_logicals(alloc, program, &outside)?;
+            let places = &kernel.row_places;
+            let y = numbers(
+                alloc,
+                program.model.rows(),
+                places,
+                &solved,
+                leaving.is_below,
+                &others,
+            )?;
+            Ok(Step::Ended(Certificate::Infeasible { y }))
+        }
+    }
+}
+
+// How far a column may go between its bounds.
+fn range(program: &Program<'_>, k: usize) -> f64 {
+    match (program.lower(k), program.upper(k)) {
+        (Some(lower), Some(upper)) => near_fraction(upper) - near_fraction(lower),
+        _ => f64::INFINITY,
+    }
+}
+
+// A step of the primal method, or a point and a ray.
+fn primal_step(
+    alloc: Global,
+    program: &Program<'_>,
+    prepared: &Prepared,
+    run: &mut Run,
+    found: &Found,
+    entering: Entering,
+) -> Result<Step, AllocError>
+    ensures { IfOk result (EndsFor program.now.model.now) }
+{
+    let Prepared { kernel, whole, .. } = prepared;
+    let moves = units(alloc, run.statuses.len(), entering.column, entering.rises)?;
+    let Some(solved) = solve_columns(alloc, program, prepared, &moves)? else {
+        return Ok(Step::Lost);
+    };
+    let Some(rates) = rates_of(alloc, program, kernel, &whole.scales, &solved, &moves)? else {
+        return Ok(Step::Lost);
+    };
+    let range = range(program, entering.column);
+    match blocked(range, &found.rooms, &rates) {
+        Some(block) => {
+            advance(&mut run.statuses, entering, block);
+            Ok(Step::Moved)
+        }
+        None => {
+            let places = &kernel.column_places;
+            let x = numbers(
+                alloc,
+                program.model.cols(),
+                places,
+                &found.columns,
+                false,
+                &found.values,
+            )?;
+            let r = numbers(alloc, program.model.cols(), places, &solved, false, &moves)?;
+            Ok(Step::Ended(Certificate::Unbounded { x, r }))
+        }
+    }
+}
+
+// Puts the costs of the program back.
+fn restore(alloc: Global, program: &Program<'_>, run: &mut Run) -> Result<(), AllocError> {
+    run.costs = Vec::from_slice(alloc, &program.costs)?;
+    run.are_shifted = false;
+    Ok(())
+}
+
+// One step from a basis with a column outside of its bounds.
+fn toward_point(
+    alloc: Global,
+    program: &Program<'_>,
+    prepared: &Prepared,
+    run: &mut Run,
+    found: &Found,
+    leaving: Leaving,
+) -> Result<Step, AllocError>
+    ensures { IfOk result (EndsFor program.now.model.now) }
+{
+    if flip_wrong(program, &mut run.statuses, &found.reduced) {
+        return Ok(Step::Moved);
+    }
+    if shift(&mut run.costs, &run.statuses, &found.reduced) {
+        run.are_shifted = true;
+        return Ok(Step::Moved);
+    }
+    dual_step(alloc, program, prepared, run, found, leaving)
+}
+
+// One step from a basis.
+fn step_at(
+    alloc: Global,
+    program: &Program<'_>,
+    prepared: &Prepared,
+    run: &mut Run,
+    found: &Found,
+) -> Result<Step, AllocError>
+    ensures { IfOk result (EndsFor program.now.model.now) }
+{
+    if run.steps == 0 && flip_wrong(program, &mut run.statuses, &found.reduced) {
+        return Ok(Step::Moved);
+    }
+    if let Some(leaving) = furthest_outside(&found.rooms) {
+        return toward_point(alloc, program, prepared, run, found, leaving);
+    }
+    if run.are_shifted {
+        restore(alloc, program, run)?;
+        return Ok(Step::Moved);
+    }
+    match most_wrong(program, &run.statuses, &found.reduced) {
+        Some(entering) => primal_step(alloc, program, prepared, run, found, entering),
+        None => optimal(alloc, program, prepared, found),
+    }
+}
+
+// One step from a basis that may be singular.
+fn step_from(alloc: Global, program: &Program<'_>, run: &mut Run) -> Result<Step, AllocError>
+    ensures { IfOk result (EndsFor program.now.model.now) }
+{
+    let prepared = match prepare(alloc, program, &mut run.statuses)? {
+        Preparation::Ready(prepared) => prepared,
+        Preparation::Mended => return Ok(Step::Moved),
+        Preparation::Past => return Ok(Step::Lost),
+    };
+    match found_at(alloc, program, &prepared, run)? {
+        Some(found) => step_at(alloc, program, &prepared, run, &found),
+        None => Ok(Step::Lost),
+    }
+}
+
+// The answer from a basis of a program.
+fn answer_from(
+    alloc: Global,
+    program: &Program<'_>,
+    statuses: &[Status],
+    most_steps: u32,
+) -> Result<Option<Lifted>, AllocError>
+    ensures certificate { IfOk result (λ o. IfSome o (λ l. IsFor program.now.model.now l.certificate)) }
+    ensures statuses { IfOk result (λ o. IfSome o (λ l.
+        length l.statuses.items ≡ width program.now.model.now + height program.now.model.now)) }
+{
+    let mut run = Run {
+        statuses: fitting_statuses(alloc, program, statuses)?,
+        costs: Vec::from_slice(alloc, &program.costs)?,
+        are_shifted: false,
+        steps: 0,
+    };
+    for _ in 0..most_steps.saturating_add(1) {
+        match step_from(alloc, program, &mut run)? {
+            Step::Moved => run.steps = run.steps.wrapping_add(1),
+            Step::Ended(certificate) => return Ok(run.into_lifted(program.columns(), certificate)),
+            Step::Lost => return Ok(None),
+        }
+    }
+    Ok(None)
+}
+
+/// The answer of a basis with these statuses of the structural and then of the logical columns, or of a basis that is
+/// reached from it in so many steps at most: a certificate for the model, of an optimum or that there is none.
+///
+/// The statuses may be those of no basis. Of columns that depend on each other some leave, logical columns come in where
+/// basic ones are missing, and a column without a bound where it stands goes to another. A basis that is mended so counts
+/// as a step, as do flips of columns to their other bound, and each step of the dual or the primal method. There is no
+/// answer where the steps are too few, and where a number is past what the method takes.
+///
+/// Nothing is claimed of what the certificate shows: that is for the checker. Only want of memory is an error.
+pub fn answer_of_basis(
+    alloc: Global,
+    model: &Model,
+    statuses: &[Status],
+    most_steps: u32,
+) -> Result<Option<Lifted>, AllocError>
+    ensures certificate { IfOk result (λ o. IfSome o (λ l. IsFor model.now l.certificate)) }
+    ensures statuses { IfOk result (λ o. IfSome o (λ l.
+        length l.statuses.items ≡ width model.now + height model.now)) }
+{
+    match program_of(alloc, model)? {
+        Some(program) => answer_from(alloc, &program, statuses, most_steps),
+        None => Ok(None),
+    }
+}
+
+impl Run {
+    // The end of the run with this certificate, if there are statuses of so many columns.
+    fn into_lifted(self, columns: usize, certificate: Certificate) -> Option<Lifted>
+        ensures certificate { IfSome result (λ l. l.certificate ≡ certificate) }
+        ensures statuses { IfSome result (λ l. length l.statuses.items ≡ columns) }
+    {
+        let Run {
+            statuses,
+            costs,
+            are_shifted: _,
+            steps,
+        } = self;
+        drop(costs);
+        if statuses.len() != columns {
+            drop(statuses);
+            drop(certificate);
+            return None;
+        }
+        Some(Lifted {
+            certificate,
+            statuses,
+            steps,
+        })
+    }
+}

@@ -1,0 +1,220 @@
+// The sparse factors of a matrix.
+mod active;
+mod buckets;
+mod elimination;
+mod search;
+
+use crate::factors::active::{Active, active_of};
+use crate::factors::buckets::Buckets;
+use crate::factors::elimination::{Steps, eliminate};
+use crate::factors::search::next_pivot;
+use crate::field::Field;
+use crate::lines::{Entry, Lines, at};
+use crate::matrix::Matrix;
+use std::alloc::{AllocError, Global};
+
+/// The factors of a square matrix.
+pub struct Factors<F: Field> {
+    /// The row and the column of each pivot, in the order of the steps, and what makes 1 with it.
+    pub(crate) rows: Vec<usize>,
+    pub(crate) columns: Vec<usize>,
+    pub(crate) inverses: Vec<F>,
+    /// Of each step the multiples of the pivot's row that other rows lose, by row.
+    pub(crate) lower: Lines<F>,
+    /// Of each row what it loses of the pivots' rows before, by the pivot's row.
+    pub(crate) lower_turned: Lines<F>,
+    /// Of each step the other numbers of the pivot's row, by column.
+    pub(crate) upper: Lines<F>,
+    /// Of each column what the pivots' rows before have in it, by the pivot's row.
+    pub(crate) upper_turned: Lines<F>,
+}
+
+impl<F: Field> Drop for Factors<F> {
+    fn drop(self) {
+        let Factors {
+            rows,
+            columns,
+            inverses,
+            lower,
+            lower_turned,
+            upper,
+            upper_turned,
+        } = self;
+        drop(rows);
+        drop(columns);
+        drop(inverses);
+        drop(lower);
+        drop(lower_turned);
+        drop(upper);
+        drop(upper_turned);
+    }
+}
+
+/// What a matrix comes to.
+#[derive(Drop)]
+pub enum Factored<F: Field> {
+    /// It is square, and each row and column has a pivot.
+    Regular(Factors<F>),
+    /// These rows and columns have no pivot. The others are a largest regular part.
+    Singular {
+        rows: Vec<usize>,
+        columns: Vec<usize>,
+    },
+}
+
+impl<F: Field> Factored<F> {
+    /// The factors, if the matrix is regular.
+    pub fn regular(self) -> Option<Factors<F>> {
+        match self {
+            Factored::Regular(factors) => Some(factors),
+            Factored::Singular { rows, columns } => {
+                drop(rows);
+                drop(columns);
+                None
+            }
+        }
+    }
+}
+
+// Takes a multiple of a line off numbers.
+#[inline(always)]
+fn take_off<F: Field>(numbers: &mut [F], line: &[Entry<F>], times: F) {
+    for entry in line {
+        if let Some(number) = numbers.get_mut(entry.place) {
+            *number = number.less_product(times, entry.value);
+        }
+    }
+}
+
+// The number at `k`, 0 where there is none.
+#[inline(always)]
+fn value_at<F: Field>(numbers: &[F], k: usize) -> F {
+    match numbers.get(k) {
+        Some(number) => *number,
+        None => F::zero(),
+    }
+}
+
+// Puts a number at `k`.
+#[inline(always)]
+fn put_value<F: Field>(numbers: &mut [F], k: usize, value: F) {
+    if let Some(number) = numbers.get_mut(k) {
+        *number = value;
+    }
+}
+
+impl<F: Field> Factors<F> {
+    /// How many rows and columns there are.
+    pub fn len(&self) -> usize {
+        self.rows.len()
+    }
+
+    /// Whether there are none.
+    pub fn is_empty(&self) -> bool {
+        self.rows.is_empty()
+    }
+
+    /// How many numbers the factors have.
+    pub fn size(&self) -> usize {
+        let off_pivots = self.lower.size().wrapping_add(self.upper.size());
+        off_pivots.wrapping_add(self.rows.len())
+    }
+
+    // From right sides to what the upper factor takes, both by row.
+    fn through_lower(&self, right: &mut [F]) {
+        for (k, row) in self.rows.iter().enumerate() {
+            let number = value_at(right, *row);
+            if !number.is_zero() {
+                take_off(right, self.lower.line(k), number);
+            }
+        }
+    }
+
+    // The solution of the upper factor's equations, whose right sides are used up.
+    fn through_upper(&self, right: &mut [F], solution: &mut [F]) {
+        for k in (0..self.rows.len()).rev() {
+            let mut number = value_at(right, at(&self.rows, k));
+            let column = at(&self.columns, k);
+            if !number.is_zero() {
+                number = number.times(value_at(&self.inverses, k));
+                take_off(right, self.upper_turned.line(column), number);
+            }
+            put_value(solution, column, number);
+        }
+    }
+
+    /// Solves the matrix times the unknowns for a right side that stands by row, and is used up. The solution stands by
+    /// column.
+    pub fn solve(&self, right: &mut [F], solution: &mut [F]) {
+        self.through_lower(right);
+        self.through_upper(right, solution);
+    }
+
+    // The solution of the transposed upper factor's equations, whose right sides are used up.
+    fn through_upper_turned(&self, right: &mut [F], solution: &mut [F]) {
+        for (k, column) in self.columns.iter().enumerate() {
+            let mut number = value_at(right, *column);
+            if !number.is_zero() {
+                number = number.times(value_at(&self.inverses, k));
+                take_off(right, self.upper.line(k), number);
+            }
+            put_value(solution, at(&self.rows, k), number);
+        }
+    }
+
+    // From there to the solution of the transposed matrix's, in place.
+    fn through_lower_turned(&self, solution: &mut [F]) {
+        for row in self.rows.iter().rev() {
+            let number = value_at(solution, *row);
+            if !number.is_zero() {
+                take_off(solution, self.lower_turned.line(*row), number);
+            }
+        }
+    }
+
+    /// Solves the transposed matrix times the unknowns for a right side that stands by column, and is used up. The solution
+    /// stands by row.
+    pub fn solve_turned(&self, right: &mut [F], solution: &mut [F]) {
+        self.through_upper_turned(right, solution);
+        self.through_lower_turned(solution);
+    }
+}
+
+// The steps of an elimination, until there is no pivot.
+fn eliminated<F: Field>(alloc: Global, active: &mut Active<F>) -> Result<Steps<F>, AllocError> {
+    let mut steps = Steps::new(alloc);
+    for _ in 0..active.rows.len() {
+        let Some(pivot) = next_pivot(active) else {
+            return Ok(steps);
+        };
+        if !eliminate(alloc, active, pivot, &mut steps)? {
+            return Ok(steps);
+        }
+    }
+    Ok(steps)
+}
+
+// Those that are left.
+fn left(alloc: Global, buckets: &Buckets, len: usize) -> Result<Vec<usize>, AllocError> {
+    let mut list = Vec::new(alloc);
+    for k in 0..len {
+        if buckets.has(k) {
+            list.push(k)?;
+        }
+    }
+    Ok(list)
+}
+
+/// The factors of a matrix, or a largest regular part of it.
+pub fn factorize<F: Field>(alloc: Global, matrix: &Matrix<F>) -> Result<Factored<F>, AllocError> {
+    let (rows, columns) = (matrix.rows(), matrix.columns());
+    let mut active = active_of(alloc, matrix)?;
+    let steps = eliminated(alloc, &mut active)?;
+    if rows == columns && steps.rows.len() == rows {
+        return Ok(Factored::Regular(steps.into_factors(alloc)?));
+    }
+    Ok(Factored::Singular {
+        rows: left(alloc, &active.by_row, rows)?,
+        columns: left(alloc, &active.by_column, columns)?,
+    })
+}

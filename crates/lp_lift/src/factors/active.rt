@@ -1,0 +1,171 @@
+// What is left of a matrix while it is factored.
+use crate::factors::buckets::Buckets;
+use crate::field::Field;
+use crate::lines::{Entry, at, put};
+use crate::matrix::Matrix;
+use std::alloc::{AllocError, Global};
+use std::mem;
+
+/// The rows and columns that have had no pivot yet.
+pub(crate) struct Active<F: Field> {
+    /// The numbers of each row, in no order.
+    pub(crate) rows: Vec<Vec<Entry<F>>>,
+    /// The rows in which a column has a number, and some that have had their pivot.
+    pub(crate) columns: Vec<Vec<usize>>,
+    pub(crate) by_row: Buckets,
+    pub(crate) by_column: Buckets,
+    /// For each column 1 more than its place in the pivot's row, 0 where it has none.
+    pub(crate) marks: Vec<usize>,
+}
+
+impl<F: Field> Drop for Active<F> {
+    fn drop(self) {
+        let Active {
+            rows,
+            columns,
+            by_row,
+            by_column,
+            marks,
+        } = self;
+        drop(rows);
+        drop(columns);
+        drop(by_row);
+        drop(by_column);
+        drop(marks);
+    }
+}
+
+// So many rows with no numbers.
+fn no_rows<F: Field>(alloc: Global, len: usize) -> Result<Vec<Vec<Entry<F>>>, AllocError> {
+    let mut list = Vec::new(alloc);
+    for _ in 0..len {
+        list.push(Vec::new(alloc))?;
+    }
+    Ok(list)
+}
+
+// Puts the numbers of a column into their rows, and gives the rows.
+fn spread<F: Field>(
+    alloc: Global,
+    rows: &mut [Vec<Entry<F>>],
+    column: &[Entry<F>],
+    name: usize,
+) -> Result<Vec<usize>, AllocError> {
+    let mut places = Vec::with_capacity(alloc, column.len())?;
+    for entry in column {
+        if let Some(row) = rows.get_mut(entry.place) {
+            row.push(Entry {
+                place: name,
+                value: entry.value,
+            })?;
+            places.push(entry.place)?;
+        }
+    }
+    Ok(places)
+}
+
+// The counts of rows.
+fn buckets_of_rows<F: Field>(
+    alloc: Global,
+    rows: &[Vec<Entry<F>>],
+    most: usize,
+) -> Result<Buckets, AllocError> {
+    let mut buckets = Buckets::new(alloc, rows.len(), most)?;
+    for (i, row) in rows.iter().enumerate() {
+        buckets.insert(i, row.len());
+    }
+    Ok(buckets)
+}
+
+// The counts of columns.
+fn buckets_of_columns(
+    alloc: Global,
+    columns: &[Vec<usize>],
+    most: usize,
+) -> Result<Buckets, AllocError> {
+    let mut buckets = Buckets::new(alloc, columns.len(), most)?;
+    for (j, column) in columns.iter().enumerate() {
+        buckets.insert(j, column.len());
+    }
+    Ok(buckets)
+}
+
+/// A whole matrix.
+pub(crate) fn active_of<F: Field>(
+    alloc: Global,
+    matrix: &Matrix<F>,
+) -> Result<Active<F>, AllocError> {
+    let mut rows = no_rows(alloc, matrix.rows())?;
+    let mut columns = Vec::new(alloc);
+    for j in 0..matrix.columns() {
+        columns.push(spread(alloc, &mut rows, matrix.column(j), j)?)?;
+    }
+    let by_row = buckets_of_rows(alloc, &rows, matrix.columns())?;
+    let by_column = buckets_of_columns(alloc, &columns, matrix.rows())?;
+    let marks = Vec::from_elem(alloc, 0usize, matrix.columns())?;
+    Ok(Active {
+        rows,
+        columns,
+        by_row,
+        by_column,
+        marks,
+    })
+}
+
+impl<F: Field> Active<F> {
+    /// Takes the numbers of a row out.
+    pub(crate) fn take_row(&mut self, alloc: Global, i: usize) -> Vec<Entry<F>> {
+        match self.rows.get_mut(i) {
+            Some(row) => mem::replace(row, Vec::new(alloc)),
+            None => Vec::new(alloc),
+        }
+    }
+
+    /// Puts the numbers of a row back.
+    pub(crate) fn put_row(&mut self, i: usize, numbers: Vec<Entry<F>>) {
+        if let Some(row) = self.rows.get_mut(i) {
+            *row = numbers;
+        }
+    }
+
+    /// Takes the rows of a column out.
+    pub(crate) fn take_column(&mut self, alloc: Global, j: usize) -> Vec<usize> {
+        match self.columns.get_mut(j) {
+            Some(column) => mem::replace(column, Vec::new(alloc)),
+            None => Vec::new(alloc),
+        }
+    }
+
+    /// The numbers of a row.
+    #[inline(always)]
+    pub(crate) fn row(&self, i: usize) -> &[Entry<F>] {
+        match self.rows.get(i) {
+            Some(row) => row.as_slice(),
+            None => &[],
+        }
+    }
+
+    /// The rows of a column, with some that have had their pivot.
+    #[inline(always)]
+    pub(crate) fn column(&self, j: usize) -> &[usize] {
+        match self.columns.get(j) {
+            Some(column) => column.as_slice(),
+            None => &[],
+        }
+    }
+
+    /// Marks the columns of the pivot's row, or takes the marks off.
+    pub(crate) fn mark(&mut self, row: &[Entry<F>], is_marked: bool) {
+        for (k, entry) in row.iter().enumerate() {
+            let mark = if is_marked { k.wrapping_add(1) } else { 0 };
+            put(&mut self.marks, entry.place, mark);
+        }
+    }
+
+    /// The place in the pivot's row of a column that is marked.
+    #[inline(always)]
+    pub(crate) fn marked(&self, j: usize) -> Option<usize> {
+        let mark = at(&self.marks, j);
+        if mark == 0 { None } else { Some(mark - 1) }
+    }
+}

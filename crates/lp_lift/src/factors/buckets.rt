@@ -1,0 +1,104 @@
+// Rows or columns by how many numbers they have.
+use crate::lines::{at, put};
+use std::alloc::{AllocError, Global};
+
+// No row or column.
+const NONE: usize = usize::MAX;
+
+/// Lists of rows or columns, one for each count, linked both ways.
+pub(crate) struct Buckets {
+    firsts: Vec<usize>,
+    nexts: Vec<usize>,
+    previous: Vec<usize>,
+    counts: Vec<usize>,
+}
+
+impl Drop for Buckets {
+    fn drop(self) {
+        let Buckets {
+            firsts,
+            nexts,
+            previous,
+            counts,
+        } = self;
+        drop(firsts);
+        drop(nexts);
+        drop(previous);
+        drop(counts);
+    }
+}
+
+impl Buckets {
+    /// Nothing yet of so many rows or columns, whose counts are at most `most`.
+    pub(crate) fn new(alloc: Global, len: usize, most: usize) -> Result<Self, AllocError> {
+        Ok(Buckets {
+            firsts: Vec::from_elem(alloc, NONE, most.saturating_add(1))?,
+            nexts: Vec::from_elem(alloc, NONE, len)?,
+            previous: Vec::from_elem(alloc, NONE, len)?,
+            counts: Vec::from_elem(alloc, NONE, len)?,
+        })
+    }
+
+    /// The first one with this count.
+    pub(crate) fn first(&self, count: usize) -> Option<usize> {
+        some(self.firsts.get(count))
+    }
+
+    /// The one after `k` in its list.
+    pub(crate) fn after(&self, k: usize) -> Option<usize> {
+        some(self.nexts.get(k))
+    }
+
+    /// Whether it is in a list.
+    #[inline(always)]
+    pub(crate) fn has(&self, k: usize) -> bool {
+        at(&self.counts, k) != NONE
+    }
+
+    /// The count of one that is in a list.
+    #[inline(always)]
+    pub(crate) fn count(&self, k: usize) -> usize {
+        at(&self.counts, k)
+    }
+
+    /// Puts one that is in no list into that of this count.
+    pub(crate) fn insert(&mut self, k: usize, count: usize) {
+        let next = match self.firsts.get(count) {
+            Some(first) => *first,
+            None => NONE,
+        };
+        put(&mut self.nexts, k, next);
+        put(&mut self.previous, k, NONE);
+        put(&mut self.previous, next, k);
+        put(&mut self.firsts, count, k);
+        put(&mut self.counts, k, count);
+    }
+
+    /// Takes one out of its list.
+    pub(crate) fn remove(&mut self, k: usize) {
+        let next = at(&self.nexts, k);
+        let before = at(&self.previous, k);
+        put(&mut self.previous, next, before);
+        if before == NONE {
+            let count = at(&self.counts, k);
+            put(&mut self.firsts, count, next);
+        } else {
+            put(&mut self.nexts, before, next);
+        }
+        put(&mut self.counts, k, NONE);
+    }
+
+    /// Moves one that is in a list to that of another count.
+    pub(crate) fn move_to(&mut self, k: usize, count: usize) {
+        self.remove(k);
+        self.insert(k, count);
+    }
+}
+
+// What stands there, if it is one.
+fn some(place: Option<&usize>) -> Option<usize> {
+    match place {
+        Some(k) if *k != NONE => Some(*k),
+        Some(_) | None => None,
+    }
+}

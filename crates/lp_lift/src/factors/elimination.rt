@@ -1,0 +1,276 @@
+// One step of an elimination.
+use crate::factors::Factors;
+use crate::factors::active::Active;
+use crate::factors::search::Pivot;
+use crate::field::Field;
+use crate::lines::{Entry, Lines, at, put, turned};
+use std::alloc::{AllocError, Global};
+
+/// The steps of an elimination: where each pivot stands, what makes 1 with it, the multiples of its row that were taken off
+/// other rows, and the other numbers of its row.
+pub(crate) struct Steps<F: Field> {
+    pub(crate) rows: Vec<usize>,
+    pub(crate) columns: Vec<usize>,
+    pub(crate) inverses: Vec<F>,
+    pub(crate) lower: Lines<F>,
+    pub(crate) upper: Lines<F>,
+}
+
+impl<F: Field> Drop for Steps<F> {
+    fn drop(self) {
+        let Steps {
+            rows,
+            columns,
+            inverses,
+            lower,
+            upper,
+        } = self;
+        drop(rows);
+        drop(columns);
+        drop(inverses);
+        drop(lower);
+        drop(upper);
+    }
+}
+
+impl<F: Field> Steps<F> {
+    pub(crate) fn new(alloc: Global) -> Self {
+        Steps {
+            rows: Vec::new(alloc),
+            columns: Vec::new(alloc),
+            inverses: Vec::new(alloc),
+            lower: Lines::new(alloc),
+            upper: Lines::new(alloc),
+        }
+    }
+
+    // Notes a step whose multiples are noted already.
+    fn end(&mut self, pivot: Pivot, inverse: F, row: &[Entry<F>]) -> Result<(), AllocError> {
+        self.rows.push(pivot.row)?;
+        self.columns.push(pivot.column)?;
+        self.inverses.push(inverse)?;
+        self.lower.end()?;
+        for entry in row {
+            self.upper.put(entry.place, entry.value)?;
+        }
+        self.upper.end()
+    }
+
+    /// The factors that the steps come to.
+    pub(crate) fn into_factors(self, alloc: Global) -> Result<Factors<F>, AllocError> {
+        let lower_turned = turned(alloc, &self.lower, &self.rows, self.rows.len(), F::zero())?;
+        let upper_turned = turned(alloc, &self.upper, &self.rows, self.rows.len(), F::zero())?;
+        let Steps {
+            rows,
+            columns,
+            inverses,
+            lower,
+            upper,
+        } = self;
+        Ok(Factors {
+            rows,
+            columns,
+            inverses,
+            lower,
+            lower_turned,
+            upper,
+            upper_turned,
+        })
+    }
+}
+
+// The pivot's row without the pivot, and room for what each other row has had of it.
+struct PivotRow<F: Field> {
+    column: usize,
+    inverse: F,
+    numbers: Vec<Entry<F>>,
+    /// For each number 1 more than the last row that had one in the same column.
+    met: Vec<usize>,
+}
+
+impl<F: Field> Drop for PivotRow<F> {
+    fn drop(self) {
+        let PivotRow {
+            column: _,
+            inverse: _,
+            numbers,
+            met,
+        } = self;
+        drop(numbers);
+        drop(met);
+    }
+}
+
+// Takes the number of this column out of a row.
+fn take_number<F: Field>(row: &mut Vec<Entry<F>>, column: usize) -> Option<F> {
+    for k in 0..row.len() {
+        if let Some(entry) = row.get(k) {
+            if entry.place == column {
+                let value = entry.value;
+                remove_at(row, k);
+                return Some(value);
+            }
+        }
+    }
+    None
+}
+
+// Takes the number at `k` out of a list, whose last one comes in its place.
+fn remove_at<T: Copy>(list: &mut Vec<T>, k: usize) {
+    if k < list.len() {
+        list.swap_remove(k);
+    }
+}
+
+// Takes one row out of those of a column.
+fn forget_row<F: Field>(active: &mut Active<F>, column: usize, row: usize) {
+    if let Some(rows) = active.columns.get_mut(column) {
+        take_place(rows, row);
+    }
+    let count = active.by_column.count(column).wrapping_sub(1);
+    active.by_column.move_to(column, count);
+}
+
+// Takes a number out of a list.
+fn take_place(list: &mut Vec<usize>, number: usize) {
+    for k in 0..list.len() {
+        if at(list, k) == number {
+            remove_at(list, k);
+            return;
+        }
+    }
+}
+
+// Takes a multiple of the pivot's row off the numbers that a row has in the same columns. Whether one is 0 then.
+fn take_off<F: Field>(
+    active: &Active<F>,
+    row: &mut [Entry<F>],
+    pivot: &mut PivotRow<F>,
+    times: F,
+    stamp: usize,
+) -> bool {
+    let mut has_zero = false;
+    for entry in row.iter_mut() {
+        if let Some(k) = active.marked(entry.place) {
+            if let Some(number) = pivot.numbers.get(k) {
+                entry.value = entry.value.less_product(times, number.value);
+                has_zero = has_zero || entry.value.is_negligible();
+            }
+            put(&mut pivot.met, k, stamp);
+        }
+    }
+    has_zero
+}
+
+// Puts the numbers into a row that come into being in it.
+fn fill_in<F: Field>(
+    active: &mut Active<F>,
+    i: usize,
+    row: &mut Vec<Entry<F>>,
+    pivot: &PivotRow<F>,
+    times: F,
+) -> Result<(), AllocError> {
+    for (number, met) in pivot.numbers.iter().zip(&pivot.met) {
+        if *met != i.wrapping_add(1) {
+            let value = F::zero().less_product(times, number.value);
+            row.push(Entry {
+                place: number.place,
+                value,
+            })?;
+            if let Some(rows) = active.columns.get_mut(number.place) {
+                rows.push(i)?;
+            }
+            let count = active.by_column.count(number.place).wrapping_add(1);
+            active.by_column.move_to(number.place, count);
+        }
+    }
+    Ok(())
+}
+
+// Takes the numbers that are 0 out of a row.
+fn drop_zeros<F: Field>(active: &mut Active<F>, i: usize, row: &mut Vec<Entry<F>>) {
+    let mut k = 0usize;
+    for _ in 0..row.len() {
+        match row.get(k) {
+            Some(entry) if entry.value.is_negligible() => {
+                forget_row(active, entry.place, i);
+                remove_at(row, k);
+            }
+            Some(_) | None => k = k.wrapping_add(1),
+        }
+    }
+}
+
+// Clears the pivot's column in a row, and gives the multiple of the pivot's row that it takes.
+fn clear<F: Field>(
+    alloc: Global,
+    active: &mut Active<F>,
+    i: usize,
+    pivot: &mut PivotRow<F>,
+) -> Result<F, AllocError> {
+    let mut row = active.take_row(alloc, i);
+    let times = match take_number(&mut row, pivot.column) {
+        Some(number) => number.times(pivot.inverse),
+        None => F::zero(),
+    };
+    let has_zero = take_off(active, &mut row, pivot, times, i.wrapping_add(1));
+    fill_in(active, i, &mut row, pivot, times)?;
+    if has_zero {
+        drop_zeros(active, i, &mut row);
+    }
+    active.by_row.move_to(i, row.len());
+    active.put_row(i, row);
+    Ok(times)
+}
+
+// Clears the pivot's column in all rows that are left, and notes the multiples.
+fn clear_all<F: Field>(
+    alloc: Global,
+    active: &mut Active<F>,
+    pivot: &mut PivotRow<F>,
+    steps: &mut Steps<F>,
+) -> Result<(), AllocError> {
+    let rows = active.take_column(alloc, pivot.column);
+    for i in &rows {
+        if active.by_row.has(*i) {
+            let times = clear(alloc, active, *i, pivot)?;
+            steps.lower.put(*i, times)?;
+        }
+    }
+    Ok(())
+}
+
+// Takes the row and the column of a pivot out of those that are left.
+fn settle<F: Field>(active: &mut Active<F>, pivot: Pivot, row: &[Entry<F>]) {
+    active.by_row.remove(pivot.row);
+    active.by_column.remove(pivot.column);
+    for entry in row {
+        let count = active.by_column.count(entry.place).wrapping_sub(1);
+        active.by_column.move_to(entry.place, count);
+    }
+}
+
+/// Eliminates with a pivot, and notes the step. Where the pivot is 0 there is none.
+pub(crate) fn eliminate<F: Field>(
+    alloc: Global,
+    active: &mut Active<F>,
+    pivot: Pivot,
+    steps: &mut Steps<F>,
+) -> Result<bool, AllocError> {
+    let mut numbers = active.take_row(alloc, pivot.row);
+    let Some(number) = take_number(&mut numbers, pivot.column) else {
+        return Ok(false);
+    };
+    settle(active, pivot, &numbers);
+    active.mark(&numbers, true);
+    let mut row = PivotRow {
+        column: pivot.column,
+        inverse: number.inverse(),
+        met: Vec::from_elem(alloc, 0usize, numbers.len())?,
+        numbers,
+    };
+    clear_all(alloc, active, &mut row, steps)?;
+    active.mark(&row.numbers, false);
+    steps.end(pivot, row.inverse, &row.numbers)?;
+    Ok(true)
+}

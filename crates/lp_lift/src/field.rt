@@ -1,0 +1,77 @@
+// The numbers of a matrix that is factored.
+
+/// A field, or floats in its place.
+pub trait Field: Copy {
+    fn zero() -> Self;
+
+    fn one() -> Self;
+
+    fn is_zero(self) -> bool;
+
+    fn times(self, other: Self) -> Self;
+
+    /// `self - a b`
+    fn less_product(self, a: Self, b: Self) -> Self;
+
+    /// What makes 1 with a number that is not 0.
+    fn inverse(self) -> Self;
+
+    /// Whether each number but 0 is as good a pivot as any other. Where it is not, the next two decide.
+    fn is_exact() -> bool;
+
+    /// How large it is, for a choice among pivots.
+    fn magnitude(self) -> f64;
+
+    /// Whether it is taken for 0 where an elimination leaves it.
+    fn is_negligible(self) -> bool;
+}
+
+impl Field for f64 {
+    #[inline(always)]
+    fn zero() -> Self {
+        0.0
+    }
+
+    #[inline(always)]
+    fn one() -> Self {
+        1.0
+    }
+
+    #[inline(always)]
+    fn is_zero(self) -> bool {
+        self == 0.0
+    }
+
+    #[inline(always)]
+    fn times(self, other: Self) -> Self {
+        self * other
+    }
+
+    #[inline(always)]
+    fn less_product(self, a: Self, b: Self) -> Self {
+        self - a * b
+    }
+
+    #[inline(always)]
+    fn inverse(self) -> Self {
+        1.0 / self
+    }
+
+    #[inline(always)]
+    fn is_exact() -> bool {
+        false
+    }
+
+    #[inline(always)]
+    fn magnitude(self) -> f64 {
+        self.abs()
+    }
+
+    #[inline(always)]
+    fn is_negligible(self) -> bool {
+        self.abs() < NEGLIGIBLE
+    }
+}
+
+// Below this a float is taken for 0.
+const NEGLIGIBLE: f64 = 1e-13;

@@ -1,0 +1,401 @@
+// What a basis leaves to be solved for.
+use crate::factors::{Factored, Factors, factorize};
+use crate::field::Field;
+use crate::lines::{Lines, turned};
+use crate::matrix::Matrix;
+use crate::program::Program;
+use crate::residue::{PRIME, Residue};
+use crate::scales::{multiple, row_scales};
+use crate::solution::Sizes;
+use crate::statuses::{is_basic_at, put_status, resting};
+use lp_frac::Frac;
+use spec_pivot::Status;
+use std::alloc::{AllocError, Global};
+
+/// The structural columns that are basic, and the rows whose logical is not.
+pub(crate) struct Kernel {
+    pub(crate) columns: Vec<usize>,
+    pub(crate) rows: Vec<usize>,
+    /// Of each column and row its position among them, if it is one.
+    pub(crate) column_places: Vec<Option<usize>>,
+    pub(crate) row_places: Vec<Option<usize>>,
+}
+
+impl Drop for Kernel {
+    fn drop(self) {
+        let Kernel {
+            columns,
+            rows,
+            column_places,
+            row_places,
+        } = self;
+        drop(columns);
+        drop(rows);
+        drop(column_places);
+        drop(row_places);
+    }
+}
+
+/// The position at `k`, if there is one.
+#[inline(always)]
+pub(crate) fn place_at(places: &[Option<usize>], k: usize) -> Option<usize> {
+    match places.get(k) {
+        Some(place) => *place,
+        None => None,
+    }
+}
+
+// Those of so many columns from `first` on that are basic, or that are not, and the position of each.
+fn chosen(
+    alloc: Global,
+    statuses: &[Status],
+    first: usize,
+    len: usize,
+    basics: bool,
+) -> Result<(Vec<usize>, Vec<Option<usize>>), AllocError> {
+    let mut list = Vec::new(alloc);
+    let mut places = Vec::with_capacity(alloc, len)?;
+    for k in 0..len {
+        let is_chosen = is_basic_at(statuses, first.wrapping_add(k)) == basics;
+        let place = if is_chosen { Some(list.len()) } else { None };
+        places.push(place)?;
+        if is_chosen {
+            list.push(k)?;
+        }
+    }
+    Ok((list, places))
+}
+
+/// The kernel of a basis.
+pub(crate) fn kernel_of(
+    alloc: Global,
+    program: &Program<'_>,
+    statuses: &[Status],
+) -> Result<Kernel, AllocError> {
+    let cols = program.cols();
+    let (columns, column_places) = chosen(alloc, statuses, 0, cols, true)?;
+    let (rows, row_places) = chosen(alloc, statuses, cols, program.rows(), false)?;
+    Ok(Kernel {
+        columns,
+        rows,
+        column_places,
+        row_places,
+    })
+}
+
+// ---- whole numbers
+
+/// A kernel with whole numbers, each row times its scale, as digits to the base of the prime, on both sides of 0.
+pub(crate) struct WholeKernel {
+    /// What each row of the model was multiplied by.
+    pub(crate) scales: Vec<i128>,
+    /// The numbers by column, and by row: the low digits, and those above.
+    pub(crate) columns: Vec<Lines<i64>>,
+    pub(crate) rows: Vec<Lines<i64>>,
+    pub(crate) row_bits: usize,
+    pub(crate) column_bits: usize,
+}
+
+impl Drop for WholeKernel {
+    fn drop(self) {
+        let WholeKernel {
+            scales,
+            columns,
+            rows,
+            row_bits: _,
+            column_bits: _,
+        } = self;
+        drop(scales);
+        drop(columns);
+        drop(rows);
+    }
+}
+
+// The low digit of a number, on both sides of 0, and what is above it.
+fn low_digit(n: i128) -> (i64, i128) {
+    let prime = i128::from(PRIME);
+    let half = prime / 2;
+    let rest = n.wrapping_add(half).rem_euclid(prime).wrapping_sub(half);
+    let above = n.wrapping_sub(rest) / prime;
+    (i64::try_from(rest).unwrap_or(0), above)
+}
+
+// Puts a number into both levels. Whether it fits them.
+fn put_number(
+    low: &mut Lines<i64>,
+    high: &mut Lines<i64>,
+    place: usize,
+    number: i128,
+) -> Result<bool, AllocError> {
+    let (digit, above) = low_digit(number);
+    if digit != 0 {
+        low.put(place, digit)?;
+    }
+    match i64::try_from(above) {
+        Ok(0) => Ok(true),
+        Ok(above) => {
+            high.put(place, above)?;
+            Ok(true)
+        }
+        Err(_) => Ok(false),
+    }
+}
+
+// Puts the numbers of a column into both levels. Whether they fit.
+fn put_column(
+    low: &mut Lines<i64>,
+    high: &mut Lines<i64>,
+    entries: &[(u32, Frac)],
+    kernel: &Kernel,
+    scales: &[i128],
+) -> Result<bool, AllocError> {
+    for (i, number) in entries {
+        if let Some(place) = place_at(&kernel.row_places, *i as usize) {
+            let Some(number) = multiple(*number, scales, *i as usize) else {
+                return Ok(false);
+            };
+            if !put_number(low, high, place, number)? {
+                return Ok(false);
+            }
+        }
+    }
+    low.end()?;
+    high.end()?;
+    Ok(true)
+}
+
+// The numbers of a kernel by column, if they fit.
+fn columns_of(
+    alloc: Global,
+    program: &Program<'_>,
+    kernel: &Kernel,
+    scales: &[i128],
+) -> Result<Option<(Lines<i64>, Lines<i64>)>, AllocError> {
+    let mut low = Lines::new(alloc);
+    let mut high = Lines::new(alloc);
+    for j in &kernel.columns {
+        let entries = program.entries(*j);
+        if !put_column(&mut low, &mut high, entries, kernel, scales)? {
+            return Ok(None);
+        }
+    }
+    Ok(Some((low, high)))
+}
+
+// How many bits the largest sum of a line's magnitudes takes.
+fn most_bits(lines: &Lines<i64>) -> usize {
+    let mut most = 0u128;
+    for k in 0..lines.len() {
+        most = most.max(magnitude(lines, k));
+    }
+    128 - most.leading_zeros() as usize
+}
+
+// The sum of the magnitudes of a line.
+fn magnitude(lines: &Lines<i64>, k: usize) -> u128 {
+    let mut sum = 0u128;
+    for entry in lines.line(k) {
+        sum = sum.saturating_add(entry.value.unsigned_abs() as u128);
+    }
+    sum
+}
+
+// The numbers from 0 on.
+fn numbered(alloc: Global, len: usize) -> Result<Vec<usize>, AllocError> {
+    let mut list = Vec::with_capacity(alloc, len)?;
+    for k in 0..len {
+        list.push(k)?;
+    }
+    Ok(list)
+}
+
+// Two lists as one, without the second where it has no numbers.
+fn levels(alloc: Global, low: Lines<i64>, high: Lines<i64>) -> Result<Vec<Lines<i64>>, AllocError> {
+    let mut list = Vec::new(alloc);
+    list.push(low)?;
+    if high.size() == 0 {
+        drop(high);
+    } else {
+        list.push(high)?;
+    }
+    Ok(list)
+}
+
+// How many bits a sum may take that is multiplied by a digit.
+const MOST_BITS: usize = 64;
+
+// How many bits the sums of both levels take at most, if each level's fit.
+fn bits_of(low: &Lines<i64>, high: &Lines<i64>) -> Option<usize> {
+    let (low_bits, high_bits) = (most_bits(low), most_bits(high));
+    if low_bits > MOST_BITS || high_bits > MOST_BITS {
+        None
+    } else if high_bits == 0 {
+        Some(low_bits)
+    } else {
+        Some(low_bits.max(high_bits.wrapping_add(62)).wrapping_add(1))
+    }
+}
+
+/// A kernel with whole numbers. There is none where a number takes more than two digits or so.
+pub(crate) fn whole_of(
+    alloc: Global,
+    program: &Program<'_>,
+    kernel: &Kernel,
+) -> Result<Option<WholeKernel>, AllocError> {
+    let Some(scales) = row_scales(alloc, program, kernel)? else {
+        return Ok(None);
+    };
+    let Some((low, high)) = columns_of(alloc, program, kernel, &scales)? else {
+        return Ok(None);
+    };
+    let names = numbered(alloc, kernel.columns.len())?;
+    let low_rows = turned(alloc, &low, &names, kernel.rows.len(), 0)?;
+    let high_rows = turned(alloc, &high, &names, kernel.rows.len(), 0)?;
+    let (Some(column_bits), Some(row_bits)) = (bits_of(&low, &high), bits_of(&low_rows, &high_rows))
+    else {
+        return Ok(None);
+    };
+    Ok(Some(WholeKernel {
+        scales,
+        columns: levels(alloc, low, high)?,
+        rows: levels(alloc, low_rows, high_rows)?,
+        row_bits,
+        column_bits,
+    }))
+}
+
+// ---- factors
+
+// The kernel modulo the prime.
+fn matrix_of(
+    alloc: Global,
+    kernel: &Kernel,
+    low: &Lines<i64>,
+) -> Result<Matrix<Residue>, AllocError> {
+    let mut matrix = Matrix::new(alloc, kernel.rows.len());
+    for k in 0..kernel.columns.len() {
+        put_residues(&mut matrix, low, k)?;
+        matrix.end_column()?;
+    }
+    Ok(matrix)
+}
+
+// Puts a column.
+fn put_residues(
+    matrix: &mut Matrix<Residue>,
+    low: &Lines<i64>,
+    k: usize,
+) -> Result<(), AllocError> {
+    for entry in low.line(k) {
+        matrix.put(entry.place, Residue::of(i128::from(entry.value)))?;
+    }
+    Ok(())
+}
+
+/// The factors of a kernel.
+pub(crate) fn factored(
+    alloc: Global,
+    kernel: &Kernel,
+    whole: &WholeKernel,
+) -> Result<Factored<Residue>, AllocError> {
+    match whole.columns.first() {
+        Some(low) => factorize(alloc, &matrix_of(alloc, kernel, low)?),
+        None => Ok(Factored::Singular {
+            rows: Vec::new(alloc),
+            columns: Vec::new(alloc),
+        }),
+    }
+}
+
+/// Lets the structural columns of these positions be not basic, and the logicals of the rows of these.
+pub(crate) fn mend(
+    program: &Program<'_>,
+    kernel: &Kernel,
+    statuses: &mut [Status],
+    rows: &[usize],
+    columns: &[usize],
+) {
+    for place in columns {
+        if let Some(j) = kernel.columns.get(*place) {
+            rest(program, statuses, *j);
+        }
+    }
+    for place in rows {
+        if let Some(i) = kernel.rows.get(*place) {
+            let logical = program.cols().wrapping_add(*i);
+            put_status(statuses, logical, Status::Basic);
+        }
+    }
+}
+
+/// Lets a column be not basic, at one of its bounds.
+pub(crate) fn rest(program: &Program<'_>, statuses: &mut [Status], k: usize) {
+    let lower = program.lower(k);
+    let upper = program.upper(k);
+    put_status(statuses, k, resting(lower, upper));
+}
+
+/// What is at hand of a basis whose kernel is regular.
+pub(crate) struct Prepared {
+    pub(crate) kernel: Kernel,
+    pub(crate) whole: WholeKernel,
+    pub(crate) factors: Factors<Residue>,
+}
+
+impl Drop for Prepared {
+    fn drop(self) {
+        let Prepared {
+            kernel,
+            whole,
+            factors,
+        } = self;
+        drop(kernel);
+        drop(whole);
+        drop(factors);
+    }
+}
+
+/// What comes of a basis.
+#[derive(Drop)]
+pub(crate) enum Preparation {
+    Ready(Prepared),
+    /// It was singular, and has been mended.
+    Mended,
+    /// Its numbers do not fit.
+    Past,
+}
+
+/// Factors the kernel of a basis, or mends the basis.
+pub(crate) fn prepare(
+    alloc: Global,
+    program: &Program<'_>,
+    statuses: &mut [Status],
+) -> Result<Preparation, AllocError> {
+    let kernel = kernel_of(alloc, program, statuses)?;
+    let Some(whole) = whole_of(alloc, program, &kernel)? else {
+        return Ok(Preparation::Past);
+    };
+    match factored(alloc, &kernel, &whole)? {
+        Factored::Regular(factors) => Ok(Preparation::Ready(Prepared {
+            kernel,
+            whole,
+            factors,
+        })),
+        Factored::Singular { rows, columns } => {
+            mend(program, &kernel, statuses, &rows, &columns);
+            Ok(Preparation::Mended)
+        }
+    }
+}
+
+/// The sizes of a system with these right sides.
+pub(crate) fn sizes_of(line_bits: usize, right: &[i128]) -> Sizes {
+    let mut most = 0u128;
+    for n in right {
+        most = most.max(n.unsigned_abs());
+    }
+    Sizes {
+        row_bits: line_bits,
+        right_bits: 128 - most.leading_zeros() as usize,
+    }
+}

@@ -1,0 +1,146 @@
+// Lists of numbers, one after the other in one list.
+use std::alloc::{AllocError, Global};
+
+/// A number that is not 0, and its place in its line.
+#[derive(Clone, Copy)]
+pub struct Entry<T> {
+    pub place: usize,
+    pub value: T,
+}
+
+/// Lines of numbers: rows or columns of a matrix.
+pub(crate) struct Lines<T: Copy> {
+    ends: Vec<usize>,
+    entries: Vec<Entry<T>>,
+}
+
+impl<T: Copy> Drop for Lines<T> {
+    fn drop(self) {
+        let Lines { ends, entries } = self;
+        drop(ends);
+        drop(entries);
+    }
+}
+
+/// The number at `k`, 0 where there is none.
+#[inline(always)]
+pub(crate) fn at(list: &[usize], k: usize) -> usize {
+    match list.get(k) {
+        Some(number) => *number,
+        None => 0,
+    }
+}
+
+/// Puts a number at `k`, if the list is that long.
+#[inline(always)]
+pub(crate) fn put(list: &mut [usize], k: usize, number: usize) {
+    if let Some(place) = list.get_mut(k) {
+        *place = number;
+    }
+}
+
+impl<T: Copy> Lines<T> {
+    pub(crate) fn new(alloc: Global) -> Self {
+        Lines {
+            ends: Vec::new(alloc),
+            entries: Vec::new(alloc),
+        }
+    }
+
+    /// How many lines there are.
+    pub(crate) fn len(&self) -> usize {
+        self.ends.len()
+    }
+
+    /// How many numbers there are in all.
+    pub(crate) fn size(&self) -> usize {
+        self.entries.len()
+    }
+
+    /// Puts a number into the line that is not ended.
+    pub(crate) fn put(&mut self, place: usize, value: T) -> Result<(), AllocError> {
+        self.entries.push(Entry { place, value })?;
+        Ok(())
+    }
+
+    /// Ends a line.
+    pub(crate) fn end(&mut self) -> Result<(), AllocError> {
+        self.ends.push(self.entries.len())?;
+        Ok(())
+    }
+
+    // Where a line begins.
+    #[inline(always)]
+    fn start(&self, k: usize) -> usize {
+        if k == 0 { 0 } else { at(&self.ends, k - 1) }
+    }
+
+    /// The numbers of a line.
+    #[inline(always)]
+    pub(crate) fn line(&self, k: usize) -> &[Entry<T>] {
+        match self.entries.get(self.start(k)..at(&self.ends, k)) {
+            Some(line) => line,
+            None => &[],
+        }
+    }
+}
+
+// How many numbers each place has.
+fn counts<T: Copy>(
+    alloc: Global,
+    lines: &Lines<T>,
+    places: usize,
+) -> Result<Vec<usize>, AllocError> {
+    let mut list = Vec::from_elem(alloc, 0usize, places)?;
+    for entry in &lines.entries {
+        let more = at(&list, entry.place).wrapping_add(1);
+        put(&mut list, entry.place, more);
+    }
+    Ok(list)
+}
+
+// Where the line of each place begins, in place of its count.
+fn begin(counts: &mut [usize]) {
+    let mut next = 0usize;
+    for count in counts.iter_mut() {
+        let first = next;
+        next = next.wrapping_add(*count);
+        *count = first;
+    }
+}
+
+// Puts the numbers of one line, under this name, where the lines of their places go on.
+fn spread<T: Copy>(line: &[Entry<T>], name: usize, ends: &mut [usize], entries: &mut [Entry<T>]) {
+    for entry in line {
+        let end = at(ends, entry.place);
+        if let Some(slot) = entries.get_mut(end) {
+            *slot = Entry {
+                place: name,
+                value: entry.value,
+            };
+        }
+        put(ends, entry.place, end.wrapping_add(1));
+    }
+}
+
+/// The lines of the places: the numbers of each line stand in them under the line's name. The zero is for
+/// places that are not filled.
+pub(crate) fn turned<T: Copy>(
+    alloc: Global,
+    lines: &Lines<T>,
+    names: &[usize],
+    places: usize,
+    zero: T,
+) -> Result<Lines<T>, AllocError> {
+    let mut ends = counts(alloc, lines, places)?;
+    begin(&mut ends);
+    let nothing = Entry {
+        place: 0,
+        value: zero,
+    };
+    let mut entries = Vec::from_elem(alloc, nothing, lines.entries.len())?;
+    for k in 0..lines.len() {
+        spread(lines.line(k), at(names, k), &mut ends, &mut entries);
+    }
+    Ok(Lines { ends, entries })
+}

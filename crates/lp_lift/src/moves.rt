@@ -1,0 +1,214 @@
+// What to do next at a basis: flips of columns to their other bound, and steps of the dual and the primal simplex method.
+use crate::program::Program;
+use crate::standing::{FREE, Room};
+use crate::statuses::{is_basic_at, put_status, status_at};
+use lp_frac::{Frac, are_same};
+use spec_pivot::Status;
+
+/// A basic column outside of its bounds.
+#[derive(Clone, Copy)]
+pub(crate) struct Leaving {
+    pub(crate) column: usize,
+    pub(crate) is_below: bool,
+}
+
+/// A column that is not basic, and the way in which its reduced cost moves it.
+#[derive(Clone, Copy)]
+pub(crate) struct Entering {
+    pub(crate) column: usize,
+    pub(crate) rises: bool,
+}
+
+/// What stops a column that moves.
+#[derive(Clone, Copy)]
+pub(crate) enum Block {
+    /// This basic column, at its lower bound or its upper one.
+    Column { column: usize, at_lower: bool },
+    /// Its own other bound.
+    Own,
+}
+
+// Whether two bounds are there and are the same.
+fn is_fixed(lower: Option<Frac>, upper: Option<Frac>) -> bool {
+    match (lower, upper) {
+        (Some(lower), Some(upper)) => are_same(lower, upper),
+        _ => false,
+    }
+}
+
+/// The number at `k`, 0 where there is none.
+pub(crate) fn float_at(list: &[f64], k: usize) -> f64 {
+    match list.get(k) {
+        Some(number) => *number,
+        None => 0.0,
+    }
+}
+
+// Whether a reduced cost asks for a column to move from where it stands.
+fn is_wrong(program: &Program<'_>, statuses: &[Status], k: usize, reduced: f64) -> bool {
+    if is_fixed(program.lower(k), program.upper(k)) {
+        return false;
+    }
+    match status_at(statuses, k) {
+        Status::Basic => false,
+        Status::AtLower => reduced < 0.0,
+        Status::AtUpper => reduced > 0.0,
+        Status::AtZero => reduced != 0.0,
+    }
+}
+
+// Whether a column has both bounds.
+fn is_boxed(program: &Program<'_>, k: usize) -> bool {
+    program.lower(k).is_some() && program.upper(k).is_some()
+}
+
+// Flips a column to its other bound.
+fn flip(statuses: &mut [Status], k: usize) {
+    let other = match status_at(statuses, k) {
+        Status::AtLower => Status::AtUpper,
+        Status::AtUpper => Status::AtLower,
+        same => same,
+    };
+    put_status(statuses, k, other);
+}
+
+/// Flips each column with two bounds whose reduced cost asks for it. Whether there was one.
+pub(crate) fn flip_wrong(program: &Program<'_>, statuses: &mut [Status], reduced: &[f64]) -> bool {
+    let mut is_any = false;
+    for (k, cost) in reduced.iter().enumerate() {
+        if is_boxed(program, k) && is_wrong(program, statuses, k, *cost) {
+            flip(statuses, k);
+            is_any = true;
+        }
+    }
+    is_any
+}
+
+/// The column that is not basic whose reduced cost asks most for a move.
+pub(crate) fn most_wrong(
+    program: &Program<'_>,
+    statuses: &[Status],
+    reduced: &[f64],
+) -> Option<Entering> {
+    let mut found = None;
+    let mut most = 0.0f64;
+    for (k, cost) in reduced.iter().enumerate() {
+        if cost.abs() > most && is_wrong(program, statuses, k, *cost) {
+            most = cost.abs();
+            found = Some(Entering {
+                column: k,
+                rises: *cost < 0.0,
+            });
+        }
+    }
+    found
+}
+
+/// The basic column that is furthest outside of its bounds.
+pub(crate) fn furthest_outside(rooms: &[Room]) -> Option<Leaving> {
+    let mut found = None;
+    let mut most = 0.0f64;
+    for (k, room) in rooms.iter().enumerate() {
+        let outside = -room.above_lower.min(room.below_upper);
+        if outside > most {
+            most = outside;
+            found = Some(Leaving {
+                column: k,
+                is_below: room.above_lower < 0.0,
+            });
+        }
+    }
+    found
+}
+
+/// The column that enters for one that leaves, from the reduced costs, and from those where this column alone costs 1: the
+/// rates at which it moves with the others.
+pub(crate) fn dual_entering(
+    program: &Program<'_>,
+    statuses: &[Status],
+    leaving: Leaving,
+    reduced: &[f64],
+    rates: &[f64],
+) -> Option<usize> {
+    let mut found = None;
+    let (mut least, mut largest) = (f64::INFINITY, 0.0f64);
+    for (k, rate) in rates.iter().enumerate() {
+        let toward = if leaving.is_below { *rate } else { -*rate };
+        if !is_basic_at(statuses, k) && is_wrong(program, statuses, k, -toward) {
+            let ratio = float_at(reduced, k).abs() / toward.abs();
+            if ratio < least || (ratio == least && toward.abs() > largest) {
+                least = ratio;
+                largest = toward.abs();
+                found = Some(k);
+            }
+        }
+    }
+    found
+}
+
+// How far a column moves at this rate within its room, and whether it ends at its lower bound.
+fn way(room: Room, rate: f64) -> (f64, bool) {
+    if rate < 0.0 {
+        (room.above_lower.max(0.0) / -rate, true)
+    } else {
+        (room.below_upper.max(0.0) / rate, false)
+    }
+}
+
+/// What stops a column whose range is this, from the rooms of the basic columns and the rates at which they move with it.
+pub(crate) fn blocked(range: f64, rooms: &[Room], rates: &[f64]) -> Option<Block> {
+    let mut found = if range < f64::INFINITY {
+        Some(Block::Own)
+    } else {
+        None
+    };
+    let (mut least, mut largest) = (range, 0.0f64);
+    for (k, rate) in rates.iter().enumerate() {
+        if *rate != 0.0 {
+            let (way, at_lower) = way(room_at(rooms, k), *rate);
+            let is_less = way < least || (way == least && rate.abs() > largest);
+            if way < f64::INFINITY && is_less {
+                least = way;
+                largest = rate.abs();
+                found = Some(Block::Column {
+                    column: k,
+                    at_lower,
+                });
+            }
+        }
+    }
+    found
+}
+
+// The room at `k`.
+fn room_at(rooms: &[Room], k: usize) -> Room {
+    match rooms.get(k) {
+        Some(room) => *room,
+        None => FREE,
+    }
+}
+
+// The status at a bound.
+fn at_bound(at_lower: bool) -> Status {
+    if at_lower {
+        Status::AtLower
+    } else {
+        Status::AtUpper
+    }
+}
+
+/// Lets a column be basic in place of another one.
+pub(crate) fn exchange(statuses: &mut [Status], entering: usize, leaving: usize, at_lower: bool) {
+    put_status(statuses, leaving, at_bound(at_lower));
+    put_status(statuses, entering, Status::Basic);
+}
+
+/// Makes the move that a block ends.
+pub(crate) fn advance(statuses: &mut [Status], entering: Entering, block: Block) {
+    match block {
+        Block::Column { column, at_lower } => {
+            exchange(statuses, entering.column, column, at_lower);
+        }
+        Block::Own => flip(statuses, entering.column),
+    }
+}

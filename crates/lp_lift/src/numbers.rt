@@ -1,0 +1,55 @@
+// The numbers of a certificate.
+ghost use Rattle.std.specs.Prelude.{◌≡◌, IfOk, length};
+
+use crate::kernel::place_at;
+use crate::sides::part;
+use crate::solution::Solved;
+use lp_check::wide::Ratios;
+use lp_frac::Frac;
+use lp_natural::Natural;
+use lp_ratio::Ratio;
+use std::alloc::{AllocError, Global};
+
+// A number of a solution.
+fn solved_number(
+    alloc: Global,
+    solved: &Solved,
+    place: usize,
+    is_opposite: bool,
+) -> Result<Ratio, AllocError> {
+    match solved.numerators.get(place) {
+        Some(number) if !number.words.is_empty() => {
+            let top = Natural::from_words(alloc, &number.words)?;
+            let under = Natural::from_words(alloc, &solved.denominator)?;
+            if under.is_zero() {
+                drop(top);
+                drop(under);
+                return Ratio::zero(alloc);
+            }
+            Ok(Ratio::quotient(alloc, number.is_negative != is_opposite, top, under))
+        }
+        Some(_) | None => Ratio::zero(alloc),
+    }
+}
+
+/// So many numbers: those of a solution, each at its place, or their opposites, and the others where there is no place.
+pub(crate) fn numbers(
+    alloc: Global,
+    len: u32,
+    places: &[Option<usize>],
+    solved: &Solved,
+    is_opposite: bool,
+    others: &[Frac],
+) -> Result<Ratios, AllocError>
+    ensures { IfOk result (λ x. length x ≡ len) }
+{
+    let mut list = Ratios::new(alloc);
+    for k in 0..len {
+        let number = match place_at(places, k as usize) {
+            Some(place) => solved_number(alloc, solved, place, is_opposite)?,
+            None => Ratio::new(alloc, part(others, k as usize))?,
+        };
+        list.push(number)?;
+    }
+    Ok(list)
+}

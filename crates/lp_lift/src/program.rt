@@ -1,0 +1,128 @@
+// A model as a linear program: a logical column for each row, bounds of all columns, and costs to be made least.
+ghost use Rattle.std.specs.Prelude.{◌≡◌, ◌+◌, IfOk, IfSome};
+ghost use Rattle.spec_model.specs.Model.{height, width};
+
+use lp_frac::{Frac, neg};
+use lp_model::{Model, Sense, lower_limit, upper_limit};
+use std::alloc::{AllocError, Global};
+
+/// A model with the bounds of its structural and then of its logical columns, and their costs.
+pub(crate) struct Program<'a> {
+    pub(crate) model: &'a Model,
+    pub(crate) lowers: Vec<Option<Frac>>,
+    pub(crate) uppers: Vec<Option<Frac>>,
+    pub(crate) costs: Vec<Frac>,
+}
+
+impl Drop for Program<'_> {
+    fn drop(self) {
+        let Program {
+            model: _,
+            lowers,
+            uppers,
+            costs,
+        } = self;
+        drop(lowers);
+        drop(uppers);
+        drop(costs);
+    }
+}
+
+impl Program<'_> {
+    /// How many rows there are.
+    pub(crate) fn rows(&self) -> usize {
+        self.model.rows() as usize
+    }
+
+    /// How many structural columns there are.
+    pub(crate) fn cols(&self) -> usize {
+        self.model.cols() as usize
+    }
+
+    /// How many columns there are, structural and logical ones.
+    pub(crate) fn columns(&self) -> usize
+        ensures { result ≡ width self.now.model.now + height self.now.model.now }
+    {
+        self.model.cols() as usize + self.model.rows() as usize
+    }
+
+    /// The entries of a structural column, none where there is no such column.
+    pub(crate) fn entries(&self, j: usize) -> &[(u32, Frac)] {
+        match u32::try_from(j) {
+            Ok(j) if j < self.model.cols() => self.model.entries(j),
+            Ok(_) | Err(_) => &[],
+        }
+    }
+
+    /// The lower bound of a column, if there is one.
+    pub(crate) fn lower(&self, k: usize) -> Option<Frac> {
+        bound_at(&self.lowers, k)
+    }
+
+    /// The upper bound of a column, if there is one.
+    pub(crate) fn upper(&self, k: usize) -> Option<Frac> {
+        bound_at(&self.uppers, k)
+    }
+}
+
+// The bound at `k`, if there is one.
+fn bound_at(bounds: &[Option<Frac>], k: usize) -> Option<Frac> {
+    match bounds.get(k) {
+        Some(bound) => *bound,
+        None => None,
+    }
+}
+
+// The cost to be made least.
+fn least_cost(sense: Sense, cost: Frac) -> Frac {
+    match sense {
+        Sense::Min => cost,
+        Sense::Max => neg(cost),
+    }
+}
+
+// Puts the limits of all rows behind the bounds of the columns. Whether all are within the limit on numbers.
+fn put_rows(
+    model: &Model,
+    lowers: &mut Vec<Option<Frac>>,
+    uppers: &mut Vec<Option<Frac>>,
+) -> Result<bool, AllocError> {
+    for i in 0..model.rows() {
+        let row = model.row(i);
+        match (lower_limit(row), upper_limit(row)) {
+            (Ok(lower), Ok(upper)) => {
+                lowers.push(lower)?;
+                uppers.push(upper)?;
+            }
+            _ => return Ok(false),
+        }
+    }
+    Ok(true)
+}
+
+/// The program of a model. There is none where a limit of a row is past the limit on numbers.
+pub(crate) fn program_of<'a>(
+    alloc: Global,
+    model: &'a Model,
+) -> Result<Option<Program<'a>>, AllocError>
+    ensures { IfOk result (λ o. IfSome o (λ p. p.model.now ≡ model.now)) }
+{
+    let mut lowers = Vec::new(alloc);
+    let mut uppers = Vec::new(alloc);
+    let mut costs = Vec::new(alloc);
+    for j in 0..model.cols() {
+        let column = model.col(j);
+        lowers.push(column.lower)?;
+        uppers.push(column.upper)?;
+        costs.push(least_cost(model.sense(), column.cost))?;
+    }
+    if !put_rows(model, &mut lowers, &mut uppers)? {
+        return Ok(None);
+    }
+    Ok(Some(Program {
+        model,
+        lowers,
+        uppers,
+        costs,
+    }))
+}

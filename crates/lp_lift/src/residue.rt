@@ -1,0 +1,138 @@
+// Arithmetic modulo a prime.
+use crate::field::Field;
+
+/// The largest prime below 2^62.
+pub const PRIME: u64 = 4611686018427387847;
+
+// By so much the prime is below 2^62.
+const SHORT: u128 = 57;
+
+// The low 62 bits, and the low 64.
+const LOW: u128 = 0x3fff_ffff_ffff_ffff;
+
+const WORD: u128 = 0xffff_ffff_ffff_ffff;
+
+// By Fermat's little theorem a number to the power of this is its inverse.
+const INVERTING: u64 = 4611686018427387845;
+
+/// A residue modulo the prime.
+#[derive(Clone, Copy)]
+pub struct Residue {
+    word: u64,
+}
+
+// The residue of a number, or the prime more.
+#[inline(always)]
+fn folded(n: u128) -> u128 {
+    (n >> 62).wrapping_mul(SHORT).wrapping_add(n & LOW)
+}
+
+/// The residue of a number below 2^125.
+#[inline(always)]
+pub(crate) fn reduced(n: u128) -> u64 {
+    let word = (folded(folded(n)) & WORD) as u64;
+    if word >= PRIME { word - PRIME } else { word }
+}
+
+impl Residue {
+    /// The residue of a word.
+    #[inline(always)]
+    pub fn new(word: u64) -> Self {
+        Residue {
+            word: reduced(word as u128),
+        }
+    }
+
+    /// The residue of a number with a sign.
+    #[inline(always)]
+    pub fn of(n: i128) -> Self {
+        let size = reduced(folded(n.unsigned_abs()));
+        if n < 0 && size != 0 {
+            Residue {
+                word: PRIME.wrapping_sub(size),
+            }
+        } else {
+            Residue { word: size }
+        }
+    }
+
+    /// The least natural number that has it.
+    #[inline(always)]
+    pub fn word(self) -> u64 {
+        self.word
+    }
+}
+
+// `a` times `b` where `is_taken`, else `a`.
+fn times_if(a: Residue, b: Residue, is_taken: bool) -> Residue {
+    if is_taken { a.times(b) } else { a }
+}
+
+// The number to the power of one less than two less than the prime.
+fn inverted(a: Residue) -> Residue {
+    let mut power = a;
+    let mut result = Residue { word: 1 };
+    let mut bits = INVERTING;
+    for _ in 0..62 {
+        result = times_if(result, power, bits % 2 == 1);
+        power = power.times(power);
+        bits /= 2;
+    }
+    result
+}
+
+impl Field for Residue {
+    #[inline(always)]
+    fn zero() -> Self {
+        Residue { word: 0 }
+    }
+
+    #[inline(always)]
+    fn one() -> Self {
+        Residue { word: 1 }
+    }
+
+    #[inline(always)]
+    fn is_zero(self) -> bool {
+        self.word == 0
+    }
+
+    #[inline(always)]
+    fn times(self, other: Self) -> Self {
+        Residue {
+            word: reduced((self.word as u128).wrapping_mul(other.word as u128)),
+        }
+    }
+
+    #[inline(always)]
+    fn less_product(self, a: Self, b: Self) -> Self {
+        let product = reduced((a.word as u128).wrapping_mul(b.word as u128));
+        if self.word >= product {
+            Residue {
+                word: self.word - product,
+            }
+        } else {
+            Residue {
+                word: self.word.wrapping_add(PRIME).wrapping_sub(product),
+            }
+        }
+    }
+
+    fn inverse(self) -> Self {
+        inverted(self)
+    }
+
+    #[inline(always)]
+    fn is_exact() -> bool {
+        true
+    }
+
+    fn magnitude(self) -> f64 {
+        if self.word == 0 { 0.0 } else { 1.0 }
+    }
+
+    #[inline(always)]
+    fn is_negligible(self) -> bool {
+        self.word == 0
+    }
+}

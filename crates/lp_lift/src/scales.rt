@@ -1,0 +1,171 @@
+// What rows are multiplied by to have whole numbers.
+use crate::kernel::{Kernel, place_at};
+use crate::program::Program;
+use lp_frac::{Frac, den, num};
+use std::alloc::{AllocError, Global};
+
+/// The scale at `k`, 1 where there is none.
+#[inline(always)]
+pub(crate) fn scale_at(scales: &[i128], k: usize) -> i128 {
+    match scales.get(k) {
+        Some(scale) => *scale,
+        None => 1,
+    }
+}
+
+// The greatest common divisor of two words.
+fn common_word(a: u64, b: u64) -> u64 {
+    let (mut a, mut b) = (a, b);
+    for _ in 0..100 {
+        if b == 0 {
+            return a;
+        }
+        let rest = a % b;
+        a = b;
+        b = rest;
+    }
+    1
+}
+
+// The greatest common divisor of two numbers above 0.
+fn common_divisor(a: i128, b: i128) -> i128 {
+    let (mut a, mut b) = (a, b);
+    for _ in 0..200 {
+        if let (Ok(a), Ok(b)) = (u64::try_from(a), u64::try_from(b)) {
+            return i128::from(common_word(a, b));
+        }
+        if b <= 0 {
+            return a;
+        }
+        let rest = a % b;
+        a = b;
+        b = rest;
+    }
+    1
+}
+
+/// The least common multiple of two numbers above 0.
+pub(crate) fn least_common(a: i128, b: i128) -> Option<i128> {
+    if a == b || b == 1 {
+        return Some(a);
+    }
+    let divisor = common_divisor(a, b);
+    if divisor <= 0 {
+        return None;
+    }
+    (a / divisor).checked_mul(b)
+}
+
+/// A fraction times the scale at `k`, if that is whole and within 127 bits.
+#[inline(always)]
+pub(crate) fn multiple(v: Frac, scales: &[i128], k: usize) -> Option<i128> {
+    times_scale(v, scale_at(scales, k))
+}
+
+/// A fraction times a scale, of which its denominator is a divisor, if that is within 127 bits.
+#[inline(always)]
+pub(crate) fn times_scale(v: Frac, scale: i128) -> Option<i128> {
+    let under = den(v);
+    if under == scale {
+        return Some(num(v));
+    }
+    if under <= 0 {
+        return None;
+    }
+    num(v).checked_mul(quotient(scale, under))
+}
+
+// The quotient of two numbers above 0.
+#[inline(always)]
+fn quotient(a: i128, b: i128) -> i128 {
+    if b == 1 {
+        return a;
+    }
+    match (u64::try_from(a), u64::try_from(b)) {
+        (Ok(a), Ok(b)) if b != 0 => i128::from(a / b),
+        _ if b > 0 => a / b,
+        _ => a,
+    }
+}
+
+// Makes the scales of rows multiples of a column's denominators. Whether they are within 127 bits.
+fn fit_column(
+    scales: &mut [i128],
+    entries: &[(u32, Frac)],
+    kernel: &Kernel,
+    is_basic: bool,
+) -> bool {
+    for (i, number) in entries {
+        let row = *i as usize;
+        let counts = is_basic || place_at(&kernel.row_places, row).is_none();
+        if let (true, Some(scale)) = (counts, scales.get_mut(row)) {
+            match least_common(*scale, den(*number)) {
+                Some(multiple) => *scale = multiple,
+                None => return false,
+            }
+        }
+    }
+    true
+}
+
+/// What makes each row of the kernel whole in its columns, and each other row in all columns, if all is within 127 bits.
+pub(crate) fn row_scales(
+    alloc: Global,
+    program: &Program<'_>,
+    kernel: &Kernel,
+) -> Result<Option<Vec<i128>>, AllocError> {
+    let mut scales = Vec::from_elem(alloc, 1i128, program.rows())?;
+    for j in 0..program.cols() {
+        let is_basic = place_at(&kernel.column_places, j).is_some();
+        if !fit_column(&mut scales, program.entries(j), kernel, is_basic) {
+            return Ok(None);
+        }
+    }
+    Ok(Some(scales))
+}
+
+/// Fractions as whole numbers on one denominator.
+pub(crate) struct Common {
+    pub(crate) numbers: Vec<i128>,
+    pub(crate) denominator: i128,
+}
+
+impl Drop for Common {
+    fn drop(self) {
+        let Common {
+            numbers,
+            denominator: _,
+        } = self;
+        drop(numbers);
+    }
+}
+
+// The least common denominator.
+pub(crate) fn common_denominator(fractions: &[Frac]) -> Option<i128> {
+    let mut scale = 1i128;
+    for v in fractions {
+        scale = least_common(scale, den(*v))?;
+    }
+    Some(scale)
+}
+
+/// The fractions as whole numbers on their least common denominator, if all are within 126 bits.
+pub(crate) fn on_one_denominator(
+    alloc: Global,
+    fractions: &[Frac],
+) -> Result<Option<Common>, AllocError> {
+    let Some(denominator) = common_denominator(fractions) else {
+        return Ok(None);
+    };
+    let mut numbers = Vec::with_capacity(alloc, fractions.len())?;
+    for v in fractions {
+        match times_scale(*v, denominator) {
+            Some(number) if number.unsigned_abs() >> 125 == 0 => numbers.push(number)?,
+            Some(_) | None => return Ok(None),
+        }
+    }
+    Ok(Some(Common {
+        numbers,
+        denominator,
+    }))
+}

@@ -1,0 +1,62 @@
+// Costs that are shifted until no reduced cost is wrong.
+use crate::moves::float_at;
+use crate::program::Program;
+use crate::statuses::{is_basic_at, status_at};
+use lp_frac::{Frac, add, one, zero};
+use spec_pivot::Status;
+
+// How many doublings a shift is from 1 at most.
+const DOUBLINGS: u32 = 62;
+
+// A power of two that is not below a number, if it is near enough to 1.
+fn power_from(number: f64) -> Option<Frac> {
+    let mut power = 1i128;
+    let mut reach = 1.0f64;
+    for _ in 0..DOUBLINGS {
+        if number <= 1.0 && number * 2.0 > reach {
+            return Frac::new(1, power).ok();
+        }
+        if number > 1.0 && number <= reach {
+            return Frac::new(power, 1).ok();
+        }
+        power = power.wrapping_mul(2);
+        reach = if number > 1.0 {
+            reach * 2.0
+        } else {
+            reach * 0.5
+        };
+    }
+    Frac::new(1, power).ok()
+}
+
+// The shift that a reduced cost needs at this status.
+fn shift_of(status: Status, reduced: f64) -> Option<Frac> {
+    let is_wrong = match status {
+        Status::Basic | Status::AtZero => false,
+        Status::AtLower => reduced < 0.0,
+        Status::AtUpper => reduced > 0.0,
+    };
+    if !is_wrong {
+        return None;
+    }
+    let power = power_from(reduced.abs() * 1.001)?;
+    if reduced < 0.0 {
+        Some(power)
+    } else {
+        Some(lp_frac::neg(power))
+    }
+}
+
+/// Shifts the costs of the columns whose reduced cost is wrong.
+pub(crate) fn shift(costs: &mut [Frac], statuses: &[Status], reduced: &[f64]) -> bool {
+    let mut is_any = false;
+    for (k, cost) in costs.iter_mut().enumerate() {
+        if let Some(by) = shift_of(status_at(statuses, k), float_at(reduced, k)) {
+            if let Ok(sum) = add(*cost, by) {
+                *cost = sum;
+                is_any = true;
+            }
+        }
+    }
+    is_any
+}

@@ -1,0 +1,136 @@
+// The right sides of a kernel's equations, and of those of its multipliers.
+use crate::kernel::{Kernel, place_at};
+use crate::program::Program;
+use crate::scales::{Common, on_one_denominator, scale_at};
+use lp_frac::{Frac, is_zero, less_product, mul, neg, zero};
+use std::alloc::{AllocError, Global};
+
+/// The number of a list at `k`, 0 where there is none.
+pub(crate) fn part(list: &[Frac], k: usize) -> Frac {
+    match list.get(k) {
+        Some(part) => *part,
+        None => zero(),
+    }
+}
+
+// ---- of the point
+
+// What the logicals of the kernel's rows have.
+fn logical_values(
+    alloc: Global,
+    program: &Program<'_>,
+    kernel: &Kernel,
+    values: &[Frac],
+) -> Result<Vec<Frac>, AllocError> {
+    let mut list = Vec::with_capacity(alloc, kernel.rows.len())?;
+    for i in &kernel.rows {
+        list.push(part(values, program.cols().wrapping_add(*i)))?;
+    }
+    Ok(list)
+}
+
+// Takes a column at this value off the rows of the kernel. Whether all is within the limit.
+fn take_column(list: &mut [Frac], entries: &[(u32, Frac)], kernel: &Kernel, value: Frac) -> bool {
+    for (i, entry) in entries {
+        if let Some(place) = place_at(&kernel.row_places, *i as usize) {
+            if let Some(number) = list.get_mut(place) {
+                match less_product(*entry, value, *number) {
+                    Ok(less) => *number = less,
+                    Err(_) => return false,
+                }
+            }
+        }
+    }
+    true
+}
+
+// Each number times the scale of its row, if all are within the limit.
+fn scaled(
+    alloc: Global,
+    list: &[Frac],
+    kernel: &Kernel,
+    scales: &[i128],
+) -> Result<Option<Vec<Frac>>, AllocError> {
+    let mut products = Vec::with_capacity(alloc, list.len())?;
+    for (number, i) in list.iter().zip(&kernel.rows) {
+        match times_whole(*number, scale_at(scales, *i)) {
+            Some(product) => products.push(product)?,
+            None => return Ok(None),
+        }
+    }
+    Ok(Some(products))
+}
+
+// A fraction times a whole number, if it is within the limit.
+fn times_whole(v: Frac, n: i128) -> Option<Frac> {
+    if n == 1 || is_zero(v) {
+        return Some(v);
+    }
+    match Frac::new(n, 1) {
+        Ok(whole) => mul(v, whole).ok(),
+        Err(_) => None,
+    }
+}
+
+/// The right sides of a kernel's rows, where the columns that are not basic have these values: each times the scale of
+/// its row, on one denominator. There are none where a number is past the limit.
+pub(crate) fn right_sides(
+    alloc: Global,
+    program: &Program<'_>,
+    kernel: &Kernel,
+    scales: &[i128],
+    values: &[Frac],
+) -> Result<Option<Common>, AllocError> {
+    let mut list = logical_values(alloc, program, kernel, values)?;
+    for j in 0..program.cols() {
+        let value = part(values, j);
+        let is_still = is_zero(value) || place_at(&kernel.column_places, j).is_some();
+        if !is_still && !take_column(&mut list, program.entries(j), kernel, value) {
+            return Ok(None);
+        }
+    }
+    match scaled(alloc, &list, kernel, scales)? {
+        Some(list) => on_one_denominator(alloc, &list),
+        None => Ok(None),
+    }
+}
+
+// ---- of the multipliers
+
+/// The multiplier of a row whose logical is basic: what makes its reduced cost 0.
+pub(crate) fn of_logical(program: &Program<'_>, costs: &[Frac], i: usize) -> Frac {
+    neg(part(costs, program.cols().wrapping_add(i)))
+}
+
+// What a column costs without the rows whose logical is basic, if all is within the limit.
+fn cost_left(program: &Program<'_>, kernel: &Kernel, costs: &[Frac], j: usize) -> Option<Frac> {
+    let mut left = part(costs, j);
+    for (i, entry) in program.entries(j) {
+        let row = *i as usize;
+        if place_at(&kernel.row_places, row).is_none() {
+            let multiplier = of_logical(program, costs, row);
+            if !is_zero(multiplier) {
+                left = less_product(multiplier, *entry, left).ok()?;
+            }
+        }
+    }
+    Some(left)
+}
+
+/// What the basic columns of a kernel cost without the rows whose logical is basic, on one denominator. There is nothing
+/// where a number is past the limit.
+pub(crate) fn costs_left(
+    alloc: Global,
+    program: &Program<'_>,
+    kernel: &Kernel,
+    costs: &[Frac],
+) -> Result<Option<Common>, AllocError> {
+    let mut list = Vec::with_capacity(alloc, kernel.columns.len())?;
+    for j in &kernel.columns {
+        match cost_left(program, kernel, costs, *j) {
+            Some(left) => list.push(left)?,
+            None => return Ok(None),
+        }
+    }
+    on_one_denominator(alloc, &list)
+}

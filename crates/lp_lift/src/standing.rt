@@ -1,0 +1,371 @@
+// How the columns of a basis stand: by how much each basic one is within its bounds, and the reduced costs of the others.
+// The floats are near the exact numbers, and 0 only where these are.
+use crate::amounts::{Amounts, Sum, amounts_of, near, near_difference};
+use crate::kernel::{Kernel, place_at};
+use crate::program::Program;
+use crate::scales::{least_common, multiple, scale_at, times_scale};
+use crate::sides::{of_logical, part};
+use crate::solution::{Solved, Whole};
+use crate::statuses::is_basic_at;
+use crate::wide::times_wide;
+use lp_frac::{Frac, den, is_zero};
+use spec_pivot::Status;
+use std::alloc::{AllocError, Global};
+
+/// How a basic column stands: by how much it is above its lower bound and below its upper one, infinite where there is
+/// none.
+#[derive(Clone, Copy)]
+pub(crate) struct Room {
+    pub(crate) above_lower: f64,
+    pub(crate) below_upper: f64,
+}
+
+/// A column with no bounds, or one that is not basic.
+pub(crate) const FREE: Room = Room {
+    above_lower: f64::INFINITY,
+    below_upper: f64::INFINITY,
+};
+
+// The room of a number between bounds.
+fn room_of(
+    alloc: Global,
+    number: &Whole,
+    denominator: &[u64],
+    lower: Option<Frac>,
+    upper: Option<Frac>,
+) -> Result<Room, AllocError> {
+    let above_lower = match lower {
+        Some(lower) => near_difference(alloc, number, denominator, lower)?,
+        None => f64::INFINITY,
+    };
+    let below_upper = match upper {
+        Some(upper) => -near_difference(alloc, number, denominator, upper)?,
+        None => f64::INFINITY,
+    };
+    Ok(Room {
+        above_lower,
+        below_upper,
+    })
+}
+
+// ---- sums of rows
+
+// Sums for so many rows.
+fn no_sums(alloc: Global, len: usize) -> Result<Vec<Sum>, AllocError> {
+    let mut list = Vec::with_capacity(alloc, len)?;
+    for _ in 0..len {
+        list.push(Sum::new(alloc))?;
+    }
+    Ok(list)
+}
+
+// Adds a column at this number to the sums of the rows whose logical is basic. Whether all is within the limits.
+fn add_column(
+    sums: &mut [Sum],
+    entries: &[(u32, Frac)],
+    kernel: &Kernel,
+    scales: &[i128],
+    number: &Whole,
+) -> Result<bool, AllocError> {
+    for (i, entry) in entries {
+        let row = *i as usize;
+        if place_at(&kernel.row_places, row).is_none() {
+            let Some(times) = multiple(*entry, scales, row) else {
+                return Ok(false);
+            };
+            if let Some(sum) = sums.get_mut(row) {
+                sum.add(number, times)?;
+            }
+        }
+    }
+    Ok(true)
+}
+
+/// The sums of the rows whose logical is basic, each times the row's scale, at these numbers of the columns. There are
+/// none where one is past the limits.
+pub(crate) fn row_sums(
+    alloc: Global,
+    program: &Program<'_>,
+    kernel: &Kernel,
+    scales: &[i128],
+    point: &Amounts,
+) -> Result<Option<Vec<Whole>>, AllocError> {
+    let mut sums = no_sums(alloc, program.rows())?;
+    for (j, number) in point.numbers.iter().enumerate() {
+        let is_done = number.words.is_empty()
+            || add_column(&mut sums, program.entries(j), kernel, scales, number)?;
+        if !is_done {
+            return Ok(None);
+        }
+    }
+    Ok(Some(numbers_of(alloc, sums)?))
+}
+
+// What the sums come to.
+fn numbers_of(alloc: Global, sums: Vec<Sum>) -> Result<Vec<Whole>, AllocError> {
+    let mut list = Vec::with_capacity(alloc, sums.len())?;
+    for sum in sums {
+        list.push(sum.into_number())?;
+    }
+    Ok(list)
+}
+
+// ---- the rooms
+
+// Puts the rooms of the basic structural columns.
+fn put_rooms(
+    alloc: Global,
+    program: &Program<'_>,
+    kernel: &Kernel,
+    solved: &Solved,
+    rooms: &mut [Room],
+) -> Result<(), AllocError> {
+    for (j, number) in kernel.columns.iter().zip(&solved.numerators) {
+        let lower = program.lower(*j);
+        let upper = program.upper(*j);
+        if let Some(place) = rooms.get_mut(*j) {
+            *place = room_of(alloc, number, &solved.denominator, lower, upper)?;
+        }
+    }
+    Ok(())
+}
+
+// Puts the rooms of the basic logical columns.
+fn put_row_rooms(
+    alloc: Global,
+    program: &Program<'_>,
+    prepared: (&Kernel, &[i128]),
+    sums: &[Whole],
+    denominator: &[u64],
+    rooms: &mut [Room],
+) -> Result<(), AllocError> {
+    let (kernel, scales) = prepared;
+    for (i, sum) in sums.iter().enumerate() {
+        let k = program.cols().wrapping_add(i);
+        let lower = program.lower(k);
+        let upper = program.upper(k);
+        let is_bounded = lower.is_some() || upper.is_some();
+        if let (true, None, Some(place)) = (
+            is_bounded,
+            place_at(&kernel.row_places, i),
+            rooms.get_mut(k),
+        ) {
+            let scale = scale_at(scales, i).unsigned_abs();
+            let below = times_wide(alloc, denominator, scale)?;
+            *place = room_of(alloc, sum, &below, lower, upper)?;
+        }
+    }
+    Ok(())
+}
+
+/// The room of each column, by what the basic structural ones have, and where the others stand.
+pub(crate) fn rooms(
+    alloc: Global,
+    program: &Program<'_>,
+    kernel: &Kernel,
+    scales: &[i128],
+    solved: &Solved,
+    values: &[Frac],
+) -> Result<Option<Vec<Room>>, AllocError> {
+    let cols = program.cols();
+    let structurals = values.get(..cols.min(values.len())).unwrap_or(&[]);
+    let Some(point) = amounts_of(alloc, solved, &kernel.column_places, structurals)? else {
+        return Ok(None);
+    };
+    let Some(sums) = row_sums(alloc, program, kernel, scales, &point)? else {
+        return Ok(None);
+    };
+    let mut rooms = Vec::from_elem(alloc, FREE, values.len())?;
+    put_rooms(alloc, program, kernel, solved, &mut rooms)?;
+    put_row_rooms(
+        alloc,
+        program,
+        (kernel, scales),
+        &sums,
+        &point.denominator,
+        &mut rooms,
+    )?;
+    Ok(Some(rooms))
+}
+
+// ---- reduced costs
+
+// The least common denominator of a cost and a column's entries in the rows that have a multiplier.
+fn column_scale(entries: &[(u32, Frac)], cost: Frac, multipliers: &Amounts) -> Option<i128> {
+    let mut scale = den(cost);
+    for (i, entry) in entries {
+        if !multipliers.is_zero_at(*i as usize) {
+            scale = least_common(scale, den(*entry))?;
+        }
+    }
+    Some(scale)
+}
+
+// Takes a column's entries times the multipliers off a sum. Whether all is within the limits.
+fn take_entries(
+    sum: &mut Sum,
+    entries: &[(u32, Frac)],
+    scale: i128,
+    multipliers: &Amounts,
+) -> Result<bool, AllocError> {
+    for (i, entry) in entries {
+        if let Some(number) = multipliers.numbers.get(*i as usize) {
+            if !number.words.is_empty() {
+                let Some(times) = times_scale(*entry, scale) else {
+                    return Ok(false);
+                };
+                sum.add(number, times.wrapping_neg())?;
+            }
+        }
+    }
+    Ok(true)
+}
+
+// The reduced cost of a structural column.
+fn reduced_cost(
+    alloc: Global,
+    entries: &[(u32, Frac)],
+    cost: Frac,
+    multipliers: &Amounts,
+) -> Result<Option<f64>, AllocError> {
+    let Some(scale) = column_scale(entries, cost, multipliers) else {
+        return Ok(None);
+    };
+    let mut sum = Sum::new(alloc);
+    if let Some(times) = times_scale(cost, scale) {
+        sum.add_words(&multipliers.denominator, false, times)?;
+    }
+    if !take_entries(&mut sum, entries, scale, multipliers)? {
+        drop(sum);
+        return Ok(None);
+    }
+    let below = times_wide(alloc, &multipliers.denominator, scale.unsigned_abs())?;
+    Ok(Some(near(&sum.into_number(), &below)))
+}
+
+// The multipliers of all rows.
+fn all_multipliers(
+    alloc: Global,
+    program: &Program<'_>,
+    kernel: &Kernel,
+    solved: &Solved,
+    costs: &[Frac],
+) -> Result<Option<Amounts>, AllocError> {
+    let mut others = Vec::with_capacity(alloc, kernel.row_places.len())?;
+    for i in 0..kernel.row_places.len() {
+        others.push(of_logical(program, costs, i))?;
+    }
+    amounts_of(alloc, solved, &kernel.row_places, &others)
+}
+
+// The reduced cost of a logical column that is not basic: its cost, and the multiplier of its row.
+fn logical_reduced(
+    alloc: Global,
+    cost: Frac,
+    multipliers: &Amounts,
+    i: usize,
+) -> Result<f64, AllocError> {
+    match multipliers.numbers.get(i) {
+        Some(number) => near_difference(
+            alloc,
+            number,
+            &multipliers.denominator,
+            lp_frac::neg(cost),
+        ),
+        None => Ok(0.0),
+    }
+}
+
+/// The reduced cost of each column, 0 of the basic ones, by the multipliers of the kernel's rows. There are none where a
+/// number is past the limits.
+pub(crate) fn reduced_costs(
+    alloc: Global,
+    program: &Program<'_>,
+    kernel: &Kernel,
+    statuses: &[Status],
+    solved: &Solved,
+    costs: &[Frac],
+) -> Result<Option<Vec<f64>>, AllocError> {
+    let Some(multipliers) = all_multipliers(alloc, program, kernel, solved, costs)? else {
+        return Ok(None);
+    };
+    let cols = program.cols();
+    let mut list = Vec::with_capacity(alloc, statuses.len())?;
+    for k in 0..statuses.len() {
+        let reduced = if is_basic_at(statuses, k) {
+            Some(0.0)
+        } else if k < cols {
+            reduced_cost(alloc, program.entries(k), part(costs, k), &multipliers)?
+        } else {
+            let cost = part(costs, k);
+            Some(logical_reduced(alloc, cost, &multipliers, k.wrapping_sub(cols))?)
+        };
+        match reduced {
+            Some(reduced) => list.push(reduced)?,
+            None => return Ok(None),
+        }
+    }
+    Ok(Some(list))
+}
+
+// ---- rates
+
+// Puts the rates of the basic structural columns.
+fn put_rates(kernel: &Kernel, solved: &Solved, rates: &mut [f64]) {
+    for (j, number) in kernel.columns.iter().zip(&solved.numerators) {
+        if let Some(rate) = rates.get_mut(*j) {
+            *rate = near(number, &solved.denominator);
+        }
+    }
+}
+
+// Puts the rates of the basic logical columns.
+fn put_row_rates(
+    alloc: Global,
+    program: &Program<'_>,
+    prepared: (&Kernel, &[i128]),
+    sums: &[Whole],
+    denominator: &[u64],
+    rates: &mut [f64],
+) -> Result<(), AllocError> {
+    let (kernel, scales) = prepared;
+    for (i, sum) in sums.iter().enumerate() {
+        let k = program.cols().wrapping_add(i);
+        if let (None, Some(rate)) = (place_at(&kernel.row_places, i), rates.get_mut(k)) {
+            let scale = scale_at(scales, i).unsigned_abs();
+            let below = times_wide(alloc, denominator, scale)?;
+            *rate = near(sum, &below);
+        }
+    }
+    Ok(())
+}
+
+/// The rates at which the basic columns move, 0 of the others, where those that are not basic move so.
+pub(crate) fn rates_of(
+    alloc: Global,
+    program: &Program<'_>,
+    kernel: &Kernel,
+    scales: &[i128],
+    solved: &Solved,
+    moves: &[Frac],
+) -> Result<Option<Vec<f64>>, AllocError> {
+    let cols = program.cols();
+    let structurals = moves.get(..cols.min(moves.len())).unwrap_or(&[]);
+    let Some(point) = amounts_of(alloc, solved, &kernel.column_places, structurals)? else {
+        return Ok(None);
+    };
+    let Some(sums) = row_sums(alloc, program, kernel, scales, &point)? else {
+        return Ok(None);
+    };
+    let mut rates = Vec::from_elem(alloc, 0.0f64, moves.len())?;
+    put_rates(kernel, solved, &mut rates);
+    put_row_rates(
+        alloc,
+        program,
+        (kernel, scales),
+        &sums,
+        &point.denominator,
+        &mut rates,
+    )?;
+    Ok(Some(rates))
+}

@@ -1,0 +1,89 @@
+// Statuses of columns, structural and logical.
+use crate::program::Program;
+use lp_frac::{Frac, zero};
+use spec_pivot::Status;
+use std::alloc::{AllocError, Global};
+
+/// The status of column `k`, basic where there is none.
+pub(crate) fn status_at(statuses: &[Status], k: usize) -> Status {
+    match statuses.get(k) {
+        Some(status) => *status,
+        None => Status::Basic,
+    }
+}
+
+/// Puts a status.
+pub(crate) fn put_status(statuses: &mut [Status], k: usize, status: Status) {
+    if let Some(place) = statuses.get_mut(k) {
+        *place = status;
+    }
+}
+
+/// Where a column with these bounds may stand that is not basic.
+pub(crate) fn resting(lower: Option<Frac>, upper: Option<Frac>) -> Status {
+    if lower.is_some() {
+        Status::AtLower
+    } else if upper.is_some() {
+        Status::AtUpper
+    } else {
+        Status::AtZero
+    }
+}
+
+// The status, or another where there is no such bound.
+fn fitting(status: Status, lower: Option<Frac>, upper: Option<Frac>) -> Status {
+    match status {
+        Status::Basic => Status::Basic,
+        Status::AtLower if lower.is_some() => Status::AtLower,
+        Status::AtUpper if upper.is_some() => Status::AtUpper,
+        Status::AtLower | Status::AtUpper | Status::AtZero => resting(lower, upper),
+    }
+}
+
+/// Statuses of all columns of a program that fit their bounds, from those that are given.
+pub(crate) fn fitting_statuses(
+    alloc: Global,
+    program: &Program<'_>,
+    statuses: &[Status],
+) -> Result<Vec<Status>, AllocError> {
+    let mut list = Vec::with_capacity(alloc, statuses.len())?;
+    for (k, (lower, upper)) in program.lowers.iter().zip(&program.uppers).enumerate() {
+        let status = match statuses.get(k) {
+            Some(status) => *status,
+            None => Status::AtLower,
+        };
+        list.push(fitting(status, *lower, *upper))?;
+    }
+    Ok(list)
+}
+
+/// Where a column with this status stands, 0 where it is basic.
+pub(crate) fn standing(status: Status, lower: Option<Frac>, upper: Option<Frac>) -> Frac {
+    let bound = match status {
+        Status::AtLower => lower,
+        Status::AtUpper => upper,
+        Status::Basic | Status::AtZero => None,
+    };
+    match bound {
+        Some(value) => value,
+        None => zero(),
+    }
+}
+
+/// Where each column stands that is not basic; 0 for the others.
+pub(crate) fn standings(
+    alloc: Global,
+    program: &Program<'_>,
+    statuses: &[Status],
+) -> Result<Vec<Frac>, AllocError> {
+    let mut list = Vec::with_capacity(alloc, statuses.len())?;
+    for (k, (lower, upper)) in program.lowers.iter().zip(&program.uppers).enumerate() {
+        list.push(standing(status_at(statuses, k), *lower, *upper))?;
+    }
+    Ok(list)
+}
+
+/// Whether column `k` is basic.
+pub(crate) fn is_basic_at(statuses: &[Status], k: usize) -> bool {
+    matches!(status_at(statuses, k), Status::Basic)
+}
