@@ -1,0 +1,6 @@
+-- As many so far as were gone over.
+use Rattle.std.proofs.Common.{◌≡◌, length}
+use Rattle.lp_float.proofs.guess.fitted.Given as goal
+
+abbrev pub invariant-loop-k : goal.invariant-loop-k
+invariant-loop-k l = length l.list.items ≡ l.k

@@ -1,0 +1,232 @@
+// The factors of a basis, and the columns that came in since.
+use crate::lines::Lines;
+use crate::number::{add_line, at, fill, index_at, product, put, put_index};
+use crate::program::Program;
+use lp_lift::{Factored, Factors, Matrix, factorize};
+use std::alloc::{AllocError, Global};
+
+/// The position of a column that has none.
+pub(crate) const NOWHERE: usize = usize::MAX;
+
+// What is taken for 0 in a column that comes in.
+const NOTHING: f64 = 1e-14;
+
+// After so many changes new factors are due.
+const MOST_CHANGES: usize = 100;
+
+// How often a singular basis is mended before the logical one is taken.
+const MENDS: u32 = 3;
+
+/// A basis: the column at each position, and the position of each column. The factors are those of an earlier basis. Each
+/// change since has the position, and the column that came in, solved by the basis before (the product form of the
+/// inverse).
+pub(crate) struct Basis {
+    pub(crate) head: Vec<usize>,
+    pub(crate) place: Vec<usize>,
+    factors: Option<Factors<f64>>,
+    places: Vec<usize>,
+    pivots: Vec<f64>,
+    changes: Lines,
+}
+
+impl Drop for Basis {
+    fn drop(self) {
+        let Basis {
+            head,
+            place,
+            factors,
+            places,
+            pivots,
+            changes,
+        } = self;
+        drop(head);
+        drop(place);
+        drop(factors);
+        drop(places);
+        drop(pivots);
+        drop(changes);
+    }
+}
+
+// The logical columns.
+fn logicals(alloc: Global, program: &Program) -> Result<Vec<usize>, AllocError> {
+    let mut head = Vec::with_capacity(alloc, program.rows)?;
+    for i in 0..program.rows {
+        head.push(program.logical(i))?;
+    }
+    Ok(head)
+}
+
+// Puts the numbers of a line into the column of a matrix.
+fn put_line(matrix: &mut Matrix<f64>, line: &[(usize, f64)]) -> Result<(), AllocError> {
+    for (i, number) in line {
+        matrix.put(*i, *number)?;
+    }
+    Ok(())
+}
+
+// Puts a column of the program into a matrix.
+fn put_column(matrix: &mut Matrix<f64>, program: &Program, k: usize) -> Result<(), AllocError> {
+    if program.is_logical(k) {
+        matrix.put(program.row_of(k), -1.0)?;
+    } else {
+        put_line(matrix, program.columns.line(k))?;
+    }
+    matrix.end_column()
+}
+
+// The matrix of these columns.
+fn matrix_of(alloc: Global, program: &Program, head: &[usize]) -> Result<Matrix<f64>, AllocError> {
+    let mut matrix = Matrix::new(alloc, program.rows);
+    for k in head {
+        put_column(&mut matrix, program, *k)?;
+    }
+    Ok(matrix)
+}
+
+// Puts the logical columns of rows in place of the columns at positions.
+fn mend(head: &mut [usize], program: &Program, rows: &[usize], places: &[usize]) {
+    for (row, place) in rows.iter().zip(places) {
+        put_index(head, *place, program.logical(*row));
+    }
+}
+
+// The factors of these columns. Where they are singular some columns become logical ones.
+fn factored_or_mended(
+    alloc: Global,
+    program: &Program,
+    head: &mut [usize],
+) -> Result<Option<Factors<f64>>, AllocError> {
+    let factored = factorize(alloc, &matrix_of(alloc, program, head)?)?;
+    match &factored {
+        Factored::Regular(_) => {}
+        Factored::Singular { rows, columns } => mend(head, program, rows, columns),
+    }
+    Ok(factored.regular())
+}
+
+// The factors of these columns, which are mended where they are singular.
+fn factors_of(
+    alloc: Global,
+    program: &Program,
+    head: &mut [usize],
+) -> Result<Option<Factors<f64>>, AllocError> {
+    for _ in 0..MENDS {
+        match factored_or_mended(alloc, program, head)? {
+            Some(factors) => return Ok(Some(factors)),
+            None => {}
+        }
+    }
+    Ok(None)
+}
+
+// The position of each column.
+fn places_of(alloc: Global, program: &Program, head: &[usize]) -> Result<Vec<usize>, AllocError> {
+    let mut place = Vec::from_elem(alloc, NOWHERE, program.len())?;
+    for (p, k) in head.iter().enumerate() {
+        put_index(&mut place, *k, p);
+    }
+    Ok(place)
+}
+
+/// The basis of these columns. Where they are singular, logical ones come in their place.
+pub(crate) fn basis_of(
+    alloc: Global,
+    program: &Program,
+    columns: Vec<usize>,
+) -> Result<Basis, AllocError> {
+    let mut head = columns;
+    let mut factors = factors_of(alloc, program, &mut head)?;
+    if factors.is_none() {
+        head = logicals(alloc, program)?;
+        factors = factored_or_mended(alloc, program, &mut head)?;
+    }
+    let place = places_of(alloc, program, &head)?;
+    Ok(Basis {
+        head,
+        place,
+        factors,
+        places: Vec::new(alloc),
+        pivots: Vec::new(alloc),
+        changes: Lines::new(alloc),
+    })
+}
+
+impl Basis {
+    /// How many columns came in since the factors were made.
+    pub(crate) fn changes(&self) -> usize {
+        self.places.len()
+    }
+
+    // How many numbers the factors have.
+    fn size(&self) -> usize {
+        match &self.factors {
+            Some(factors) => factors.size(),
+            None => 0,
+        }
+    }
+
+    /// Whether new factors are due.
+    pub(crate) fn is_long(&self) -> bool {
+        let rows = self.head.len().wrapping_mul(3);
+        let most = self.size().wrapping_mul(2).wrapping_add(rows);
+        self.places.len() >= MOST_CHANGES || self.changes.size() > most
+    }
+
+    /// Solves for the combination of the basic columns, by position, that is `right`, by row, which is used up.
+    pub(crate) fn solve(&self, right: &mut [f64], solution: &mut [f64]) {
+        match &self.factors {
+            Some(factors) => factors.solve(right, solution),
+            None => fill(solution, 0.0),
+        }
+        for (k, place) in self.places.iter().enumerate() {
+            let number = at(solution, *place);
+            if number != 0.0 {
+                let quotient = number / at(&self.pivots, k);
+                add_line(solution, self.changes.line(k), -quotient);
+                put(solution, *place, quotient);
+            }
+        }
+    }
+
+    /// Solves for the multipliers, by row, with which the basic columns have the products `right`, by position, which are
+    /// used up.
+    pub(crate) fn solve_turned(&self, right: &mut [f64], solution: &mut [f64]) {
+        for k in (0..self.places.len()).rev() {
+            let place = index_at(&self.places, k);
+            let number = at(right, place) - product(right, self.changes.line(k));
+            put(right, place, number / at(&self.pivots, k));
+        }
+        match &self.factors {
+            Some(factors) => factors.solve_turned(right, solution),
+            None => fill(solution, 0.0),
+        }
+    }
+
+    // Notes a column that comes in at a position.
+    fn note(&mut self, place: usize, column: &[f64]) -> Result<(), AllocError> {
+        for (p, number) in column.iter().enumerate() {
+            if p != place && number.abs() > NOTHING {
+                self.changes.put(p, *number)?;
+            }
+        }
+        self.changes.end()
+    }
+
+    /// Puts a column at a position, given its solution by the basis.
+    pub(crate) fn change(
+        &mut self,
+        place: usize,
+        k: usize,
+        column: &[f64],
+    ) -> Result<(), AllocError> {
+        self.note(place, column)?;
+        self.places.push(place)?;
+        self.pivots.push(at(column, place))?;
+        let leaving = index_at(&self.head, place);
+        put_index(&mut self.place, leaving, NOWHERE);
+        put_index(&mut self.place, k, place);
+        put_index(&mut self.head, place, k);
+        Ok(())
+    }
+}

@@ -1,0 +1,328 @@
+// The dual method (Koberstein, "The dual simplex method, techniques for a fast and stable implementation", 2005): the
+// column with the greatest infeasibility for its weight leaves, by the weights of the dual steepest edge (Forrest and
+// Goldfarb, "Steepest-edge simplex algorithms for linear programming", 1992).
+use crate::dual_ratio::{Trial, choose};
+use crate::number::{add_at, at, copy, fill, index_at, put, square};
+use crate::program::Program;
+use crate::rebuild::{add_column, evaluate, make_row, reduce, solve_column, solve_unit};
+use crate::state::{State, put_status, refactor, status_at};
+use spec_pivot::Status;
+use std::alloc::{AllocError, Global};
+
+// The least weight of a position.
+const LEAST_WEIGHT: f64 = 1e-4;
+
+// How far a number of the tableau may be off by its row from that by its column, before the factors are made anew, and
+// with new factors.
+const APART: f64 = 1e-7;
+
+const FAR_APART: f64 = 0.1;
+
+// What is no pivot.
+const NO_PIVOT: f64 = 1e-9;
+
+// How much larger than its weight a norm may be, and how often in a row others are looked for then.
+const OFF: f64 = 4.0;
+
+const RETRIES: u32 = 8;
+
+/// How a run of the dual method ended.
+#[derive(Clone, Copy)]
+pub(crate) enum DualEnd {
+    /// All values are within their bounds.
+    Feasible,
+    /// Nothing brings this basic column within its bounds.
+    Blocked(usize),
+    /// The effort is spent.
+    Spent,
+    /// The numbers are of no use.
+    Lost,
+}
+
+// What came of a step.
+#[derive(Clone, Copy)]
+enum DualStep {
+    Done,
+    /// New factors are needed first.
+    Unsure,
+    End(DualEnd),
+}
+
+// A position whose column leaves, the square of the norm of its row of the inverse, and the column that enters.
+#[derive(Clone, Copy)]
+struct Pivot {
+    place: usize,
+    norm: f64,
+    entering: usize,
+}
+
+// The position that leaves.
+fn leaving(state: &State) -> Option<usize> {
+    let mut found = None;
+    let mut most = 0.0;
+    for (p, (square, weight)) in state.room.outside.iter().zip(&state.weight).enumerate() {
+        if *square > most * *weight {
+            found = Some(p);
+            most = *square / *weight;
+        }
+    }
+    found
+}
+
+// Moves the reduced costs along the row.
+fn move_reduced(state: &mut State, step: f64) {
+    for k in &state.room.touched {
+        add_at(&mut state.reduced, *k, -(step * at(&state.room.row, *k)));
+    }
+}
+
+/// Gives the columns that take part in an exchange, and all others, their reduced costs after it.
+pub(crate) fn exchange_reduced(state: &mut State, entering: usize, leaving: usize) {
+    let step = at(&state.reduced, entering) / at(&state.room.row, entering);
+    move_reduced(state, step);
+    put(&mut state.reduced, entering, 0.0);
+    put(&mut state.reduced, leaving, -step);
+}
+
+// Turns columns, and notes by row what that leaves for the basic ones.
+fn turn_all(state: &mut State, program: &Program, flips: &[usize]) {
+    for k in flips {
+        let before = at(&state.value, *k);
+        state.turn(*k);
+        let by = at(&state.value, *k) - before;
+        add_column(&mut state.room.by_row, program, *k, -by);
+    }
+}
+
+// Adds a solution to the values of the basic columns.
+fn add_solution(state: &mut State) {
+    for p in 0..state.basis.head.len() {
+        let number = at(&state.room.other, p);
+        if number != 0.0 {
+            let k = index_at(&state.basis.head, p);
+            add_at(&mut state.value, k, number);
+            state.note_outside(p);
+        }
+    }
+}
+
+// Turns columns, and moves the basic ones with them.
+fn flip_all(state: &mut State, program: &Program, flips: &[usize]) {
+    if flips.is_empty() {
+        return;
+    }
+    fill(&mut state.room.by_row, 0.0);
+    turn_all(state, program, flips);
+    state
+        .basis
+        .solve(&mut state.room.by_row, &mut state.room.other);
+    add_solution(state);
+}
+
+/// Moves the entering column by a step, and the basic ones with it.
+pub(crate) fn move_values(state: &mut State, entering: usize, step: f64) {
+    for p in 0..state.basis.head.len() {
+        let number = at(&state.room.column, p);
+        if number != 0.0 {
+            let k = index_at(&state.basis.head, p);
+            add_at(&mut state.value, k, -(step * number));
+            state.note_outside(p);
+        }
+    }
+    add_at(&mut state.value, entering, step);
+}
+
+// Updates the weights of the positions where the entering column has numbers.
+fn update_all(state: &mut State, pivot: f64, norm: f64) {
+    for (p, weight) in state.weight.iter_mut().enumerate() {
+        let number = at(&state.room.column, p);
+        if number != 0.0 {
+            let quotient = number / pivot;
+            let change = quotient * (quotient * norm - 2.0 * at(&state.room.other, p));
+            *weight = (*weight + change).max(LEAST_WEIGHT);
+        }
+    }
+}
+
+// The weights after the exchange.
+fn update_weights(state: &mut State, place: usize, norm: f64) {
+    copy(&mut state.room.by_row, &state.room.inverse_row);
+    state
+        .basis
+        .solve(&mut state.room.by_row, &mut state.room.other);
+    let pivot = at(&state.room.column, place);
+    update_all(state, pivot, norm);
+    let own = norm / (pivot * pivot);
+    put(&mut state.weight, place, own.max(LEAST_WEIGHT));
+}
+
+/// Puts the entering column at the position of the leaving one, which goes to a bound.
+pub(crate) fn exchange(
+    state: &mut State,
+    place: usize,
+    entering: usize,
+    to: Status,
+) -> Result<(), AllocError> {
+    let leaving = index_at(&state.basis.head, place);
+    state.basis.change(place, entering, &state.room.column)?;
+    put_status(&mut state.status, entering, Status::Basic);
+    state.settle(leaving, to);
+    state.note_outside(place);
+    state.steps = state.steps.wrapping_add(1);
+    Ok(())
+}
+
+// Takes all of a reduced cost away by the cost.
+fn shift(state: &mut State, k: usize) {
+    let reduced = at(&state.reduced, k);
+    add_at(&mut state.cost, k, -reduced);
+    put(&mut state.reduced, k, 0.0);
+}
+
+// Makes the exchange.
+fn apply(
+    state: &mut State,
+    program: &Program,
+    trial: &Trial,
+    pivot: Pivot,
+) -> Result<(), AllocError> {
+    let Pivot {
+        place,
+        norm,
+        entering,
+    } = pivot;
+    let leaving = index_at(&state.basis.head, place);
+    if state.wrong(entering) > 0.0 {
+        shift(state, entering);
+    }
+    exchange_reduced(state, entering, leaving);
+    flip_all(state, program, &trial.flips);
+    let outside = state.outside(leaving);
+    let step = outside / at(&state.room.column, place);
+    move_values(state, entering, step);
+    update_weights(state, place, norm);
+    let to = if outside > 0.0 {
+        Status::AtUpper
+    } else {
+        Status::AtLower
+    };
+    exchange(state, place, entering, to)
+}
+
+// Corrects the weight of a position by the norm of its row. Whether it was far off.
+fn correct_weight(state: &mut State, place: usize, norm: f64) -> bool {
+    let weight = at(&state.weight, place);
+    put(&mut state.weight, place, norm.max(LEAST_WEIGHT));
+    norm > OFF * weight
+}
+
+// Makes the exchange if the pivot is sure enough.
+fn exchange_surely(
+    state: &mut State,
+    program: &Program,
+    trial: &Trial,
+    pivot: Pivot,
+) -> Result<DualStep, AllocError> {
+    solve_column(state, program, pivot.entering);
+    let by_row = at(&state.room.row, pivot.entering);
+    let by_column = at(&state.room.column, pivot.place);
+    let apart = (by_row - by_column).abs();
+    if state.basis.changes() > 0 && apart > APART * (1.0 + by_column.abs()) {
+        return Ok(DualStep::Unsure);
+    }
+    if by_column.abs() < NO_PIVOT || apart > FAR_APART * by_column.abs() {
+        return Ok(DualStep::End(DualEnd::Lost));
+    }
+    apply(state, program, trial, pivot)?;
+    Ok(DualStep::Done)
+}
+
+// One step.
+fn dual_step(
+    state: &mut State,
+    program: &Program,
+    trial: &mut Trial,
+) -> Result<DualStep, AllocError> {
+    let Some(place) = leaving(state) else {
+        return Ok(DualStep::End(DualEnd::Feasible));
+    };
+    solve_unit(state, place);
+    let norm = square(&state.room.inverse_row);
+    if correct_weight(state, place, norm) && trial.retries < RETRIES {
+        trial.retries = trial.retries.wrapping_add(1);
+        return Ok(DualStep::Done);
+    }
+    trial.retries = 0;
+    make_row(state, program)?;
+    let k = index_at(&state.basis.head, place);
+    match choose(state, state.outside(k), trial)? {
+        Some(entering) => exchange_surely(
+            state,
+            program,
+            trial,
+            Pivot {
+                place,
+                norm,
+                entering,
+            },
+        ),
+        None if state.basis.changes() > 0 => Ok(DualStep::Unsure),
+        None => Ok(DualStep::End(DualEnd::Blocked(k))),
+    }
+}
+
+// Brings a reduced cost right: by the other bound, or by the cost.
+fn correct(state: &mut State, k: usize) {
+    if state.range(k) < f64::INFINITY {
+        state.turn(k);
+    } else {
+        shift(state, k);
+    }
+}
+
+// Brings all reduced costs right that are wrong.
+fn correct_all(state: &mut State) {
+    for k in 0..state.status.len() {
+        if state.wrong(k) > state.limits.dual {
+            correct(state, k);
+        }
+    }
+}
+
+// Makes all numbers anew.
+fn rebuild(alloc: Global, state: &mut State, program: &Program) -> Result<(), AllocError> {
+    refactor(alloc, state, program)?;
+    reduce(state, program);
+    correct_all(state);
+    evaluate(state, program);
+    Ok(())
+}
+
+/// Runs the dual method. Reduced costs that are wrong at its beginning are made right by the other bounds or by the costs of
+/// the state.
+pub(crate) fn run_dual(
+    alloc: Global,
+    state: &mut State,
+    program: &Program,
+    effort: u64,
+) -> Result<DualEnd, AllocError> {
+    let mut trial = Trial::new(alloc);
+    rebuild(alloc, state, program)?;
+    for _ in 0..effort {
+        if state.basis.is_long() {
+            rebuild(alloc, state, program)?;
+        }
+        match dual_step(state, program, &mut trial)? {
+            DualStep::Done => {}
+            DualStep::End(DualEnd::Feasible) if state.basis.changes() > 0 => {
+                rebuild(alloc, state, program)?;
+            }
+            DualStep::End(end) => return Ok(end),
+            DualStep::Unsure => rebuild(alloc, state, program)?,
+        }
+        if state.steps >= effort {
+            return Ok(DualEnd::Spent);
+        }
+    }
+    Ok(DualEnd::Spent)
+}

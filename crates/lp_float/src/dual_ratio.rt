@@ -1,0 +1,235 @@
+// Which column enters by the dual method: the ratio test of Harris ("Pivot selection methods of the Devex LP code", 1973),
+// over groups of columns of which those before the entering one go to their other bounds.
+use crate::number::{at, index_at};
+use crate::state::{State, status_at};
+use spec_pivot::Status;
+use std::alloc::{AllocError, Global};
+
+// A number of the row that is no pivot.
+const NO_PIVOT: f64 = 1e-9;
+
+// How many groups are looked at.
+const GROUPS: u32 = 60;
+
+// What part of the greatest number a pivot has at least, up to 1.
+const PART: f64 = 0.1;
+
+// A column that may enter: its number in the row and its reduced cost, both turned so that they are above 0, and how far
+// apart its bounds are.
+#[derive(Clone, Copy)]
+struct Candidate {
+    column: usize,
+    number: f64,
+    cost: f64,
+    range: f64,
+}
+
+/// Room for a ratio test, and what came of it.
+pub(crate) struct Trial {
+    waiting: Vec<Candidate>,
+    taken: Vec<Candidate>,
+    // where each group among those that are taken ends
+    ends: Vec<usize>,
+    /// The columns that go to their other bounds.
+    pub(crate) flips: Vec<usize>,
+    /// How often in a row a leaving position was looked for again.
+    pub(crate) retries: u32,
+}
+
+impl Drop for Trial {
+    fn drop(self) {
+        let Trial {
+            waiting,
+            taken,
+            ends,
+            flips,
+            retries: _,
+        } = self;
+        drop(waiting);
+        drop(taken);
+        drop(ends);
+        drop(flips);
+    }
+}
+
+impl Trial {
+    pub(crate) fn new(alloc: Global) -> Self {
+        Trial {
+            waiting: Vec::new(alloc),
+            taken: Vec::new(alloc),
+            ends: Vec::new(alloc),
+            flips: Vec::new(alloc),
+            retries: 0,
+        }
+    }
+}
+
+// The way in which a column may move: up (1), down (-1), or as its number asks.
+fn way(status: Status, number: f64) -> f64 {
+    match status {
+        Status::AtLower => 1.0,
+        Status::AtUpper => -1.0,
+        Status::AtZero if number > 0.0 => 1.0,
+        Status::AtZero => -1.0,
+        Status::Basic => 0.0,
+    }
+}
+
+// The candidate that a column is, if it is one.
+fn candidate_of(state: &State, column: usize, turn: f64) -> Option<Candidate> {
+    let number = at(&state.room.row, column) * turn;
+    let way = way(status_at(&state.status, column), number);
+    let range = state.range(column);
+    if number * way > NO_PIVOT && range > 0.0 {
+        Some(Candidate {
+            column,
+            number: number * way,
+            cost: at(&state.reduced, column) * way,
+            range,
+        })
+    } else {
+        None
+    }
+}
+
+// Finds the candidates.
+fn collect(state: &State, turn: f64, trial: &mut Trial) -> Result<(), AllocError> {
+    trial.waiting.clear();
+    trial.taken.clear();
+    trial.ends.clear();
+    trial.flips.clear();
+    for k in &state.room.touched {
+        if let Some(candidate) = candidate_of(state, *k, turn) {
+            trial.waiting.push(candidate)?;
+        }
+    }
+    Ok(())
+}
+
+// How far reduced costs may go until one of those that wait is wrong by more than the tolerance.
+fn reach(waiting: &[Candidate], tolerance: f64) -> f64 {
+    let mut least = f64::INFINITY;
+    for candidate in waiting {
+        let room = candidate.cost.max(0.0) + tolerance;
+        least = (room / candidate.number).min(least);
+    }
+    least
+}
+
+// Keeps a candidate waiting.
+fn keep(waiting: &mut [Candidate], k: usize, candidate: Candidate) {
+    if let Some(place) = waiting.get_mut(k) {
+        *place = candidate;
+    }
+}
+
+// Takes the next group, those within reach, out of those that wait. Returns what is left of the slope.
+fn take(trial: &mut Trial, reach: f64, slope: f64) -> Result<f64, AllocError> {
+    let mut left = slope;
+    let mut kept = 0usize;
+    for k in 0..trial.waiting.len() {
+        if let Some(candidate) = trial.waiting.get(k).copied() {
+            if candidate.cost <= reach * candidate.number {
+                left -= candidate.number * candidate.range;
+                trial.taken.push(candidate)?;
+            } else {
+                keep(&mut trial.waiting, kept, candidate);
+                kept = kept.wrapping_add(1);
+            }
+        }
+    }
+    trial.waiting.truncate(kept);
+    let end = trial.taken.len();
+    trial.ends.push(end)?;
+    Ok(left)
+}
+
+// Takes groups until the slope is spent.
+fn take_groups(state: &State, trial: &mut Trial, slope: f64) -> Result<(), AllocError> {
+    let mut left = slope;
+    for _ in 0..GROUPS {
+        if trial.waiting.is_empty() || left < 0.0 {
+            return Ok(());
+        }
+        let reach = reach(&trial.waiting, state.limits.dual);
+        left = take(trial, reach, left)?;
+    }
+    Ok(())
+}
+
+// The candidate with the greatest number.
+fn largest(list: &[Candidate]) -> Option<Candidate> {
+    let mut found = None;
+    let mut most = 0.0;
+    for candidate in list {
+        if candidate.number > most {
+            found = Some(*candidate);
+            most = candidate.number;
+        }
+    }
+    found
+}
+
+// Where a group begins.
+fn first(trial: &Trial, group: usize) -> usize {
+    if group == 0 {
+        0
+    } else {
+        index_at(&trial.ends, group - 1)
+    }
+}
+
+// The candidates of a group.
+fn members(trial: &Trial, group: usize) -> &[Candidate] {
+    match trial
+        .taken
+        .get(first(trial, group)..index_at(&trial.ends, group))
+    {
+        Some(members) => members,
+        None => &[],
+    }
+}
+
+// The last group with a number that is large enough, and its candidate.
+fn pick(trial: &Trial, least: f64) -> Option<(usize, Candidate)> {
+    for group in (0..trial.ends.len()).rev() {
+        if let Some(candidate) = largest(members(trial, group)) {
+            if candidate.number >= least {
+                return Some((group, candidate));
+            }
+        }
+    }
+    None
+}
+
+// Notes the columns of the groups before as those that go to their other bounds.
+fn note_flips(trial: &mut Trial, group: usize) -> Result<(), AllocError> {
+    let end = first(trial, group);
+    for candidate in trial.taken.iter().take(end) {
+        if candidate.range < f64::INFINITY {
+            trial.flips.push(candidate.column)?;
+        }
+    }
+    Ok(())
+}
+
+/// The column that enters where the leaving one is outside by so much, if there is one.
+pub(crate) fn choose(
+    state: &State,
+    outside: f64,
+    trial: &mut Trial,
+) -> Result<Option<usize>, AllocError> {
+    let turn = if outside > 0.0 { 1.0 } else { -1.0 };
+    collect(state, turn, trial)?;
+    take_groups(state, trial, outside.abs())?;
+    let Some(most) = largest(&trial.taken) else {
+        return Ok(None);
+    };
+    match pick(trial, (PART * most.number).min(1.0)) {
+        Some((group, candidate)) => {
+            note_flips(trial, group)?;
+            Ok(Some(candidate.column))
+        }
+        None => Ok(None),
+    }
+}

@@ -1,0 +1,83 @@
+// The basis that a run in floats ends with, for who solves for it exactly.
+ghost use Rattle.std.specs.Prelude.{◌≡◌, ◌+◌, IfOk, IfSome, length};
+ghost use Rattle.spec_model.specs.Model.{width, height};
+
+use crate::model::program_of;
+use crate::program::Program;
+use crate::runs::{FloatEnd, logical_start, run};
+use crate::state::status_at;
+use lp_model::Model;
+use spec_pivot::Status;
+use std::alloc::{AllocError, Global};
+
+// How many steps a run takes at most: so many for each column, structural or logical, and so many more.
+const STEPS_EACH: u64 = 20;
+
+const MORE_STEPS: u64 = 1000;
+
+// How many columns the steps of a run go over at most, in all: about an hour of them.
+const WORK: u64 = 30_000_000_000;
+
+// How many steps a run takes at most.
+fn effort(program: &Program) -> u64 {
+    let columns = (program.len() as u64).max(1);
+    let steps = columns
+        .saturating_mul(STEPS_EACH)
+        .saturating_add(MORE_STEPS);
+    steps.min(WORK / columns)
+}
+
+// A status for each column and each row of a model: those given, and basic ones where they end.
+fn fitted(alloc: Global, model: &Model, statuses: &[Status]) -> Result<Vec<Status>, AllocError>
+    ensures { IfOk result (λ l. length l.items ≡ width model.now + height model.now) }
+{
+    let mut list = Vec::new(alloc);
+    for k in 0..model.cols() + model.rows() {
+        list.push(status_at(statuses, k as usize))?;
+    }
+    Ok(list)
+}
+
+// The end of a run from these statuses, or from the logical basis, if it has one.
+fn end_from(
+    alloc: Global,
+    program: &Program,
+    start: Option<&[Status]>,
+) -> Result<Option<FloatEnd>, AllocError> {
+    match start {
+        Some(statuses) => run(alloc, program, statuses, effort(program)),
+        None => {
+            let statuses = logical_start(alloc, program)?;
+            run(alloc, program, &statuses, effort(program))
+        }
+    }
+}
+
+/// The end of a run of the simplex method in floats: a status for each column of the model and then one for the logical
+/// column of each row, and the column by which there is no optimum, if there is none. It begins with the statuses of
+/// `start`, which may be those of no basis, or else with the basis of the logical columns.
+///
+/// The basis is likely one that is optimal; or one whose row at the basic column that is named shows that no point is
+/// feasible; or one from which the other column that is named goes on for ever, at ever less cost. There is no end where the
+/// run finds none of these. Nothing is claimed of an end: it may be another one, or its basis singular, and who uses it
+/// solves for it exactly.
+///
+/// The effort is bounded: a run takes at most 1,000 steps and 20 more for each column and row, and fewer where these many
+/// steps times the columns and rows are past 30,000,000,000. As often at most, in each of its parts, a step is tried anew
+/// with new factors. Only want of memory is an error.
+pub fn float_end(
+    alloc: Global,
+    model: &Model,
+    start: Option<&[Status]>,
+) -> Result<Option<FloatEnd>, AllocError>
+    ensures { IfOk result (λ o. IfSome o (λ e. length e.statuses.items ≡ width model.now + height model.now)) }
+{
+    let program = program_of(alloc, model)?;
+    match end_from(alloc, &program, start)? {
+        Some(end) => Ok(Some(FloatEnd {
+            statuses: fitted(alloc, model, &end.statuses)?,
+            witness: end.witness,
+        })),
+        None => Ok(None),
+    }
+}

@@ -1,0 +1,33 @@
+//! A guess of how a linear program is solved: the simplex method in floats, with sparse factors.
+//!
+//! | Item | What it is | Where |
+//! |---|---|---|
+//! | `float_end`, `FloatEnd` | how a run for a model ends: its statuses, and why there is no optimum | src/guess, src/runs |
+//! | `Program`, `program_of` | a program in floats, scaled; that of a model | src/program, src/model, src/scaling |
+//! | `run`, `logical_start` | a run from a basis to its end; the basis of the logical columns | src/runs |
+//! | `run_dual` | the dual method, by the steepest edge | src/dual, src/dual_ratio |
+//! | `run_primal` | the primal method, by the weights of Devex | src/primal, src/primal_ratio |
+//! | `State` | the basis, the values and the reduced costs of a run | src/state, src/rebuild |
+//! | `Basis` | the factors of a basis, with the product form of what changed since | src/basis |
+//! | `Lines` | sparse lines | src/lines |
+//!
+//! Nothing is claimed of what a run finds, but that it is safe and ends: who uses a basis solves for it exactly.
+#![tactic(auto)]
+
+mod basis;
+mod dual;
+mod dual_ratio;
+mod guess;
+mod lines;
+mod model;
+mod number;
+mod primal;
+mod primal_ratio;
+mod program;
+mod rebuild;
+mod runs;
+mod scaling;
+mod state;
+
+pub use guess::float_end;
+pub use runs::FloatEnd;

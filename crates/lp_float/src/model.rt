@@ -1,0 +1,125 @@
+// Programs of models.
+use crate::lines::{Lines, turned};
+use crate::program::Program;
+use crate::scaling::scale;
+use lp_frac::{Frac, Past, den, is_negative, num};
+use lp_model::{Model, lower_limit, upper_limit};
+use spec_model::Sense;
+use std::alloc::{AllocError, Global};
+use std::num::nearest_u64_to_f64;
+
+// 2^64.
+const WORD: f64 = 18446744073709551616.0;
+
+// The float near a magnitude.
+fn near(n: u128) -> f64 {
+    let high = (n >> 64) as u64;
+    let low = (n & 0xffff_ffff_ffff_ffff) as u64;
+    nearest_u64_to_f64(high) * WORD + nearest_u64_to_f64(low)
+}
+
+// The float near a fraction.
+fn float(v: Frac) -> f64 {
+    let magnitude = near(num(v).unsigned_abs()) / near(den(v).unsigned_abs());
+    if is_negative(v) {
+        -magnitude
+    } else {
+        magnitude
+    }
+}
+
+// A bound, or what stands for none.
+fn bound_or(bound: Option<Frac>, none: f64) -> f64 {
+    match bound {
+        Some(bound) => float(bound),
+        None => none,
+    }
+}
+
+// The cost in the least sense.
+fn signed(sense: Sense, cost: f64) -> f64 {
+    match sense {
+        Sense::Min => cost,
+        Sense::Max => -cost,
+    }
+}
+
+// A program with no columns yet.
+fn empty_program(alloc: Global, model: &Model) -> Program {
+    Program {
+        rows: model.rows() as usize,
+        cols: model.cols() as usize,
+        columns: Lines::new(alloc),
+        by_rows: Lines::new(alloc),
+        lower: Vec::new(alloc),
+        upper: Vec::new(alloc),
+        cost: Vec::new(alloc),
+    }
+}
+
+// Adds a column's bounds and its cost.
+fn add_column(program: &mut Program, lower: f64, upper: f64, cost: f64) -> Result<(), AllocError> {
+    program.lower.push(lower)?;
+    program.upper.push(upper)?;
+    program.cost.push(cost)?;
+    Ok(())
+}
+
+// Adds the bounds and the costs of the structural columns.
+fn add_columns(program: &mut Program, model: &Model) -> Result<(), AllocError> {
+    for j in 0..model.cols() {
+        let column = model.col(j);
+        let lower = bound_or(column.lower, f64::NEG_INFINITY);
+        let upper = bound_or(column.upper, f64::INFINITY);
+        let cost = signed(model.sense(), float(column.cost));
+        add_column(program, lower, upper, cost)?;
+    }
+    Ok(())
+}
+
+// A limit, none where it is past 127 bits.
+fn unless_past(limit: Result<Option<Frac>, Past>) -> Option<Frac> {
+    match limit {
+        Ok(limit) => limit,
+        Err(_) => None,
+    }
+}
+
+// Adds the limits of the rows as bounds of the logical columns.
+fn add_rows(program: &mut Program, model: &Model) -> Result<(), AllocError> {
+    for i in 0..model.rows() {
+        let row = model.row(i);
+        let lower = bound_or(unless_past(lower_limit(row)), f64::NEG_INFINITY);
+        let upper = bound_or(unless_past(upper_limit(row)), f64::INFINITY);
+        add_column(program, lower, upper, 0.0)?;
+    }
+    Ok(())
+}
+
+// Puts the numbers of a column into a line.
+fn put_line(lines: &mut Lines, entries: &[(u32, Frac)]) -> Result<(), AllocError> {
+    for (i, number) in entries {
+        lines.put(*i as usize, float(*number))?;
+    }
+    lines.end()
+}
+
+// The numbers of the structural columns.
+fn lines_of(alloc: Global, model: &Model) -> Result<Lines, AllocError> {
+    let mut lines = Lines::new(alloc);
+    for j in 0..model.cols() {
+        put_line(&mut lines, model.entries(j))?;
+    }
+    Ok(lines)
+}
+
+/// The program of a model in floats, scaled by powers of two. A model that asks for the most has its costs negated.
+pub(crate) fn program_of(alloc: Global, model: &Model) -> Result<Program, AllocError> {
+    let mut program = empty_program(alloc, model);
+    add_columns(&mut program, model)?;
+    add_rows(&mut program, model)?;
+    program.columns = lines_of(alloc, model)?;
+    program.by_rows = turned(alloc, &program.columns, program.rows)?;
+    scale(alloc, &mut program)?;
+    Ok(program)
+}

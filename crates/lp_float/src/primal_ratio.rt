@@ -1,0 +1,94 @@
+// How far the entering column goes by the primal method: Harris' ratio test.
+use crate::number::at;
+use crate::state::State;
+use spec_pivot::Status;
+
+// A rate that is none.
+const NO_RATE: f64 = 1e-9;
+
+/// The position that blocks, how far the entering column goes until then, and the bound that the leaving one is at.
+#[derive(Clone, Copy)]
+pub(crate) struct Block {
+    pub(crate) place: usize,
+    pub(crate) step: f64,
+    pub(crate) to: Status,
+}
+
+// The bound that stops a column that goes up, and how far it is off. One that is below its bounds goes through to the upper
+// one, if it has that.
+fn goal_above(state: &State, k: usize) -> Option<(f64, Status)> {
+    let value = at(&state.value, k);
+    let upper = at(&state.upper, k);
+    let lower = at(&state.lower, k);
+    if upper < f64::INFINITY {
+        if value <= upper + state.limits.primal {
+            Some((upper - value, Status::AtUpper))
+        } else {
+            None
+        }
+    } else if value < lower - state.limits.primal {
+        Some((lower - value, Status::AtLower))
+    } else {
+        None
+    }
+}
+
+// The same for a column that goes down.
+fn goal_below(state: &State, k: usize) -> Option<(f64, Status)> {
+    let value = at(&state.value, k);
+    let upper = at(&state.upper, k);
+    let lower = at(&state.lower, k);
+    if lower > f64::NEG_INFINITY {
+        if value >= lower - state.limits.primal {
+            Some((value - lower, Status::AtLower))
+        } else {
+            None
+        }
+    } else if value > upper + state.limits.primal {
+        Some((value - upper, Status::AtUpper))
+    } else {
+        None
+    }
+}
+
+// The bound that stops a basic column at this rate, and how far it is off.
+fn goal(state: &State, k: usize, rate: f64) -> Option<(f64, Status)> {
+    if rate > NO_RATE {
+        goal_above(state, k)
+    } else if rate < -NO_RATE {
+        goal_below(state, k)
+    } else {
+        None
+    }
+}
+
+// How far the entering column may go, with the bounds a little wider.
+fn reach(state: &State, way: f64) -> f64 {
+    let mut least = f64::INFINITY;
+    for (p, k) in state.basis.head.iter().enumerate() {
+        let rate = -(way * at(&state.room.column, p));
+        if let Some((off, _)) = goal(state, *k, rate) {
+            let room = off.max(0.0) + state.limits.primal;
+            least = (room / rate.abs()).min(least);
+        }
+    }
+    least
+}
+
+/// The position that blocks, if one does: that with the greatest rate of those within reach.
+pub(crate) fn blocking(state: &State, way: f64) -> Option<Block> {
+    let reach = reach(state, way);
+    let mut found = None;
+    let mut most = 0.0;
+    for (place, k) in state.basis.head.iter().enumerate() {
+        let rate = -(way * at(&state.room.column, place));
+        if let Some((off, to)) = goal(state, *k, rate) {
+            if rate.abs() > most && off <= reach * rate.abs() {
+                let step = (off / rate.abs()).max(0.0);
+                found = Some(Block { place, step, to });
+                most = rate.abs();
+            }
+        }
+    }
+    found
+}

@@ -1,0 +1,328 @@
+// Whole runs.
+use crate::dual::{DualEnd, run_dual};
+use crate::number::{at, copy, fill, greatest, mixed, put};
+use crate::primal::{PrimalEnd, run_primal};
+use crate::program::Program;
+use crate::rebuild::{evaluate, reduce};
+use crate::state::{Limits, State, resting, state_at, status_at};
+use spec_pivot::Status;
+use std::alloc::{AllocError, Global};
+
+// The tolerances of a run, and of its last part.
+const LIMITS: Limits = Limits {
+    primal: 1e-7,
+    dual: 1e-7,
+};
+
+const TIGHT: Limits = Limits {
+    primal: 1e-9,
+    dual: 1e-9,
+};
+
+// How often the dual and then the primal method are run.
+const ROUNDS: u32 = 5;
+
+// How far costs are moved apart, beside 1, and beside the greatest.
+const APART: f64 = 5e-7;
+
+// How a run ended.
+#[derive(Clone, Copy)]
+enum Kind {
+    /// The basis is optimal.
+    Optimal,
+    /// Nothing brings this basic column within its bounds. None is named where the sum of infeasibilities is least.
+    Infeasible(Option<usize>),
+    /// All are within their bounds, and nothing stops this column.
+    Unbounded(usize),
+    /// The effort is spent, or the numbers are of no use.
+    GivenUp,
+}
+
+/// The end of a run in floats.
+pub struct FloatEnd {
+    /// Where each column stands, the structural ones first and then the logical one of each row.
+    pub statuses: Vec<Status>,
+    /// The column by which there is no optimum: a basic one that nothing brings within its bounds, or another one that
+    /// nothing stops. There is none at an optimum.
+    pub witness: Option<usize>,
+}
+
+impl Drop for FloatEnd {
+    fn drop(self) {
+        let FloatEnd {
+            statuses,
+            witness: _,
+        } = self;
+        drop(statuses);
+    }
+}
+
+// The status that a column begins with.
+fn first_status(program: &Program, k: usize) -> Status {
+    let lower = at(&program.lower, k);
+    let upper = at(&program.upper, k);
+    if program.is_logical(k) {
+        Status::Basic
+    } else if lower.abs() <= upper.abs() {
+        resting(Status::AtLower, lower, upper)
+    } else {
+        resting(Status::AtUpper, lower, upper)
+    }
+}
+
+/// The basis of the logical columns.
+pub(crate) fn logical_start(alloc: Global, program: &Program) -> Result<Vec<Status>, AllocError> {
+    let mut list = Vec::with_capacity(alloc, program.len())?;
+    for k in 0..program.len() {
+        list.push(first_status(program, k))?;
+    }
+    Ok(list)
+}
+
+// How far the cost of a column is moved, by a part of the costs.
+fn shift_of(program: &Program, k: usize, base: f64, seed: u64) -> f64 {
+    let lower = at(&program.lower, k);
+    let upper = at(&program.upper, k);
+    let cost = at(&program.cost, k);
+    let by = (cost.abs() + 1.0) * base * (1.0 + mixed(seed.wrapping_add(k as u64)));
+    let has_lower = lower > f64::NEG_INFINITY;
+    let has_upper = upper < f64::INFINITY;
+    if lower == upper || program.is_logical(k) || !(has_lower || has_upper) {
+        0.0
+    } else if has_lower && (!has_upper || cost >= 0.0) {
+        by
+    } else {
+        -by
+    }
+}
+
+// Moves the costs a little apart, away from where reduced costs would be wrong.
+fn perturb(state: &mut State, program: &Program, seed: u64) {
+    let most = greatest(&program.cost);
+    let scale = if most > 100.0 {
+        (10.0 * most.sqrt()).sqrt()
+    } else {
+        most.max(1.0)
+    };
+    for k in 0..program.len() {
+        let cost = at(&program.cost, k) + shift_of(program, k, APART * scale, seed);
+        put(&mut state.cost, k, cost);
+    }
+}
+
+// The box in place of bounds.
+fn box_of(lower: f64, upper: f64) -> (f64, f64) {
+    match (lower > f64::NEG_INFINITY, upper < f64::INFINITY) {
+        (true, true) => (0.0, 0.0),
+        (true, false) => (0.0, 1.0),
+        (false, true) => (-1.0, 0.0),
+        (false, false) => (-1000.0, 1000.0),
+    }
+}
+
+// Puts boxes in place of the bounds: where a basis is optimal in them at 0, its reduced costs are right without them.
+fn put_boxes(state: &mut State, program: &Program) {
+    for k in 0..program.len() {
+        let (lower, upper) = box_of(at(&program.lower, k), at(&program.upper, k));
+        put(&mut state.lower, k, lower);
+        put(&mut state.upper, k, upper);
+    }
+}
+
+// Puts the bounds back.
+fn put_bounds(state: &mut State, program: &Program) {
+    copy(&mut state.lower, &program.lower);
+    copy(&mut state.upper, &program.upper);
+}
+
+// Puts a column that is not basic where its reduced cost wants it.
+fn settle_by_cost(state: &mut State, k: usize) {
+    let reduced = at(&state.reduced, k);
+    let wanted = if reduced > 0.0 {
+        Status::AtLower
+    } else if reduced < 0.0 {
+        Status::AtUpper
+    } else {
+        status_at(&state.status, k)
+    };
+    state.settle(k, wanted);
+}
+
+// Puts all columns that are not basic there.
+fn settle_all(state: &mut State) {
+    for k in 0..state.status.len() {
+        if !state.is_basic(k) {
+            settle_by_cost(state, k);
+        }
+    }
+}
+
+// Finds a basis whose reduced costs are right, in boxes.
+fn first_phase(
+    alloc: Global,
+    state: &mut State,
+    program: &Program,
+    effort: u64,
+) -> Result<(), AllocError> {
+    put_boxes(state, program);
+    settle_all(state);
+    let _ = run_dual(alloc, state, program, effort)?;
+    put_bounds(state, program);
+    settle_all(state);
+    evaluate(state, program);
+    Ok(())
+}
+
+// Begins with costs moved apart, and a basis whose reduced costs are right if one is found.
+fn begin(
+    alloc: Global,
+    state: &mut State,
+    program: &Program,
+    effort: u64,
+) -> Result<(), AllocError> {
+    perturb(state, program, 0);
+    reduce(state, program);
+    settle_all(state);
+    evaluate(state, program);
+    if state.most_wrong() > state.limits.dual {
+        first_phase(alloc, state, program, effort)?;
+    }
+    Ok(())
+}
+
+// Finds a column that nothing brings within its bounds, where the sum of infeasibilities is least: the dual method with no
+// costs.
+fn blocked(
+    alloc: Global,
+    state: &mut State,
+    program: &Program,
+    effort: u64,
+) -> Result<Option<Kind>, AllocError> {
+    fill(&mut state.cost, 0.0);
+    match run_dual(alloc, state, program, effort)? {
+        DualEnd::Blocked(k) => Ok(Some(Kind::Infeasible(Some(k)))),
+        DualEnd::Feasible | DualEnd::Spent | DualEnd::Lost => Ok(Some(Kind::Infeasible(None))),
+    }
+}
+
+// Ends with the costs as they are, by the primal method where reduced costs are wrong then.
+fn finish(
+    alloc: Global,
+    state: &mut State,
+    program: &Program,
+    is_feasible: bool,
+    effort: u64,
+) -> Result<Option<Kind>, AllocError> {
+    copy(&mut state.cost, &program.cost);
+    reduce(state, program);
+    if is_feasible && state.most_wrong() <= state.limits.dual {
+        return Ok(Some(Kind::Optimal));
+    }
+    match run_primal(alloc, state, program, effort)? {
+        PrimalEnd::Optimal => Ok(Some(Kind::Optimal)),
+        PrimalEnd::Unbounded(k) => Ok(Some(Kind::Unbounded(k))),
+        PrimalEnd::Infeasible => blocked(alloc, state, program, effort),
+        PrimalEnd::Spent => Ok(Some(Kind::GivenUp)),
+        PrimalEnd::Lost => Ok(None),
+    }
+}
+
+// One round of the dual method and what is left then. There is no end where the numbers were of no use.
+fn round(
+    alloc: Global,
+    state: &mut State,
+    program: &Program,
+    effort: u64,
+) -> Result<Option<Kind>, AllocError> {
+    match run_dual(alloc, state, program, effort)? {
+        DualEnd::Blocked(k) => Ok(Some(Kind::Infeasible(Some(k)))),
+        DualEnd::Spent => Ok(Some(Kind::GivenUp)),
+        DualEnd::Feasible => finish(alloc, state, program, true, effort),
+        DualEnd::Lost => finish(alloc, state, program, false, effort),
+    }
+}
+
+// Runs rounds until there is an end.
+fn rounds(
+    alloc: Global,
+    state: &mut State,
+    program: &Program,
+    effort: u64,
+) -> Result<Kind, AllocError> {
+    for _ in 0..ROUNDS {
+        if let Some(kind) = round(alloc, state, program, effort)? {
+            return Ok(kind);
+        }
+    }
+    Ok(Kind::GivenUp)
+}
+
+// Runs once more with tight tolerances. Whether that ends at an optimum.
+fn polish(
+    alloc: Global,
+    state: &mut State,
+    program: &Program,
+    effort: u64,
+) -> Result<bool, AllocError> {
+    state.limits = TIGHT;
+    match round(alloc, state, program, effort)? {
+        Some(Kind::Optimal) => Ok(true),
+        Some(_) | None => Ok(false),
+    }
+}
+
+// The statuses at the end of a kind: at an optimum those with tight tolerances, if that is reached.
+fn last_statuses(
+    alloc: Global,
+    state: &mut State,
+    program: &Program,
+    kind: Kind,
+    effort: u64,
+) -> Result<Vec<Status>, AllocError> {
+    let statuses = Vec::from_slice(alloc, &state.status)?;
+    let is_optimal = matches!(kind, Kind::Optimal);
+    if is_optimal && polish(alloc, state, program, effort)? {
+        return Vec::from_slice(alloc, &state.status);
+    }
+    Ok(statuses)
+}
+
+// The column by which there is no optimum, if one is named.
+fn witness_of(kind: Kind) -> Option<usize> {
+    match kind {
+        Kind::Infeasible(column) => column,
+        Kind::Unbounded(column) => Some(column),
+        Kind::Optimal | Kind::GivenUp => None,
+    }
+}
+
+// The end of a state that has begun, if it has one.
+fn end_of(
+    alloc: Global,
+    state: &mut State,
+    program: &Program,
+    effort: u64,
+) -> Result<Option<FloatEnd>, AllocError> {
+    let kind = rounds(alloc, state, program, effort)?;
+    if matches!(kind, Kind::GivenUp) {
+        return Ok(None);
+    }
+    Ok(Some(FloatEnd {
+        statuses: last_statuses(alloc, state, program, kind, effort)?,
+        witness: witness_of(kind),
+    }))
+}
+
+/// The end of a run of the simplex method in floats, if it has one. It begins at the basis of the given statuses, which is
+/// mended where it is none. Costs are moved apart at first, and reduced costs made right. A run takes at most `effort` steps,
+/// and as many tries in each part. Only want of memory is an error.
+pub(crate) fn run(
+    alloc: Global,
+    program: &Program,
+    start: &[Status],
+    effort: u64,
+) -> Result<Option<FloatEnd>, AllocError> {
+    let mut state = state_at(alloc, program, start, LIMITS)?;
+    begin(alloc, &mut state, program, effort)?;
+    end_of(alloc, &mut state, program, effort)
+}

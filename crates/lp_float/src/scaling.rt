@@ -1,0 +1,145 @@
+// Rows and columns scaled by powers of two.
+use crate::lines::Lines;
+use crate::number::{at, greatest};
+use crate::program::Program;
+use std::alloc::{AllocError, Global};
+
+// How often the rows and then the columns are scaled.
+const PASSES: u32 = 6;
+
+// How far from 1 a power of two may be.
+const DOUBLINGS: u32 = 400;
+
+// What the greatest cost is brought down to.
+const COST: f64 = 1024.0;
+
+// A power of two near a positive number.
+fn power_near(number: f64) -> f64 {
+    let mut power = 1.0;
+    for _ in 0..DOUBLINGS {
+        if power * 1.5 < number {
+            power *= 2.0;
+        } else if power * 0.75 > number {
+            power *= 0.5;
+        } else {
+            return power;
+        }
+    }
+    power
+}
+
+// The factor that brings the numbers of a line around 1, each times the factor of its index.
+fn line_factor(line: &[(usize, f64)], factors: &[f64]) -> f64 {
+    let mut least = f64::INFINITY;
+    let mut most = 0.0;
+    for (k, number) in line {
+        let magnitude = (*number * at(factors, *k)).abs();
+        if magnitude > 0.0 {
+            least = magnitude.min(least);
+            most = magnitude.max(most);
+        }
+    }
+    if most > 0.0 {
+        1.0 / (least.sqrt() * most.sqrt())
+    } else {
+        1.0
+    }
+}
+
+// Finds the factors of lines from those of their indices.
+fn find_factors(lines: &Lines, factors: &mut [f64], others: &[f64]) {
+    for (k, factor) in factors.iter_mut().enumerate() {
+        *factor = line_factor(lines.line(k), others);
+    }
+}
+
+// Puts powers of two in place of factors.
+fn round(factors: &mut [f64]) {
+    for factor in factors.iter_mut() {
+        *factor = power_near(*factor);
+    }
+}
+
+// Puts the numbers of a line into lines, each times two factors.
+fn put_line(
+    lines: &mut Lines,
+    line: &[(usize, f64)],
+    times: f64,
+    factors: &[f64],
+) -> Result<(), AllocError> {
+    for (k, number) in line {
+        lines.put(*k, *number * at(factors, *k) * times)?;
+    }
+    lines.end()
+}
+
+// The lines, each number times the factors of its line and of its index.
+fn multiplied(
+    alloc: Global,
+    lines: &Lines,
+    own: &[f64],
+    factors: &[f64],
+) -> Result<Lines, AllocError> {
+    let mut list = Lines::new(alloc);
+    for (k, times) in own.iter().enumerate() {
+        put_line(&mut list, lines.line(k), *times, factors)?;
+    }
+    Ok(list)
+}
+
+// Scales the bounds and the cost of a column whose values are divided by a power of two.
+fn scale_column(program: &mut Program, k: usize, times: f64) {
+    if let Some(bound) = program.lower.get_mut(k) {
+        *bound /= times;
+    }
+    if let Some(bound) = program.upper.get_mut(k) {
+        *bound /= times;
+    }
+    if let Some(cost) = program.cost.get_mut(k) {
+        *cost *= times;
+    }
+}
+
+// Scales the structural columns.
+fn scale_structural(program: &mut Program, factors: &[f64]) {
+    for (k, times) in factors.iter().enumerate() {
+        scale_column(program, k, *times);
+    }
+}
+
+// Scales the logical columns with their rows.
+fn scale_logical(program: &mut Program, factors: &[f64]) {
+    for (i, times) in factors.iter().enumerate() {
+        let k = program.logical(i);
+        scale_column(program, k, 1.0 / *times);
+    }
+}
+
+// Brings great costs down.
+fn scale_costs(program: &mut Program) {
+    let most = greatest(&program.cost);
+    if most > COST {
+        let times = power_near(COST / most);
+        for cost in program.cost.iter_mut() {
+            *cost *= times;
+        }
+    }
+}
+
+/// Scales a program, so that the magnitudes of its numbers come near 1, and its costs.
+pub(crate) fn scale(alloc: Global, program: &mut Program) -> Result<(), AllocError> {
+    let mut rows = Vec::from_elem(alloc, 1.0, program.rows)?;
+    let mut cols = Vec::from_elem(alloc, 1.0, program.cols)?;
+    for _ in 0..PASSES {
+        find_factors(&program.by_rows, &mut rows, &cols);
+        find_factors(&program.columns, &mut cols, &rows);
+    }
+    round(&mut rows);
+    round(&mut cols);
+    program.columns = multiplied(alloc, &program.columns, &cols, &rows)?;
+    program.by_rows = multiplied(alloc, &program.by_rows, &rows, &cols)?;
+    scale_structural(program, &cols);
+    scale_logical(program, &rows);
+    scale_costs(program);
+    Ok(())
+}

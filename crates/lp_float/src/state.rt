@@ -1,0 +1,348 @@
+// The state of a run.
+use crate::basis::{Basis, NOWHERE, basis_of};
+use crate::number::{at, index_at, put};
+use crate::program::Program;
+use spec_pivot::Status;
+use std::alloc::{AllocError, Global};
+
+/// The basis of a run, its bounds and costs, its values and reduced costs, by column, and room for its steps.
+pub(crate) struct State {
+    pub(crate) lower: Vec<f64>,
+    pub(crate) upper: Vec<f64>,
+    pub(crate) cost: Vec<f64>,
+    pub(crate) value: Vec<f64>,
+    pub(crate) reduced: Vec<f64>,
+    pub(crate) status: Vec<Status>,
+    pub(crate) basis: Basis,
+    /// The weights of the dual method, by position, and those of the primal one, by column.
+    pub(crate) weight: Vec<f64>,
+    pub(crate) reference: Vec<f64>,
+    pub(crate) room: Room,
+    pub(crate) limits: Limits,
+    pub(crate) steps: u64,
+}
+
+/// Room for the steps of a run.
+pub(crate) struct Room {
+    /// By row: the row of the inverse at the leaving position.
+    pub(crate) inverse_row: Vec<f64>,
+    /// By column: the row of the tableau at the leaving position, and which columns are not 0 there.
+    pub(crate) row: Vec<f64>,
+    pub(crate) touched: Vec<usize>,
+    /// By position: the square of how far the value is outside, 0 where that is within the tolerance.
+    pub(crate) outside: Vec<f64>,
+    /// By position: the entering column, solved, and another solution.
+    pub(crate) column: Vec<f64>,
+    pub(crate) other: Vec<f64>,
+    /// Right sides by row and by position.
+    pub(crate) by_row: Vec<f64>,
+    pub(crate) by_place: Vec<f64>,
+    /// By row: multipliers.
+    pub(crate) multiplier: Vec<f64>,
+}
+
+/// How far values may be outside of their bounds, and reduced costs on the wrong side of 0.
+#[derive(Clone, Copy)]
+pub(crate) struct Limits {
+    pub(crate) primal: f64,
+    pub(crate) dual: f64,
+}
+
+impl Drop for Room {
+    fn drop(self) {
+        let Room {
+            inverse_row,
+            row,
+            touched,
+            outside,
+            column,
+            other,
+            by_row,
+            by_place,
+            multiplier,
+        } = self;
+        drop(inverse_row);
+        drop(row);
+        drop(touched);
+        drop(outside);
+        drop(column);
+        drop(other);
+        drop(by_row);
+        drop(by_place);
+        drop(multiplier);
+    }
+}
+
+impl Drop for State {
+    fn drop(self) {
+        let State {
+            lower,
+            upper,
+            cost,
+            value,
+            reduced,
+            status,
+            basis,
+            weight,
+            reference,
+            room,
+            limits: _,
+            steps: _,
+        } = self;
+        drop(lower);
+        drop(upper);
+        drop(cost);
+        drop(value);
+        drop(reduced);
+        drop(status);
+        drop(basis);
+        drop(weight);
+        drop(reference);
+        drop(room);
+    }
+}
+
+/// Whether a status is that of a basic column.
+#[inline(always)]
+pub(crate) fn is_basic(status: Status) -> bool {
+    matches!(status, Status::Basic)
+}
+
+/// The status of a column, basic where there is none.
+#[inline(always)]
+pub(crate) fn status_at(list: &[Status], k: usize) -> Status {
+    match list.get(k) {
+        Some(status) => *status,
+        None => Status::Basic,
+    }
+}
+
+/// Puts a status at `k`, if the list is that long.
+#[inline(always)]
+pub(crate) fn put_status(list: &mut [Status], k: usize, status: Status) {
+    if let Some(place) = list.get_mut(k) {
+        *place = status;
+    }
+}
+
+// The basic columns of statuses, at most as many as there are rows.
+fn basic_columns(
+    alloc: Global,
+    program: &Program,
+    status: &[Status],
+) -> Result<Vec<usize>, AllocError> {
+    let mut head = Vec::with_capacity(alloc, program.rows)?;
+    for (k, status) in status.iter().enumerate() {
+        if is_basic(*status) && head.len() < program.rows {
+            head.push(k)?;
+        }
+    }
+    Ok(head)
+}
+
+// As many columns as there are rows: the basic ones of statuses, and logical ones where they are too few.
+fn head_of(alloc: Global, program: &Program, status: &[Status]) -> Result<Vec<usize>, AllocError> {
+    let mut head = basic_columns(alloc, program, status)?;
+    for i in 0..program.rows {
+        let k = program.logical(i);
+        if head.len() < program.rows && !is_basic(status_at(status, k)) {
+            head.push(k)?;
+        }
+    }
+    Ok(head)
+}
+
+/// The status of a column that is not basic: the wanted one, if it has that bound.
+pub(crate) fn resting(wanted: Status, lower: f64, upper: f64) -> Status {
+    let has_lower = lower > f64::NEG_INFINITY;
+    let has_upper = upper < f64::INFINITY;
+    if has_upper && (matches!(wanted, Status::AtUpper) || !has_lower) {
+        Status::AtUpper
+    } else if has_lower {
+        Status::AtLower
+    } else {
+        Status::AtZero
+    }
+}
+
+// Room for a program.
+fn room_for(alloc: Global, program: &Program) -> Result<Room, AllocError> {
+    let rows = program.rows;
+    Ok(Room {
+        inverse_row: Vec::from_elem(alloc, 0.0, rows)?,
+        row: Vec::from_elem(alloc, 0.0, program.len())?,
+        touched: Vec::new(alloc),
+        outside: Vec::from_elem(alloc, 0.0, rows)?,
+        column: Vec::from_elem(alloc, 0.0, rows)?,
+        other: Vec::from_elem(alloc, 0.0, rows)?,
+        by_row: Vec::from_elem(alloc, 0.0, rows)?,
+        by_place: Vec::from_elem(alloc, 0.0, rows)?,
+        multiplier: Vec::from_elem(alloc, 0.0, rows)?,
+    })
+}
+
+// So many statuses: those given, and basic ones where they end.
+fn statuses(alloc: Global, program: &Program, start: &[Status]) -> Result<Vec<Status>, AllocError> {
+    let mut list = Vec::with_capacity(alloc, program.len())?;
+    for k in 0..program.len() {
+        list.push(status_at(start, k))?;
+    }
+    Ok(list)
+}
+
+/// A state at a basis of a program, before it is rebuilt.
+pub(crate) fn state_at(
+    alloc: Global,
+    program: &Program,
+    start: &[Status],
+    limits: Limits,
+) -> Result<State, AllocError> {
+    let head = head_of(alloc, program, start)?;
+    let mut state = State {
+        lower: Vec::from_slice(alloc, &program.lower)?,
+        upper: Vec::from_slice(alloc, &program.upper)?,
+        cost: Vec::from_slice(alloc, &program.cost)?,
+        value: Vec::from_elem(alloc, 0.0, program.len())?,
+        reduced: Vec::from_elem(alloc, 0.0, program.len())?,
+        status: statuses(alloc, program, start)?,
+        basis: basis_of(alloc, program, head)?,
+        weight: Vec::from_elem(alloc, 1.0, program.rows)?,
+        reference: Vec::from_elem(alloc, 1.0, program.len())?,
+        room: room_for(alloc, program)?,
+        limits,
+        steps: 0,
+    };
+    mark_basic(&mut state);
+    Ok(state)
+}
+
+impl State {
+    /// Whether a column is basic.
+    #[inline(always)]
+    pub(crate) fn is_basic(&self, k: usize) -> bool {
+        is_basic(status_at(&self.status, k))
+    }
+
+    /// How far a value is outside of its bounds, below 0 where it is below the lower one.
+    #[inline(always)]
+    pub(crate) fn outside(&self, k: usize) -> f64 {
+        let value = at(&self.value, k);
+        let lower = at(&self.lower, k);
+        let upper = at(&self.upper, k);
+        if value < lower {
+            value - lower
+        } else if value > upper {
+            value - upper
+        } else {
+            0.0
+        }
+    }
+
+    /// How far a reduced cost is on the wrong side of 0, at most 0 where it is not.
+    #[inline(always)]
+    pub(crate) fn wrong(&self, k: usize) -> f64 {
+        let reduced = at(&self.reduced, k);
+        if at(&self.lower, k) == at(&self.upper, k) {
+            return 0.0;
+        }
+        match status_at(&self.status, k) {
+            Status::Basic => 0.0,
+            Status::AtLower => -reduced,
+            Status::AtUpper => reduced,
+            Status::AtZero => reduced.abs(),
+        }
+    }
+
+    /// Notes how far the value at a position is outside.
+    #[inline(always)]
+    pub(crate) fn note_outside(&mut self, place: usize) {
+        let outside = self.outside(index_at(&self.basis.head, place));
+        let square = if outside.abs() > self.limits.primal {
+            outside * outside
+        } else {
+            0.0
+        };
+        put(&mut self.room.outside, place, square);
+    }
+
+    /// How far apart the bounds of a column are.
+    #[inline(always)]
+    pub(crate) fn range(&self, k: usize) -> f64 {
+        at(&self.upper, k) - at(&self.lower, k)
+    }
+
+    /// Puts a column that is not basic at a bound, at the wanted one if it has that.
+    pub(crate) fn settle(&mut self, k: usize, wanted: Status) {
+        let lower = at(&self.lower, k);
+        let upper = at(&self.upper, k);
+        let status = resting(wanted, lower, upper);
+        let value = match status {
+            Status::AtLower => lower,
+            Status::AtUpper => upper,
+            Status::AtZero | Status::Basic => 0.0,
+        };
+        put_status(&mut self.status, k, status);
+        put(&mut self.value, k, value);
+    }
+
+    /// Puts a column at the other bound.
+    pub(crate) fn turn(&mut self, k: usize) {
+        match status_at(&self.status, k) {
+            Status::AtUpper => self.settle(k, Status::AtLower),
+            Status::AtLower | Status::AtZero | Status::Basic => self.settle(k, Status::AtUpper),
+        }
+    }
+
+    /// The greatest magnitude by which a value is outside.
+    pub(crate) fn most_outside(&self) -> f64 {
+        let mut most = 0.0;
+        for k in 0..self.status.len() {
+            most = self.outside(k).abs().max(most);
+        }
+        most
+    }
+
+    /// The most that a reduced cost is wrong.
+    pub(crate) fn most_wrong(&self) -> f64 {
+        let mut most = 0.0;
+        for k in 0..self.status.len() {
+            most = self.wrong(k).max(most);
+        }
+        most
+    }
+}
+
+// Gives the columns the statuses of the basis, and those that are not basic the values of their bounds.
+fn mark_basic(state: &mut State) {
+    for k in 0..state.status.len() {
+        if index_at(&state.basis.place, k) != NOWHERE {
+            put_status(&mut state.status, k, Status::Basic);
+        } else {
+            let wanted = status_at(&state.status, k);
+            state.settle(k, wanted);
+        }
+    }
+}
+
+// Begins anew with the weights of positions whose columns are others than before.
+fn forget_weights(state: &mut State, before: &[usize]) {
+    for (p, k) in before.iter().enumerate() {
+        if index_at(&state.basis.head, p) != *k {
+            put(&mut state.weight, p, 1.0);
+        }
+    }
+}
+
+/// Makes the factors of the basis anew.
+pub(crate) fn refactor(
+    alloc: Global,
+    state: &mut State,
+    program: &Program,
+) -> Result<(), AllocError> {
+    let before = Vec::from_slice(alloc, &state.basis.head)?;
+    let columns = Vec::from_slice(alloc, &state.basis.head)?;
+    state.basis = basis_of(alloc, program, columns)?;
+    forget_weights(state, &before);
+    mark_basic(state);
+    Ok(())
+}
