@@ -1,2 +1,3 @@
 pub mod Guessed
 pub mod Prime
+pub mod Standing

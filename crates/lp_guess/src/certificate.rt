@@ -8,10 +8,10 @@ ghost use Rattle.spec_solve.specs.OfBasis.{IsOfBasis};
 ghost use Rattle.lp_guess.specs.Guessed.{IsGuessed};
 
 use crate::guess::{guess, ray, refutation};
-use crate::rough::{Moving, Rough, RoughEnd, is_basis, rough_end};
+use crate::rough::{Moving, Rough, RoughEnd, rough_end};
 use crate::stands::stand_at_basis;
 use lp_check::wide::Certificate;
-use lp_form::{Form, Status, StatusList};
+use lp_form::{Form, Status, StatusList, is_basis};
 use lp_frac::Frac;
 use lp_model::Model;
 use std::alloc::{AllocError, Global};
@@ -62,7 +62,7 @@ fn at_optimum(
     requires { form_of (Some number_limit) model.now ≡ Ok form.now }
     ensures { IfOk result (λ o. IfSome o (IsGuessed model.now form.now)) }
 {
-    if !is_basis(form, statuses.as_slice()) {
+    if !is_basis(form.as_large(), statuses.as_slice()) {
         drop(statuses);
         return Ok(None);
     }

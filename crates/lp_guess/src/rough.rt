@@ -3,7 +3,6 @@
 //! | Item | What it is | Where |
 //! |---|---|---|
 //! | `rough_end`, `Rough` | where the method ends, and with what | src/rough/rough |
-//! | `is_basis` | whether statuses are those of a basis | src/rough/fits |
 //! | `run` | the run: rounds of steps, each on a tableau that was just rebuilt | src/rough/run |
 //! | `Tableau`, `exchange`, `rebuild` | tableaus of columns that are not basic alone | src/rough/tableau |
 //! | `priced`, `blocked` | which column enters, and which leaves | src/rough/pricing, src/rough/ratio |
@@ -13,7 +12,6 @@
 //! The method is that for bounded variables (Chvátal, "Linear Programming", 1983, chapter 8), with the ratio test of Harris
 //! ("Pivot selection methods of the Devex LP code", 1973). Nothing is claimed of what it finds.
 
-mod fits;
 mod number;
 mod pricing;
 mod program;
@@ -23,6 +21,5 @@ mod run;
 mod scaling;
 mod tableau;
 
-pub(crate) use fits::is_basis;
 pub(crate) use rough::{Rough, RoughEnd, rough_end};
 pub(crate) use run::Moving;

@@ -1,23 +1,34 @@
 -- What an exact solve answers.
-use Rattle.std.proofs.Common.{◌≡◌, ℕ, List, Option, Some, None, Result, Ok, IfSome, sym, ◌∙◌, subst}
+use Rattle.std.proofs.Common.{◌≡◌, ℕ, List, Option, Some, None, Result, Ok, Err, IfSome, refl, sym, ◌∙◌, subst}
 use Rattle.spec_exact.specs.Fraction.{ℚ}
 use Rattle.spec_exact.specs.Narrow.{number_limit}
+use Rattle.spec_exact.specs.declared.past.Past.{Past}
 use Rattle.spec_model.specs.Model.{Model}
 use Rattle.spec_check.specs.declared.certificate.Certificate.{Certificate}
+use Rattle.spec_check.specs.declared.certificate.Certificate.TheVariants as certificate
 use Rattle.spec_check.specs.declared.certificate.Known.{Known}
+use Rattle.spec_check.specs.declared.certificate.Known.TheVariants as knows
 use Rattle.spec_check.specs.declared.solve_end.SolveEnd.TheVariants.{Ended}
+use Rattle.spec_check.specs.declared.solve_end.SolveEnd.TheVariants as outcome
 use Rattle.spec_pivot.specs.declared.status.Status.{Status}
 use Rattle.spec_simplex.specs.Eliminate.{IsBasisOf}
 use Rattle.spec_simplex.specs.Form.{Form, form_of}
 use Rattle.spec_runs.specs.Cold.{ExactSolveEnd}
-use Rattle.spec_runs.specs.Solve.{SolveEnd}
+use Rattle.spec_runs.specs.Solve.{SolveEnd, HasBasis}
+use Rattle.spec_runs.specs.Accepted.{IsAccepted}
+use Rattle.spec_runs.specs.declared.ends.Route.TheVariants as route
+use Rattle.spec_runs.proofs.ColdSolves.{clash_accepted}
 use Rattle.spec_solve.specs.Answers.{MayAnswer, IsSolved}
 use Rattle.spec_solve.specs.OfBasis.{IsOfBasis}
 use Rattle.spec_solve.specs.Order.{GivesUp}
-use Rattle.spec_solve.specs.Exact.{IsShown, IsBasisOfAnswer, MayGiveUp}
+use Rattle.spec_solve.specs.declared.exact.Origin.TheVariants.{Cold}
+use Rattle.spec_solve.specs.Exact.{IsShown, IsBasisOfAnswer, IsExactAnswer, MayGiveUp}
 use Rattle.spec_solve.proofs.ExactAnswers.{narrow_shown}
 use Rattle.spec_solve.proofs.Left.{solved_left}
 use Rattle.spec_simplex.specs.declared.ends.FormFault.{FormFault}
+use Rattle.spec_simplex.specs.declared.ends.FormFault.TheVariants as fault
+use Rattle.lp_solve.proofs.Allowed.{unhanded_solved}
+use Rattle.lp_solve.proofs.Solved.{formless}
 use Rattle.lp_guess.specs.declared.certificate.Guessed.{Guessed}
 use Rattle.lp_guess.specs.Guessed.{IsGuessed}
 
@@ -71,3 +82,33 @@ module _ (m : Model) (budget : ℕ) (starting : Option (List Status)) (solved : 
 
   pub gave_up : (end : ExactSolveEnd) → solved.end ≡ end → GivesUp end → MayGiveUp m budget starting
   gave_up end e up = (solved, is, subst GivesUp (sym e) up)
+
+-- ---- without a form
+
+-- bounds that clash are their own certificate
+pub clash_answers : (m : Model) (j : ℕ) → form_of (Some number_limit) m ≡ Err (fault.Clash j) →
+    IsExactAnswer m (record { known = knows.Infeasible; certificate = certificate.Clash j; basis = None; origin = Cold })
+clash_answers m j e =
+    let a : IsAccepted (Some number_limit) m (certificate.Clash j) = clash_accepted (Some number_limit) m j e in
+    ((a.fits, a.accepted, tt), tt)
+
+-- a solve at 127 bits may end with the operation that was refused
+pub refusal_gives_up : (m : Model) (budget : ℕ) (p : Past ℚ) → form_of (Some number_limit) m ≡ Err (fault.Past p) →
+    MayGiveUp m budget None
+refusal_gives_up m budget p h =
+    let solved : SolveEnd = record { end = outcome.Past p; route = route.Cold } in (
+      solved,
+      unhanded_solved budget m (outcome.Past p) solved refl
+          (formless (Some number_limit) budget m (fault.Past p) (outcome.Past p) h refl) tt,
+      tt,
+    )
+
+-- ---- from a basis of a form
+
+module _ (m : Model) (basis : List Status) (has : HasBasis (Some number_limit) m basis) where
+  pub basis_fits : (f : Form) → form_of (Some number_limit) m ≡ Ok f → IsBasisOf f basis
+  basis_fits f formed = subst (λ g. IsBasisOf g basis) (same_form m has.0 f has.1 formed) has.2
+
+  -- so the model has one
+  pub no_fault : (why : FormFault ℚ) → ¬ (form_of (Some number_limit) m ≡ Err why)
+  no_fault why h = let z : ◌≡◌ {A = Result Form (FormFault ℚ)} (Ok has.0) (Err why) = sym has.1 ∙ h in cc

@@ -1,6 +1,8 @@
 -- Numbers of which the numerator and the denominator take at most half a line.
 use Rattle.std.proofs.Common.{◌≡◌, ◌<◌, ◌^◌, ℕ, Bool, IsTrue, Ordering, nat_cmp, is_lt, unsigned_abs}
-use Rattle.std.proofs.Common.{refl, sym, subst, arith, List, Result, IfOk, All}
+use Rattle.std.proofs.Common.{refl, sym, subst, ap, ◌∙◌, suc, ◌+◌, ◌*◌, arith, List, Result, IfOk, All}
+use Rattle.std.proofs.lemmas.Nat.{pow-add}
+use Rattle.std.proofs.Math.Nat.{pow-suc, pow-zero}
 use Rattle.spec_exact.specs.Fraction.{ℚ}
 use Rattle.spec_check.specs.declared.certificate.Certificate.{Certificate}
 use Rattle.spec_check.specs.declared.certificate.Certificate.TheVariants.{Optimal, Infeasible, Unbounded}
@@ -11,14 +13,28 @@ use Rattle.lp_solve.specs.Lines.{half_line, line_power}
 pub below_from : (a b : ℕ) (o : Ordering) (t : Bool) → o ≡ nat_cmp a b → t ≡ is_lt o → IsTrue t → a < b
 below_from a b o t f g h = grind arith
 
--- so many steps make up the power
-pub power_is : 10000000000000000 ^ 500 ≡ line_power
+-- the first power
+pub first_is : (w v p : ℕ) → v ≡ w → p ≡ v → p ≡ w ^ (2 ^ 0)
+first_is w v p h k =
+    let first : w ^ suc 0 ≡ w ^ 0 * w = pow-suc w 0 in
+    let none : w ^ 0 ≡ 1 = pow-zero w in
+    k ∙ h ∙ sym (first ∙ ap (λ n. n * w) none ∙ omega arith)
+
+-- a power, squared
+pub square_is : (w i p q : ℕ) → p ≡ w ^ (2 ^ i) → q ≡ p * p → q ≡ w ^ (2 ^ (i + 1))
+square_is w i p q h k =
+    let twice : 2 ^ suc i ≡ 2 ^ i + 2 ^ i = pow-suc 2 i ∙ omega arith in
+    let next : i + 1 ≡ suc i = omega arith in
+    k ∙ ap (λ p. p * p) h ∙ sym (pow-add w (2 ^ i) (2 ^ i)) ∙ ap (λ n. w ^ n) (sym twice) ∙ ap (λ n. w ^ (2 ^ n)) (sym next)
+
+-- so many squarings make up the power
+pub power_is : 1000000000000000 ^ (2 ^ 9) ≡ line_power
 unfolding line_power half_line
 power_is = refl
 
 half : (v : ℚ) → unsigned_abs v.num < line_power → v.den < line_power → FitsLine v
 unfolding line_power half_line
-half v top bottom = (8000, 8000, top, bottom, omega arith)
+half v top bottom = (7680, 7680, top, bottom, omega arith)
 
 pub fits_of : (v : ℚ) (top bottom power : ℕ) → power ≡ line_power → top ≡ unsigned_abs v.num → bottom ≡ v.den →
     (top < power) × (bottom < power) → FitsLine v

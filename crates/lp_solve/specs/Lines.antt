@@ -1,9 +1,9 @@
 -- How many digits the numerator and the denominator of a number of a certificate may have, each.
 use Rattle.std.specs.Prelude.{ℕ, ◌^◌}
 
--- half of those of a line
+-- together somewhat fewer than a line takes
 unfoldable pub half_line : ℕ
-half_line = 8000
+half_line = 7680
 
 -- the power of ten below which a natural number has no more digits
 unfoldable pub line_power : ℕ

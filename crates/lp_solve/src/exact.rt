@@ -1,22 +1,29 @@
 // The exact solve of a model, whose numbers may have any width.
-ghost use Rattle.std.specs.Prelude.{◌≡◌, ℕ, List, Option, IfOk, IfSome, Ok, Some, None};
+ghost use Rattle.std.specs.Prelude.{◌≡◌, ◌↔◌, ℕ, List, Option, IfOk, IfErr, IfSome, IsTrue, Ok, Some, None};
 ghost use Rattle.spec_exact.specs.Narrow.{number_limit};
+ghost use Rattle.spec_model.specs.Kept.{IsUsual};
 ghost use Rattle.spec_model.specs.Model.{Model as model};
 ghost use Rattle.spec_pivot.specs.declared.status.Status.{Status as status};
 ghost use Rattle.spec_simplex.specs.Eliminate.{IsBasisOf};
 ghost use Rattle.spec_simplex.specs.Form.{form_of};
+ghost use Rattle.spec_runs.specs.Solve.{HasBasis};
+ghost use Rattle.lp_frac.specs.declared.stop.Stop.TheVariants as stops;
 ghost use Rattle.lp_form.specs.Answer.{IsFaultOf};
 ghost use Rattle.spec_solve.specs.Exact.{IsShown, IsExactAnswer, IsExactEnd, MayGiveUp};
 
 use crate::cold::End;
 use crate::rows::WORK;
-use crate::shown::{at_basis, at_rough_end, basis_of_answer, origin_of, over_rows, over_rows_from};
-use crate::solving::{Solved, cold_within, solve_formed, solve_formless};
+use crate::shown::{
+    at_basis, at_float_end, at_float_end_beside, at_float_end_from, at_rough_end, basis_of_answer,
+    origin_of, over_rows, over_rows_from,
+};
+use crate::solving::{Solved, cold_within, solve_formed};
 use crate::widened::{widened_certificate, widened_known};
-use lp_check::wide::Ratios;
+use lp_check::wide::{self, Ratios};
 use lp_check::{Certificate, Known};
-use lp_form::{Basis, Form, FormStop, form};
-use lp_model::Model;
+use lp_form::{Basis, Form, FormStop, form, large_form};
+use lp_frac::Stop;
+use lp_model::{Model, USUAL_LIMITS};
 use lp_ratio::Ratio;
 use spec_runs::{Fall, Route};
 use spec_solve::Origin;
@@ -27,6 +34,13 @@ pub type ExactAnswer = spec_solve::ExactAnswer<Ratio, Ratios, Basis>;
 
 /// How an exact solve ends.
 pub type ExactEnd = spec_solve::ExactEnd<Ratio, Ratios, Basis>;
+
+// Whether it is within the limits of forms of which tableaus are made.
+fn is_usual(model: &Model) -> bool
+    ensures { IsTrue result ↔ IsUsual model.now }
+{
+    model.rows() <= USUAL_LIMITS.rows && model.cols() <= USUAL_LIMITS.columns
+}
 
 // The answer of a solve at 127 bits, of which the certificate was checked.
 fn settled(
@@ -108,7 +122,7 @@ fn by_runs(alloc: Global, model: &Model, budget: u64, form: &Form) -> Result<Exa
             Ok(ExactEnd::Answered(answer))
         }
         End::Past(_) => Ok(or_open(over_rows(alloc, model, form, budget, Route::Cold)?)),
-        End::Spent => Ok(ExactEnd::Open),
+        End::Spent => Ok(or_open(None)),
     }
 }
 
@@ -117,39 +131,36 @@ fn by_form(alloc: Global, model: &Model, budget: u64, form: &Form) -> Result<Exa
     requires { form_of (Some number_limit) model.now ≡ Ok form.now }
     ensures { IfOk result (IsExactEnd model.now budget None) }
 {
+    if let Some(answer) = at_float_end(alloc, model)? {
+        return Ok(ExactEnd::Answered(answer));
+    }
     match at_rough_end(alloc, model, form, Origin::Cold)? {
         Some(answer) => Ok(ExactEnd::Answered(answer)),
         None => by_runs(alloc, model, budget, form),
     }
 }
 
-// Of a model that has no form.
-fn formless(alloc: Global, model: &Model, stop: FormStop) -> Result<ExactEnd, AllocError>
+// Of a model that has no form: bounds that clash are their own certificate. Memory is wanting only where the form's was.
+fn formless(model: &Model, stop: FormStop) -> Result<ExactEnd, AllocError>
     requires { IsFaultOf (form_of (Some number_limit) model.now) stop }
-    ensures { (budget : ℕ) → IfOk result (IsExactEnd model.now budget None) }
+    ensures end { (budget : ℕ) → IfOk result (IsExactEnd model.now budget None) }
+    ensures memory { IfErr result (λ _. stop ≡ stops.NoMemory) }
 {
-    let Solved { end, .. } = solve_formless(model, stop)?;
-    match end {
-        End::Ended {
-            answer,
-            certificate,
-            basis,
-            ..
-        } => {
-            drop(basis);
-            let answer = settled(alloc, answer, certificate, Origin::Cold)?;
-            Ok(ExactEnd::Answered(answer))
-        }
-        End::Past(_) => Ok(ExactEnd::Open),
-        End::Spent => Ok(ExactEnd::Open),
+    match stop {
+        Stop::Cause(clash) => Ok(ExactEnd::Answered(ExactAnswer {
+            known: wide::Known::Infeasible,
+            certificate: wide::Certificate::Clash(clash.column),
+            basis: None,
+            origin: Origin::Cold,
+        })),
+        Stop::Past(_) => Ok(ExactEnd::Open),
+        Stop::NoMemory => Err(AllocError),
     }
 }
 
-/// Solves the model, and has the certificate of its answer checked without a limit, unless it is that of a solve at 127
-/// bits, which was checked there. It asks first for what the end of a run in floating point leads to: the answer of a
-/// basis, or that there is no optimum. Where that comes to nothing, it solves the model at 127 bits, and where an operation
-/// is refused there over rows of whole numbers without a limit. Only where a solve at 127 bits gives up it may end open.
-pub fn solve_exactly(alloc: Global, model: &Model, budget: u64) -> Result<ExactEnd, AllocError>
+// Of a usual model.
+fn usual_exactly(alloc: Global, model: &Model, budget: u64) -> Result<ExactEnd, AllocError>
+    requires { IsUsual model.now }
     ensures { IfOk result (IsExactEnd model.now budget None) }
 {
     match form(alloc, model) {
@@ -158,11 +169,62 @@ pub fn solve_exactly(alloc: Global, model: &Model, budget: u64) -> Result<ExactE
             drop(form);
             end
         }
-        Err(stop) => formless(alloc, model, stop),
+        Err(stop) => formless(model, stop),
+    }
+}
+
+// What was found of a model past the usual limits.
+fn of_large(found: Option<ExactAnswer>) -> ExactEnd
+    ensures { (m : model) (budget : ℕ) (starting : Option (List status)) → ¬ (IsUsual m) →
+        IfSome found (IsExactAnswer m) → IsExactEnd m budget starting result }
+{
+    match found {
+        Some(answer) => ExactEnd::Answered(answer),
+        None => ExactEnd::Open,
+    }
+}
+
+// Of a model past the usual limits: bounds that clash are found without a run.
+fn large_exactly(alloc: Global, model: &Model) -> Result<ExactEnd, AllocError>
+    requires { ¬ (IsUsual model.now) }
+    ensures { (budget : ℕ) → IfOk result (IsExactEnd model.now budget None) }
+{
+    match large_form(alloc, model) {
+        Ok(form) => {
+            drop(form);
+            Ok(of_large(at_float_end(alloc, model)?))
+        }
+        Err(stop) => formless(model, stop),
+    }
+}
+
+/// Solves the model, and has the certificate of its answer checked without a limit, unless it is that of a solve at 127
+/// bits, which was checked there. It asks first for what the end of a run in floating point leads to: the answer of a
+/// basis, or that there is no optimum. Where that comes to nothing, it solves a usual model at 127 bits, and where an operation
+/// is refused there over rows of whole numbers without a limit. Of a usual model it ends open only where a solve at 127 bits
+/// gives up.
+pub fn solve_exactly(alloc: Global, model: &Model, budget: u64) -> Result<ExactEnd, AllocError>
+    ensures { IfOk result (IsExactEnd model.now budget None) }
+{
+    if is_usual(model) {
+        usual_exactly(alloc, model, budget)
+    } else {
+        large_exactly(alloc, model)
     }
 }
 
 // ---- from a basis
+
+// What runs in floats lead to without the basis.
+fn by_guess(alloc: Global, model: &Model, form: &Form) -> Result<Option<ExactAnswer>, AllocError>
+    requires { form_of (Some number_limit) model.now ≡ Ok form.now }
+    ensures { IfOk result (λ o. IfSome o (IsExactAnswer model.now)) }
+{
+    if let Some(answer) = at_float_end_beside(alloc, model)? {
+        return Ok(Some(answer));
+    }
+    at_rough_end(alloc, model, form, Origin::Fell(0))
+}
 
 // What is found where a solve at 127 bits from the basis is refused an operation.
 fn beyond(
@@ -179,7 +241,7 @@ fn beyond(
     if let Some(answer) = over_rows_from(alloc, model, form, budget, basis)? {
         return Ok(Some(answer));
     }
-    if let Some(answer) = at_rough_end(alloc, model, form, Origin::Fell(0))? {
+    if let Some(answer) = by_guess(alloc, model, form)? {
         return Ok(Some(answer));
     }
     over_rows(alloc, model, form, budget, Route::Fell(Fall::Past))
@@ -210,15 +272,12 @@ fn by_runs_from(
             Ok(ExactEnd::Answered(answer))
         }
         End::Past(_) => Ok(or_open(beyond(alloc, model, budget, form, basis)?)),
-        End::Spent => Ok(or_open(at_rough_end(alloc, model, form, Origin::Fell(0))?)),
+        End::Spent => Ok(or_open(by_guess(alloc, model, form)?)),
     }
 }
 
-/// Solves the model from a basis of its form. It asks first for the answer of the basis as it is. Where that is none, it
-/// solves the model from the basis at 127 bits. Where an operation is refused there, it goes on over rows of whole numbers
-/// from the basis without a limit, then to what the end of a run in floating point leads to, and at last over rows from the
-/// start that each model has. The basis of an answer is one at which its certificate stands.
-pub fn solve_exactly_from(
+// By the form of the model.
+fn by_form_from(
     alloc: Global,
     model: &Model,
     budget: u64,
@@ -229,8 +288,68 @@ pub fn solve_exactly_from(
     requires fits { IsBasisOf form.now basis.now }
     ensures { IfOk result (IsExactEnd model.now budget (Some basis.now)) }
 {
-    match at_basis(alloc, model, form, basis)? {
+    match at_basis(alloc, model, basis)? {
         Some(answer) => Ok(ExactEnd::Answered(answer)),
         None => by_runs_from(alloc, model, budget, form, basis),
+    }
+}
+
+// Of a usual model. It has a form, so that only memory can be wanting for that.
+fn usual_exactly_from(
+    alloc: Global,
+    model: &Model,
+    budget: u64,
+    basis: &Basis,
+) -> Result<ExactEnd, AllocError>
+    requires usual { IsUsual model.now }
+    requires fits { HasBasis (Some number_limit) model.now basis.now }
+    ensures { IfOk result (IsExactEnd model.now budget (Some basis.now)) }
+{
+    match form(alloc, model) {
+        Ok(form) => {
+            let end = by_form_from(alloc, model, budget, &form, basis);
+            drop(form);
+            end
+        }
+        Err(Stop::NoMemory) => Err(AllocError),
+        Err(Stop::Cause(_) | Stop::Past(_)) => unreachable!(),
+    }
+}
+
+// Of a model past the usual limits: by the basis, by a run in floats from there, and by one from the start that each model has.
+fn large_exactly_from(
+    alloc: Global,
+    model: &Model,
+    basis: &Basis,
+) -> Result<Option<ExactAnswer>, AllocError>
+    ensures { IfOk result (λ o. IfSome o (IsExactAnswer model.now)) }
+{
+    if let Some(answer) = at_basis(alloc, model, basis)? {
+        return Ok(Some(answer));
+    }
+    if let Some(answer) = at_float_end_from(alloc, model, basis)? {
+        return Ok(Some(answer));
+    }
+    at_float_end_beside(alloc, model)
+}
+
+/// Solves the model from a basis of its form. It asks first for the answer of the basis, or of one that is reached from it in
+/// a few steps. Where that is none, it solves a usual model from the basis at 127 bits. Where an operation is refused there,
+/// it goes on over rows of whole numbers from the basis without a limit, then to what the end of a run in floating point
+/// leads to, and at last over rows from the start that each model has. Of a larger model it goes on to what a run in floating
+/// point from the basis leads to, and then one without it. The basis of an answer is one at which its certificate stands.
+pub fn solve_exactly_from(
+    alloc: Global,
+    model: &Model,
+    budget: u64,
+    basis: &Basis,
+) -> Result<ExactEnd, AllocError>
+    requires { HasBasis (Some number_limit) model.now basis.now }
+    ensures { IfOk result (IsExactEnd model.now budget (Some basis.now)) }
+{
+    if is_usual(model) {
+        usual_exactly_from(alloc, model, budget, basis)
+    } else {
+        Ok(of_large(large_exactly_from(alloc, model, basis)?))
     }
 }

@@ -8,19 +8,19 @@ use lp_natural::Natural;
 use lp_ratio::{Lowest, Ratio};
 use std::alloc::{AllocError, Global};
 
-// 10^16, and how many of these make up the digits that a numerator and a denominator may have, each.
-const STEP: u64 = 10_000_000_000_000_000;
+// 10^15, and how often it is squared to have as many zeros as a numerator and a denominator may have digits, each.
+const STEP: u64 = 1_000_000_000_000_000;
 
-const STEPS: u32 = 500;
+const SQUARINGS: u32 = 9;
 
-// A word to the power.
-fn power(alloc: Global, word: u64, exponent: u32) -> Result<Natural, AllocError>
-    ensures { IfOk result (λ n. n ≡ word ^ exponent) }
+// A word, squared so many times.
+fn squared(alloc: Global, word: u64, times: u32) -> Result<Natural, AllocError>
+    ensures { IfOk result (λ n. n ≡ word ^ (2 ^ times)) }
 {
-    let none = Natural::zero(alloc);
-    let mut power = Natural::from_u128(alloc, 1)?;
-    for i in 0..exponent {
-        power = power.scaled_onto(alloc, word, &none)?;
+    let mut power = Natural::from_u128(alloc, u128::from(word))?;
+    for i in 0..times {
+        let square = power.times(alloc, &power)?;
+        power = square;
     }
     Ok(power)
 }
@@ -29,7 +29,7 @@ fn power(alloc: Global, word: u64, exponent: u32) -> Result<Natural, AllocError>
 fn line_power(alloc: Global) -> Result<Natural, AllocError>
     ensures { IfOk result (λ n. n ≡ lines.line_power) }
 {
-    power(alloc, STEP, STEPS)
+    squared(alloc, STEP, SQUARINGS)
 }
 
 // Whether the number is below the power.

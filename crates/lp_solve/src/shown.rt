@@ -11,14 +11,21 @@ use crate::basis::basis_of;
 use crate::exact::ExactAnswer;
 use crate::lines::fits_lines;
 use lp_check::wide::{Certificate, Known, Verdict, check};
-use lp_form::{Basis, Form, StatusList};
-use lp_guess::{Guessed, certificate_of_basis, rough_certificate, stand_at_basis};
+use lp_float::float_end;
+use lp_form::{Basis, Form, LargeForm, Status, is_basis, large_form};
+use lp_frac::Stop;
+use lp_guess::{Guessed, rough_certificate, stand_at_basis};
+use lp_lift::{Lifted, answer_of_basis};
 use lp_model::Model;
 use lp_ratio::Ratio;
 use lp_row_runs::{RowEnd, wide_cold, wide_warm};
 use spec_runs::Route;
 use spec_solve::Origin;
 use std::alloc::{AllocError, Global};
+
+// How many steps, each with systems of its own, an answer may be from the basis that a run in floats ends with, or from the
+// one that is handed in: where floats end at a basis that is not optimal exactly, it is mostly within a dozen.
+const MOST_STEPS: u32 = 20;
 
 // The effort of a run without a limit on the numbers of its certificate, some minutes of it.
 const WIDE_WORK: u64 = 64_000_000_000;
@@ -111,28 +118,160 @@ pub(crate) fn basis_of_answer(
     }
 }
 
-/// The answer of the basis, of which nothing is changed.
+// The basis with these statuses, if it is one of the form, and the certificate stands at it.
+fn based_at(
+    alloc: Global,
+    model: &Model,
+    form: &LargeForm,
+    certificate: &Certificate,
+    statuses: Vec<Status>,
+) -> Result<Option<Basis>, AllocError>
+    requires formed { form_of (Some number_limit) model.now ≡ Ok form.now }
+    requires fits { IsFor model.now certificate.now }
+    ensures { IfOk result (λ o. IfSome o (IsBasisOfAnswer model.now certificate.now)) }
+{
+    if !is_basis(form, &statuses) {
+        drop(statuses);
+        return Ok(None);
+    }
+    let basis = Basis::from_vec(statuses, form.rows());
+    if is_at_basis(alloc, model, certificate, &basis)? {
+        Ok(Some(basis))
+    } else {
+        drop(basis);
+        Ok(None)
+    }
+}
+
+// The same, by the form of the model, if it has one.
+fn basis_of_statuses(
+    alloc: Global,
+    model: &Model,
+    certificate: &Certificate,
+    statuses: Vec<Status>,
+) -> Result<Option<Basis>, AllocError>
+    requires { IsFor model.now certificate.now }
+    ensures { IfOk result (λ o. IfSome o (IsBasisOfAnswer model.now certificate.now)) }
+{
+    match large_form(alloc, model) {
+        Ok(form) => {
+            let basis = based_at(alloc, model, &form, certificate, statuses);
+            drop(form);
+            basis
+        }
+        Err(stop) => {
+            drop(statuses);
+            match stop {
+                Stop::NoMemory => Err(AllocError),
+                Stop::Cause(_) | Stop::Past(_) => Ok(None),
+            }
+        }
+    }
+}
+
+// The answer that a basis was lifted to, with its own basis.
+fn at_lifted(
+    alloc: Global,
+    model: &Model,
+    lifted: Lifted,
+    origin: Origin,
+) -> Result<Option<ExactAnswer>, AllocError>
+    requires { IsFor model.now lifted.certificate }
+    ensures { IfOk result (λ o. IfSome o (IsExactAnswer model.now)) }
+{
+    let Lifted {
+        certificate,
+        statuses,
+        steps: _,
+    } = lifted;
+    let basis = basis_of_statuses(alloc, model, &certificate, statuses)?;
+    answered(alloc, model, certificate, basis, origin)
+}
+
+/// The answer of the basis, or of one that is reached from it in a few steps.
 pub(crate) fn at_basis(
     alloc: Global,
     model: &Model,
-    form: &Form,
     basis: &Basis,
 ) -> Result<Option<ExactAnswer>, AllocError>
-    requires formed { form_of (Some number_limit) model.now ≡ Ok form.now }
-    requires fits { IsBasisOf form.now basis.now }
     ensures { IfOk result (λ o. IfSome o (IsExactAnswer model.now)) }
 {
-    let statuses = StatusList::from_slice(alloc, basis.as_slice())?;
-    match certificate_of_basis(alloc, model, form, basis.as_slice())? {
-        Some(certificate) => {
-            let same = basis_of(form, Some(statuses));
-            answered(alloc, model, certificate, same, Origin::Warm(0))
+    match answer_of_basis(alloc, model, basis.as_slice(), MOST_STEPS)? {
+        Some(lifted) => {
+            let origin = Origin::Warm(u64::from(lifted.steps));
+            at_lifted(alloc, model, lifted, origin)
         }
         None => Ok(None),
     }
 }
 
-/// That of the end of a run in floating point.
+// The answer of the basis that a run in floats ends with, or of one a few steps on.
+fn lifted_end(
+    alloc: Global,
+    model: &Model,
+    start: Option<&[Status]>,
+) -> Result<Option<Lifted>, AllocError>
+    ensures { IfOk result (λ o. IfSome o (λ l. IsFor model.now l.certificate)) }
+{
+    let Some(end) = float_end(alloc, model, start)? else {
+        return Ok(None);
+    };
+    let lifted = answer_of_basis(alloc, model, &end.statuses, MOST_STEPS)?;
+    Ok(lifted)
+}
+
+/// The answer that a run in floats leads to, without its basis.
+pub(crate) fn at_float_end(alloc: Global, model: &Model) -> Result<Option<ExactAnswer>, AllocError>
+    ensures { IfOk result (λ o. IfSome o (IsExactAnswer model.now)) }
+{
+    match lifted_end(alloc, model, None)? {
+        Some(lifted) => {
+            let Lifted {
+                certificate,
+                statuses,
+                steps: _,
+            } = lifted;
+            drop(statuses);
+            answered(alloc, model, certificate, None, Origin::Cold)
+        }
+        None => Ok(None),
+    }
+}
+
+/// That of a run in floats from a basis.
+pub(crate) fn at_float_end_from(
+    alloc: Global,
+    model: &Model,
+    basis: &Basis,
+) -> Result<Option<ExactAnswer>, AllocError>
+    ensures { IfOk result (λ o. IfSome o (IsExactAnswer model.now)) }
+{
+    match lifted_end(alloc, model, Some(basis.as_slice()))? {
+        Some(lifted) => {
+            let origin = Origin::Warm(u64::from(lifted.steps));
+            at_lifted(alloc, model, lifted, origin)
+        }
+        None => Ok(None),
+    }
+}
+
+/// That of a run in floats without the basis, though one was handed in.
+pub(crate) fn at_float_end_beside(
+    alloc: Global,
+    model: &Model,
+) -> Result<Option<ExactAnswer>, AllocError>
+    ensures { IfOk result (λ o. IfSome o (IsExactAnswer model.now)) }
+{
+    match lifted_end(alloc, model, None)? {
+        Some(lifted) => {
+            let origin = Origin::Fell(u64::from(lifted.steps));
+            at_lifted(alloc, model, lifted, origin)
+        }
+        None => Ok(None),
+    }
+}
+
+/// That of the end of a run in floats over a whole tableau, of which any number of the model may have any width.
 pub(crate) fn at_rough_end(
     alloc: Global,
     model: &Model,

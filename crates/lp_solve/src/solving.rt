@@ -1,6 +1,7 @@
 // The solve of a model, of which a basis may be handed.
 ghost use Rattle.std.specs.Prelude.{◌≡◌, ℕ, IfOk, IfErr, IfSome, Ok, Some, None, option_map};
 ghost use Rattle.spec_exact.specs.Narrow.{number_limit};
+ghost use Rattle.spec_model.specs.Kept.{IsUsual};
 ghost use Rattle.spec_simplex.specs.Eliminate.{IsBasisOf};
 ghost use Rattle.spec_simplex.specs.Form.{form_of};
 ghost use Rattle.spec_runs.specs.declared.ends.Route.TheVariants as route;
@@ -165,7 +166,8 @@ pub fn solve(
     budget: u64,
     handed: Option<&Basis>,
 ) -> Result<Solved, AllocError>
-    requires { IfSome handed (λ basis. solve.HasBasis (Some number_limit) model.now basis.now) }
+    requires usual { IsUsual model.now }
+    requires handed { IfSome handed (λ basis. solve.HasBasis (Some number_limit) model.now basis.now) }
     ensures { IfOk result (IsSolved model.now budget (option_map (λ basis. basis.now) handed.entry)) }
 {
     match form(alloc, model) {

@@ -1,15 +1,14 @@
 // Solves of models within a budget.
-ghost use Rattle.std.specs.Prelude.{◌≡◌, None, IfOk, Ok, Some};
+ghost use Rattle.std.specs.Prelude.{None, IfOk, Some};
 ghost use Rattle.spec_exact.specs.Narrow.{number_limit};
-ghost use Rattle.spec_simplex.specs.Form.{form_of};
-ghost use Rattle.spec_simplex.specs.Eliminate.{IsBasisOf};
+ghost use Rattle.spec_model.specs.Kept.{IsUsual};
+ghost use Rattle.spec_runs.specs.Solve.{HasBasis};
 ghost use Rattle.spec_solve.specs.Answers.{IsSolved};
 ghost use Rattle.spec_solve.specs.Exact.{IsExactEnd};
-ghost use Rattle.lp_solve.specs.Fit.{LeavesBasis};
 
 use crate::exact::{ExactEnd, solve_exactly, solve_exactly_from};
-use crate::solving::{Solved, solve, solve_formed};
-use lp_form::{Basis, Form};
+use crate::solving::{Solved, solve};
+use lp_form::Basis;
 use lp_model::Model;
 use std::alloc::{AllocError, Global};
 
@@ -18,6 +17,7 @@ pub const OPENING_BUDGET: u32 = 10_000;
 
 /// What a solve of a model ends with, within a budget of pivots and flips, from the start that each model has.
 pub fn solved_within(alloc: Global, model: &Model, budget: u32) -> Result<Solved, AllocError>
+    requires { IsUsual model.now }
     ensures { IfOk result (λ solved. IsSolved model.now budget None solved) }
 {
     solve(alloc, model, u64::from(budget), None)
@@ -39,15 +39,13 @@ pub fn solved_from_basis(
     alloc: Global,
     model: &Model,
     budget: u32,
-    form: &Form,
     basis: &Basis,
 ) -> Result<Solved, AllocError>
-    requires formed { form_of (Some number_limit) model.now ≡ Ok form.now }
-    requires fits { IsBasisOf form.now basis.now }
-    ensures solved { IfOk result (λ solved. IsSolved model.now budget (Some basis.now) solved) }
-    ensures basis { IfOk result (λ solved. LeavesBasis form.now solved.end) }
+    requires usual { IsUsual model.now }
+    requires fits { HasBasis (Some number_limit) model.now basis.now }
+    ensures { IfOk result (λ solved. IsSolved model.now budget (Some basis.now) solved) }
 {
-    solve_formed(alloc, model, u64::from(budget), form, Some(basis))
+    solve(alloc, model, u64::from(budget), Some(basis))
 }
 
 /// What an exact solve ends with from a basis of the model's form.
@@ -55,12 +53,10 @@ pub fn solved_exactly_from_basis(
     alloc: Global,
     model: &Model,
     budget: u32,
-    form: &Form,
     basis: &Basis,
 ) -> Result<ExactEnd, AllocError>
-    requires formed { form_of (Some number_limit) model.now ≡ Ok form.now }
-    requires fits { IsBasisOf form.now basis.now }
+    requires { HasBasis (Some number_limit) model.now basis.now }
     ensures { IfOk result (λ end. IsExactEnd model.now budget (Some basis.now) end) }
 {
-    solve_exactly_from(alloc, model, u64::from(budget), form, basis)
+    solve_exactly_from(alloc, model, u64::from(budget), basis)
 }

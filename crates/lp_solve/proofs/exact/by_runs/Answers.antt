@@ -15,3 +15,10 @@ returns-in_ok-over_rows-in-Past c =
     (gave_up c.args.model.now c.args.budget None c.in_ok-end.field-0 c.in_ok-end.ensures _
     c.in-Past.is tt)
     c.in_ok-over_rows-in-Past.ensures
+
+pub returns-in-Spent : goal.returns-in-Spent
+returns-in-Spent c =
+    c.or_open-in-Spent.ensures c.args.model.now c.args.budget None
+    (gave_up c.args.model.now c.args.budget None c.in_ok-end.field-0 c.in_ok-end.ensures _
+    c.in-Spent.is tt)
+    tt

@@ -4,9 +4,9 @@ use Rattle.lp_solve.proofs.Allowed.{formless_solved}
 use Rattle.lp_solve.proofs.solving.solve.Goals as goal
 
 pub solve_formed-solved-requires-clause-fits : goal.solve_formed-solved-requires-clause-fits
-solve_formed-solved-requires-clause-fits c = fits_form _ _ _ _ _ c.in-Ok.ensures.ok c.requires
+solve_formed-solved-requires-clause-fits c = fits_form _ _ _ _ _ c.in-Ok.ensures.ok c.requires.handed
 
 pub returns-in-Err : goal.returns-in-Err
 returns-in-Err c =
-    formless_solved c.args.budget c.args.model.now _ c.args.handed _ c.requires c.solve_formless.ensures.solved
+    formless_solved c.args.budget c.args.model.now _ c.args.handed _ c.requires.handed c.solve_formless.ensures.solved
     c.solve_formless.ensures.formless

@@ -1,9 +1,0 @@
--- Each column so far can stand as its status says.
-use Rattle.std.proofs.Common.{ℕ, ◌<◌}
-use Rattle.spec_simplex.specs.Form.{form_lower, form_upper}
-use Rattle.spec_simplex.specs.Eliminate.{CanStand, basis_at}
-use Rattle.lp_guess.proofs.rough.fits.all_stand.Given as goal
-
-abbrev pub invariant-loop-k : goal.invariant-loop-k
-invariant-loop-k l =
-    (k : ℕ) → k < l.k → CanStand (basis_at l.basis k) (form_lower l.form k) (form_upper l.form k)

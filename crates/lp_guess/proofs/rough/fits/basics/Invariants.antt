@@ -1,7 +1,0 @@
--- As many columns so far are basic as were counted, and no more than were gone over.
-use Rattle.std.proofs.Common.{◌≡◌, ◌≤◌}
-use Rattle.spec_simplex.specs.Eliminate.{basics_below}
-use Rattle.lp_guess.proofs.rough.fits.basics.Given as goal
-
-abbrev pub invariant-loop-k : goal.invariant-loop-k
-invariant-loop-k l = (l.count ≡ basics_below l.basis l.k) × (l.count ≤ l.k)
