@@ -1,7 +1,7 @@
 // The model with some of its sides alone.
 ghost use Rattle.std.specs.Prelude.{◌≡◌, All, IfOk, Some};
 ghost use Rattle.spec_exact.specs.Narrow.{number_limit};
-ghost use Rattle.spec_model.specs.Kept.{IsModel};
+ghost use Rattle.spec_model.specs.Kept.{IsUsual, IsUsualModel};
 ghost use Rattle.spec_iis.specs.Only.{only};
 ghost use Rattle.spec_iis.specs.Rule.{IsRead};
 
@@ -16,9 +16,10 @@ use std::alloc::{AllocError, Global};
 /// The model with these sides alone, and the objective 0.
 #[tactic(auto, unfolding(spec_iis::specs::Only::only))]
 pub fn only(alloc: Global, model: &Model, sides: &[Side]) -> Result<Model, AllocError>
-    requires kept { IsModel model.now }
+    requires kept { IsUsualModel model.now }
     requires read { All (IsRead (Some number_limit) model.now) sides.now }
-    ensures { IfOk result (λ alone. alone ≡ only model.now sides.now) }
+    ensures value { IfOk result (λ alone. alone ≡ only model.now sides.now) }
+    ensures usual { IfOk result IsUsual }
 {
     let places = places(alloc, model, sides)?;
     let columns = columns(alloc, model, sides, &places)?;

@@ -2,7 +2,7 @@
 ghost use Rattle.std.specs.Prelude.{◌≡◌, ◌<◌, ◌+◌, ◌++◌, ◌∷◌, [], All, IfOk, OnOk, Some, length, drop as drop_front};
 ghost use Rattle.spec_exact.specs.Narrow.{number_limit};
 ghost use Rattle.spec_model.specs.Truth.{IsInfeasible};
-ghost use Rattle.spec_model.specs.Kept.{IsModel};
+ghost use Rattle.spec_model.specs.Kept.{IsUsualModel};
 ghost use Rattle.spec_iis.specs.Sides.{IsSide};
 ghost use Rattle.spec_iis.specs.Only.{only};
 ghost use Rattle.spec_iis.specs.Rule.{IsRead, IsFiltered};
@@ -60,7 +60,7 @@ fn keep(side: Side, point: Fracs, kept: &mut Sides, points: &mut Points) -> Resu
 
 // Leaves out each side, in order, without which the others and the kept ones are infeasible, and keeps it else.
 fn filter(alloc: Global, model: &Model, budget: u64, sides: &Sides) -> Result<Left, AllocError>
-    requires model { IsModel model.now }
+    requires model { IsUsualModel model.now }
     requires present { All (IsSide model.now) sides.now }
     requires infeasible { IsInfeasible (only model.now sides.now) }
     requires read { All (IsRead (Some number_limit) model.now) sides.now }
@@ -82,7 +82,7 @@ fn filter(alloc: Global, model: &Model, budget: u64, sides: &Sides) -> Result<Le
 
 // What a solve says of these sides alone.
 fn try_alone(alloc: Global, model: &Model, budget: u64, sides: &[Side]) -> Result<Trial, AllocError>
-    requires model { IsModel model.now }
+    requires model { IsUsualModel model.now }
     requires read { All (IsRead (Some number_limit) model.now) sides.now }
     ensures { IfOk result (IsTried budget (only model.now sides.now)) }
 {
@@ -100,7 +100,7 @@ fn certified(
     sides: Sides,
     points: Points,
 ) -> Result<Iis, AllocError>
-    requires model { IsModel model.now }
+    requires model { IsUsualModel model.now }
     requires read { All (IsRead (Some number_limit) model.now) sides }
     requires filtered { IsFiltered model.now sides [] points }
     ensures { IfOk result (MayEnd budget model.now sides) }
@@ -123,7 +123,7 @@ fn reduced(
     budget: u64,
     certificate: &Certificate,
 ) -> Result<Iis, AllocError>
-    requires model { IsModel model.now }
+    requires model { IsUsualModel model.now }
     requires begun { IsBegun budget model.now certificate.now }
     ensures { IfOk result (MayFind model.now budget) }
 {
@@ -172,7 +172,7 @@ fn begin(end: End) -> First
 /// An irreducible infeasible subset of the model's sides, if no point is feasible, within a budget of pivots and flips
 /// for each solve; or what the model's solve ends with; or that the solve of some of its sides gives up.
 pub fn find(alloc: Global, model: &Model, budget: u64) -> Result<Iis, AllocError>
-    requires { IsModel model.now }
+    requires { IsUsualModel model.now }
     ensures { IfOk result (MayFind model.now budget) }
 {
     let solved = solve(alloc, model, budget, None)?;

@@ -1,7 +1,7 @@
 // A look at some sides alone: whether a point meets them all.
 ghost use Rattle.std.specs.Prelude.{◌≡◌, ◌++◌, ◌∷◌, All, IfOk, Some};
 ghost use Rattle.spec_exact.specs.Narrow.{number_limit};
-ghost use Rattle.spec_model.specs.Kept.{IsModel};
+ghost use Rattle.spec_model.specs.Kept.{IsUsual, IsUsualModel};
 ghost use Rattle.spec_iis.specs.Sides.{IsSide};
 ghost use Rattle.spec_iis.specs.Only.{only};
 ghost use Rattle.spec_iis.specs.Rule.{IsRead, IsClash};
@@ -39,6 +39,7 @@ fn look_into(
     alone: &Model,
 ) -> Result<Look, AllocError>
     requires alone { alone.now ≡ only model.now sides.now }
+    requires usual { IsUsual alone.now }
     requires present { All (IsSide model.now) sides.now }
     ensures { IfOk result (IsSeen budget model.now sides.now) }
 {
@@ -55,7 +56,7 @@ fn look_into(
 
 // By a solve.
 fn look_at(alloc: Global, model: &Model, budget: u64, sides: &Sides) -> Result<Look, AllocError>
-    requires model { IsModel model.now }
+    requires model { IsUsualModel model.now }
     requires present { All (IsSide model.now) sides.now }
     requires read { All (IsRead (Some number_limit) model.now) sides.now }
     ensures { IfOk result (IsSeen budget model.now sides.now) }
@@ -83,7 +84,7 @@ fn look_at_both(
     kept: &Sides,
     others: &[Side],
 ) -> Result<Look, AllocError>
-    requires model { IsModel model.now }
+    requires model { IsUsualModel model.now }
     requires present { All (IsSide model.now) (kept.now ++ others.now) }
     requires read { All (IsRead (Some number_limit) model.now) (kept.now ++ others.now) }
     ensures { IfOk result (IsSeen budget model.now (kept.now ++ others.now)) }
@@ -112,7 +113,7 @@ pub(crate) fn look_without(
     side: Side,
     behind: &[Side],
 ) -> Result<Look, AllocError>
-    requires model { IsModel model.now }
+    requires model { IsUsualModel model.now }
     requires present { All (IsSide model.now) (kept.now ++ behind.now) }
     requires read { All (IsRead (Some number_limit) model.now) (kept.now ++ behind.now) }
     requires clash { IsClash model.now (kept.now ++ side ∷ behind.now) clash.now }

@@ -1,5 +1,6 @@
 // The solve of a model whose objective is 0.
 ghost use Rattle.std.specs.Prelude.{◌≡◌, IfOk};
+ghost use Rattle.spec_model.specs.Kept.{IsUsual};
 ghost use Rattle.lp_iis.specs.Trials.{IsTried};
 ghost use Rattle.lp_iis.specs.Trials as trials;
 
@@ -58,6 +59,7 @@ fn said_by(end: End) -> Trial
 
 /// What the cold solve says of the model.
 pub(crate) fn try_model(alloc: Global, model: &Model, budget: u64) -> Result<Trial, AllocError>
+    requires { IsUsual model.now }
     ensures { IfOk result (IsTried budget model.now) }
 {
     let solved = solve(alloc, model, budget, None)?;

@@ -7,7 +7,7 @@ use Rattle.spec_exact.specs.Fraction.{ℚ}
 use Rattle.spec_exact.specs.declared.past.Past.{Past as Refusal}
 use Rattle.spec_exact.specs.Narrow.{number_limit}
 use Rattle.spec_model.specs.Model.{Model, width, height}
-use Rattle.spec_model.specs.Kept.{IsModel}
+use Rattle.spec_model.specs.Kept.{IsUsual, row_limit, column_limit}
 use Rattle.spec_check.specs.declared.certificate.Certificate.TheVariants.{Optimal, Infeasible, Clash, Unbounded}
 use Rattle.spec_check.specs.declared.certificate.CheckStop.{CheckStop}
 use Rattle.spec_check.specs.declared.certificate.CheckStop.TheVariants as check
@@ -57,14 +57,14 @@ module _ (m last : Model) (budget : ℕ) (now : List Step) (halt : Halt) (l : Le
     fit = last_fits m budget all c pivots l.run is
 
     -- few enough steps, so that the number of a column that clashes is one of 32 bits on the whole way
-    pub few_steps : IsModel m → clash_of c + length now < 2 ^ 32
+    pub few_steps : IsUsual m → clash_of c + length now < 2 ^ 32
     few_steps model =
         let count : length l.steps + (width last + height last) ≡ width m + height m =
         (ends_well (Some number_limit) m all l.run).count in
         let same : length now ≡ length l.steps = ap length l.are_kept ∙ length-map l.steps _ in
         let clash = clash_inside c fit.fits in
-        let rows : height m ≤ 256 = model.few_rows in
-        let columns : width m ≤ 512 = model.few_columns in
+        let rows : height m ≤ row_limit = model.few_rows in
+        let columns : width m ≤ column_limit = model.few_columns in
         omega (arith, count, same, clash, rows, columns)
       where
         clash_inside : (c : ExactCertificate) → IsFor last c → clash_of c ≤ width last

@@ -1,5 +1,6 @@
 // The last model: the certificate with which the reductions ended, or that of a solve.
 ghost use Rattle.std.specs.Prelude.{◌≡◌, IfOk};
+ghost use Rattle.spec_model.specs.Kept.{IsUsual};
 ghost use Rattle.spec_presolve.specs.Carry as carry;
 ghost use Rattle.lp_presolve.specs.Tries.{LastTells};
 
@@ -33,6 +34,7 @@ fn halted(alloc: Global, model: &Model, halt: Halt) -> Result<Option<Certificate
 
 // The certificate of a solve of the model, with the count of pivots.
 fn solved(alloc: Global, model: &Model, budget: u64) -> Result<(Certificate, u64), Stop<Spent>>
+    requires { IsUsual model.now }
     ensures { LastTells model.now budget None result }
 {
     match solve(alloc, model, budget, None)?.end {
@@ -53,6 +55,7 @@ pub(crate) fn last_certificate(
     halt: Halt,
     budget: u64,
 ) -> Result<(Certificate, u64), Stop<Spent>>
+    requires { IsUsual model.now }
     ensures { LastTells model.now budget (carry.halted model.now halt) result }
 {
     match halted(alloc, model, halt)? {

@@ -4,7 +4,7 @@ ghost use Rattle.spec_exact.specs.Narrow.{IsNarrow, number_limit};
 ghost use Rattle.spec_check.specs.Certificate.{IsFor, IsNarrowCertificate};
 ghost use Rattle.spec_check.specs.Run.{check_run};
 ghost use Rattle.spec_check.specs.declared.certificate.CheckStop.TheVariants.{No};
-ghost use Rattle.spec_model.specs.Kept.{IsModel};
+ghost use Rattle.spec_model.specs.Kept.{IsUsual, IsUsualModel};
 ghost use Rattle.spec_presolve.specs.Presolved.{IsPlain, IsPresolved};
 ghost use Rattle.lp_presolve.specs.Tries.{Accepts, Led, Tries};
 
@@ -93,7 +93,7 @@ fn from_last(
     halt: Halt,
     budget: u64,
 ) -> Result<Presolved, Stop<Spent>>
-    requires kept { IsModel model.now }
+    requires kept { IsUsualModel model.now }
     requires led { Led model.now last.now steps.now halt }
     ensures { Tries model.now budget result }
 {
@@ -105,7 +105,7 @@ fn from_last(
 
 // By a smaller model.
 fn by_smaller(alloc: Global, model: &Model, budget: u64) -> Result<Presolved, Stop<Spent>>
-    requires { IsModel model.now }
+    requires { IsUsualModel model.now }
     ensures { Tries model.now budget result }
 {
     let mut last = copied(alloc, model)?;
@@ -116,6 +116,7 @@ fn by_smaller(alloc: Global, model: &Model, budget: u64) -> Result<Presolved, St
 
 // The model as it is.
 fn plain(alloc: Global, model: &Model, budget: u64, why: Why) -> Result<Presolved, AllocError>
+    requires { IsUsual model.now }
     ensures { IfOk result (IsPlain model.now budget why) }
 {
     let solved = solve(alloc, model, budget, None)?;
@@ -128,7 +129,7 @@ fn plain(alloc: Global, model: &Model, budget: u64, why: Why) -> Result<Presolve
 /// Solves the model by a smaller one and carries the certificate back. Where an operation is past 127 bits on that way,
 /// or the budget is spent, it solves the model as it is, with the whole budget.
 pub fn presolve(alloc: Global, model: &Model, budget: u64) -> Result<Presolved, AllocError>
-    requires { IsModel model.now }
+    requires { IsUsualModel model.now }
     ensures { IfOk result (IsPresolved model.now budget) }
 {
     match by_smaller(alloc, model, budget) {

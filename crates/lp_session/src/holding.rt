@@ -15,7 +15,7 @@ use lp_frac::{Frac, Fracs};
 use lp_line::{
     Ask, Refusal, Reply, answer_of, certificate_lines, pivots_of, verdict_on, wide_lines,
 };
-use lp_model::{Edit, EditError, EditFault, Model, apply};
+use lp_model::{Edit, EditError, EditFault, Model, UsualModel, apply};
 use lp_mps::write::{WriteStop, fixed, free};
 use lp_solve::{End, OPENING_BUDGET, solve_formless, solved_exactly_within};
 use spec_board::{BasisWords, Found};
@@ -30,7 +30,7 @@ pub type LastAnswer = spec_server::LastAnswer<Frac, Fracs, Basis>;
 /// What a session holds: its model once one is loaded, its budget and what its last solve ended with.
 #[derive(Drop)]
 pub(crate) struct Holding {
-    model: Option<Model>,
+    model: Option<UsualModel>,
     budget: u32,
     last: Option<LastAnswer>,
 }
@@ -73,10 +73,10 @@ impl Holding {
         }
     }
 
-    fn load(&mut self, model: Model) -> Reply
+    fn load(&mut self, model: UsualModel) -> Reply
         ensures { step.Begins self.old (asks.Loaded model) (step.Answers result self.new) }
     {
-        let reply = Reply::Loaded(model.rows(), model.cols());
+        let reply = Reply::Loaded(model.model().rows(), model.model().cols());
         drop(self.last.take()); // the old model's
         drop(self.model.replace(model));
         reply
@@ -127,6 +127,7 @@ impl Holding {
         let Some(model) = &self.model else {
             return Begun::Reply(Reply::Refused(Refusal::NoModel));
         };
+        let model = model.model();
         match form(alloc, model) {
             Ok(form) => Begun::Look(form),
             Err(stop) => match solve_formless(model, stop) {
@@ -151,7 +152,7 @@ impl Holding {
         let Some(model) = &self.model else {
             unreachable!()
         };
-        let Ok(solved) = solved_from(alloc, model, self.budget, form, found) else {
+        let Ok(solved) = solved_from(alloc, model.model(), self.budget, form, found) else {
             return Worked::Reply(Reply::Memory);
         };
         let how = how_by(found, solved.route);
@@ -197,7 +198,11 @@ impl Holding {
         ensures { (result ≡ machine.cert_reply self.now.model self.now.last) ⊎ (result ≡ replies.Memory) }
     {
         match (&self.model, &self.last) {
-            (Some(model), Some(last)) => match certificate_lines(alloc, model, &last.solved) {
+            (Some(model), Some(last)) => match certificate_lines(
+                alloc,
+                model.model(),
+                &last.solved,
+            ) {
                 Ok(lines) => Reply::Certified(lines),
                 Err(_) => Reply::Memory,
             },
@@ -212,10 +217,10 @@ impl Holding {
         let Some(model) = &self.model else {
             return Reply::Refused(Refusal::NoModel);
         };
-        let Ok(end) = solved_exactly_within(alloc, model, self.budget) else {
+        let Ok(end) = solved_exactly_within(alloc, model.model(), self.budget) else {
             return Reply::Memory;
         };
-        let lines = wide_lines(alloc, model, &end);
+        let lines = wide_lines(alloc, model.model(), &end);
         drop(end);
         match lines {
             Ok(lines) => Reply::Wide(lines),
@@ -243,11 +248,11 @@ impl Holding {
             return Reply::Refused(Refusal::NoModel);
         };
         match style {
-            Style::Free => match free(alloc, model) {
+            Style::Free => match free(alloc, model.model()) {
                 Ok(text) => Reply::Written(text),
                 Err(_) => Reply::Memory,
             },
-            Style::Fixed => match fixed(alloc, model) {
+            Style::Fixed => match fixed(alloc, model.model()) {
                 Ok(text) => Reply::Written(text),
                 Err(WriteStop::TooWide(item)) => Reply::Refused(Refusal::FixedWide(item)),
                 Err(WriteStop::NoMemory) => Reply::Memory,
@@ -261,7 +266,7 @@ impl Holding {
         let Some(model) = &self.model else {
             return Reply::Refused(Refusal::NoModel);
         };
-        verdict_on(alloc, model, raw).unwrap_or(Reply::Memory)
+        verdict_on(alloc, model.model(), raw).unwrap_or(Reply::Memory)
     }
 }
 

@@ -1,12 +1,19 @@
 -- What is found by the last model, and why nothing is.
 use Rattle.std.proofs.lemmas.Result.{err_from_is_err_and}
+use Rattle.spec_model.proofs.Kept.{within_from_usual}
+use Rattle.spec_presolve.proofs.Kept.{kept_all}
 use Rattle.lp_presolve.proofs.Tried.{few_steps, not_carried, back_fits, never_no, not_accepted, found}
 use Rattle.lp_presolve.proofs.presolving.from_last.Goals as goal
+
+pub last_certificate-requires : goal.last_certificate-requires
+last_certificate-requires c =
+    let led = c.requires.led in
+    (kept_all c.args.model.now _ (within_from_usual c.args.model.now c.requires.kept) led.run).1.few
 
 pub carry-requires : goal.carry-requires
 carry-requires c =
     few_steps c.args.model.now c.args.last.now c.args.budget c.args.steps.now c.args.halt c.requires.led
-    c.in_ok-certificate.certificate c.in_ok-certificate.pivots c.in_ok-certificate.ensures c.requires.kept
+    c.in_ok-certificate.certificate c.in_ok-certificate.pivots c.in_ok-certificate.ensures c.requires.kept.1
 
 pub returns-in_err-certificate-2 : goal.returns-in_err-certificate-2
 returns-in_err-certificate-2 c =
