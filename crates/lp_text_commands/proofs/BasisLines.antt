@@ -1,11 +1,12 @@
 -- Where the lines of a text and of a basis file after it lead.
-use Rattle.std.proofs.Common.{◌≡◌, ℕ, ◌+◌, ◌≤◌, Some, Result, Ok, Err, List, arith, refl, subst}
+use Rattle.std.proofs.Common.{◌≡◌, ℕ, ◌+◌, ◌≤◌, Some, Result, Ok, Err, List, [], ◌∷◌, arith, refl, subst}
 use Rattle.std.specs.Prelude.{IfOk}
 use Rattle.spec_text.specs.declared.line.Line.{Line}
 use Rattle.spec_text.specs.declared.line.Line.TheVariants.{End}
 use Rattle.spec_exact.specs.Fraction.{ℚ}
 use Rattle.spec_exact.specs.Narrow.{number_limit}
 use Rattle.spec_model.specs.Model.{Model}
+use Rattle.spec_model.specs.declared.parts.SizeLimits.{SizeLimits}
 use Rattle.spec_mps.specs.declared.style.Style.{Style}
 use Rattle.spec_mps.specs.Steps as text
 use Rattle.spec_simplex.specs.declared.ends.FormFault.{FormFault}
@@ -21,7 +22,7 @@ use Rattle.lp_text_commands.specs.declared.basis.BasisStage.{BasisStage}
 use Rattle.lp_text_commands.specs.declared.basis.BasisStage.TheVariants as stage
 use Rattle.lp_text_commands.proofs.LeadingOn as on
 use Rattle.lp_text_commands.proofs.LeadingOn.{on_same}
-use Rattle.lp_text_commands.specs.Basis.{stage_of, step_of, count_of, BasisSays}
+use Rattle.lp_text_commands.specs.Basis.{ReadingAt, step_within, reading_step, stage_of, step_of, count_of, BasisSays}
 
 -- ---- a line counts for one
 
@@ -46,26 +47,60 @@ file_counts m f n (Ok (file.More s)) next e = subst (λ a. lines_in a ≤ n) (on
 file_counts m f n (Ok (file.Done basis)) next e = cc
 file_counts m f n (Err code) next e = cc
 
-step_counts : (at next : reading.Stage) (line : Line (List ℕ)) → basis_step at line ≡ said.On next →
-    lines_in next ≤ lines_in at + 1
+stage_counts : (limits : SizeLimits) (at next : reading.Stage) (line : Line (List ℕ)) →
+    basis_step limits at line ≡ said.On next → lines_in next ≤ lines_in at + 1
 unfolding basis_step
-step_counts (reading.InText style s n) next line e = text_counts style (n + 1) (text.step style s line) next e
-step_counts (reading.InFile m f s n) next line e = file_counts m f (n + 1) (file.step m f s line) next e
+stage_counts limits (reading.InText style s n) next line e = text_counts style (n + 1) (text.step limits style s line)
+    next e
+stage_counts limits (reading.InFile m f s n) next line e = file_counts m f (n + 1) (file.step m f s line) next e
 
-count_is : (at : BasisStage) → lines_in (stage_of at) ≡ count_of at
+-- ---- within limits
+
+-- what leads on within limits leads on
+on_within : (limits : SizeLimits) (P : reading.Stage → Type 0) (o : said.Step reading.Stage reading.BasisSaid) →
+    ((s : reading.Stage) → o ≡ said.On s → P s) → (next : ReadingAt) → step_within limits o ≡ said.On next → P next.stage
+on_within limits P (said.On s) h next e = subst (λ (r : ReadingAt). P r.stage) (on_same _ next e) (h s refl)
+on_within limits P (said.Says what) h next e = cc
+
+step_counts : (at next : ReadingAt) (line : Line (List ℕ)) → reading_step at line ≡ said.On next →
+    lines_in next.stage ≤ lines_in at.stage + 1
+step_counts at next line e =
+    on_within at.limits (λ s. lines_in s ≤ lines_in at.stage + 1) (basis_step at.limits at.stage line)
+    (λ s. stage_counts at.limits at.stage s line) next e
+
+count_is : (at : BasisStage) → lines_in (stage_of at).stage ≡ count_of at
 count_is (stage.Text reader) = refl
 count_is (stage.File at) = refl
 
+-- the lines say the same
+pub said_within : (limits : SizeLimits) (at : reading.Stage) (lines : List (Line (List ℕ))) →
+    said.said_by reading_step (record { limits = limits; stage = at }) lines ≡ reading.basis_said_from limits at lines
+said_within limits at [] = refl
+said_within limits at (line ∷ lines) = by (basis_step limits at line) (λ s. said_within limits s lines)
+  where
+    by : (o : said.Step reading.Stage reading.BasisSaid)
+        → ((s : reading.Stage)
+        → said.said_by reading_step (record { limits = limits; stage = s }) lines
+        ≡ reading.basis_said_from limits s lines)
+        → said.follow (step_within limits o) (λ s. said.said_by reading_step s lines)
+        ≡ said.follow o (λ s. reading.basis_said_from limits s lines)
+    by (said.On s) rest = rest s
+    by (said.Says what) rest = refl
+
 -- ---- at the end of the input something is said
 
-end_says : (at next : reading.Stage) → basis_step at End ≡ said.On next → ⊥
+stage_ends : (limits : SizeLimits) (at next : reading.Stage) → basis_step limits at End ≡ said.On next → ⊥
 unfolding basis_step text.step file.step reading_of
-end_says (reading.InText style s n) next e = cc
-end_says (reading.InFile m f s n) next e = cc
+stage_ends limits (reading.InText style s n) next e = cc
+stage_ends limits (reading.InFile m f s n) next e = cc
+
+end_says : (at next : ReadingAt) → reading_step at End ≡ said.On next → ⊥
+end_says at next e =
+    on_within at.limits (λ s. ⊥) (basis_step at.limits at.stage End) (stage_ends at.limits at.stage) next e
 
 -- from the stage that self is
 pub leads_from : {E : Type 0} (self at : BasisStage) (line : Line (List ℕ))
     (result : Result (Step BasisStage reading.BasisSaid) E) →
-    self ≡ at → IfOk result (λ made. step_of made ≡ basis_step (stage_of at) line) →
+    self ≡ at → IfOk result (λ made. step_of made ≡ reading_step (stage_of at) line) →
     IfOk result (Leads BasisSays count_of self line)
-leads_from = on.leads_from stage_of basis_step count_of lines_in count_is step_counts end_says
+leads_from = on.leads_from stage_of reading_step count_of (λ at. lines_in at.stage) count_is step_counts end_says

@@ -17,6 +17,14 @@ use Rattle.spec_server.specs.Machine.{opening_budget}
 use Rattle.spec_server.specs.Output.{check_line}
 use Rattle.spec_commands.specs.BasisOut.{Handed, BasisOut, basis_fault_line, basis_lines}
 use Rattle.spec_commands.specs.BasisOut.{final_text}
+use Rattle.spec_check.specs.declared.certificate.Known.TheVariants as known
+use Rattle.spec_check.specs.declared.solve_end.SolveEnd.TheVariants.{Ended}
+use Rattle.spec_runs.specs.Cold.{ExactSolveEnd}
+use Rattle.spec_runs.specs.Solve.{HasBasis}
+use Rattle.spec_solve.proofs.Left.{solved_left}
+use Rattle.lp_solve.specs.Fit.{LeavesBasis}
+use Rattle.lp_text_commands.specs.declared.basis_start.Start.{Start}
+use Rattle.lp_text_commands.specs.Handed.{IsStartOf}
 use Rattle.lp_text_commands.specs.Ends.{end_lines}
 use Rattle.lp_text_commands.specs.Prints.{Prints}
 
@@ -58,3 +66,18 @@ pub line_of_text : (why : BasisFault) (at : MpsFault) → why ≡ fault.Text at 
     basis_fault_line why ≡ check_line (reply.Refused (refusal.Misspelled at))
 unfolding basis_fault_line
 line_of_text why at e = ap basis_fault_line e
+
+-- ---- from a basis
+
+pub start_has : (m : Model) (start : Start) → IsStartOf m (Some start) → HasBasis (Some number_limit) m start.basis
+start_has m start is = (start.form, is.0, is.1)
+
+-- the basis that is left is one of the same form
+pub solve_leaves : (m : Model) (budget : ℕ) (start : Start) (solved : SolveEnd) → IsStartOf m (Some start) →
+    IsSolved m budget (Some start.basis) solved → LeavesBasis start.form solved.end
+solve_leaves m budget start solved is h = by solved.end refl
+  where
+    by : (end : ExactSolveEnd) → solved.end ≡ end → LeavesBasis start.form end
+    by (Ended (known.Optimal v) c (Some left) pivots) e =
+        solved_left (known.Optimal v) c left pivots m budget start.form is.0 solved e (Some start.basis) is.1 h
+    by end e = tt

@@ -3,6 +3,7 @@ use Rattle.std.proofs.Common.{◌≡◌, ℕ, ◌+◌, ◌≤◌, Result, Ok, Er
 use Rattle.std.specs.Prelude.{IfOk}
 use Rattle.spec_text.specs.declared.line.Line.{Line}
 use Rattle.spec_model.specs.Model.{Model}
+use Rattle.spec_model.specs.Kept.{usual_limits}
 use Rattle.spec_mps.specs.declared.style.Style.{Style}
 use Rattle.spec_mps.specs.Steps as text
 use Rattle.spec_certificate.specs.declared.progress.Progress.TheVariants as progress
@@ -40,7 +41,8 @@ certificate_counts m n progress.Unfit next e = cc
 step_counts : (at next : reading.Stage) (line : Line (List ℕ)) → check_step at line ≡ reading.On next →
     lines_in next ≤ lines_in at + 1
 unfolding check_step
-step_counts (reading.InText style s n) next line e = text_counts style (n + 1) (text.step style s line) next e
+step_counts (reading.InText style s n) next line e = text_counts style (n + 1) (text.step usual_limits style s line)
+    next e
 step_counts (reading.InCertificate m raw n) next line e =
     certificate_counts m (n + 1) (certificate.step raw line) next e
 

@@ -13,4 +13,5 @@ pub mod CheckLines
 pub mod WideLines
 pub mod BasisLines
 pub mod SpelledKept
+pub mod BasisKept
 pub mod Saying

@@ -3,6 +3,8 @@ use Rattle.std.proofs.Common.{◌≡◌, ℕ, List, [], ◌++◌, Option, Result
 use Rattle.std.specs.Io.KnownBytes.{Appends}
 use Rattle.std.proofs.KnownBytes.{Appends-nil}
 use Rattle.spec_text.specs.declared.line.Line.{Line}
+use Rattle.spec_model.specs.declared.parts.SizeLimits.{SizeLimits}
+use Rattle.spec_model.specs.Kept.{usual_limits, large_limits}
 use Rattle.spec_mps.specs.declared.style.Style.{Style}
 use Rattle.spec_mps.specs.Reader.{start}
 use denote.Ref.{Bor}
@@ -16,11 +18,11 @@ use Rattle.spec_program.specs.Spelled.{spelled_text}
 use Rattle.spec_server.specs.Machine.{ExactReply}
 use Rattle.spec_commands.specs.CheckOut.{said, CheckOut, check_code}
 use Rattle.spec_commands.specs.CheckWideOut.{wide_said, WideCheckOut}
-use Rattle.spec_server.specs.TextSaid.{TextSaid, text_said}
+use Rattle.spec_server.specs.TextSaid.{TextSaid, text_said, text_said_within}
 use Rattle.spec_commands.specs.SolveOut.{SolveOut, solve_code}
 use Rattle.lp_base.specs.Beside.{Takes}
-use Rattle.lp_mps.specs.TextRead.{TextRead}
-use Rattle.lp_line.specs.Stages.{TextSays}
+use Rattle.lp_mps.specs.TextRead.{TextRead, ReadWithin}
+use Rattle.lp_line.specs.Stages.{TextSays, LargeSays}
 use Rattle.lp_text_commands.specs.declared.check.CheckStage.TheVariants as stage
 use Rattle.lp_text_commands.specs.declared.exit_status.ExitStatus.{ExitStatus}
 use Rattle.lp_line.specs.declared.halt.Halt.{Halt}
@@ -28,7 +30,8 @@ use Rattle.lp_line.specs.declared.halt.Halt.TheVariants as halts
 use Rattle.lp_text_commands.specs.Prints.{Prints}
 use Rattle.lp_text_commands.specs.Hearing.{Agrees, Hears, HearsSo, SaysSo}
 use Rattle.lp_text_commands.specs.Writing.{WritesAll, WritesInPart, WritesSo}
-use Rattle.spec_commands.specs.BasisOut.{BasisSaid, basis_said, BasisOut, basis_code}
+use Rattle.spec_commands.specs.BasisOut.{BasisSaid, InText, basis_said, BasisOut, basis_code}
+use Rattle.spec_commands.specs.SolveWideOut.{SolveWideOut}
 use Rattle.spec_commands.specs.BasisWideOut.{BasisWideOut}
 use Rattle.lp_text_commands.specs.declared.basis.BasisStage.TheVariants as basis_stage
 use Rattle.lp_text_commands.specs.Basis.{BasisSays}
@@ -37,6 +40,7 @@ use Rattle.lp_text_commands.specs.WideStage.{WideSays}
 use Rattle.lp_text_commands.specs.Stage.{CheckSays}
 use Rattle.spec_server.specs.Streams.{Streams, streams}
 use Rattle.lp_text_commands.specs.TextCommands.{ReadsText}
+use Rattle.lp_text_commands.proofs.BasisLines.{said_within}
 
 module _ {R : Type 0} (tells : List (Line (List ℕ)) → Option R) (Out : R → List ℕ → Type 0) (code_of : R → ℕ)
     (before after taken : Option (List ℕ)) where
@@ -149,22 +153,15 @@ module _ (style : Style) (reader : TextRead) (begun : reader ≡ record { style 
   wide_reads command asked s result h =
       reads_as command CheckWide style s result asked (h (wide_said style) wide_agrees)
 
-  basis_agrees : Agrees (BasisSays (basis_stage.Text reader)) (basis_said style)
-  basis_agrees lines answer h = subst (λ (r : TextRead). BasisSays (basis_stage.Text r) lines answer) begun h
+  large_agrees : Agrees (LargeSays reader) (text_said_within large_limits style)
+  large_agrees lines answer h = subst (λ (r : TextRead). LargeSays r lines answer) begun h
 
-  pub basis_reads : (command : Asked) → command ≡ Basis → (s : Streams) (result : Result ExitStatus Halt) →
-      ((said : List (Line (List ℕ)) → Option BasisSaid) → Agrees (BasisSays (basis_stage.Text reader)) said →
-      SaysSo said BasisOut basis_code s result) →
+  pub wide_solve_reads : (command : Asked) → command ≡ SolveWide → (s : Streams) (result : Result ExitStatus Halt) →
+      ((said : List (Line (List ℕ)) → Option TextSaid) → Agrees (LargeSays reader) said →
+      SaysSo said SolveWideOut solve_code s result) →
       ReadsText (spelled_text command) style s result
-  basis_reads command asked s result h =
-      reads_as command Basis style s result asked (h (basis_said style) basis_agrees)
-
-  pub wide_basis_reads : (command : Asked) → command ≡ BasisWide → (s : Streams) (result : Result ExitStatus Halt) →
-      ((said : List (Line (List ℕ)) → Option BasisSaid) → Agrees (BasisSays (basis_stage.Text reader)) said →
-      SaysSo said BasisWideOut basis_code s result) →
-      ReadsText (spelled_text command) style s result
-  wide_basis_reads command asked s result h =
-      reads_as command BasisWide style s result asked (h (basis_said style) basis_agrees)
+  wide_solve_reads command asked s result h =
+      reads_as command SolveWide style s result asked (h (text_said_within large_limits style) large_agrees)
 
   pub range_reads : (command : Asked) (moved : Moved) (name : Bor (List ℕ)) → command ≡ Range moved name →
       (s : Streams) (result : Result ExitStatus Halt) →
@@ -175,13 +172,6 @@ module _ (style : Style) (reader : TextRead) (begun : reader ≡ record { style 
       reads_as command (Range moved name) style s result asked (h (text_said style) text_agrees)
 
   module _ (command : Asked) (s : Streams) (result : Result ExitStatus Halt) where
-    pub wide_solve_reads : command ≡ SolveWide →
-        SaysSo (text_said reader.style) (TaskOut task.SolveWide) task_code s result →
-        ReadsText (spelled_text command) style s result
-    wide_solve_reads asked h =
-        reads_as command SolveWide style s result asked
-        (subst (λ (r : TextRead). SaysSo (text_said r.style) (TaskOut task.SolveWide) task_code s result) begun h)
-
     pub presolve_reads : command ≡ Presolve →
         SaysSo (text_said reader.style) (TaskOut task.Presolve) task_code s result →
         ReadsText (spelled_text command) style s result
@@ -195,3 +185,26 @@ module _ (style : Style) (reader : TextRead) (begun : reader ≡ record { style 
     iis_reads asked h =
         reads_as command Iis style s result asked
         (subst (λ (r : TextRead). SaysSo (text_said r.style) (TaskOut task.Search) task_code s result) begun h)
+
+-- ---- and of a basis file after it
+
+module _ (limits : SizeLimits) (style : Style) (reader : ReadWithin)
+    (begun : reader ≡ record { limits = limits; text = record { style = style; state = start; lines = 0 } }) where
+  pub basis_agrees : Agrees (BasisSays (basis_stage.Text reader)) (basis_said limits style)
+  basis_agrees lines answer h =
+      sym (said_within limits (InText style start 0) lines)
+      ∙ subst (λ (r : ReadWithin). BasisSays (basis_stage.Text r) lines answer) begun h
+
+pub basis_reads : (style : Style) (command : Asked) → command ≡ Basis → (s : Streams) (result : Result ExitStatus Halt) →
+    SaysSo (basis_said usual_limits style) BasisOut basis_code s result → ReadsText (spelled_text command) style s result
+basis_reads style command asked s result h = reads_as command Basis style s result asked h
+
+pub wide_basis_reads : (style : Style) (reader : ReadWithin) →
+    reader ≡ record { limits = large_limits; text = record { style = style; state = start; lines = 0 } } →
+    (command : Asked) → command ≡ BasisWide → (s : Streams) (result : Result ExitStatus Halt) →
+    ((said : List (Line (List ℕ)) → Option BasisSaid) → Agrees (BasisSays (basis_stage.Text reader)) said →
+    SaysSo said BasisWideOut basis_code s result) →
+    ReadsText (spelled_text command) style s result
+wide_basis_reads style reader begun command asked s result h =
+    reads_as command BasisWide style s result asked
+    (h (basis_said large_limits style) (basis_agrees large_limits style reader begun))

@@ -4,6 +4,8 @@ use Rattle.spec_text.specs.declared.line.Line.{Line}
 use Rattle.spec_text.specs.declared.line.Line.TheVariants as line
 use Rattle.spec_text.specs.Lines.{lines_of, ended_lines_of, input_limit}
 use Rattle.spec_model.specs.Model.{Model}
+use Rattle.spec_model.specs.Kept.{usual_limits}
+use Rattle.spec_model.proofs.Kept.{usual_from_within}
 use Rattle.spec_mps.specs.declared.style.Style.{Style}
 use Rattle.spec_mps.specs.Reader.{State, start}
 use Rattle.spec_mps.specs.Steps as text
@@ -20,24 +22,27 @@ same_model m o e = cc
 
 -- lines that say a model spell it
 spelled_from : (style : Style) (lines : List (Line (List ℕ))) (s : State) (n : ℕ) (m : Model) →
-    said_by (text_step style) (record { state = s; lines = n }) lines ≡ Some (Ok m) →
-    text.judge style s (n + 1) lines ≡ text.Spelled m
+    said_by (text_step usual_limits style) (record { state = s; lines = n }) lines ≡ Some (Ok m) →
+    text.judge usual_limits style s (n + 1) lines ≡ text.Spelled m
 unfolding text_step
 spelled_from style [] s n m h = absurd (cc)
-spelled_from style (next ∷ lines) s n m h = by (text.step style s next) (λ t. spelled_from style lines t (n + 1) m) h
+spelled_from style (next ∷ lines) s n m h = by (text.step usual_limits style s next) (λ t. spelled_from style lines t
+    (n + 1) m) h
   where
     by : (o : text.Outcome)
-        → ((t : State) → said_by (text_step style) (record { state = t; lines = n + 1 }) lines ≡ Some (Ok m) →
-        text.judge style t (n + 1 + 1) lines ≡ text.Spelled m)
-        → follow (behind_line (n + 1) o) (λ stage. said_by (text_step style) stage lines) ≡ Some (Ok m)
-        → text.settled (n + 1) (λ t. text.judge style t (n + 1 + 1) lines) o ≡ text.Spelled m
+        → ((t : State) → said_by (text_step usual_limits style) (record { state = t; lines = n + 1 }) lines ≡ Some
+        (Ok m) →
+        text.judge usual_limits style t (n + 1 + 1) lines ≡ text.Spelled m)
+        → follow (behind_line (n + 1) o) (λ stage. said_by (text_step usual_limits style) stage lines) ≡ Some (Ok m)
+        → text.settled (n + 1) (λ t. text.judge usual_limits style t (n + 1 + 1) lines) o ≡ text.Spelled m
     by (Ok (text.More t)) rest h = rest t h
     by (Ok (text.Done d)) rest h = ap text.Spelled (same_model d m h)
     by (Err code) rest h = absurd (cc)
 
 said_kept : (style : Style) (lines : List (Line (List ℕ))) (what : TextSaid) → text_said style lines ≡ Some what →
     MayBeKept what
-said_kept style lines (Ok m) h = spelled_kept style lines m (spelled_from style lines start 0 m h)
+said_kept style lines (Ok m) h = usual_from_within m (spelled_kept usual_limits style lines m (spelled_from style lines
+    start 0 m h))
 said_kept style lines (Err fault) h = tt
 
 -- what is heard of a text from its start on
@@ -51,4 +56,5 @@ heard_kept style before after what h =
 pub start_agrees : (reader : TextRead) → reader.state ≡ start → reader.lines ≡ 0 →
     Agrees (TextSays reader) (text_said reader.style)
 start_agrees reader state lines said answer h =
-    subst₂ (λ s n. said_by (text_step reader.style) (record { state = s; lines = n }) said ≡ answer) state lines h
+    subst₂ (λ s n. said_by (text_step usual_limits reader.style) (record { state = s; lines = n }) said ≡ answer) state
+    lines h

@@ -6,6 +6,7 @@ use Rattle.spec_text.specs.declared.line.Line.{Line}
 use Rattle.spec_text.specs.declared.line.Line.TheVariants.{End}
 use Rattle.spec_exact.specs.Fraction.{ℚ}
 use Rattle.spec_model.specs.Model.{Model}
+use Rattle.spec_model.specs.Kept.{large_limits}
 use Rattle.spec_check.specs.declared.certificate.Known.TheVariants as known
 use Rattle.spec_check.specs.declared.certificate.Verdict.TheVariants as verdict
 use Rattle.spec_mps.specs.WideWritten.{wide_text}
@@ -37,7 +38,8 @@ certificate_counts m n progress.Unfit next e = cc
 step_counts : (at next : reading.Stage) (line : Line (List ℕ)) → wide_step at line ≡ reading.On next →
     lines_in next ≤ lines_in at + 1
 unfolding wide_step
-step_counts (reading.InText style s n) next line e = text_counts style (n + 1) (text.step style s line) next e
+step_counts (reading.InText style s n) next line e = text_counts style (n + 1) (text.step large_limits style s line)
+    next e
 step_counts (reading.InCertificate m raw n) next line e =
     certificate_counts m (n + 1) (step_by wide raw line) next e
 

@@ -1,13 +1,15 @@
 -- Where the reading of a basis file stands, for a model and its form.
 use Rattle.std.specs.Prelude.{ℕ, ◌≡◌, Some, Ok}
 use Rattle.spec_exact.specs.Narrow.{number_limit}
+use Rattle.spec_model.specs.declared.parts.SizeLimits.{SizeLimits}
 use Rattle.spec_model.specs.Model.{Model}
 use Rattle.spec_simplex.specs.Form.{Form, form_of}
 use Rattle.spec_bas.specs.Steps as file
 use Rattle.spec_bas.specs.Fits.{IsMarking}
 
--- a model, its form, what was read of the file so far, and of how many lines
+-- a model, the limits that it was read within, its form, what was read of the file so far, and of how many lines
 pub record FileAt : Type 0 where
+  pub limits : SizeLimits
   pub model : Model
   pub form : Form
   pub state : file.State

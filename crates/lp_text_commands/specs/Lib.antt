@@ -12,5 +12,6 @@ pub mod WideSaid
 pub mod WideStage
 pub mod FileAt
 pub mod Basis
+pub mod Based
 pub mod Tasked
 pub mod TextCommands

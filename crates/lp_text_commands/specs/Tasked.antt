@@ -1,17 +1,16 @@
 -- What is written of a text, of whose model more is asked than a solve at 127 bits.
 use Rattle.std.specs.Prelude.{ℕ, List, Ok, Err}
-use Rattle.spec_model.specs.Kept.{IsModel}
+use Rattle.spec_model.specs.Kept.{IsUsualModel}
 use Rattle.spec_commands.specs.IisOut.{IisOut}
 use Rattle.spec_commands.specs.PresolveOut.{PresolveOut}
 use Rattle.spec_server.specs.TextSaid.{TextSaid}
 use Rattle.spec_commands.specs.SolveOut.{solve_code}
-use Rattle.spec_commands.specs.SolveWideOut.{SolveWideOut}
 use Rattle.lp_text_commands.specs.declared.tasked.Task.{Task}
-use Rattle.lp_text_commands.specs.declared.tasked.Task.TheVariants.{SolveWide, Presolve, Search}
+use Rattle.lp_text_commands.specs.declared.tasked.Task.TheVariants.{Presolve, Search}
 
 -- a model that the text spells may be kept
 abbrev pub MayBeKept : TextSaid → Type 0
-MayBeKept (Ok m) = IsModel m
+MayBeKept (Ok m) = IsUsualModel m
 MayBeKept (Err fault) = Unit {0}
 
 -- what a text says, and what is done with it
@@ -21,7 +20,6 @@ pub record ExactTasked : Type 0 where
 
 -- what may be written of it
 abbrev pub TaskOut : Task → TextSaid → List ℕ → Type 0
-TaskOut SolveWide said written = SolveWideOut said written
 TaskOut Presolve said written = PresolveOut said written
 TaskOut Search said written = IisOut said written
 

@@ -1,40 +1,62 @@
-// What is said of a text and the basis file after it, as it is written where numbers may have any width.
-ghost use Rattle.std.specs.Prelude.{◌≡◌, List, ℕ, IsErrOf, Option};
+// What is said of a text of a usual model and the basis file after it, as it is written at 127 bits.
+ghost use Rattle.std.specs.Prelude.{IsErrOf};
 ghost use Rattle.lp_base.specs.Causes.{Rose};
-ghost use Rattle.spec_text.specs.declared.line.Line.{Line as exact_line};
-ghost use Rattle.spec_commands.specs.BasisOut.{BasisSaid as exact_said, basis_code};
-ghost use Rattle.spec_commands.specs.BasisWideOut.{BasisWideOut};
+ghost use Rattle.spec_model.specs.Kept.{usual_limits};
+ghost use Rattle.spec_commands.specs.BasisOut.{BasisOut, basis_code, basis_said};
 ghost use Rattle.spec_server.specs.Streams.{streams};
-ghost use Rattle.lp_text_commands.specs.Basis.{BasisSays};
-ghost use Rattle.lp_text_commands.specs.Hearing.{Agrees, SaysSo};
-ghost use Rattle.lp_text_commands.specs.declared.basis.BasisStage.TheVariants as stage;
+ghost use Rattle.lp_text_commands.specs.Hearing.{SaysSo};
 
 use crate::basis::{BasisSaid, BasisStage};
-use crate::basis_out::print_fault;
+use crate::basis_out::{print_fault, print_handed};
 use crate::exit_status::ExitStatus;
 use crate::hearing::{Output, hear_input, write_said};
-use crate::wide_basis::print_exactly_handed;
 use lp_base::{Bytes, Sink, Source};
 use lp_line::Halt;
-use lp_mps::read::Reader;
+use lp_model::USUAL_LIMITS;
+use lp_mps::read::ReaderWithin;
+use spec_mps::Style;
 use std::alloc::{AllocError, Global};
+use std::marker::Model;
 
-/// What a text and the basis file after it say, where an exact solve is asked for.
+/// What a text and the basis file after it say, whose model is a usual one.
 #[derive(Drop)]
-pub(crate) struct WideBasis {
-    pub said: BasisSaid,
+pub(crate) struct UsualBasis {
+    said: BasisSaid,
 }
 
-impl Output for WideBasis {
-    ghost may_write = { λ basis. BasisWideOut basis.said };
+impl Model for UsualBasis {
+    ghost use Rattle.spec_commands.specs.BasisOut as reading;
+    ghost use Rattle.lp_text_commands.specs.Based.{IsOfUsual};
 
-    ghost code = { λ basis. basis_code basis.said };
+    ghost Value = { reading.BasisSaid };
+
+    ghost view = { λ b. b.said };
+
+    ghost invariant = { λ b. IsOfUsual b.said };
+}
+
+impl UsualBasis {
+    ghost use Rattle.std.specs.Prelude.{◌≡◌};
+    ghost use Rattle.lp_text_commands.specs.Based.{IsOfUsual};
+
+    fn new(said: BasisSaid) -> UsualBasis
+        requires { IsOfUsual said }
+        ensures { result ≡ said }
+    {
+        UsualBasis { said }
+    }
+}
+
+impl Output for UsualBasis {
+    ghost may_write = { BasisOut };
+
+    ghost code = { basis_code };
 
     fn print(self, alloc: Global, to: &mut Bytes) -> Result<ExitStatus, AllocError> {
-        let WideBasis { said } = self;
+        let UsualBasis { said } = self;
         match said {
             Ok(handed) => {
-                let printed = print_exactly_handed(alloc, &handed, to);
+                let printed = print_handed(alloc, &handed, to);
                 drop(handed);
                 printed?;
                 Ok(ExitStatus::DONE)
@@ -47,20 +69,20 @@ impl Output for WideBasis {
     }
 }
 
-/// Reads the text that the source gives and the basis file after it, and writes what an exact solve from there ends with.
-pub(crate) fn say_wide_basis<S: Source, K: Sink>(
+/// Reads the text that the source gives and the basis file after it, and writes what a solve at 127 bits from there ends
+/// with.
+pub(crate) fn say_basis<S: Source, K: Sink>(
     alloc: Global,
-    text: Reader,
+    style: Style,
     src: &mut S,
     out: &mut K,
 ) -> Result<ExitStatus, Halt>
-    requires { text.lines ≡ 0 }
-    ensures output { (said : List (exact_line (List ℕ)) → Option exact_said) →
-        Agrees (BasisSays (stage.Text text)) said → SaysSo said BasisWideOut basis_code
+    ensures output { SaysSo (basis_said usual_limits style) BasisOut basis_code
         (streams (S.left src.old) (S.left src.new) (K.taken out.old) (K.taken out.new)) result }
     ensures read { IsErrOf result Halt.Read → Rose (S.read_faults src.old) (S.read_faults src.new) }
     ensures write { IsErrOf result Halt.Write → Rose (K.write_faults out.old) (K.write_faults out.new) }
 {
+    let text = ReaderWithin::new(alloc, USUAL_LIMITS, style);
     let said = hear_input(alloc, BasisStage::Text(text), src)?;
-    write_said(alloc, WideBasis { said }, out)
+    write_said(alloc, UsualBasis::new(said), out)
 }

@@ -1,6 +1,7 @@
 // The solve of a model from the basis of a file.
 ghost use Rattle.std.specs.Prelude.{◌≡◌, ◌++◌, OnOk, Ok, Some};
 ghost use Rattle.spec_exact.specs.Narrow.{number_limit};
+ghost use Rattle.spec_model.specs.Kept.{IsUsual};
 ghost use Rattle.spec_simplex.specs.Form.{form_of};
 ghost use Rattle.spec_solve.specs.Answers.{MayAnswer};
 ghost use Rattle.spec_server.specs.Machine.{opening_budget};
@@ -19,7 +20,7 @@ use crate::solve::{print_answer, print_certificate};
 use lp_bas::write;
 use lp_base::Bytes;
 use lp_check::Known;
-use lp_form::Form;
+use lp_form::LargeForm;
 use lp_line::{Refusal, Reply, pivots_of, print_said};
 use lp_model::Model;
 use lp_solve::{End, OPENING_BUDGET, Solved, solved_from_basis, solved_within};
@@ -52,6 +53,7 @@ fn print_misspelled(alloc: Global, why: MpsFault, to: &mut Bytes) -> Result<(), 
 
 /// Writes what a solve of the model ends with.
 pub(crate) fn print_handed(alloc: Global, handed: &Handed, to: &mut Bytes) -> Result<(), AllocError>
+    requires { IsUsual handed.now.model }
     ensures { OnOk result (Prints (BasisOut (Ok handed.now)) to.old to.new) }
 {
     match &handed.start {
@@ -62,10 +64,11 @@ pub(crate) fn print_handed(alloc: Global, handed: &Handed, to: &mut Bytes) -> Re
 
 // From a basis of the model's form.
 fn print_from(alloc: Global, model: &Model, start: &Start, to: &mut Bytes) -> Result<(), AllocError>
-    requires { IsStartOf model.now (Some start.now) }
+    requires usual { IsUsual model.now }
+    requires start { IsStartOf model.now (Some start.now) }
     ensures { OnOk result (Prints (BasisOut (Ok (handed_of model.now (Some start.now)))) to.old to.new) }
 {
-    let solved = solved_from_basis(alloc, model, OPENING_BUDGET, &start.form, &start.basis)?;
+    let solved = solved_from_basis(alloc, model, OPENING_BUDGET, &start.basis)?;
     let printed = print_whole(alloc, model, &start.form, &solved, to);
     drop(solved);
     printed
@@ -75,7 +78,7 @@ fn print_from(alloc: Global, model: &Model, start: &Start, to: &mut Bytes) -> Re
 pub(crate) fn print_whole(
     alloc: Global,
     model: &Model,
-    form: &Form,
+    form: &LargeForm,
     solved: &Solved,
     to: &mut Bytes,
 ) -> Result<(), AllocError>
@@ -90,7 +93,8 @@ pub(crate) fn print_whole(
 
 /// The same of a model without a form.
 pub(crate) fn print_formless(alloc: Global, model: &Model, to: &mut Bytes) -> Result<(), AllocError>
-    requires { IsStartOf model.now None }
+    requires usual { IsUsual model.now }
+    requires start { IsStartOf model.now None }
     ensures { OnOk result (Prints (BasisOut (Ok (handed_of model.now None))) to.old to.new) }
 {
     let solved = solved_within(alloc, model, OPENING_BUDGET)?;
@@ -118,7 +122,7 @@ fn print_end(
 fn print_final(
     alloc: Global,
     model: &Model,
-    form: &Form,
+    form: &LargeForm,
     end: &End,
     to: &mut Bytes,
 ) -> Result<(), AllocError>

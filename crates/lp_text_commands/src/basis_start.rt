@@ -1,11 +1,11 @@
 // A model and the basis from which it is solved.
-use lp_form::{Basis, Form};
+use lp_form::{Basis, LargeForm};
 use lp_model::Model;
 
 /// The form of a model, and a basis of it from which a solve starts.
 #[derive(Drop)]
 pub struct Start {
-    pub form: Form,
+    pub form: LargeForm,
     pub basis: Basis,
 }
 

@@ -10,7 +10,7 @@ use crate::hearing::Output;
 use lp_base::{Bytes, Feed, Line};
 use lp_certificate::{CertReader, RawCertificate};
 use lp_line::{Refusal, Reply, Stage, Step, print_said, verdict_on};
-use lp_model::Model;
+use lp_model::{Model, UsualModel};
 use lp_mps::read::Reader;
 use std::alloc::{AllocError, Global};
 
@@ -20,7 +20,10 @@ type CheckStep = Step<CheckStage, Reply>;
 #[derive(Drop)]
 pub(crate) enum CheckStage {
     Text(Reader),
-    Certificate { model: Model, reader: CertReader },
+    Certificate {
+        model: UsualModel,
+        reader: CertReader,
+    },
 }
 
 impl Stage for CheckStage {
@@ -88,7 +91,7 @@ fn text_line(alloc: Global, mut reader: Reader, line: &Line) -> Result<CheckStep
 #[tactic(auto, unfolding(spec_commands::specs::CheckOut::check_step))]
 fn certificate_line(
     alloc: Global,
-    model: Model,
+    model: UsualModel,
     mut reader: CertReader,
     line: &Line,
 ) -> Result<CheckStep, AllocError>
@@ -97,7 +100,7 @@ fn certificate_line(
 {
     let step = match reader.feed(alloc, line) {
         Feed::More => return Ok(Step::On(CheckStage::Certificate { model, reader })),
-        Feed::Done(raw) => verdict(alloc, &model, raw),
+        Feed::Done(raw) => verdict(alloc, model.model(), raw),
         Feed::Refused(unfit) => Ok(Step::Says(Reply::Refused(Refusal::Unfit(unfit)))),
         Feed::NoMemory => Err(AllocError),
     };

@@ -17,7 +17,7 @@ use lp_certificate::{RawOf, ReaderOf, SettleError, SettleFault, settle};
 use lp_check::wide::{Known, Verdict, check};
 use lp_line::{Refusal, Reply, Stage, Step};
 use lp_model::Model;
-use lp_mps::read::Reader;
+use lp_mps::read::LargeReader;
 use lp_numtext::wide_text;
 use lp_ratio::Ratio;
 use std::alloc::{AllocError, Global};
@@ -27,7 +27,7 @@ type WideStep = Step<WideStage, WideReply>;
 /// In the text of a model, or in the certificate after it.
 #[derive(Drop)]
 pub(crate) enum WideStage {
-    Text(Reader),
+    Text(LargeReader),
     Certificate {
         model: Model,
         reader: ReaderOf<Ratio>,
@@ -147,7 +147,7 @@ fn print_verdict(alloc: Global, verdict: Verdict, to: &mut Bytes) -> Result<Exit
 
 // A line of the text.
 #[tactic(auto, unfolding(spec_commands::specs::CheckWideOut::wide_step))]
-fn text_line(alloc: Global, mut reader: Reader, line: &Line) -> Result<WideStep, AllocError>
+fn text_line(alloc: Global, mut reader: LargeReader, line: &Line) -> Result<WideStep, AllocError>
     requires { reader.lines < 2 ^ 32 - 1 }
     ensures { IfOk result (λ step. wide_step_of step
         ≡ wide_step (InText reader.style reader.state reader.lines) line.now) }

@@ -1,8 +1,8 @@
 // Draws, one after the other.
 ghost use Rattle.std.specs.Prelude.{◌≡◌, ◌<◌, ◌≤◌, pos};
 ghost use Rattle.spec_exact.specs.Fraction.{whole};
-ghost use Rattle.spec_gen.specs.Draws.{next, draw};
-ghost use Rattle.spec_gen.specs.Generated.{number_from};
+ghost use Rattle.spec_commands.specs.Draws.{next, draw};
+ghost use Rattle.spec_commands.specs.Generated.{number_from};
 
 use lp_frac::Frac;
 use std::marker::Model;
@@ -38,7 +38,7 @@ impl Draws {
     }
 
     /// Draws a number below 2^15.
-    #[tactic(auto, unfolding(spec_gen::specs::Draws::next, spec_gen::specs::Draws::draw))]
+    #[tactic(auto, unfolding(spec_commands::specs::Draws::next, spec_commands::specs::Draws::draw))]
     pub fn draw(&mut self) -> u32
         ensures value { result ≡ draw self.old }
         ensures state { self.new ≡ next self.old }

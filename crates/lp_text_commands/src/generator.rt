@@ -1,16 +1,16 @@
 // The parts of a generated model, in the order in which they are drawn.
 ghost use Rattle.std.specs.Prelude.{◌≡◌, ◌<◌, ◌≤◌, IfOk, OnOk};
 ghost use Rattle.spec_model.specs.Kept.{row_limit, column_limit};
-ghost use Rattle.spec_gen.specs.Draws.{after};
-ghost use Rattle.spec_gen.specs.Generated as generator;
+ghost use Rattle.spec_commands.specs.Draws.{after};
+ghost use Rattle.spec_commands.specs.Generated as generator;
 
 use crate::draws::Draws;
 use lp_base::Name;
 use lp_frac::{Entries, zero};
-use lp_model::{Column, Kind, Model, Row, Sense};
+use lp_model::{Column, Kind, Model, Row, Sense, UsualModel};
 use std::alloc::{AllocError, Global};
 
-#[tactic(auto, unfolding(spec_gen::specs::Generated::row_name))]
+#[tactic(auto, unfolding(spec_commands::specs::Generated::row_name))]
 fn row_name(alloc: Global, i: u32) -> Result<Name, AllocError>
     requires { i < row_limit }
     ensures { IfOk result (λ name. name ≡ generator.row_name i) }
@@ -19,7 +19,7 @@ fn row_name(alloc: Global, i: u32) -> Result<Name, AllocError>
     Name::from_slice(alloc, text.as_bytes())
 }
 
-#[tactic(auto, unfolding(spec_gen::specs::Generated::column_name))]
+#[tactic(auto, unfolding(spec_commands::specs::Generated::column_name))]
 fn column_name(alloc: Global, j: u32) -> Result<Name, AllocError>
     requires { j < column_limit }
     ensures { IfOk result (λ name. name ≡ generator.column_name j) }
@@ -42,7 +42,7 @@ fn entries(alloc: Global, draws: &mut Draws, rows: u32) -> Result<Entries, Alloc
     Ok(entries)
 }
 
-#[tactic(auto, unfolding(spec_gen::specs::Generated::generated_column))]
+#[tactic(auto, unfolding(spec_commands::specs::Generated::generated_column))]
 fn column(alloc: Global, draws: &mut Draws, rows: u32, j: u32) -> Result<Column, AllocError>
     requires { j < column_limit }
     ensures column { IfOk result (λ column. column ≡ generator.generated_column rows j draws.old) }
@@ -77,7 +77,7 @@ fn columns(
     Ok(columns)
 }
 
-#[tactic(auto, unfolding(spec_gen::specs::Generated::generated_row))]
+#[tactic(auto, unfolding(spec_commands::specs::Generated::generated_row))]
 fn row(alloc: Global, draws: &mut Draws, i: u32) -> Result<Row, AllocError>
     requires { i < row_limit }
     ensures row { IfOk result (λ row. row ≡ generator.generated_row i draws.old) }
@@ -103,8 +103,8 @@ fn rows(alloc: Global, draws: &mut Draws, count: u32) -> Result<Vec<Row>, AllocE
 }
 
 /// The model of this seed, with so many rows and columns. The point 0 is feasible, and each column has both bounds.
-#[tactic(auto, unfolding(spec_gen::specs::Generated::generated))]
-pub fn make(alloc: Global, seed: u32, rows: u32, columns: u32) -> Result<Model, AllocError>
+#[tactic(auto, unfolding(spec_commands::specs::Generated::generated))]
+pub fn make(alloc: Global, seed: u32, rows: u32, columns: u32) -> Result<UsualModel, AllocError>
     requires rows { rows ≤ row_limit }
     requires columns { columns ≤ column_limit }
     ensures { IfOk result (λ model. model ≡ generator.generated seed rows columns) }
@@ -112,12 +112,12 @@ pub fn make(alloc: Global, seed: u32, rows: u32, columns: u32) -> Result<Model, 
     let mut draws = Draws::new(seed);
     let columns = self::columns(alloc, &mut draws, rows, columns)?;
     let rows = self::rows(alloc, &mut draws, rows)?;
-    Ok(Model::new(
+    Ok(UsualModel::new(Model::new(
         Name::from_slice(alloc, b"gen")?,
         Sense::Max,
         Name::from_slice(alloc, b"cost")?,
         zero(),
         rows,
         columns,
-    ))
+    )))
 }

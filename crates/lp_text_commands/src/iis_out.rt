@@ -1,7 +1,7 @@
 // What a search for an irreducible infeasible subset of a model ends with.
 ghost use Rattle.std.specs.Prelude.{◌≡◌, ◌++◌, ◌∷◌, [], All, Ok, OnOk, Some, codes, decimal};
 ghost use Rattle.spec_exact.specs.Narrow.{number_limit};
-ghost use Rattle.spec_model.specs.Kept.{IsModel};
+ghost use Rattle.spec_model.specs.Kept.{IsUsualModel};
 ghost use Rattle.spec_check.specs.Certificate.{IsFor};
 ghost use Rattle.spec_certificate.specs.TextWritten.{certificate_lines};
 ghost use Rattle.spec_iis.specs.Only.{only};
@@ -26,7 +26,7 @@ use std::alloc::{AllocError, Global};
 
 /// Writes what a search of the model ends with, within the budget of a new session for each solve.
 pub(crate) fn print_iis(alloc: Global, model: &Model, to: &mut Bytes) -> Result<(), AllocError>
-    requires { IsModel model.now }
+    requires { IsUsualModel model.now }
     ensures { OnOk result (Prints (IisOut (Ok model.now)) to.old to.new) }
 {
     let found = find(alloc, model, u64::from(OPENING_BUDGET))?;
@@ -37,7 +37,7 @@ pub(crate) fn print_iis(alloc: Global, model: &Model, to: &mut Bytes) -> Result<
 
 // Writes what a search ended with.
 fn print_ended(alloc: Global, model: &Model, found: &Iis, to: &mut Bytes) -> Result<(), AllocError>
-    requires model { IsModel model.now }
+    requires model { IsUsualModel model.now }
     requires found { MayFind model.now opening_budget found.now }
     ensures { OnOk result (to.new ≡ to.old ++ ended_lines (iis_lines model.now found.now)) }
 {
@@ -77,7 +77,7 @@ fn print_found(
     points: &Points,
     to: &mut Bytes,
 ) -> Result<(), AllocError>
-    requires model { IsModel model.now }
+    requires model { IsUsualModel model.now }
     requires found { IsFound model.now opening_budget sides.now certificate.now points.now }
     ensures { OnOk result
         (to.new ≡ to.old ++ ended_lines (found_lines model.now sides.now certificate.now points.now)) }
@@ -105,7 +105,7 @@ fn print_certificate(
     certificate: &Certificate,
     to: &mut Bytes,
 ) -> Result<(), AllocError>
-    requires model { IsModel model.now }
+    requires model { IsUsualModel model.now }
     requires read { All (IsRead (Some number_limit) model.now) sides.now }
     requires fits { IsFor (only model.now sides.now) certificate.now }
     ensures { OnOk result

@@ -8,8 +8,8 @@
 //! | `ExitStatus` | how a command ended | src/exit_status |
 //! | `say`, `Output` | reads an input, and writes what is said of it, whatever says it | src/hearing |
 //! | `say_range`, `Ranged` | the same of a text of which a number is ranged | src/ranged |
-//! | `say_tasked`, `Task`, `Tasked` | the same of a text of whose model more is asked than a solve at 127 bits | src/tasked |
-//! | `say_wide_basis`, `WideBasis` | the same of a text and the basis file after it, where numbers may have any width | src/based |
+//! | `say_tasked`, `Task`, `Tasked` | the same of a text of whose model more is asked than a solve | src/tasked |
+//! | `say_basis`, `UsualBasis` | the same of a text of a usual model and the basis file after it, at 127 bits | src/based |
 //! | `CheckStage`, `WideStage`, `BasisStage` | where the reading stands | src/check, src/check_wide, src/basis |
 //! | `ReadsText`, `TellsOfText` | what is read and written, by the answer and by the status | specs/TextCommands |
 //! | `place_of` | the column or the row whose number is ranged, by its name | src/named |
@@ -31,9 +31,8 @@
 //! | `print_fault` | writes what is wrong with a text or a basis file | src/basis_out |
 //! | `Prints` | what is put after what was printed before | specs/Prints |
 //! | `make` | the model of a seed, with so many rows and columns | src/generator |
-//! | `make` | the model of a seed, with so many rows and columns | src/generator |
 //!
-//! Which model that is, is `generated` of `spec_gen`, and how its numbers are drawn is `draw` there.
+//! Which model that is, is `generated` of `spec_commands`, and how its numbers are drawn is `draw` there.
 #![tactic(auto)]
 
 mod based;

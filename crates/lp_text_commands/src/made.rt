@@ -1,7 +1,7 @@
 // The model that is made from a seed, and what a solve of it ends with.
 ghost use Rattle.std.specs.Prelude.{◌≡◌, ◌≤◌, ◌++◌, ◌∷◌, [], codes, IfOk, IsErrOf, OnOk};
 ghost use Rattle.lp_base.specs.Causes.{Rose};
-ghost use Rattle.spec_model.specs.Kept.{row_limit, column_limit};
+ghost use Rattle.spec_model.specs.Kept.{row_limit, column_limit, IsUsual};
 ghost use Rattle.spec_model.specs.Model.{height};
 ghost use Rattle.spec_commands.specs.GenOut.{entry_count, generated_lines, size_text, GenOut, SolvedOut};
 ghost use Rattle.spec_server.specs.Machine.{pivots_of_solved};
@@ -30,7 +30,7 @@ pub fn generate<K: Sink>(
     ensures write { IsErrOf result Halt.Write → Rose (K.write_faults out.old) (K.write_faults out.new) }
 {
     let model = make(alloc, seed, rows, columns)?;
-    let text = generated_text(alloc, &model);
+    let text = generated_text(alloc, model.model());
     drop(model);
     let text = text?;
     send(out, text.as_slice())?;
@@ -39,6 +39,7 @@ pub fn generate<K: Sink>(
 
 // The size of a model, and what a solve of it ends with.
 fn generated_text(alloc: Global, model: &Model) -> Result<Bytes, AllocError>
+    requires { IsUsual model.now }
     ensures { IfOk result (SolvedOut model.now) }
 {
     let solved = solved_within(alloc, model, OPENING_BUDGET)?;
@@ -50,6 +51,7 @@ fn generated_text(alloc: Global, model: &Model) -> Result<Bytes, AllocError>
 // The size of a model, and what a solve of it ended with.
 #[tactic(auto, unfolding(spec_commands::specs::GenOut::generated_lines))]
 fn ended_text(alloc: Global, model: &Model, end: &End) -> Result<Bytes, AllocError>
+    requires { IsUsual model.now }
     ensures { IfOk result (λ text. text ≡ generated_lines model.now end.now) }
 {
     let mut text = Bytes::new(alloc);
@@ -61,6 +63,7 @@ fn ended_text(alloc: Global, model: &Model, end: &End) -> Result<Bytes, AllocErr
 
 #[tactic(auto, unfolding(spec_commands::specs::GenOut::size_text))]
 fn print_size(alloc: Global, model: &Model, to: &mut Bytes) -> Result<(), AllocError>
+    requires { IsUsual model.now }
     ensures { OnOk result (to.new ≡ to.old ++ size_text model.now) }
 {
     let (rows, columns) = (model.rows(), model.cols());

@@ -1,12 +1,14 @@
-// What is said of a text, and of a text and a basis file after it, as it is written.
+// What is said of a text, and of a text and a basis file after it where numbers may have any width, as it is written.
 ghost use Rattle.spec_commands.specs.SolveOut.{SolveOut, solve_code};
-ghost use Rattle.spec_commands.specs.BasisOut.{BasisOut, basis_code};
+ghost use Rattle.spec_commands.specs.BasisOut.{basis_code};
+ghost use Rattle.spec_commands.specs.BasisWideOut.{BasisWideOut};
 
 use crate::basis::BasisSaid;
-use crate::basis_out::{print_fault, print_handed};
+use crate::basis_out::print_fault;
 use crate::exit_status::ExitStatus;
 use crate::hearing::Output;
 use crate::solve::print_solved;
+use crate::wide_basis::print_exactly_handed;
 use lp_base::Bytes;
 use lp_line::{Refusal, Reply, TextSaid};
 use std::alloc::{AllocError, Global};
@@ -19,7 +21,7 @@ impl Output for TextSaid {
     fn print(self, alloc: Global, to: &mut Bytes) -> Result<ExitStatus, AllocError> {
         match self {
             Ok(model) => {
-                let printed = print_solved(alloc, &model, to);
+                let printed = print_solved(alloc, model.model(), to);
                 drop(model);
                 printed?;
                 Ok(ExitStatus::DONE)
@@ -30,14 +32,14 @@ impl Output for TextSaid {
 }
 
 impl Output for BasisSaid {
-    ghost may_write = { BasisOut };
+    ghost may_write = { BasisWideOut };
 
     ghost code = { basis_code };
 
     fn print(self, alloc: Global, to: &mut Bytes) -> Result<ExitStatus, AllocError> {
         match self {
             Ok(handed) => {
-                let printed = print_handed(alloc, &handed, to);
+                let printed = print_exactly_handed(alloc, &handed, to);
                 drop(handed);
                 printed?;
                 Ok(ExitStatus::DONE)

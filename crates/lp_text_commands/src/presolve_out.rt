@@ -1,6 +1,6 @@
 // The solve of a model by a smaller one.
 ghost use Rattle.std.specs.Prelude.{◌≡◌, ◌++◌, Ok, OnOk};
-ghost use Rattle.spec_model.specs.Kept.{IsModel};
+ghost use Rattle.spec_model.specs.Kept.{IsUsualModel};
 ghost use Rattle.spec_presolve.specs.declared.presolved.Way.TheVariants as ways;
 ghost use Rattle.spec_commands.specs.PresolveOut as out;
 ghost use Rattle.spec_server.specs.Machine.{opening_budget};
@@ -20,7 +20,7 @@ pub(crate) fn print_presolved(
     model: &Model,
     to: &mut Bytes,
 ) -> Result<(), AllocError>
-    requires { IsModel model.now }
+    requires { IsUsualModel model.now }
     ensures { OnOk result (Prints (out.PresolveOut (Ok model.now)) to.old to.new) }
 {
     let presolved = presolve(alloc, model, u64::from(OPENING_BUDGET))?;

@@ -1,6 +1,7 @@
 // The solve of a model, and the range of one of its numbers.
 ghost use Rattle.std.specs.Prelude.{◌≡◌, ◌<◌, ◌++◌, OnOk, IfOk, IfErr, Ok, Some};
 ghost use Rattle.spec_exact.specs.Narrow.{number_limit};
+ghost use Rattle.spec_model.specs.Kept.{IsUsual};
 ghost use Rattle.spec_simplex.specs.Form.{form_of};
 ghost use Rattle.spec_range.specs.Span.{Keeps};
 ghost use Rattle.spec_commands.specs.RangeOut as ranges;
@@ -33,7 +34,8 @@ pub(crate) fn print_ranged(
     at: u32,
     to: &mut Bytes,
 ) -> Result<(), AllocError>
-    requires { at < count_by moved model.now }
+    requires usual { IsUsual model.now }
+    requires inside { at < count_by moved model.now }
     ensures { OnOk result (Prints (ranges.RangedOut moved model.now at) to.old to.new) }
 {
     let solved = solved_within(alloc, model, OPENING_BUDGET)?;
@@ -52,6 +54,7 @@ fn print_solved(
     at: u32,
     to: &mut Bytes,
 ) -> Result<(), AllocError>
+    requires usual { IsUsual model.now }
     requires inside { at < count_by moved model.now }
     requires keeps { KeepsAtEnd model.now end.now }
     ensures { OnOk result (to.new ≡ to.old ++ ranges.range_lines moved model.now at end.now) }
@@ -69,6 +72,7 @@ fn print_behind(
     at: u32,
     to: &mut Bytes,
 ) -> Result<(), AllocError>
+    requires usual { IsUsual model.now }
     requires inside { at < count_by moved model.now }
     requires keeps { KeepsAtEnd model.now end.now }
     ensures { OnOk result (to.new ≡ to.old ++ ranges.range_text moved model.now at end.now) }
@@ -92,6 +96,7 @@ fn print_from(
     at: u32,
     to: &mut Bytes,
 ) -> Result<(), AllocError>
+    requires usual { IsUsual model.now }
     requires inside { at < count_by moved model.now }
     requires keeps { Keeps model.now basis.now }
     ensures { OnOk result

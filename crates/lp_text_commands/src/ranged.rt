@@ -2,6 +2,7 @@
 ghost use Rattle.std.specs.Prelude.{◌≡◌, List, ℕ, OnOk, IfOk, IsErrOf, Option, Ok};
 ghost use Rattle.lp_base.specs.Causes.{Rose};
 ghost use Rattle.spec_text.specs.declared.line.Line.{Line as exact_line};
+ghost use Rattle.spec_model.specs.Kept.{IsUsual};
 ghost use Rattle.spec_commands.specs.RangeOut.{PlaceOut, RangeOut, place_code, range_code, place_by};
 ghost use Rattle.spec_server.specs.TextSaid.{TextSaid as exact_said};
 ghost use Rattle.spec_server.specs.Streams.{streams};
@@ -37,7 +38,7 @@ impl<'a> Output for Ranged<'a> {
         let Ranged { said, moved, name } = self;
         match said {
             Ok(model) => {
-                let printed = print_model(alloc, &model, moved, name, to);
+                let printed = print_model(alloc, model.model(), moved, name, to);
                 drop(model);
                 printed
             }
@@ -54,6 +55,7 @@ fn print_model(
     name: &[u8],
     to: &mut Bytes,
 ) -> Result<ExitStatus, AllocError>
+    requires { IsUsual model.now }
     ensures output { OnOk result
         (Prints (PlaceOut moved name.now model.now (place_by moved model.now name.now)) to.old to.new) }
     ensures status { IfOk result (λ status. status.code ≡ place_code (place_by moved model.now name.now)) }

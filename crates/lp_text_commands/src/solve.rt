@@ -1,5 +1,6 @@
 // The solve of a model.
 ghost use Rattle.std.specs.Prelude.{◌≡◌, ◌++◌, ℕ, Ok, OnOk};
+ghost use Rattle.spec_model.specs.Kept.{IsUsual};
 ghost use Rattle.spec_solve.specs.Answers.{MayAnswer};
 ghost use Rattle.spec_server.specs.Machine as machine;
 ghost use Rattle.spec_server.specs.Output.{check_line, ended_lines};
@@ -15,6 +16,7 @@ use std::alloc::{AllocError, Global};
 
 /// Writes what a solve of the model ends with.
 pub(crate) fn print_solved(alloc: Global, model: &Model, to: &mut Bytes) -> Result<(), AllocError>
+    requires { IsUsual model.now }
     ensures { OnOk result (Prints (SolveOut (Ok model.now)) to.old to.new) }
 {
     let solved = solved_within(alloc, model, OPENING_BUDGET)?;

@@ -1,7 +1,7 @@
 // What is said of a text, of whose model more is asked than a solve at 127 bits.
 ghost use Rattle.std.specs.Prelude.{◌≡◌, Ok, OnOk, IsErrOf};
 ghost use Rattle.lp_base.specs.Causes.{Rose};
-ghost use Rattle.spec_model.specs.Kept.{IsModel};
+ghost use Rattle.spec_model.specs.Kept.{IsUsualModel};
 ghost use Rattle.spec_mps.specs.Reader.{start};
 ghost use Rattle.spec_server.specs.TextSaid.{text_said};
 ghost use Rattle.spec_server.specs.Streams.{streams};
@@ -13,7 +13,6 @@ use crate::exit_status::ExitStatus;
 use crate::hearing::{Output, hear_input, write_said};
 use crate::iis_out::print_iis;
 use crate::presolve_out::print_presolved;
-use crate::wide::print_exactly_solved;
 use lp_base::{Bytes, Sink, Source};
 use lp_line::{Halt, Refusal, Reply, TextSaid};
 use lp_model::Model;
@@ -23,8 +22,6 @@ use std::alloc::{AllocError, Global};
 /// What is done with the model of a text.
 #[derive(Clone, Copy)]
 pub(crate) enum Task {
-    /// To solve it, with numbers of any width where a solve is refused an operation.
-    SolveWide,
     /// To solve it by a smaller one.
     Presolve,
     /// To seek limits that contradict each other.
@@ -69,7 +66,7 @@ impl Output for Tasked {
         let Tasked { said, task } = self;
         match said {
             Ok(model) => {
-                let printed = print_model(alloc, task, &model, to);
+                let printed = print_model(alloc, task, model.model(), to);
                 drop(model);
                 printed?;
                 Ok(ExitStatus::DONE)
@@ -81,11 +78,10 @@ impl Output for Tasked {
 
 // Writes what the task makes of the model.
 fn print_model(alloc: Global, task: Task, model: &Model, to: &mut Bytes) -> Result<(), AllocError>
-    requires { IsModel model.now }
+    requires { IsUsualModel model.now }
     ensures { OnOk result (Prints (TaskOut task (Ok model.now)) to.old to.new) }
 {
     match task {
-        Task::SolveWide => print_exactly_solved(alloc, model, to),
         Task::Presolve => print_presolved(alloc, model, to),
         Task::Search => print_iis(alloc, model, to),
     }

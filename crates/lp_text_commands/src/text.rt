@@ -5,7 +5,7 @@ ghost use Rattle.spec_server.specs.Streams.{streams};
 ghost use Rattle.spec_program.specs.Spelled.{spelled_text};
 ghost use Rattle.lp_text_commands.specs.TextCommands.{ReadsText};
 
-use crate::based::say_wide_basis;
+use crate::based::say_basis;
 use crate::basis::BasisStage;
 use crate::check::CheckStage;
 use crate::check_wide::WideStage;
@@ -15,7 +15,8 @@ use crate::ranged::say_range;
 use crate::tasked::{Task, say_tasked};
 use lp_base::{Sink, Source};
 use lp_line::Halt;
-use lp_mps::read::Reader;
+use lp_model::LARGE_LIMITS;
+use lp_mps::read::{LargeReader, Reader, ReaderWithin};
 use spec_mps::Style;
 use spec_program::TextCommand;
 use std::alloc::Global;
@@ -33,16 +34,29 @@ pub fn read_text<S: Source, K: Sink>(
     ensures read { IsErrOf result Halt.Read → Rose (S.read_faults src.old) (S.read_faults src.new) }
     ensures write { IsErrOf result Halt.Write → Rose (K.write_faults out.old) (K.write_faults out.new) }
 {
-    let text = Reader::new(alloc, style);
     match command {
-        TextCommand::Solve => say(alloc, text, src, out),
-        TextCommand::SolveWide => say_tasked(alloc, text, Task::SolveWide, src, out),
-        TextCommand::Check => say(alloc, CheckStage::Text(text), src, out),
-        TextCommand::CheckWide => say(alloc, WideStage::Text(text), src, out),
-        TextCommand::Basis => say(alloc, BasisStage::Text(text), src, out),
-        TextCommand::BasisWide => say_wide_basis(alloc, text, src, out),
-        TextCommand::Presolve => say_tasked(alloc, text, Task::Presolve, src, out),
-        TextCommand::Iis => say_tasked(alloc, text, Task::Search, src, out),
-        TextCommand::Range { moved, name } => say_range(alloc, text, moved, name, src, out),
+        TextCommand::Solve => say(alloc, Reader::new(alloc, style), src, out),
+        TextCommand::SolveWide => say(alloc, LargeReader::new(alloc, style), src, out),
+        TextCommand::Check => say(alloc, CheckStage::Text(Reader::new(alloc, style)), src, out),
+        TextCommand::CheckWide => {
+            say(
+                alloc,
+                WideStage::Text(LargeReader::new(alloc, style)),
+                src,
+                out,
+            )
+        }
+        TextCommand::Basis => say_basis(alloc, style, src, out),
+        TextCommand::BasisWide => {
+            let reader = ReaderWithin::new(alloc, LARGE_LIMITS, style);
+            say(alloc, BasisStage::Text(reader), src, out)
+        }
+        TextCommand::Presolve => {
+            say_tasked(alloc, Reader::new(alloc, style), Task::Presolve, src, out)
+        }
+        TextCommand::Iis => say_tasked(alloc, Reader::new(alloc, style), Task::Search, src, out),
+        TextCommand::Range { moved, name } => {
+            say_range(alloc, Reader::new(alloc, style), moved, name, src, out)
+        }
     }
 }

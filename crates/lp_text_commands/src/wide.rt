@@ -1,23 +1,40 @@
-// The solve of a model whose answer may have numbers of any width.
+// The solve of a model that may be large, and whose answer may have numbers of any width.
 ghost use Rattle.std.specs.Prelude.{◌≡◌, ◌++◌, Ok, OnOk};
 ghost use Rattle.spec_server.specs.Output.{ended_lines};
 ghost use Rattle.spec_server.specs.WideLines as wide;
+ghost use Rattle.spec_commands.specs.SolveOut.{solve_code};
 ghost use Rattle.spec_commands.specs.SolveWideOut.{SolveWideOut};
 ghost use Rattle.lp_line.specs.ExactEnds.{HasFit};
 ghost use Rattle.lp_text_commands.specs.Prints.{Prints};
 
+use crate::exit_status::ExitStatus;
+use crate::hearing::Output;
 use lp_base::Bytes;
-use lp_line::{print_lines, wide_lines};
+use lp_line::{LargeSaid, Refusal, Reply, print_lines, wide_lines};
 use lp_model::Model;
 use lp_solve::{ExactEnd, OPENING_BUDGET, solved_exactly_within};
 use std::alloc::{AllocError, Global};
 
-/// Writes what an exact solve of the model ends with.
-pub(crate) fn print_exactly_solved(
-    alloc: Global,
-    model: &Model,
-    to: &mut Bytes,
-) -> Result<(), AllocError>
+impl Output for LargeSaid {
+    ghost may_write = { SolveWideOut };
+
+    ghost code = { solve_code };
+
+    fn print(self, alloc: Global, to: &mut Bytes) -> Result<ExitStatus, AllocError> {
+        match self {
+            Ok(model) => {
+                let printed = print_exactly_solved(alloc, &model, to);
+                drop(model);
+                printed?;
+                Ok(ExitStatus::DONE)
+            }
+            Err(fault) => Reply::Refused(Refusal::Misspelled(fault)).print(alloc, to),
+        }
+    }
+}
+
+// Writes what an exact solve of the model ends with.
+fn print_exactly_solved(alloc: Global, model: &Model, to: &mut Bytes) -> Result<(), AllocError>
     ensures { OnOk result (Prints (SolveWideOut (Ok model.now)) to.old to.new) }
 {
     let end = solved_exactly_within(alloc, model, OPENING_BUDGET)?;

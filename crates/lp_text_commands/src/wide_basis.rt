@@ -17,7 +17,7 @@ use crate::basis_start::{Handed, Start};
 use lp_bas::write;
 use lp_base::Bytes;
 use lp_certificate::cert_text;
-use lp_form::{Basis, Form};
+use lp_form::{Basis, LargeForm};
 use lp_line::{print_lines, push_numbered, push_wide_known};
 use lp_model::Model;
 use lp_solve::{
@@ -61,7 +61,7 @@ fn print_exactly_from(
     requires { IsStartOf model.now (Some start.now) }
     ensures { OnOk result (Prints (BasisWideOut (Ok (handed_of model.now (Some start.now)))) to.old to.new) }
 {
-    let end = solved_exactly_from_basis(alloc, model, OPENING_BUDGET, &start.form, &start.basis)?;
+    let end = solved_exactly_from_basis(alloc, model, OPENING_BUDGET, &start.basis)?;
     let printed = print_whole(alloc, model, &start.form, &end, to);
     drop(end);
     printed
@@ -71,7 +71,7 @@ fn print_exactly_from(
 fn print_whole(
     alloc: Global,
     model: &Model,
-    form: &Form,
+    form: &LargeForm,
     end: &ExactEnd,
     to: &mut Bytes,
 ) -> Result<(), AllocError>
@@ -133,7 +133,7 @@ fn push_origin(alloc: Global, origin: Origin, to: &mut Bytes) -> Result<(), Allo
 fn print_based(
     alloc: Global,
     model: &Model,
-    form: &Form,
+    form: &LargeForm,
     basis: &Option<Basis>,
     to: &mut Bytes,
 ) -> Result<(), AllocError>

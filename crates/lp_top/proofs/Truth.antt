@@ -5,7 +5,7 @@ use Rattle.std.specs.Io.KnownBytes.{Consumes, Appends}
 use Rattle.std.proofs.lemmas.List.Elements.{All-nil, All-map}
 use Rattle.std.proofs.lemmas.List.Folds.{flat_map-map}
 use Rattle.spec_text.specs.Lines.{IsPrefixOf}
-use Rattle.spec_gen.specs.Generated.{generated}
+use Rattle.spec_commands.specs.Generated.{generated}
 use Rattle.spec_mps.specs.declared.style.Style.{Style}
 use Rattle.spec_server.specs.declared.addressing.Addressing.TheVariants.{Numbered, Alone}
 use Rattle.spec_server.specs.declared.asks.Asked.{Asked}
@@ -100,7 +100,7 @@ module _ (command : ExactTextCommand) (style : Style) (s : Streams) where
     consumed = consumed;
     appended = none;
     front = all_front [];
-    is_true = none_true command (IsModelOf style s.left_after read);
+    is_true = none_true command (IsModelOf command style s.left_after read);
   }
 
   text_true : (code : ℕ) → TellsOfText command style s code → IsStatus (Some (Read command style)) code → Tells IsTrue s

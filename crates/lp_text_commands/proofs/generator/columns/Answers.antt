@@ -1,7 +1,7 @@
 use Rattle.std.proofs.Common.{[], ◌∷◌, ◌++◌, sym, ap, ap₂, ◌∙◌}
-use Rattle.spec_gen.specs.Draws.{after}
-use Rattle.spec_gen.specs.Generated.{at_row, generated_column}
-use Rattle.spec_gen.proofs.Steps.{generated_columns_more, at_column_more, generated_columns_first, at_column_first}
+use Rattle.spec_commands.specs.Draws.{after}
+use Rattle.spec_commands.specs.Generated.{at_row, generated_column}
+use Rattle.spec_commands.proofs.GeneratedSteps.{generated_columns_more, at_column_more, generated_columns_first, at_column_first}
 use Rattle.lp_text_commands.proofs.generator.columns.Goals as goal
 
 pub loop-j-init : goal.loop-j-init

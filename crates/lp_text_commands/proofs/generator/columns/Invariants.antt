@@ -1,5 +1,5 @@
 use Rattle.std.proofs.Common.{◌≡◌}
-use Rattle.spec_gen.specs.Generated as generator
+use Rattle.spec_commands.specs.Generated as generator
 use Rattle.lp_text_commands.proofs.generator.columns.Given as goal
 
 -- the columns before this one

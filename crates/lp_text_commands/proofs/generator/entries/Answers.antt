@@ -1,7 +1,7 @@
 use Rattle.std.proofs.Common.{◌≡◌, ◌≢◌, ◌%◌, [], ◌∷◌, ◌++◌, sym, ap, ap₂, ◌∙◌}
-use Rattle.spec_gen.specs.Draws.{next, draw}
-use Rattle.spec_gen.specs.Generated.{number_from, at_row}
-use Rattle.spec_gen.proofs.Steps.{entries_some, at_row_some, entries_none, at_row_none, entries_first, at_row_first}
+use Rattle.spec_commands.specs.Draws.{next, draw}
+use Rattle.spec_commands.specs.Generated.{number_from, at_row}
+use Rattle.spec_commands.proofs.GeneratedSteps.{entries_some, at_row_some, entries_none, at_row_none, entries_first, at_row_first}
 use Rattle.lp_text_commands.proofs.generator.entries.Goals as goal
 use Rattle.lp_text_commands.proofs.generator.entries.Goals.{then-draw-eq0+in_ok-push, else-draw-eq0}
 

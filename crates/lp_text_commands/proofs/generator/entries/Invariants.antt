@@ -1,5 +1,5 @@
 use Rattle.std.proofs.Common.{◌≡◌}
-use Rattle.spec_gen.specs.Generated as generator
+use Rattle.spec_commands.specs.Generated as generator
 use Rattle.lp_text_commands.proofs.generator.entries.Given as goal
 
 -- the entries of the rows before this one

@@ -1,7 +1,7 @@
 use Rattle.std.proofs.Common.{[], ◌∷◌, ◌++◌, refl, sym, ap, ap₂, ◌∙◌}
-use Rattle.spec_gen.specs.Draws.{next}
-use Rattle.spec_gen.specs.Generated.{generated_row}
-use Rattle.spec_gen.proofs.Steps.{generated_rows_more, after_more, generated_rows_first}
+use Rattle.spec_commands.specs.Draws.{next}
+use Rattle.spec_commands.specs.Generated.{generated_row}
+use Rattle.spec_commands.proofs.GeneratedSteps.{generated_rows_more, after_more, generated_rows_first}
 use Rattle.lp_text_commands.proofs.generator.rows.Goals as goal
 
 pub loop-i-init : goal.loop-i-init

@@ -1,6 +1,6 @@
 use Rattle.std.proofs.Common.{◌≡◌}
-use Rattle.spec_gen.specs.Draws.{after}
-use Rattle.spec_gen.specs.Generated as generator
+use Rattle.spec_commands.specs.Draws.{after}
+use Rattle.spec_commands.specs.Generated as generator
 use Rattle.lp_text_commands.proofs.generator.rows.Given as goal
 
 -- the rows before this one

@@ -14,4 +14,4 @@ only-requires-clause-read c =
 pub cert_text-lines-requires : goal.cert_text-lines-requires
 cert_text-lines-requires c =
     subst (λ alone. IsFor alone c.args.certificate.now)
-    (sym (c.in_ok-alone.ensures ∙ ap (only c.args.model.now) c.as_slice.ensures)) c.requires.fits
+    (sym (c.in_ok-alone.ensures.value ∙ ap (only c.args.model.now) c.as_slice.ensures)) c.requires.fits
