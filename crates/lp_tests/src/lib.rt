@@ -12,6 +12,8 @@
 //! | `tcp` | two links over loopback, each served by a worker of its own | src/tcp |
 //! | `wide_numbers` | texts of numbers past 127 bits | src/wide_numbers |
 //! | `long_words` | common divisors, quotients and sizes of numbers of many words | src/long_words |
+//! | `sparse_factors` | factors of small matrices modulo a prime | src/sparse_factors |
+//! | `lifted_bases` | answers of bases that are optimal, of some that are none, and of some that are a few steps away | src/lifted_bases |
 #![tactic(auto)]
 
 #[cfg(test)]
@@ -19,11 +21,15 @@ mod board;
 #[cfg(test)]
 mod full_board;
 #[cfg(test)]
+mod lifted_bases;
+#[cfg(test)]
 mod links;
 #[cfg(test)]
 mod long_words;
 #[cfg(test)]
 mod shapes;
+#[cfg(test)]
+mod sparse_factors;
 #[cfg(test)]
 mod tcp;
 #[cfg(test)]

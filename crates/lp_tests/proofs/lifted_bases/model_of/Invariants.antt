@@ -1,0 +1,6 @@
+-- As many lines so far were read as were gone over.
+use Rattle.std.proofs.Common.{◌≡◌}
+use Rattle.lp_tests.proofs.lifted_bases.model_of.Given as goal
+
+abbrev pub invariant-loop : goal.invariant-loop
+invariant-loop l = l.reader.lines ≡ l.counter

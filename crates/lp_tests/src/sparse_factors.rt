@@ -1,0 +1,105 @@
+// Sparse factors of small matrices over residues.
+use lp_lift::{Factored, Field, Matrix, Residue, factorize};
+use std::alloc::{AllocError, Global};
+use std::test::Fail;
+
+// The matrix with the rows 2 1 0, 0 3 1 and 4 0 5.
+fn three<F: Field>(alloc: Global, numbers: &[F]) -> Result<Matrix<F>, AllocError> {
+    let places = [0usize, 2, 0, 1, 1, 2];
+    let mut matrix = Matrix::new(alloc, 3);
+    for (k, (row, number)) in places.iter().zip(numbers).enumerate() {
+        matrix.put(*row, *number)?;
+        if k % 2 == 1 {
+            matrix.end_column()?;
+        }
+    }
+    Ok(matrix)
+}
+
+#[test]
+fn solves_modulo_the_prime(rt: HostRuntime) -> Result<(), Fail> {
+    let alloc = rt.alloc();
+    let numbers = [2u64, 4, 1, 3, 1, 5].map(Residue::new);
+    let matrix = three(alloc, &numbers)?;
+    let factored = factorize(alloc, &matrix)?;
+    let Factored::Regular(factors) = &factored else {
+        panic!(rt; "singular");
+    };
+    let mut right = [4u64, 9, 19].map(Residue::new);
+    let mut solution = [0u64, 0, 0].map(Residue::new);
+    factors.solve(&mut right, &mut solution);
+    assert_eq!(rt; solution.map(|r| r.word()), [1u64, 2, 3]);
+    let mut right = [14u64, 7, 17].map(Residue::new);
+    factors.solve_turned(&mut right, &mut solution);
+    assert_eq!(rt; solution.map(|r| r.word()), [1u64, 2, 3]);
+    Ok(())
+}
+
+// The next of a list of numbers that look random.
+fn next(state: &mut u64) -> u64 {
+    *state = state
+        .wrapping_mul(6364136223846793005)
+        .wrapping_add(1442695040888963407);
+    *state >> 33
+}
+
+// A matrix of small numbers with few in a column, and on the diagonal.
+fn sparse(alloc: Global, size: usize, state: &mut u64) -> Result<Matrix<Residue>, AllocError> {
+    let mut matrix = Matrix::new(alloc, size);
+    for j in 0..size {
+        for i in 0..size {
+            let draw = next(state) % 12;
+            if i == j || draw < 2 {
+                matrix.put(i, Residue::of(if draw % 2 == 0 { 1 } else { -1 }))?;
+            }
+        }
+        matrix.end_column()?;
+    }
+    Ok(matrix)
+}
+
+// The matrix times numbers.
+fn product(
+    alloc: Global,
+    matrix: &Matrix<Residue>,
+    x: &[Residue],
+) -> Result<Vec<Residue>, AllocError> {
+    let mut sums = Vec::from_elem(alloc, Residue::zero(), matrix.rows())?;
+    for (j, number) in x.iter().enumerate() {
+        for entry in matrix.column(j) {
+            if let Some(sum) = sums.get_mut(entry.place) {
+                let opposite = Residue::zero().less_product(Residue::one(), entry.value);
+                *sum = sum.less_product(*number, opposite);
+            }
+        }
+    }
+    Ok(sums)
+}
+
+#[test]
+fn solves_sparse_matrices(rt: HostRuntime) -> Result<(), Fail> {
+    let alloc = rt.alloc();
+    let mut state = 7u64;
+    let mut solved = 0u32;
+    for round in 0..6usize {
+        let size = 5 + 3 * round;
+        let matrix = sparse(alloc, size, &mut state)?;
+        let mut right = Vec::new(alloc);
+        for _ in 0..size {
+            right.push(Residue::new(next(&mut state)))?;
+        }
+        let mut used = Vec::from_slice(alloc, &right)?;
+        let mut x = Vec::from_elem(alloc, Residue::zero(), size)?;
+        let factored = factorize(alloc, &matrix)?;
+        if let Factored::Regular(factors) = &factored {
+            solved = solved.saturating_add(1);
+            factors.solve(&mut used, &mut x);
+            let sums = product(alloc, &matrix, &x)?;
+            for (sum, wanted) in sums.iter().zip(&right) {
+                assert_eq!(rt; sum.word(), wanted.word());
+            }
+        }
+    }
+    assert!(rt; solved > 3);
+    Ok(())
+}
