@@ -16,7 +16,7 @@ from multiprocessing import connection
 from pathlib import Path
 from typing import Any, Callable, Dict, Iterable, Iterator, List, NamedTuple, Optional, Set, Tuple
 
-from .certifying import Certified, NotAnswered, certify
+from .certifying import Certified, NotAnswered, TooLarge, certify
 from .conversion import Options, Question, convert
 from .errors import LpdError, Refused
 from .exact import OutOfTime
@@ -25,20 +25,22 @@ from .number_text import shown
 from .presolving import Size
 from .reading import end_of, mps_of_file, name_of
 from .replies import Optimal
-from .ways import Effort, answered
+from .ways import Effort, Unanswered, answered
 
 FAILED = "FAILED"
 
 
 @dataclass(frozen=True)
 class Work:
-    """What is done with each model: how it is read, how far it is solved, and by which solver and way it is certified too."""
+    """What is done with each model: how it is read, how far it is solved, by which solver and way it is certified too, and how many
+    bytes a process of ours, and each program that it asks, may have."""
 
     form: Optional[str] = None
     options: Options = Options()
     effort: Effort = Effort()
     certifier: Optional[str] = None
     way: Optional[str] = None
+    memory: Optional[int] = None
 
 
 @dataclass
@@ -72,21 +74,21 @@ def solve_into(result: Result, text: str, model: Model, work: Work) -> None:
         result.way, result.accepted_by, result.pivots = found.way, found.accepted_by, found.pivots
         result.reduced = found.reduced
         result.notes += found.notes
-    except OutOfTime as late:
+    except (OutOfTime, Unanswered) as none:
         result.answer = "PAST"
-        result.notes.append(str(late))
+        result.notes.append(str(none))
     except Refused as refused:
         result.answer = refused.reply
         result.notes.append(str(refused))
     result.seconds = time.monotonic() - started
 
 
-def certify_into(result: Result, text: str, work: Work) -> None:
+def certify_into(result: Result, text: str, model: Model, work: Work) -> None:
     """Certifies the model by another solver's basis, and puts down what is found."""
     started = time.monotonic()
     try:
-        result.certified = certify(text, work.certifier or "", work.effort.seconds, work.way)
-    except (NotAnswered, OutOfTime) as failed:
+        result.certified = certify(text, work.certifier or "", work.effort.limit(model), work.way)
+    except (NotAnswered, TooLarge, OutOfTime) as failed:
         result.notes.append(str(failed))
     result.certify_seconds = time.monotonic() - started
 
@@ -95,14 +97,14 @@ def result_of(name: str, path: str, data: bytes, work: Work) -> Result:
     """Solves the model of a file's content, and certifies it where that is asked. What goes wrong is told in the result."""
     result = Result(name)
     try:
-        wide = convert(mps_of_file(data, path), work.form, replace(work.options, wide=True))
+        wide = convert(mps_of_file(data, path), work.form, replace(work.options, wide=True, large=True))
         result.rows, result.columns = len(wide.model.rows), len(wide.model.columns)
         result.not_read = len(wide.model.skipped)
         if wide.changes:
             result.notes.append(f"converted: {len(wide.changes)} change{'s' if len(wide.changes) > 1 else ''}")
         solve_into(result, wide.text, wide.model, work)
         if work.certifier:
-            certify_into(result, wide.text, work)
+            certify_into(result, wide.text, wide.model, work)
     except Question as question:
         result.answer = "ASKED"
         result.notes.append(question.asked())
@@ -112,6 +114,9 @@ def result_of(name: str, path: str, data: bytes, work: Work) -> Result:
     except (LpdError, OSError) as error:
         result.answer = FAILED
         result.notes.append(str(error))
+    except MemoryError:
+        result.answer = FAILED
+        result.notes.append("Python has no memory left")
     return result
 
 
@@ -151,10 +156,14 @@ def one_by_one(tasks: List[Task], work: Work) -> Iterator[Result]:
         yield result_of_file(task, work)
 
 
-def begin_worker() -> None:
+def begin_worker(memory: Optional[int] = None) -> None:
     """Puts a worker and the programs that it runs into a group of their own, which an interrupt of the terminal does not reach, and
-    which ends when the process that began the worker does, however that ends."""
+    which ends when the process that began the worker does, however that ends. Each of them may have so many bytes."""
     os.setpgid(0, 0)
+    if memory is not None:
+        import resource  # here, since few ask for a limit
+
+        resource.setrlimit(resource.RLIMIT_AS, (memory, memory))
     threading.Thread(target=end_with_parent, daemon=True).start()
 
 
@@ -175,10 +184,11 @@ def end_workers(workers: Iterable[multiprocessing.process.BaseProcess]) -> None:
 
 
 def by_processes(tasks: List[Task], work: Work, jobs: int) -> Iterator[Result]:
-    """Solves so many models at a time. The models of a process that is killed are solved once more, one by one."""
+    """Solves so many models at a time. The models of a process that is killed are solved once more, one by one; where there is a limit
+    of memory each in a process of its own."""
     done: Set[Task] = set()
     others = set(multiprocessing.active_children())
-    with ProcessPoolExecutor(jobs, initializer=begin_worker) as pool:
+    with ProcessPoolExecutor(jobs, initializer=begin_worker, initargs=(work.memory,)) as pool:
         try:
             futures = {pool.submit(result_of_file, task, work): task for task in tasks}
             for future in as_completed(futures):
@@ -188,7 +198,14 @@ def by_processes(tasks: List[Task], work: Work, jobs: int) -> Iterator[Result]:
         except BaseException:  # an interrupt, or nobody takes the results any more
             end_workers(set(multiprocessing.active_children()) - others)
             raise
-    yield from one_by_one([task for task in tasks if task not in done], work)
+    left = [task for task in tasks if task not in done]
+    if work.memory is None:
+        yield from one_by_one(left, work)
+    elif len(tasks) == 1:
+        yield from (Result(task.name, answer=FAILED, notes=["its process was ended: --memory allows more"]) for task in left)
+    else:
+        for task in left:
+            yield from by_processes([task], work, 1)
 
 
 def by_dask(tasks: List[Task], work: Work, address: str) -> Iterator[Result]:

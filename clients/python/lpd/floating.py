@@ -1,4 +1,8 @@
-"""Other solvers, which are asked for a basis: what they say, and where they stopped."""
+"""Other solvers, which are asked for a basis: what they say, and where they stopped.
+
+They read the model under plain names, since some take blanks out of names, and others end names at a sign. Where they can be told, what
+they miss limits by is at most 1e-9.
+"""
 from __future__ import annotations
 
 import re
@@ -8,9 +12,9 @@ import tempfile
 from dataclasses import dataclass, field
 from fractions import Fraction
 from pathlib import Path
-from typing import Callable, Dict, List, Optional, Tuple
+from typing import Callable, Dict, List, Optional, Sequence, Tuple
 
-from .basis_file import read_bas
+from .basis_file import basis_lines, read_bas
 from .dialects import DIALECTS, with_names, without_free_rows, written
 from .errors import LpdError
 from .exact import BASIC, LOWER, UPPER, Basis
@@ -35,15 +39,23 @@ class Claim:
     parts: List[Tuple[str, Parts]] = field(default_factory=list)
 
 
+BEGIN = "begin"  # the file of a basis to begin with
+
+
 @dataclass(frozen=True)
 class Solver:
     """A solver with the words that it is run with behind those that read the model, and how its files are read. With
-    `has_far_sides` it says of a row that it is at the upper limit where that is the one which is not the right side."""
+    `has_far_sides` it says of a row that it is at the upper limit where that is the one which is not the right side. Where
+    it can begin with a basis, `begins` are the words for that, in place of the others, and `lines_of` writes that basis. `quick` are
+    words for a large model, by which one without an optimum may end without a basis."""
 
     name: str
     arguments: Tuple[str, ...]
     read: Callable[[str, Path], Claim]
     has_far_sides: bool = False
+    quick: Tuple[str, ...] = ()
+    begins: Tuple[str, ...] = ()
+    lines_of: Callable[[Model, Basis], List[str]] = lambda model, basis: []
 
 
 def content(path: Path) -> str:
@@ -140,12 +152,51 @@ def read_highs(said: str, folder: Path) -> Claim:
     return claim
 
 
+# ---- bases to begin with
+
+
+def coin_lines(model: Model, basis: Basis) -> List[str]:
+    """A basis as clp and cbc read it, which lose what a UL card says unless there are words behind its name."""
+    lines, _ = basis_lines(model, basis)
+    return [f"{line} _dummy_ 0.0" if line.startswith(" UL ") else line for line in lines]
+
+
+def glpsol_lines(model: Model, basis: Basis) -> List[str]:
+    """A basis as glpsol reads it: the solution file that it writes, of which it takes the statuses alone."""
+    statuses = {BASIC: "b", UPPER: "u"}
+    rows = [statuses.get(basis.rows.get(name, BASIC), "l") for name in model.rows]
+    columns = [statuses.get(basis.columns.get(name, LOWER), "l") for name in model.columns]
+    lines = [f"i {n} {status} 0 0" for n, status in enumerate(rows, 1)] + [f"j {n} {status} 0 0" for n, status in enumerate(columns, 1)]
+    return [f"s bas {len(rows)} {len(columns)} u u 0", *lines, "e o f"]
+
+
+NARROW = ("-primalTolerance", "1e-9", "-dualTolerance", "1e-9")
+AGAIN = ("-basisIn", BEGIN, *NARROW, "-presolve", "off", "-perturbation", "off")
 SOLVERS = {
     solver.name: solver
     for solver in (
-        Solver("glpsol", ("--nopresol", "-w", "solution"), read_glpsol),
-        Solver("clp", ("-presolve", "off", "-primalsimplex", "-basisOut", "basis"), read_coin),
-        Solver("cbc", ("-presolve", "off", "-initialSolve", "-basisOut", "basis"), read_coin),
+        Solver(
+            "glpsol",
+            ("--nopresol", "-w", "solution"),
+            read_glpsol,
+            begins=("--nopresol", "--ini", BEGIN, "-w", "solution"),
+            lines_of=glpsol_lines,
+        ),
+        Solver(
+            "clp",
+            (*NARROW, "-presolve", "off", "-primalsimplex", "-basisOut", "basis"),
+            read_coin,
+            quick=(*NARROW, "-dualsimplex", "-basisOut", "basis"),
+            begins=(*AGAIN, "-dualsimplex", "-basisOut", "basis"),
+            lines_of=coin_lines,
+        ),
+        Solver(
+            "cbc",
+            (*NARROW, "-presolve", "off", "-initialSolve", "-basisOut", "basis"),
+            read_coin,
+            begins=(*AGAIN, "-initialSolve", "-basisOut", "basis"),
+            lines_of=coin_lines,
+        ),
         Solver("lp_solve", ("-S3", "-wbas", "basis"), read_lp_solve, has_far_sides=True),
         Solver("esolver", ("-O", "solution", "-b", "basis"), read_esolver),
         # As HiGHS is documented; it was never run.
@@ -154,11 +205,11 @@ SOLVERS = {
 }
 
 
-
-
-def command_of(solver: Solver, command: List[str]) -> List[str]:
+def command_of(solver: Solver, command: List[str], arguments: Sequence[str]) -> List[str]:
     """The command, with the solver's arguments before the text for esolver, whose words come first, and else behind."""
-    return [command[0], *solver.arguments, *command[1:]] if solver.name == "esolver" else [*command, *solver.arguments]
+    if solver.name == "esolver":
+        return [command[0], *arguments, *command[1:]]
+    return [*command, *arguments]
 
 
 def side_of(row: Row, status: str) -> str:
@@ -185,9 +236,17 @@ def renamed_back(claim: Claim, rows: Dict[str, str], columns: Dict[str, str], se
     return Claim(claim.said, claim.value, basis, parts)
 
 
-def ask(name: str, model: Model, seconds: Optional[float] = None) -> Claim:
+def with_new_names(basis: Basis, rows: Dict[str, str], columns: Dict[str, str]) -> Basis:
+    """The basis with the other names, of which those that have none are left out."""
+    return Basis(
+        {columns[name]: status for name, status in basis.columns.items() if name in columns},
+        {rows[name]: status for name, status in basis.rows.items() if name in rows},
+    )
+
+
+def ask(name: str, model: Model, seconds: Optional[float] = None, begin: Optional[Basis] = None) -> Claim:
     """What a solver says of the model, written with plain names, without its free rows, and with numbers rounded where it reads no
-    quotients. Without a solver there is a rough basis of the package's own."""
+    quotients. It begins with a basis that is given, if it can. Without a solver there is a rough basis of the package's own."""
     if name == NONE:
         from .rough import rough_basis  # here, since few commands need it
 
@@ -200,15 +259,24 @@ def ask(name: str, model: Model, seconds: Optional[float] = None) -> Claim:
     columns = {column: f"C{j}" for j, column in enumerate(model.columns)}
     plain = with_names(limiting, {**rows, model.objective: "OBJ"}, columns)
     plain.name = "model"
+    ways = [solver.quick, solver.arguments] if model.is_large and solver.quick else [solver.arguments]
+    if begin is not None and solver.begins:
+        ways = [solver.begins]
     with tempfile.TemporaryDirectory() as place:
         folder = Path(place)
         out = written(plain, DIALECTS[name], rounds=True, path="model.mps")
         (folder / "model.mps").write_text(out.text)
-        try:
-            done = subprocess.run(command_of(solver, out.command), cwd=folder, capture_output=True, timeout=seconds, stdin=subprocess.DEVNULL)
-        except subprocess.TimeoutExpired:
-            return Claim(f"nothing within {seconds} seconds")
-        claim = solver.read((done.stdout + done.stderr).decode("latin-1"), folder)
+        if begin is not None:
+            (folder / BEGIN).write_text("".join(f"{line}\n" for line in solver.lines_of(plain, with_new_names(begin, rows, columns))))
+        for arguments in ways:
+            try:
+                command = command_of(solver, out.command, arguments)
+                done = subprocess.run(command, cwd=folder, capture_output=True, timeout=seconds, stdin=subprocess.DEVNULL)
+            except subprocess.TimeoutExpired:
+                return Claim(f"nothing within {seconds} seconds")
+            claim = solver.read((done.stdout + done.stderr).decode("latin-1"), folder)
+            if claim.said == "OPTIMAL":
+                break
     if claim.value is not None and DIALECTS[name].offset_sign == 0:
         claim.value += model.offset
     if claim.basis and solver.has_far_sides:

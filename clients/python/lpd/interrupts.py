@@ -9,6 +9,12 @@ from typing import List, Optional
 
 INTERRUPTED = 130  # as a shell has it for the signal that ends other programs then
 WORDS = "lpd: interrupted"
+kept: List[str] = []  # the files that were written, which an interrupt leaves as they are
+
+
+def words() -> str:
+    """That the command ends, and what is kept of it."""
+    return f"{WORDS}: {', '.join(kept)} {'is' if len(kept) == 1 else 'are'} written" if kept else WORDS
 
 
 def is_command() -> bool:

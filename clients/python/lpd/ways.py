@@ -11,6 +11,9 @@ the first way has no answer, a person still wants one. The other ways are, one a
 
 They have some seconds together: the first may take a half, each further one half of those that are left, and the last one
 all. Whatever finds an answer, its certificate is judged, and it is said who accepted it.
+
+A large model, which has more rows or columns than `lpd solve` takes, goes to `lpd solve --wide` whatever else is asked for, and then
+the basis of one solver after the other, of those that are there, to `lpd basis --wide`. It has more seconds.
 """
 from __future__ import annotations
 
@@ -18,17 +21,17 @@ import contextlib
 import shutil
 import threading
 from dataclasses import dataclass, field, replace
-from typing import TYPE_CHECKING, Callable, Iterator, List, Optional
+from typing import TYPE_CHECKING, Callable, Iterator, List, Optional, Sequence
 
 from .certificate import check_lines
-from .errors import CommandMissing, LpdError, ProgramEnded, TextFault
+from .errors import TOO_MUCH, TOO_WIDE, CommandMissing, LpdError, ProgramEnded, TextFault
 from .exact import OutOfTime, Watch
-from .judging import LPD_CHECK, LPD_CHECK_WIDE, TOO_WIDE, Judged, NotCertified, judged
-from .model import Model
+from .judging import LARGE, LPD_CHECK, LPD_CHECK_WIDE, Judged, NotCertified, judged
+from .model import MOST_COLUMNS, MOST_ROWS, Model
 from .program import Program
 from .replies import Accepted, Answer, Open, Past, Spent
 from .session import Session
-from .solver_names import NAMES, NONE
+from .solver_names import NAMES, NONE, QUICKEST_FIRST
 from .wide import solve_wide
 
 if TYPE_CHECKING:
@@ -37,6 +40,8 @@ if TYPE_CHECKING:
     from .presolving import Presolved, Size
 
 SECONDS = 60.0  # for all ways of a model together but lpd solve
+LARGE_SECONDS = 600.0  # for all ways of a large model
+SECONDS_WORDS = f"{SECONDS:g}, and {LARGE_SECONDS:g} for a model of more than {MOST_ROWS} rows or {MOST_COLUMNS} columns"
 OUT_OF_MEMORY = 5  # the status of the program
 BOTH, WIDE, ALONE = (f"{LPD_CHECK} and the checker in Python", f"{LPD_CHECK_WIDE} and the checker in Python", "the checker in Python alone")
 SOLVE, PRESOLVE, SOLVE_WIDE = "lpd solve", "lpd presolve", "lpd solve --wide"
@@ -46,29 +51,40 @@ class WayFailed(LpdError):
     """A way led to no answer. Its words say why, where that is to be told."""
 
 
+class Unanswered(LpdError):
+    """No way leads to an answer."""
+
+    ends_with = 12
+
+
 @dataclass(frozen=True)
 class Effort:
     """How far it goes: at most so many pivots of the program (a number that is set is kept to, unless a solver is named),
-    whether the program alone is asked, which other solver (else the first that is there), how many seconds all ways but `lpd solve`
-    have, and how many that has (else as many as it takes). `wide_first` says whether `lpd solve --wide` is asked first, which is so
+    whether the program alone is asked, which other solver (else the first that is there, or each of them), how many seconds all ways
+    but `lpd solve` have (else SECONDS, or LARGE_SECONDS), and how many that has (else as many as it takes). `wide_first` says whether `lpd solve --wide` is asked first, which is so
     where it says nothing and nothing else is asked for. With `presolve` `lpd presolve` is. Both have a budget of their own. Without
     `wide` no answer is taken whose numbers pass 127 bits."""
 
     budget: Optional[int] = None
     only_lpd: bool = False
     solver: Optional[str] = None
-    seconds: float = SECONDS
+    seconds: Optional[float] = None
     solve_seconds: Optional[float] = None
     presolve: bool = False
     wide_first: Optional[bool] = None
     wide: bool = True
 
-    @property
-    def begins_wide(self) -> bool:
+    def begins_wide(self, model: Model) -> bool:
         """Whether `lpd solve --wide` comes first."""
+        if model.is_large and self.wide:
+            return True
         if self.wide_first is not None:
             return self.wide_first
         return self.wide and not (self.only_lpd or self.presolve) and self.budget is None
+
+    def limit(self, model: Model) -> float:
+        """How many seconds all ways have together."""
+        return self.seconds if self.seconds is not None else LARGE_SECONDS if model.is_large else SECONDS
 
 
 @dataclass(frozen=True)
@@ -118,16 +134,22 @@ def ask(solver: str, model: Model, seconds: Optional[float]) -> Claim:
     return floating.ask(solver, model, seconds)
 
 
-def made_exact(text: str, model: Model, claim: Claim, wide: bool, watch: Watch) -> Exact:
+def made_exact(text: str, model: Model, claim: Claim, wide: bool, watch: Watch, solver: str) -> Exact:
     from . import certifying
 
-    return certifying.made_exact(text, model, claim, watch=watch, wide=wide)
+    try:
+        return certifying.made_exact(text, model, claim, watch=watch, wide=wide, solver=solver)
+    except (certifying.NotAnswered, certifying.TooLarge) as failed:
+        raise WayFailed(f"from {solver}'s basis {failed}") from None
 
 
 def other_solver(named: Optional[str]) -> str:
     """The solver that is named, or else the first that is on the path, or none."""
-    there = [name for name in NAMES if shutil.which(name)]
-    return named or (there[0] if there else NONE)
+    return named or (solvers_there(NAMES) or [NONE])[0]
+
+
+def solvers_there(names: Sequence[str]) -> List[str]:
+    return [name for name in names if shutil.which(name)]
 
 
 def by_lpd(text: str, model: Model, budget: Optional[int] = None, seconds: Optional[float] = None) -> Answered:
@@ -163,8 +185,10 @@ def judges_of(command: str, text: str, model: Model, answer: Answer, certificate
     """Who accepts the certificate that a command wrote behind its answer, in words; nobody where it wrote none."""
     if not certificate:
         return ""
-    by = judged(text, certificate)
-    for known in (by.known or answer, known_in_python(model, certificate)):
+    with Watch() as watch, watch.telling("the checkers"):
+        by = judged(text, certificate, model.is_large)
+        known_here = known_in_python(model, certificate)
+    for known in (by.known or answer, known_here):
         if known != answer:
             raise NotCertified(f"{command} answers {answer}, and a checker says {known} to its certificate")
     return accepted_by(by)
@@ -218,11 +242,12 @@ def way_of(found: Exact, solver: str) -> str:
 def from_basis(text: str, model: Model, solver: str, wide: bool, watch: Watch) -> Answered:
     """The answer from the basis of a solver, or from one of the package's own, with `wide` by `lpd basis --wide`. OutOfTime says that
     the seconds were not enough."""
-    claim = ask(solver, model, watch.left())
+    with watch.telling(solver):
+        claim = ask(solver, model, watch.left())
     if solver != NONE and claim.basis is None and not claim.parts:
         raise WayFailed(f"{solver} gives no basis, and says: {claim.said}")
-    found = made_exact(text, model, claim, wide, watch)
-    by = judged(text, found.certificate)
+    found = made_exact(text, model, claim, wide, watch, solver)
+    by = judged(text, found.certificate, model.is_large)
     if by.known not in (None, found.known):
         raise NotCertified(f"{by.judge} says {by.known}, and the checker in Python {found.known}")
     return Answered(found.known, found.certificate, way_of(found, solver), accepted_by(by), found.steps, found.notes, solver=solver)
@@ -238,16 +263,23 @@ def accepted_by(found: Judged) -> str:
 def by_program(text: str, model: Model, effort: Effort) -> Answered:
     """The answer of the program's own solve, or of its wide solve or its presolve where those come first and the program has them."""
     try:
+        if effort.begins_wide(model):
+            with Watch(effort.limit(model)) as watch, watch_of(effort, watch) as part:
+                return with_note_of_size(by_solve_wide(text, model, part), effort)
         if effort.presolve:
             return by_presolve(text, model, effort.solve_seconds)
-        if effort.begins_wide:
-            with Watch(effort.seconds) as watch, watch_of(effort, watch) as part:
-                return by_solve_wide(text, model, part)
     except CommandMissing as missing:
         found = by_lpd(text, model, effort.budget, effort.solve_seconds)
         is_told = effort.presolve or effort.wide_first
         return replace(found, notes=[*([f"{missing}, so lpd solve was asked"] if is_told else []), *found.notes])
     return by_lpd(text, model, effort.budget, effort.solve_seconds)
+
+
+def with_note_of_size(found: Answered, effort: Effort) -> Answered:
+    """What is not done as it was asked for, since the model is large."""
+    if effort.budget is None and not effort.presolve:
+        return found
+    return replace(found, notes=[f"{LARGE}, so {SOLVE_WIDE} was asked", *found.notes])
 
 
 def watch_of(effort: Effort, watch: Watch) -> Watch:
@@ -260,14 +292,16 @@ def by_lpd_first(text: str, model: Model, effort: Effort) -> "tuple[Optional[Ans
     try:
         found = by_program(text, model, effort)
     except TextFault as fault:
-        if fault.fault != TOO_WIDE or effort.only_lpd or not effort.wide:
+        if fault.fault not in (TOO_WIDE, TOO_MUCH) or effort.only_lpd or not effort.wide:
             raise
+        if fault.fault == TOO_MUCH:
+            return None, f"{LARGE}, which {SOLVE_WIDE} of this program does not take"
         return None, f"line {fault.line} of the model has a number past 127 bits"
     except (OutOfTime, ProgramEnded) as failed:
-        if not effort.begins_wide or effort.only_lpd or isinstance(failed, ProgramEnded) and failed.status != OUT_OF_MEMORY:
+        if not effort.begins_wide(model) or effort.only_lpd or isinstance(failed, ProgramEnded) and failed.status != OUT_OF_MEMORY:
             raise
         return None, str(failed)
-    is_meant = isinstance(found.answer, Spent) and effort.budget is not None and effort.solver is None
+    is_meant = isinstance(found.answer, Spent) and found.way == SOLVE and effort.budget is not None and effort.solver is None
     return found, "" if found.certificate or effort.only_lpd or is_meant else ended_with(found)
 
 
@@ -313,12 +347,22 @@ def by_solve_wide_then(text: str, model: Model, effort: Effort, watch: Watch) ->
     return found
 
 
+def from_basis_of(solver: str) -> Way:
+    def way(text: str, model: Model, effort: Effort, watch: Watch) -> Answered:
+        return from_basis(text, model, solver, effort.wide, watch)
+
+    return way
+
+
 def from_own_basis(text: str, model: Model, effort: Effort, watch: Watch) -> Answered:
     return from_basis(text, model, NONE, effort.wide, watch)
 
 
-def ways_after(first: Optional[Answered], effort: Effort) -> List[Way]:
+def ways_after(first: Optional[Answered], model: Model, effort: Effort) -> List[Way]:
     """The ways that are left, in their order, where the program ended so, or refused a text with such numbers."""
+    if model.is_large:
+        names = [effort.solver] if effort.solver else solvers_there(QUICKEST_FIRST)
+        return [from_basis_of(name) for name in names if name != NONE]
     past = first.way.partition(",")[0] if first is not None and isinstance(first.answer, (Past, Open)) else None
     wide: List[Way] = [by_solve_wide_then] if past in (SOLVE, PRESOLVE) and effort.wide and effort.wide_first is None else []
     basis: List[Way] = [from_another_basis] if other_solver(effort.solver) != NONE else []
@@ -327,24 +371,34 @@ def ways_after(first: Optional[Answered], effort: Effort) -> List[Way]:
 
 
 def answered(text: str, model: Model, effort: Effort = Effort()) -> Answered:
-    """The answer to the model of a text of the profile in free form, whose numbers may have any width."""
+    """The answer to the model of a text of the profile in free form, whose numbers may have any width, and which may be large."""
     first, ended = by_lpd_first(text, model, effort)
     if first is not None and not ended:
         return first
-    notes, ways = [*(first.notes if first else []), ended], ways_after(first, effort)
-    with Watch(effort.seconds if first is not None or not effort.begins_wide else effort.seconds / 2) as watch:
-        for way in ways:
-            try:
-                if way is ways[-1]:
-                    found = way(text, model, effort, watch)
-                else:
-                    with watch.half() as part:
-                        found = way(text, model, effort, part)
-                if effort.wide or found.accepted_by == BOTH:
-                    return replace(found, notes=[*notes, *found.notes])
-                notes.append(f"{found.way} has an answer whose numbers pass 127 bits, which is not wanted")
-            except (WayFailed, OutOfTime) as failed:
-                notes += [str(failed)] if str(failed) else []
+    notes = [*(first.notes if first else []), ended]
+    seconds = effort.limit(model) / (1 if first is not None or not effort.begins_wide(model) else 2)
+    with Watch(seconds) as watch:
+        found = by_ways(ways_after(first, model, effort), text, model, effort, watch, notes)
+        is_late = watch.left() == Watch.LEAST
+    if found is not None:
+        return replace(found, notes=[*notes, *found.notes])
     if first is None:
-        raise OutOfTime(", and ".join(notes))
+        raise (OutOfTime if is_late or not model.is_large else Unanswered)(", and ".join(notes))
     return replace(first, notes=notes)
+
+
+def by_ways(ways: List[Way], text: str, model: Model, effort: Effort, watch: Watch, notes: List[str]) -> Optional[Answered]:
+    """The answer of the first way that has one. Why those before have none is put to the notes."""
+    for way in ways:
+        try:
+            if way is ways[-1]:
+                found = way(text, model, effort, watch)
+            else:
+                with watch.half() as part:
+                    found = way(text, model, effort, part)
+            if effort.wide or found.accepted_by == BOTH:
+                return found
+            notes.append(f"{found.way} has an answer whose numbers pass 127 bits, which is not wanted")
+        except (WayFailed, OutOfTime) as failed:
+            notes += [str(failed)] if str(failed) else []
+    return None

@@ -13,10 +13,11 @@ import threading
 import time
 import unittest
 from pathlib import Path
-from typing import Dict, List
+from typing import Dict, List, NoReturn
+from unittest import mock
 
 from lpd import tables
-from lpd.batching import Result, tasks_of
+from lpd.batching import Result, Task, Work, by_processes, tasks_of
 from lpd.figures import FRACTIONS
 from lpd.tables import cells_of
 
@@ -30,6 +31,11 @@ WHOLE = "ROWS\n N cost\nCOLUMNS\n M1 'MARKER' 'INTORG'\n x cost 1\n M2 'MARKER' 
 SETS = "NAME\nROWS\n N cost\n G a\n G b\nCOLUMNS\n x cost 2 a 1\n x b 1\nRHS\n RHS1 a 3\n RHS2 b 11\nENDATA\n"
 SECONDS = 1200
 COLUMNS = ["model", "rows", "columns", "answer", "value", "way", "accepted by", "pivots", "seconds", "note"]
+
+
+def ended(task: Task, work: Work) -> NoReturn:
+    """What a process does that is ended."""
+    os._exit(1)
 
 
 def rows_of(text: str) -> List[Dict[str, str]]:
@@ -152,6 +158,20 @@ class Batch(unittest.TestCase):
         one, two = (command("batch", str(MODELS), "--csv", "--jobs", jobs) for jobs in ("1", "3"))
         self.assertEqual((one.status, two.status), (0, 0))
         self.assertEqual(rows_of(one.output), sorted(rows_of(two.output), key=lambda row: row["model"]))
+
+    def test_a_limit_of_memory(self) -> None:
+        said = command("batch", str(MODELS / "diet.mps"), "--memory", "255")
+        self.assertEqual((said.status, said.output), (2, ""))
+        self.assertIn("255 is no number of megabytes, from 256 to 9999999", said.complaints)
+        self.assertIn("1 OPTIMAL", command("batch", str(MODELS / "diet.mps"), "--memory", "4096").output)
+
+    def test_a_process_that_is_ended_at_a_limit(self) -> None:
+        """It is tried once more, in a process of its own, and fails then."""
+        tasks = [Task(name, MODELS / f"{name}.mps") for name in ("diet", "plan")]
+        with mock.patch("lpd.batching.result_of_file", ended):
+            found = list(by_processes(tasks, Work(memory=2**32), 2))
+        self.assertEqual([(result.name, result.answer) for result in found], [("diet", "FAILED"), ("plan", "FAILED")])
+        self.assertEqual(found[0].notes, ["its process was ended: --memory allows more"])
 
     @unittest.skipUnless(shutil.which("clp"), "clp is not on the path")
     def test_certificates(self) -> None:

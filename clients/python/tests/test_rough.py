@@ -60,7 +60,8 @@ class RoughBasis(unittest.TestCase):
             def isatty(self) -> bool:
                 return True
 
-        for stream, said in ((Terminal(), "\r\x1b[K3 exact steps in Python, all limits are kept, 5 seconds\r\x1b[K"), (io.StringIO(), "")):
+        line = "[##..................] 3 exact steps in Python, all limits are kept, 5 of at most 60 seconds"
+        for stream, said in ((Terminal(), f"\r\x1b[K{line}\r\x1b[K"), (io.StringIO(), "")):
             with mock.patch("sys.stderr", stream), mock.patch("time.monotonic", return_value=100.0), Watch(60) as watch:
                 watch.started -= 5
                 watch.step(3, "all limits are kept")

@@ -6,6 +6,7 @@ import sys
 from pathlib import Path
 from typing import Dict, Iterator, List, Optional
 
+from .. import progress
 from ..batching import FAILED, Result, Task, Work, by_dask, by_processes, one_by_one, tasks_of
 from ..certifying import WAYS
 from ..figures import Style
@@ -13,14 +14,24 @@ from ..interrupts import INTERRUPTED, WORDS
 from ..judging import LPD_CHECK, LPD_CHECK_WIDE, PYTHON_ALONE
 from ..solver_names import CHOICES
 from ..tables import OTHER, SAME, Cells, Kept, Writer, against, cells_of, columns_of, read_optima
-from ..ways import SECONDS, Effort
+from ..ways import SECONDS_WORDS, Effort
 from .common import add_options, add_presolve, budget, options_of, print_prose, seconds, tell
+
+
+LEAST_MEMORY = 256  # megabytes, of which Python's own take some
 
 
 def jobs(word: str) -> int:
     if not (word.isascii() and word.isdigit() and len(word) <= 3 and int(word) >= 1):
         raise argparse.ArgumentTypeError(f"{word} is no number of processes, from 1 to 999")
     return int(word)
+
+
+def megabytes(word: str) -> int:
+    """How many bytes a process may have."""
+    if not (word.isascii() and word.isdigit() and len(word) <= 7 and int(word) >= LEAST_MEMORY):
+        raise argparse.ArgumentTypeError(f"{word} is no number of megabytes, from {LEAST_MEMORY} to 9999999")
+    return int(word) * 2**20
 
 
 def add(commands: "argparse._SubParsersAction[argparse.ArgumentParser]") -> None:
@@ -36,8 +47,10 @@ def add(commands: "argparse._SubParsersAction[argparse.ArgumentParser]") -> None
     batch.add_argument("--only-lpd", action="store_true", help="takes PAST and SPENT for the end, and goes no other way")
     batch.add_argument("--with", dest="solver", choices=CHOICES, help="certifies each model too, as the command certify does")
     batch.add_argument("--by", dest="way", choices=WAYS, help="what makes its basis exact, as in the command certify")
-    limit = f"how long the other ways of a model may take together, and a certificate of its own ({SECONDS:g})"
-    batch.add_argument("--seconds", type=seconds, metavar="N", default=SECONDS, help=limit)
+    limit = f"how long the other ways of a model may take together, and a certificate of its own ({SECONDS_WORDS})"
+    batch.add_argument("--seconds", type=seconds, metavar="N", help=limit)
+    most = "how many megabytes each process, and each program that it asks, may have (as many as there are), but by --dask"
+    batch.add_argument("--memory", type=megabytes, metavar="MB", help=most)
     batch.add_argument("--optima", metavar="FILE", help="compares with known answers: lines of a name, an outcome and a value, between tabs")
     resume = "keeps the table in this file too, as CSV, and takes what stands there of an earlier run"
     batch.add_argument("--resume", metavar="TABLE", help=resume)
@@ -46,33 +59,30 @@ def add(commands: "argparse._SubParsersAction[argparse.ArgumentParser]") -> None
     engine.add_argument("--dask", metavar="ADDRESS", help="gives the models to the scheduler of Dask at this address")
     batch.add_argument("--exact", action="store_true", help="shows values as they are, as fractions where they have no short decimal")
     output = batch.add_mutually_exclusive_group()
-    output.add_argument("--json", action="store_true", help="a list of objects, as docs/JSON.md has it")
+    output.add_argument("--json", action="store_true", help="a list of objects, as docs/PYTHON.md has it")
     output.add_argument("--csv", action="store_true")
 
 
 def results(tasks: List[Task], words: argparse.Namespace) -> Iterator[Result]:
     """The results by the engine that is asked for, as they come."""
     effort = Effort(words.budget, words.only_lpd, words.solver, words.seconds, presolve=words.presolve)
-    work = Work(words.form, options_of(words), effort, words.solver, words.way)
+    work = Work(words.form, options_of(words), effort, words.solver, words.way, words.memory)
     if words.dask:
         return by_dask(tasks, work, words.dask)
-    return one_by_one(tasks, work) if words.jobs == 1 else by_processes(tasks, work, words.jobs)
+    return one_by_one(tasks, work) if words.jobs == 1 and words.memory is None else by_processes(tasks, work, words.jobs)
 
 
 class Progress:
-    """On a terminal one line of standard error, which is renewed, and else a line for each model that is done."""
+    """On a terminal one line of standard error with a bar, which is renewed, and else a line for each model that is done."""
 
     def __init__(self, count: int) -> None:
-        self.count, self.done, self.is_live = count, 0, sys.stderr.isatty()
-
-    def clear(self) -> None:
-        if self.is_live:
-            print("\r\x1b[K", end="", file=sys.stderr, flush=True)
+        self.count, self.done = count, 0
 
     def show(self, name: str = "") -> None:
         self.done += bool(name)
-        if self.is_live:
-            print(f"\r\x1b[K{self.done}/{self.count} {name}", end="", file=sys.stderr, flush=True)
+        if progress.is_live():
+            bar = progress.bar(self.done, self.count)
+            print(f"{progress.CLEAR}{bar} {self.done}/{self.count} {name}", end="", file=sys.stderr, flush=True)
         elif name:
             tell(f"{self.done}/{self.count} {name}")
 
@@ -138,8 +148,8 @@ def found_cells(tasks: List[Task], words: argparse.Namespace, kept: Optional[Kep
     old = dict(kept.rows) if kept else {}
     yield from (old[task.name] for task in tasks if task.name in old)
     left = [task for task in tasks if task.name not in old]
-    progress = Progress(len(left))
-    progress.show()
+    shown = Progress(len(left))
+    shown.show()
     try:
         for result in results(left, words):
             cells = cells_of(result)
@@ -149,6 +159,6 @@ def found_cells(tasks: List[Task], words: argparse.Namespace, kept: Optional[Kep
                 kept.add(cells)
             progress.clear()
             yield cells
-            progress.show(result.name)
+            shown.show(result.name)
     finally:
         progress.clear()

@@ -11,6 +11,7 @@ from ..certifying import PYTHON, WAYS, Certified, NotAnswered, certify
 from ..reading import is_lp, read_model_file
 from ..solver_names import CHOICES, NONE
 from ..tables import claim_of, off_of
+from ..ways import SECONDS_WORDS, Effort
 from .common import PYTHON_ALONE, add_options, add_style, converted, options_of, print_prose, put_beside, seconds, status_of, style_of, tell
 from .reports import shown_answer
 
@@ -20,8 +21,9 @@ def add(commands: "argparse._SubParsersAction[argparse.ArgumentParser]") -> None
     certifies.set_defaults(run=run)
     certifies.add_argument("model", help="a file of MPS text, or of the LP format (.lp) or GNU MathProg (.mod), each also with .gz, or - for standard input")
     certifies.add_argument("--with", dest="solver", choices=CHOICES, default="glpsol", help="the solver that is asked for a basis (glpsol), or none")
-    certifies.add_argument("--seconds", type=seconds, metavar="N", help="how long the solver may take; then the exact steps begin at no basis of its own")
-    ways = "what makes its basis exact: lpd basis --wide, or steps in Python (lpd, and python where that has no answer)"
+    limit = f"how long the solver may take, and as long what makes its basis exact ({SECONDS_WORDS})"
+    certifies.add_argument("--seconds", type=seconds, metavar="N", help=limit)
+    ways = "what makes its basis exact: lpd basis --wide, or steps in Python (lpd, and of a model that is not large python where that has no answer)"
     certifies.add_argument("--by", dest="way", choices=WAYS, help=ways)
     certifies.add_argument("--form", choices=["free", "fixed"], help="the form of the text (the one that fits)")
     add_options(certifies)
@@ -54,10 +56,10 @@ def as_json(found: Certified, solver: str, seconds: float) -> str:
 def run(words: argparse.Namespace) -> int:
     started = time.monotonic()
     options = options_of(words)
-    read = converted(words, read_model_file(words.model), replace(options, wide=True))
+    read = converted(words, read_model_file(words.model), replace(options, wide=True, large=True))
     text, changed = read.text, bool(read.changes) or is_lp(words.model)
     try:
-        found = certify(text, words.solver, words.seconds, words.way)
+        found = certify(text, words.solver, Effort(seconds=words.seconds).limit(read.model), words.way)
     except NotAnswered as failed:
         if failed.answer is None:
             raise

@@ -9,8 +9,9 @@ from fractions import Fraction
 from pathlib import Path
 from typing import TYPE_CHECKING, List, Optional, Sequence
 
-from ..errors import TextFault
+from ..errors import LIMITS, TextFault
 from ..figures import READABLE, Style
+from ..interrupts import kept
 from ..model import Model
 from ..names import Renamed
 from ..reading import is_lp, unpacked
@@ -41,6 +42,7 @@ def put(text: str, path: Optional[str]) -> None:
         sys.stdout.flush()
     else:
         Path(path).write_bytes(data)
+        kept.append(path)
 
 
 def put_beside(path: str, lines: Sequence[str], text: Optional[str]) -> None:
@@ -184,14 +186,14 @@ def converted(words: argparse.Namespace, data: bytes, options: Optional[Options]
 
 
 def in_dialect(words: argparse.Namespace, data: bytes, fault: TextFault, wide: bool = True) -> Converted:
-    """The text of another dialect in the profile, where it is one: else the fault is raised with which the profile refuses it, and a
-    question that a reader has to answer is asked."""
+    """The text of another dialect in the profile, where it is one: else the fault is raised with which the profile refuses it, or that
+    of a limit which a wide one would not pass, and a question that a reader has to answer is asked."""
     from ..conversion import Question, convert
 
     try:
         found = convert(data, words.form, replace(options_of(words), wide=wide))
-    except TextFault:
-        raise fault from None
+    except TextFault as other:
+        raise other if other.fault in LIMITS and not wide else fault from None
     except Question as question:
         raise question.without_line() if is_lp(words.model) else question from None
     count = len(found.changes)

@@ -6,11 +6,12 @@ import sys
 from dataclasses import replace
 from fractions import Fraction
 from pathlib import Path
-from typing import TYPE_CHECKING, Dict, List, NamedTuple, Optional, Sequence, Tuple
+from typing import TYPE_CHECKING, Dict, Iterator, List, NamedTuple, Optional, Sequence, Tuple
 
 from .. import errors
 from ..dialects import PROFILE, written
 from ..figures import Style
+from ..judging import LARGE
 from ..model import Model, read_model
 from ..number_text import shown
 from ..reading import MATHPROG, end_of, is_lp, read_model_file
@@ -19,7 +20,7 @@ from ..report import Report, conflict, report
 from ..rounding import rounded
 from ..solver_names import CHOICES
 from ..version import version
-from ..ways import BOTH, SECONDS, Answered, Effort, answered
+from ..ways import BOTH, SECONDS_WORDS, Answered, Effort, answered
 from .common import add_options, add_presolve, as_text, budget, converted, csv_line, number_in, options_of, put_beside, seconds, skipped_words
 from .common import PYTHON_ALONE, add_style, in_dialect, in_lines, print_prose, status_of, style_of, tell
 from .reports import offset_words, print_report, shown_answer, words_for
@@ -58,17 +59,17 @@ def add(commands: "argparse._SubParsersAction[argparse.ArgumentParser]") -> None
     add_ranges(solve)
     add_iis(solve)
     output = solve.add_mutually_exclusive_group()
-    output.add_argument("--json", action="store_true", help="an object, as docs/JSON.md has it")
+    output.add_argument("--json", action="store_true", help="an object, as docs/PYTHON.md has it")
     output.add_argument("--csv", action="store_true", help="a line for each column and row")
 
 
 def add_ways(parser: argparse.ArgumentParser) -> None:
     """What is done where lpd has no answer within 127 bits."""
     parser.add_argument("--only-lpd", action="store_true", help="takes PAST and SPENT for the end, and goes no other way")
-    solver = "the solver whose basis is made exact where lpd has no answer (the first that is there, or none)"
+    solver = "the solver whose basis is made exact where lpd has no answer (the first that is there, or none; of a large model one after the other)"
     parser.add_argument("--with", dest="solver", choices=CHOICES, help=solver)
-    limit = f"how long the other ways of a model may take together ({SECONDS:g})"
-    parser.add_argument("--seconds", type=seconds, metavar="N", default=SECONDS, help=limit)
+    limit = f"how long lpd solve --wide and the other ways of a model may take together, of which each has half of what is left ({SECONDS_WORDS})"
+    parser.add_argument("--seconds", type=seconds, metavar="N", help=limit)
 
 
 def add_objective(parser: argparse.ArgumentParser) -> None:
@@ -143,10 +144,10 @@ def conflict_in_json(model: Model, certificate: List[str]) -> Dict[str, object]:
     return {**told, "rows": rows, "asked": shown(found.asked), "allowed": shown(found.allowed)}
 
 
-def as_json(found: Answered, model: Model, point: Optional[Report], show: str, places: Optional[int], more: Dict[str, object]) -> str:
+def as_json(
+    found: Answered, model: Model, point: Optional[Report], show: str, places: Optional[int], more: Dict[str, object]
+) -> Dict[str, object]:
     """An object with the answer and its parts, and with `more`, which is asked for by name."""
-    import json  # here, since it is asked for seldom
-
     answer = found.answer
     told: Dict[str, object] = {"answer": str(answer), "kind": str(answer).split(" ")[0]}
     if isinstance(answer, Optimal):
@@ -158,10 +159,18 @@ def as_json(found: Answered, model: Model, point: Optional[Report], show: str, p
         told.update(parts_of(point, show, places))
     if found.reduced:
         told["reduced"] = found.reduced._asdict()
-    return json.dumps({**told, **more, "certificate": found.certificate, "lpd": version()}, indent=2)
+    return {**told, **more, "certificate": found.certificate, "lpd": version()}
 
 
-def as_csv(
+def print_json(told: Dict[str, object]) -> None:
+    """Writes an object piece by piece, since that of a large model is long."""
+    import json  # here, since it is asked for seldom
+
+    sys.stdout.writelines(json.JSONEncoder(indent=2).iterencode(told))
+    print()
+
+
+def csv_lines(
     found: Answered,
     aim: Optional[Aim],
     point: Optional[Report],
@@ -169,19 +178,18 @@ def as_csv(
     style: Style,
     ranges: Optional[Ranges],
     before: Optional[Unchanged] = None,
-) -> str:
+) -> Iterator[str]:
     """Lines whose last cell is = where all their numbers are exact: first those of the answer, then one for each column (value, reduced
     cost), and one for each row (sum, price, slack); of ranges also the cost, or the right side, and the ends of its range."""
     lines = lines_of_answer(found, aim, before) + (lines_of_point(point, show) if point else [])
-    told = [["kind", "name", "value", "price", "slack", *(["now", "low", "high"] if ranges else []), "exact"]]
+    yield csv_line(["kind", "name", "value", "price", "slack", *(["now", "low", "high"] if ranges else []), "exact"])
     for line in lines:
         more: List[str] = []
         if ranges:
             from .range_tables import csv_cells
 
             more = csv_cells(ranges, line.kind, line.name, style, line.values)
-        told.append([line.kind, line.name, *(style.plain(value) for value in line.values[:3]), *more, style.mark(*line.values)])
-    return "\n".join(csv_line(line) for line in told)
+        yield csv_line([line.kind, line.name, *(style.plain(value) for value in line.values[:3]), *more, style.mark(*line.values)])
 
 
 def lines_of_answer(found: Answered, aim: Optional[Aim], before: Optional[Unchanged]) -> List[Line]:
@@ -240,7 +248,7 @@ def loaded(words: argparse.Namespace) -> Loaded:
         tell("note: glpsol reads .mod, and gives numbers in 15 digits")
     read = None if words.convert or words.relax else as_it_is(words, data)
     if read is None:
-        found = converted(words, data, replace(options_of(words), wide=True))
+        found = converted(words, data, replace(options_of(words), wide=True, large=True))
         read = Loaded(found.text, found.model, bool(found.changes))
     text, model, is_other = read.text, read.model, read.is_other or words.form == "fixed" or is_lp(words.model)
     if words.max or words.min:
@@ -264,7 +272,7 @@ def as_it_is(words: argparse.Namespace, data: bytes) -> Optional[Loaded]:
     """The model of a text of the profile; or of another dialect, which is told in a line."""
     text = as_text(data)
     try:
-        return Loaded(text, read_model(text, words.form == "fixed", wide=True), False)
+        return Loaded(text, read_model(text, words.form == "fixed", wide=True, large=True), False)
     except errors.TextFault as fault:
         found = in_dialect(words, data, fault)
     return Loaded(found.text, found.model, True)
@@ -320,9 +328,13 @@ def run(words: argparse.Namespace) -> int:
             tell(skipped)
         if words.csv and words.iis:
             tell("lpd: there is no list: --iis is for text and --json, and CSV has no cells for it")
-        ranges = ranges_of(words, text, found.answer)
-        is_json = as_json(found, model, point, words.show, words.decimals, more_in_json(words, text, model, found, ranges, aim, before)) if words.json else ""
-        print(is_json or as_csv(found, aim, point, words.show, style_of(words), ranges, before))
+        ranges = ranges_of(words, text, model, found.answer)
+        if words.json:
+            more = more_in_json(words, text, model, found, ranges, aim, before)
+            print_json(as_json(found, model, point, words.show, words.decimals, more))
+        else:
+            for line in csv_lines(found, aim, point, words.show, style_of(words), ranges, before):
+                print(line)
     else:
         print_answer(words, found, model, point, skipped, aim, before)
         sys.stdout.flush()
@@ -350,9 +362,12 @@ def named_number(words: argparse.Namespace, model: Model) -> Optional[Tuple[str,
     return number_named(model, words.plot)
 
 
-def ranges_of(words: argparse.Namespace, text: str, answer: Answer) -> Optional[Ranges]:
+def ranges_of(words: argparse.Namespace, text: str, model: Model, answer: Answer) -> Optional[Ranges]:
     """The ranges, where they are asked for and there are any."""
     if not words.ranges:
+        return None
+    if model.is_large:
+        tell(f"lpd: there are no ranges: {LARGE}")
         return None
     from .range_tables import asked_ranges
 
@@ -399,7 +414,7 @@ def unchanged_in_json(found: Answered, before: Unchanged, places: Optional[int])
 
 def print_more(words: argparse.Namespace, text: str, found: Answered, model: Model) -> None:
     """What is asked for behind the answer, and of an infeasible model what contradicts what, and what is enough."""
-    ranges = ranges_of(words, text, found.answer)
+    ranges = ranges_of(words, text, model, found.answer)
     if ranges:
         from .range_tables import print_ranges
 
