@@ -26,7 +26,8 @@ HEAD = '''#!/usr/bin/env python3
 
 It prints YES and what the certificate shows, NO and the number of the first condition that fails, or an ERR line. The status is 0
 behind YES and behind NO, as that of `lpd check` is, and 9 behind an ERR line: a script tests the first word. Why a certificate is not
-accepted goes to standard error. With --wide the numbers in the texts may be of any width too.
+accepted goes to standard error. With --wide the numbers in the texts may be of any width too,
+and a model as large as `lpd check --wide` takes it.
 
 This one file is all there is to it, and to read: it needs Python 3.8 or later and its standard library, shares nothing with the
 program, and is written from docs/FORMATS.md alone. tools/build_checker.py makes it of the checker in clients/python.
@@ -39,6 +40,7 @@ import re
 import sys
 from dataclasses import dataclass, field
 from fractions import Fraction
+from math import gcd
 '''
 FOOT = '''
 # ---- the command
@@ -47,7 +49,7 @@ FOOT = '''
 def main() -> int:
     parser = argparse.ArgumentParser(description="Checks a certificate after the text of a model.")
     parser.add_argument("--form", choices=["free", "fixed"], default="free")
-    parser.add_argument("--wide", action="store_true", help="numbers of any width")
+    parser.add_argument("--wide", action="store_true", help="numbers of any width, and large models")
     words = parser.parse_args()
     try:
         verdict = check(sys.stdin.buffer.read().decode("latin-1"), fixed=words.form == "fixed", wide=words.wide)

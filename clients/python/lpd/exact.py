@@ -7,7 +7,6 @@ certificate, and its word counts for nothing: a checker judges the certificate.
 from __future__ import annotations
 
 import contextlib
-import sys
 import threading
 import time
 from dataclasses import dataclass, field
@@ -15,6 +14,7 @@ from fractions import Fraction
 from types import TracebackType
 from typing import Dict, Iterator, List, Mapping, NamedTuple, Optional, Sequence, Set, Tuple, Type, Union
 
+from . import progress
 from .errors import LpdError
 from .model import ZERO, Limits, Model
 from .number_text import shown
@@ -31,8 +31,10 @@ class OutOfTime(LpdError):
 
 
 class Watch:
-    """Lets exact steps go on for so many seconds from the beginning of the block that it manages, or for ever. On a terminal it
-    says how far they are."""
+    """Lets exact steps go on for so many seconds from the beginning of the block that it manages, or for ever, and says how far
+    they are."""
+
+    LEAST = 0.1  # seconds that are said to be left, however late it is
 
     def __init__(self, seconds: Optional[float] = None) -> None:
         self.seconds, self.started, self.told = seconds, time.monotonic(), 0.0
@@ -43,16 +45,16 @@ class Watch:
 
     def __exit__(self, kind: Optional[Type[BaseException]], error: Optional[BaseException], trace: Optional[TracebackType]) -> None:
         if self.told:
-            print("\r\x1b[K", end="", file=sys.stderr, flush=True)
+            progress.clear()
 
     def left(self) -> Optional[float]:
         """How many seconds are left, in tenths."""
-        return None if self.seconds is None else max(0.1, round(self.seconds - (time.monotonic() - self.started), 1))
+        return None if self.seconds is None else max(self.LEAST, round(self.seconds - (time.monotonic() - self.started), 1))
 
     def half(self) -> Watch:
         """One for half of the seconds that are left."""
         left = self.left()
-        return Watch(None if left is None else max(0.1, round(left / 2, 1)))
+        return Watch(None if left is None else max(self.LEAST, round(left / 2, 1)))
 
     def step(self, steps: int, what: str) -> None:
         """Before each step: how many were made. OutOfTime ends them."""
@@ -61,11 +63,11 @@ class Watch:
         self.tell(f"{steps} exact steps in Python, {what}")
 
     def tell(self, what: str) -> None:
-        """On a terminal, each second: how far it is."""
+        """On a terminal each second, and else each minute: how far it is."""
         spent = time.monotonic() - self.started
-        if spent - self.told > 1 and sys.stderr.isatty():
+        if spent - self.told > progress.pause():
             self.told = spent
-            print(f"\r\x1b[K{what}, {spent:.0f} seconds", end="", file=sys.stderr, flush=True)
+            progress.tell(what, spent, self.seconds)
 
     @contextlib.contextmanager
     def telling(self, what: str) -> Iterator[None]:

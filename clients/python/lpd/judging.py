@@ -5,15 +5,15 @@ from __future__ import annotations
 from dataclasses import dataclass, replace
 from typing import List, Optional, Sequence
 
-from .errors import CertificateFault, CommandMissing, LpdError, TextFault, number_in
-from .model import words_of
+from .errors import TOO_MUCH, TOO_WIDE, CertificateFault, CommandMissing, LpdError, TextFault, number_in
+from .model import MOST_COLUMNS, MOST_ROWS, words_of
 from .once import output_of, unexpected_of
 from .replies import Accepted, Known, Past, Verdict
 from .session import Session, body_of, verdict_of
 
-TOO_WIDE = 10  # the fault of a text
 SHORTEST = 38  # characters of a number past 127 bits, if it is no decimal with an exponent, which no certificate of the program has
 LPD_CHECK, LPD_CHECK_WIDE, PYTHON_ALONE = "lpd check", "lpd check --wide", "python alone"
+LARGE = f"the model has more than {MOST_ROWS} rows or {MOST_COLUMNS} columns"
 
 
 class NotCertified(LpdError):
@@ -48,13 +48,16 @@ def check_wide(text: str, certificate: Sequence[str], fixed: bool = False, path:
     return verdict
 
 
-def judged(text: str, certificate: List[str]) -> Judged:
-    """By whom a certificate is accepted that the checker in Python accepts."""
+def judged(text: str, certificate: List[str], is_large: bool = False) -> Judged:
+    """By whom a certificate is accepted that the checker in Python accepts. That of a large model is one for `lpd check --wide`."""
+    if is_large:
+        found = judged_wide(text, certificate)
+        return replace(found, why=f"{LARGE}, and {found.why}" if found.why else LARGE)
     try:
         must_be_narrow(certificate)
         return Judged(LPD_CHECK, by_check(text, certificate))
     except TextFault as fault:
-        return too_wide(fault)
+        return judged_wide(text, certificate) if fault.fault == TOO_MUCH else too_wide(fault)
     except TooLong as long:
         found = judged_wide(text, certificate)
         return found if found.is_for_model else replace(found, why=f"{long}, and {found.why}" if found.why else str(long))
@@ -81,6 +84,9 @@ def judged_wide(text: str, certificate: Sequence[str], fixed: bool = False) -> J
 
 
 def too_wide(fault: TextFault) -> Judged:
+    """Nobody but the checker in Python takes the model, since it has such a number, or is larger than this program takes."""
+    if fault.fault == TOO_MUCH:
+        return Judged(PYTHON_ALONE, why=f"{LPD_CHECK_WIDE} of this program takes no model as large", is_for_model=True)
     if fault.fault != TOO_WIDE:
         raise fault
     return Judged(PYTHON_ALONE, why=f"line {fault.line} of the model has a number past 127 bits", is_for_model=True)

@@ -4,7 +4,6 @@ It is written from the manual alone and shares nothing with the server, so that 
 """
 from __future__ import annotations
 
-import re
 from dataclasses import dataclass, field
 from fractions import Fraction
 from typing import Callable, Dict, Iterable, List, Mapping, NamedTuple, Optional, Set, Tuple, TypeVar
@@ -14,7 +13,7 @@ from .number_text import NotANumber, TooWide, bound, number
 
 LONGEST_LINE = 16384
 MOST_ROWS, MOST_COLUMNS = 256, 512
-LARGE_ROWS, LARGE_COLUMNS = 65536, 131072
+LARGE_ROWS, LARGE_COLUMNS = 65536, 131072  # of lpd check, solve and basis, each with --wide
 SECTIONS = ["NAME", "OBJSENSE", "ROWS", "COLUMNS", "RHS", "RANGES", "BOUNDS", "ENDATA"]
 SENSES = {"MIN": 1, "MINIMIZE": 1, "MAX": -1, "MAXIMIZE": -1}
 FIELDS = [(2, 3), (5, 12), (15, 22), (25, 36), (40, 47), (50, 61)]
@@ -74,6 +73,11 @@ class Model:
     columns: Dict[str, Column] = field(default_factory=dict)
     skipped: List[int] = field(default_factory=list, compare=False)  # the lines of cards of other sets
 
+    @property
+    def is_large(self) -> bool:
+        """Whether it has more rows or columns than sessions take, and the commands without --wide."""
+        return len(self.rows) > MOST_ROWS or len(self.columns) > MOST_COLUMNS
+
     def free_rows(self) -> List[str]:
         """The names of the rows without limits."""
         return [name for name, row in self.rows.items() if row.is_free()]
@@ -118,7 +122,7 @@ def lines_of(text: str) -> List[str]:
 
 
 def words_of(line: str) -> List[str]:
-    return [word for word in re.split("[ \t]", line) if word]
+    return [word for word in line.replace("\t", " ").split(" ") if word]
 
 
 def is_name(name: str, of_row: bool = False) -> bool:
@@ -158,7 +162,8 @@ class Reader:
 
     def __init__(self, fixed: bool = False, wide: bool = False, large: bool = False) -> None:
         self.model = Model()
-        self.most_rows, self.most_columns = (LARGE_ROWS, LARGE_COLUMNS) if large else (MOST_ROWS, MOST_COLUMNS)
+        self.is_large = wide or large
+        self.most_rows, self.most_columns = (LARGE_ROWS, LARGE_COLUMNS) if self.is_large else (MOST_ROWS, MOST_COLUMNS)
         self.fixed = fixed
         self.number: Callable[[str], Fraction] = lambda text: number(text, wide)
         self.bound: Callable[[str], Tuple[Optional[Fraction], int]] = lambda text: bound(text, wide)
@@ -335,17 +340,18 @@ class Reader:
 
 
 def read_lines(lines: List[str], fixed: bool = False, wide: bool = False, large: bool = False) -> Tuple[Model, int]:
-    """The model that the first of these lines spell, and how many they are. With large it may have LARGE_ROWS and LARGE_COLUMNS."""
+    """The model that the first of these lines spell, and how many they are. With wide its numbers may have any width, and with either
+    of wide and large it may have LARGE_ROWS and LARGE_COLUMNS."""
     reader = Reader(fixed, wide, large)
     for n, line in enumerate(lines, 1):
         try:
             if reader.feed(line):
                 return reader.model, n
         except Fault as fault:
-            raise TextFault(n, fault.number, line) from None
+            raise TextFault(n, fault.number, line, reader.is_large) from None
     raise TextFault(len(lines) + 1, 19)
 
 
-def read_model(text: str, fixed: bool = False, wide: bool = False) -> Model:
-    """The model that a text spells; with wide its numbers may be of any width."""
-    return read_lines(lines_of(text), fixed, wide)[0]
+def read_model(text: str, fixed: bool = False, wide: bool = False, large: bool = False) -> Model:
+    """The model that a text spells; with wide its numbers may be of any width, and with wide or large it may be large."""
+    return read_lines(lines_of(text), fixed, wide, large)[0]

@@ -117,18 +117,30 @@ class Checks(unittest.TestCase):
             with self.assertRaisesRegex(lpd.CertificateFault, "drop the first line"):
                 lpd.check(LEAST, answer + "END\n")
 
-    def test_limits_that_are_passed(self) -> None:
-        many = {"row": "".join(f" L s{n}\n" for n in range(257)), "column": "".join(f" a{n} cost 1\n" for n in range(513))}
-        cases = {
-            LEAST.replace(" G R1\n", f" G R1\n{many['row']}"): "s255 is one too many of the rows, of which there are at most 256",
-            LEAST.replace(" a cost", f"{many['column']} a cost"): "a512 is one too many of the columns, of which there are at most 512",
-            LEAST.replace(" a cost 1", f" a cost 1{' ' * 17000}"): "bytes, and a line has at most 16384",
-        }
-        for text, why in cases.items():
-            with self.assertRaisesRegex(lpd.TextFault, why):
-                lpd.check(text, "OPTIMAL\nEND\n")
-        with self.assertRaisesRegex(lpd.TextFault, "A card has one or two pairs"):
-            lpd.read_model(LEAST.replace(" a cost 1 R1 1", " a cost 1 R1 1 R1 2"))
+    def test_large_models(self) -> None:
+        """With wide a model may have 65,536 rows and 131,072 columns, and without 256 and 512, where the same line is at fault as ever."""
+
+        def text(rows: int, columns: int) -> str:
+            cards = [*(f" L s{n}" for n in range(rows)), "COLUMNS", *(f" x{n} cost 1" for n in range(columns))]
+            return "\n".join(["ROWS", " N cost", *cards, "ENDATA", ""])
+
+        for rows, columns, wide, line in (
+            (256, 512, False, None),
+            (257, 1, False, 259),
+            (1, 513, False, 517),
+            (257, 513, True, None),
+            (65536, 131072, True, None),
+            (65537, 1, True, 65539),
+            (1, 131073, True, 131077),
+        ):
+            with self.subTest(rows=rows, columns=columns, wide=wide):
+                if line is None:
+                    said = lpd.check(text(rows, columns), "OPTIMAL\nEND\n", wide=wide)
+                    self.assertEqual(said, lpd.Accepted(lpd.Optimal(Fraction(0))))
+                else:
+                    with self.assertRaises(lpd.TextFault) as raised:
+                        lpd.check(text(rows, columns), "OPTIMAL\nEND\n", wide=wide)
+                    self.assertEqual(raised.exception.reply, f"ERR 8 MPS {line} M16")
 
     def test_faults_of_texts(self) -> None:
         script = (EXAMPLES / "texts.lpd").read_text()
@@ -228,6 +240,44 @@ class TheCommand(unittest.TestCase):
             said = self.said(*words, text=LEAST.replace(" b cost 2", " b cost 2e-20000"))
             self.assertEqual(said.status, 9)
             self.assertIn("this number does not fit 127 bits, and its exponent is past 16384 (fault 10)", said.complaints)
+
+    def test_limits_that_are_passed(self) -> None:
+        many = {"row": "".join(f" L s{n}\n" for n in range(257)), "column": "".join(f" a{n} cost 1\n" for n in range(513))}
+        cases = {
+            LEAST.replace(" G R1\n", f" G R1\n{many['row']}"): "s255 is one too many of the rows, of which there are at most 256",
+            LEAST.replace(" a cost", f"{many['column']} a cost"): "a512 is one too many of the columns, of which there are at most 512",
+            LEAST.replace(" a cost 1", f" a cost 1{' ' * 17000}"): "bytes, and a line has at most 16384",
+        }
+        for text, why in cases.items():
+            with self.assertRaisesRegex(lpd.TextFault, why):
+                lpd.check(text, "OPTIMAL\nEND\n")
+        certificate = "OPTIMAL\nx a 1\ny R1 1\nEND\n"
+        for text in list(cases)[:2]:
+            self.assertEqual(lpd.check(text, certificate, wide=True), lpd.Accepted(lpd.Optimal(Fraction(4))))
+            for words in ([], ["--wide"]):
+                said = self.said(*words, text=text, certificate=certificate)
+                self.assertEqual((said.status, said.output.splitlines()[0]), (0, "YES OPTIMAL 4"))
+                self.assertIn("accepted by ", said.output.splitlines()[1])
+        with self.assertRaisesRegex(lpd.TextFault, "A card has one or two pairs"):
+            lpd.read_model(LEAST.replace(" a cost 1 R1 1", " a cost 1 R1 1 R1 2"))
+
+    def test_limits_of_large_models(self) -> None:
+        rows = "".join(f" L s{n}\n" for n in range(65536))
+        text = LEAST.replace(" G R1\n", f" G R1\n{rows}")
+        for read in (lambda: lpd.read_model(text, wide=True), lambda: lpd.read_model(text, large=True)):
+            with self.assertRaisesRegex(lpd.TextFault, "s65535 is one too many of the rows, of which there are at most 65536"):
+                read()
+        self.assertEqual(len(lpd.read_model(text.replace(" L s65535\n", ""), large=True).rows), 65536)
+        columns = "".join(f" x{n} cost 1\n" for n in range(131073))
+        with self.assertRaisesRegex(lpd.TextFault, "x131072 is one too many of the columns, of which there are at most 131072"):
+            lpd.read_model(f"ROWS\n N cost\nCOLUMNS\n{columns}ENDATA\n", large=True)
+
+    def test_a_large_model_of_fixed_form(self) -> None:
+        """Its text is converted, since in free form its names have blanks."""
+        rows = "".join(f" L  row {n:04}\n" for n in range(300))
+        text = f"NAME\nROWS\n N  cost\n{rows}COLUMNS\n    x         cost      1\nENDATA\n"
+        said = self.said(text=text, certificate="OPTIMAL\nEND\n")
+        self.assertEqual((said.status, said.output.splitlines()[0]), (0, "YES OPTIMAL 0"), said.complaints)
 
     def test_utf8_in_errors(self) -> None:
         said = self.said(text=LEAST.replace(" b cost 2", " é_ü cost two"))

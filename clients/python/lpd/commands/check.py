@@ -7,7 +7,7 @@ from dataclasses import replace
 from typing import Dict, List, NamedTuple, Optional, Tuple, Union
 
 from ..certificate import check_lines
-from ..errors import TOO_WIDE, CertificateFault, LpdError, ProgramMissing, TextFault
+from ..errors import LIMITS, CertificateFault, LpdError, ProgramMissing, TextFault
 from ..judging import PYTHON_ALONE, Judged, NotCertified, judged_wide
 from ..model import Model, lines_of, read_lines, words_of
 from ..number_text import NotANumber, number, shown
@@ -90,12 +90,12 @@ class Given(NamedTuple):
 
 
 def given(words: argparse.Namespace) -> Given:
-    """What is to be checked: as one of any width where --wide is said, or a number of the text passes 127 bits."""
+    """What is to be checked: as one of any width where --wide is said, or a number of the text passes 127 bits, or it is large."""
     text = with_newline(as_text(read_model_file(words.model)))
     try:
         return given_as(words, text, words.wide)
     except TextFault as fault:
-        if fault.fault != TOO_WIDE or fault.is_far:
+        if fault.fault not in LIMITS or fault.is_far or words.wide:
             raise
         return given_as(words, text, True)
 
@@ -103,13 +103,13 @@ def given(words: argparse.Namespace) -> Given:
 def given_as(words: argparse.Namespace, text: str, is_wide: bool) -> Given:
     lines = lines_of(text)
     if words.convert or words.relax:
-        found = converted(words, text.encode("latin-1"), replace(options_of(words), wide=is_wide))
+        found = converted(words, text.encode("latin-1"), replace(options_of(words), wide=is_wide, large=is_wide))
         return Given(found.model, found.text, False, behind(lines), is_wide)
     is_fixed = words.form == "fixed"
     try:
-        model, count = read_lines(lines, is_fixed, is_wide)
+        model, count = read_lines(lines, is_fixed, is_wide, large=is_wide)
     except TextFault as fault:
-        if fault.fault == TOO_WIDE:
+        if fault.fault in LIMITS:
             raise
         found = in_dialect(words, text.encode("latin-1"), fault, is_wide)
         return Given(found.model, found.text, False, behind(lines), is_wide)
