@@ -2,8 +2,8 @@
 
 Status: 0 an optimal value, accepted by both checkers (solve), an accepted certificate (check), a text (convert), or a table
 (batch); 1 a certificate or a theorem that is not accepted; 2 wrong words, or a question that words have to answer; 3 no program, or it
-ended; 9 a refused text, certificate or name; 10 infeasible; 11 unbounded; 12 past 127 bits; 13 the budget or the time is spent; 14 an
-answer whose certificate the checker in Python alone accepts, since a number passes 127 bits (certify).
+ended; 9 a refused text, certificate or name; 10 infeasible; 11 unbounded; 12 past 127 bits, or no way leads to an answer; 13 the budget
+or the time is spent; 14 an answer whose certificate the checker in Python alone accepts, since a number passes 127 bits (certify).
 """
 from __future__ import annotations
 
@@ -14,7 +14,7 @@ import sys
 from importlib import import_module
 from typing import List, NoReturn, Optional
 
-from . import errors, interrupts
+from . import errors, interrupts, progress
 from .commands.common import tell
 from .number_text import NotANumber
 from .version import ShowVersion
@@ -66,6 +66,8 @@ def status_of_error(error: Exception) -> int:
 def main(arguments: Optional[List[str]] = None) -> int:
     try:
         interrupts.raised()
+        interrupts.kept.clear()
+        progress.by_command = True
         given = sys.argv[1:] if arguments is None else arguments
         words = parser(*given[:1]).parse_args(given)
         status: int = words.run(words)
@@ -74,7 +76,8 @@ def main(arguments: Optional[List[str]] = None) -> int:
     except BrokenPipeError:
         return closed()
     except KeyboardInterrupt:
-        tell(interrupts.WORDS)
+        progress.clear()
+        tell(interrupts.words())
         return interrupts.INTERRUPTED
     except (errors.LpdError, NotANumber, OSError) as error:
         return status_of_error(error)

@@ -54,11 +54,13 @@ def exchanged(model: Model, basis: Basis) -> Tuple[List[str], List[str], List[st
     """The basic columns and as many rows that are not basic, and what is not kept of the basis."""
     columns = [name for name in model.columns if basis.columns.get(name) == BASIC]
     rows = [name for name in model.rows if basis.rows.get(name, BASIC) != BASIC]
-    left = [name for name in basis.alone if name in columns] + [name for name in columns if name not in basis.alone]
+    alone = set(basis.alone)
+    left = [name for name in columns if name in alone] + [name for name in columns if name not in alone]
     left = left[: max(0, len(columns) - len(rows))]
     why = f"as many columns are basic as rows are not, and here {len(columns)} and {len(rows)}"
     notes = told(left, f"at the bound, or at 0 without one, and not basic, since {why}")
-    columns = [name for name in columns if name not in left]
+    kept = set(columns) - set(left)
+    columns = [name for name in columns if name in kept]
     notes += told(rows[len(columns) :], f"the rows are basic, since {why}")
     return columns, rows[: len(columns)], notes
 
@@ -70,7 +72,7 @@ def basis_lines(model: Model, basis: Basis) -> Tuple[List[str], List[str]]:
     cards = [f" {'XU' if basis.rows[row] == UPPER else 'XL'} {column} {row}" for column, row in zip(columns, rows)]
     upper = [name for name in model.columns if basis.columns.get(name) == UPPER]
     open_above = [name for name in upper if model.columns[name].upper is None]
-    cards += [f" UL {name}" for name in upper if name not in open_above]
+    cards += [f" UL {name}" for name in upper if model.columns[name].upper is not None]
     left += told(open_above, "at the lower bound, or at 0 without one, since there is no upper bound")
     return ["NAME", *cards, "ENDATA"], notes + left
 

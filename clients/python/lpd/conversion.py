@@ -96,12 +96,18 @@ class Converted:
 class Options:
     """How questions are answered: with `relax` whole-number columns lose that; `no_set` says whether a card without a set where
     others have one is of the "same" set, or of its "own"; `no_bound` whether a whole-number column without bounds has the upper
-    bound "1" or "none"; with `wide` numbers may have any width, which the profile does not allow."""
+    bound "1" or "none"; with `wide` numbers may have any width, which the profile does not allow, and with `wide` or `large` the model
+    may be as large as the commands with --wide take it."""
 
     relax: bool = False
     no_set: Optional[str] = None
     no_bound: Optional[str] = None
     wide: bool = False
+    large: bool = False
+
+    @property
+    def is_large(self) -> bool:
+        return self.wide or self.large
 
 
 @dataclass
@@ -513,7 +519,7 @@ class Converter:
 
     def note_ranges(self) -> None:
         """Notes the ranges of free rows, which count for nothing: those of type N behind the first, which is the objective."""
-        free = [card.name for card in self.cards("ROWS") if card.kind == FREE][1:]
+        free = set([card.name for card in self.cards("ROWS") if card.kind == FREE][1:])
         for card in self.cards("RANGES"):
             for row in [row for row, _ in card.pairs if row in free]:
                 self.read.note(card.line, f"row {row} is free, so its range counts for nothing")
@@ -548,10 +554,10 @@ class Converter:
         lines = self.shown(encoding)
         numbers = [card.line for card in self.read.cards]
         try:
-            model, _ = read_lines(lines, wide=self.options.wide)
+            model, _ = read_lines(lines, wide=self.options.wide, large=self.options.large)
         except TextFault as fault:
             number = numbers[fault.line - 1] if fault.line <= len(lines) else len(self.read.lines) + 1
-            raise TextFault(number, fault.fault, fault.text) from None
+            raise TextFault(number, fault.fault, fault.text, self.options.is_large) from None
         listed = {line for of_one in self.read.noted.values() for line in of_one}
         if has_mark:
             self.read.note(1, "a byte-order mark is taken out")
@@ -573,20 +579,21 @@ def of_form(data: bytes, fixed: bool, options: Options) -> Converted:
         converter.run()
         return converter.converted(encoding, has_mark)
     except TextFault as fault:
-        raise as_the_program(fault, lines_of(text), fixed, encoding, options.wide) from None
+        raise as_the_program(fault, lines_of(text), fixed, encoding, options) from None
 
 
-def as_the_program(fault: TextFault, lines: List[str], fixed: bool, encoding: str, wide: bool) -> TextFault:
+def as_the_program(fault: TextFault, lines: List[str], fixed: bool, encoding: str, options: Options) -> TextFault:
     """The fault as the program has it, which reads the lines before it as they were converted, and its own as it stands: a line
     that is wrong in each dialect is told by the profile's rule, and one before it that only the profile's reader sees is first."""
     if fault.line > len(lines):
         return fault
-    before = Converter("".join(f"{line}\n" for line in lines[: fault.line - 1]), fixed, Options(True, "own", "none", wide))
+    taken = Options(True, "own", "none", options.wide, options.large)
+    before = Converter("".join(f"{line}\n" for line in lines[: fault.line - 1]), fixed, taken)
     try:
         before.run()
     except (TextFault, Unconvertible, Question):
         return fault
-    numbers, reader = [card.line for card in before.read.cards], Reader(wide=wide)
+    numbers, reader = [card.line for card in before.read.cards], Reader(wide=options.wide, large=options.large)
     text = lines[fault.line - 1].encode(encoding, "replace").decode("latin-1")
     for number, line in [*zip(numbers, before.shown(encoding)), (fault.line, text)]:
         reader.fixed = fixed and number == fault.line
@@ -594,8 +601,8 @@ def as_the_program(fault: TextFault, lines: List[str], fixed: bool, encoding: st
             reader.feed(line)
         except Fault as found:
             if number < fault.line:
-                return as_the_program(TextFault(number, found.number, lines[number - 1]), lines, fixed, encoding, wide)
-            return fault if before.names else TextFault(number, found.number, lines[number - 1])
+                return as_the_program(TextFault(number, found.number, lines[number - 1]), lines, fixed, encoding, options)
+            return fault if before.names else TextFault(number, found.number, lines[number - 1], options.is_large)
     return fault
 
 

@@ -142,15 +142,16 @@ class LimitReached(Refused):
 
 
 class TextFault(Refused):
-    """A text spells no model. `line` is its first wrong line, and `fault` the number of what is wrong with it."""
+    """A text spells no model. `line` is its first wrong line, and `fault` the number of what is wrong with it. `is_large` says whether
+    a model of LARGE_ROWS and LARGE_COLUMNS would have been taken."""
 
     code = 8
 
-    def __init__(self, line: int, fault: int, text: Optional[str] = None) -> None:
+    def __init__(self, line: int, fault: int, text: Optional[str] = None, is_large: bool = False) -> None:
         self.line, self.fault, self.text = line, fault, text
         what, self.hint = FAULTS[fault]
         if fault == TOO_MUCH:
-            what = limit_passed(line, text)
+            what = limit_passed(text, is_large)
         self.is_far = fault == TOO_WIDE and any(is_far(word) for word in (text or "").split())
         if self.is_far:
             what, self.hint = FAR
@@ -255,17 +256,19 @@ class FaultWords(NamedTuple):
 
 
 TOO_WIDE, TOO_MUCH = 10, 16
+LIMITS = (TOO_WIDE, TOO_MUCH)
 LONGEST = 16384  # bytes of a line
 
 
-def limit_passed(line: int, text: Optional[str]) -> str:
+def limit_passed(text: Optional[str], is_large: bool) -> str:
     """Which limit a line passes: its own length; or it names a row, which a card of ROWS does with two words, or a column."""
     if text is None:
         return FAULTS[TOO_MUCH].what
     if len(text) > LONGEST:
         return f"it has {len(text)} bytes, and a line has at most {LONGEST}"
     words = text.split()
-    what = "rows, of which there are at most 256" if len(words) == 2 else "columns, of which there are at most 512"
+    rows, columns = (65536, 131072) if is_large else (256, 512)
+    what = f"rows, of which there are at most {rows}" if len(words) == 2 else f"columns, of which there are at most {columns}"
     return f"{words[-1] if len(words) == 2 else words[0]} is one too many of the {what}"
 
 
@@ -296,7 +299,10 @@ FAULTS: Dict[int, FaultWords] = {
     13: FaultWords("semi-continuous columns", "lpd solves linear programs: give the column a plain bound."),
     14: FaultWords("unknown column", "Each column that BOUNDS names has to stand in COLUMNS."),
     15: FaultWords("there is no objective", "ROWS needs a row of type N before COLUMNS."),
-    16: FaultWords("too many rows or columns, or too long a line", "A model has at most 256 rows and 512 columns, and a line 16384 bytes."),
+    16: FaultWords(
+        "too many rows or columns, or too long a line",
+        "A model has at most 256 rows and 512 columns, or for the commands with --wide 65536 and 131072, and a line 16384 bytes.",
+    ),
     17: FaultWords("this is no name", "A name is 1 to 64 bytes from ! to ~, and no row is named 'MARKER'."),
     18: FaultWords("a range of the objective", "The objective has no range: take the card out."),
     19: FaultWords("the text ends before ENDATA", "ENDATA, from column 1 on, is the last line of a text."),

@@ -69,15 +69,18 @@ class Style:
         """In a table: behind a mark."""
         if value is None:
             return ""
-        if self.is_exact:
-            return self.exactly(value)
-        return f"{EXACT if self.shows(value) else NEAR}{self.decimal(value)}"
+        return self.marked(value, EXACT)
 
     def word(self, value: Fraction) -> str:
         """In a sentence: behind a mark only where it is not exact."""
+        return self.marked(value, "")
+
+    def marked(self, value: Fraction, exact: str) -> str:
+        """Behind this mark where it is shown as it is."""
         if self.is_exact:
             return self.exactly(value)
-        return f"{'' if self.shows(value) else NEAR}{self.decimal(value)}"
+        text = self.decimal(value)
+        return f"{exact if not value or Fraction(text) == value else NEAR}{text}"
 
     def plain(self, value: Optional[Fraction]) -> str:
         """In a cell that a spreadsheet reads: no mark."""

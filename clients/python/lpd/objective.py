@@ -12,8 +12,8 @@ from typing import List, Mapping
 
 from .certificate import raise_unknown
 from .dialects import PROFILE, written
-from .errors import LpdError, TextFault, Unexpected
-from .judging import TOO_WIDE
+from .errors import TOO_MUCH, TOO_WIDE, LpdError, TextFault, Unexpected
+from .judging import LARGE
 from .model import ZERO, Model, read_model
 from .program import Program
 from .session import Session
@@ -63,7 +63,7 @@ def edit(session: Session, model: Model, row: str) -> None:
 
 def aimed(text: str, model: Model, row: str) -> Aim:
     """The model of a text of the profile in free form with another objective, as a session of the program edits and writes it. A
-    text with a number past 127 bits, which no session holds, is written in Python."""
+    text with a number past 127 bits, or of a large model, which no session holds, is written in Python."""
     wanted = with_objective(model, row)
     try:
         with Program() as program, Session(program) as session:
@@ -71,9 +71,10 @@ def aimed(text: str, model: Model, row: str) -> Aim:
             edit(session, model, row)
             edited = session.write()
     except TextFault as fault:
-        if fault.fault != TOO_WIDE:
+        if fault.fault not in (TOO_WIDE, TOO_MUCH):
             raise
-        note = f"the objective was exchanged in Python, since line {fault.line} of the model has a number past 127 bits"
+        why = LARGE if fault.fault == TOO_MUCH else f"line {fault.line} of the model has a number past 127 bits"
+        note = f"the objective was exchanged in Python, since {why}"
         return Aim(row, written(wanted, PROFILE).text, wanted, model, [note])
     if read_model(edited) != wanted:
         raise Unexpected(f"the model that lpd writes is not the one with {row} as its objective")

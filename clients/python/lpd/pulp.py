@@ -209,7 +209,7 @@ class LPD(pulp.LpSolver):  # type: ignore[misc]
         self.budget = words.budget if budget is None else budget
         self.binary, self.only_lpd, self.logPath = binary or words.binary, only_lpd or words.only_lpd, logPath
         self.certify, self.wide, self.round = certify or words.solver, wide, words.round or round
-        self.seconds: float = words.seconds
+        self.seconds: Optional[float] = words.seconds
 
     def copy(self) -> LPD:
         ways = (self.only_lpd, self.wide, self.round)
@@ -229,7 +229,7 @@ class LPD(pulp.LpSolver):  # type: ignore[misc]
         text = written(model_of(lp, take), PROFILE).text
         lp.exact = None
         try:
-            model = read_model(text, wide=True)
+            model = read_model(text, wide=True, large=True)
             found = answered(text, model, self.effort())
         except OutOfTime as late:
             self.log([f"lpd: {late}"])

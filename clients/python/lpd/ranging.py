@@ -2,7 +2,7 @@
 what gives the basis up at its ends: of one number by `lpd range`, and of all of them by the tableau of one basis.
 
 A range is of a basis, not of the optimum: where an optimum has several bases, another one may have another range
-(docs/RANGES.md).
+(docs/PYTHON.md, "Ranges").
 """
 from __future__ import annotations
 

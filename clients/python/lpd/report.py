@@ -8,7 +8,7 @@ from dataclasses import dataclass, replace
 from fractions import Fraction
 from typing import Callable, Dict, List, Optional, Sequence
 
-from .certificate import matched, read_certificate
+from .certificate import activities, matched, read_certificate, reduced_cost, weighed, wholes_of
 from .model import Limits, Model
 from .number_text import shown
 
@@ -55,14 +55,14 @@ def report(model: Model, certificate: Sequence[str]) -> Report:
     """The report of an optimal certificate, which has been checked. Prices and reduced costs are those of the objective as it is:
     under MAX one more unit that is worth something has a price above 0."""
     given = matched(model, read_certificate(certificate, wide=True))
-    x, y = given["x"], given["y"]
+    x, y, prices = given["x"], given["y"], wholes_of(given["y"])
     columns = [
-        ColumnReport(name, x.get(name, ZERO), column.limits(), model.sense * model.reduced_cost(y, name))
+        ColumnReport(name, x.get(name, ZERO), column.limits(), model.sense * reduced_cost(model, prices, name).exact())
         for name, column in model.columns.items()
     ]
     rows = []
-    for name, activity in model.activities(x).items():
-        limits = model.rows[name].limits()
+    for name, found in activities(model, wholes_of(x)).items():
+        limits, activity = model.rows[name].limits(), found.exact()
         rows.append(RowReport(name, activity, limits, slack_of(limits, activity), model.sense * y.get(name, ZERO)))
     return Report(columns, rows)
 
@@ -147,24 +147,24 @@ def conflict(model: Model, certificate: Sequence[str]) -> Conflict:
         lower, upper = model.columns[found.column].limits()
         return Conflict([], lower or ZERO, upper or ZERO, found.column)
     y = without_fractions({name: value for name, value in matched(model, found)["y"].items() if value})
-    rows = [ConflictRow(name, value, value > 0, side_of(model.rows[name].limits(), value) or ZERO) for name, value in y.items()]
+    rows = [ConflictRow(name, Fraction(value), value > 0, side_of(model.rows[name].limits(), value) or ZERO) for name, value in y.items()]
     rows.sort(key=lambda row: not row.is_lower)
     asked = sum((row.multiplier * row.limit for row in rows), ZERO)
     return Conflict(rows, asked, sum((most_of(model, y, name) for name in model.columns), ZERO))
 
 
-def without_fractions(values: Dict[str, Fraction]) -> Dict[str, Fraction]:
+def without_fractions(values: Dict[str, Fraction]) -> Dict[str, int]:
     """The same numbers but for a factor above 0: whole ones without a common divisor."""
-    bottom = functools.reduce(lambda a, b: a * b // math.gcd(a, b), (value.denominator for value in values.values()), 1)
-    top = functools.reduce(math.gcd, (int(value * bottom) for value in values.values()), 0)
-    return {name: value * bottom / (top or 1) for name, value in values.items()}
+    numbers = wholes_of(values).numbers
+    divisor = functools.reduce(math.gcd, numbers.values(), 0) or 1
+    return {name: value // divisor for name, value in numbers.items()}
 
 
-def side_of(limits: Limits, sign: Fraction) -> Optional[Fraction]:
+def side_of(limits: Limits, sign: int) -> Optional[Fraction]:
     return limits.lower if sign > 0 else limits.upper
 
 
-def most_of(model: Model, y: Dict[str, Fraction], name: str) -> Fraction:
+def most_of(model: Model, y: Dict[str, int], name: str) -> Fraction:
     """The most that a column gives to the combination of the rows."""
-    part = model.priced(y, name)
-    return part * (side_of(model.columns[name].limits(), -part) or ZERO)
+    part = weighed(y, model.columns[name].entries)
+    return part.exact() * (side_of(model.columns[name].limits(), -part.top) or ZERO) if part.top else ZERO

@@ -63,6 +63,8 @@ def rounded(model: Model) -> Rounded:
     known: Dict[Fraction, Optional[Fraction]] = {}
 
     def of(value: Fraction) -> Fraction:
+        if value.denominator == 1:
+            return value
         if value not in known:
             known[value] = meant(value)
         near = known[value]

@@ -27,5 +27,5 @@ def read_wide_solved(lines: Sequence[str], command: str = "solve --wide") -> Wid
 def solve_wide(text: str, fixed: bool = False, path: Optional[str] = None, seconds: Optional[float] = None) -> WideSolved:
     """The answer to a text of the profile, whose numbers have 127 bits. OutOfTime says that it is not done in as many seconds, and
     a program that does not know the switch raises CommandMissing."""
-    body = body_of(written(read_model(text, fixed), PROFILE).text if fixed else text, fixed=False)
+    body = body_of(written(read_model(text, fixed, large=True), PROFILE).text if fixed else text, fixed=False)
     return read_wide_solved(output_of(["solve", "--wide"], body, path=path, seconds=seconds))

@@ -274,6 +274,14 @@ class Command(unittest.TestCase):
         self.assertIn("row 'row 000' is named row_000, and 199 more names are changed: --renames FILE puts them down\n", said.complaints)
         self.assertLess(len(said.complaints.splitlines()), 5)
 
+    def test_large_models(self) -> None:
+        text = plain(" G need", " G need\n" + "\n".join(f" L more{n}" for n in range(256))).encode()
+        said = command("convert", "-", stdin=text)
+        self.assertEqual((said.status, said.output), (0, text.decode()))
+        self.assertIn("note: the model has more than 256 rows or 512 columns, so it is one for the commands with --wide", said.complaints)
+        said = command("convert", "-", stdin=text.replace(b"x cost 1", b"x cost 1e40"))
+        self.assertIn("this number does not fit 127 bits", said.complaints)
+
     def test_questions(self) -> None:
         said = command("convert", "-", stdin=plain("UP BND x 3", "UP BND y 9\n UP x 3").encode())
         self.assertEqual((said.status, said.output), (2, ""))

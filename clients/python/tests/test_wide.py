@@ -158,6 +158,8 @@ class SolveWide(unittest.TestCase):
         self.assertEqual(found, lpd.WideSolved(lpd.Optimal(Fraction(VALUE)), CERTIFICATE))
         self.assertEqual(read_wide_solved(["PAST MUL 2 3"]), lpd.WideSolved(lpd.Past("MUL", Fraction(2), Fraction(3)), []))
         self.assertEqual(read_wide_solved(["OPEN"]), lpd.WideSolved(lpd.Open(), []))
+        fell = read_answer([OPTIMAL, "FELL PIVOTS 3", *CERTIFICATE])
+        self.assertEqual((fell.start, fell.pivots, fell.certificate, fell.basis), ("FELL", 3, CERTIFICATE, []))
         self.assertEqual(read_answer(["OPEN"]), lpd.FromBasis(lpd.Open(), "", None, [], []))
         for lines in ([], ["YES"], ["REDUCED 1 2"]):
             with self.assertRaises(lpd.Unexpected):

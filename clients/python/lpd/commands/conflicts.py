@@ -7,7 +7,7 @@ from typing import Dict, List, Optional, Sequence
 
 from ..certificate import Failed, must_be_feasible
 from ..dialects import PROFILE, written
-from ..errors import CommandMissing, LpdError, Refused
+from ..errors import CommandMissing, LpdError, Refused, TextFault
 from ..exact import OutOfTime
 from ..figures import NEAR, Style, outward
 from ..irreducible import Irreducible, Member, Side, iis, only
@@ -16,7 +16,7 @@ from ..number_text import shown
 from ..remedy import Advice, Change, Remedy, advise, weights_of, without
 from ..replies import Infeasible, Past
 from ..report import conflict
-from ..ways import Answered
+from ..ways import Answered, Effort
 from .common import number_in, print_prose, table, tell
 
 MOST = 6  # sentences
@@ -49,10 +49,16 @@ def limits_of(words: argparse.Namespace, text: str, model: Model, certificate: L
     """What `lpd iis` finds in the whole model, for which it has a few seconds where nobody asks for a list; or else in the limits of a
     certificate alone, whose numbers are shorter."""
     try:
-        return known(iis(text, seconds=words.seconds if words.iis else min(words.seconds, FEW)))
-    except (NotKnown, OutOfTime):
+        return known(iis(text, seconds=seconds_of(words, model) if words.iis else min(seconds_of(words, model), FEW)))
+    except (NotKnown, OutOfTime, TextFault) as fault:
+        if isinstance(fault, TextFault) and not model.is_large:
+            raise
         part = only(model, list(weights_of(model, certificate)))
-        return known(iis(written(part, PROFILE).text, seconds=words.seconds))
+        return known(iis(written(part, PROFILE).text, seconds=seconds_of(words, model)))
+
+
+def seconds_of(words: argparse.Namespace, model: Model) -> float:
+    return Effort(seconds=words.seconds).limit(model)
 
 
 def known(found: Irreducible) -> Irreducible:
@@ -66,7 +72,7 @@ def found_advice(words: argparse.Namespace, model: Model, certificate: List[str]
     """Which changes are enough. That it is not known is told in a line."""
     known = [certificate, *([limits.certificate] if limits else [])]
     try:
-        return advise(model, known, min(words.seconds, SECONDS))
+        return advise(model, known, min(seconds_of(words, model), SECONDS))
     except LpdError as why:
         tell(f"note: it is not known which change of the model is enough: {why}")
         return None

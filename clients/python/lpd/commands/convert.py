@@ -2,9 +2,11 @@
 from __future__ import annotations
 
 import argparse
+from dataclasses import replace
 
 from ..conversion import convert
 from ..dialects import DIALECTS, written
+from ..judging import LARGE
 from ..reading import read_model_file
 from .common import add_options, options_of, put, tell, tell_renames
 
@@ -21,7 +23,7 @@ def add(commands: "argparse._SubParsersAction[argparse.ArgumentParser]") -> None
 
 
 def run(words: argparse.Namespace) -> int:
-    found = convert(read_model_file(words.model), words.form, options_of(words))
+    found = convert(read_model_file(words.model), words.form, replace(options_of(words), large=True))
     for change in found.changes:
         tell(str(change))
     text, names = found.text, found.names
@@ -31,6 +33,8 @@ def run(words: argparse.Namespace) -> int:
             tell(note)
         tell(f"run it as: {' '.join(out.command)}")
         text, names = out.text, names + out.names
+    if found.model.is_large:
+        tell(f"note: {LARGE}, so it is one for the commands with --wide")
     tell_renames(names, words.renames)
     put(text, words.output)
     return 0

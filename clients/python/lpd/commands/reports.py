@@ -1,18 +1,21 @@
 """The report of the command solve, as people read it: the answer, columns that are not 0, and rows that bind."""
 from __future__ import annotations
 
+import heapq
+import math
 from fractions import Fraction
-from typing import Dict, List, Optional, Sequence
+from typing import Dict, List, Optional, Sequence, TypeVar
 
 from ..certificate import matched, read_certificate
 from ..figures import Style
-from ..model import Model
+from ..model import MOST_COLUMNS, MOST_ROWS, Model
 from ..replies import Answer, Open, Optimal, Past, Spent, Unbounded
 from ..report import ColumnReport, Report, RowReport
-from .common import table
+from .common import print_prose, table
 
 LONG = 40  # an exact number of more characters has a decimal beside it
 MOST_VALUES = 6  # of a point or a ray
+MOST_LINES = 20  # of a table of a large model
 
 
 def shown_answer(answer: Answer, style: Style) -> str:
@@ -52,7 +55,13 @@ def some_of(texts: Sequence[str]) -> str:
 
 
 def print_report(found: Report, show: str, style: Style, shows_all: bool, before: Optional[Report] = None) -> None:
-    """What is asked for of a point, beside that of the model without the numbers that were set, if some were."""
+    """What is asked for of a point, beside that of the model without the numbers that were set, if some were. Of a large model a summary
+    comes first, and without `shows_all` the largest numbers alone."""
+    if len(found.columns) > MOST_COLUMNS or len(found.rows) > MOST_ROWS:
+        print_prose(f"\n{summary(found)}")
+        if not shows_all:
+            print_largest(found, show, style)
+            return
     if show in ("point", "all"):
         print_columns(found.columns, style, shows_all, {c.name: c.value for c in before.columns} if before else None)
     if show in ("rows", "all"):
@@ -61,6 +70,45 @@ def print_report(found: Report, show: str, style: Style, shows_all: bool, before
         prices = [[r.name, style.cell(r.price)] for r in found.rows if r.price]
         costs = [[c.name, style.cell(c.reduced_cost)] for c in found.columns if c.reduced_cost]
         print("\n" + table([["row", "price"], *prices], style) + "\n\n" + table([["column", "reduced cost"], *costs], style))
+
+
+def summary(found: Report) -> str:
+    """How many columns and rows count for something."""
+    used, bound = sum(bool(column.value) for column in found.columns), sum(binds(row) for row in found.rows)
+    priced = sum(bool(row.price) for row in found.rows)
+    return f"{used} of {len(found.columns)} columns are not 0; {bound} of {len(found.rows)} rows bind, and {priced} have a price."
+
+
+def print_largest(found: Report, show: str, style: Style) -> None:
+    """The largest values, and the rows that bind with the largest prices."""
+    columns = largest(found.columns, [column.value for column in found.columns])
+    rows = largest(found.rows, [row.price for row in found.rows])
+    costs = largest(found.columns, [column.reduced_cost for column in found.columns])
+    if show in ("point", "all"):
+        print("\n" + table([["column", "value", "reduced cost"], *([c.name, style.cell(c.value), style.cell(c.reduced_cost)] for c in columns)], style))
+    if show in ("rows", "all"):
+        cells = [[r.name, style.cell(r.activity), style.cell(r.slack), style.cell(r.price)] for r in rows]
+        print("\n" + table([["row", "sum", "slack", "price"], *cells], style))
+    if show == "prices":
+        print("\n" + table([["row", "price"], *([r.name, style.cell(r.price)] for r in rows)], style))
+        print("\n" + table([["column", "reduced cost"], *([c.name, style.cell(c.reduced_cost)] for c in costs)], style))
+    print(f"\nThese are the largest numbers, at most {MOST_LINES} of a kind: --all shows all, and --csv writes them.")
+
+
+Part = TypeVar("Part")
+
+
+def largest(parts: Sequence[Part], numbers: Sequence[Fraction]) -> List[Part]:
+    """The parts with the largest numbers but 0, whatever their signs are: by floats, which are quick to compare."""
+    sizes = [(abs(float_of(number)), at) for at, number in enumerate(numbers) if number]
+    return [parts[at] for _, at in heapq.nlargest(MOST_LINES, sizes, key=lambda size: (size[0], -size[1]))]
+
+
+def float_of(value: Fraction) -> float:
+    try:
+        return float(value)
+    except OverflowError:
+        return math.inf
 
 
 def print_columns(columns: Sequence[ColumnReport], style: Style, shows_all: bool, before: Optional[Dict[str, Fraction]]) -> None:
