@@ -13,14 +13,16 @@ It checks that
   PAST, or numbers pass 127 bits, what that checker says counts;
 - what a person does works: files, pasted texts, drops, a claim, sorting and filtering, keys, reports, and a page with a
   result in it;
+- models of up to 65,536 rows and 131,072 columns are read where numbers may have any width;
 - a model of 256 rows, 512 columns and 100,000 entries is checked while the page goes on, a text of 66 MB is read, and
   one of 70 MB refused in words.
 
 With --all it makes 500 models, instead of 40, for each of the three. With --models it makes the basis at which glpsol stops on
 each model DIR/*.mps exact, as `certify --by python` of clients/python does, in numbers of any width, and the page has to accept
-that certificate for the text, or for what it is converted to. With --certificates it checks each pair of NAME.mps (or
-NAME.fixed.mps) and NAME.certificate in DIR, which all have to be accepted. With --pictures it takes the pictures of docs/. Without PROGRAM the checker of clients/python stands for it. It prints what is wrong, and the status
-is 1 where something is.
+that certificate for the text, or for what it is converted to. With --certificates it gives the page the files NAME.mps (or
+NAME.fixed.mps) and NAME.certificate of each name in DIR, which all have to be accepted, and then the same with one number changed:
+the page says the line of `PROGRAM check --wide`, shows progress, and goes on. With --pictures it takes the pictures of docs/. Without
+PROGRAM the checker of clients/python stands for it. It prints what is wrong, and the status is 1 where something is.
 """
 import argparse
 import base64
@@ -45,11 +47,13 @@ from lpd.certifying import PYTHON, certify  # noqa: E402
 from lpd.conversion import Options, convert  # noqa: E402
 from lpd.page import page_with  # noqa: E402
 from made_models import Made, Maker, mutated, with_one_number_changed  # noqa: E402
-from page_texts import CLAIMS, FAULTS, edges, large_model  # noqa: E402
+from page_texts import CLAIMS, FAULTS, edges, large_model, wide_edges  # noqa: E402
 
 PAGE = TOP / "web" / "check.html"
 # A certificate for the diet of examples/models, which fails in several places.
 WRONG = "OPTIMAL\nx oatmeal 4\nx milk 4.5\nx pie 1\ny energy 0.05625\nEND\n"
+# Of a certificate with so many bytes the page has to show progress.
+MUCH = 1_000_000
 # Scripts of the tests: what the page has no need of itself.
 HELPERS = """
     globalThis.until = (condition) => new Promise((done) => {
@@ -134,10 +138,10 @@ def bits_of(line):
     return max(number.numerator.bit_length(), number.denominator.bit_length())
 
 
-def by_program(program, made):
+def by_program(program, made, wide=False):
     text = (made.text + made.certificate).encode("latin-1")
-    form = "fixed" if made.fixed else "free"
-    done = subprocess.run([program, "check", "--form", form], input=text, capture_output=True, check=False)
+    words = ["--form", "fixed" if made.fixed else "free", *["--wide"] * wide]
+    done = subprocess.run([program, "check", *words], input=text, capture_output=True, check=False)
     return done.stdout.decode("latin-1").rstrip("\n")
 
 
@@ -235,6 +239,7 @@ class PageCheck:
         mades = [Made(text, form == "FIXED", "CLASH nothing\nEND\n") for form, text in texts if "\n%" not in text]
         self.compare([(made, False) for made in mades], "texts of the cases")
         self.compare([(Made(*edge), False) for edge in edges()], "texts at the edges of the formats")
+        self.compare([(Made(*edge), True) for edge in wide_edges()], "texts at the edges of wide ones")
 
     def batch(self, cases):
         """The page's line, reason, and row or column of each case, from one worker. Of all, or some, all is shown."""
@@ -245,13 +250,14 @@ class PageCheck:
         return [told for part in parts for told in self.run(f"batch({json.dumps(part)}, {every})")]
 
     def expected(self, made, wide):
-        """The line that counts, and why it is so."""
+        """The line that counts, and why it is so. Of numbers that the program takes nowhere the checker in Python speaks alone."""
         line, why = by_python(made, wide)
-        if self.program is None or wide:
+        if self.program is None:
             return line, why
-        proved = by_program(self.program, made)
-        self.count("past 127 bits", proved.startswith("PAST "))
-        return (line if proved.startswith("PAST ") else proved), why
+        proved = by_program(self.program, made, wide)
+        is_past = proved.startswith("PAST ") or wide and re.fullmatch(r"ERR 8 MPS \d+ M10", proved) is not None
+        self.count("past 127 bits", is_past)
+        return (line if is_past else proved), why
 
     def compare(self, cases, what):
         """The same line, and the same row or column, as the program and the checker of clients/python."""
@@ -275,15 +281,31 @@ class PageCheck:
             self.compare(cases, what)
 
     def check_certificates(self):
-        """Certificates of a folder, which are all right."""
+        """Certificates of a folder, which are all right, and each with one number changed."""
+        dice = random.Random(self.words.seed)
         for path in sorted(Path(self.words.certificates).glob("*.mps")):
             certificate = path.with_name(path.name.split(".")[0] + ".certificate")
             text = path.read_text(encoding="latin-1").rstrip("\n") + "\n"
             made = Made(text, ".fixed." in path.name, certificate.read_text())
-            [(line, reason, _)] = self.batch([(made, True)])
-            expect(line.startswith("YES "), f"{path.name}: {line} {reason}")
-            same(line, by_python(made, True)[0], path.name)
+            line = self.chosen(path, certificate, made.fixed)
+            expect(line.startswith("YES "), f"{path.name}: {line[:80]} {self.run('byId(`reason`)?.textContent')}")
+            same(line, self.expected(made, True)[0], path.name)
             self.count("certificates of the folder")
+            self.compare([(with_one_number_changed(dice, made), True)], "of these with one number changed")
+
+    def chosen(self, model, certificate, fixed):
+        """What the page says of two files that are chosen, and a line that says how long that takes."""
+        self.fresh()
+        self.run(f"document.querySelector('[name=form][value={'fixed' if fixed else 'free'}]').checked = true")
+        self.browser.choose("#certificate-file", certificate)
+        self.run(CLOCK)
+        start = time.monotonic()
+        self.browser.choose("#model-file", model)
+        line = self.run("until(() => stages.size > 0).then(settled).then(said)")
+        seconds, longest = time.monotonic() - start, self.run("longest")
+        expect(certificate.stat().st_size < MUCH or self.run("stages.size") >= 2, f"{model.name}: no progress is shown")
+        print(f"check_page.py: {model.name} in {seconds:.2f} s; the page stood for {longest:.0f} ms at most", flush=True)
+        return line
 
     def check_models(self):
         """What holds of each model of a folder, in numbers of any width: its text as it is, and what it is converted to."""
@@ -414,21 +436,14 @@ class PageCheck:
 
     def check_large(self):
         """A large model while the page goes on: it shows progress, and its clock ticks."""
-        self.fresh()
         text, certificate = large_model(self.words.seed)
         model, part = self.folder / "large.mps", self.folder / "large.certificate"
         model.write_text(text)
         part.write_text(certificate)
-        self.browser.choose("#certificate-file", part)
-        self.run(CLOCK)
-        start = time.monotonic()
-        self.browser.choose("#model-file", model)
-        line = self.run("until(() => stages.size > 0).then(settled).then(said)")
-        seconds, longest = time.monotonic() - start, self.run("longest")
+        line = self.chosen(model, part, False)
         expect(line.startswith("YES OPTIMAL "), f"the large model: {line}")
         expect(self.run("stages.size") >= 2, "the large model shows no progress")
         expect(self.run("ticks") >= 10, f"the page's clock ticked {self.run('ticks')} times while it worked")
-        print(f"check_page.py: 100,000 entries in {seconds:.2f} s; the page stood for {longest:.0f} ms at most")
 
     def check_megabytes(self):
         self.fresh()

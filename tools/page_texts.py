@@ -192,6 +192,15 @@ def edges():
         yield from ((SMALL, False, f"OPTIMAL\nx x {'0' * zeros}{end}END\n") for end in ("\n", "\r\n"))
 
 
+def wide_edges():
+    """As edges, of what is read where numbers may have any width, and of what is not there either."""
+    for rows, columns in ((257, 513), (65536, 1), (65537, 1), (1, 131072), (1, 131073)):
+        heads = ["ROWS", " N cost", *(f" L row{i}" for i in range(rows)), "COLUMNS", *(f" c{j} cost 1" for j in range(columns))]
+        yield "\n".join([*heads, "ENDATA", ""]), False, "OPTIMAL\nEND\n"
+    for number in ("1e16384", "1e16385", "-1e-16384", "1e-16385", "10e16383", "10e16384", "1.5e-16383", "1.5e-16384"):
+        yield SMALL, False, f"OPTIMAL\nx x {number}\nEND\n"
+
+
 # A claim on the diet of examples/models, whether it holds, and what is said of it.
 CLAIMS = [
     ("92.5", True, "shows the claimed value"), ("185/2", True, "shows"), ("OPTIMAL 92.5", True, "shows"),

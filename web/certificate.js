@@ -35,7 +35,7 @@ function readPart(line, kind, wide) {
 }
 
 /** The certificate that a text spells, or its first line that does not fit. */
-function readCertificate(bytes, start, wide) {
+function readCertificate(bytes, start, wide, progress = () => {}) {
   const lines = new Lines(bytes, start);
   try {
     const { kind, clash } = readHead(lines.next());
@@ -43,6 +43,7 @@ function readCertificate(bytes, start, wide) {
     let firstWide = null;
     for (let part = readPart(lines.next(), kind, wide); part !== null; part = readPart(lines.next(), kind, wide)) {
       parts.push({ ...part, line: lines.number });
+      progress((lines.at - start) / (bytes.length - start));
       if (part.wide) firstWide ??= lines.number;
     }
     return { certificate: { kind, clash, parts }, firstWide };

@@ -54,46 +54,57 @@ function itemsOf(model) {
   return { rows, columns };
 }
 
-/** The sums of the rows at a point. */
-function sumsOfRows(model, point, progress) {
+/** The part of the work that lies between two others, each from 0 to 1. */
+function within(progress, from, to) {
+  return (stage, part) => progress(stage, from + part * (to - from));
+}
+
+/** The sums of the rows at a point of whole numbers, which mostly are limits. */
+function sumsOfRows(model, items, point, progress) {
   return model.rows.map((row, place) => {
     progress(place / model.rows.length);
     const sum = new Sum();
-    for (const [column, coefficient] of row.entries) if (point[column].n !== 0n) sum.add(coefficient, point[column]);
-    return sum.value();
+    for (const [column, coefficient] of row.entries) {
+      if (point.numbers[column].n !== 0n) sum.add(coefficient, point.numbers[column]);
+    }
+    return sum.over(point.times, [items.rows[place].lower, items.rows[place].upper]);
   });
 }
 
-/** For each column a start and then the sum of the multipliers times its coefficients. */
+/** For each column a start and then the sum of the multipliers, which are whole numbers, times its coefficients. All are
+ * as many times as the multipliers are. */
 function sumsOfColumns(model, starts, multipliers, progress) {
-  const sums = starts.map((start) => new Sum(start));
+  const sums = starts.map((start) => new Sum(multipliers.start(start)));
   model.rows.forEach((row, place) => {
     progress(place / model.rows.length);
-    if (multipliers[place].n === 0n) return;
-    for (const [column, coefficient] of row.entries) sums[column].add(multipliers[place], coefficient);
+    const multiplier = multipliers.numbers[place];
+    if (multiplier.n === 0n) return;
+    for (const [column, coefficient] of row.entries) sums[column].add(multiplier, coefficient);
   });
-  return sums.map((sum) => sum.value());
+  return sums;
 }
 
 function sumOfCosts(columns, point, start) {
-  const sum = new Sum(start);
-  columns.forEach((column, place) => sum.add(column.cost, point[place]));
-  return sum.value();
+  const sum = new Sum(point.start(start));
+  columns.forEach((column, place) => sum.add(column.cost, point.numbers[place]));
+  return sum.over(point.times);
 }
 
-/** Conditions 1 and 2 of OPTIMAL and of UNBOUNDED: the point is feasible. */
+/** Conditions 1 and 2 of OPTIMAL and of UNBOUNDED: the point is feasible. What is given is the point in whole numbers. */
 function checkPoint(findings, model, items, point, progress) {
   items.columns.forEach((column, place) => {
     column.value = point[place];
     column.slack = slackOf(column.value, column);
     between(findings, 1, column, column.value, "Column");
   });
-  const sums = sumsOfRows(model, point, progress);
+  const wholes = new Wholes(point, (part) => progress("The sums of the rows", part / 2));
+  const sums = sumsOfRows(model, items, wholes, (part) => progress("The sums of the rows", 0.5 + part / 2));
   items.rows.forEach((row, place) => {
     row.sum = sums[place];
     row.slack = slackOf(row.sum, row);
     between(findings, 2, row, row.sum, "The sum of row");
   });
+  return wholes;
 }
 
 /** A number above 0 asks for the lower limit, one below 0 for the upper. */
@@ -115,12 +126,12 @@ function checkAtLimit(findings, condition, item, number, value, { has, limits })
 
 function checkOptimal(model, items, { x, y }, progress) {
   const findings = new Findings();
-  checkPoint(findings, model, items, x, (part) => progress("The sums of the rows", part / 2));
+  const point = checkPoint(findings, model, items, x, within(progress, 0, 0.5));
   const costs = model.columns.map(({ cost }) => model.maximize ? negative(cost) : cost);
-  const multiplied = y.map(negative);
-  const reduced = sumsOfColumns(model, costs, multiplied, (part) => progress("The reduced costs", 0.5 + part / 2));
+  const multiplied = new Wholes(y.map(negative), (part) => progress("The reduced costs", 0.5 + part / 4));
+  const reduced = sumsOfColumns(model, costs, multiplied, (part) => progress("The reduced costs", 0.75 + part / 4));
   items.columns.forEach((column, place) => {
-    column.reduced = reduced[place];
+    column.reduced = reduced[place].over(multiplied.times);
     const has = `Column ${column.name} has the reduced cost`;
     checkAtLimit(findings, 3, column, column.reduced, column.value, { has, limits: "bound" });
   });
@@ -129,11 +140,12 @@ function checkOptimal(model, items, { x, y }, progress) {
     const has = `Row ${row.name} has the multiplier`;
     checkAtLimit(findings, 4, row, row.multiplier, row.sum, { has, limits: "limit" });
   });
-  return { failures: findings.inOrder(), value: sumOfCosts(model.columns, x, model.offset) };
+  return { failures: findings.inOrder(), value: sumOfCosts(model.columns, point, model.offset) };
 }
 
-/** Adds a number times the limit that its sign asks for to a sum, and says where there is no such limit. */
-function addProduct(findings, condition, item, number, { limit, side }, sum) {
+/** Adds a number times the limit that its sign asks for to a sum, to which the number is added as many times as the sum's
+ * are, and says where there is no such limit. */
+function addProduct(findings, condition, item, number, { limit, side }, sum, often) {
   if (number.n === 0n) return;
   item.used = limit;
   if (limit === null) {
@@ -144,7 +156,7 @@ function addProduct(findings, condition, item, number, { limit, side }, sum) {
     return;
   }
   item.product = times(number, limit);
-  sum.add(number, limit);
+  sum.add(often, limit);
 }
 
 /** How many terms of a row are shown. */
@@ -163,17 +175,19 @@ function addTerms(model, rows) {
 function checkInfeasible(model, items, { y }, progress) {
   const findings = new Findings();
   const required = new Sum(), allowed = new Sum();
+  const multipliers = new Wholes(y, (part) => progress("The combined row", part / 2));
   items.rows.forEach((row, place) => {
     row.multiplier = y[place];
-    addProduct(findings, 1, row, row.multiplier, limitFor(row, row.multiplier), required);
+    addProduct(findings, 1, row, row.multiplier, limitFor(row, row.multiplier), required, multipliers.numbers[place]);
   });
-  const sums = sumsOfColumns(model, model.columns.map(() => ZERO), y, (part) => progress("The combined row", part));
+  const nothing = model.columns.map(() => ZERO);
+  const sums = sumsOfColumns(model, nothing, multipliers, (part) => progress("The combined row", 0.5 + part / 2));
   items.columns.forEach((column, place) => {
-    column.combined = sums[place];
-    addProduct(findings, 2, column, column.combined, limitFor(column, negative(column.combined)), allowed);
+    column.combined = sums[place].over(multipliers.times);
+    addProduct(findings, 2, column, column.combined, limitFor(column, negative(column.combined)), allowed, sums[place]);
   });
   addTerms(model, items.rows);
-  const totals = { required: required.value(), allowed: allowed.value() };
+  const totals = { required: required.over(multipliers.times), allowed: allowed.over(multipliers.times) };
   if (findings.failures.length === 0 && compare(totals.allowed, totals.required) >= 0) {
     const { required: least, allowed: most } = totals;
     const words = `The rows require ${told(least)}, and the bounds of the columns allow ${told(most)}`;
@@ -193,21 +207,22 @@ function checkAway(findings, condition, item, step, called) {
 
 function checkUnbounded(model, items, { x, r }, progress) {
   const findings = new Findings();
-  checkPoint(findings, model, items, x, (part) => progress("The sums of the rows", part / 2));
+  const point = checkPoint(findings, model, items, x, within(progress, 0, 0.5));
   items.columns.forEach((column, place) => {
     column.ray = r[place];
     checkAway(findings, 3, column, column.ray, "column");
   });
-  const steps = sumsOfRows(model, r, (part) => progress("The ray", 0.5 + part / 2));
+  const ray = new Wholes(r, (part) => progress("The ray", 0.5 + part / 4));
+  const steps = sumsOfRows(model, items, ray, (part) => progress("The ray", 0.75 + part / 4));
   items.rows.forEach((row, place) => {
     row.ray = steps[place];
     checkAway(findings, 4, row, row.ray, "the sum of row");
   });
-  const change = sumOfCosts(model.columns, r, ZERO);
+  const change = sumOfCosts(model.columns, ray, ZERO);
   if (sign(change) * (model.maximize ? -1 : 1) >= 0) {
     findings.fail(5, null, `Along the ray the objective changes by ${told(change)}, which is not better.`);
   }
-  return { failures: findings.inOrder(), value: sumOfCosts(model.columns, x, model.offset), change };
+  return { failures: findings.inOrder(), value: sumOfCosts(model.columns, point, model.offset), change };
 }
 
 function checkClash(items, place) {

@@ -3,6 +3,8 @@
 
 const LINE_FEED = 10, CARRIAGE_RETURN = 13;
 const LONGEST_LINE = 16384;
+/** The most rows and columns of a model, and those where numbers may have any width, as for the commands of lpd with --wide. */
+const USUAL = { rows: 256, columns: 512 }, LARGE = { rows: 65536, columns: 131072 };
 /** The server reads no longer text. */
 const MOST_BYTES = 2 ** 26;
 

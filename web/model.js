@@ -1,7 +1,6 @@
 "use strict";
 // The text of a model: one model, or a first wrong line with one fault (docs/FORMATS.md, "Texts of models").
 
-const MOST_ROWS = 256, MOST_COLUMNS = 512;
 const MARKER = "'MARKER'";
 const SENSES = { MIN: false, MINIMIZE: false, MAX: true, MAXIMIZE: true };
 
@@ -66,6 +65,7 @@ class ModelReader {
   constructor(fixed, wide) {
     this.fixed = fixed;
     this.wide = wide;
+    this.most = wide ? LARGE : USUAL;
     this.line = 0;
     this.section = "";
     this.seen = new Set();
@@ -150,7 +150,7 @@ class ModelReader {
       this.rows.set(name, OBJECTIVE);
       return;
     }
-    wrongUnless(rows.length < MOST_ROWS, 16, name);
+    wrongUnless(rows.length < this.most.rows, 16, name);
     this.rows.set(name, rows.length);
     rows.push({ name, type, side: ZERO, range: null, entries: [], line: this.line });
   }
@@ -162,7 +162,7 @@ class ModelReader {
     const { columns } = this.model;
     if (columns.length === 0 || columns[columns.length - 1].name !== name) {
       wrongUnless(!this.columns.has(name), 7, name);
-      wrongUnless(columns.length < MOST_COLUMNS, 16, name);
+      wrongUnless(columns.length < this.most.columns, 16, name);
       this.columns.set(name, columns.length);
       columns.push({ name, cost: ZERO, lower: ZERO, upper: null, line: this.line });
       this.given.COLUMNS = new Set();

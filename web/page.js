@@ -161,8 +161,16 @@ function notesOn({ facts, wideCertificate = null }) {
   if (firstWide !== null) wide.push(`line ${firstWide} of the model`);
   if (wideCertificate !== null) wide.push(`line ${wideCertificate} of the certificate`);
   const places = wide.join(" and in ");
-  if (wide.length > 0) notes.push(`Numbers have more than 127 bits, first in ${places}: lpd takes none such.`);
+  if (wide.length > 0) notes.push(`Numbers have more than 127 bits, first in ${places}. ${takenBy(facts)}`);
+  if (facts.rows > USUAL.rows || facts.columns > USUAL.columns) {
+    notes.push("The model has more than 256 rows or 512 columns: lpd check takes it with --wide.");
+  }
   return notes;
+}
+
+/** Which commands take texts with such numbers. */
+function takenBy({ firstWide }) {
+  return firstWide === null ? "lpd check takes them with --wide." : "lpd takes none such in a model.";
 }
 
 function title(verdict) {

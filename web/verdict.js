@@ -105,14 +105,15 @@ function verdictOn(texts, progress = () => {}) {
   const { model: bytes, certificate, fixed, wide, claim } = texts;
   if (bytes.length > MOST_BYTES) return tooLong("model");
   if (certificate !== null && certificate.length > MOST_BYTES) return tooLong("certificate");
-  const read = readModel(bytes, fixed, wide, (part) => progress("Reading the model", part));
+  const read = readModel(bytes, fixed, wide, (part) => progress("Reading the model", part / 4));
   if (read.fault) return faulty(read.fault, texts);
   const facts = factsOf(read.model, read);
-  const text = readCertificate(certificate ?? bytes, certificate === null ? read.end : 0, wide);
+  const start = certificate === null ? read.end : 0;
+  const text = readCertificate(certificate ?? bytes, start, wide, (part) => progress("Reading the certificate", (1 + part) / 4));
   if (text.misfit) return { ...misfitting(text.misfit), facts };
   const values = matched(read.model, text.certificate);
   if (values.line !== undefined) return { ...mismatched(values), facts };
-  const found = check(read.model, text.certificate.kind, values, progress);
+  const found = check(read.model, text.certificate.kind, values, within(progress, 0.5, 1));
   const more = { facts, wideCertificate: text.firstWide, plane: planeOf(read.model), found };
   return { ...decided(read.model, found, claim), ...more };
 }
