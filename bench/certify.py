@@ -68,10 +68,10 @@ def count(solver, results):
     times = sorted(result.certify_seconds for result in found)
     said = f"With the bases of `{solver}` {len(found)} of {len(results)} models are certified: "
     said += " and ".join(f"{number} by {words}" for number, words in counts if number)
-    said += f", each within {times[-1]:.1f} s, half of them within {times[len(times) // 2]:.2f} s;"
+    said += f". Each took at most {times[-1]:.1f} s, and half of them at most {times[len(times) // 2]:.2f} s. Of them"
     commands = [(sum(r.certified.command == command for r in found), words) for command, words in COMMANDS.items()]
     said += " " + " and ".join(f"{number} {words}" for number, words in commands if number)
-    return f"{said}; {sum(r.certified.steps > 0 for r in found)} need steps from there."
+    return f"{said}, and {sum(r.certified.steps > 0 for r in found)} need steps from there."
 
 
 def after_convert(results):

@@ -16,6 +16,7 @@ import subprocess
 import sys
 import tempfile
 from fractions import Fraction
+from typing import NamedTuple
 
 HERE = pathlib.Path(__file__).resolve().parent
 TOP = HERE.parent
@@ -27,7 +28,7 @@ sys.path.insert(0, str(TOP / "clients" / "python"))
 
 from lpd.errors import TextFault  # noqa: E402  (the package of this repository)
 from lpd.model import read_model  # noqa: E402
-from lpd.number_text import shown  # noqa: E402
+from lpd.number_text import parse, shown  # noqa: E402
 
 # ---- models
 
@@ -37,7 +38,7 @@ class Model:
 
     def __init__(self, name, data, form):
         self.name, self.data, self.form = name, data, form
-        self.plain = read_model(data.decode("latin-1"), fixed=form == "fixed")
+        self.plain = read_model(data.decode("latin-1"), fixed=form == "fixed", large=True)
         self.sign = self.plain.sense
 
     def numbers(self):
@@ -138,6 +139,37 @@ def limited(command, data, seconds):
         return written.read().decode("latin-1"), used.ru_utime + used.ru_stime
 
 
+class Ran(NamedTuple):
+    """What a process wrote, the seconds of the processor that it took, and the MB of memory that it had at the most."""
+
+    said: str
+    seconds: float
+    memory: float
+
+
+# A small process that runs a command and puts down what that took: of a child of its own a process sees at least the memory that it
+# has itself, which here is 10 MB.
+WATCHER = """
+import os, sys
+told = os.open(sys.argv[1], os.O_WRONLY)
+child = os.posix_spawnp(sys.argv[2], sys.argv[2:], os.environ)
+used = os.wait4(child, 0)[2]
+os.write(told, b"%f %d" % (used.ru_utime + used.ru_stime, used.ru_maxrss))
+"""
+
+
+def watched(command, data, seconds):
+    """As `limited`, with the memory."""
+    with tempfile.TemporaryFile() as given, tempfile.TemporaryFile() as written, tempfile.NamedTemporaryFile() as told:
+        given.write(data)
+        given.seek(0)
+        words = [sys.executable, "-S", "-E", "-c", WATCHER, told.name, "prlimit", f"--cpu={seconds}", *command]
+        subprocess.run(words, stdin=given, stdout=written, stderr=subprocess.DEVNULL, check=True)
+        written.seek(0)
+        spent, kilobytes = map(float, told.read().split())
+        return Ran(written.read().decode("latin-1"), spent, kilobytes / 1024)
+
+
 def script(form, data, *commands):
     """The bytes of a session that loads the text, and then is given these commands."""
     return f"1 LOAD {form.upper()}\n".encode() + data + "".join(f"1 {c}\n" for c in commands).encode()
@@ -162,13 +194,13 @@ class Esolver:
     def solve(self, folder, seconds):
         solution = folder / "solution"
         solution.unlink(missing_ok=True)
-        said, spent = run(["esolver", "-O", str(solution), str(folder / "model.mps")], None, seconds)
-        if said is None:
-            return ("TIME",), None
+        spent = limited(["esolver", "-O", str(solution), str(folder / "model.mps")], b"", seconds)[1]
         text = solution.read_text() if solution.exists() else ""
         status, value = re.search(r"status\s*=?\s*(\w+)", text), re.search(r"Value = (\S+)", text)
         if value and status and status[1] == "OPTIMAL":
-            return ("OPTIMAL", Fraction(value[1])), spent
+            return ("OPTIMAL", parse(value[1]).value), spent
+        if status is None and spent > 0.95 * seconds:
+            return ("TIME",), None
         return (status[1] if status else "FAILED",), spent
 
 
