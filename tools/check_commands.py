@@ -1,15 +1,15 @@
 #!/usr/bin/env python3
-"""Checks that the manual page, the usage and the completion name the commands and options that the program takes.
+"""Checks that the manual, the usage and the completion name the commands and options that the program takes.
 
     check_commands.py
 
-The program takes those of the table `commands` in crates/spec_program/specs/CommandLine.antt. docs/lpd.1 has to describe
-each command with as many plain words, and each of its options; the usage of crates/lpd/src/usage.rt has to name each
-command with as many plain words, and each option. bash, completing by tools/lpd.bash, has to offer each command, then
-nothing for a plain word, and then the options that are not given yet. In place of a command there may stand the notices
-of `named` in crates/lp_command_line/specs/Notices.antt, which the page's synopsis and bash have to name too. The version
-that the program shows, and that its definition has, is that of the file VERSION. It prints what differs; the status is 1
-where something does.
+The program takes those of the table `commands` in crates/spec_program/specs/CommandLine.antt. docs/CLI.md, of which the manual
+page is made, has to describe each command with as many plain words, and each of its options. The usage of
+crates/lpd/src/usage.rt has to name each command with as many plain words, and each option. bash, completing by
+tools/lpd.bash, has to offer each command, then nothing for a plain word, and then the options that are not given yet. In place
+of a command there may stand the notices of `named` in crates/lp_command_line/specs/Notices.antt, which the manual's synopsis
+and bash have to name too. The version that the program shows, and that its definition has, is that of the file VERSION. It
+prints what differs; the status is 1 where something does.
 """
 import re
 import subprocess
@@ -20,7 +20,7 @@ from helping import helps
 
 TOP = Path(__file__).resolve().parent.parent
 TABLE = TOP / "crates" / "spec_program" / "specs" / "CommandLine.antt"
-PAGE = TOP / "docs" / "lpd.1"
+PAGE = TOP / "docs" / "CLI.md"
 USAGE = TOP / "crates" / "lpd" / "src" / "usage.rt"
 NOTICES = TOP / "crates" / "lp_command_line" / "specs" / "Notices.antt"
 # The files with the line of the version, and how it stands there.
@@ -62,8 +62,8 @@ def shown():
     return set(words)
 
 
-def section(page, title):
-    return re.search(rf"^\.SH {title}\n(.*?)(?=^\.SH )", page, re.M | re.S)[1]
+def section(title):
+    return re.search(rf"^## {title}\n(.*?)(?=^## )", PAGE.read_text(encoding="utf-8"), re.M | re.S)[1]
 
 
 def add_option(commands, command, option, is_switch):
@@ -75,17 +75,12 @@ def add_option(commands, command, option, is_switch):
 
 
 def described():
-    """The same of the commands that the manual page describes."""
-    page = PAGE.read_text(encoding="utf-8").replace("\\-", "-")
+    """The same of the commands that the manual describes."""
     commands = {}
-    for head in re.findall(r"^\.TP\n\.BI? (.*)$", section(page, "COMMANDS"), re.M):
-        command, *plain = head.replace('"', " ").split()
+    for command, *plain in map(str.split, re.findall(r"^### `lpd (.*)`$", section("Commands"), re.M)):
         commands[command] = len(plain), set(), set()
-    for row in section(page, "OPTIONS").splitlines():
-        cells = row.split("\t")
-        if len(cells) == 3 and cells[1].startswith("--"):
-            option, *value = cells[1].split()
-            add_option(commands, cells[0], option, not value)
+    for command, option, value in re.findall(r"^\| (\S+) \| `(--\S+)( [^`]+)?` \|", section("Options"), re.M):
+        add_option(commands, command, option, not value)
     return commands
 
 
@@ -143,14 +138,14 @@ def wrong_versions():
 
 
 def wrong_descriptions(commands, notices):
-    """Where the manual page names something else than what the program takes."""
-    synopsis = set(re.findall(r"--[\w-]+", section(PAGE.read_text(encoding="utf-8").replace("\\-", "-"), "SYNOPSIS")))
+    """Where the manual names something else than what the program takes."""
+    synopsis = set(re.findall(r"--[a-z]+", section("Synopsis")))
     if synopsis != notices:
-        yield f"docs/lpd.1: its synopsis names {sorted(synopsis)}, and not {sorted(notices)}"
+        yield f"docs/CLI.md: its synopsis names {sorted(synopsis)}, and not {sorted(notices)}"
     found = described()
     for command in sorted(commands.keys() | found.keys()):
         if found.get(command) != commands.get(command):
-            yield f"docs/lpd.1: of {command} it names {found.get(command)}, and not {commands.get(command)}"
+            yield f"docs/CLI.md: of {command} it names {found.get(command)}, and not {commands.get(command)}"
 
 
 def main():

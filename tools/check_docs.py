@@ -6,9 +6,10 @@
 Each path in backquotes in the pages at the top and in docs/ and its folders has to exist, each link has to lead to a file, and each
 name in backquotes in docs/TRUST.md and docs/HACKING.md has to be a crate or stand in the sources of one. Each crate stands in one
 layer of the drawing in docs/ARCHITECTURE.md, and names in crates.txt only crates of its layer and of those below. The picture and
-the tables there are what tools/draw_crates.py writes, and docs/PROOFS.md is what tools/list_laws.py writes. The table of the
-promises in docs/TRUST.md has a row for each sentence of each promise there, and each clause that a row names is there. It
-prints what is missing; the status is 1 where something is.
+the tables there are what tools/draw_crates.py writes, docs/PROOFS.md is what tools/list_laws.py writes, and docs/lpd.1 is what
+tools/make_manual.py writes. The table of the promises in docs/TRUST.md has a row for each sentence of each promise there, and each
+clause that a row names is there. No sentence of a page has more words than tools/sentences.py allows; docs/PROOFS.md, which is made
+of comments in the sources, is left out. It prints what is missing or too long; the status is 1 where something is.
 """
 import re
 import sys
@@ -16,8 +17,10 @@ from pathlib import Path
 
 import draw_crates
 import list_laws
+import make_manual
 from count_definitions import crates_below
 from helping import helps
+from sentences import too_long
 
 TOP = Path(__file__).resolve().parent.parent
 PATH = re.compile(r"(?:crates|docs|examples|tools|bench|web|coq)/[\w./-]*")
@@ -127,11 +130,25 @@ def misplaced():
                 yield f"{crate} names {name}, of a layer above its own"
 
 
+def pages():
+    """All pages that people read."""
+    yield from (*sorted(TOP.glob("*.md")), *sorted((TOP / "docs").rglob("*.md")), *sorted((TOP / "examples").rglob("*.md")))
+    yield TOP / "clients" / "python" / "README.md"
+
+
+def overlong():
+    """The sentences that are too long, by their first words."""
+    for page in pages():
+        if page.name != "PROOFS.md":
+            for words, sentence in too_long(page.read_text(encoding="utf-8")):
+                yield f"{page.relative_to(TOP)}: a sentence has {words} words: {sentence[:80]} .."
+
+
 def wrong():
     """What is wrong with the pages that are made of others, or speak of them."""
     for what in misplaced():
         yield f"docs/ARCHITECTURE.md: {what}"
-    for tool in (draw_crates, list_laws):
+    for tool in (draw_crates, list_laws, make_manual):
         yield from (f"{path.relative_to(TOP)} is not what tools/{tool.__name__}.py writes" for path in tool.outdated())
     for what in unpromised():
         yield f"docs/TRUST.md: {what}"
@@ -140,13 +157,12 @@ def wrong():
 def main():
     names = set(re.findall(r"[\w◌-]+", sources())) | {path.name for path in (TOP / "crates").iterdir()}
     named = {TOP / "docs" / "TRUST.md", TOP / "docs" / "HACKING.md"}
-    documents = [*sorted(TOP.glob("*.md")), *sorted((TOP / "docs").rglob("*.md"))]
     found = [
         f"{document.relative_to(TOP)}: there is no {what}"
-        for document in documents
+        for document in pages()
         for what in missing_in(document, names if document in named else None)
     ]
-    found += wrong()
+    found += [*wrong(), *overlong()]
     for what in found:
         print(what)
     return 1 if found else 0

@@ -25,7 +25,7 @@ TOP = Path(__file__).resolve().parent.parent
 PROGRAM = TOP / "crates" / "lpd" / "out" / "lpd"
 SECONDS = 1200
 BLOCK = re.compile(r"^```(\w*)\n(.*?)^```$", re.S | re.M)
-COMMANDS = ("./lpd ", "python3 ", "lpd-py ", "export ", "for file in ")
+COMMANDS = ("./lpd ", "python3 ", "lpd-py ", "export ", "for file in ", "{ ")
 SERVER = re.compile(r"127\.0\.0\.1[:\", ]+(\d+)")
 # What a command ends with that does not end with 0, by its words.
 STATUSES = {"solve examples/models/orders.mps": 10, "examples/models/departments.mps --iis": 10, "check examples/no-contradiction.mps": 1}

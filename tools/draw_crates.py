@@ -12,7 +12,7 @@ from html import escape
 from pathlib import Path
 
 from count_definitions import crates_below
-from helping import helps
+from helping import differing, helps, rewrite
 
 TOP = Path(__file__).resolve().parent.parent
 PAGE = TOP / "docs" / "ARCHITECTURE.md"
@@ -117,14 +117,9 @@ def outdated() -> dict[Path, str]:
         PAGE: before + BEGIN + "\n" + tables(halves, reduced(crates_below())) + "\n" + END + rest.partition(END)[2],
         PICTURE: picture(halves),
     }
-    return {path: text for path, text in made.items() if not path.exists() or path.read_text(encoding="utf-8") != text}
-
-
-def main() -> None:
-    for path, text in outdated().items():
-        path.write_text(text, encoding="utf-8")
+    return differing(made)
 
 
 if __name__ == "__main__":
     helps(__doc__)
-    main()
+    rewrite(outdated())

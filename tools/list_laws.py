@@ -12,7 +12,7 @@ from pathlib import Path
 
 from count_definitions import crates_below
 from draw_crates import first_sentence, layers
-from helping import helps
+from helping import differing, helps, rewrite
 
 TOP = Path(__file__).resolve().parent.parent
 PAGE = TOP / "docs" / "PROOFS.md"
@@ -56,15 +56,9 @@ def page() -> str:
 
 def outdated() -> dict[Path, str]:
     """The page as it has to be, where it is otherwise."""
-    text = page()
-    return {} if PAGE.exists() and PAGE.read_text(encoding="utf-8") == text else {PAGE: text}
-
-
-def main() -> None:
-    for path, text in outdated().items():
-        path.write_text(text, encoding="utf-8")
+    return differing({PAGE: page()})
 
 
 if __name__ == "__main__":
     helps(__doc__)
-    main()
+    rewrite(outdated())
