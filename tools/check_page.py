@@ -245,7 +245,7 @@ class PageCheck:
         """The page's line, reason, and row or column of each case, from one worker. Of all, or some, all is shown."""
         texts = [(base64.b64encode((made.text + made.certificate).encode("latin-1")).decode(), made.fixed, wide)
                  for made, wide in cases]
-        every = 1 if self.words.all else 8
+        every = 1 if self.words.all or len(cases) < 25 else 8
         parts = [texts[start:start + 25] for start in range(0, len(texts), 25)]
         return [told for part in parts for told in self.run(f"batch({json.dumps(part)}, {every})")]
 
