@@ -5,7 +5,7 @@
 
 Each path in backquotes in the pages at the top and in docs/ and its folders has to exist, each link has to lead to a file, and each
 name in backquotes in docs/TRUST.md and docs/HACKING.md has to be a crate or stand in the sources of one. Each crate stands in one
-layer of the drawing in docs/ARCHITECTURE.md, and names in crates.txt only crates of its layer and of those below. The picture and
+layer of the tables in docs/ARCHITECTURE.md, and names in crates.txt only crates of its layer and of those below. The picture and
 the tables there are what tools/draw_crates.py writes, docs/PROOFS.md is what tools/list_laws.py writes, and docs/lpd.1 is what
 tools/make_manual.py writes. The table of the promises in docs/TRUST.md has a row for each sentence of each promise there, and each
 clause that a row names is there. No sentence of a page has more words than tools/sentences.py allows; docs/PROOFS.md, which is made
@@ -118,7 +118,7 @@ def unpromised():
 
 
 def misplaced():
-    """Why the drawing of the layers is not that of crates.txt."""
+    """Why the layers are not those of crates.txt."""
     page = (TOP / "docs" / "ARCHITECTURE.md").read_text(encoding="utf-8")
     rows = [crates for half in draw_crates.layers(page).values() for crates in half.values()]
     layer = {crate: number for number, crates in enumerate(rows) for crate in crates}

@@ -4,14 +4,14 @@
     draw_crates.py
 
 It writes docs/architecture.svg and the tables in docs/ARCHITECTURE.md; tools/check_docs.py says where they are not up to date.
-The layers are those of the drawing in docs/ARCHITECTURE.md. What a crate is, is the first sentence of its src/lib.rt (of lpd, its
-src/main.rt). What it stands on is what crates.txt names for it, less what another one of these stands on.
+The layers are those of these tables, from the top: a row with a layer's name begins it, and the rows behind it without one belong
+to it. So a new crate is put where it belongs, as a row with its name alone. What a crate is, is the first sentence of its
+src/lib.rt (of lpd, its src/main.rt), or where that is long its first part.
 """
 import re
 from html import escape
 from pathlib import Path
 
-from count_definitions import crates_below
 from helping import differing, helps, rewrite
 
 TOP = Path(__file__).resolve().parent.parent
@@ -19,20 +19,19 @@ PAGE = TOP / "docs" / "ARCHITECTURE.md"
 PICTURE = TOP / "docs" / "architecture.svg"
 BEGIN, END = "<!-- made by tools/draw_crates.py -->\n", "<!-- end of the tables -->\n"
 WIDTH, LINE, PAD, NAME = 900, 24, 8, 150
+# How many characters the words on a crate have in its row.
+LEAST, MOST = 30, 100
 
 
 def layers(page: str) -> dict[str, dict[str, list[str]]]:
-    """The crates of each layer, by the halves of the drawing and from the top."""
-    drawing = page.partition("## The crates\n")[2].partition("```\n")[2].partition("```")[0]
+    """The crates of each layer, by the halves of the page and from the top."""
     halves: dict[str, dict[str, list[str]]] = {}
-    for line in drawing.splitlines():
-        if re.match(r"\S", line):
-            half = halves.setdefault(line, {})
-        elif named := re.match(r"  (\S(?:.*?\S)?)  +(.*)", line):
-            row = half.setdefault(named[1], [])
-            row += named[2].split()
-        elif line.strip():
-            row += line.split()
+    for line in page.partition(BEGIN)[2].partition(END)[0].splitlines():
+        if line.startswith("### "):
+            half = halves.setdefault(line.removeprefix("### "), {})
+        elif row := re.match(r"\| *([^|]*?) *\| *`(\w+)` *\|", line):
+            layer = half.setdefault(row[1], []) if row[1] else layer
+            layer.append(row[2])
     return halves
 
 
@@ -43,28 +42,21 @@ def first_sentence(crate: str) -> str:
     return re.split(r"(?<=[^.])\.(?: |$)", words)[0] + "."
 
 
-def reduced(below: dict[str, list[str]]) -> dict[str, list[str]]:
-    """The crates of ours that each one stands on, less those that another one of these stands on."""
-    whole: dict[str, set[str]] = {}
-
-    def all_below(crate: str) -> set[str]:
-        if crate not in whole:
-            whole[crate] = {name for direct in below.get(crate, []) if direct in below for name in {direct} | all_below(direct)}
-        return whole[crate]
-
-    return {
-        crate: [name for name in names if name in below and not any(name in all_below(other) for other in names if other in below)]
-        for crate, names in below.items()
-    }
+def in_short(crate: str) -> str:
+    """The first sentence on a crate; of a long one the part before a colon or a semicolon, or where that says too little, a comma."""
+    sentence = first_sentence(crate).removesuffix(".")
+    if len(sentence) <= MOST:
+        return sentence
+    part = re.split(r"[:;] ", sentence)[0]
+    return part if LEAST <= len(part) <= MOST else re.match(rf"(.{{,{MOST}}})[,:;] ", sentence)[1]
 
 
-def tables(halves: dict[str, dict[str, list[str]]], edges: dict[str, list[str]]) -> str:
+def tables(halves: dict[str, dict[str, list[str]]]) -> str:
     said = []
     for half, rows in halves.items():
-        said.append(f"\n### {half[0].upper()}{half[1:]}\n")
+        said += [f"\n### {half}\n", "| Layer | Crate | What it is |", "|---|---|---|"]
         for layer, crates in rows.items():
-            said += [f"\n**{layer}**\n", "| Crate | What it is | Stands on |", "|---|---|---|"]
-            said += [f"| `{c}` | {first_sentence(c)} | {', '.join(f'`{n}`' for n in edges[c])} |" for c in crates]
+            said += [f"| {layer if crate == crates[0] else ''} | `{crate}` | {in_short(crate)} |" for crate in crates]
     return "\n".join(said).lstrip("\n") + "\n"
 
 
@@ -86,7 +78,7 @@ def picture(halves: dict[str, dict[str, list[str]]]) -> str:
     for half, rows in halves.items():
         shapes.append(f'<text x="10" y="{y + 16}" class="half">{escape(half)}</text>')
         y += 28
-        kind = "code" if half.startswith("code") else "definitions"
+        kind = "code" if half.startswith("Code") else "definitions"
         for layer, crates in rows.items():
             lines = boxes(crates, NAME + 20, WIDTH - 20)
             height = len(lines) * (LINE + PAD) + PAD
@@ -114,7 +106,7 @@ def outdated() -> dict[Path, str]:
     halves = layers(page)
     before, _, rest = page.partition(BEGIN)
     made = {
-        PAGE: before + BEGIN + "\n" + tables(halves, reduced(crates_below())) + "\n" + END + rest.partition(END)[2],
+        PAGE: before + BEGIN + "\n" + tables(halves) + "\n" + END + rest.partition(END)[2],
         PICTURE: picture(halves),
     }
     return differing(made)

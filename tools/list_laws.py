@@ -44,7 +44,7 @@ def items_of(crate: str) -> list[tuple[str, str]]:
 def page() -> str:
     said = [HEAD]
     for half, rows in reversed(layers(ARCHITECTURE.read_text(encoding="utf-8")).items()):
-        said.append(f"## {half[0].upper()}{half[1:]}\n")
+        said.append(f"## {half}\n")
         for crate in (crate for crates in reversed(rows.values()) for crate in crates):
             if items := items_of(crate):
                 kind = "Law" if crate.startswith("spec_") else "Call"
