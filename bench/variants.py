@@ -15,7 +15,6 @@ import random
 import re
 import sys
 import tempfile
-from dataclasses import replace
 from fractions import Fraction
 from pathlib import Path
 
@@ -24,6 +23,7 @@ from solvers import limited, texts_of
 
 from lpd.dialects import DIALECTS, PROFILE, with_names, written  # the package of this repository, to which solvers.py has the way
 from lpd.model import FREE, ZERO, Column, Row
+from lpd.records import replace
 
 MOST_ROWS_TRIED = 12
 # A ray's part is at least so much of its greatest one.

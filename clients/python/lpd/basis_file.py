@@ -7,11 +7,11 @@ a column without an upper bound (lp_solve).
 """
 from __future__ import annotations
 
-from dataclasses import replace
 from typing import List, Optional, Sequence, Tuple
 
 from .exact import BASIC, LOWER, UPPER, Basis, Simplex
 from .model import Model, words_of
+from .records import replace
 
 PAIRS = {"XU": UPPER, "XL": LOWER}
 ALONE = {"UL": UPPER, "LL": LOWER, "BS": BASIC}

@@ -10,7 +10,6 @@ import time
 from collections import Counter
 from concurrent.futures import ProcessPoolExecutor, as_completed
 from concurrent.futures.process import BrokenProcessPool
-from dataclasses import dataclass, field, replace
 from importlib import import_module
 from multiprocessing import connection
 from pathlib import Path
@@ -24,6 +23,7 @@ from .model import Model
 from .number_text import shown
 from .presolving import Size
 from .reading import end_of, mps_of_file, name_of
+from .records import dataclass, field, replace
 from .replies import Optimal
 from .ways import Effort, Unanswered, answered
 

@@ -1,7 +1,6 @@
 """Certificates and their check, with sums of any width (docs/FORMATS.md, "Certificates" and "The check")."""
 from __future__ import annotations
 
-from dataclasses import dataclass
 from fractions import Fraction
 from math import gcd
 from typing import Callable, Dict, Iterable, List, NamedTuple, NoReturn, Optional, Sequence, Tuple, Union
@@ -9,6 +8,7 @@ from typing import Callable, Dict, Iterable, List, NamedTuple, NoReturn, Optiona
 from .errors import CertificateFault, NameRepeated, UnknownName, readable
 from .model import LONGEST_LINE, Limits, Model, lines_of, read_lines, words_of
 from .number_text import NotANumber, TooWide, number, shown
+from .records import dataclass
 from .replies import Accepted, Infeasible, Known, Optimal, Rejected, Unbounded
 
 LETTERS: Dict[str, Tuple[str, ...]] = {"OPTIMAL": ("x", "y"), "INFEASIBLE": ("y",), "UNBOUNDED": ("x", "r"), "CLASH": ()}

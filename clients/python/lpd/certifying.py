@@ -6,7 +6,6 @@ by the checkers.
 is asked for `lpd basis`, and once more with rows and columns in another order."""
 from __future__ import annotations
 
-from dataclasses import dataclass, field, replace
 from fractions import Fraction
 from typing import List, Optional, Sequence, Tuple
 
@@ -19,6 +18,7 @@ from .floating import Claim, ask
 from .from_basis import FromBasis, solve_from
 from .judging import LARGE, LPD_CHECK, PYTHON_ALONE, NotCertified, judged
 from .model import Model, read_model
+from .records import dataclass, field, replace
 from .refining import ROUNDS, NotRefined, refined
 from .replies import Accepted, Answer, Known, Open, Optimal, Past, Spent
 from .solver_names import NONE

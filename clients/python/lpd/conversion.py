@@ -6,13 +6,13 @@ not guessed, and what is no linear program is refused by name (`Unconvertible`).
 from __future__ import annotations
 
 import codecs
-from dataclasses import dataclass, field, replace
 from typing import Callable, Dict, Iterator, List, NamedTuple, Optional, Sequence, Set, Tuple
 
 from .errors import LpdError, TextFault
 from .model import FIELDS, FREE, GAPS, SECTIONS, SENSES, Fault, Model, Reader, is_name, lines_of, read_lines, words_of
 from .names import Renamed, renamed
 from .number_text import NotANumber, parse
+from .records import dataclass, field, replace
 
 # Senses by their words, in upper case.
 SENSE_WORDS = {**{word: word for word in SENSES}, "MINIMISE": "MINIMIZE", "MAXIMISE": "MAXIMIZE"}

@@ -1,7 +1,6 @@
 """Models as other programs read them, in free form. docs/DIALECTS.md says which program reads what, as it was tried."""
 from __future__ import annotations
 
-from dataclasses import dataclass, field, replace
 from fractions import Fraction
 from typing import Callable, Dict, List, Optional, Sequence, Tuple
 
@@ -9,6 +8,7 @@ from .errors import LpdError
 from .model import Column, Limits, Model
 from .names import Renamed, renamed
 from .number_text import DECIMAL, shown
+from .records import dataclass, field, replace
 
 DIGITS = 17  # enough for each float to be read back
 

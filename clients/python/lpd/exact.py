@@ -9,7 +9,6 @@ from __future__ import annotations
 import contextlib
 import threading
 import time
-from dataclasses import dataclass, field
 from fractions import Fraction
 from types import TracebackType
 from typing import Dict, Iterator, List, Mapping, NamedTuple, Optional, Sequence, Set, Tuple, Type, Union
@@ -18,6 +17,7 @@ from . import progress
 from .errors import LpdError
 from .model import ZERO, Limits, Model
 from .number_text import shown
+from .records import dataclass, field
 
 Vector = Dict[int, Fraction]
 BASIC, LOWER, UPPER = "basic", "at its lower bound", "at its upper bound"

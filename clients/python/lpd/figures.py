@@ -5,11 +5,11 @@ all shown, up to `MOST_DIGITS`, so that no amount of money ends with zeros that 
 """
 from __future__ import annotations
 
-from dataclasses import dataclass
 from fractions import Fraction
 from typing import Optional
 
 from .number_text import rounded, shown
+from .records import dataclass
 
 DIGITS = 6  # significant ones
 MOST_DIGITS = 12  # before the point

@@ -9,7 +9,6 @@ import re
 import shutil
 import subprocess
 import tempfile
-from dataclasses import dataclass, field
 from fractions import Fraction
 from pathlib import Path
 from typing import Callable, Dict, List, Optional, Sequence, Tuple
@@ -20,6 +19,7 @@ from .errors import LpdError
 from .exact import BASIC, LOWER, UPPER, Basis
 from .model import Model, Row
 from .number_text import NotANumber, parse
+from .records import dataclass, field
 from .solver_names import NONE
 
 Parts = Dict[str, Fraction]

@@ -2,12 +2,12 @@
 where a number passes 127 bits, to a certificate whose numbers have any width."""
 from __future__ import annotations
 
-from dataclasses import dataclass
 from typing import List, Optional, Sequence, Tuple
 
 from .errors import Unexpected
 from .model import words_of
 from .once import SWITCH, answer_in, output_of, unexpected_of
+from .records import dataclass
 from .replies import Answer, Open
 from .session import FALLS, body_of, count_of
 

@@ -6,7 +6,6 @@ others let its row, or its column, come: moved up to there, it leaves the others
 """
 from __future__ import annotations
 
-from dataclasses import dataclass, field, replace
 from fractions import Fraction
 from typing import Callable, Dict, List, NamedTuple, Optional, Sequence
 
@@ -16,6 +15,7 @@ from .errors import Unexpected
 from .model import ZERO, Column, Model, Row, read_model, words_of
 from .number_text import rounded, shown
 from .once import answer_in, output_of, unexpected_of
+from .records import dataclass, field, replace
 from .replies import Accepted, Answer, Infeasible
 from .session import body_of, count_of, value_of
 

@@ -2,12 +2,12 @@
 any width, if the program has it; or the checker in Python alone."""
 from __future__ import annotations
 
-from dataclasses import dataclass, replace
 from typing import List, Optional, Sequence
 
 from .errors import TOO_MUCH, TOO_WIDE, CertificateFault, CommandMissing, LpdError, TextFault, number_in
 from .model import MOST_COLUMNS, MOST_ROWS, words_of
 from .once import output_of, unexpected_of
+from .records import dataclass, replace
 from .replies import Accepted, Known, Past, Verdict
 from .session import Session, body_of, verdict_of
 

@@ -7,7 +7,6 @@ from __future__ import annotations
 import shutil
 import subprocess
 import tempfile
-from dataclasses import dataclass, field
 from fractions import Fraction
 from pathlib import Path
 from typing import List, Optional, Sequence, Tuple
@@ -16,6 +15,7 @@ from .errors import Unreadable
 from .lp_reader import LpModel, Unfit, read_lp
 from .number_text import parse, shown
 from .reading import LP, MATHPROG
+from .records import dataclass, field
 
 # By the end of a file's name what it is called.
 FORMATS = {LP: "the LP format", MATHPROG: "GNU MathProg"}

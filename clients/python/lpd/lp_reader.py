@@ -7,11 +7,11 @@ semi-continuous columns, constraints behind an indicator.
 from __future__ import annotations
 
 import re
-from dataclasses import dataclass, field
 from fractions import Fraction
 from typing import Dict, List, NamedTuple, NoReturn, Optional, Tuple
 
 from .number_text import parse
+from .records import dataclass, field
 
 SECTIONS = (
     ("min", r"minimi[sz]e|minimum|min"),

@@ -4,12 +4,12 @@ It is written from the manual alone and shares nothing with the server, so that 
 """
 from __future__ import annotations
 
-from dataclasses import dataclass, field
 from fractions import Fraction
 from typing import Callable, Dict, Iterable, List, Mapping, NamedTuple, Optional, Set, Tuple, TypeVar
 
 from .errors import TextFault
 from .number_text import NotANumber, TooWide, bound, number
+from .records import dataclass, field
 
 LONGEST_LINE = 16384
 MOST_ROWS, MOST_COLUMNS = 256, 512

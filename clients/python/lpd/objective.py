@@ -6,7 +6,6 @@ first row of type N is this one, and its certificate is one of the edited model.
 """
 from __future__ import annotations
 
-from dataclasses import dataclass, replace
 from fractions import Fraction
 from typing import List, Mapping
 
@@ -16,6 +15,7 @@ from .errors import TOO_MUCH, TOO_WIDE, LpdError, TextFault, Unexpected
 from .judging import LARGE
 from .model import ZERO, Model, read_model
 from .program import Program
+from .records import dataclass, replace
 from .session import Session
 
 

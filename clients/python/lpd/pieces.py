@@ -6,7 +6,6 @@ no optimum any more, the certificate of that says up to where it holds, and ther
 """
 from __future__ import annotations
 
-from dataclasses import dataclass, field
 from fractions import Fraction
 from typing import Dict, List, NamedTuple, Optional, Tuple, Union
 
@@ -16,6 +15,7 @@ from .errors import TextFault, Unexpected
 from .model import ZERO, Model
 from .number_text import shown
 from .ranging import COST, RHS, Range, number_of, range_of, with_number
+from .records import dataclass, field
 from .replies import Answer, Infeasible, Past, Unbounded
 from .report import conflict
 from .svg import Box, Picture, Point, box_around, label

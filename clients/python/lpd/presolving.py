@@ -1,12 +1,12 @@
 """`lpd presolve`: the answer to a model by a smaller one, with a certificate that is carried back to the text that was given."""
 from __future__ import annotations
 
-from dataclasses import dataclass
 from typing import List, NamedTuple, Optional, Sequence
 
 from .dialects import PROFILE, written
 from .model import read_model, words_of
 from .once import answer_in, output_of, unexpected_of
+from .records import dataclass
 from .replies import Answer
 from .session import body_of, count_of
 

@@ -11,7 +11,6 @@ import argparse
 import functools
 import math
 import numbers
-from dataclasses import dataclass, field
 from decimal import Decimal
 from fractions import Fraction
 from typing import Any, Dict, Iterable, List, NoReturn, Optional
@@ -29,6 +28,7 @@ from .model import MOST_COLUMNS, MOST_ROWS, Column, Model, Row, is_name, read_mo
 from .names import LONGEST, plain
 from .program import the_program
 from .ranging import Ranges, ranges
+from .records import dataclass, field
 from .replies import Answer, Infeasible, Optimal, Unbounded
 from .report import report
 from .solver_names import CHOICES

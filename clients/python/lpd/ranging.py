@@ -6,7 +6,6 @@ A range is of a basis, not of the optimum: where an optimum has several bases, a
 """
 from __future__ import annotations
 
-from dataclasses import dataclass, field, replace
 from fractions import Fraction
 from typing import Callable, Dict, List, Optional, Sequence, Tuple, Union
 
@@ -15,6 +14,7 @@ from .dialects import PROFILE, Dialect, written
 from .errors import TOO_WIDE, TextFault
 from .model import ZERO, Model, read_model, words_of
 from .once import answer_in, output_of, unexpected_of
+from .records import dataclass, field, replace
 from .replies import Answer, Open, Optimal, Past, Spent
 from .session import body_of, past_of, value_of
 from .tableau import Tableau, tableau_of

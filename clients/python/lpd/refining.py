@@ -10,7 +10,6 @@ it, and all else is fixed where it is.
 from __future__ import annotations
 
 import math
-from dataclasses import replace
 from fractions import Fraction
 from typing import Dict, Iterable, List, NamedTuple, Optional
 
@@ -22,6 +21,7 @@ from .exact import BASIC, LOWER, UPPER, Basis
 from .floating import Claim, ask
 from .from_basis import solve_from
 from .model import ZERO, Column, Limits, Model, Row
+from .records import replace
 from .replies import Optimal
 
 ROUNDS = 3

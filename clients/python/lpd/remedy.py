@@ -14,7 +14,6 @@ meets all rows and bounds.
 """
 from __future__ import annotations
 
-from dataclasses import dataclass, replace
 from fractions import Fraction
 from typing import Dict, List, Optional, Sequence, Tuple
 
@@ -27,6 +26,7 @@ from .floating import ask
 from .irreducible import Side, limit_of
 from .judging import NotCertified
 from .model import ZERO, Column, Limits, Model, Row
+from .records import dataclass, replace
 from .replies import Accepted, Infeasible, Known, Optimal
 from .solver_names import NONE
 from .wide import solve_wide

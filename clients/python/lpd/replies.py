@@ -1,11 +1,11 @@
 """What lpd replies, as values. `str` of one is its line in the protocol, without a session's number."""
 from __future__ import annotations
 
-from dataclasses import dataclass
 from fractions import Fraction
 from typing import Optional, Union
 
 from .number_text import shown
+from .records import dataclass
 
 
 @dataclass(frozen=True)

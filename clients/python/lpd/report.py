@@ -4,13 +4,13 @@ from __future__ import annotations
 
 import functools
 import math
-from dataclasses import dataclass, replace
 from fractions import Fraction
 from typing import Callable, Dict, List, Optional, Sequence
 
 from .certificate import activities, matched, read_certificate, reduced_cost, weighed, wholes_of
 from .model import Limits, Model
 from .number_text import shown
+from .records import dataclass, replace
 
 ZERO = Fraction(0)
 MOST_TERMS = 6  # of a sum that is told

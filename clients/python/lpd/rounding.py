@@ -5,12 +5,12 @@ other, or a few times as far.
 """
 from __future__ import annotations
 
-from dataclasses import dataclass, replace
 from fractions import Fraction
 from typing import Dict, Optional
 
 from .figures import exponent_of
 from .model import Column, Model, Row
+from .records import dataclass, replace
 
 DIGITS, LONG = 12, 15
 NEAR = Fraction(1, 10**14)  # how far off, as a part of the number

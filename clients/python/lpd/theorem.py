@@ -8,13 +8,13 @@ from __future__ import annotations
 
 import hashlib
 import re
-from dataclasses import dataclass, field
 from fractions import Fraction
 from math import gcd
 from typing import Dict, Iterable, Iterator, List, Mapping, NamedTuple, Optional, Sequence
 
 from .certificate import Certificate, Values, matched
 from .model import FREE, Model
+from .records import dataclass, field
 from .replies import Infeasible, Known, Optimal
 
 BITS = 56  # of an integer of coq/Packing.v

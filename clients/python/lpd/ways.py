@@ -20,7 +20,6 @@ from __future__ import annotations
 import contextlib
 import shutil
 import threading
-from dataclasses import dataclass, field, replace
 from typing import TYPE_CHECKING, Callable, Iterator, List, Optional, Sequence
 
 from .certificate import check_lines
@@ -29,6 +28,7 @@ from .exact import OutOfTime, Watch
 from .judging import LARGE, LPD_CHECK, LPD_CHECK_WIDE, Judged, NotCertified, judged
 from .model import MOST_COLUMNS, MOST_ROWS, Model
 from .program import Program
+from .records import dataclass, field, replace
 from .replies import Accepted, Answer, Open, Past, Spent
 from .session import Session
 from .solver_names import NAMES, NONE, QUICKEST_FIRST

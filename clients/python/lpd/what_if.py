@@ -2,7 +2,6 @@
 ROW:COLUMN=NUMBER for a coefficient. Names may have = and : in them, since a number has neither."""
 from __future__ import annotations
 
-from dataclasses import replace
 from fractions import Fraction
 from typing import Callable, Dict, List, NamedTuple, NoReturn, Optional, Sequence, Tuple
 
@@ -10,6 +9,7 @@ from .certificate import raise_unknown
 from .errors import LpdError
 from .model import Column, Model
 from .number_text import NotANumber, bound, number, shown
+from .records import replace
 
 
 class NoChange(LpdError):

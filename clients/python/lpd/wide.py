@@ -1,12 +1,12 @@
 """`lpd solve --wide`: a solve that goes on where a number passes 127 bits, to a certificate whose numbers have any width."""
 from __future__ import annotations
 
-from dataclasses import dataclass
 from typing import List, Optional, Sequence
 
 from .dialects import PROFILE, written
 from .model import read_model
 from .once import answer_in, output_of
+from .records import dataclass
 from .replies import Answer
 from .session import body_of
 

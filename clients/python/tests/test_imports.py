@@ -15,14 +15,15 @@ PACKAGE = Path(__file__).resolve().parents[1]
 EXAMPLES = PACKAGE.parents[1] / "examples"
 SCRIPT = "import sys; from lpd.__main__ import main; main(sys.argv[1:]); print('modules', *sys.modules)"
 # What takes long: encryption and other protocols, processes, and what is for pictures and for other commands.
-SLOW = {"ssl", "http.client", "xml.sax", "multiprocessing", "concurrent.futures", "importlib.metadata", "difflib"}
+SLOW = {"ssl", "http.client", "xml.sax", "multiprocessing", "concurrent.futures", "importlib.metadata", "difflib", "dataclasses", "inspect"}
 OTHERS = {"lpd.batching", "lpd.plotting", "lpd.svg", "lpd.tables"}
 # What the first way to an answer does without.
 LATER = {"lpd.remedy", "lpd.ranging", "lpd.rough", "lpd.floating", "lpd.certifying", "lpd.conversion", "lpd.lp_reader", "lpd.link", "socket", "gzip"}
 
 
 def imported(*words: str) -> Set[str]:
-    done = subprocess.run([sys.executable, "-c", SCRIPT, *words], cwd=PACKAGE, capture_output=True, text=True, timeout=300)
+    line = [sys.executable, "-S", "-c", SCRIPT, *words]  # without what packages of others import as Python starts
+    done = subprocess.run(line, cwd=PACKAGE, capture_output=True, text=True, timeout=300)
     return set(done.stdout.splitlines()[-1].split()[1:])
 
 

@@ -4,7 +4,7 @@ import os
 import random
 import re
 import unittest
-from dataclasses import replace
+from lpd.records import replace
 from fractions import Fraction
 from typing import List, Optional
 

@@ -4,11 +4,11 @@ from __future__ import annotations
 import argparse
 import json
 import time
-from dataclasses import replace
 from typing import Dict
 
 from ..certifying import PYTHON, WAYS, Certified, NotAnswered, certify
 from ..reading import is_lp, read_model_file
+from ..records import replace
 from ..solver_names import CHOICES, NONE
 from ..tables import claim_of, off_of
 from ..ways import SECONDS_WORDS, Effort

@@ -3,7 +3,6 @@ from __future__ import annotations
 
 import argparse
 import re
-from dataclasses import replace
 from typing import Dict, List, NamedTuple, Optional, Tuple, Union
 
 from ..certificate import check_lines
@@ -12,6 +11,7 @@ from ..judging import PYTHON_ALONE, Judged, NotCertified, judged_wide
 from ..model import Model, lines_of, read_lines, words_of
 from ..number_text import NotANumber, number, shown
 from ..reading import read_model_file
+from ..records import replace
 from ..replies import Accepted, Infeasible, Known, Optimal, Rejected, Unbounded
 from .common import add_options, as_text, converted, in_dialect, lines_text, options_of, read, skipped_words, tell
 

@@ -4,7 +4,6 @@ from __future__ import annotations
 import argparse
 import sys
 import textwrap
-from dataclasses import replace
 from fractions import Fraction
 from pathlib import Path
 from typing import TYPE_CHECKING, List, Optional, Sequence
@@ -15,6 +14,7 @@ from ..interrupts import kept
 from ..model import Model
 from ..names import Renamed
 from ..reading import is_lp, unpacked
+from ..records import replace
 from ..replies import Answer, Infeasible, Optimal, Spent, Unbounded
 
 if TYPE_CHECKING:

@@ -2,12 +2,12 @@
 from __future__ import annotations
 
 import argparse
-from dataclasses import replace
 
 from ..conversion import convert
 from ..dialects import DIALECTS, written
 from ..judging import LARGE
 from ..reading import read_model_file
+from ..records import replace
 from .common import add_options, options_of, put, tell, tell_renames
 
 

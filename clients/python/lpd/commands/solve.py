@@ -3,7 +3,6 @@ from __future__ import annotations
 
 import argparse
 import sys
-from dataclasses import replace
 from fractions import Fraction
 from pathlib import Path
 from typing import TYPE_CHECKING, Dict, Iterator, List, NamedTuple, Optional, Sequence, Tuple
@@ -15,6 +14,7 @@ from ..judging import LARGE
 from ..model import Model, read_model
 from ..number_text import shown
 from ..reading import MATHPROG, end_of, is_lp, read_model_file
+from ..records import replace
 from ..replies import Answer, Infeasible, Optimal
 from ..report import Report, conflict, report
 from ..rounding import rounded
