@@ -8,23 +8,30 @@ from __future__ import annotations
 from fractions import Fraction
 from typing import Optional
 
-from .number_text import rounded, shown
+from .number_text import parse, rounded, shown
 from .records import dataclass
 
 DIGITS = 6  # significant ones
 MOST_DIGITS = 12  # before the point
-SMALLEST = Fraction(1, 10**4)  # below it there are zeros behind the point, and the decimal has an exponent
+SMALLEST = -4  # the power of ten of the first digit, below which there are zeros behind the point, and the decimal has an exponent
 EXACT, NEAR = "=", "~"
 
 
 def exponent_of(size: Fraction) -> int:
     """The power of ten of the first digit of a number above 0."""
-    found = (size.numerator.bit_length() - size.denominator.bit_length()) * 30103 // 100000
-    while size >= Fraction(10) ** (found + 1):
+    top, bottom = size.numerator, size.denominator
+    found = (top.bit_length() - bottom.bit_length()) * 30103 // 100000
+    while reaches(top, bottom, found + 1):
         found += 1
-    while size < Fraction(10) ** found:
+    while not reaches(top, bottom, found):
         found -= 1
     return found
+
+
+def reaches(top: int, bottom: int, exponent: int) -> bool:
+    """Whether a quotient is a power of ten or more."""
+    unit: int = 10 ** abs(exponent)
+    return top >= bottom * unit if exponent >= 0 else top * unit >= bottom
 
 
 def decimal_of(value: Fraction, digits: int = DIGITS) -> str:
@@ -32,7 +39,7 @@ def decimal_of(value: Fraction, digits: int = DIGITS) -> str:
     if not value:
         return "0"
     exponent = exponent_of(abs(value))
-    if abs(value) < SMALLEST or exponent >= MOST_DIGITS:
+    if exponent < SMALLEST or exponent >= MOST_DIGITS:
         front = round(abs(value) / Fraction(10) ** (exponent - digits + 1))
         if front == 10**digits:
             front, exponent = front // 10, exponent + 1
@@ -63,7 +70,7 @@ class Style:
 
     def shows(self, value: Fraction) -> bool:
         """Whether what is shown is the number itself."""
-        return self.is_exact or Fraction(self.decimal(value)) == value
+        return self.is_exact or parse(self.decimal(value)).value == value
 
     def cell(self, value: Optional[Fraction]) -> str:
         """In a table: behind a mark."""
@@ -80,7 +87,7 @@ class Style:
         if self.is_exact:
             return self.exactly(value)
         text = self.decimal(value)
-        return f"{exact if not value or Fraction(text) == value else NEAR}{text}"
+        return f"{exact if not value or parse(text).value == value else NEAR}{text}"
 
     def plain(self, value: Optional[Fraction]) -> str:
         """In a cell that a spreadsheet reads: no mark."""

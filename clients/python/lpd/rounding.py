@@ -6,7 +6,7 @@ other, or a few times as far.
 from __future__ import annotations
 
 from fractions import Fraction
-from typing import Dict, Optional
+from typing import Dict, Iterator, Optional
 
 from .figures import exponent_of
 from .model import Column, Model, Row
@@ -49,29 +49,44 @@ def is_decimal(value: Fraction) -> bool:
 
 
 def meant(value: Fraction) -> Optional[Fraction]:
-    """What a float rounded to this number, if it looks so."""
-    bits = value.numerator.bit_length() + value.denominator.bit_length()
-    if value.denominator == 1 or not FEWEST_BITS <= bits <= MOST_BITS or not is_decimal(value) or nearest(value, LONG - 1) == value:
+    """What a float rounded to this number, which is long, if it looks so."""
+    if not is_decimal(value) or nearest(value, LONG - 1) == value:
         return None
     near = nearest(value)
     return near if abs(near - value) <= abs(value) * NEAR else None
 
 
+def numbers_of(model: Model) -> Iterator[Fraction]:
+    """All numbers of a model, but for bounds and ranges that are not there."""
+    for column in model.columns.values():
+        yield column.cost
+        yield from (bound for bound in column.limits() if bound is not None)
+        yield from column.entries.values()
+    for row in model.rows.values():
+        yield row.rhs
+        if row.range is not None:
+            yield row.range
+    yield model.offset
+
+
+def is_long(value: Fraction) -> bool:
+    """Whether a number has about as many digits as floats have, and is no integer."""
+    bottom = value.denominator
+    return bottom != 1 and FEWEST_BITS <= value.numerator.bit_length() + bottom.bit_length() <= MOST_BITS
+
+
 def rounded(model: Model) -> Rounded:
     """The model with what was meant."""
-    found: Dict[Fraction, Fraction] = {}
-    known: Dict[Fraction, Optional[Fraction]] = {}
+    long = dict.fromkeys(value for value in numbers_of(model) if is_long(value))
+    found = {value: near for value, near in ((value, meant(value)) for value in long) if near is not None}
+    return Rounded(taken(model, found) if found else model, found)
+
+
+def taken(model: Model, found: Dict[Fraction, Fraction]) -> Model:
+    """The model with these numbers in place of those."""
 
     def of(value: Fraction) -> Fraction:
-        if value.denominator == 1:
-            return value
-        if value not in known:
-            known[value] = meant(value)
-        near = known[value]
-        if near is None:
-            return value
-        found[value] = near
-        return near
+        return found.get(value, value)
 
     def maybe(value: Optional[Fraction]) -> Optional[Fraction]:
         return None if value is None else of(value)
@@ -81,4 +96,4 @@ def rounded(model: Model) -> Rounded:
         for name, column in model.columns.items()
     }
     rows = {name: Row(row.kind, of(row.rhs), maybe(row.range)) for name, row in model.rows.items()}
-    return Rounded(replace(model, offset=of(model.offset), rows=rows, columns=columns), found)
+    return replace(model, offset=of(model.offset), rows=rows, columns=columns)
