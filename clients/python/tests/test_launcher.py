@@ -105,6 +105,22 @@ class Launcher(unittest.TestCase):
             self.assertEqual((said.returncode, said.stderr), (0, ""))
             self.assertIn(f"./lpd {word} ", said.stdout)
 
+    def test_help_of_a_command_needs_no_kit(self) -> None:
+        """It would take the kit minutes. Each command is named."""
+        said = self.run_lpd("solve", "--help")
+        self.assertEqual((said.returncode, said.stderr), (0, ""))
+        for command in ("solve", "check", "basis", "presolve", "iis", "range", "gen", "run", "serve"):
+            self.assertIn(f"\n### `lpd {command}", (TOP / "docs" / "CLI.md").read_text())
+            self.assertRegex(said.stdout, rf"\b{command}\b")
+
+    def test_help_says_nothing_against_a_good_program(self) -> None:
+        self.build()
+        self.run_lpd("record")
+        for word in ("build", "record"):
+            said = self.run_lpd(word, "--help")
+            self.assertEqual((said.returncode, said.stderr), (0, ""))
+            self.assertNotIn("No program", said.stdout)
+
     def test_sources_that_were_changed(self) -> None:
         self.build()
         self.run_lpd("record")
