@@ -12,6 +12,8 @@ It starts 'PROGRAM WORD .. serve' some times, each time for as many links as it 
 - a client that sends more behind its QUIT, or too much, gets the replies that it has not read, and no reset;
 - at its end the server writes how each link ended, and another one can listen at the same address at once;
 - a server that examples/serve/stop.py has end serves the link that is open to its end;
+- one that examples/serve/orderly.py runs ends in order at SIGTERM, whether or not that can take its sockets, and serves on where
+  nobody reads its lines;
 - as each link ends, it says so in a line on standard error, with the same word, the link's peer and what it took;
 - a server whose standard error takes nothing serves as another does;
 - where it cannot listen or accept, where its words are no command line, and where its output cannot be written, its status
@@ -21,6 +23,7 @@ It prints what is wrong, and its status is 1 where something is. It takes some s
 """
 from __future__ import annotations
 
+import fcntl
 import os
 import resource
 import re
@@ -41,6 +44,11 @@ from talk import Ended, Link
 
 HOST = "127.0.0.1"
 STOP = Path(__file__).resolve().parent.parent / "examples" / "serve" / "stop.py"
+ORDERLY = STOP.with_name("orderly.py")
+# Has a script of Python run where there is no call for the sockets of another process.
+WITHOUT_SOCKETS = "import os, runpy, sys; del os.pidfd_open; del sys.argv[0]; runpy.run_path(sys.argv[0], run_name='__main__')"
+# The least bytes that a pipe holds, and how many lines that is fewer than.
+F_SETPIPE_SZ, SMALLEST, MANY = 1031, 4096, 60
 # How many seconds a reply, a line of the server and its end may take, and all of the checks.
 SECONDS, ALL_SECONDS = 120.0, 600
 # How long a server that takes nothing more is watched.
@@ -419,6 +427,68 @@ def check_stop(command: List[str]) -> None:
     expect("the end of a server that is stopped", (status, told, words), (0, "", ["DONE"] * (2 * each)))
 
 
+def check_orderly(command: List[str]) -> None:
+    """At SIGTERM to orderly.py new links are refused, one that is open is served, and a silent one ended, with status 0 and the words
+    of all. Without the server's sockets links are used up as by stop.py."""
+    solves, bye = (b"SOLVE\n", SOLVED), (b"QUIT\n", b"BYE\n")
+    with Server([sys.executable, str(ORDERLY), "--seconds", "3", *command], 2, 20) as server:
+        with server.link() as busy, server.link() as silent:
+            ask(busy, (LOAD, LOADED))
+            ask(silent, (LOAD, LOADED))
+            server.program.terminate()
+            is_refused(server.port)
+            ask(busy, solves, bye)
+            ends(silent)
+        expect("the end of a server that is ended in order", server.end(), (0, "1 1 DONE\n2 1 DONE\n", ""))
+    with Server([sys.executable, "-c", WITHOUT_SOCKETS, str(ORDERLY), "--seconds", str(SECONDS), *command], 2, 3) as server:
+        with server.link() as busy:
+            ask(busy, (LOAD, LOADED))
+            server.program.terminate()
+            while len(server.links()) < 3 and server.program.poll() is None:
+                time.sleep(0.01)
+            ask(busy, solves, bye)
+        status, lines, told = server.end()
+    words = [line.split(" ")[-1] for line in lines.splitlines()]
+    expect("its end by QUIT alone", (status, words, told.count("sockets cannot be had")), (0, ["DONE"] * 6, 1))
+
+
+def is_refused(port: int) -> None:
+    """No new link is taken, soon."""
+    end = time.monotonic() + SECONDS
+    while time.monotonic() < end:
+        try:
+            socket.create_connection((HOST, port), SECONDS).close()
+        except OSError:
+            return
+        time.sleep(0.01)
+    raise Wrong("the server takes links after SIGTERM")
+
+
+def check_full_pipe(command: List[str]) -> None:
+    """Nobody reads what orderly.py passes on: lines are dropped, links are served, and the next line says how many were dropped."""
+    words = [sys.executable, str(ORDERLY), *command, "serve", f"{HOST}:0", "--each", "1000"]
+    with subprocess.Popen(words, stdout=subprocess.DEVNULL, stderr=subprocess.PIPE) as program:
+        try:
+            pipe = program.stderr.fileno() if program.stderr else -1
+            fcntl.fcntl(pipe, F_SETPIPE_SZ, SMALLEST)
+            said = b""
+            while not said.endswith(b"\n"):
+                said += os.read(pipe, 1)
+            port = int(said.rpartition(b":")[2])
+            for _ in range(MANY):
+                with Link(HOST, port, SECONDS) as link:
+                    ask(link, (b"QUIT\n", b"BYE\n"))
+            said, end = os.read(pipe, MOST), time.monotonic() + SECONDS
+            while b"lines dropped" not in said and time.monotonic() < end:
+                with Link(HOST, port, SECONDS) as link:
+                    ask(link, (b"QUIT\n", b"BYE\n"))
+                ready, _, _ = select.select([pipe], [], [], 1)
+                said += os.read(pipe, MOST) if ready else b""
+            expect("lines that were dropped", len(re.findall(rb"\norderly.py: lines dropped, since nobody read standard error: \d+\n", b"\n" + said)), 1)
+        finally:
+            program.kill()
+
+
 def check_output(command: List[str]) -> None:
     with Server(command, 1, 1, output="/dev/full") as server:
         with server.link() as link:
@@ -488,7 +558,8 @@ def main(command: List[str]) -> int:
     signal.signal(signal.SIGALRM, out_of_time)
     signal.alarm(ALL_SECONDS)
     faults = 0
-    for check in (check_workers, check_session, check_peers, check_stop, check_accept, check_output, check_errors, check_words):
+    stops = (check_stop, check_orderly, check_full_pipe)
+    for check in (check_workers, check_session, check_peers, *stops, check_accept, check_output, check_errors, check_words):
         try:
             check(command)
         except (Wrong, Ended, OSError, subprocess.TimeoutExpired) as error:
