@@ -124,7 +124,7 @@ class Servers:
 
 
 def begins_server(line):
-    return line.startswith("./lpd serve ")
+    return line.startswith(("./lpd serve ", "python3 examples/serve/orderly.py "))
 
 
 def script_of(page, top, room, servers):
