@@ -6,8 +6,8 @@ ghost use Rattle.lp_lift.specs.Ends.{EndsFor};
 
 use crate::kernel::{Preparation, Prepared, prepare};
 use crate::moves::{
-    Entering, Leaving, advance, blocked, dual_entering, exchange, flip_wrong, furthest_outside,
-    most_wrong,
+    Entering, Leaving, advance, blocked, dual_entering, entering_at, exchange, flip_wrong,
+    furthest_outside, leaving_at, most_wrong,
 };
 use crate::near::near_fraction;
 use crate::numbers::numbers;
@@ -64,6 +64,8 @@ struct Run {
     costs: Vec<Frac>,
     are_shifted: bool,
     steps: u32,
+    /// The column to begin with, until that was done.
+    witness: Option<usize>,
 }
 
 impl Drop for Run {
@@ -73,6 +75,7 @@ impl Drop for Run {
             costs,
             are_shifted: _,
             steps: _,
+            witness: _,
         } = self;
         drop(statuses);
         drop(costs);
@@ -298,8 +301,55 @@ fn toward_point(
     dual_step(alloc, program, prepared, run, found, leaving)
 }
 
-// One step from a basis.
+// One step at this column, if it is outside of its bounds, or if it is not basic and none is.
+fn step_at_column(
+    alloc: Global,
+    program: &Program<'_>,
+    prepared: &Prepared,
+    run: &mut Run,
+    found: &Found,
+    k: usize,
+) -> Result<Option<Step>, AllocError>
+    ensures { IfOk result (λ o. IfSome o (EndsFor program.now.model.now)) }
+{
+    if let Some(leaving) = leaving_at(&found.rooms, k) {
+        let step = dual_step(alloc, program, prepared, run, found, leaving)?;
+        return Ok(Some(step));
+    }
+    if furthest_outside(&found.rooms).is_some() {
+        return Ok(None);
+    }
+    match entering_at(program, &run.statuses, &found.reduced, k) {
+        Some(entering) => {
+            let step = primal_step(alloc, program, prepared, run, found, entering)?;
+            Ok(Some(step))
+        }
+        None => Ok(None),
+    }
+}
+
+// One step from a basis, at the column to begin with, if there is one.
 fn step_at(
+    alloc: Global,
+    program: &Program<'_>,
+    prepared: &Prepared,
+    run: &mut Run,
+    found: &Found,
+) -> Result<Step, AllocError>
+    ensures { IfOk result (EndsFor program.now.model.now) }
+{
+    let witness = run.witness;
+    run.witness = None;
+    if let Some(k) = witness {
+        if let Some(step) = step_at_column(alloc, program, prepared, run, found, k)? {
+            return Ok(step);
+        }
+    }
+    step_by_rules(alloc, program, prepared, run, found)
+}
+
+// One step from a basis, by the rules of the methods.
+fn step_by_rules(
     alloc: Global,
     program: &Program<'_>,
     prepared: &Prepared,
@@ -344,6 +394,7 @@ fn answer_from(
     alloc: Global,
     program: &Program<'_>,
     statuses: &[Status],
+    witness: Option<usize>,
     most_steps: u32,
 ) -> Result<Option<Lifted>, AllocError>
     ensures certificate { IfOk result (λ o. IfSome o (λ l. IsFor program.now.model.now l.certificate)) }
@@ -355,6 +406,7 @@ fn answer_from(
         costs: Vec::from_slice(alloc, &program.costs)?,
         are_shifted: false,
         steps: 0,
+        witness,
     };
     for _ in 0..most_steps.saturating_add(1) {
         match step_from(alloc, program, &mut run)? {
@@ -374,11 +426,15 @@ fn answer_from(
 /// as a step, as do flips of columns to their other bound, and each step of the dual or the primal method. There is no
 /// answer where the steps are too few, and where a number is past what the method takes.
 ///
+/// The first step is tried at the column `witness`, if one is named by which there is likely no optimum: a basic one that
+/// nothing brings within its bounds, or another one that nothing stops.
+///
 /// Nothing is claimed of what the certificate shows: that is for the checker. Only want of memory is an error.
 pub fn answer_of_basis(
     alloc: Global,
     model: &Model,
     statuses: &[Status],
+    witness: Option<usize>,
     most_steps: u32,
 ) -> Result<Option<Lifted>, AllocError>
     ensures certificate { IfOk result (λ o. IfSome o (λ l. IsFor model.now l.certificate)) }
@@ -386,7 +442,7 @@ pub fn answer_of_basis(
         length l.statuses.items ≡ width model.now + height model.now)) }
 {
     match program_of(alloc, model)? {
-        Some(program) => answer_from(alloc, &program, statuses, most_steps),
+        Some(program) => answer_from(alloc, &program, statuses, witness, most_steps),
         None => Ok(None),
     }
 }
@@ -402,6 +458,7 @@ impl Run {
             costs,
             are_shifted: _,
             steps,
+            witness: _,
         } = self;
         drop(costs);
         if statuses.len() != columns {

@@ -104,6 +104,35 @@ pub(crate) fn most_wrong(
     found
 }
 
+/// The move that the reduced cost of a column asks for, if it does.
+pub(crate) fn entering_at(
+    program: &Program<'_>,
+    statuses: &[Status],
+    reduced: &[f64],
+    k: usize,
+) -> Option<Entering> {
+    let cost = float_at(reduced, k);
+    if is_wrong(program, statuses, k, cost) {
+        Some(Entering {
+            column: k,
+            rises: cost < 0.0,
+        })
+    } else {
+        None
+    }
+}
+
+/// A column as one that leaves, if it is outside of its bounds.
+pub(crate) fn leaving_at(rooms: &[Room], k: usize) -> Option<Leaving> {
+    match rooms.get(k) {
+        Some(room) if room.above_lower.min(room.below_upper) < 0.0 => Some(Leaving {
+            column: k,
+            is_below: room.above_lower < 0.0,
+        }),
+        Some(_) | None => None,
+    }
+}
+
 /// The basic column that is furthest outside of its bounds.
 pub(crate) fn furthest_outside(rooms: &[Room]) -> Option<Leaving> {
     let mut found = None;

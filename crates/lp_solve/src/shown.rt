@@ -196,7 +196,7 @@ pub(crate) fn at_basis(
 ) -> Result<Option<ExactAnswer>, AllocError>
     ensures { IfOk result (λ o. IfSome o (IsExactAnswer model.now)) }
 {
-    match answer_of_basis(alloc, model, basis.as_slice(), MOST_STEPS)? {
+    match answer_of_basis(alloc, model, basis.as_slice(), None, MOST_STEPS)? {
         Some(lifted) => {
             let origin = Origin::Warm(u64::from(lifted.steps));
             at_lifted(alloc, model, lifted, origin)
@@ -216,7 +216,7 @@ fn lifted_end(
     let Some(end) = float_end(alloc, model, start)? else {
         return Ok(None);
     };
-    let lifted = answer_of_basis(alloc, model, &end.statuses, MOST_STEPS)?;
+    let lifted = answer_of_basis(alloc, model, &end.statuses, end.witness, MOST_STEPS)?;
     Ok(lifted)
 }
 

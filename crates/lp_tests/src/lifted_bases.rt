@@ -80,7 +80,7 @@ fn answers(
         return Ok(false);
     };
     let statuses = statuses_of(alloc, letters)?;
-    match answer_of_basis(alloc, &model, &statuses, most_steps)? {
+    match answer_of_basis(alloc, &model, &statuses, None, most_steps)? {
         Some(lifted) => {
             let verdict = check(alloc, &model, &lifted.certificate)?;
             Ok(lifted.steps <= most_steps && shows(alloc, &verdict, wanted))
