@@ -2,7 +2,7 @@
 use crate::lines::Lines;
 use crate::number::{add_line, at, fill, index_at, product, put, put_index};
 use crate::program::Program;
-use lp_lift::{Factored, Factors, Matrix, factorize};
+use lp_sparse::{Factored, Factors, Matrix, factorize};
 use std::alloc::{AllocError, Global};
 
 /// The position of a column that has none.

@@ -13,6 +13,9 @@ const DOUBLINGS: u32 = 400;
 // What the greatest cost is brought down to.
 const COST: f64 = 1024.0;
 
+// Where the greatest bound is below this, it is brought up to 1.
+const BOUND: f64 = 1e-3;
+
 // A power of two near a positive number.
 fn power_near(number: f64) -> f64 {
     let mut power = 1.0;
@@ -126,7 +129,36 @@ fn scale_costs(program: &mut Program) {
     }
 }
 
-/// Scales a program, so that the magnitudes of its numbers come near 1, and its costs.
+// The greatest magnitude of bounds that are finite.
+fn greatest_bound(bounds: &[f64]) -> f64 {
+    let mut most = 0.0;
+    for bound in bounds {
+        let magnitude = bound.abs();
+        if magnitude < f64::INFINITY {
+            most = magnitude.max(most);
+        }
+    }
+    most
+}
+
+// Multiplies all.
+fn multiply(bounds: &mut [f64], times: f64) {
+    for bound in bounds.iter_mut() {
+        *bound *= times;
+    }
+}
+
+// Brings bounds up that are all small, as if all were counted in smaller units.
+fn scale_bounds(program: &mut Program) {
+    let most = greatest_bound(&program.lower).max(greatest_bound(&program.upper));
+    if most > 0.0 && most < BOUND {
+        let times = power_near(1.0 / most);
+        multiply(&mut program.lower, times);
+        multiply(&mut program.upper, times);
+    }
+}
+
+/// Scales a program, so that the magnitudes of its numbers come near 1, its costs, and bounds that are all small.
 pub(crate) fn scale(alloc: Global, program: &mut Program) -> Result<(), AllocError> {
     let mut rows = Vec::from_elem(alloc, 1.0, program.rows)?;
     let mut cols = Vec::from_elem(alloc, 1.0, program.cols)?;
@@ -141,5 +173,6 @@ pub(crate) fn scale(alloc: Global, program: &mut Program) -> Result<(), AllocErr
     scale_structural(program, &cols);
     scale_logical(program, &rows);
     scale_costs(program);
+    scale_bounds(program);
     Ok(())
 }

@@ -13,14 +13,15 @@ use crate::near::near_fraction;
 use crate::numbers::numbers;
 use crate::program::{Program, program_of};
 use crate::shifts::shift;
-use crate::sides::{of_logical, part};
-use crate::solution::Solved;
+use crate::sides::of_logicals;
 use crate::solving::{solve_columns, solve_rows};
-use crate::standing::{Room, rates_of, reduced_costs, rooms};
+use crate::standing::Room;
 use crate::statuses::{fitting_statuses, standings};
+use crate::wide_standing::{all_reduced, rates_of, rooms};
 use lp_check::wide::Certificate;
 use lp_frac::{Frac, neg, one, zero};
 use lp_model::Model;
+use lp_sparse::Solved;
 use spec_pivot::Status;
 use std::alloc::{AllocError, Global};
 
@@ -89,7 +90,6 @@ fn found_at(
     prepared: &Prepared,
     run: &Run,
 ) -> Result<Option<Found>, AllocError> {
-    let Prepared { kernel, whole, .. } = prepared;
     let values = standings(alloc, program, &run.statuses)?;
     let Some(columns) = solve_columns(alloc, program, prepared, &values)? else {
         return Ok(None);
@@ -97,19 +97,16 @@ fn found_at(
     let Some(rows) = solve_rows(alloc, program, prepared, &run.costs)? else {
         return Ok(None);
     };
-    let Some(rooms) = rooms(alloc, program, kernel, &whole.scales, &columns, &values)? else {
-        return Ok(None);
-    };
-    match reduced_costs(alloc, program, kernel, &run.statuses, &rows, &run.costs)? {
-        Some(reduced) => Ok(Some(Found {
-            columns,
-            rows,
-            values,
-            rooms,
-            reduced,
-        })),
-        None => Ok(None),
-    }
+    let rooms = rooms(alloc, program, prepared, &columns, &values)?;
+    let kernel = &prepared.kernel;
+    let reduced = all_reduced(alloc, program, kernel, &run.statuses, &rows, &run.costs)?;
+    Ok(Some(Found {
+        columns,
+        rows,
+        values,
+        rooms,
+        reduced,
+    }))
 }
 
 // 1 or its opposite.
@@ -122,19 +119,6 @@ fn units(alloc: Global, len: usize, k: usize, is_positive: bool) -> Result<Vec<F
     let mut list = Vec::from_elem(alloc, zero(), len)?;
     if let Some(number) = list.get_mut(k) {
         *number = unit(is_positive);
-    }
-    Ok(list)
-}
-
-// The opposites of the costs of the logicals.
-fn of_logicals(
-    alloc: Global,
-    program: &Program<'_>,
-    costs: &[Frac],
-) -> Result<Vec<Frac>, AllocError> {
-    let mut list = Vec::with_capacity(alloc, program.rows())?;
-    for i in 0..program.rows() {
-        list.push(of_logical(program, costs, i))?;
     }
     Ok(list)
 }
@@ -194,9 +178,7 @@ fn dual_step(
     let Some(solved) = solve_rows(alloc, program, prepared, &costs)? else {
         return Ok(Step::Lost);
     };
-    let Some(rates) = reduced_costs(alloc, program, kernel, &run.statuses, &solved, &costs)? else {
-        return Ok(Step::Lost);
-    };
+    let rates = all_reduced(alloc, program, kernel, &run.statuses, &solved, &costs)?;
     match dual_entering(program, &run.statuses, leaving, &found.reduced, &rates) {
         Some(entering) => {
             exchange(
@@ -243,14 +225,11 @@ fn primal_step(
 ) -> Result<Step, AllocError>
     ensures { IfOk result (EndsFor program.now.model.now) }
 {
-    let Prepared { kernel, whole, .. } = prepared;
     let moves = units(alloc, run.statuses.len(), entering.column, entering.rises)?;
     let Some(solved) = solve_columns(alloc, program, prepared, &moves)? else {
         return Ok(Step::Lost);
     };
-    let Some(rates) = rates_of(alloc, program, kernel, &whole.scales, &solved, &moves)? else {
-        return Ok(Step::Lost);
-    };
+    let rates = rates_of(alloc, program, prepared, &solved, &moves)?;
     let range = range(program, entering.column);
     match blocked(range, &found.rooms, &rates) {
         Some(block) => {
@@ -258,7 +237,7 @@ fn primal_step(
             Ok(Step::Moved)
         }
         None => {
-            let places = &kernel.column_places;
+            let places = &prepared.kernel.column_places;
             let x = numbers(
                 alloc,
                 program.model.cols(),

@@ -1,14 +1,10 @@
 // What a basis leaves to be solved for.
-use crate::factors::{Factored, Factors, factorize};
-use crate::field::Field;
-use crate::lines::{Lines, turned};
-use crate::matrix::Matrix;
 use crate::program::Program;
-use crate::residue::{PRIME, Residue};
-use crate::scales::{multiple, row_scales};
-use crate::solution::Sizes;
+use crate::scales::{Scales, multiple, row_scales};
 use crate::statuses::{is_basic_at, put_status, resting};
+use crate::wide_kernel::long_whole;
 use lp_frac::Frac;
+use lp_sparse::{Factored, Factors, Field, Lines, Matrix, PRIME, Residue, factorize, turned};
 use spec_pivot::Status;
 use std::alloc::{AllocError, Global};
 
@@ -88,12 +84,14 @@ pub(crate) fn kernel_of(
 /// A kernel with whole numbers, each row times its scale, as digits to the base of the prime, on both sides of 0.
 pub(crate) struct WholeKernel {
     /// What each row of the model was multiplied by.
-    pub(crate) scales: Vec<i128>,
+    pub(crate) scales: Scales,
     /// The numbers by column, and by row: the low digits, and those above.
     pub(crate) columns: Vec<Lines<i64>>,
     pub(crate) rows: Vec<Lines<i64>>,
     pub(crate) row_bits: usize,
     pub(crate) column_bits: usize,
+    /// Whether there are two levels of digits at most, and sums times a digit are within 127 bits.
+    pub(crate) is_short: bool,
 }
 
 impl Drop for WholeKernel {
@@ -104,6 +102,7 @@ impl Drop for WholeKernel {
             rows,
             row_bits: _,
             column_bits: _,
+            is_short: _,
         } = self;
         drop(scales);
         drop(columns);
@@ -170,7 +169,7 @@ fn columns_of(
     program: &Program<'_>,
     kernel: &Kernel,
     scales: &[i128],
-) -> Result<Option<(Lines<i64>, Lines<i64>)>, AllocError> {
+) -> Result<Option<Vec<Lines<i64>>>, AllocError> {
     let mut low = Lines::new(alloc);
     let mut high = Lines::new(alloc);
     for j in &kernel.columns {
@@ -179,7 +178,7 @@ fn columns_of(
             return Ok(None);
         }
     }
-    Ok(Some((low, high)))
+    Ok(Some(levels(alloc, low, high)?))
 }
 
 // How many bits the largest sum of a line's magnitudes takes.
@@ -224,20 +223,54 @@ fn levels(alloc: Global, low: Lines<i64>, high: Lines<i64>) -> Result<Vec<Lines<
 // How many bits a sum may take that is multiplied by a digit.
 const MOST_BITS: usize = 64;
 
-// How many bits the sums of both levels take at most, if each level's fit.
-fn bits_of(low: &Lines<i64>, high: &Lines<i64>) -> Option<usize> {
-    let (low_bits, high_bits) = (most_bits(low), most_bits(high));
-    if low_bits > MOST_BITS || high_bits > MOST_BITS {
-        None
-    } else if high_bits == 0 {
-        Some(low_bits)
-    } else {
-        Some(low_bits.max(high_bits.wrapping_add(62)).wrapping_add(1))
+// How many bits the sums of all levels take at most.
+fn bits_of(levels: &[Lines<i64>]) -> usize {
+    let mut most = 0usize;
+    for (k, level) in levels.iter().enumerate() {
+        most = most.max(most_bits(level).wrapping_add(k.wrapping_mul(62)));
     }
+    most.wrapping_add(levels.len().saturating_sub(1))
 }
 
-/// A kernel with whole numbers. There is none where a number takes more than two digits or so.
-pub(crate) fn whole_of(
+// Whether there are two levels at most, whose sums fit.
+fn are_short(levels: &[Lines<i64>]) -> bool {
+    levels.len() <= 2 && levels.iter().all(|level| most_bits(level) <= MOST_BITS)
+}
+
+// The levels by row.
+fn turned_levels(
+    alloc: Global,
+    levels: &[Lines<i64>],
+    kernel: &Kernel,
+) -> Result<Vec<Lines<i64>>, AllocError> {
+    let names = numbered(alloc, kernel.columns.len())?;
+    let mut list = Vec::new(alloc);
+    for level in levels {
+        list.push(turned(alloc, level, &names, kernel.rows.len(), 0)?)?;
+    }
+    Ok(list)
+}
+
+/// The kernel whose columns have these digits.
+pub(crate) fn whole_from(
+    alloc: Global,
+    kernel: &Kernel,
+    scales: Scales,
+    columns: Vec<Lines<i64>>,
+) -> Result<WholeKernel, AllocError> {
+    let rows = turned_levels(alloc, &columns, kernel)?;
+    Ok(WholeKernel {
+        row_bits: bits_of(&rows),
+        column_bits: bits_of(&columns),
+        is_short: are_short(&rows) && are_short(&columns),
+        scales,
+        columns,
+        rows,
+    })
+}
+
+// A kernel with whole numbers, if scales are within 127 bits, and numbers take no more than two digits or so.
+fn short_whole(
     alloc: Global,
     program: &Program<'_>,
     kernel: &Kernel,
@@ -245,23 +278,22 @@ pub(crate) fn whole_of(
     let Some(scales) = row_scales(alloc, program, kernel)? else {
         return Ok(None);
     };
-    let Some((low, high)) = columns_of(alloc, program, kernel, &scales)? else {
-        return Ok(None);
-    };
-    let names = numbered(alloc, kernel.columns.len())?;
-    let low_rows = turned(alloc, &low, &names, kernel.rows.len(), 0)?;
-    let high_rows = turned(alloc, &high, &names, kernel.rows.len(), 0)?;
-    let (Some(column_bits), Some(row_bits)) = (bits_of(&low, &high), bits_of(&low_rows, &high_rows))
-    else {
-        return Ok(None);
-    };
-    Ok(Some(WholeKernel {
-        scales,
-        columns: levels(alloc, low, high)?,
-        rows: levels(alloc, low_rows, high_rows)?,
-        row_bits,
-        column_bits,
-    }))
+    match columns_of(alloc, program, kernel, &scales)? {
+        Some(columns) => Ok(Some(whole_from(alloc, kernel, Scales::Short(scales), columns)?)),
+        None => Ok(None),
+    }
+}
+
+/// A kernel with whole numbers. There is none where a row's scale is very wide.
+pub(crate) fn whole_of(
+    alloc: Global,
+    program: &Program<'_>,
+    kernel: &Kernel,
+) -> Result<Option<WholeKernel>, AllocError> {
+    match short_whole(alloc, program, kernel)? {
+        Some(whole) => Ok(Some(whole)),
+        None => long_whole(alloc, program, kernel),
+    }
 }
 
 // ---- factors
@@ -361,7 +393,7 @@ pub(crate) enum Preparation {
     Ready(Prepared),
     /// It was singular, and has been mended.
     Mended,
-    /// Its numbers do not fit.
+    /// Its numbers are too wide.
     Past,
 }
 
@@ -385,17 +417,5 @@ pub(crate) fn prepare(
             mend(program, &kernel, statuses, &rows, &columns);
             Ok(Preparation::Mended)
         }
-    }
-}
-
-/// The sizes of a system with these right sides.
-pub(crate) fn sizes_of(line_bits: usize, right: &[i128]) -> Sizes {
-    let mut most = 0u128;
-    for n in right {
-        most = most.max(n.unsigned_abs());
-    }
-    Sizes {
-        row_bits: line_bits,
-        right_bits: 128 - most.leading_zeros() as usize,
     }
 }

@@ -3,11 +3,11 @@ ghost use Rattle.std.specs.Prelude.{◌≡◌, IfOk, length};
 
 use crate::kernel::place_at;
 use crate::sides::part;
-use crate::solution::Solved;
 use lp_check::wide::Ratios;
 use lp_frac::Frac;
 use lp_natural::Natural;
 use lp_ratio::Ratio;
+use lp_sparse::Solved;
 use std::alloc::{AllocError, Global};
 
 // A number of a solution.
@@ -48,6 +48,26 @@ pub(crate) fn numbers(
         let number = match place_at(places, k as usize) {
             Some(place) => solved_number(alloc, solved, place, is_opposite)?,
             None => Ratio::new(alloc, part(others, k as usize))?,
+        };
+        list.push(number)?;
+    }
+    Ok(list)
+}
+
+/// So many numbers: 0 where there is a place, and else the others.
+pub(crate) fn other_numbers(
+    alloc: Global,
+    len: u32,
+    places: &[Option<usize>],
+    others: &[Frac],
+) -> Result<Ratios, AllocError>
+    ensures { IfOk result (λ x. length x ≡ len) }
+{
+    let mut list = Ratios::new(alloc);
+    for j in 0..len {
+        let number = match place_at(places, j as usize) {
+            Some(_) => Ratio::zero(alloc)?,
+            None => Ratio::new(alloc, part(others, j as usize))?,
         };
         list.push(number)?;
     }

@@ -2,7 +2,39 @@
 use crate::kernel::{Kernel, place_at};
 use crate::program::Program;
 use lp_frac::{Frac, den, num};
+use lp_sparse::Right;
+use lp_sparse::wide::{Words, words_of};
 use std::alloc::{AllocError, Global};
+
+/// What each row of a model is multiplied by.
+#[derive(Drop)]
+pub(crate) enum Scales {
+    /// Whole numbers for all rows, with which the sums of the others are whole too.
+    Short(Vec<i128>),
+    /// Numbers of any width for the kernel's rows, and 1 for the others.
+    Long(Vec<Words>),
+}
+
+impl Scales {
+    /// The numbers of one width, if they are that.
+    pub(crate) fn short(&self) -> Option<&[i128]> {
+        match self {
+            Scales::Short(scales) => Some(scales),
+            Scales::Long(_) => None,
+        }
+    }
+
+    /// The scale of a row as a number of any width.
+    pub(crate) fn words_at(&self, alloc: Global, i: usize) -> Result<Words, AllocError> {
+        match self {
+            Scales::Short(scales) => words_of(alloc, scale_at(scales, i).unsigned_abs()),
+            Scales::Long(scales) => match scales.get(i) {
+                Some(scale) => Vec::from_slice(alloc, scale),
+                None => words_of(alloc, 1),
+            },
+        }
+    }
+}
 
 /// The scale at `k`, 1 where there is none.
 #[inline(always)]
@@ -124,22 +156,6 @@ pub(crate) fn row_scales(
     Ok(Some(scales))
 }
 
-/// Fractions as whole numbers on one denominator.
-pub(crate) struct Common {
-    pub(crate) numbers: Vec<i128>,
-    pub(crate) denominator: i128,
-}
-
-impl Drop for Common {
-    fn drop(self) {
-        let Common {
-            numbers,
-            denominator: _,
-        } = self;
-        drop(numbers);
-    }
-}
-
 // The least common denominator.
 pub(crate) fn common_denominator(fractions: &[Frac]) -> Option<i128> {
     let mut scale = 1i128;
@@ -149,23 +165,47 @@ pub(crate) fn common_denominator(fractions: &[Frac]) -> Option<i128> {
     Some(scale)
 }
 
-/// The fractions as whole numbers on their least common denominator, if all are within 126 bits.
-pub(crate) fn on_one_denominator(
+// The fractions times a scale, of which each denominator is a divisor, if all are within 126 bits.
+fn whole_numbers(
     alloc: Global,
     fractions: &[Frac],
-) -> Result<Option<Common>, AllocError> {
-    let Some(denominator) = common_denominator(fractions) else {
-        return Ok(None);
-    };
+    scale: i128,
+) -> Result<Option<Vec<i128>>, AllocError> {
     let mut numbers = Vec::with_capacity(alloc, fractions.len())?;
     for v in fractions {
-        match times_scale(*v, denominator) {
+        match times_scale(*v, scale) {
             Some(number) if number.unsigned_abs() >> 125 == 0 => numbers.push(number)?,
             Some(_) | None => return Ok(None),
         }
     }
-    Ok(Some(Common {
-        numbers,
-        denominator,
-    }))
+    Ok(Some(numbers))
+}
+
+// How many bits the largest one takes.
+fn most_bits(numbers: &[i128]) -> usize {
+    let mut most = 0u128;
+    for n in numbers {
+        most = most.max(n.unsigned_abs());
+    }
+    128 - most.leading_zeros() as usize
+}
+
+/// The fractions as whole numbers on their least common denominator, if all are within 126 bits.
+pub(crate) fn on_one_denominator(
+    alloc: Global,
+    fractions: &[Frac],
+) -> Result<Option<Right>, AllocError> {
+    let Some(scale) = common_denominator(fractions) else {
+        return Ok(None);
+    };
+    let denominator = words_of(alloc, scale.unsigned_abs())?;
+    match whole_numbers(alloc, fractions, scale)? {
+        Some(numbers) => Ok(Some(Right {
+            width: fractions.len(),
+            bits: most_bits(&numbers),
+            numbers,
+            denominator,
+        })),
+        None => Ok(None),
+    }
 }

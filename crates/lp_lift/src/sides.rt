@@ -1,8 +1,9 @@
 // The right sides of a kernel's equations, and of those of its multipliers.
 use crate::kernel::{Kernel, place_at};
 use crate::program::Program;
-use crate::scales::{Common, on_one_denominator, scale_at};
+use crate::scales::{on_one_denominator, scale_at};
 use lp_frac::{Frac, is_zero, less_product, mul, neg, zero};
+use lp_sparse::Right;
 use std::alloc::{AllocError, Global};
 
 /// The number of a list at `k`, 0 where there is none.
@@ -80,7 +81,7 @@ pub(crate) fn right_sides(
     kernel: &Kernel,
     scales: &[i128],
     values: &[Frac],
-) -> Result<Option<Common>, AllocError> {
+) -> Result<Option<Right>, AllocError> {
     let mut list = logical_values(alloc, program, kernel, values)?;
     for j in 0..program.cols() {
         let value = part(values, j);
@@ -100,6 +101,19 @@ pub(crate) fn right_sides(
 /// The multiplier of a row whose logical is basic: what makes its reduced cost 0.
 pub(crate) fn of_logical(program: &Program<'_>, costs: &[Frac], i: usize) -> Frac {
     neg(part(costs, program.cols().wrapping_add(i)))
+}
+
+/// The multipliers of all rows whose logical is basic, and the opposites of the other logicals' costs.
+pub(crate) fn of_logicals(
+    alloc: Global,
+    program: &Program<'_>,
+    costs: &[Frac],
+) -> Result<Vec<Frac>, AllocError> {
+    let mut list = Vec::with_capacity(alloc, program.rows())?;
+    for i in 0..program.rows() {
+        list.push(of_logical(program, costs, i))?;
+    }
+    Ok(list)
 }
 
 // What a column costs without the rows whose logical is basic, if all is within the limit.
@@ -124,7 +138,7 @@ pub(crate) fn costs_left(
     program: &Program<'_>,
     kernel: &Kernel,
     costs: &[Frac],
-) -> Result<Option<Common>, AllocError> {
+) -> Result<Option<Right>, AllocError> {
     let mut list = Vec::with_capacity(alloc, kernel.columns.len())?;
     for j in &kernel.columns {
         match cost_left(program, kernel, costs, *j) {

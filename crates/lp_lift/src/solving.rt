@@ -1,20 +1,19 @@
 // The solutions of a basis' two systems.
-use crate::kernel::{Prepared, sizes_of};
-use crate::lifting::System;
+use crate::kernel::Prepared;
 use crate::program::Program;
-use crate::scales::scale_at;
-use crate::sides::{costs_left, right_sides};
-use crate::solution::{Solved, Whole, solution};
-use crate::wide::times_wide;
+use crate::scales::{Scales, scale_at};
+use crate::wide_sides::{cost_sides, point_sides};
 use lp_frac::Frac;
+use lp_sparse::wide::{Words, product, times_wide};
+use lp_sparse::{Solved, System, Whole, lifted_solution};
 use std::alloc::{AllocError, Global};
 
 // A solution whose denominator is so many times as large.
-fn over(alloc: Global, solved: Solved, by: i128) -> Result<Solved, AllocError> {
-    if by == 1 {
+fn over(alloc: Global, solved: Solved, by: &[u64]) -> Result<Solved, AllocError> {
+    if let [1] = by {
         return Ok(solved);
     }
-    let denominator = times_wide(alloc, &solved.denominator, by.unsigned_abs())?;
+    let denominator = product(alloc, by, &solved.denominator)?;
     Ok(solved.with_denominator(denominator))
 }
 
@@ -26,23 +25,35 @@ pub(crate) fn solve_columns(
     prepared: &Prepared,
     values: &[Frac],
 ) -> Result<Option<Solved>, AllocError> {
-    let Prepared {
-        kernel,
-        whole,
-        factors,
-    } = prepared;
-    let Some(right) = right_sides(alloc, program, kernel, &whole.scales, values)? else {
+    let Some(right) = point_sides(alloc, program, prepared, values)? else {
         return Ok(None);
     };
+    let whole = &prepared.whole;
     let system = System {
         levels: &whole.columns,
-        factors,
+        factors: &prepared.factors,
         is_turned: false,
+        is_short: whole.is_short,
     };
-    let sizes = sizes_of(whole.row_bits, &right.numbers);
-    match solution(alloc, system, &right.numbers, sizes)? {
-        Some(solved) => Ok(Some(over(alloc, solved, right.denominator)?)),
+    match lifted_solution(alloc, system, &right, whole.row_bits)? {
+        Some(solved) => Ok(Some(over(alloc, solved, &right.denominator)?)),
         None => Ok(None),
+    }
+}
+
+// A magnitude times the scale of a row.
+fn times_scale(
+    alloc: Global,
+    scales: &Scales,
+    i: usize,
+    words: &[u64],
+) -> Result<Words, AllocError> {
+    match scales {
+        Scales::Short(scales) => times_wide(alloc, words, scale_at(scales, i).unsigned_abs()),
+        Scales::Long(scales) => match scales.get(i) {
+            Some(scale) => product(alloc, words, scale),
+            None => Vec::from_slice(alloc, words),
+        },
     }
 }
 
@@ -50,10 +61,9 @@ pub(crate) fn solve_columns(
 fn times_scales(alloc: Global, prepared: &Prepared, solved: Solved) -> Result<Solved, AllocError> {
     let mut numerators = Vec::with_capacity(alloc, solved.numerators.len())?;
     for (number, i) in solved.numerators.iter().zip(&prepared.kernel.rows) {
-        let scale = scale_at(&prepared.whole.scales, *i).unsigned_abs();
         numerators.push(Whole {
             is_negative: number.is_negative,
-            words: times_wide(alloc, &number.words, scale)?,
+            words: times_scale(alloc, &prepared.whole.scales, *i, &number.words)?,
         })?;
     }
     Ok(solved.with_numerators(numerators))
@@ -67,23 +77,19 @@ pub(crate) fn solve_rows(
     prepared: &Prepared,
     costs: &[Frac],
 ) -> Result<Option<Solved>, AllocError> {
-    let Prepared {
-        kernel,
-        whole,
-        factors,
-    } = prepared;
-    let Some(right) = costs_left(alloc, program, kernel, costs)? else {
+    let Some(right) = cost_sides(alloc, program, &prepared.kernel, costs)? else {
         return Ok(None);
     };
+    let whole = &prepared.whole;
     let system = System {
         levels: &whole.rows,
-        factors,
+        factors: &prepared.factors,
         is_turned: true,
+        is_short: whole.is_short,
     };
-    let sizes = sizes_of(whole.column_bits, &right.numbers);
-    match solution(alloc, system, &right.numbers, sizes)? {
+    match lifted_solution(alloc, system, &right, whole.column_bits)? {
         Some(solved) => {
-            let solved = over(alloc, solved, right.denominator)?;
+            let solved = over(alloc, solved, &right.denominator)?;
             Ok(Some(times_scales(alloc, prepared, solved)?))
         }
         None => Ok(None),

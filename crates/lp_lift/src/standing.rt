@@ -4,11 +4,11 @@ use crate::amounts::{Amounts, Sum, amounts_of, near, near_difference};
 use crate::kernel::{Kernel, place_at};
 use crate::program::Program;
 use crate::scales::{least_common, multiple, scale_at, times_scale};
-use crate::sides::{of_logical, part};
-use crate::solution::{Solved, Whole};
+use crate::sides::{of_logicals, part};
 use crate::statuses::is_basic_at;
-use crate::wide::times_wide;
 use lp_frac::{Frac, den, is_zero};
+use lp_sparse::wide::times_wide;
+use lp_sparse::{Solved, Whole};
 use spec_pivot::Status;
 use std::alloc::{AllocError, Global};
 
@@ -112,8 +112,8 @@ fn numbers_of(alloc: Global, sums: Vec<Sum>) -> Result<Vec<Whole>, AllocError> {
 
 // ---- the rooms
 
-// Puts the rooms of the basic structural columns.
-fn put_rooms(
+/// Puts the rooms of the basic structural columns.
+pub(crate) fn put_rooms(
     alloc: Global,
     program: &Program<'_>,
     kernel: &Kernel,
@@ -158,8 +158,9 @@ fn put_row_rooms(
     Ok(())
 }
 
-/// The room of each column, by what the basic structural ones have, and where the others stand.
-pub(crate) fn rooms(
+/// The room of each column, by what the basic structural ones have, and where the others stand. There are none where a
+/// number is past the limits.
+pub(crate) fn short_rooms(
     alloc: Global,
     program: &Program<'_>,
     kernel: &Kernel,
@@ -251,10 +252,7 @@ fn all_multipliers(
     solved: &Solved,
     costs: &[Frac],
 ) -> Result<Option<Amounts>, AllocError> {
-    let mut others = Vec::with_capacity(alloc, kernel.row_places.len())?;
-    for i in 0..kernel.row_places.len() {
-        others.push(of_logical(program, costs, i))?;
-    }
+    let others = of_logicals(alloc, program, costs)?;
     amounts_of(alloc, solved, &kernel.row_places, &others)
 }
 
@@ -278,7 +276,7 @@ fn logical_reduced(
 
 /// The reduced cost of each column, 0 of the basic ones, by the multipliers of the kernel's rows. There are none where a
 /// number is past the limits.
-pub(crate) fn reduced_costs(
+pub(crate) fn short_reduced(
     alloc: Global,
     program: &Program<'_>,
     kernel: &Kernel,
@@ -310,8 +308,8 @@ pub(crate) fn reduced_costs(
 
 // ---- rates
 
-// Puts the rates of the basic structural columns.
-fn put_rates(kernel: &Kernel, solved: &Solved, rates: &mut [f64]) {
+/// Puts the rates of the basic structural columns.
+pub(crate) fn put_rates(kernel: &Kernel, solved: &Solved, rates: &mut [f64]) {
     for (j, number) in kernel.columns.iter().zip(&solved.numerators) {
         if let Some(rate) = rates.get_mut(*j) {
             *rate = near(number, &solved.denominator);
@@ -340,8 +338,9 @@ fn put_row_rates(
     Ok(())
 }
 
-/// The rates at which the basic columns move, 0 of the others, where those that are not basic move so.
-pub(crate) fn rates_of(
+/// The rates at which the basic columns move, 0 of the others, where those that are not basic move so. There are none where
+/// a number is past the limits.
+pub(crate) fn short_rates(
     alloc: Global,
     program: &Program<'_>,
     kernel: &Kernel,

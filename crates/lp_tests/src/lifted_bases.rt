@@ -207,18 +207,41 @@ RHS\n r R1 1.7\nENDATA\n";
 
 // The least common denominator of R1 is past 127 bits.
 const PAST: &str =
-    "NAME past\nROWS\n N cost\n G R1\nCOLUMNS\n x R1 1/170141183460469231731687303715884105727\n \
-y R1 1/170141183460469231731687303715884105725\nRHS\n r R1 1\nENDATA\n";
+    "NAME past\nROWS\n N cost\n G R1\nCOLUMNS\n x cost 1 R1 1/170141183460469231731687303715884105727\n \
+y cost 1 R1 1/170141183460469231731687303715884105725\nRHS\n r R1 1\nENDATA\n";
+
+const PAST_VALUE: &str = "170141183460469231731687303715884105725";
+
+// So are those of both rows, and of their right sides.
+const APART: &str =
+    "NAME apart\nROWS\n N cost\n E R1\n E R2\nCOLUMNS\n x cost 1 R1 1/170141183460469231731687303715884105727\n \
+x R2 1/170141183460469231731687303715884105725\n y cost 1 R1 1/170141183460469231731687303715884105725\n \
+y R2 -1/170141183460469231731687303715884105727\nRHS\n r R1 1\n r R2 1/170141183460469231731687303715884105669\nENDATA\n";
+
+const APART_VALUE: &str =
+    "837987995621412318723376562387865382647319063441319442507955389418943389723918780642799821339608325449425445311702622517\
+624366740705908043673534378017125/4925250774549309901534880012517951723811242003320450755572293661643880672789153093156917\
+483086494147171724776439513";
 
 const NO_ROWS: &str =
     "NAME none\nROWS\n N cost\nCOLUMNS\n x cost -2\nRHS\nBOUNDS\n UP b x 3\nENDATA\n";
+
+#[test]
+fn common_denominators_past_127_bits(rt: HostRuntime) -> Result<(), Fail> {
+    let alloc = rt.alloc();
+    assert!(rt; answers(alloc, PAST, "LBL", 0, PAST_VALUE)?);
+    assert!(rt; answers(alloc, PAST, "BLL", 9, PAST_VALUE)?);
+    assert!(rt; answers(alloc, PAST, "BBL", 9, PAST_VALUE)?);
+    assert!(rt; answers(alloc, APART, "BBLL", 0, APART_VALUE)?);
+    assert!(rt; answers(alloc, APART, "LLBB", 9, APART_VALUE)?);
+    Ok(())
+}
 
 #[test]
 fn denominators_and_models_without_rows(rt: HostRuntime) -> Result<(), Fail> {
     let alloc = rt.alloc();
     assert!(rt; answers(alloc, DECIMALS, "LBL", 0, "34/3")?);
     assert!(rt; answers(alloc, DECIMALS, "BLL", 9, "34/3")?);
-    assert!(rt; answers(alloc, PAST, "BBL", 9, "nothing")?);
     assert!(rt; answers(alloc, NO_ROWS, "U", 0, "-6")?);
     assert!(rt; answers(alloc, NO_ROWS, "B", 9, "-6")?);
     Ok(())

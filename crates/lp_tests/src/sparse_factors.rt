@@ -1,5 +1,5 @@
 // Sparse factors of small matrices over residues.
-use lp_lift::{Factored, Field, Matrix, Residue, factorize};
+use lp_sparse::{Factored, Field, Matrix, Residue, factorize};
 use std::alloc::{AllocError, Global};
 use std::test::Fail;
 

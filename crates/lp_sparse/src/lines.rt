@@ -9,7 +9,7 @@ pub struct Entry<T> {
 }
 
 /// Lines of numbers: rows or columns of a matrix.
-pub(crate) struct Lines<T: Copy> {
+pub struct Lines<T: Copy> {
     ends: Vec<usize>,
     entries: Vec<Entry<T>>,
 }
@@ -40,7 +40,8 @@ pub(crate) fn put(list: &mut [usize], k: usize, number: usize) {
 }
 
 impl<T: Copy> Lines<T> {
-    pub(crate) fn new(alloc: Global) -> Self {
+    /// No lines.
+    pub fn new(alloc: Global) -> Self {
         Lines {
             ends: Vec::new(alloc),
             entries: Vec::new(alloc),
@@ -48,23 +49,23 @@ impl<T: Copy> Lines<T> {
     }
 
     /// How many lines there are.
-    pub(crate) fn len(&self) -> usize {
+    pub fn len(&self) -> usize {
         self.ends.len()
     }
 
     /// How many numbers there are in all.
-    pub(crate) fn size(&self) -> usize {
+    pub fn size(&self) -> usize {
         self.entries.len()
     }
 
     /// Puts a number into the line that is not ended.
-    pub(crate) fn put(&mut self, place: usize, value: T) -> Result<(), AllocError> {
+    pub fn put(&mut self, place: usize, value: T) -> Result<(), AllocError> {
         self.entries.push(Entry { place, value })?;
         Ok(())
     }
 
     /// Ends a line.
-    pub(crate) fn end(&mut self) -> Result<(), AllocError> {
+    pub fn end(&mut self) -> Result<(), AllocError> {
         self.ends.push(self.entries.len())?;
         Ok(())
     }
@@ -77,7 +78,7 @@ impl<T: Copy> Lines<T> {
 
     /// The numbers of a line.
     #[inline(always)]
-    pub(crate) fn line(&self, k: usize) -> &[Entry<T>] {
+    pub fn line(&self, k: usize) -> &[Entry<T>] {
         match self.entries.get(self.start(k)..at(&self.ends, k)) {
             Some(line) => line,
             None => &[],
@@ -125,7 +126,7 @@ fn spread<T: Copy>(line: &[Entry<T>], name: usize, ends: &mut [usize], entries: 
 
 /// The lines of the places: the numbers of each line stand in them under the line's name. The zero is for
 /// places that are not filled.
-pub(crate) fn turned<T: Copy>(
+pub fn turned<T: Copy>(
     alloc: Global,
     lines: &Lines<T>,
     names: &[usize],

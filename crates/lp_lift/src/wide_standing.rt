@@ -1,0 +1,218 @@
+// How the columns of a basis stand, with numbers of any width where those of 127 bits are too narrow.
+use crate::kernel::{Kernel, Prepared, place_at};
+use crate::near::near_quotient;
+use crate::numbers::numbers;
+use crate::program::Program;
+use crate::sides::{of_logicals, part};
+use crate::standing::{FREE, Room, put_rates, put_rooms, short_rates, short_reduced, short_rooms};
+use crate::statuses::is_basic_at;
+use crate::wide_kernel::words_of_natural;
+use crate::wide_sides::with_cost;
+use lp_check::wide::{Evaluation, evaluated, reduced_costs};
+use lp_frac::{Frac, neg};
+use lp_ratio::{Lowest, Ratio};
+use lp_sparse::Solved;
+use spec_pivot::Status;
+use std::alloc::{AllocError, Global};
+
+// The float near a number: 0 where that is 0, and only there.
+fn near(alloc: Global, number: &Ratio) -> Result<f64, AllocError> {
+    let Lowest {
+        is_negative,
+        top,
+        bottom,
+    } = number.lowest(alloc)?;
+    let above = words_of_natural(alloc, top)?;
+    let below = words_of_natural(alloc, bottom)?;
+    let size = near_quotient(&above, &below);
+    Ok(if is_negative { -size } else { size })
+}
+
+// The float near the sum of a number and a fraction.
+fn near_sum(alloc: Global, number: &Ratio, v: Frac) -> Result<f64, AllocError> {
+    let sum = number.plus(alloc, &Ratio::new(alloc, v)?)?;
+    near(alloc, &sum)
+}
+
+// ---- rooms
+
+// What the rows come to at these numbers of the columns.
+fn row_sums(
+    alloc: Global,
+    program: &Program<'_>,
+    kernel: &Kernel,
+    solved: &Solved,
+    values: &[Frac],
+) -> Result<Evaluation, AllocError> {
+    let len = program.model.cols();
+    let point = numbers(alloc, len, &kernel.column_places, solved, false, values)?;
+    evaluated(alloc, program.model, &point)
+}
+
+// The room of a row's sum.
+fn room_of(
+    alloc: Global,
+    sum: &Ratio,
+    lower: Option<Frac>,
+    upper: Option<Frac>,
+) -> Result<Room, AllocError> {
+    let above_lower = match lower {
+        Some(lower) => near_sum(alloc, sum, neg(lower))?,
+        None => f64::INFINITY,
+    };
+    let below_upper = match upper {
+        Some(upper) => -near_sum(alloc, sum, neg(upper))?,
+        None => f64::INFINITY,
+    };
+    Ok(Room {
+        above_lower,
+        below_upper,
+    })
+}
+
+// The room of each column, with numbers of any width.
+fn long_rooms(
+    alloc: Global,
+    program: &Program<'_>,
+    kernel: &Kernel,
+    solved: &Solved,
+    values: &[Frac],
+) -> Result<Vec<Room>, AllocError> {
+    let found = row_sums(alloc, program, kernel, solved, values)?;
+    let mut rooms = Vec::from_elem(alloc, FREE, values.len())?;
+    put_rooms(alloc, program, kernel, solved, &mut rooms)?;
+    for (i, sum) in found.sums.as_slice().iter().enumerate() {
+        let k = program.cols().wrapping_add(i);
+        if let (None, Some(room)) = (place_at(&kernel.row_places, i), rooms.get_mut(k)) {
+            *room = room_of(alloc, sum, program.lower(k), program.upper(k))?;
+        }
+    }
+    Ok(rooms)
+}
+
+/// The room of each column, by what the basic structural ones have, and where the others stand.
+pub(crate) fn rooms(
+    alloc: Global,
+    program: &Program<'_>,
+    prepared: &Prepared,
+    solved: &Solved,
+    values: &[Frac],
+) -> Result<Vec<Room>, AllocError> {
+    let Prepared { kernel, whole, .. } = prepared;
+    if let Some(scales) = whole.scales.short() {
+        if let Some(rooms) = short_rooms(alloc, program, kernel, scales, solved, values)? {
+            return Ok(rooms);
+        }
+    }
+    long_rooms(alloc, program, kernel, solved, values)
+}
+
+// ---- rates
+
+// The rates of the basic columns, with numbers of any width.
+fn long_rates(
+    alloc: Global,
+    program: &Program<'_>,
+    kernel: &Kernel,
+    solved: &Solved,
+    moves: &[Frac],
+) -> Result<Vec<f64>, AllocError> {
+    let found = row_sums(alloc, program, kernel, solved, moves)?;
+    let mut rates = Vec::from_elem(alloc, 0.0f64, moves.len())?;
+    put_rates(kernel, solved, &mut rates);
+    for (i, sum) in found.sums.as_slice().iter().enumerate() {
+        let k = program.cols().wrapping_add(i);
+        if let (None, Some(rate)) = (place_at(&kernel.row_places, i), rates.get_mut(k)) {
+            *rate = near(alloc, sum)?;
+        }
+    }
+    Ok(rates)
+}
+
+/// The rates at which the basic columns move, 0 of the others, where those that are not basic move so.
+pub(crate) fn rates_of(
+    alloc: Global,
+    program: &Program<'_>,
+    prepared: &Prepared,
+    solved: &Solved,
+    moves: &[Frac],
+) -> Result<Vec<f64>, AllocError> {
+    let Prepared { kernel, whole, .. } = prepared;
+    if let Some(scales) = whole.scales.short() {
+        if let Some(rates) = short_rates(alloc, program, kernel, scales, solved, moves)? {
+            return Ok(rates);
+        }
+    }
+    long_rates(alloc, program, kernel, solved, moves)
+}
+
+// ---- reduced costs
+
+// Puts the reduced costs of the structural columns.
+fn put_structurals(
+    alloc: Global,
+    program: &Program<'_>,
+    statuses: &[Status],
+    costs: &[Frac],
+    reduced: &[Ratio],
+    list: &mut [f64],
+) -> Result<(), AllocError> {
+    for (j, number) in reduced.iter().enumerate() {
+        if let (false, Some(place)) = (is_basic_at(statuses, j), list.get_mut(j)) {
+            *place = near(alloc, &with_cost(alloc, program, costs, j, number)?)?;
+        }
+    }
+    Ok(())
+}
+
+// Puts the reduced costs of the logical columns: the cost of each, and the multiplier of its row.
+fn put_logicals(
+    alloc: Global,
+    program: &Program<'_>,
+    statuses: &[Status],
+    costs: &[Frac],
+    multipliers: &[Ratio],
+    list: &mut [f64],
+) -> Result<(), AllocError> {
+    for (i, number) in multipliers.iter().enumerate() {
+        let k = program.cols().wrapping_add(i);
+        if let (false, Some(place)) = (is_basic_at(statuses, k), list.get_mut(k)) {
+            *place = near_sum(alloc, number, part(costs, k))?;
+        }
+    }
+    Ok(())
+}
+
+// The reduced cost of each column, with numbers of any width.
+fn long_reduced(
+    alloc: Global,
+    program: &Program<'_>,
+    kernel: &Kernel,
+    statuses: &[Status],
+    solved: &Solved,
+    costs: &[Frac],
+) -> Result<Vec<f64>, AllocError> {
+    let others = of_logicals(alloc, program, costs)?;
+    let len = program.model.rows();
+    let y = numbers(alloc, len, &kernel.row_places, solved, false, &others)?;
+    let found = reduced_costs(alloc, program.model, &y)?;
+    let mut list = Vec::from_elem(alloc, 0.0f64, statuses.len())?;
+    put_structurals(alloc, program, statuses, costs, found.as_slice(), &mut list)?;
+    put_logicals(alloc, program, statuses, costs, y.as_slice(), &mut list)?;
+    Ok(list)
+}
+
+/// The reduced cost of each column, 0 of the basic ones, by the multipliers of the kernel's rows.
+pub(crate) fn all_reduced(
+    alloc: Global,
+    program: &Program<'_>,
+    kernel: &Kernel,
+    statuses: &[Status],
+    solved: &Solved,
+    costs: &[Frac],
+) -> Result<Vec<f64>, AllocError> {
+    match short_reduced(alloc, program, kernel, statuses, solved, costs)? {
+        Some(reduced) => Ok(reduced),
+        None => long_reduced(alloc, program, kernel, statuses, solved, costs),
+    }
+}
