@@ -29,8 +29,6 @@ use Rattle.spec_simplex.specs.declared.ends.FormFault.{FormFault}
 use Rattle.spec_simplex.specs.declared.ends.FormFault.TheVariants as fault
 use Rattle.lp_solve.proofs.Allowed.{unhanded_solved}
 use Rattle.lp_solve.proofs.Solved.{formless}
-use Rattle.lp_guess.specs.declared.certificate.Guessed.{Guessed}
-use Rattle.lp_guess.specs.Guessed.{IsGuessed}
 
 -- a model has one form
 same_form : (m : Model) (f g : Form) → form_of (Some number_limit) m ≡ Ok f → form_of (Some number_limit) m ≡ Ok g → f ≡ g
@@ -44,23 +42,6 @@ module _ (m : Model) (f : Form) (formed : form_of (Some number_limit) m ≡ Ok f
     stands = stands;
     of_form = λ g is. subst (λ g. IsBasisOf g basis) (same_form m f g formed is) fits;
   }
-
-  -- that of a guess, if it has one
-  pub of_guess : (g : Guessed) → IsGuessed m f g → IfSome g.statuses (IsBasisOfAnswer m g.certificate)
-  of_guess g h = by g.statuses h.at_basis
-    where
-      by : (o : Option (List Status)) → IfSome o (λ basis. IsBasisOf f basis × IsOfBasis m basis g.certificate) →
-          IfSome o (IsBasisOfAnswer m g.certificate)
-      by None h = tt
-      by (Some basis) h = of_answer g.certificate basis h.0 h.1
-
-  pub guess_based : (g : Guessed) → IsGuessed m f g → IfSome g.statuses (λ basis. IsBasisOf f basis)
-  guess_based g h = by g.statuses h.at_basis
-    where
-      by : (o : Option (List Status)) → IfSome o (λ basis. IsBasisOf f basis × IsOfBasis m basis g.certificate) →
-          IfSome o (λ basis. IsBasisOf f basis)
-      by None h = tt
-      by (Some basis) h = h.0
 
 -- ---- a solve at 127 bits
 

@@ -6,6 +6,7 @@ pub mod ExactLemmas
 pub mod LineLemmas
 pub mod Runs
 pub mod Solved
+pub mod Standing
 pub mod Unlimited
 pub mod WarmRuns
 pub mod FromRows

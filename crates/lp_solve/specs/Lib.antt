@@ -4,3 +4,4 @@ pub mod Fit
 pub mod Formless
 pub mod Stopped
 pub mod Lines
+pub mod Standing

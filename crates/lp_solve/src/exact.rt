@@ -14,8 +14,8 @@ ghost use Rattle.spec_solve.specs.Exact.{IsShown, IsExactAnswer, IsExactEnd, May
 use crate::cold::End;
 use crate::rows::WORK;
 use crate::shown::{
-    at_basis, at_float_end, at_float_end_beside, at_float_end_from, at_rough_end, basis_of_answer,
-    origin_of, over_rows, over_rows_from,
+    at_basis, at_float_end, at_float_end_beside, at_float_end_from, basis_of_answer, origin_of,
+    over_rows, over_rows_from,
 };
 use crate::solving::{Solved, cold_within, solve_formed};
 use crate::widened::{widened_certificate, widened_known};
@@ -131,10 +131,7 @@ fn by_form(alloc: Global, model: &Model, budget: u64, form: &Form) -> Result<Exa
     requires { form_of (Some number_limit) model.now ≡ Ok form.now }
     ensures { IfOk result (IsExactEnd model.now budget None) }
 {
-    if let Some(answer) = at_float_end(alloc, model)? {
-        return Ok(ExactEnd::Answered(answer));
-    }
-    match at_rough_end(alloc, model, form, Origin::Cold)? {
+    match at_float_end(alloc, model)? {
         Some(answer) => Ok(ExactEnd::Answered(answer)),
         None => by_runs(alloc, model, budget, form),
     }
@@ -215,17 +212,6 @@ pub fn solve_exactly(alloc: Global, model: &Model, budget: u64) -> Result<ExactE
 
 // ---- from a basis
 
-// What runs in floats lead to without the basis.
-fn by_guess(alloc: Global, model: &Model, form: &Form) -> Result<Option<ExactAnswer>, AllocError>
-    requires { form_of (Some number_limit) model.now ≡ Ok form.now }
-    ensures { IfOk result (λ o. IfSome o (IsExactAnswer model.now)) }
-{
-    if let Some(answer) = at_float_end_beside(alloc, model)? {
-        return Ok(Some(answer));
-    }
-    at_rough_end(alloc, model, form, Origin::Fell(0))
-}
-
 // What is found where a solve at 127 bits from the basis is refused an operation.
 fn beyond(
     alloc: Global,
@@ -241,7 +227,7 @@ fn beyond(
     if let Some(answer) = over_rows_from(alloc, model, form, budget, basis)? {
         return Ok(Some(answer));
     }
-    if let Some(answer) = by_guess(alloc, model, form)? {
+    if let Some(answer) = at_float_end_beside(alloc, model)? {
         return Ok(Some(answer));
     }
     over_rows(alloc, model, form, budget, Route::Fell(Fall::Past))
@@ -272,7 +258,7 @@ fn by_runs_from(
             Ok(ExactEnd::Answered(answer))
         }
         End::Past(_) => Ok(or_open(beyond(alloc, model, budget, form, basis)?)),
-        End::Spent => Ok(or_open(by_guess(alloc, model, form)?)),
+        End::Spent => Ok(or_open(at_float_end_beside(alloc, model)?)),
     }
 }
 

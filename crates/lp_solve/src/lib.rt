@@ -9,7 +9,7 @@
 //! gives up, the next one has the whole budget. Which comes first is a choice of speed alone. Of an answer over rows the
 //! checker says yes to the certificate, as of each other.
 //!
-//! An exact solve asks first for a certificate that the end of a run in floats leads to (lp_float, lp_lift, and for usual models lp_guess), or from a basis
+//! An exact solve asks first for a certificate that the end of a run in floats leads to (lp_float, lp_lift), or from a basis
 //! for that of the basis: whatever the guess is, it is checked without a limit. Only where that comes to nothing it solves
 //! a model within the usual limits at 127 bits, and where it is refused an operation there over rows of whole numbers without
 //! a limit.
@@ -19,7 +19,8 @@
 //! | `solve`, `Solved` | the solve of a model, and how it ends | src/solving |
 //! | `solve_exactly`, `ExactEnd`, `ExactAnswer` | the exact solve of a model, whose numbers may have any width | src/exact |
 //! | `solve_exactly_from` | the same from a basis of the model's form | src/exact |
-//! | `answered`, `at_basis`, `at_float_end`, `at_rough_end`, `over_rows` | answers by certificates that are checked without a limit | src/shown |
+//! | `answered`, `at_basis`, `at_float_end`, `over_rows` | answers by certificates that are checked without a limit | src/shown |
+//! | `stand_at_basis` | whether a point and multipliers stand as a basis says | src/stands |
 //! | `fits_lines` | whether the numbers of a certificate fit their lines | src/lines |
 //! | `widened_certificate` | a certificate of 127 bits as one whose numbers may have any width | src/widened |
 //! | `solve_formed`, `solve_formless` | the same by the model's form, or by why it has none | src/solving |
@@ -47,6 +48,7 @@ mod phases;
 mod rows;
 mod shown;
 mod solving;
+mod stands;
 mod warm;
 mod widened;
 mod within;

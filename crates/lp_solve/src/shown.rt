@@ -10,11 +10,11 @@ ghost use Rattle.spec_solve.specs.Exact.{IsShown, IsBasisOfAnswer, IsExactAnswer
 use crate::basis::basis_of;
 use crate::exact::ExactAnswer;
 use crate::lines::fits_lines;
+use crate::stands::stand_at_basis;
 use lp_check::wide::{Certificate, Known, Verdict, check};
 use lp_float::float_end;
 use lp_form::{Basis, Form, LargeForm, Status, is_basis, large_form};
 use lp_frac::Stop;
-use lp_guess::{Guessed, rough_certificate, stand_at_basis};
 use lp_lift::{Lifted, answer_of_basis};
 use lp_model::Model;
 use lp_ratio::Ratio;
@@ -26,6 +26,9 @@ use std::alloc::{AllocError, Global};
 // How many steps, each with systems of its own, an answer may be from the basis that a run in floats ends with, or from the
 // one that is handed in: where floats end at a basis that is not optimal exactly, it is mostly within a dozen.
 const MOST_STEPS: u32 = 20;
+
+// How many steps more there may be, times the columns and rows: of small models more, since a step of them takes little.
+const MORE_STEPS: u32 = 10_000;
 
 // The effort of a run without a limit on the numbers of its certificate, some minutes of it.
 const WIDE_WORK: u64 = 64_000_000_000;
@@ -196,13 +199,18 @@ pub(crate) fn at_basis(
 ) -> Result<Option<ExactAnswer>, AllocError>
     ensures { IfOk result (λ o. IfSome o (IsExactAnswer model.now)) }
 {
-    match answer_of_basis(alloc, model, basis.as_slice(), None, MOST_STEPS)? {
+    match answer_of_basis(alloc, model, basis.as_slice(), None, most_steps(model))? {
         Some(lifted) => {
             let origin = Origin::Warm(u64::from(lifted.steps));
             at_lifted(alloc, model, lifted, origin)
         }
         None => Ok(None),
     }
+}
+
+// How many steps an answer may be from a basis of the model.
+fn most_steps(model: &Model) -> u32 {
+    MOST_STEPS + MORE_STEPS / (model.cols() + model.rows()).max(1)
 }
 
 // The answer of the basis that a run in floats ends with, or of one a few steps on.
@@ -216,7 +224,7 @@ fn lifted_end(
     let Some(end) = float_end(alloc, model, start)? else {
         return Ok(None);
     };
-    let lifted = answer_of_basis(alloc, model, &end.statuses, end.witness, MOST_STEPS)?;
+    let lifted = answer_of_basis(alloc, model, &end.statuses, end.witness, most_steps(model))?;
     Ok(lifted)
 }
 
@@ -269,27 +277,6 @@ pub(crate) fn at_float_end_beside(
         }
         None => Ok(None),
     }
-}
-
-/// That of the end of a run in floats over a whole tableau, of which any number of the model may have any width.
-pub(crate) fn at_rough_end(
-    alloc: Global,
-    model: &Model,
-    form: &Form,
-    origin: Origin,
-) -> Result<Option<ExactAnswer>, AllocError>
-    requires { form_of (Some number_limit) model.now ≡ Ok form.now }
-    ensures { IfOk result (λ o. IfSome o (IsExactAnswer model.now)) }
-{
-    let Some(guessed) = rough_certificate(alloc, model, form)? else {
-        return Ok(None);
-    };
-    let Guessed {
-        certificate,
-        statuses,
-    } = guessed;
-    let basis = basis_of(form, statuses);
-    answered(alloc, model, certificate, basis, origin)
 }
 
 /// From where an answer is that was found on this route.

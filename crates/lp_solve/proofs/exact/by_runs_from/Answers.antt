@@ -21,9 +21,9 @@ returns-in_ok-beyond-in-Past c =
     c.in-Past.is tt)
     c.in_ok-beyond-in-Past.ensures
 
-pub returns-in_ok-by_guess-in-Spent : goal.returns-in_ok-by_guess-in-Spent
-returns-in_ok-by_guess-in-Spent c =
+pub returns-in_ok-at_float_end_beside-in-Spent : goal.returns-in_ok-at_float_end_beside-in-Spent
+returns-in_ok-at_float_end_beside-in-Spent c =
     c.or_open-in-Spent.ensures c.args.model.now c.args.budget (Some c.args.basis.now)
     (gave_up c.args.model.now c.args.budget (Some c.args.basis.now) c.in_ok-end.field-0 c.in_ok-end.ensures.solved _
     c.in-Spent.is tt)
-    c.in_ok-by_guess-in-Spent.ensures
+    c.in_ok-at_float_end_beside-in-Spent.ensures

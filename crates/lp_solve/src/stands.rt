@@ -1,0 +1,150 @@
+// Whether a point and multipliers stand as a basis says.
+ghost use Rattle.std.specs.Prelude.{◌≡◌, ◌<◌, ◌+◌, ℕ, List, IfOk, IsTrue, length};
+ghost use Rattle.spec_exact.specs.Fraction.{ℚ};
+ghost use Rattle.spec_model.specs.Model.{width, height, part as part_of};
+ghost use Rattle.spec_simplex.specs.Eliminate.{basis_at};
+ghost use Rattle.spec_solve.specs.OfBasis.{StandsAt};
+ghost use Rattle.lp_solve.specs.Standing.{ColumnStandsWith, RowStandsWith};
+
+use lp_check::wide::{
+    Ratios, evaluated, limit_of, lower_limit, part, reduced_costs, stands_at, upper_limit,
+};
+use lp_form::Status;
+use lp_model::Model;
+use lp_ratio::Ratio;
+use std::alloc::{AllocError, Global};
+
+// The status of column `k`, basic where there is none.
+fn status_at(basis: &[Status], k: usize) -> Status
+    ensures { result ≡ basis_at basis.now k }
+{
+    match basis.get(k) {
+        Some(status) => *status,
+        None => Status::Basic,
+    }
+}
+
+// Whether column `j` stands as its status says, by its reduced cost.
+fn column_stands(
+    alloc: Global,
+    model: &Model,
+    x: &Ratios,
+    j: u32,
+    reduced: &Ratio,
+    status: Status,
+) -> Result<bool, AllocError>
+    requires inside { j < width model.now }
+    requires point { length x.now ≡ width model.now }
+    ensures { IfOk result (λ b. IsTrue b → ColumnStandsWith model.now x.now j reduced.now status) }
+{
+    match status {
+        Status::Basic => Ok(reduced.is_zero()),
+        Status::AtLower => {
+            let lower = limit_of(alloc, model.col(j).lower)?;
+            let stands = stands_at(alloc, lower, part(x, j))?;
+            Ok(stands)
+        }
+        Status::AtUpper => {
+            let upper = limit_of(alloc, model.col(j).upper)?;
+            let stands = stands_at(alloc, upper, part(x, j))?;
+            Ok(stands)
+        }
+        Status::AtZero => Ok(part(x, j).is_zero()),
+    }
+}
+
+// Whether each column does.
+fn columns_stand(
+    alloc: Global,
+    model: &Model,
+    basis: &[Status],
+    x: &Ratios,
+    reduced: &Ratios,
+) -> Result<bool, AllocError>
+    requires point { length x.now ≡ width model.now }
+    requires reduced { length reduced.now ≡ width model.now }
+    ensures { IfOk result (λ b. IsTrue b → (j : ℕ) → j < width model.now →
+        ColumnStandsWith model.now x.now j (part_of reduced.now j) (basis_at basis.now j)) }
+{
+    for j in 0..model.cols() {
+        let status = status_at(basis, j as usize);
+        if !column_stands(alloc, model, x, j, part(reduced, j), status)? {
+            return Ok(false);
+        }
+    }
+    Ok(true)
+}
+
+// Whether row `i` stands as its logical's status says, by its sum.
+fn row_stands(
+    alloc: Global,
+    model: &Model,
+    y: &Ratios,
+    i: u32,
+    sum: &Ratio,
+    status: Status,
+) -> Result<bool, AllocError>
+    requires inside { i < height model.now }
+    requires multipliers { length y.now ≡ height model.now }
+    ensures { IfOk result (λ b. IsTrue b → RowStandsWith model.now y.now i sum.now status) }
+{
+    match status {
+        Status::Basic => Ok(part(y, i).is_zero()),
+        Status::AtLower => {
+            let lower = lower_limit(alloc, model.row(i))?;
+            let stands = stands_at(alloc, lower, sum)?;
+            Ok(stands)
+        }
+        Status::AtUpper => {
+            let upper = upper_limit(alloc, model.row(i))?;
+            let stands = stands_at(alloc, upper, sum)?;
+            Ok(stands)
+        }
+        Status::AtZero => Ok(sum.is_zero()),
+    }
+}
+
+// Whether each row does.
+fn rows_stand(
+    alloc: Global,
+    model: &Model,
+    basis: &[Status],
+    y: &Ratios,
+    sums: &Ratios,
+) -> Result<bool, AllocError>
+    requires multipliers { length y.now ≡ height model.now }
+    requires sums { length sums.now ≡ height model.now }
+    ensures { IfOk result (λ b. IsTrue b → (i : ℕ) → i < height model.now →
+        RowStandsWith model.now y.now i (part_of sums.now i) (basis_at basis.now (width model.now + i))) }
+{
+    let first = model.cols() as usize;
+    for i in 0..model.rows() {
+        let status = status_at(basis, first + i as usize);
+        if !row_stands(alloc, model, y, i, part(sums, i), status)? {
+            return Ok(false);
+        }
+    }
+    Ok(true)
+}
+
+/// Whether each column that is not basic stands at its bound, a basic one has the reduced cost 0, and the rows so, by one
+/// walk over the model's entries for all reduced costs and one for all sums.
+pub(crate) fn stand_at_basis(
+    alloc: Global,
+    model: &Model,
+    basis: &[Status],
+    x: &Ratios,
+    y: &Ratios,
+) -> Result<bool, AllocError>
+    requires point { length x.now ≡ width model.now }
+    requires multipliers { length y.now ≡ height model.now }
+    ensures { IfOk result (λ b. IsTrue b → StandsAt model.now basis.now x.now y.now) }
+{
+    let reduced = reduced_costs(alloc, model, y)?;
+    if !columns_stand(alloc, model, basis, x, &reduced)? {
+        return Ok(false);
+    }
+    let point = evaluated(alloc, model, x)?;
+    let stand = rows_stand(alloc, model, basis, y, &point.sums)?;
+    Ok(stand)
+}
