@@ -1,6 +1,0 @@
--- As many so far as were gone over.
-use Rattle.std.proofs.Common.{◌≡◌, length}
-use Rattle.lp_guess.proofs.guess.numbers.Given as goal
-
-abbrev pub invariant-loop-k : goal.invariant-loop-k
-invariant-loop-k l = length l.list ≡ l.k

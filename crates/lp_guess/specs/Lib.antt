@@ -1,3 +1,0 @@
-pub mod Guessed
-pub mod Prime
-pub mod Standing
