@@ -68,25 +68,49 @@ fn shows(alloc: Global, verdict: &Verdict, wanted: &str) -> bool {
     }
 }
 
-// Whether a basis of a model has this answer within so many steps.
-fn answers(
-    alloc: Global,
-    text: &str,
-    letters: &str,
+// A basis of a model, and the answer that it leads to within so many steps.
+#[derive(Clone, Copy)]
+struct Case<'a> {
+    text: &'a str,
+    letters: &'a str,
     most_steps: u32,
-    wanted: &str,
-) -> Result<bool, AllocError> {
-    let Some(model) = model_of(alloc, text)? else {
-        return Ok(false);
-    };
-    let statuses = statuses_of(alloc, letters)?;
-    match answer_of_basis(alloc, &model, &statuses, None, most_steps)? {
-        Some(lifted) => {
-            let verdict = check(alloc, &model, &lifted.certificate)?;
-            Ok(lifted.steps <= most_steps && shows(alloc, &verdict, wanted))
+    wanted: &'a str,
+}
+
+impl<'a> Case<'a> {
+    fn new(text: &'a str, letters: &'a str, most_steps: u32, wanted: &'a str) -> Case<'a> {
+        Case {
+            text,
+            letters,
+            most_steps,
+            wanted,
         }
-        None => Ok(are_same(wanted.as_bytes(), b"nothing")),
     }
+
+    // Whether the basis has this answer.
+    fn holds(&self, alloc: Global) -> Result<bool, AllocError> {
+        let Some(model) = model_of(alloc, self.text)? else {
+            return Ok(false);
+        };
+        let statuses = statuses_of(alloc, self.letters)?;
+        match answer_of_basis(alloc, &model, &statuses, None, self.most_steps)? {
+            Some(lifted) => {
+                let verdict = check(alloc, &model, &lifted.certificate)?;
+                Ok(lifted.steps <= self.most_steps && shows(alloc, &verdict, self.wanted))
+            }
+            None => Ok(are_same(self.wanted.as_bytes(), b"nothing")),
+        }
+    }
+}
+
+// The place of the first case that does not hold.
+fn first_wrong(alloc: Global, cases: &[Case<'_>]) -> Result<Option<usize>, AllocError> {
+    for (place, case) in cases.iter().enumerate() {
+        if !case.holds(alloc)? {
+            return Ok(Some(place));
+        }
+    }
+    Ok(None)
 }
 
 // 3 x + y >= 10^34 + 2 and x - y = 7, so x is a quarter of 10^34 + 9.
@@ -98,24 +122,28 @@ const WIDE_VALUE: &str = "7499999999999999999999999999999992.75";
 
 #[test]
 fn right_sides_past_a_word(rt: HostRuntime) -> Result<(), Fail> {
-    let alloc = rt.alloc();
-    assert!(rt; answers(alloc, WIDE, "BBLL", 0, WIDE_VALUE)?);
-    assert!(rt; answers(alloc, WIDE, "BBLU", 0, WIDE_VALUE)?);
+    let cases = [
+        Case::new(WIDE, "BBLL", 0, WIDE_VALUE),
+        Case::new(WIDE, "BBLU", 0, WIDE_VALUE),
+    ];
+    assert_eq!(rt; first_wrong(rt.alloc(), &cases)?, None);
     Ok(())
 }
 
 #[test]
 fn bases_with_columns_too_many_or_too_few(rt: HostRuntime) -> Result<(), Fail> {
-    let alloc = rt.alloc();
-    assert!(rt; answers(alloc, WIDE, "BBLB", 0, "nothing")?);
-    assert!(rt; answers(alloc, WIDE, "BBLB", 9, WIDE_VALUE)?);
-    assert!(rt; answers(alloc, WIDE, "BBBB", 9, WIDE_VALUE)?);
-    assert!(rt; answers(alloc, WIDE, "BLLL", 9, WIDE_VALUE)?);
-    assert!(rt; answers(alloc, WIDE, "LLLL", 9, WIDE_VALUE)?);
-    // Statuses are missing, one is behind the last column, and columns stand at bounds that they do not have.
-    assert!(rt; answers(alloc, WIDE, "BB", 0, WIDE_VALUE)?);
-    assert!(rt; answers(alloc, WIDE, "BBLLB", 0, WIDE_VALUE)?);
-    assert!(rt; answers(alloc, WIDE, "UZBU", 9, WIDE_VALUE)?);
+    let cases = [
+        Case::new(WIDE, "BBLB", 0, "nothing"),
+        Case::new(WIDE, "BBLB", 9, WIDE_VALUE),
+        Case::new(WIDE, "BBBB", 9, WIDE_VALUE),
+        Case::new(WIDE, "BLLL", 9, WIDE_VALUE),
+        Case::new(WIDE, "LLLL", 9, WIDE_VALUE),
+        // Statuses are missing, one is behind the last column, and columns stand at bounds that they do not have.
+        Case::new(WIDE, "BB", 0, WIDE_VALUE),
+        Case::new(WIDE, "BBLLB", 0, WIDE_VALUE),
+        Case::new(WIDE, "UZBU", 9, WIDE_VALUE),
+    ];
+    assert_eq!(rt; first_wrong(rt.alloc(), &cases)?, None);
     Ok(())
 }
 
@@ -126,10 +154,12 @@ y R2 4\n z cost 4 R1 1\n z R2 1\nRHS\n r R1 4\n r R2 6\nENDATA\n";
 
 #[test]
 fn singular_bases(rt: HostRuntime) -> Result<(), Fail> {
-    let alloc = rt.alloc();
-    assert!(rt; answers(alloc, DEPENDENT, "BBLLL", 0, "nothing")?);
-    assert!(rt; answers(alloc, DEPENDENT, "BBLLL", 9, "10")?);
-    assert!(rt; answers(alloc, DEPENDENT, "BBBLL", 9, "10")?);
+    let cases = [
+        Case::new(DEPENDENT, "BBLLL", 0, "nothing"),
+        Case::new(DEPENDENT, "BBLLL", 9, "10"),
+        Case::new(DEPENDENT, "BBBLL", 9, "10"),
+    ];
+    assert_eq!(rt; first_wrong(rt.alloc(), &cases)?, None);
     Ok(())
 }
 
@@ -145,11 +175,13 @@ RHS\n r R1 5\nBOUNDS\n FX b f 2\n FR b z\nENDATA\n";
 
 #[test]
 fn fixed_and_free_columns_that_are_not_basic(rt: HostRuntime) -> Result<(), Fail> {
-    let alloc = rt.alloc();
-    assert!(rt; answers(alloc, STILL, "LZBL", 0, "-7")?);
-    assert!(rt; answers(alloc, STILL, "UZBL", 0, "-7")?);
-    assert!(rt; answers(alloc, CHEAP, "LZBL", 0, "nothing")?);
-    assert!(rt; answers(alloc, CHEAP, "LZBL", 9, "-8.5")?);
+    let cases = [
+        Case::new(STILL, "LZBL", 0, "-7"),
+        Case::new(STILL, "UZBL", 0, "-7"),
+        Case::new(CHEAP, "LZBL", 0, "nothing"),
+        Case::new(CHEAP, "LZBL", 9, "-8.5"),
+    ];
+    assert_eq!(rt; first_wrong(rt.alloc(), &cases)?, None);
     Ok(())
 }
 
@@ -159,12 +191,14 @@ RHS\n r R1 2\nRANGES\n g R1 6\nBOUNDS\n UP b x 100\n UP b y 3\nENDATA\n";
 
 #[test]
 fn rows_and_columns_at_their_other_side(rt: HostRuntime) -> Result<(), Fail> {
-    let alloc = rt.alloc();
-    assert!(rt; answers(alloc, SIDES, "BLU", 0, "-8")?);
-    assert!(rt; answers(alloc, SIDES, "BLL", 0, "nothing")?);
-    assert!(rt; answers(alloc, SIDES, "BLL", 1, "-8")?);
-    assert!(rt; answers(alloc, SIDES, "BUL", 1, "-8")?);
-    assert!(rt; answers(alloc, SIDES, "LBL", 9, "-8")?);
+    let cases = [
+        Case::new(SIDES, "BLU", 0, "-8"),
+        Case::new(SIDES, "BLL", 0, "nothing"),
+        Case::new(SIDES, "BLL", 1, "-8"),
+        Case::new(SIDES, "BUL", 1, "-8"),
+        Case::new(SIDES, "LBL", 9, "-8"),
+    ];
+    assert_eq!(rt; first_wrong(rt.alloc(), &cases)?, None);
     Ok(())
 }
 
@@ -178,12 +212,14 @@ y R2 1\nRHS\n r R1 5\n r R2 3\nENDATA\n";
 
 #[test]
 fn models_without_an_optimum(rt: HostRuntime) -> Result<(), Fail> {
-    let alloc = rt.alloc();
-    assert!(rt; answers(alloc, RISING, "BLU", 1, "unbounded")?);
-    assert!(rt; answers(alloc, RISING, "LLB", 9, "unbounded")?);
-    assert!(rt; answers(alloc, NOWHERE, "BLLB", 0, "infeasible")?);
-    assert!(rt; answers(alloc, NOWHERE, "LBBU", 9, "infeasible")?);
-    assert!(rt; answers(alloc, NOWHERE, "LLBB", 9, "infeasible")?);
+    let cases = [
+        Case::new(RISING, "BLU", 1, "unbounded"),
+        Case::new(RISING, "LLB", 9, "unbounded"),
+        Case::new(NOWHERE, "BLLB", 0, "infeasible"),
+        Case::new(NOWHERE, "LBBU", 9, "infeasible"),
+        Case::new(NOWHERE, "LLBB", 9, "infeasible"),
+    ];
+    assert_eq!(rt; first_wrong(rt.alloc(), &cases)?, None);
     Ok(())
 }
 
@@ -194,10 +230,12 @@ u R2 1 R3 -1000000000000000000\n v R3 1 R4 -1000000000000000000\n w cost 1 R4 1\
 
 #[test]
 fn numbers_past_two_words(rt: HostRuntime) -> Result<(), Fail> {
-    let alloc = rt.alloc();
     let value = "9000000000000000000000000000000000000000000000000000000";
-    assert!(rt; answers(alloc, CHAIN, "BBBBLLLL", 0, value)?);
-    assert!(rt; answers(alloc, CHAIN, "LLLLBBBB", 9, value)?);
+    let cases = [
+        Case::new(CHAIN, "BBBBLLLL", 0, value),
+        Case::new(CHAIN, "LLLLBBBB", 9, value),
+    ];
+    assert_eq!(rt; first_wrong(rt.alloc(), &cases)?, None);
     Ok(())
 }
 
@@ -228,21 +266,25 @@ const NO_ROWS: &str =
 
 #[test]
 fn common_denominators_past_127_bits(rt: HostRuntime) -> Result<(), Fail> {
-    let alloc = rt.alloc();
-    assert!(rt; answers(alloc, PAST, "LBL", 0, PAST_VALUE)?);
-    assert!(rt; answers(alloc, PAST, "BLL", 9, PAST_VALUE)?);
-    assert!(rt; answers(alloc, PAST, "BBL", 9, PAST_VALUE)?);
-    assert!(rt; answers(alloc, APART, "BBLL", 0, APART_VALUE)?);
-    assert!(rt; answers(alloc, APART, "LLBB", 9, APART_VALUE)?);
+    let cases = [
+        Case::new(PAST, "LBL", 0, PAST_VALUE),
+        Case::new(PAST, "BLL", 9, PAST_VALUE),
+        Case::new(PAST, "BBL", 9, PAST_VALUE),
+        Case::new(APART, "BBLL", 0, APART_VALUE),
+        Case::new(APART, "LLBB", 9, APART_VALUE),
+    ];
+    assert_eq!(rt; first_wrong(rt.alloc(), &cases)?, None);
     Ok(())
 }
 
 #[test]
 fn denominators_and_models_without_rows(rt: HostRuntime) -> Result<(), Fail> {
-    let alloc = rt.alloc();
-    assert!(rt; answers(alloc, DECIMALS, "LBL", 0, "34/3")?);
-    assert!(rt; answers(alloc, DECIMALS, "BLL", 9, "34/3")?);
-    assert!(rt; answers(alloc, NO_ROWS, "U", 0, "-6")?);
-    assert!(rt; answers(alloc, NO_ROWS, "B", 9, "-6")?);
+    let cases = [
+        Case::new(DECIMALS, "LBL", 0, "34/3"),
+        Case::new(DECIMALS, "BLL", 9, "34/3"),
+        Case::new(NO_ROWS, "U", 0, "-6"),
+        Case::new(NO_ROWS, "B", 9, "-6"),
+    ];
+    assert_eq!(rt; first_wrong(rt.alloc(), &cases)?, None);
     Ok(())
 }
