@@ -224,7 +224,10 @@ class CertificateFault(Refused):
             self.hint = "For numbers of any width use --wide, as in lpd check --wide, and in Python wide=True."
         elif line == 1 and words[:1] == ["OPTIMAL"] or line == 2 and words[:1] in ANSWERS:
             self.hint = "This is a certificate behind an answer: drop the first line, as sed 1d does."
-        super().__init__(f"ERR 14 CERT {line}", f"line {line} of the certificate {what}{quoted(text)}")
+        told = f"line {line} of the certificate {what}{quoted(text)}"
+        if text is None:
+            told = "there is no certificate behind the text of the model" if line == 1 else f"the certificate ends before line {line}, without END"
+        super().__init__(f"ERR 14 CERT {line}", told)
 
 
 ANSWERS = (["OPTIMAL"], ["INFEASIBLE"], ["UNBOUNDED"], ["CLASH"])

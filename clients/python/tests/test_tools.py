@@ -62,6 +62,34 @@ class Checker(unittest.TestCase):
             self.assertEqual((said.returncode, said.stdout.splitlines()[0]), (9, b"ERR 14 CERT 1"))
             self.assertIn(b"drop the first line", said.stderr)
 
+    def checked(self, *words: str, stdin: str = "") -> "subprocess.CompletedProcess[str]":
+        line = [sys.executable, "-I", str(TOOLS / "check_certificate.py"), *words]
+        return subprocess.run(line, input=stdin, capture_output=True, text=True, timeout=300)
+
+    def test_files(self) -> None:
+        """A model and an answer as lpd solve prints it, where the text has no newline at its end too; or both in one file."""
+        models = TOOLS.parent / "examples" / "models"
+        text, answer = (models / "diet.mps").read_text(), (models / "diet.solved").read_text()
+        with tempfile.TemporaryDirectory() as folder:
+            names = [f"{folder}/{name}" for name in ("text", "answer", "certificate", "both")]
+            bare = answer.partition("\n")[2]
+            for name, content in zip(names, (text.rstrip("\n"), answer, bare, text + bare)):
+                Path(name).write_text(content)
+            for words in (names[:2], [names[0], names[2]], names[3:]):
+                self.assertEqual(self.checked(*words).stdout, "YES OPTIMAL 92.5\n")
+            said = self.checked(names[0], f"{folder}/none")
+            self.assertEqual((said.returncode, said.stderr), (3, f"{folder}/none: No such file or directory\n"))
+            self.assertEqual(self.checked(*names[:3]).returncode, 2)
+
+    def test_a_certificate_that_ends_early(self) -> None:
+        text = (TOOLS.parent / "examples" / "models" / "diet.mps").read_text()
+        said = self.checked(stdin=text)
+        self.assertEqual((said.returncode, said.stdout), (9, "ERR 14 CERT 1\n"))
+        self.assertIn("there is no certificate", said.stderr)
+        said = self.checked(stdin=f"{text}OPTIMAL\nx oatmeal 4\n")
+        self.assertEqual((said.returncode, said.stdout), (9, "ERR 14 CERT 3\n"))
+        self.assertIn("the certificate ends before line 3, without END", said.stderr)
+
 
 class Talk(unittest.TestCase):
     def talk(self, script: bytes, *replies: bytes) -> "subprocess.CompletedProcess[bytes]":
