@@ -27,6 +27,10 @@ HEAD = [(name, re.compile(rf"\s*(?:{words})(?![^\s])(?!\s*[:<>=+*^\[-])", re.I |
 NUMBER = r"(?:\d+\.?\d*|\.\d+)(?:[eE][+-]?\d+)?"
 NAME = r"[A-Za-z!\"#$%&(),;?@_`'{}|~/][\w!\"#$%&(),.;?@`'{}|~/]*"
 TOKEN = re.compile(rf"\s*(?:({NUMBER})|(<=|>=|=<|=>|<|>|=|->)|({NAME})|(\S))", re.A)
+COMMA = re.compile(r"[\d.]*,\d+", re.A)  # of a decimal as it is written in many countries
+OF_LP_SOLVE = re.compile(r"\s*(?:/[/*]|(?:max|min)(?:imi[sz]e)?\s*:)", re.I)
+BEGINS = "a model begins with Minimize or Maximize"
+LP_SOLVE = ". If this is the format of lp_solve: lp_solve -S1 -parse_only FILE -wfmps FILE.mps makes MPS of it"
 RELATIONS = {"<": "<", "<=": "<", "=<": "<", ">": ">", ">=": ">", "=>": ">", "=": "="}
 INFINITE = ("inf", "infinity")
 ZERO = Fraction(0)
@@ -85,6 +89,9 @@ def tokens_of(text: str, line: int) -> List[Token]:
         if match is None:
             break
         kind = ("number", "relation", "name", "sign")[next(n for n, part in enumerate(match.groups()) if part)]
+        comma = COMMA.match(text, match.start(1)) if kind == "number" else None
+        if comma:
+            raise Unfit(line, f"{comma[0]} is no number: a decimal has a point, as {comma[0].replace(',', '.')}")
         found.append(Token(kind, match[match.lastindex or 0], line))
         at = match.end()
     return found
@@ -106,7 +113,7 @@ def sections_of(text: str) -> List[Tuple[str, List[Token]]]:
         if not bare.strip():
             continue
         if not found:
-            raise Unfit(number, "a model begins with Minimize or Maximize")
+            raise Unfit(number, BEGINS + (LP_SOLVE if OF_LP_SOLVE.match(bare) else ""))
         found[-1][1].extend(tokens_of(bare, number))
     return found
 
@@ -152,6 +159,8 @@ class Tokens:
         if token.kind == "name" and token.text.lower() in INFINITE:
             self.next()
             return None
+        if token.kind == "name":
+            raise Unfit(token.line, f"a number was expected, and not {token.text!r}: columns stand on the left side alone")
         if token.kind != "number":
             self.unfit("a number")
         return sign * parse(self.next().text).value
@@ -197,6 +206,8 @@ def read_row(model: LpModel, tokens: Tokens) -> None:
     """A constraint: a sum and a number, or a number, a sum and a number. One without a name has its line's, as with glpsol."""
     line = tokens.peek().line
     name = tokens.label() or f"r.{line}"
+    if tokens.peek().kind == "name" and name == f"r.{line}" and tokens.peek(1).kind in ("number", "name"):
+        raise Unfit(line, f"the name of a constraint ends with a colon, as {tokens.peek().text}:")
     entries, left = tokens.sum()
     first = tokens.relation()
     ends: List[Tuple[str, Optional[Fraction]]] = []
@@ -264,7 +275,7 @@ def read_lp(text: str) -> LpModel:
     """The model that a text spells."""
     model, sections = LpModel(), sections_of(text)
     if not sections or sections[0][0] not in ("min", "max"):
-        raise Unfit(1, "a model begins with Minimize or Maximize")
+        raise Unfit(1, BEGINS)
     model.is_max = sections[0][0] == "max"
     for name, given in sections:
         tokens = Tokens(given)
