@@ -14,7 +14,8 @@ from .records import dataclass, replace
 
 ZERO = Fraction(0)
 MOST_TERMS = 6  # of a sum that is told
-LONG_MULTIPLIER = 1000
+SOME, LONG_MULTIPLIER = 10, 1000
+SHORT = 4  # decimals of a multiplier that is told
 
 
 @dataclass(frozen=True)
@@ -95,12 +96,20 @@ class Conflict:
         return self.told(shown)
 
     def scaled(self) -> Conflict:
-        """The same, but for a factor: where multipliers are long, the least of them is 1."""
+        """The same, but for a factor, where a row counts more than a few times: one that alone asks, or alone allows, counts once if the
+        others then have short decimals. Else, where multipliers are long, the least of them is 1."""
         sizes = [abs(row.multiplier) for row in self.rows]
-        if not sizes or max(sizes) < LONG_MULTIPLIER:
+        if max(sizes, default=ZERO) < SOME:
             return self
-        rows = [replace(row, multiplier=row.multiplier / min(sizes)) for row in self.rows]
-        return Conflict(rows, self.asked / min(sizes), self.allowed / min(sizes))
+        for is_lower in (True, False):
+            alone = [abs(row.multiplier) for row in self.rows if row.is_lower == is_lower]
+            if len(alone) == 1 and all(10**SHORT % (size / alone[0]).denominator == 0 for size in sizes):
+                return self.divided(alone[0])
+        return self.divided(min(sizes)) if max(sizes) >= LONG_MULTIPLIER else self
+
+    def divided(self, by: Fraction) -> Conflict:
+        rows = [replace(row, multiplier=row.multiplier / by) for row in self.rows]
+        return Conflict(rows, self.asked / by, self.allowed / by)
 
     def told(self, number: Callable[[Fraction], str]) -> str:
         """What contradicts what, in a sentence whose numbers are shown so."""

@@ -318,6 +318,17 @@ class Reports(unittest.TestCase):
         self.assertEqual(found.scaled().told(READABLE.word), "~1333.67 R2 asks for ~2667.33 at least, and R1 allows 1 at most.")
         self.assertEqual(str(found), "4001 R2 asks for 8002 at least, and 3 R1 allows 3 at most.")
 
+    def test_a_row_that_alone_asks_counts_once(self) -> None:
+        text = "ROWS\n N c\n E total\n G protein\nCOLUMNS\n maize total 1 protein 0.09\n soy total 1 protein 0.51\nRHS\n total 1000 protein 460\n"
+        text += "BOUNDS\n UP soy 400\nENDATA\n"
+        found = lpd.conflict(lpd.read_model(text), ["INFEASIBLE", "y total -9", "y protein 100", "END"])
+        self.assertIn("100 protein asks for 46000 at least", str(found))
+        told = "protein asks for 460 at least, and 0.09 total with the bounds of the columns allow 258 at most."
+        self.assertEqual(found.scaled().told(READABLE.word), told)
+        text = text.replace("0.09", "1/9")
+        found = lpd.conflict(lpd.read_model(text), ["INFEASIBLE", "y total -1", "y protein 9", "END"])
+        self.assertIn("9 protein asks for", found.scaled().told(READABLE.word))
+
     def test_sums_that_contradict_each_other(self) -> None:
         rows = [f" G d{n}" for n in range(40)] + [f" L s{n}" for n in range(3)]
         cards = [f" x{i}.{j} s{i} 1 d{j} 1" for i in range(3) for j in range(40)]

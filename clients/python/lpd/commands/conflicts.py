@@ -7,10 +7,11 @@ from typing import Dict, List, Optional, Sequence
 
 from ..certificate import Failed, must_be_feasible
 from ..dialects import PROFILE, written
-from ..errors import CommandMissing, LpdError, Refused, TextFault
+from ..errors import TOO_MUCH, CommandMissing, LpdError, Refused, TextFault
 from ..exact import OutOfTime
 from ..figures import NEAR, Style, outward
 from ..irreducible import Irreducible, Member, Side, iis, only
+from ..judging import LARGE
 from ..model import Model
 from ..number_text import shown
 from ..remedy import Advice, Change, Remedy, advise, weights_of, without
@@ -37,7 +38,10 @@ def found_limits(words: argparse.Namespace, text: str, model: Model, found: Answ
         if words.iis:
             tell(f"lpd: there is no list: {missing}")
     except (NotKnown, OutOfTime, Refused) as why:
-        tell(f"note: it is not known which limits can be left out: {why}")
+        if not (isinstance(why, TextFault) and why.fault == TOO_MUCH):
+            tell(f"note: it is not known which limits can be left out: {why}")
+        elif words.iis:
+            tell(f"lpd: there is no list: {LARGE}")
     return None
 
 
