@@ -54,13 +54,17 @@ def parser(first: str = "") -> argparse.ArgumentParser:
     return top
 
 
-def status_of_error(error: Exception) -> int:
+def status_of_error(error: "errors.LpdError | NotANumber | OSError") -> int:
     """Says what went wrong, and gives its status."""
     if isinstance(error, errors.LpdError):
         tell(error.told())
         return error.ends_with
-    tell(f"lpd: {error} is not a number" if isinstance(error, NotANumber) else f"lpd: {error}")
-    return 2 if isinstance(error, NotANumber) else 3
+    if isinstance(error, NotANumber):
+        tell(f"lpd: {error} is not a number")
+        return 2
+    is_of_file = isinstance(error, OSError) and error.filename is not None
+    tell(f"lpd: {error.filename}: {error.strerror}" if is_of_file else f"lpd: {error}")
+    return 3
 
 
 def main(arguments: Optional[List[str]] = None) -> int:

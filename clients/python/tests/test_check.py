@@ -218,6 +218,16 @@ class TheCommand(unittest.TestCase):
             self.assertEqual(said[:2], (0, "YES OPTIMAL 4\n"))
             self.assertIn("no newline behind ENDATA", said.complaints)
 
+    def test_a_value_that_is_too_long_for_a_line(self) -> None:
+        value = Fraction(10**70, 3**140)
+        text, certificate = LEAST.replace("R1 1\nENDATA", f"R1 {value}\nENDATA"), f"OPTIMAL\nx a {value}\ny R1 1\nEND\n"
+        found = self.said(text=text, certificate=certificate).output.splitlines()
+        self.assertEqual(found[:2], ["YES OPTIMAL ~1598.97", "the value is a fraction of 138 digits: --exact shows it"])
+        self.assertEqual(self.said("--exact", text=text, certificate=certificate).output.splitlines()[0], f"YES OPTIMAL {value + 3}")
+
+    def test_a_file_that_there_is_not(self) -> None:
+        self.assertEqual(command("check", "none.mps"), (3, "", "lpd: none.mps: No such file or directory\n"))
+
     def test_a_number_past_127_bits(self) -> None:
         """It is taken as it is, with --wide and without."""
         certificate = f"OPTIMAL\nx a 1\ny R1 {10**40}\nEND\n"

@@ -7,13 +7,14 @@ from typing import Dict, List, NamedTuple, Optional, Tuple, Union
 
 from ..certificate import check_lines
 from ..errors import LIMITS, CertificateFault, LpdError, ProgramMissing, TextFault
+from ..figures import READABLE
 from ..judging import PYTHON_ALONE, Judged, NotCertified, judged_wide
 from ..model import Model, lines_of, read_lines, words_of
 from ..number_text import NotANumber, number, shown
 from ..reading import read_model_file
 from ..records import replace
 from ..replies import Accepted, Infeasible, Known, Optimal, Rejected, Unbounded
-from .common import add_options, as_text, converted, in_dialect, lines_text, options_of, read, skipped_words, tell
+from .common import WIDEST_LINE, add_options, as_text, converted, in_dialect, lines_text, options_of, read, skipped_words, tell
 
 OTHERS: Dict[str, Known] = {"INFEASIBLE": Infeasible(), "UNBOUNDED": Unbounded()}
 KINDS = ("OPTIMAL", "INFEASIBLE", "UNBOUNDED", "CLASH")
@@ -36,6 +37,7 @@ def add(commands: "argparse._SubParsersAction[argparse.ArgumentParser]") -> None
     checks.add_argument("--form", choices=["free", "fixed"], help="the form of the text (free; with --convert or --relax the one that fits)")
     checks.add_argument("--convert", action="store_true", help="converts the text from other dialects first, as solve does")
     add_options(checks)
+    checks.add_argument("--exact", action="store_true", help=f"shows the optimal value as it is, also where it does not fit a line of {WIDEST_LINE} characters")
     claim = "what the certificate has to show, exactly: the optimal value, INFEASIBLE or UNBOUNDED"
     checks.add_argument("--claim", metavar="ANSWER", help=claim)
     checks.add_argument("--wide", action="store_true", help="has lpd check --wide judge too, if the program has it, as is done by itself where a number passes 127 bits")
@@ -150,8 +152,17 @@ def run(words: argparse.Namespace) -> int:
         print(f"NO CLAIM\n{told(verdict, other)}")
         return 1
     judge = judge_of(of, certificate, verdict.known) if is_wide else ""
-    print("\n".join([str(verdict), *([judge] if judge else [])]))
+    print("\n".join([*verdict_lines(verdict, words.exact), *([judge] if judge else [])]))
     return 0
+
+
+def verdict_lines(verdict: Accepted, is_exact: bool) -> List[str]:
+    """What is accepted: of a value that is too long for a line its decimal, unless it is wanted as it is."""
+    if is_exact or len(str(verdict)) <= WIDEST_LINE or not isinstance(verdict.known, Optimal):
+        return [str(verdict)]
+    value = verdict.known.value
+    count = len(shown(value)) - 1 - (value < 0)
+    return [f"YES OPTIMAL {READABLE.word(value)}", f"the value is a fraction of {count} digits: --exact shows it"]
 
 
 def judge_of(of: Given, certificate: List[str], known: Known) -> str:
