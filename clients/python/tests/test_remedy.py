@@ -4,19 +4,21 @@ import os
 import random
 import re
 import unittest
-from lpd.records import replace
 from fractions import Fraction
 from typing import List, Optional
+from unittest import mock
 
 import lpd
 from lpd.certificate import must_be_feasible
 from lpd.certifying import certified
 from lpd.commands.conflicts import in_words
 from lpd.dialects import PROFILE, written
+from lpd.exact import OutOfTime
 from lpd.figures import READABLE
 from lpd.floating import ask
 from lpd.irreducible import Side
 from lpd.model import Model, Row
+from lpd.records import replace
 from lpd.remedy import Advice, Change, Remedy, advise, changed, elastic
 from lpd.solver_names import NONE
 
@@ -137,6 +139,12 @@ class Advised(unittest.TestCase):
 
 @unittest.skipUnless(has_program(), "the program is not built")
 class Told(unittest.TestCase):
+    def test_what_is_not_found_in_time(self) -> None:
+        """Whatever part of the seconds was left for the last solve."""
+        with mock.patch("lpd.commands.conflicts.advise", side_effect=OutOfTime("lpd solve --wide is not done in 0.1 seconds")):
+            said = command("solve", "-", stdin=TWO.encode())
+        self.assertIn("which change of the model is enough: none was found in 20 seconds\n", said.complaints)
+
     def test_the_feed(self) -> None:
         """First what contradicts what, then what is enough for the whole model: no point has less than no maize."""
         said = command("solve", "-", stdin=FEED.encode())

@@ -75,8 +75,12 @@ def known(found: Irreducible) -> Irreducible:
 def found_advice(words: argparse.Namespace, model: Model, certificate: List[str], limits: Optional[Irreducible]) -> Optional[Advice]:
     """Which changes are enough. That it is not known is told in a line."""
     known = [certificate, *([limits.certificate] if limits else [])]
+    most = min(seconds_of(words, model), SECONDS)
     try:
-        return advise(model, known, min(seconds_of(words, model), SECONDS))
+        return advise(model, known, most)
+    except OutOfTime:
+        tell(f"note: it is not known which change of the model is enough: none was found in {most:g} seconds")
+        return None
     except LpdError as why:
         tell(f"note: it is not known which change of the model is enough: {why}")
         return None
