@@ -185,6 +185,13 @@ class Cards:
         self.objective: Optional[Card] = None
         self.in_whole = False
         self.section = ""  # that of the data card which is read
+        self.makers: Dict[str, Callable[[int, str, List[Optional[str]]], None]] = {
+            "ROWS": self.row_card,
+            "COLUMNS": self.column_card,
+            "RHS": self.side_card,
+            "RANGES": self.side_card,
+            "BOUNDS": self.bound_card,
+        }
         self.names_of_text()
 
     def note(self, line: int, what: str) -> None:
@@ -274,6 +281,8 @@ class Cards:
                     self.note(line, "a comment behind $ is taken out")
                     return text[: first - 1]
             return text
+        if "$" not in text:
+            return text
         words, least = words_of(text), 2 if section in ("ROWS", "BOUNDS") else 1
         for at, word in enumerate(words):
             if word[0] == "$" and at >= least and not self.is_known(word):
@@ -285,17 +294,10 @@ class Cards:
         bare = self.without_comment(line, text, section)
         if not bare.strip(" \t"):
             return
-        make: Dict[str, Callable[[int, str, List[Optional[str]]], None]] = {
-            "ROWS": self.row_card,
-            "COLUMNS": self.column_card,
-            "RHS": self.side_card,
-            "RANGES": self.side_card,
-            "BOUNDS": self.bound_card,
-        }
-        if section not in make:
+        if section not in self.makers:
             raise TextFault(line, 3, text)
         self.section = section
-        make[section](line, text, self.fields(line, bare))
+        self.makers[section](line, text, self.fields(line, bare))
 
     def fields(self, line: int, text: str) -> List[Optional[str]]:
         """The fields of a data card: in free form its words, in fixed form the six fields, None where one is blank. The columns of
@@ -431,6 +433,10 @@ class Converter:
     def cards(self, section: str) -> Iterator[Card]:
         return (card for card in self.read.cards if card.section == section and not card.is_head)
 
+    def cards_of_name(self) -> List[Card]:
+        """The cards that name the model."""
+        return [card for card in self.read.cards if card.section == "NAME"]
+
     def put_sense(self) -> None:
         """Puts OBJSENSE before ROWS."""
         cards = self.read.cards
@@ -534,7 +540,7 @@ class Converter:
         of_sets = renamed(sets, is_name)
         for kind, table in (("row", of_rows), ("column", of_columns), ("set", of_sets)):
             self.names += [Renamed(kind, old, new) for old, new in table.items()]
-        for card in self.read.cards:
+        for card in self.read.cards if self.names else self.cards_of_name():
             of_name = of_rows if card.section == "ROWS" else of_columns
             if card.section == "NAME" and card.name and not is_name(card.name):
                 new = next(iter(renamed([card.name], is_name).values()))
@@ -545,13 +551,15 @@ class Converter:
             card.set = of_sets.get(card.set, card.set) if card.set else None
             card.pairs = [(of_rows.get(row, row), number) for row, number in card.pairs]
 
-    def shown(self, encoding: str) -> List[str]:
-        """The lines of the text, in which characters stand for bytes."""
-        return [card.shown().encode(encoding, "replace").decode("latin-1") for card in self.read.cards]
+    def shown(self, encoding: str, lines: Optional[Sequence[str]] = None) -> List[str]:
+        """The lines of the text, which may be given, in which characters stand for bytes."""
+        found = [card.shown() for card in self.read.cards] if lines is None else lines
+        return [line if line.isascii() else line.encode(encoding, "replace").decode("latin-1") for line in found]
 
     def converted(self, encoding: str, has_mark: bool) -> Converted:
         """The text, in which characters stand for bytes, and the model that it spells."""
-        lines = self.shown(encoding)
+        told = [card.shown() for card in self.read.cards]
+        lines = self.shown(encoding, told)
         numbers = [card.line for card in self.read.cards]
         try:
             model, _ = read_lines(lines, wide=self.options.wide, large=self.options.large)
@@ -564,8 +572,8 @@ class Converter:
         for card in self.read.cards:
             if card.line in self.returns:
                 self.read.note(card.line, "carriage returns at the ends of lines are taken out")
-        for card in self.read.cards:
-            if card.line not in listed and card.shown() != self.read.lines[card.line - 1]:
+        for card, line in zip(self.read.cards, told):
+            if card.line not in listed and line != self.read.lines[card.line - 1]:
                 self.read.note(card.line, "written in free form, with names of the profile")
         changes = [Changes(what, tuple(sorted(set(of_one)))) for what, of_one in self.read.noted.items()]
         changes.sort(key=lambda one: one.lines)
@@ -606,10 +614,57 @@ def as_the_program(fault: TextFault, lines: List[str], fixed: bool, encoding: st
     return fault
 
 
+CUTS = [slice(first - 1, last) for first, last in FIELDS]
+
+
+def is_same_in_fixed(lines: Sequence[str]) -> bool:
+    """Whether each card has the same words in fixed form as in free form. Then it says the same in fixed form, or is a fault there."""
+    for line in lines:
+        if line[:1] not in (" ", "\t", "\r"):
+            if line[:6].upper() == "ENDATA":
+                return True
+        elif "$" in line or not (line.isascii() and line.isprintable()):
+            return False
+        elif [part for part in [line[cut].strip() for cut in CUTS] if part] != line.split():
+            return False
+    return True
+
+
+def is_none_in_fixed(lines: Sequence[str]) -> bool:
+    """Whether a card has something between the fields of fixed form."""
+    return any(line[:1] == " " and any(line[column - 1 : column] not in ("", " ") for column in GAPS) for line in lines)
+
+
+def as_it_stands(text: str, options: Options) -> Optional[Converted]:
+    """The text, where it is one of the profile in free form, says nothing else in fixed form, and has nothing to be changed, to be noted,
+    or to be asked; or nothing, where that may be otherwise. It is what of_form gives of it in less time."""
+    if not text.isascii() or "\r" in text or "\t" in text or "$" in text:
+        return None
+    lines = lines_of(text)
+    try:
+        model, count = read_lines(lines, wide=options.wide, large=options.large)
+    except TextFault:
+        return None
+    cards = lines[:count]
+    fields = cards[next(n for n, line in enumerate(cards) if line.startswith("ROWS")) :]
+    if not (is_none_in_fixed(fields) or is_same_in_fixed(fields)):
+        return None
+    # A card of a bound without a number, whose second word may be a set or a column.
+    unclear = (words[1] for words in map(words_of, cards) if len(words) == 3 and words[0] in WITHOUT_NUMBER)
+    is_free = any(row.kind == FREE for row in model.rows.values())
+    if model.skipped or is_free or any(word in model.columns for word in unclear):
+        return None
+    return Converted("".join(f"{line}\n" for line in cards), model, [], [])
+
+
 def convert(data: bytes, form: Optional[str] = None, options: Options = Options()) -> Converted:
     """The text in free form of the profile. Without a form both are tried; where both fit, they have to spell the same model."""
     if form is not None:
         return of_form(data, form == "fixed", options)
+    text, _, has_mark = decoded(data)
+    plain = None if has_mark else as_it_stands(text, options)
+    if plain is not None:
+        return plain
     found: List[Converted] = []
     errors: List[LpdError] = []
     for fixed in (False, True):

@@ -126,7 +126,8 @@ def lines_of(text: str) -> List[str]:
 
 
 def words_of(line: str) -> List[str]:
-    return list(filter(None, line.replace("\t", " ").split(" ")))
+    """The words between spaces and tabs. In a text of printable characters alone there is no other blank than the space."""
+    return line.split() if line.isprintable() else list(filter(None, line.replace("\t", " ").split(" ")))
 
 
 def is_name(name: str, of_row: bool = False) -> bool:

@@ -23,10 +23,11 @@ def plain(name: str) -> str:
 
 def renamed(names: Iterable[str], fits: Callable[[str], bool], proposed: Callable[[str], str] = plain) -> Dict[str, str]:
     """For each name that does not fit one that does: what is proposed for it, with a number behind it where that is taken."""
-    listed = list(names)
-    taken, found = {name for name in listed if fits(name)}, {}
+    listed = list(dict.fromkeys(names))
+    fitting = {name for name in listed if fits(name)}
+    taken, found = set(fitting), {}
     for name in listed:
-        if name in found or fits(name):
+        if name in fitting:
             continue
         base = new = proposed(name)
         number = 1

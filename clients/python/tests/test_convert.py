@@ -11,7 +11,7 @@ from pathlib import Path
 from typing import Dict, Optional
 
 import lpd
-from lpd.conversion import Converted, Options, Question, Unconvertible, convert
+from lpd.conversion import Converted, Options, Question, Unconvertible, as_it_stands, convert, is_same_in_fixed, of_form
 from lpd.dialects import DIALECTS, PROFILE, Inexact, written
 from lpd.model import Model, Row
 from lpd.names import Renamed
@@ -237,6 +237,73 @@ def dialect_of(text: str, dice: random.Random) -> str:
         lines.append(line)
     end = dice.choice(["\n", "\r\n"])
     return dice.choice(["", "\ufeff"]) + "".join(line + end for line in lines)
+
+
+class BothForms(unittest.TestCase):
+    """What is read in free form alone says the same in fixed form, or is no text of it."""
+
+    FIELDS = (1, 4, 14, 24, 39, 49)
+    CARDS = {
+        "ROWS": [["N", "cost"], ["L", "a"], ["G", "b"], ["E", "c"]],
+        "COLUMNS": [["", "x", "a", "1", "b", "2"], ["", "", "c", "3"], ["", "x", "cost", "4"], ["", "y", "a", "1"], ["", "y", "c", "2", "b", "1"]],
+        "RHS": [["", "S", "a", "4", "b", "1"], ["", "", "a", "4"], ["", "S", "c", "2"], ["", "", "cost", "-1"]],
+        "RANGES": [["", "S", "a", "2"], ["", "", "c", "-1"]],
+        "BOUNDS": [["UP", "S", "x", "4"], ["UP", "", "y", "-2"], ["FR", "S", "y"], ["FX", "", "x", "1"], ["MI", "", "x"], ["BV", "S", "x"]],
+    }
+
+    def text(self, dice: random.Random) -> str:
+        lines = ["NAME          some"]
+        for section, cards in self.CARDS.items():
+            lines.append(section)
+            for card in cards if section == "ROWS" else dice.sample(cards, dice.randint(1, len(cards))):
+                line = ""
+                for place, word in zip(self.FIELDS, card):
+                    # Now and then a word stands one field before its own, or one column behind its place.
+                    at = place + (dice.random() < 0.02) - (10 if dice.random() < 0.02 and place > 20 else 0)
+                    line = f"{line:{at}}{word}" if word else line
+                lines.append(line)
+        return "\n".join([*lines, "ENDATA", ""])
+
+    def test_of_made_texts(self) -> None:
+        dice, both = random.Random(66), 0
+        for _ in range(600):
+            text = self.text(dice)
+            options = Options(relax=True, no_set="same", no_bound="none")
+            if not is_same_in_fixed(text.split("\n")):
+                continue
+            try:
+                free = of_form(text.encode(), False, options)
+            except lpd.LpdError:
+                continue
+            try:
+                fixed = of_form(text.encode(), True, options)
+            except lpd.LpdError:
+                continue
+            both += 1
+            self.assertEqual(free.model, fixed.model, text)
+        self.assertGreater(both, 50)
+
+    def test_as_it_stands(self) -> None:
+        """What is taken at once is what is read card by card."""
+        dice, taken = random.Random(67), 0
+        texts = [path.read_text() for path in sorted(MODELS.rglob("*.mps"))]
+        texts += [written(some_model(dice), PROFILE).text.replace("$", "S") for _ in range(100)] + [self.text(dice) for _ in range(400)]
+        for text in texts:
+            for given in (text, text.replace("\n", "\r\n", 1), text + "OPTIMAL\n", text.replace(" N ", " n ", 1), text.replace("OBJSENSE MAX", "OBJSENSE\n    MAXIMIZE")):
+                found = as_it_stands(given, Options())
+                if found is not None:
+                    taken += 1
+                    self.assertEqual(found, of_form(given.encode(), False, Options()), given)
+        self.assertGreater(taken, 100)
+        unclear = "ROWS\n N  cost\nCOLUMNS\n    x         cost      1\n    4         cost      1\nBOUNDS\n FR x         4\nENDATA\n"
+        self.assertIsNone(as_it_stands(unclear, Options()))
+        self.assertEqual(convert(unclear.encode()), of_form(unclear.encode(), True, Options()))
+
+    def test_what_is_not(self) -> None:
+        card = "    x         a         1"
+        for line in (card.replace("x  ", "x y"), f"\t{card}", f"{card} $ said", f"{card[:14]}\u00e4{card[15:]}", f"{card[:5]}{card}", f"{card:61} 5"):
+            self.assertFalse(is_same_in_fixed(f"ROWS\nCOLUMNS\n{line}\nENDATA\n".split("\n")), line)
+        self.assertTrue(is_same_in_fixed(f"ROWS\nCOLUMNS\n* said\n{card}\n\nENDATA\nx y z\n".split("\n")))
 
 
 class Dialects(unittest.TestCase):
