@@ -1,11 +1,12 @@
 """A floating point solver's answer, made exact: by `lpd basis --wide` from its basis, where that has no answer from the basis that the
-solver ends with when it refines that one, and else, of a model that is not large, by exact steps in Python. The certificate is judged
-by the checkers.
+solver ends with when it refines that one, and else, of a model that is not large, by exact steps in Python. Without a
+solver `lpd solve --wide` is asked. The certificate is judged by the checkers.
 
 `lpd basis --wide` goes on where the start from a basis meets a number past 127 bits: so it alone is asked. A program without it
 is asked for `lpd basis`, and once more with rows and columns in another order."""
 from __future__ import annotations
 
+import time
 from fractions import Fraction
 from typing import List, Optional, Sequence, Tuple
 
@@ -22,6 +23,7 @@ from .records import dataclass, field, replace
 from .refining import ROUNDS, NotRefined, refined
 from .replies import Accepted, Answer, Known, Open, Optimal, Past, Spent
 from .solver_names import NONE
+from .wide import SOLVE_WIDE, solve_wide
 
 PROGRAM, PYTHON = "lpd", "python"
 WAYS = (PROGRAM, PYTHON)
@@ -33,7 +35,7 @@ class NotAnswered(LpdError):
     """`lpd basis`, or `lpd basis --wide`, has no answer: why, and, where it ended past its numbers or its budget, that."""
 
     def __init__(self, why: str, answer: Optional[Answer] = None, command: str = BASIS) -> None:
-        self.why, self.answer = why, answer
+        self.why, self.answer, self.command = why, answer, command
         super().__init__(f"{command} has no answer: {why}")
 
 
@@ -62,7 +64,7 @@ class Exact:
 @dataclass(frozen=True)
 class Certified:
     """What is exactly true, by a certificate; what the solver said; the steps from its basis, and what took them (see
-    `Exact`). `judge` is by whom the certificate is accepted beside the checker in Python (see `Judged`), and `why` says
+    `Exact`), and how long the solver took. `judge` is by whom the certificate is accepted beside the checker in Python (see `Judged`), and `why` says
     which number does not fit `lpd check`, where that does not judge it."""
 
     known: Known
@@ -75,6 +77,7 @@ class Certified:
     start: str = ""
     notes: List[str] = field(default_factory=list)
     command: str = ""
+    solver_seconds: float = 0.0
 
     @property
     def narrow(self) -> bool:
@@ -144,7 +147,7 @@ def answered(text: str, basis: Sequence[str], command: str = BASIS, seconds: Opt
 
 def exact_of(model: Model, found: FromBasis, command: str, notes: Sequence[str]) -> Exact:
     """What the command answers, with a certificate that the checker in Python accepts."""
-    verdict = check_lines(model, found.certificate, wide=command == BASIS_WIDE)
+    verdict = check_lines(model, found.certificate, wide=command != BASIS)
     if not isinstance(verdict, Accepted) or verdict.known != found.answer:
         raise NotCertified(f"{command} answers {found.answer}, and the checker in Python says {verdict} to its certificate")
     return Exact(verdict.known, found.certificate, found.pivots or 0, PROGRAM, found.start, list(notes), command)
@@ -246,21 +249,64 @@ def made_exact(
     return Exact(known, certificate, steps, PYTHON, notes=notes)
 
 
-def certify(text: str, solver: str = "glpsol", seconds: Optional[float] = None, way: Optional[str] = None) -> Certified:
+def made_exact_alone(text: str, model: Model, claim: Claim, watch: Watch) -> Exact:
+    """What is exactly true, from a basis of the package's own; before exact steps in Python `lpd solve --wide` is asked."""
+    try:
+        with watch.half() as part:
+            return made_exact(text, model, claim, PROGRAM, part)
+    except NotAnswered as failed:
+        notes, is_wide = [str(failed)], failed.command == BASIS_WIDE
+    try:
+        with watch.half() as part:
+            found = by_own_solve(text, model, None, part.left()) if is_wide else made_exact(text, model, claim, PYTHON, watch)
+    except NotAnswered as failed:
+        notes.append(str(failed))
+        found = made_exact(text, model, claim, PYTHON, watch)
+    return replace(found, notes=[*notes, *found.notes])
+
+
+def by_own_solve(text: str, model: Model, way: Optional[str], seconds: Optional[float]) -> Exact:
+    """The answer of `lpd solve --wide`, without a solver to begin with."""
+    if way == PYTHON:
+        must_be_small(model, "exact steps in Python are")
+    try:
+        with Watch(seconds) as watch, watch.telling(SOLVE_WIDE):
+            found = solve_wide(text, seconds=seconds)
+    except (CommandMissing, OutOfTime, ProgramEnded) as failed:
+        raise NotAnswered(str(failed), command=SOLVE_WIDE) from None
+    if not found.certificate:
+        raise NotAnswered(f"it ends with {found.answer}", found.answer, SOLVE_WIDE)
+    return exact_of(model, FromBasis(found.answer, "COLD", None, found.certificate, []), SOLVE_WIDE, [])
+
+
+def certify(
+    text: str,
+    solver: str = "glpsol",
+    seconds: Optional[float] = None,
+    way: Optional[str] = None,
+    model: Optional[Model] = None,
+) -> Certified:
     """What is exactly true of the model that a text of the profile spells, whose numbers may have any width, and which may be large: by
     `lpd basis --wide` from the solver's basis, or else by exact steps in Python; `way` names the one that alone is taken. The solver
-    may take so many seconds, and what comes behind it as many: then it ends with OutOfTime."""
-    model = read_model(text, wide=True, large=True)
-    if solver == NONE:
-        must_be_small(model, "a basis of the package's own is")
-    with Watch(seconds) as watch, watch.telling(solver):
-        claim = ask(solver, model, seconds)
-    with Watch(seconds) as watch:
-        found = made_exact(text, model, claim, way, watch, solver=solver)
+    may take so many seconds, and what comes behind it as many: then it ends with OutOfTime. Who has read the model may give it."""
+    model = read_model(text, wide=True, large=True) if model is None else model
+    started = time.monotonic()
+    if solver == NONE and model.is_large:
+        claim, asked = Claim("nothing"), started
+        found = by_own_solve(text, model, way, seconds)
+    else:
+        with Watch(seconds) as watch, watch.telling(solver):
+            claim = ask(solver, model, seconds)
+        asked = time.monotonic()
+        with Watch(seconds) as watch:
+            if solver == NONE and way is None:
+                found = made_exact_alone(text, model, claim, watch)
+            else:
+                found = made_exact(text, model, claim, way, watch, solver=solver)
     with Watch() as watch, watch.telling("the proved checker"):
         by = judged(text, found.certificate, model.is_large)
     if by.known not in (None, found.known):
         raise NotCertified(f"{by.judge} says {by.known}, and the checker in Python {found.known}")
     notes = ([] if claim.basis or solver == NONE else [NO_BASIS]) + found.notes
-    more = (by.judge, by.why, found.way, found.start, notes, found.command)
+    more = (by.judge, by.why, found.way, found.start, notes, found.command, asked - started)
     return Certified(found.known, found.certificate, claim, found.steps, *more)

@@ -21,7 +21,7 @@ from .ways import BOTH, WIDE
 Cells = Dict[str, str]
 ANSWERED = ["model", "rows", "columns", "answer", "value", "way", "accepted by", "pivots", "seconds"]
 REDUCED = ["rows left", "columns left"]  # by lpd presolve
-CERTIFIED = ["exactly", "judge", "claim", "off", "certify seconds"]
+CERTIFIED = ["exactly", "judge", "claim", "off", "solver seconds", "certify seconds"]
 # How wide the columns of a table are that is written before all its cells are known, and which they are; what else there is stands
 # below the line of its model.
 WIDTHS = {"model": 26, "rows": 4, "columns": 7, "answer": 10, "value": 14, "optimum": 7, "way": 16, "accepted by": 16, "seconds": 8}
@@ -81,6 +81,7 @@ def cells_of(result: Result) -> Cells:
         "judge": found.judge if found else "",
         "claim": claim_of(found) if found else "",
         "off": (off_of(found) or "") if found else "",
+        "solver seconds": f"{found.solver_seconds:.3f}" if found else "",
         "certify seconds": f"{result.certify_seconds:.3f}" if found else "",
         "note": "; ".join(notes).replace("\n", " "),
     }

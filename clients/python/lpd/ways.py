@@ -32,7 +32,7 @@ from .records import dataclass, field, replace
 from .replies import Accepted, Answer, Open, Past, Spent
 from .session import Session
 from .solver_names import NAMES, NONE, QUICKEST_FIRST
-from .wide import solve_wide
+from .wide import SOLVE_WIDE, solve_wide
 
 if TYPE_CHECKING:
     from .certifying import Exact
@@ -44,7 +44,7 @@ LARGE_SECONDS = 600.0  # for all ways of a large model
 SECONDS_WORDS = f"{SECONDS:g}, and {LARGE_SECONDS:g} for a model of more than {MOST_ROWS} rows or {MOST_COLUMNS} columns"
 OUT_OF_MEMORY = 5  # the status of the program
 BOTH, WIDE, ALONE = (f"{LPD_CHECK} and the checker in Python", f"{LPD_CHECK_WIDE} and the checker in Python", "the checker in Python alone")
-SOLVE, PRESOLVE, SOLVE_WIDE = "lpd solve", "lpd presolve", "lpd solve --wide"
+SOLVE, PRESOLVE = "lpd solve", "lpd presolve"
 
 
 class WayFailed(LpdError):

@@ -10,6 +10,8 @@ from .records import dataclass
 from .replies import Answer
 from .session import body_of
 
+SOLVE_WIDE = "lpd solve --wide"
+
 
 @dataclass(frozen=True)
 class WideSolved:

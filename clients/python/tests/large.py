@@ -59,6 +59,16 @@ def replied(
     return from_basis(model, list(behind)) if words[0] == "basis" else ["OPEN"]
 
 
+def solved(
+    words: Sequence[str], body: Sequence[str], behind: Sequence[str] = (), path: Optional[str] = None, seconds: Optional[float] = None
+) -> List[str]:
+    """What a program writes whose `solve --wide` answers too."""
+    if words[0] != "solve":
+        return replied(words, body, behind)
+    lines = Simplex(read_lines(list(body), wide=True, large=True)[0], best_basis()).run()
+    return [f"OPTIMAL {VALUE}", *lines]
+
+
 def refused(
     words: Sequence[str], body: Sequence[str], behind: Sequence[str] = (), path: Optional[str] = None, seconds: Optional[float] = None
 ) -> List[str]:

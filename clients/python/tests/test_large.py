@@ -23,7 +23,7 @@ from lpd.certificate import matched, read_certificate
 from lpd.ways import LARGE_SECONDS, SECONDS, WIDE, Effort, Unanswered, answered
 
 from .commands import command
-from .large import EACH, ROWS, VALUE, best_basis, end_of, large_model, refused, standing_in
+from .large import EACH, ROWS, VALUE, best_basis, end_of, large_model, refused, solved, standing_in
 from .models import some_model
 
 TEXT = written(large_model(), PROFILE).text
@@ -62,8 +62,16 @@ class Ways(unittest.TestCase):
         with standing_in(), solvers():
             found = answered(TEXT, read_model(TEXT, large=True))
             self.assertEqual((found.answer, found.notes), (lpd.Open(), ["the first try, lpd solve --wide, has no answer"]))
-            with self.assertRaisesRegex(TooLarge, "a basis of the package's own is for no model as large"):
+            with self.assertRaisesRegex(NotAnswered, "lpd solve --wide has no answer: it ends with OPEN"):
                 certify(TEXT, "none")
+            with self.assertRaisesRegex(TooLarge, "exact steps in Python are for no model as large"):
+                certify(TEXT, "none", way="python")
+
+    def test_certify_without_a_solver(self) -> None:
+        """It asks lpd solve --wide."""
+        with standing_in(solved):
+            found = certify(TEXT, "none")
+        self.assertEqual((found.known, found.judge, found.command), (lpd.Optimal(VALUE), "lpd check --wide", "lpd solve --wide"))
 
     def test_a_program_that_does_not_take_it(self) -> None:
         with standing_in(refused), solvers("clp"):

@@ -12,6 +12,7 @@ from ..records import replace
 from ..solver_names import CHOICES, NONE
 from ..tables import claim_of, off_of
 from ..ways import SECONDS_WORDS, Effort
+from ..wide import SOLVE_WIDE
 from .common import PYTHON_ALONE, add_options, add_style, converted, options_of, print_prose, put_beside, seconds, status_of, style_of, tell
 from .reports import shown_answer
 
@@ -40,6 +41,8 @@ def judge_of(found: Certified) -> str:
 
 def steps_of(found: Certified) -> str:
     """The steps from the solver's basis, and what took them."""
+    if found.command == SOLVE_WIDE:
+        return f"{found.command}, since there is no solver"
     if found.way == PYTHON:
         return f"{found.steps} exact steps in Python"
     gave_up = ", so it gave the basis up and began anew" if found.start.startswith("FELL") else ""
@@ -59,7 +62,7 @@ def run(words: argparse.Namespace) -> int:
     read = converted(words, read_model_file(words.model), replace(options, wide=True, large=True))
     text, changed = read.text, bool(read.changes) or is_lp(words.model)
     try:
-        found = certify(text, words.solver, Effort(seconds=words.seconds).limit(read.model), words.way)
+        found = certify(text, words.solver, Effort(seconds=words.seconds).limit(read.model), words.way, read.model)
     except NotAnswered as failed:
         if failed.answer is None:
             raise
