@@ -32,8 +32,8 @@ FAILED = "FAILED"
 
 @dataclass(frozen=True)
 class Work:
-    """What is done with each model: how it is read, how far it is solved, by which solver and way it is certified too, and how many
-    bytes a process of ours, and each program that it asks, may have."""
+    """What is done with each model: how it is read, how far it is solved, by which solver and way it is certified too; how many bytes a
+    process of ours, and each program that it asks, may have, and how many seconds all of it may take."""
 
     form: Optional[str] = None
     options: Options = Options()
@@ -41,6 +41,12 @@ class Work:
     certifier: Optional[str] = None
     way: Optional[str] = None
     memory: Optional[int] = None
+    timeout: Optional[float] = None
+
+    @property
+    def is_limited(self) -> bool:
+        """Whether each model needs a process of its own."""
+        return self.memory is not None or self.timeout is not None
 
 
 @dataclass
@@ -84,10 +90,12 @@ def solve_into(result: Result, text: str, model: Model, work: Work) -> None:
 
 
 def certify_into(result: Result, text: str, model: Model, work: Work) -> None:
-    """Certifies the model by another solver's basis, and puts down what is found."""
+    """Certifies the model by another solver's basis, and puts down what is found, but not the certificate and the basis, which may be
+    long."""
     started = time.monotonic()
     try:
-        result.certified = certify(text, work.certifier or "", work.effort.limit(model), work.way)
+        found = certify(text, work.certifier or "", work.effort.limit(model), work.way, model)
+        result.certified = replace(found, certificate=[], claim=replace(found.claim, basis=None, parts=[]))
     except (NotAnswered, TooLarge, OutOfTime) as failed:
         result.notes.append(str(failed))
     result.certify_seconds = time.monotonic() - started
@@ -156,14 +164,10 @@ def one_by_one(tasks: List[Task], work: Work) -> Iterator[Result]:
         yield result_of_file(task, work)
 
 
-def begin_worker(memory: Optional[int] = None) -> None:
+def begin_worker() -> None:
     """Puts a worker and the programs that it runs into a group of their own, which an interrupt of the terminal does not reach, and
-    which ends when the process that began the worker does, however that ends. Each of them may have so many bytes."""
+    which ends when the process that began the worker does, however that ends."""
     os.setpgid(0, 0)
-    if memory is not None:
-        import resource  # here, since few ask for a limit
-
-        resource.setrlimit(resource.RLIMIT_AS, (memory, memory))
     threading.Thread(target=end_with_parent, daemon=True).start()
 
 
@@ -184,11 +188,21 @@ def end_workers(workers: Iterable[multiprocessing.process.BaseProcess]) -> None:
 
 
 def by_processes(tasks: List[Task], work: Work, jobs: int) -> Iterator[Result]:
-    """Solves so many models at a time. The models of a process that is killed are solved once more, one by one; where there is a limit
-    of memory each in a process of its own."""
-    done: Set[Task] = set()
+    """Solves so many models at a time: where there are limits each in a process of its own, and else by as many processes. Where one of
+    these is killed, the models that are left have processes of their own too."""
+    from .apart import by_processes_apart
+
+    if not work.is_limited:
+        done: Set[Task] = set()
+        yield from by_pool(tasks, work, jobs, done)
+        tasks = [task for task in tasks if task not in done]
+    yield from by_processes_apart(tasks, work, jobs)
+
+
+def by_pool(tasks: List[Task], work: Work, jobs: int, done: Set[Task]) -> Iterator[Result]:
+    """The results of so many processes, which end together where one of them is killed. The models that are done are put down."""
     others = set(multiprocessing.active_children())
-    with ProcessPoolExecutor(jobs, initializer=begin_worker, initargs=(work.memory,)) as pool:
+    with ProcessPoolExecutor(jobs, initializer=begin_worker) as pool:
         try:
             futures = {pool.submit(result_of_file, task, work): task for task in tasks}
             for future in as_completed(futures):
@@ -198,28 +212,23 @@ def by_processes(tasks: List[Task], work: Work, jobs: int) -> Iterator[Result]:
         except BaseException:  # an interrupt, or nobody takes the results any more
             end_workers(set(multiprocessing.active_children()) - others)
             raise
-    left = [task for task in tasks if task not in done]
-    if work.memory is None:
-        yield from one_by_one(left, work)
-    elif len(tasks) == 1:
-        yield from (Result(task.name, answer=FAILED, notes=["its process was ended: --memory allows more"]) for task in left)
-    else:
-        for task in left:
-            yield from by_processes([task], work, 1)
 
 
 def by_dask(tasks: List[Task], work: Work, address: str) -> Iterator[Result]:
-    """Gives each model, with its text, to a scheduler of Dask, whose workers run a program lpd of their own. The models of a worker
-    that is lost are given to others by the scheduler."""
+    """Gives each model, with its text, to a scheduler of Dask, whose workers run a program lpd of their own; where there are limits each
+    in a process of its own. The models of a worker that is lost are given to others by the scheduler."""
+    from .apart import result_apart
+
     try:
         distributed: Any = import_module("distributed")
     except ImportError:
         raise LpdError("--dask needs Dask (Debian's python3-distributed), here and on the workers") from None
     with distributed.Client(address, timeout=30) as client:
         futures: List[Tuple[Any, Task]] = []
+        asked = result_apart if work.is_limited else result_of
         for task in tasks:
             data = task.path.read_bytes()
-            futures.append((client.submit(result_of, task.name, str(task.path), data, work, pure=False), task))
+            futures.append((client.submit(asked, task.name, str(task.path), data, work, pure=False), task))
         names = {future.key: task.name for future, task in futures}
         for future in distributed.as_completed([future for future, _ in futures]):
             error = future.exception()

@@ -13,11 +13,10 @@ import threading
 import time
 import unittest
 from pathlib import Path
-from typing import Dict, List, NoReturn
-from unittest import mock
+from typing import Dict, List
 
 from lpd import tables
-from lpd.batching import Result, Task, Work, by_processes, tasks_of
+from lpd.batching import Result, tasks_of
 from lpd.figures import FRACTIONS
 from lpd.tables import cells_of
 
@@ -30,17 +29,16 @@ NAMES = ["currency", "cycling", "departments", "diet", "orders", "plan.fixed", "
 WHOLE = "ROWS\n N cost\nCOLUMNS\n M1 'MARKER' 'INTORG'\n x cost 1\n M2 'MARKER' 'INTEND'\nENDATA\n"
 SETS = "NAME\nROWS\n N cost\n G a\n G b\nCOLUMNS\n x cost 2 a 1\n x b 1\nRHS\n RHS1 a 3\n RHS2 b 11\nENDATA\n"
 SECONDS = 1200
+# One process, some, and one for each model.
+ENGINES = (["--jobs", "1"], ["--jobs", "3"], ["--jobs", "3", "--timeout", "600"])
+# Stages of a run, and the call at which it is stopped there: at the second model, but where lines are written and at the end.
+STOPS = [("read", "2"), ("solve", "2"), ("check", "2"), ("certify", "2"), ("basis", "2"), ("line", "3"), ("half", "2"), ("write", "2")]
 COLUMNS = ["model", "rows", "columns", "answer", "value", "way", "accepted by", "pivots", "seconds", "note"]
-
-
-def ended(task: Task, work: Work) -> NoReturn:
-    """What a process does that is ended."""
-    os._exit(1)
 
 
 def rows_of(text: str) -> List[Dict[str, str]]:
     """The lines of a table, but for how long each took, and for the marks of values, which a table in a file has not."""
-    return [{name: cell for name, cell in row.items() if name not in ("seconds", "exact")} for row in csv.DictReader(io.StringIO(text))]
+    return [{name: cell for name, cell in row.items() if not name.endswith("seconds") and name != "exact"} for row in csv.DictReader(io.StringIO(text))]
 
 
 class Tables(unittest.TestCase):
@@ -165,14 +163,6 @@ class Batch(unittest.TestCase):
         self.assertIn("255 is no number of megabytes, from 256 to 9999999", said.complaints)
         self.assertIn("1 OPTIMAL", command("batch", str(MODELS / "diet.mps"), "--memory", "4096").output)
 
-    def test_a_process_that_is_ended_at_a_limit(self) -> None:
-        """It is tried once more, in a process of its own, and fails then."""
-        tasks = [Task(name, MODELS / f"{name}.mps") for name in ("diet", "plan")]
-        with mock.patch("lpd.batching.result_of_file", ended):
-            found = list(by_processes(tasks, Work(memory=2**32), 2))
-        self.assertEqual([(result.name, result.answer) for result in found], [("diet", "FAILED"), ("plan", "FAILED")])
-        self.assertEqual(found[0].notes, ["its process was ended: --memory allows more"])
-
     @unittest.skipUnless(shutil.which("clp"), "clp is not on the path")
     def test_certificates(self) -> None:
         said = command("batch", str(MODELS), "--with", "clp")
@@ -249,24 +239,40 @@ class Interrupted(unittest.TestCase):
 
     def test_an_interrupted_run_is_gone_on_with(self) -> None:
         # Two of three processes go on with the other models, while the third waits.
-        for jobs in ("1", "3"):
-            with self.subTest(jobs=jobs):
+        for words in ENGINES:
+            with self.subTest(words=words):
                 self.setUp()
-                run = self.begin("--jobs", jobs, "--resume", str(self.table))
+                run = self.begin(*words, "--resume", str(self.table))
                 self.waits(run)
                 self.interrupted(run)
                 self.gone_on_with()
 
     def test_a_run_that_is_killed_is_gone_on_with(self) -> None:
-        for jobs in ("1", "3"):
-            with self.subTest(jobs=jobs):
+        for words in ENGINES:
+            with self.subTest(words=words):
                 self.setUp()
-                run = self.begin("--jobs", jobs, "--resume", str(self.table))
+                run = self.begin(*words, "--resume", str(self.table))
                 self.lines(4)
                 run.kill()
                 run.communicate(timeout=SECONDS)  # until the last of its processes is gone
                 self.assertGreaterEqual(len(rows_of(self.table.read_text())), 3)
                 self.gone_on_with()
+
+    def test_a_run_that_is_stopped_at_each_stage(self) -> None:
+        """By an interrupt, or killed: the same command goes on to the table of a whole run."""
+        words = ["batch", *(str(MODELS / f"{name}.mps") for name in ("diet", "orders", "transport")), "--csv", "--exact"]
+        words += ["--with", "clp"] if shutil.which("clp") else []
+        whole = rows_of(command(*words).output)
+        for number, status in (("SIGINT", 130), ("SIGKILL", -signal.SIGKILL)):
+            for stage, call in STOPS:
+                if "--with" in words or stage not in ("certify", "basis"):
+                    with self.subTest(signal=number, stage=stage):
+                        self.table.unlink(missing_ok=True)
+                        line = [sys.executable, "-m", "tests.stopping", number, stage, call, *words, "--resume", str(self.table)]
+                        run = subprocess.run(line, cwd=PACKAGE, capture_output=True, text=True, timeout=SECONDS)
+                        self.assertEqual(run.returncode, status, run.stderr)
+                        said = command(*words, "--resume", str(self.table))
+                        self.assertEqual((said.status, rows_of(self.table.read_text())), (0, whole))
 
     def test_a_closed_pipe(self) -> None:
         for words in (["convert", "../../examples/models/plan.fixed.mps"], ["batch", "../../examples/models", "--csv"]):

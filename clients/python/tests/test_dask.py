@@ -80,6 +80,11 @@ class Dask(unittest.TestCase):
         self.assertEqual(len(rows_of(alone.output)), len(list(MODELS.glob("*.mps"))) * TIMES)
         self.assertEqual(rows_of(output.decode()), rows_of(alone.output))
         self.assertEqual(rows_of(table.read_text()), rows_of(alone.output))
+        # The other worker goes on, with each model in a process of its own.
+        limited = [*words, "--dask", self.address(), "--timeout", "600", "--memory", "4096"]
+        with subprocess.Popen([sys.executable, "-m", "lpd", *limited], cwd=PACKAGE, stdout=subprocess.PIPE, stderr=subprocess.PIPE) as run:
+            output, complaints = run.communicate(timeout=SECONDS)
+        self.assertEqual((run.returncode, rows_of(output.decode())), (0, rows_of(alone.output)), complaints)
 
 
 class WithoutDask(unittest.TestCase):

@@ -49,8 +49,9 @@ def add(commands: "argparse._SubParsersAction[argparse.ArgumentParser]") -> None
     batch.add_argument("--by", dest="way", choices=WAYS, help="what makes its basis exact, as in the command certify")
     limit = f"how long the other ways of a model may take together, and a certificate of its own ({SECONDS_WORDS})"
     batch.add_argument("--seconds", type=seconds, metavar="N", help=limit)
-    most = "how many megabytes each process, and each program that it asks, may have (as many as there are), but by --dask"
+    most = "how many megabytes each process, and each program that it asks, may have (as many as there are)"
     batch.add_argument("--memory", type=megabytes, metavar="MB", help=most)
+    batch.add_argument("--timeout", type=seconds, metavar="N", help="how many seconds a model may take in all (as many as it takes)")
     batch.add_argument("--optima", metavar="FILE", help="compares with known answers: lines of a name, an outcome and a value, between tabs")
     resume = "keeps the table in this file too, as CSV, and takes what stands there of an earlier run"
     batch.add_argument("--resume", metavar="TABLE", help=resume)
@@ -66,10 +67,10 @@ def add(commands: "argparse._SubParsersAction[argparse.ArgumentParser]") -> None
 def results(tasks: List[Task], words: argparse.Namespace) -> Iterator[Result]:
     """The results by the engine that is asked for, as they come."""
     effort = Effort(words.budget, words.only_lpd, words.solver, words.seconds, presolve=words.presolve)
-    work = Work(words.form, options_of(words), effort, words.solver, words.way, words.memory)
+    work = Work(words.form, options_of(words), effort, words.solver, words.way, words.memory, words.timeout)
     if words.dask:
         return by_dask(tasks, work, words.dask)
-    return one_by_one(tasks, work) if words.jobs == 1 and words.memory is None else by_processes(tasks, work, words.jobs)
+    return one_by_one(tasks, work) if words.jobs == 1 and not work.is_limited else by_processes(tasks, work, words.jobs)
 
 
 class Progress:
