@@ -99,6 +99,12 @@ class Picture:
         dashed = f' stroke-dasharray="{dashes}"' if dashes else ""
         self.parts.append(f'<polyline points="{self.path(points)}" fill="none" stroke="{stroke}" stroke-width="{width}"{dashed}/>')
 
+    def bars(self, tops: Sequence[Point], stroke: str) -> None:
+        """A line from the foot of the picture up to each of these points."""
+        _, foot = self.place((self.box.left, self.box.foot))
+        path = " ".join("M{0:.2f},{2:.2f}V{1:.2f}".format(*self.place(top), foot) for top in tops)
+        self.parts.append(f'<path d="{path}" fill="none" stroke="{stroke}" stroke-width="1.2"/>')
+
     def arrow(self, start: Point, end: Point, stroke: str) -> None:
         """A line with a head at its end."""
         (x, y), (u, v) = self.place(start), self.place(end)

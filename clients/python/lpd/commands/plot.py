@@ -1,4 +1,5 @@
-"""python3 -m lpd plot MODEL: the plane of a model of two columns, or the optimum over one of a model's numbers, as SVG."""
+"""python3 -m lpd plot MODEL: the plane of a model of two columns, the optimum over one of a model's numbers, how long the numbers of a
+certificate are, or where a basis has numbers; python3 -m lpd plot TABLE.csv: how long the models of a batch took. All as SVG."""
 from __future__ import annotations
 
 import argparse
@@ -6,12 +7,19 @@ from fractions import Fraction
 from pathlib import Path
 from typing import Optional
 
+from ..basis_file import read_bas
+from ..exact import Basis
 from ..model import Model
 from ..number_text import number
 from ..plotting import NoPicture, curve, plane, turns_of
 from ..reading import name_of
-from .common import add_options, add_style, put, style_of, tell
-from .solve import add_ways, effort_of, loaded
+from ..solver_names import NONE
+from ..ways import ask, answered, other_solver
+from .check import parted, without_comments
+from .common import add_options, add_style, as_text, put, read, style_of, tell
+from .solve import Loaded, add_ways, effort_of, loaded
+
+TABLE = ".csv"
 
 
 def number_word(word: str) -> Fraction:
@@ -22,9 +30,9 @@ def number_word(word: str) -> Fraction:
 
 
 def add(commands: "argparse._SubParsersAction[argparse.ArgumentParser]") -> None:
-    plot = commands.add_parser("plot", help="draws a model of two columns, or the optimum over one number, as SVG")
+    plot = commands.add_parser("plot", help="draws a model of two columns, the optimum over one number, a certificate, a basis or a batch, as SVG")
     plot.set_defaults(run=run, changes=[], round=False, max=False, min=False, objective=None, budget=None, presolve=False, wide=False)
-    plot.add_argument("model", help="a file of a model, as for solve")
+    plot.add_argument("model", help="a file of a model, as for solve, or TABLE.csv, which batch wrote")
     plot.add_argument("--form", choices=["free", "fixed"], help="the form of the text (free; with --convert or --relax the one that fits)")
     plot.add_argument("--convert", action="store_true", help="converts the text from other dialects first, as the command convert does")
     add_options(plot)
@@ -32,10 +40,63 @@ def add(commands: "argparse._SubParsersAction[argparse.ArgumentParser]") -> None
     over = plot.add_mutually_exclusive_group()
     over.add_argument("--rhs", metavar="ROW", help="the optimum over the right side of this row")
     over.add_argument("--cost", metavar="COLUMN", help="the optimum over the cost of this column")
+    add_large(over, plot)
     plot.add_argument("--from", dest="low", type=number_word, metavar="A", help="where the number begins (half of what it is)")
     plot.add_argument("--to", dest="high", type=number_word, metavar="B", help="where the number ends (one and a half times what it is)")
     add_style(plot)
     plot.add_argument("-o", "--output", metavar="FILE", help="where the picture goes, as SVG, or - for standard output (MODEL.svg, or NAME.svg of a number)")
+
+
+def add_large(over: "argparse._MutuallyExclusiveGroup", plot: argparse.ArgumentParser) -> None:
+    """Pictures of what is large."""
+    over.add_argument("--bits", action="store_true", help="how many bits each number of the answer's certificate has")
+    plot.add_argument("--certificate", metavar="FILE", help="with --bits: that of this file, which is not checked")
+    over.add_argument("--sparsity", action="store_true", help="where the matrix of a basis has numbers, and what of it is not triangular")
+    basis = "with --sparsity: the basis of this file (that with which the solver of --with, or the first that is there, ends)"
+    plot.add_argument("--basis", metavar="FILE", help=basis)
+    beside = "of TABLE.csv: the seconds of this table too, whose heads are model and seconds; as often as wanted"
+    plot.add_argument("--beside", metavar="TABLE", type=Path, action="append", default=[], help=beside)
+
+
+def bits_of(given: Loaded, words: argparse.Namespace) -> str:
+    from ..charts import bits_picture
+
+    if words.certificate is None:
+        found = answered(given.text, given.model, effort_of(words))
+        if not found.certificate:
+            raise NoPicture(f"the answer is {found.answer}, which has no certificate")
+        return bits_picture(given.model, found.certificate)
+    _, lines = parted(without_comments(as_text(read(words.certificate))))
+    return bits_picture(given.model, lines)
+
+
+def basis_of(model: Model, words: argparse.Namespace) -> Basis:
+    """The basis of a file, or that with which a solver ends."""
+    if words.basis is not None:
+        found = read_bas(as_text(read(words.basis)))
+        if found is None:
+            raise NoPicture(f"{words.basis} has no basis in it")
+        return found
+    solver = other_solver(words.solver)
+    if solver == NONE and model.is_large:
+        raise NoPicture("there is no solver that ends with a basis: name a file by --basis FILE")
+    claim = ask(solver, model, effort_of(words).limit(model))
+    if claim.basis is None:
+        raise NoPicture(f"{solver} gives no basis, and says: {claim.said}")
+    return claim.basis
+
+
+def sparsity_of(model: Model, words: argparse.Namespace) -> str:
+    from ..charts import sparsity_picture
+
+    return sparsity_picture(model, basis_of(model, words))
+
+
+def table_picture(words: argparse.Namespace) -> str:
+    from ..charts import bars_picture, series_of
+
+    text = Path(words.model).read_text(encoding="utf-8")
+    return bars_picture(f"{Path(words.model).stem}: seconds of each model", series_of(text, words.beside))
 
 
 def around(model: Model, words: argparse.Namespace) -> "tuple[Fraction, Fraction]":
@@ -67,7 +128,14 @@ def name_of_model(path: str) -> str:
 
 def run(words: argparse.Namespace) -> int:
     must_be_svg(words.output)
-    model = loaded(words).model
+    if words.model.endswith(TABLE):
+        put_picture(table_picture(words), words.output, Path(words.model).stem)
+        return 0
+    given = loaded(words)
+    model = given.model
+    if words.bits or words.sparsity:
+        put_picture(bits_of(given, words) if words.bits else sparsity_of(model, words), words.output, name_of_model(words.model))
+        return 0
     if words.rhs is None and words.cost is None:
         if words.low is not None or words.high is not None:
             raise NoPicture("--from and --to are of a number: name it by --rhs ROW or --cost COLUMN")
