@@ -348,6 +348,28 @@ class PageCheck:
         line = self.run("[document.activeElement.id, getSelection().toString()].join()")
         same(line, "certificate,x milk", "the line that does not fit")
 
+    def check_long_answer(self):
+        """A long file with an answer in front of the certificate, which the worker reads."""
+        columns = range(25)
+        model, certificate = self.folder / "many.mps", self.folder / "many.certificate"
+        model.write_text("\n".join(["ROWS", " N cost", "COLUMNS", *(f" x{n} cost 1" for n in columns), "ENDATA", ""]))
+        certificate.write_text("\n".join(["OPTIMAL 0", "OPTIMAL", *(f"x x{n} 0.{'0' * 16000}" for n in columns), "END", ""]))
+        self.fresh()
+        self.browser.choose("#model-file", model)
+        self.browser.choose("#certificate-file", certificate)
+        same(self.run("settled().then(said)"), "ERR 14 CERT 1", "a long answer")
+        same(self.run("byId('certificate').hidden"), True, "a long answer is held")
+        same(self.run("press('take-answer').then(said)"), "YES OPTIMAL 0", "a long answer, taken")
+        same(self.run("byId('claim-said').className"), "card good", "its claim")
+
+    def check_left(self):
+        """How long the work still takes is told when some of it is done."""
+        cases = {"500, 0.5": "", "2000, 0.01": "", "10000, 0.25": "about 30 seconds left", "60000, 0.1": "about 9 minutes left"}
+        cases["9000, 0.95"] = "about a second left"
+        self.fresh()
+        for spent, words in cases.items():
+            same(self.run(f"leftText({spent})"), words, f"what is left of {spent}")
+
     def check_tables(self):
         """What fails is marked and first; sorting and filtering."""
         model = (TOP / "examples" / "models" / "diet.mps").read_text()
@@ -499,7 +521,8 @@ def main():
     with Browser(program) as browser:
         page = PageCheck(browser, words)
         checks = [page.check_build, page.check_policy, page.check_silence, page.check_examples, page.check_faults,
-                  page.check_cases, page.check_made, page.check_claims, page.check_answer, page.check_tables,
+                  page.check_cases, page.check_made, page.check_claims, page.check_answer, page.check_long_answer,
+                  page.check_left, page.check_tables,
                   page.check_reports, page.check_keys, page.check_files, page.check_large, page.check_megabytes]
         checks += [page.check_models] if words.models else []
         checks += [page.check_certificates] if words.certificates else []

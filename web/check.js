@@ -126,11 +126,14 @@ function checkAtLimit(findings, condition, item, number, value, { has, limits })
 
 function checkOptimal(model, items, { x, y }, progress) {
   const findings = new Findings();
-  const point = checkPoint(findings, model, items, x, within(progress, 0, 0.5));
+  const point = checkPoint(findings, model, items, x, within(progress, 0, 0.15));
   const costs = model.columns.map(({ cost }) => model.maximize ? negative(cost) : cost);
-  const multiplied = new Wholes(y.map(negative), (part) => progress("The reduced costs", 0.5 + part / 4));
-  const reduced = sumsOfColumns(model, costs, multiplied, (part) => progress("The reduced costs", 0.75 + part / 4));
+  const work = (from, to) => (part) => progress("The reduced costs", from + part * (to - from));
+  const multiplied = new Wholes(y.map(negative), work(0.15, 0.25));
+  const reduced = sumsOfColumns(model, costs, multiplied, work(0.25, 0.4));
+  const lowest = work(0.4, 1);
   items.columns.forEach((column, place) => {
+    lowest(place / items.columns.length);
     column.reduced = reduced[place].over(multiplied.times);
     const has = `Column ${column.name} has the reduced cost`;
     checkAtLimit(findings, 3, column, column.reduced, column.value, { has, limits: "bound" });
@@ -175,14 +178,17 @@ function addTerms(model, rows) {
 function checkInfeasible(model, items, { y }, progress) {
   const findings = new Findings();
   const required = new Sum(), allowed = new Sum();
-  const multipliers = new Wholes(y, (part) => progress("The combined row", part / 2));
+  const work = (from, to) => (part) => progress("The combined row", from + part * (to - from));
+  const multipliers = new Wholes(y, work(0, 0.2));
   items.rows.forEach((row, place) => {
     row.multiplier = y[place];
     addProduct(findings, 1, row, row.multiplier, limitFor(row, row.multiplier), required, multipliers.numbers[place]);
   });
   const nothing = model.columns.map(() => ZERO);
-  const sums = sumsOfColumns(model, nothing, multipliers, (part) => progress("The combined row", 0.5 + part / 2));
+  const sums = sumsOfColumns(model, nothing, multipliers, work(0.2, 0.4));
+  const lowest = work(0.4, 1);
   items.columns.forEach((column, place) => {
+    lowest(place / items.columns.length);
     column.combined = sums[place].over(multipliers.times);
     addProduct(findings, 2, column, column.combined, limitFor(column, negative(column.combined)), allowed, sums[place]);
   });

@@ -11,15 +11,20 @@ function countText(count) {
   return count.toLocaleString("en");
 }
 
-/** A field with a text, whose bytes are those of the file that was given until the field is edited. */
+/** How many bytes a text has, which is bytes or a file. */
+function sizeOf(text) {
+  return text.size ?? text.length;
+}
+
+/** A field with a text: the bytes of the file that was given, or where that is long the file, until the field is edited. */
 class TextField {
   constructor(name) {
     this.box = byId(`${name}-box`);
     this.area = byId(name);
     this.held = this.box.querySelector(".held");
     this.file = byId(`${name}-file`);
-    this.bytes = null;
-    this.area.addEventListener("input", () => { this.bytes = null; });
+    this.given = null;
+    this.area.addEventListener("input", () => { this.given = null; });
     this.area.addEventListener("paste", (event) => this.pasted(event));
     // So that the same file can be chosen once more, as when it was changed.
     this.file.addEventListener("click", () => { this.file.value = ""; });
@@ -27,17 +32,18 @@ class TextField {
   }
 
   content() {
-    return this.bytes ?? encoder.encode(this.area.value);
+    return this.given ?? encoder.encode(this.area.value);
   }
 
-  set(bytes, name = "The text") {
-    const short = bytes.length <= LONGEST_EDITED;
-    this.area.value = short ? new TextDecoder().decode(bytes) : "";
+  /** Takes bytes, or a file, which is a long one. */
+  set(text, name = "The text") {
+    const short = sizeOf(text) <= LONGEST_EDITED;
+    this.area.value = short ? new TextDecoder().decode(text) : "";
     this.area.hidden = !short;
     this.held.hidden = short;
-    const size = `${name} has ${countText(bytes.length)} bytes`;
+    const size = `${name} has ${countText(sizeOf(text))} bytes`;
     this.held.textContent = short ? "" : `${size}: it is held, and too long to be shown.`;
-    this.bytes = bytes.length === 0 ? null : bytes;
+    this.given = sizeOf(text) === 0 ? null : text;
   }
 
   pasted(event) {
@@ -50,6 +56,7 @@ class TextField {
 
 const fields = { model: new TextField("model"), certificate: new TextField("certificate") };
 let worker = null;
+let started = 0;
 let shown = null;
 
 function startsWith(bytes, pattern) {
@@ -77,27 +84,31 @@ function takeGiven({ model, certificate = "", form = "free", claim = "" }) {
   return true;
 }
 
-/** Takes a file for a field, or for the one that it looks like. */
+async function bytesIn(file) {
+  return new Uint8Array(await file.arrayBuffer());
+}
+
+/** Takes a file for a field, or for the one that it looks like. The worker reads a long one. */
 async function give(file, field = null) {
   if (file.size > MOST_BYTES) {
     showMessage(`${file.name} has ${countText(file.size)} bytes, and a text of more than 2^26 bytes is not read.`);
     return;
   }
-  const bytes = new Uint8Array(await file.arrayBuffer());
-  if (startsWith(bytes, /^<!DOCTYPE html>/i)) {
-    openPage(new TextDecoder().decode(bytes));
+  const start = await bytesIn(file.slice(0, 40));
+  if (startsWith(start, /^<!DOCTYPE html>/i)) {
+    openPage(await file.text());
     return;
   }
-  const looksLike = startsWith(bytes, /^(OPTIMAL|INFEASIBLE|UNBOUNDED|CLASH)\b/) ? fields.certificate : fields.model;
-  (field ?? looksLike).set(bytes, file.name);
-  if (fields.model.content().length > 0 && fields.certificate.content().length > 0) run();
+  const looksLike = startsWith(start, /^(OPTIMAL|INFEASIBLE|UNBOUNDED|CLASH)\b/) ? fields.certificate : fields.model;
+  (field ?? looksLike).set(file.size <= LONGEST_EDITED ? await bytesIn(file) : file, file.name);
+  if (sizeOf(fields.model.content()) > 0 && sizeOf(fields.certificate.content()) > 0) run();
 }
 
 function textsNow() {
   const certificate = fields.certificate.content();
   return {
     model: fields.model.content(),
-    certificate: certificate.length === 0 ? null : certificate,
+    certificate: sizeOf(certificate) === 0 ? null : certificate,
     fixed: document.querySelector("input[name=form]:checked").value === "fixed",
     wide: !byId("narrow").checked,
     claim: byId("claim").value.trim(),
@@ -125,16 +136,27 @@ function run() {
   byId("working").hidden = false;
   byId("progress").value = 0;
   byId("stage").textContent = "Reading";
+  byId("left").textContent = "";
+  started = performance.now();
   worker = startWorker();
   worker.onmessage = ({ data }) => take(data);
   worker.onerror = () => take({ broken: "the browser does not let a worker run" });
   worker.postMessage(textsNow());
 }
 
+/** How long the work still takes, if it goes on as it did for so many milliseconds. */
+function leftText(spent, part) {
+  if (spent < 1000 || part < 0.02) return "";
+  const seconds = Math.ceil(spent / 1000 * (1 - part) / part);
+  if (seconds < 2) return "about a second left";
+  return seconds < 120 ? `about ${seconds} seconds left` : `about ${Math.ceil(seconds / 60)} minutes left`;
+}
+
 function take({ verdict, broken, stage, part }) {
   if (stage !== undefined) {
     byId("stage").textContent = stage;
     byId("progress").value = part;
+    byId("left").textContent = leftText(performance.now() - started, part);
     return;
   }
   stop();
@@ -220,27 +242,18 @@ function remediesFor(verdict) {
   if (!area.hidden && area.value !== "" && faultLine <= area.value.split("\n").length) {
     buttons.push(button(`Go to line ${faultLine}`, () => pointAt(verdict), { id: "go-to-line" }));
   }
-  if (faultOf === "certificate" && answerLine() !== null) {
+  if (verdict.before) {
     const words = "Its first line is an answer of lpd: take it as the claim, and check the rest";
-    buttons.push(button(words, takeAnswerLine, { id: "take-answer" }));
+    buttons.push(button(words, () => takeAnswer(verdict.before), { id: "take-answer" }));
   }
   return buttons.length === 0 ? [] : [element("p", { class: "buttons" }, ...buttons)];
 }
 
-/** The first line of the certificate's field where that is an answer of lpd solve, with the certificate behind it. */
-function answerLine() {
-  const lines = new Lines(fields.certificate.content());
-  const [first, second] = [lines.next(), lines.next()];
-  if (typeof first !== "string" || typeof second !== "string") return null;
-  const isAnswer = /^(OPTIMAL\s+\S+|INFEASIBLE|UNBOUNDED)\s*$/.test(first);
-  return isAnswer && /^(OPTIMAL|INFEASIBLE|UNBOUNDED|CLASH\s+\S+)\s*$/.test(second) ? first : null;
-}
-
-function takeAnswerLine() {
-  const answer = answerLine();
-  const bytes = fields.certificate.content();
-  byId("claim").value = answer.trim();
-  fields.certificate.set(bytes.slice(bytes.indexOf(LINE_FEED) + 1));
+/** Takes the answer that stands in front of a certificate as the claim, and what is behind it as the certificate. */
+async function takeAnswer({ answer, end }) {
+  const rest = fields.certificate.content().slice(end);
+  byId("claim").value = answer;
+  fields.certificate.set(rest instanceof Blob && rest.size <= LONGEST_EDITED ? await bytesIn(rest) : rest);
   run();
 }
 

@@ -22,8 +22,17 @@ function faulty({ line, code, words, item }, { model, fixed, wide }) {
   return refused(`ERR 8 MPS ${line} M${code}`, reason, { faultOf: "model", faultLine: line });
 }
 
-function misfitting({ line, words }) {
-  const at = { faultOf: "certificate", faultLine: line };
+/** The first line of a text where that is an answer of lpd solve, with the certificate behind it, and where it ends. */
+function answerLine(bytes) {
+  const lines = new Lines(bytes);
+  const first = lines.next(), end = lines.at, second = lines.next();
+  if (typeof first !== "string" || typeof second !== "string") return null;
+  const isAnswer = /^(OPTIMAL\s+\S+|INFEASIBLE|UNBOUNDED)\s*$/.test(first);
+  return isAnswer && /^(OPTIMAL|INFEASIBLE|UNBOUNDED|CLASH\s+\S+)\s*$/.test(second) ? { answer: first.trim(), end } : null;
+}
+
+function misfitting({ line, words }, certificate) {
+  const at = { faultOf: "certificate", faultLine: line, before: certificate && answerLine(certificate) };
   return refused(`ERR 14 CERT ${line}`, `Line ${line} of the certificate does not fit: ${words}.`, at);
 }
 
@@ -99,21 +108,26 @@ function planeOf(model) {
   return model.rows.map((row) => [entry(row, 0), entry(row, 1)]);
 }
 
+/** How much of the work the reading of the texts is. */
+const OF_READING = 0.45;
+
 /** The verdict on a model, a certificate and a claim ("" for none). The bytes of the certificate may be null: then it
  * is what comes after ENDATA in the model's text. */
 function verdictOn(texts, progress = () => {}) {
   const { model: bytes, certificate, fixed, wide, claim } = texts;
   if (bytes.length > MOST_BYTES) return tooLong("model");
   if (certificate !== null && certificate.length > MOST_BYTES) return tooLong("certificate");
-  const read = readModel(bytes, fixed, wide, (part) => progress("Reading the model", part / 4));
+  const ofModel = OF_READING * bytes.length / (bytes.length + (certificate?.length ?? 0));
+  const read = readModel(bytes, fixed, wide, (part) => progress("Reading the model", part * ofModel));
   if (read.fault) return faulty(read.fault, texts);
   const facts = factsOf(read.model, read);
   const start = certificate === null ? read.end : 0;
-  const text = readCertificate(certificate ?? bytes, start, wide, (part) => progress("Reading the certificate", (1 + part) / 4));
-  if (text.misfit) return { ...misfitting(text.misfit), facts };
+  const ofCertificate = within(progress, ofModel, OF_READING);
+  const text = readCertificate(certificate ?? bytes, start, wide, (part) => ofCertificate("Reading the certificate", part));
+  if (text.misfit) return { ...misfitting(text.misfit, certificate), facts };
   const values = matched(read.model, text.certificate);
   if (values.line !== undefined) return { ...mismatched(values), facts };
-  const found = check(read.model, text.certificate.kind, values, within(progress, 0.5, 1));
+  const found = check(read.model, text.certificate.kind, values, within(progress, OF_READING, 1));
   const more = { facts, wideCertificate: text.firstWide, plane: planeOf(read.model), found };
   return { ...decided(read.model, found, claim), ...more };
 }

@@ -11,7 +11,24 @@ async function described(bytes) {
   return bytes === null ? null : { bytes: bytes.length, sha256: await digestOf(bytes) };
 }
 
-self.onmessage = async ({ data: texts }) => {
+/** The bytes of a text, of which a file is read piece by piece; null where there is none. */
+async function bytesOf(text, progress) {
+  if (!(text instanceof Blob)) return text;
+  const bytes = new Uint8Array(text.size);
+  const pieces = text.stream().getReader();
+  let at = 0;
+  for (let piece = await pieces.read(); !piece.done; piece = await pieces.read()) {
+    bytes.set(piece.value, at);
+    at += piece.value.length;
+    progress(at / bytes.length);
+  }
+  return bytes;
+}
+
+/** How much of the work the reading of the files is. */
+const OF_FILES = 0.02;
+
+self.onmessage = async ({ data }) => {
   let told = 0;
   const progress = (stage, part) => {
     const now = Date.now();
@@ -20,7 +37,13 @@ self.onmessage = async ({ data: texts }) => {
     self.postMessage({ stage, part });
   };
   try {
-    const verdict = verdictOn(texts, progress);
+    const files = within(progress, 0, OF_FILES);
+    const bytes = {
+      model: await bytesOf(data.model, (part) => files("Reading the files", part / 2)),
+      certificate: await bytesOf(data.certificate, (part) => files("Reading the files", (1 + part) / 2)),
+    };
+    const texts = { ...data, ...bytes };
+    const verdict = verdictOn(texts, within(progress, OF_FILES, 1));
     const [model, certificate] = [await described(texts.model), await described(texts.certificate)];
     verdict.texts = { model, certificate, form: texts.fixed ? "fixed" : "free" };
     self.postMessage({ verdict });
