@@ -1,33 +1,47 @@
 #!/usr/bin/env python3
 """Certifies the models of a folder by the bases of other solvers, and writes a table of who judged each certificate.
 
-    certify.py FOLDER [--program PROGRAM] [--with SOLVER,..] [--by WAY] [--optima FILE] [--seconds N] [--write PAGE]
+    certify.py FOLDER [--program PROGRAM] [--with SOLVER,..] [--by WAY] [--optima FILE] [--seconds N] [--parts [--keep FILE]]
+               [--write PAGE]
 
 Each NAME.mps is converted into the profile, solved by lpd with the largest budget, and certified as the command `certify`
 of clients/python does, with each solver (glpsol and clp); WAY is one of its words for --by (lpd, python). FILE has a line 'NAME outcome optimum ..' for
 each model, its words parted by tabs, with which every answer is compared. Times are of the wall: of solve with both
 checks, and of each certificate with the other solver and with both checks in them. With --write the table takes the
 place of what stands between the two marks of PAGE.
+
+With --parts the command is run as a person runs it, and nothing is solved beside it. The times are of the processor: of the solver, of
+the programs of lpd, of the checker in Python, of one reading of the text by Python with its own start, and of the whole. The memory is
+Python's own. Its table has marks of its own. FILE keeps what is measured, line by line, and a later run goes on with it.
 """
 import argparse
+import contextlib
+import io
+import json
 import os
 import pathlib
+import resource
 import shutil
+import subprocess
 import sys
-from fractions import Fraction
 
 from page import ended
 
 TOP = pathlib.Path(__file__).resolve().parent.parent
 sys.path.insert(0, str(TOP / "clients" / "python"))
 
-from lpd.batching import Work, one_by_one, tasks_of  # noqa: E402  (the package of this repository)
+from lpd import certifying, conversion  # noqa: E402  (the package of this repository)
+from lpd.__main__ import main as command  # noqa: E402
+from lpd.batching import Work, one_by_one, tasks_of  # noqa: E402
 from lpd.certifying import BASIS, BASIS_WIDE, WAYS  # noqa: E402
 from lpd.judging import LPD_CHECK, LPD_CHECK_WIDE, PYTHON_ALONE  # noqa: E402
+from lpd.number_text import number  # noqa: E402
 from lpd.replies import Optimal  # noqa: E402
+from lpd.solver_names import NONE  # noqa: E402
 from lpd.tables import off_of  # noqa: E402
 from lpd.ways import Effort  # noqa: E402
 
+BEGIN_PARTS, END_PARTS = "<!-- measured by bench/certify.py --parts -->", "<!-- end of the certificates by parts -->"
 BEGIN, END = "<!-- measured by bench/certify.py -->", "<!-- end of the certificates -->"
 LARGEST = 1_000_000
 ANSWERS = ("OPTIMAL", "INFEASIBLE", "UNBOUNDED")
@@ -50,7 +64,7 @@ def wrong(name, known, optima):
     if name not in optima:
         return []
     outcome, optimum = optima[name]
-    is_right = str(known).split()[0] == outcome and (not isinstance(known, Optimal) or known.value == Fraction(optimum))
+    is_right = str(known).split()[0] == outcome and (not isinstance(known, Optimal) or known.value == number(optimum, wide=True))
     return [] if is_right else [f"{name}: {known}, and the list says {outcome} {optimum}"]
 
 
@@ -98,6 +112,124 @@ def measure(options, faults):
         yield row([result.name, result.answer, f"{result.seconds:.2f}", *(cell for of_one in by_solver.values() for cell in cells_of(of_one[at]))])
 
 
+# ---- by parts
+
+
+def spent(who):
+    """Seconds of the processor."""
+    used = resource.getrusage(who)
+    return used.ru_utime + used.ru_stime
+
+
+class Clock:
+    """The processor's seconds of calls, of Python's own or of the programs that it ran, by what they were for."""
+
+    def __init__(self):
+        self.seconds = {"solver": [], "checker": [], "reading": []}
+
+    def around(self, module, name, what, who):
+        """From here on the calls of a function count for this."""
+        call = getattr(module, name)
+
+        def counted(*words, **more):
+            start = spent(who)
+            try:
+                return call(*words, **more)
+            finally:
+                self.seconds[what].append(spent(who) - start)
+
+        setattr(module, name, counted)
+
+
+def measure_one(path, solver, seconds):
+    """What one command says, and its parts, as JSON."""
+    clock, started = Clock(), spent(resource.RUSAGE_SELF)
+    is_other = solver != NONE  # or else rough steps in Python take its place
+    clock.around(certifying, "ask", "solver", resource.RUSAGE_CHILDREN if is_other else resource.RUSAGE_SELF)
+    clock.around(certifying, "check_lines", "checker", resource.RUSAGE_SELF)
+    clock.around(conversion, "read_lines", "reading", resource.RUSAGE_SELF)
+    said, told = io.StringIO(), io.StringIO()
+    with contextlib.redirect_stdout(said), contextlib.redirect_stderr(told):
+        status = command(["certify", path, "--with", solver, "--seconds", str(seconds), "--json"])
+    found = json.loads(said.getvalue()) if status in (0, 10, 11) else {"answer": told.getvalue().strip(), "judge": ""}
+    programs, own = spent(resource.RUSAGE_CHILDREN), spent(resource.RUSAGE_SELF)
+    parts = {part: sum(seconds) for part, seconds in clock.seconds.items()}
+    # The text is read in each form that fits.
+    reading = max(clock.seconds["reading"], default=0) + started
+    parts.update(lpd=programs - (parts["solver"] if is_other else 0), reading=reading, whole=programs + own)
+    memory = resource.getrusage(resource.RUSAGE_SELF).ru_maxrss / 1024
+    print(json.dumps({key: found.get(key) for key in ("answer", "judge", "off", "steps", "start", "notes")} | {"parts": parts, "memory": memory}))
+
+
+def parts_of(path, solver, options):
+    words = [sys.executable, __file__, options.folder, "--one", path, "--with", solver, "--seconds", str(options.seconds)]
+    return json.loads(subprocess.run(words, stdout=subprocess.PIPE, check=True).stdout)
+
+
+class Kept:
+    """What was measured of each solver and model: lines of JSON in a file, if there is one."""
+
+    def __init__(self, path):
+        self.path = path
+        lines = path.read_text().splitlines() if path and path.exists() else []
+        self.found = {(solver, name): found for solver, name, found in map(json.loads, lines)}
+
+    def measured(self, solver, path, options):
+        if (solver, path.stem) not in self.found:
+            self.found[solver, path.stem] = parts_of(str(path), solver, options)
+            if self.path:
+                with self.path.open("a") as file:
+                    print(json.dumps([solver, path.stem, self.found[solver, path.stem]]), file=file)
+        return self.found[solver, path.stem]
+
+
+def sum_of(found):
+    return sum(seconds for part, seconds in found["parts"].items() if part != "whole")
+
+
+def told_of(solver, measured):
+    """How many certificates there are, by whom they are accepted, and the most of times and memory."""
+    found = [one for one in measured.values() if one["judge"] in JUDGES]
+    said = f"With {'no solver' if solver == NONE else f'the bases of `{solver}`'} {len(found)} of {len(measured)} models are certified: "
+    counts = [(sum(one["judge"] == judge for one in found), words) for judge, words in JUDGES.items()]
+    said += " and ".join(f"{number} by {words}" for number, words in counts if number)
+    refined = sum(any("refined its basis" in note for note in one["notes"] or []) for one in found)
+    said += f". {refined} bases were refined, and {sum(bool(one['steps']) for one in found)} needed steps."
+    most = max(one["parts"]["whole"] / sum_of(one) for one in found)
+    total = sum(one["parts"]["whole"] for one in found)
+    said += f" The whole took {total:.0f} s, and at most {most:.2f} times the sum of its parts."
+    return f"{said} Python had at most {max(one['memory'] for one in found):.0f} MB."
+
+
+def measure_parts(options, faults):
+    optima, measured, kept = optima_of(options.optima), {}, Kept(options.keep)
+    paths = sorted(pathlib.Path(options.folder).glob("*.mps"))
+    for solver in options.solvers:
+        measured[solver] = {}
+        for path in paths:
+            found = measured[solver][path.stem] = kept.measured(solver, path, options)
+            told = f"{found['parts']['whole']:.2f} s, {found['parts']['whole'] / sum_of(found):.2f} times its parts, {found['memory']:.0f} MB"
+            print(f"{path.stem} {solver}: {found['answer'][:40]}, {found['judge']}, {told}", file=sys.stderr, flush=True)
+            faults += wrong_parts(path.stem, found, optima)
+        yield told_of(solver, measured[solver])
+    yield ""
+    heads = (head for solver in measured for head in (f"`{solver}`, s", "`lpd`, s", "Python's check, s", "reading, s", "whole, s"))
+    yield row(["Model", *heads])
+    yield row(["---"] * (1 + 5 * len(measured)))
+    for path in paths:
+        parts = [measured[solver][path.stem]["parts"] for solver in measured]
+        yield row([path.stem, *(f"{each[part]:.2f}" for each in parts for part in ("solver", "lpd", "checker", "reading", "whole"))])
+
+
+def wrong_parts(name, found, optima):
+    if found["judge"] not in (LPD_CHECK, LPD_CHECK_WIDE):
+        return [f"{name}: {found['answer']}"]
+    outcome, _, value = found["answer"].partition(" ")
+    known = optima.get(name, (outcome, value))
+    is_right = outcome == known[0] and (not value or number(value, wide=True) == number(known[1], wide=True))
+    return [] if is_right else [f"{name}: {found['answer'][:80]}, and the list says another"]
+
+
 def main():
     parser = argparse.ArgumentParser(description="Certifies the models of a folder by the bases of other solvers.")
     parser.add_argument("folder")
@@ -106,16 +238,22 @@ def main():
     parser.add_argument("--by", dest="way", choices=WAYS)
     parser.add_argument("--optima", metavar="FILE")
     parser.add_argument("--seconds", type=float, default=60)
+    parser.add_argument("--parts", action="store_true")
+    parser.add_argument("--keep", type=pathlib.Path, metavar="FILE")
+    parser.add_argument("--one", metavar="MODEL", help=argparse.SUPPRESS)
     parser.add_argument("--write", type=pathlib.Path, metavar="PAGE")
     options = parser.parse_args()
     os.environ["LPD"] = options.program
-    missing = [solver for solver in options.solvers if not shutil.which(solver)]
+    if options.one:
+        return measure_one(options.one, options.solvers[0], options.seconds)
+    missing = [solver for solver in options.solvers if solver != NONE and not shutil.which(solver)]
     if missing:
         sys.exit(f"not on the path: {', '.join(missing)}")
     faults = []
-    lines = list(measure(options, faults))
+    lines = list((measure_parts if options.parts else measure)(options, faults))
     print("\n".join(lines))
-    return ended(options.write, BEGIN, END, lines, faults)
+    marks = (BEGIN_PARTS, END_PARTS) if options.parts else (BEGIN, END)
+    return ended(options.write, *marks, lines, faults)
 
 
 if __name__ == "__main__":
