@@ -8,7 +8,7 @@ import shutil
 import subprocess
 import tempfile
 from pathlib import Path
-from typing import List, NamedTuple, Optional
+from typing import Callable, List, NamedTuple, Optional
 
 from .errors import LpdError
 
@@ -64,9 +64,14 @@ def coqc(words: List[str], folder: Path, seconds: Optional[float] = None) -> Ran
     return Ran(said, complaint, done.returncode)
 
 
-def compile_library() -> None:
-    """Compiles the files of the folder that are newer than what was compiled of them, one process at a time."""
-    folder = library()
+def unsaid(_: str) -> None:
+    pass
+
+
+def compile_library(tell: Callable[[str], None] = unsaid) -> None:
+    """Compiles the files of the folder that are newer than what was compiled of them, one process at a time, and tells before the first
+    one that it does."""
+    folder, is_told = library(), False
     with open(folder / "_CoqProject", encoding="ascii") as held:
         fcntl.flock(held, fcntl.LOCK_EX)
         last = 0.0
@@ -74,6 +79,9 @@ def compile_library() -> None:
             made = source.with_suffix(".vo")
             last = max(last, source.stat().st_mtime)
             if not made.exists() or made.stat().st_mtime < last:
+                if not is_told:
+                    is_told = True
+                    tell(f"note: Coq compiles the files of {folder} first, once, which takes a minute or two")
                 ran = coqc([source.name], folder)
                 if ran.status:
                     raise NotProved(f"Coq does not compile {source}: {shortened(ran.complaint)}")
@@ -85,10 +93,10 @@ def shortened(complaint: str) -> str:
     return "\n".join(line[:LONGEST_LINE] for line in complaint.strip().splitlines()[:12])
 
 
-def prove(path: Path, seconds: Optional[float] = None) -> None:
+def prove(path: Path, seconds: Optional[float] = None, tell: Callable[[str], None] = unsaid) -> None:
     """Has Coq prove the file, whose last command is Print Assumptions. NotProved says why it does not, or that the theorem rests on
     assumptions."""
-    compile_library()
+    compile_library(tell)
     with tempfile.TemporaryDirectory() as room:
         copy = Path(room) / "answer.v"
         shutil.copyfile(path, copy)

@@ -47,6 +47,24 @@ class Files(unittest.TestCase):
         self.assertRegex(text, r"Theorem answer : IsOptimal m \(\d+ # \d+\)\.")
         self.assertNotIn("%mps", text)
 
+    def test_the_first_run_says_what_takes_long(self) -> None:
+        """With something on the path that accepts whatever it is given, as Coq says it."""
+        room = self.path.parent
+        fake, folder = room / "bin" / "coqc", room / "library"
+        for made in (fake.parent, folder):
+            made.mkdir()
+        fake.write_text(f'#!/bin/sh\nfor file; do :; done\n: > "${{file%.v}}.vo"\necho {coq.CLOSED}\n')
+        fake.chmod(0o755)
+        (folder / "_CoqProject").write_text("First.v\nSecond.v\n")
+        for name in ("First.v", "Second.v"):
+            (folder / name).touch()
+        path = f"{fake.parent}{os.pathsep}{os.environ['PATH']}"
+        with mock.patch.dict(os.environ, {"PATH": path, "LPD_COQ": str(folder)}):
+            first, second = theorem_of("diet", self.path, "--check"), theorem_of("diet", self.path, "--check")
+        self.assertIn("PROVED OPTIMAL 92.5", first.output)
+        self.assertEqual(first.complaints.count(f"note: Coq compiles the files of {folder} first, once"), 1)
+        self.assertEqual((second.status, second.complaints), (0, ""))
+
     def test_in_fixed_form(self) -> None:
         theorem_of("plan.fixed", self.path, "--form", "fixed")
         self.assertIn("Spells large_limits FixedForm model_text m", self.path.read_text(encoding="latin-1"))

@@ -91,6 +91,6 @@ def run(words: argparse.Namespace) -> int:
 def shown(path: Path, says: str, known: str, most: Optional[float]) -> int:
     """Has Coq prove the theorem, and shows what it says."""
     started = time.monotonic()
-    prove(path, most)
+    prove(path, most, tell)
     print(f"PROVED {known}\nTheorem answer : {says}.\nby Coq, closed under the global context, in {time.monotonic() - started:.1f} seconds")
     return 0
