@@ -20,6 +20,7 @@ from .replies import Infeasible, Known, Optimal
 BITS = 56  # of an integer of coq/Packing.v
 MOST_INTEGERS, MOST_NUMBERS = 2**14, 500  # in one definition, which bounds the memory that Coq takes
 LONG_CERTIFICATE = 2**18  # a certificate of more bits is packed by coq/Packing.v, which Coq reads faster than bytes
+STRING = 2000  # bytes of a string of a text: Coq takes some 300 microseconds for each string, and its stack bounds the length
 LONG = 60  # a value of more characters is a definition of its own
 KINDS = {"L": "AtMost", "G": "AtLeast", "E": "Equal", FREE: "Free"}
 # Whatever else stands in a name is not put into a comment, which it might end.
@@ -253,9 +254,23 @@ def certified(model: Model, certificate: Certificate, known: Known) -> Terms:
 # ---- the model
 
 
+def strings_of(lines: Iterable[str]) -> Iterator[str]:
+    """The lines of a text, some of them to a string."""
+    block: List[str] = []
+    size = 0
+    for line in lines:
+        if block and size + len(line) > STRING:
+            yield "\n".join(block)
+            block, size = [], 0
+        block.append(line)
+        size += len(line) + 1
+    if block:
+        yield "\n".join(block)
+
+
 def text_definition(lines: Sequence[str]) -> str:
-    """The lines of a text, each as a string."""
-    strings = ";\n".join('"' + line.replace('"', '""') + '"' for line in lines)
+    """The lines of a text in strings, as they stand."""
+    strings = ";\n".join('"' + string.replace('"', '""') + '"' for string in strings_of(lines))
     return f"Definition model_text : text := [\n{strings}\n]%mps."
 
 
