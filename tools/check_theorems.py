@@ -280,7 +280,7 @@ def judge_compiled(case: Case) -> List[str]:
     with tempfile.TemporaryDirectory() as room:
         (Path(room) / "answer.v").write_bytes(file_of(case, known).encode("latin-1"))
         coq.coqc(["-noglob", "answer.v"], Path(room))
-        judged = [word for source in coq.sources(coq.library()) if source.stem != "Packing" for word in ("-norec", f"Lpd.{source.stem}")]
+        judged = [word for source in coq.sources(coq.library()) for word in ("-norec", f"Lpd.{source.stem}")]
         command = ["coqchk", "-silent", "-o", "-Q", str(coq.library()), "Lpd", "-Q", ".", "", *judged, "-norec", "answer"]
         done = subprocess.run(command, cwd=room, capture_output=True, text=True)
     said = done.stdout + done.stderr

@@ -19,7 +19,7 @@ from .replies import Infeasible, Known, Optimal
 
 BITS = 56  # of an integer of coq/Packing.v
 MOST_INTEGERS, MOST_NUMBERS = 2**14, 500  # in one definition, which bounds the memory that Coq takes
-LONG_CERTIFICATE = 2**18  # a certificate of more bits is packed by coq/Packing.v, which Coq reads faster than bytes
+LONG_CERTIFICATE = 2**15  # a certificate of more bits is packed by coq/Packing.v, which Coq reads faster than bytes
 STRING = 2000  # bytes of a string of a text: Coq takes some 300 microseconds for each string, and its stack bounds the length
 LONG = 60  # a value of more characters is a definition of its own
 KINDS = {"L": "AtMost", "G": "AtLeast", "E": "Equal", FREE: "Free"}
@@ -135,9 +135,9 @@ def blocks(numbers: Mapping[int, int]) -> Iterator[Dict[int, int]]:
 
 
 def packed(name: str, block: Mapping[int, int]) -> str:
-    """A definition by the integers of coq/Packing.v."""
-    rows = ";\n".join(f"[: {'; '.join(integers(index, value))} :]" for index, value in block.items())
-    return f"Definition {name} : packed := Eval vm_compute in pack {{:\n{rows}\n:}}%packing."
+    """A definition by integers that coq/Packing.v packs."""
+    rows = ";\n".join(f"[{'; '.join(integers(index, value))}]" for index, value in block.items())
+    return f"Definition {name} : packed := ltac2:(pack [\n{rows}\n])."
 
 
 def byte_words(value: int, count: int = 0) -> List[str]:

@@ -11,7 +11,7 @@ import lpd
 from lpd import coq
 from lpd.certificate import read_certificate
 from lpd.model import lines_of
-from lpd.theorem import Source, certified, digits, file_lines, in_bytes, integers, over_one, plain
+from lpd.theorem import STRING, Source, certified, digits, file_lines, in_bytes, integers, over_one, packed, plain, strings_of
 
 from .commands import Said, command
 
@@ -38,8 +38,8 @@ class Files(unittest.TestCase):
         text = self.path.read_text(encoding="latin-1")
         self.assertIn(STATEMENT, text)
         self.assertIn("From Lpd Require Import Answer.", text)
-        lines = "".join(f'"{line}";\n' for line in lines_of((MODELS / "diet.mps").read_text())[:-1])
-        self.assertIn(f'Definition model_text : text := [\n{lines}"ENDATA"\n]%mps.', text)
+        lines = (MODELS / "diet.mps").read_text().rstrip("\n")
+        self.assertIn(f'Definition model_text : text := [\n"{lines}"\n]%mps.', text)
 
     def test_of_data(self) -> None:
         theorem_of("transport", self.path, "--data")
@@ -114,6 +114,13 @@ class Files(unittest.TestCase):
             coq.library()
 
 
+class Strings(unittest.TestCase):
+    def test_some_lines_each(self) -> None:
+        lines = ["ROWS", "x" * STRING, " N cost", "", "ENDATA"]
+        self.assertEqual(list(strings_of(lines)), ["ROWS", "x" * STRING, " N cost\n\nENDATA"])
+        self.assertEqual("\n".join(strings_of(lines)).split("\n"), lines)
+
+
 class Integers(unittest.TestCase):
     def test_packed(self) -> None:
         self.assertEqual(integers(3, 5), ["6", "0x5"])
@@ -124,6 +131,9 @@ class Integers(unittest.TestCase):
         self.assertEqual(digits(2**56 + 1), "Digits x01 x00 x00 x00 x00 x00 x00 (Digit x01 End)")
         text = "Definition y : packed :=\nPlus x02 x01 x00 (Digit x05 End) (\nMinus x03 x00 x00 (Digit x07 End) (\nEmpty))."
         self.assertEqual(in_bytes("y", {258: 5, 3: -7}), text)
+
+    def test_by_a_program(self) -> None:
+        self.assertEqual(packed("y", {258: 5, 3: -7}), "Definition y : packed := ltac2:(pack [\n[516; 0x5];\n[7; 0x7]\n]).")
 
     def test_over_one_denominator(self) -> None:
         values = lpd.read_model((MODELS / "diet.mps").read_text()).columns["milk"].entries
