@@ -4,8 +4,8 @@
     check_sizes.py [--lpd PROGRAM] [--per-byte NANOSECONDS] [--certificates] [--solve]
 
 The columns of each model have two entries, and the largest has 65,536 rows and 131,072 columns. With --wide it is read; with
-one row or column more the line of that card is refused, and without --wide that of row 257 or column 513. A text four times
-as large may take the processor at most six times as long, and each byte at most so many nanoseconds. With --certificates a
+one row or column more the line of that card is refused, and without --wide that of row 257 or column 513. A text may take the
+processor at most so many nanoseconds a byte, and at most four times as many as the smallest text does. With --certificates a
 certificate that names all rows and columns, the last one first, stands behind each of these texts, and is to hold. With --solve
 the same limits hold for `lpd solve` and `lpd basis`, each with --wide and without, and `lpd solve --wide` answers each of these
 models, whose answer is its start, in such time.
@@ -141,20 +141,26 @@ CHECK_CERTIFIED = Timed(["check", "--wide"], "YES OPTIMAL 0", certified=True)
 SOLVE = Timed(["solve", "--wide"], "OPTIMAL 0")
 
 
+# A byte of a larger text may take so many times what one of the smallest takes, which has other caches. What grows by the square
+# takes 16 times as much.
+MOST_GROWTH = 4
+LEAST_SECONDS = 0.05
+
+
 def times_hold(program: str, per_byte: float, timed: Timed) -> List[str]:
     """What is wrong, and a line on standard output for each size."""
-    wrong, before, wanted = [], 0.0, timed.wanted
+    wrong, least, wanted = [], 0.0, timed.wanted
     for size in (Size(4096, 8192), Size(16384, 32768), Size(*LARGE)):
         given = input_of(size, certificate_lines(size) if timed.certified else [])
         got = said(program, timed.words, given)
         nanoseconds = 1e9 * got.seconds / len(given)
+        least = least or max(nanoseconds, 1e9 * LEAST_SECONDS / len(given))
         told = f"{timed.words[0]}, {size.rows} x {size.columns}, {len(given)} bytes"
         print(f"{told}: {got.line} in {got.seconds:.2f} s, {nanoseconds:.0f} ns a byte", flush=True)
         if got.line != wanted:
             wrong.append(f"{size.rows} x {size.columns}: {got.line!r}, and not {wanted!r}")
-        if nanoseconds > per_byte or (before > 0.05 and got.seconds > 6 * before):
-            wrong.append(f"{size.rows} x {size.columns}: {got.seconds:.2f} s, after {before:.2f} s")
-        before = got.seconds
+        if nanoseconds > min(per_byte, MOST_GROWTH * least):
+            wrong.append(f"{size.rows} x {size.columns}: {nanoseconds:.0f} ns a byte, after {least:.0f} ns of the smallest")
     return wrong
 
 
