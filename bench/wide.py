@@ -172,7 +172,8 @@ def marks_of(options, found):
         return [mark.format(options.lacks) for mark in LACKS_MARKS]
     if any(one.is_large for one in found):
         outcomes = {answer[0].lower() for answer in optima_of(options.optima).values()} if options.optima else {"optimal"}
-        return [mark.format("large" if "optimal" in outcomes else outcomes.pop()) for mark in LARGE_MARKS]
+        kind = "large" if "optimal" in outcomes else min(outcomes)
+    return [mark.format(kind) for mark in LARGE_MARKS]
     return FOLDER_MARKS if options.folder else SIZES_MARKS if options.only else (BEGIN, END)
 
 
