@@ -85,7 +85,7 @@ def spent(program, what, words, times):
 
 def time_of(program, what, words, wanted):
     """The seconds of one operation."""
-    one, times = spent(program, what, words, 1), 1
+    one, times = spent(program, what, words, 1), 2
     while (whole := spent(program, what, words, times)) < wanted:
         times *= max(2, min(64, int(wanted / max(whole - one, 0.01))))
     again = spent(program, what, words, times)
