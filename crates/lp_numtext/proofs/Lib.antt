@@ -1,3 +1,4 @@
+mod PowerSteps
 pub mod PieceSteps
 pub mod DigitSteps
 pub mod ReadSteps
