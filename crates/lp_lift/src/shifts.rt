@@ -1,8 +1,7 @@
 // Costs that are shifted until no reduced cost is wrong.
 use crate::moves::float_at;
-use crate::program::Program;
-use crate::statuses::{is_basic_at, status_at};
-use lp_frac::{Frac, add, one, zero};
+use crate::statuses::status_at;
+use lp_frac::{Frac, add};
 use spec_pivot::Status;
 
 // How many doublings a shift is from 1 at most.

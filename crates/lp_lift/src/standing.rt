@@ -6,7 +6,7 @@ use crate::program::Program;
 use crate::scales::{least_common, multiple, scale_at, times_scale};
 use crate::sides::{of_logicals, part};
 use crate::statuses::is_basic_at;
-use lp_frac::{Frac, den, is_zero};
+use lp_frac::{Frac, den};
 use lp_sparse::wide::times_wide;
 use lp_sparse::{Solved, Whole};
 use spec_pivot::Status;
