@@ -1,11 +1,13 @@
 // The sparse factors of a matrix.
 mod active;
 mod buckets;
+mod by_steps;
 mod elimination;
 mod search;
 
 use crate::factors::active::{Active, active_of};
 use crate::factors::buckets::Buckets;
+pub use crate::factors::by_steps::{Marked, Ordered, Sparse, order_factors};
 use crate::factors::elimination::{Steps, eliminate};
 use crate::factors::search::next_pivot;
 use crate::field::Field;

@@ -6,6 +6,7 @@
 //! | `System`, `Right` | equations by unknown with the factors of their matrix, and their right sides | src/lifting |
 //! | `congruent` | the fraction that has a residue | src/euclid |
 //! | `factorize`, `Factors`, `Matrix` | sparse factors over a field, or over floats | src/factors, src/matrix, src/lines |
+//! | `Ordered`, `Sparse`, `Marked` | factors by their steps, for right sides most of whose numbers are 0 | src/factors/by_steps |
 //! | `Field`, `Residue` | numbers of a matrix; residues modulo a prime | src/field, src/residue |
 //! | `digits`, `wide` | wide numbers to the base of the prime, and in words | src/digits, src/wide |
 //!
@@ -25,7 +26,7 @@ mod residue;
 mod solution;
 pub mod wide;
 
-pub use factors::{Factored, Factors, factorize};
+pub use factors::{Factored, Factors, Marked, Ordered, Sparse, factorize, order_factors};
 pub use field::Field;
 pub use lifting::{Right, System};
 pub use lines::{Entry, Lines, turned};
