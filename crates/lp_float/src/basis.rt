@@ -1,8 +1,9 @@
 // The factors of a basis, and the columns that came in since.
 use crate::lines::Lines;
-use crate::number::{add_line, at, fill, index_at, product, put, put_index};
+use crate::number::{at, index_at, product, put, put_index};
 use crate::program::Program;
-use lp_sparse::{Factored, Factors, Matrix, factorize};
+use crate::sparse::{add_line, put_in};
+use lp_sparse::{Factored, Factors, Marked, Matrix, Ordered, Sparse, factorize, order_factors};
 use std::alloc::{AllocError, Global};
 
 /// The position of a column that has none.
@@ -23,7 +24,8 @@ const MENDS: u32 = 3;
 pub(crate) struct Basis {
     pub(crate) head: Vec<usize>,
     pub(crate) place: Vec<usize>,
-    factors: Option<Factors<f64>>,
+    factors: Option<Ordered<f64>>,
+    room: Marked<f64>,
     places: Vec<usize>,
     pivots: Vec<f64>,
     changes: Lines,
@@ -35,6 +37,7 @@ impl Drop for Basis {
             head,
             place,
             factors,
+            room,
             places,
             pivots,
             changes,
@@ -42,6 +45,7 @@ impl Drop for Basis {
         drop(head);
         drop(place);
         drop(factors);
+        drop(room);
         drop(places);
         drop(pivots);
         drop(changes);
@@ -129,6 +133,17 @@ fn places_of(alloc: Global, program: &Program, head: &[usize]) -> Result<Vec<usi
     Ok(place)
 }
 
+// The factors by their steps.
+fn by_steps(
+    alloc: Global,
+    factors: Option<Factors<f64>>,
+) -> Result<Option<Ordered<f64>>, AllocError> {
+    match &factors {
+        Some(factors) => Ok(Some(order_factors(alloc, factors)?)),
+        None => Ok(None),
+    }
+}
+
 /// The basis of these columns. Where they are singular, logical ones come in their place.
 pub(crate) fn basis_of(
     alloc: Global,
@@ -145,7 +160,8 @@ pub(crate) fn basis_of(
     Ok(Basis {
         head,
         place,
-        factors,
+        factors: by_steps(alloc, factors)?,
+        room: Marked::new(alloc, program.rows)?,
         places: Vec::new(alloc),
         pivots: Vec::new(alloc),
         changes: Lines::new(alloc),
@@ -174,40 +190,56 @@ impl Basis {
     }
 
     /// Solves for the combination of the basic columns, by position, that is `right`, by row, which is used up.
-    pub(crate) fn solve(&self, right: &mut [f64], solution: &mut [f64]) {
+    pub(crate) fn solve(
+        &mut self,
+        right: &mut Sparse<f64>,
+        solution: &mut Sparse<f64>,
+    ) -> Result<(), AllocError> {
         match &self.factors {
-            Some(factors) => factors.solve(right, solution),
-            None => fill(solution, 0.0),
+            Some(factors) => factors.solve(&mut self.room, right, solution)?,
+            None => solution.clear(),
         }
         for (k, place) in self.places.iter().enumerate() {
-            let number = at(solution, *place);
+            let number = at(&solution.numbers, *place);
             if number != 0.0 {
                 let quotient = number / at(&self.pivots, k);
-                add_line(solution, self.changes.line(k), -quotient);
-                put(solution, *place, quotient);
+                add_line(solution, self.changes.line(k), -quotient)?;
+                put(&mut solution.numbers, *place, quotient);
             }
         }
+        Ok(())
     }
 
     /// Solves for the multipliers, by row, with which the basic columns have the products `right`, by position, which are
     /// used up.
-    pub(crate) fn solve_turned(&self, right: &mut [f64], solution: &mut [f64]) {
+    pub(crate) fn solve_turned(
+        &mut self,
+        right: &mut Sparse<f64>,
+        solution: &mut Sparse<f64>,
+    ) -> Result<(), AllocError> {
         for k in (0..self.places.len()).rev() {
             let place = index_at(&self.places, k);
-            let number = at(right, place) - product(right, self.changes.line(k));
-            put(right, place, number / at(&self.pivots, k));
+            let before = at(&right.numbers, place);
+            let number = before - product(&right.numbers, self.changes.line(k));
+            if number != 0.0 || before != 0.0 {
+                put_in(right, place, number / at(&self.pivots, k))?;
+            }
         }
         match &self.factors {
-            Some(factors) => factors.solve_turned(right, solution),
-            None => fill(solution, 0.0),
+            Some(factors) => factors.solve_turned(&mut self.room, right, solution),
+            None => {
+                solution.clear();
+                Ok(())
+            }
         }
     }
 
     // Notes a column that comes in at a position.
-    fn note(&mut self, place: usize, column: &[f64]) -> Result<(), AllocError> {
-        for (p, number) in column.iter().enumerate() {
-            if p != place && number.abs() > NOTHING {
-                self.changes.put(p, *number)?;
+    fn note(&mut self, place: usize, column: &Sparse<f64>) -> Result<(), AllocError> {
+        for p in &column.places {
+            let number = at(&column.numbers, *p);
+            if *p != place && number.abs() > NOTHING {
+                self.changes.put(*p, number)?;
             }
         }
         self.changes.end()
@@ -218,11 +250,11 @@ impl Basis {
         &mut self,
         place: usize,
         k: usize,
-        column: &[f64],
+        column: &Sparse<f64>,
     ) -> Result<(), AllocError> {
         self.note(place, column)?;
         self.places.push(place)?;
-        self.pivots.push(at(column, place))?;
+        self.pivots.push(at(&column.numbers, place))?;
         let leaving = index_at(&self.head, place);
         put_index(&mut self.place, leaving, NOWHERE);
         put_index(&mut self.place, k, place);

@@ -2,10 +2,11 @@
 // column with the greatest infeasibility for its weight leaves, by the weights of the dual steepest edge (Forrest and
 // Goldfarb, "Steepest-edge simplex algorithms for linear programming", 1992).
 use crate::dual_ratio::{Trial, choose};
-use crate::number::{add_at, at, copy, fill, index_at, put, square};
+use crate::number::{add_at, at, index_at, put};
 use crate::program::Program;
 use crate::rebuild::{add_column, evaluate, make_row, reduce, solve_column, solve_unit};
-use crate::state::{State, put_status, refactor, status_at};
+use crate::sparse::{copy_to, square};
+use crate::state::{Room, State, put_status, refactor, status_at};
 use spec_pivot::Status;
 use std::alloc::{AllocError, Global};
 
@@ -71,33 +72,36 @@ fn leaving(state: &State) -> Option<usize> {
 
 // Moves the reduced costs along the row.
 fn move_reduced(state: &mut State, step: f64) {
-    for k in &state.room.touched {
-        add_at(&mut state.reduced, *k, -(step * at(&state.room.row, *k)));
+    let row = &state.room.row;
+    for k in &row.places {
+        add_at(&mut state.reduced, *k, -(step * at(&row.numbers, *k)));
     }
 }
 
 /// Gives the columns that take part in an exchange, and all others, their reduced costs after it.
 pub(crate) fn exchange_reduced(state: &mut State, entering: usize, leaving: usize) {
-    let step = at(&state.reduced, entering) / at(&state.room.row, entering);
+    let step = at(&state.reduced, entering) / at(&state.room.row.numbers, entering);
     move_reduced(state, step);
     put(&mut state.reduced, entering, 0.0);
     put(&mut state.reduced, leaving, -step);
 }
 
 // Turns columns, and notes by row what that leaves for the basic ones.
-fn turn_all(state: &mut State, program: &Program, flips: &[usize]) {
+fn turn_all(state: &mut State, program: &Program, flips: &[usize]) -> Result<(), AllocError> {
     for k in flips {
         let before = at(&state.value, *k);
         state.turn(*k);
         let by = at(&state.value, *k) - before;
-        add_column(&mut state.room.by_row, program, *k, -by);
+        add_column(&mut state.room.by_row, program, *k, -by)?;
     }
+    Ok(())
 }
 
 // Adds a solution to the values of the basic columns.
 fn add_solution(state: &mut State) {
-    for p in 0..state.basis.head.len() {
-        let number = at(&state.room.other, p);
+    for n in 0..state.room.other.places.len() {
+        let p = index_at(&state.room.other.places, n);
+        let number = at(&state.room.other.numbers, p);
         if number != 0.0 {
             let k = index_at(&state.basis.head, p);
             add_at(&mut state.value, k, number);
@@ -107,22 +111,24 @@ fn add_solution(state: &mut State) {
 }
 
 // Turns columns, and moves the basic ones with them.
-fn flip_all(state: &mut State, program: &Program, flips: &[usize]) {
+fn flip_all(state: &mut State, program: &Program, flips: &[usize]) -> Result<(), AllocError> {
     if flips.is_empty() {
-        return;
+        return Ok(());
     }
-    fill(&mut state.room.by_row, 0.0);
-    turn_all(state, program, flips);
+    state.room.by_row.clear();
+    turn_all(state, program, flips)?;
     state
         .basis
-        .solve(&mut state.room.by_row, &mut state.room.other);
+        .solve(&mut state.room.by_row, &mut state.room.other)?;
     add_solution(state);
+    Ok(())
 }
 
 /// Moves the entering column by a step, and the basic ones with it.
 pub(crate) fn move_values(state: &mut State, entering: usize, step: f64) {
-    for p in 0..state.basis.head.len() {
-        let number = at(&state.room.column, p);
+    for n in 0..state.room.column.places.len() {
+        let p = index_at(&state.room.column.places, n);
+        let number = at(&state.room.column.numbers, p);
         if number != 0.0 {
             let k = index_at(&state.basis.head, p);
             add_at(&mut state.value, k, -(step * number));
@@ -134,26 +140,29 @@ pub(crate) fn move_values(state: &mut State, entering: usize, step: f64) {
 
 // Updates the weights of the positions where the entering column has numbers.
 fn update_all(state: &mut State, pivot: f64, norm: f64) {
-    for (p, weight) in state.weight.iter_mut().enumerate() {
-        let number = at(&state.room.column, p);
+    let Room { column, other, .. } = &state.room;
+    for p in &column.places {
+        let number = at(&column.numbers, *p);
         if number != 0.0 {
             let quotient = number / pivot;
-            let change = quotient * (quotient * norm - 2.0 * at(&state.room.other, p));
-            *weight = (*weight + change).max(LEAST_WEIGHT);
+            let change = quotient * (quotient * norm - 2.0 * at(&other.numbers, *p));
+            let weight = at(&state.weight, *p) + change;
+            put(&mut state.weight, *p, weight.max(LEAST_WEIGHT));
         }
     }
 }
 
 // The weights after the exchange.
-fn update_weights(state: &mut State, place: usize, norm: f64) {
-    copy(&mut state.room.by_row, &state.room.inverse_row);
+fn update_weights(state: &mut State, place: usize, norm: f64) -> Result<(), AllocError> {
+    copy_to(&mut state.room.by_row, &state.room.inverse_row)?;
     state
         .basis
-        .solve(&mut state.room.by_row, &mut state.room.other);
-    let pivot = at(&state.room.column, place);
+        .solve(&mut state.room.by_row, &mut state.room.other)?;
+    let pivot = at(&state.room.column.numbers, place);
     update_all(state, pivot, norm);
     let own = norm / (pivot * pivot);
     put(&mut state.weight, place, own.max(LEAST_WEIGHT));
+    Ok(())
 }
 
 /// Puts the entering column at the position of the leaving one, which goes to a bound.
@@ -167,6 +176,8 @@ pub(crate) fn exchange(
     state.basis.change(place, entering, &state.room.column)?;
     put_status(&mut state.status, entering, Status::Basic);
     state.settle(leaving, to);
+    state.note_idle(entering);
+    state.note_idle(leaving);
     state.note_outside(place);
     state.steps = state.steps.wrapping_add(1);
     Ok(())
@@ -196,11 +207,11 @@ fn apply(
         shift(state, entering);
     }
     exchange_reduced(state, entering, leaving);
-    flip_all(state, program, &trial.flips);
+    flip_all(state, program, &trial.flips)?;
     let outside = state.outside(leaving);
-    let step = outside / at(&state.room.column, place);
+    let step = outside / at(&state.room.column.numbers, place);
     move_values(state, entering, step);
-    update_weights(state, place, norm);
+    update_weights(state, place, norm)?;
     let to = if outside > 0.0 {
         Status::AtUpper
     } else {
@@ -223,9 +234,9 @@ fn exchange_surely(
     trial: &Trial,
     pivot: Pivot,
 ) -> Result<DualStep, AllocError> {
-    solve_column(state, program, pivot.entering);
-    let by_row = at(&state.room.row, pivot.entering);
-    let by_column = at(&state.room.column, pivot.place);
+    solve_column(state, program, pivot.entering)?;
+    let by_row = at(&state.room.row.numbers, pivot.entering);
+    let by_column = at(&state.room.column.numbers, pivot.place);
     let apart = (by_row - by_column).abs();
     if state.basis.changes() > 0 && apart > APART * (1.0 + by_column.abs()) {
         return Ok(DualStep::Unsure);
@@ -246,7 +257,7 @@ fn dual_step(
     let Some(place) = leaving(state) else {
         return Ok(DualStep::End(DualEnd::Feasible));
     };
-    solve_unit(state, place);
+    solve_unit(state, place)?;
     let norm = square(&state.room.inverse_row);
     if correct_weight(state, place, norm) && trial.retries < RETRIES {
         trial.retries = trial.retries.wrapping_add(1);
@@ -292,10 +303,9 @@ fn correct_all(state: &mut State) {
 // Makes all numbers anew.
 fn rebuild(alloc: Global, state: &mut State, program: &Program) -> Result<(), AllocError> {
     refactor(alloc, state, program)?;
-    reduce(state, program);
+    reduce(state, program)?;
     correct_all(state);
-    evaluate(state, program);
-    Ok(())
+    evaluate(state, program)
 }
 
 /// Runs the dual method. Reduced costs that are wrong at its beginning are made right by the other bounds or by the costs of

@@ -77,7 +77,7 @@ fn way(status: Status, number: f64) -> f64 {
 
 // The candidate that a column is, if it is one.
 fn candidate_of(state: &State, column: usize, turn: f64) -> Option<Candidate> {
-    let number = at(&state.room.row, column) * turn;
+    let number = at(&state.room.row.numbers, column) * turn;
     let way = way(status_at(&state.status, column), number);
     let range = state.range(column);
     if number * way > NO_PIVOT && range > 0.0 {
@@ -98,7 +98,7 @@ fn collect(state: &State, turn: f64, trial: &mut Trial) -> Result<(), AllocError
     trial.taken.clear();
     trial.ends.clear();
     trial.flips.clear();
-    for k in &state.room.touched {
+    for k in &state.room.row.places {
         if let Some(candidate) = candidate_of(state, *k, turn) {
             trial.waiting.push(candidate)?;
         }

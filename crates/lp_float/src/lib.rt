@@ -9,7 +9,7 @@
 //! | `run_primal` | the primal method, by the weights of Devex | src/primal, src/primal_ratio |
 //! | `State` | the basis, the values and the reduced costs of a run | src/state, src/rebuild |
 //! | `Basis` | the factors of a basis, with the product form of what changed since | src/basis |
-//! | `Lines` | sparse lines | src/lines |
+//! | `Lines` | sparse lines; `Sparse` of lp_sparse has numbers most of which are 0 | src/lines, src/sparse |
 //!
 //! Nothing is claimed of what a run finds, but that it is safe and ends: who uses a basis solves for it exactly.
 #![tactic(auto)]
@@ -27,6 +27,7 @@ mod program;
 mod rebuild;
 mod runs;
 mod scaling;
+mod sparse;
 mod state;
 
 pub use guess::float_end;

@@ -34,6 +34,15 @@ pub(crate) fn index_at(list: &[usize], k: usize) -> usize {
     }
 }
 
+/// The flag at `k`, set where there is none.
+#[inline(always)]
+pub(crate) fn flag_at(list: &[bool], k: usize) -> bool {
+    match list.get(k) {
+        Some(flag) => *flag,
+        None => true,
+    }
+}
+
 /// Puts an index at `k`, if the list is that long.
 #[inline(always)]
 pub(crate) fn put_index(list: &mut [usize], k: usize, index: usize) {
@@ -56,29 +65,12 @@ pub(crate) fn copy(list: &mut [f64], from: &[f64]) {
     }
 }
 
-/// Adds a multiple of a sparse line.
-#[inline(always)]
-pub(crate) fn add_line(list: &mut [f64], line: &[(usize, f64)], times: f64) {
-    for (k, number) in line {
-        add_at(list, *k, times * *number);
-    }
-}
-
 /// The sum of products with a sparse line.
 #[inline(always)]
 pub(crate) fn product(list: &[f64], line: &[(usize, f64)]) -> f64 {
     let mut sum = 0.0;
     for (k, number) in line {
         sum += *number * at(list, *k);
-    }
-    sum
-}
-
-/// The sum of squares.
-pub(crate) fn square(list: &[f64]) -> f64 {
-    let mut sum = 0.0;
-    for number in list {
-        sum += *number * *number;
     }
     sum
 }

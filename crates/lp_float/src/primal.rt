@@ -6,6 +6,7 @@ use crate::number::{at, fill, index_at, put};
 use crate::primal_ratio::{Block, blocking};
 use crate::program::Program;
 use crate::rebuild::{evaluate, make_row, price, reduce, solve_column, solve_unit};
+use crate::sparse::add_to;
 use crate::state::{State, refactor};
 use std::alloc::{AllocError, Global};
 
@@ -50,25 +51,26 @@ fn sign(outside: f64, tolerance: f64) -> f64 {
 }
 
 // Puts the costs of the sum of infeasibilities by position. Whether one is not 0.
-fn put_signs(state: &mut State) -> bool {
-    let mut is_outside = false;
+fn put_signs(state: &mut State) -> Result<bool, AllocError> {
+    state.room.by_place.clear();
     for p in 0..state.basis.head.len() {
         let k = index_at(&state.basis.head, p);
         let sign = sign(state.outside(k), state.limits.primal);
-        is_outside = is_outside || sign != 0.0;
-        put(&mut state.room.by_place, p, sign);
+        if sign != 0.0 {
+            add_to(&mut state.room.by_place, p, sign)?;
+        }
     }
-    is_outside
+    Ok(!state.room.by_place.places.is_empty())
 }
 
 // Prices the sum of infeasibilities, if there is one.
-fn price_outside(state: &mut State, program: &Program) -> bool {
-    let is_outside = put_signs(state);
+fn price_outside(state: &mut State, program: &Program) -> Result<bool, AllocError> {
+    let is_outside = put_signs(state)?;
     if is_outside {
         fill(&mut state.reduced, 0.0);
-        price(state, program);
+        price(state, program)?;
     }
-    is_outside
+    Ok(is_outside)
 }
 
 // The column that enters.
@@ -90,8 +92,9 @@ fn priced(state: &State) -> Option<usize> {
 
 // Raises the weights of the columns that the row has numbers for.
 fn raise_weights(state: &mut State, pivot: f64, own: f64) {
-    for k in &state.room.touched {
-        let quotient = at(&state.room.row, *k) / pivot;
+    let row = &state.room.row;
+    for k in &row.places {
+        let quotient = at(&row.numbers, *k) / pivot;
         let weight = quotient * quotient * own;
         if weight > at(&state.reference, *k) {
             put(&mut state.reference, *k, weight);
@@ -101,7 +104,7 @@ fn raise_weights(state: &mut State, pivot: f64, own: f64) {
 
 // The weights after the exchange.
 fn update_weights(state: &mut State, entering: usize, leaving: usize) {
-    let pivot = at(&state.room.row, entering);
+    let pivot = at(&state.room.row.numbers, entering);
     let own = at(&state.reference, entering);
     raise_weights(state, pivot, own);
     let weight = own / (pivot * pivot);
@@ -125,10 +128,10 @@ fn exchange_surely(
 ) -> Result<PrimalStep, AllocError> {
     let Block { place, step, to } = block;
     let k = entering.column;
-    solve_unit(state, place);
+    solve_unit(state, place)?;
     make_row(state, program)?;
-    let by_row = at(&state.room.row, k);
-    let by_column = at(&state.room.column, place);
+    let by_row = at(&state.room.row.numbers, k);
+    let by_column = at(&state.room.column.numbers, place);
     let apart = (by_row - by_column).abs();
     if state.basis.changes() > 0 && apart > APART * (1.0 + by_column.abs()) {
         return Ok(PrimalStep::Unsure);
@@ -159,7 +162,7 @@ fn advance(
     program: &Program,
     entering: Entering,
 ) -> Result<PrimalStep, AllocError> {
-    solve_column(state, program, entering.column);
+    solve_column(state, program, entering.column)?;
     let range = state.range(entering.column);
     match blocking(state, entering.way) {
         Some(block) if block.step < range => exchange_surely(state, program, entering, block),
@@ -190,9 +193,9 @@ fn primal_step(
     program: &Program,
     was_outside: &mut bool,
 ) -> Result<PrimalStep, AllocError> {
-    let is_outside = price_outside(state, program);
+    let is_outside = price_outside(state, program)?;
     if *was_outside && !is_outside {
-        reduce(state, program);
+        reduce(state, program)?;
         fill(&mut state.reference, 1.0);
     }
     *was_outside = is_outside;
@@ -218,9 +221,8 @@ fn primal_step(
 // Makes all numbers anew.
 fn rebuild(alloc: Global, state: &mut State, program: &Program) -> Result<(), AllocError> {
     refactor(alloc, state, program)?;
-    evaluate(state, program);
-    reduce(state, program);
-    Ok(())
+    evaluate(state, program)?;
+    reduce(state, program)
 }
 
 /// Runs the primal method.

@@ -1,5 +1,5 @@
 // How far the entering column goes by the primal method: Harris' ratio test.
-use crate::number::at;
+use crate::number::{at, index_at};
 use crate::state::State;
 use spec_pivot::Status;
 
@@ -65,9 +65,11 @@ fn goal(state: &State, k: usize, rate: f64) -> Option<(f64, Status)> {
 // How far the entering column may go, with the bounds a little wider.
 fn reach(state: &State, way: f64) -> f64 {
     let mut least = f64::INFINITY;
-    for (p, k) in state.basis.head.iter().enumerate() {
-        let rate = -(way * at(&state.room.column, p));
-        if let Some((off, _)) = goal(state, *k, rate) {
+    let column = &state.room.column;
+    for p in &column.places {
+        let rate = -(way * at(&column.numbers, *p));
+        let k = index_at(&state.basis.head, *p);
+        if let Some((off, _)) = goal(state, k, rate) {
             let room = off.max(0.0) + state.limits.primal;
             least = (room / rate.abs()).min(least);
         }
@@ -80,12 +82,18 @@ pub(crate) fn blocking(state: &State, way: f64) -> Option<Block> {
     let reach = reach(state, way);
     let mut found = None;
     let mut most = 0.0;
-    for (place, k) in state.basis.head.iter().enumerate() {
-        let rate = -(way * at(&state.room.column, place));
-        if let Some((off, to)) = goal(state, *k, rate) {
+    let column = &state.room.column;
+    for place in &column.places {
+        let rate = -(way * at(&column.numbers, *place));
+        let k = index_at(&state.basis.head, *place);
+        if let Some((off, to)) = goal(state, k, rate) {
             if rate.abs() > most && off <= reach * rate.abs() {
                 let step = (off / rate.abs()).max(0.0);
-                found = Some(Block { place, step, to });
+                found = Some(Block {
+                    place: *place,
+                    step,
+                    to,
+                });
                 most = rate.abs();
             }
         }

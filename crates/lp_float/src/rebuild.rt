@@ -1,58 +1,72 @@
 // Values, reduced costs and rows of the tableau, from the factors of the basis.
-use crate::number::{add_at, add_line, at, copy, fill, index_at, product, put};
+use crate::number::{add_at, at, copy, flag_at, index_at, product, put};
 use crate::program::Program;
-use crate::state::{Room, State, is_basic, status_at};
-use spec_pivot::Status;
+use crate::sparse::{add_line, add_to, is_dense, put_in};
+use crate::state::{Room, State};
+use lp_sparse::Sparse;
 use std::alloc::AllocError;
 
-// What is taken for 0 in a row of the inverse, and what stands for 0 in that of the tableau.
+// What is taken for 0 in a row of the inverse.
 const NOTHING: f64 = 1e-14;
 
-const TRACE: f64 = 1e-100;
+// Where more than one number in so many of a row of the inverse is not 0, the columns of the program are gone over.
+const DENSE: usize = 3;
 
 /// Adds a multiple of a column of the program to numbers by row.
-pub(crate) fn add_column(list: &mut [f64], program: &Program, k: usize, times: f64) {
+pub(crate) fn add_column(
+    list: &mut Sparse<f64>,
+    program: &Program,
+    k: usize,
+    times: f64,
+) -> Result<(), AllocError> {
     if program.is_logical(k) {
-        add_at(list, program.row_of(k), -times);
+        add_to(list, program.row_of(k), -times)
     } else {
-        add_line(list, program.columns.line(k), times);
+        add_line(list, program.columns.line(k), times)
     }
 }
 
 // What the columns that are not basic leave for the basic ones.
-fn put_rest(state: &mut State, program: &Program) {
-    fill(&mut state.room.by_row, 0.0);
+fn put_rest(state: &mut State, program: &Program) -> Result<(), AllocError> {
+    state.room.by_row.clear();
     for k in 0..program.len() {
         let value = at(&state.value, k);
         if value != 0.0 && !state.is_basic(k) {
-            add_column(&mut state.room.by_row, program, k, -value);
+            add_column(&mut state.room.by_row, program, k, -value)?;
         }
     }
+    Ok(())
 }
 
 // Gives the basic columns the values of a solution.
 fn put_values(state: &mut State) {
     for p in 0..state.basis.head.len() {
         let k = index_at(&state.basis.head, p);
-        put(&mut state.value, k, at(&state.room.other, p));
+        put(&mut state.value, k, at(&state.room.other.numbers, p));
         state.note_outside(p);
     }
 }
 
 /// Gives each basic column its value.
-pub(crate) fn evaluate(state: &mut State, program: &Program) {
-    put_rest(state, program);
+pub(crate) fn evaluate(state: &mut State, program: &Program) -> Result<(), AllocError> {
+    put_rest(state, program)?;
     state
         .basis
-        .solve(&mut state.room.by_row, &mut state.room.other);
+        .solve(&mut state.room.by_row, &mut state.room.other)?;
     put_values(state);
+    Ok(())
 }
 
 // Puts the costs of the basic columns as right sides.
-fn put_costs(state: &mut State) {
+fn put_costs(state: &mut State) -> Result<(), AllocError> {
+    state.room.by_place.clear();
     for (p, k) in state.basis.head.iter().enumerate() {
-        put(&mut state.room.by_place, p, at(&state.cost, *k));
+        let cost = at(&state.cost, *k);
+        if cost != 0.0 {
+            add_to(&mut state.room.by_place, p, cost)?;
+        }
     }
+    Ok(())
 }
 
 // Takes the multipliers' part off the reduced costs.
@@ -61,77 +75,102 @@ fn take_products(state: &mut State, program: &Program) {
         let part = if state.is_basic(k) {
             at(&state.reduced, k)
         } else if program.is_logical(k) {
-            -at(&state.room.multiplier, program.row_of(k))
+            -at(&state.room.multiplier.numbers, program.row_of(k))
         } else {
-            product(&state.room.multiplier, program.columns.line(k))
+            product(&state.room.multiplier.numbers, program.columns.line(k))
         };
         add_at(&mut state.reduced, k, -part);
     }
 }
 
 /// Finds the multipliers for the costs that stand by position, and takes their part off the reduced costs.
-pub(crate) fn price(state: &mut State, program: &Program) {
+pub(crate) fn price(state: &mut State, program: &Program) -> Result<(), AllocError> {
     state
         .basis
-        .solve_turned(&mut state.room.by_place, &mut state.room.multiplier);
+        .solve_turned(&mut state.room.by_place, &mut state.room.multiplier)?;
     take_products(state, program);
-}
-
-/// Gives each column its reduced cost.
-pub(crate) fn reduce(state: &mut State, program: &Program) {
-    put_costs(state);
-    copy(&mut state.reduced, &state.cost);
-    price(state, program);
-}
-
-/// Solves for a column of the program, by position.
-pub(crate) fn solve_column(state: &mut State, program: &Program, k: usize) {
-    fill(&mut state.room.by_row, 0.0);
-    add_column(&mut state.room.by_row, program, k, 1.0);
-    state
-        .basis
-        .solve(&mut state.room.by_row, &mut state.room.column);
-}
-
-/// Finds the row of the inverse at a position.
-pub(crate) fn solve_unit(state: &mut State, place: usize) {
-    fill(&mut state.room.by_place, 0.0);
-    put(&mut state.room.by_place, place, 1.0);
-    state
-        .basis
-        .solve_turned(&mut state.room.by_place, &mut state.room.inverse_row);
-}
-
-// Forgets the row of the tableau.
-fn clear_row(room: &mut Room) {
-    for k in &room.touched {
-        put(&mut room.row, *k, 0.0);
-    }
-    room.touched.clear();
-}
-
-// Adds to a number of the row of the tableau, and notes that it is touched. A sum of 0 becomes a number that is taken for 0.
-#[inline(always)]
-fn touch(room: &mut Room, k: usize, more: f64) -> Result<(), AllocError> {
-    let before = at(&room.row, k);
-    if before == 0.0 {
-        room.touched.push(k)?;
-    }
-    let sum = before + more;
-    put(&mut room.row, k, if sum == 0.0 { TRACE } else { sum });
     Ok(())
 }
 
-// Adds a row of the program, short of its basic columns.
+/// Gives each column its reduced cost.
+pub(crate) fn reduce(state: &mut State, program: &Program) -> Result<(), AllocError> {
+    put_costs(state)?;
+    copy(&mut state.reduced, &state.cost);
+    price(state, program)
+}
+
+/// Solves for a column of the program, by position.
+pub(crate) fn solve_column(
+    state: &mut State,
+    program: &Program,
+    k: usize,
+) -> Result<(), AllocError> {
+    state.room.by_row.clear();
+    add_column(&mut state.room.by_row, program, k, 1.0)?;
+    state
+        .basis
+        .solve(&mut state.room.by_row, &mut state.room.column)
+}
+
+/// Finds the row of the inverse at a position.
+pub(crate) fn solve_unit(state: &mut State, place: usize) -> Result<(), AllocError> {
+    state.room.by_place.clear();
+    add_to(&mut state.room.by_place, place, 1.0)?;
+    state
+        .basis
+        .solve_turned(&mut state.room.by_place, &mut state.room.inverse_row)
+}
+
+// Adds a row of the program, without the columns that never enter.
 fn add_row(
-    room: &mut Room,
-    status: &[Status],
+    row: &mut Sparse<f64>,
+    idle: &[bool],
     line: &[(usize, f64)],
     times: f64,
 ) -> Result<(), AllocError> {
     for (k, number) in line {
-        if !is_basic(status_at(status, *k)) {
-            touch(room, *k, times * *number)?;
+        if !flag_at(idle, *k) {
+            add_to(row, *k, times * *number)?;
+        }
+    }
+    Ok(())
+}
+
+// Makes the row of the tableau by the rows of the program.
+fn make_by_rows(state: &mut State, program: &Program) -> Result<(), AllocError> {
+    let Room {
+        inverse_row,
+        row,
+        ..
+    } = &mut state.room;
+    for i in &inverse_row.places {
+        let number = at(&inverse_row.numbers, *i);
+        if number.abs() > NOTHING {
+            add_row(row, &state.idle, program.by_rows.line(*i), number)?;
+            let logical = [(program.logical(*i), -1.0)];
+            add_row(row, &state.idle, &logical, number)?;
+        }
+    }
+    Ok(())
+}
+
+// Makes the row of the tableau by the columns of the program.
+fn make_by_columns(state: &mut State, program: &Program) -> Result<(), AllocError> {
+    let Room {
+        inverse_row,
+        row,
+        ..
+    } = &mut state.room;
+    for (k, is_idle) in state.idle.iter().enumerate() {
+        if !*is_idle {
+            let number = if program.is_logical(k) {
+                -at(&inverse_row.numbers, program.row_of(k))
+            } else {
+                product(&inverse_row.numbers, program.columns.line(k))
+            };
+            if number != 0.0 {
+                put_in(row, k, number)?;
+            }
         }
     }
     Ok(())
@@ -139,15 +178,10 @@ fn add_row(
 
 /// Makes the row of the tableau from that of the inverse.
 pub(crate) fn make_row(state: &mut State, program: &Program) -> Result<(), AllocError> {
-    clear_row(&mut state.room);
-    for i in 0..program.rows {
-        let number = at(&state.room.inverse_row, i);
-        if number.abs() > NOTHING {
-            let line = program.by_rows.line(i);
-            add_row(&mut state.room, &state.status, line, number)?;
-            let logical = [(program.logical(i), -1.0)];
-            add_row(&mut state.room, &state.status, &logical, number)?;
-        }
+    state.room.row.clear();
+    if is_dense(&state.room.inverse_row, DENSE) {
+        make_by_columns(state, program)
+    } else {
+        make_by_rows(state, program)
     }
-    Ok(())
 }

@@ -168,9 +168,9 @@ fn first_phase(
     settle_all(state);
     let _ = run_dual(alloc, state, program, effort)?;
     put_bounds(state, program);
+    reduce(state, program)?;
     settle_all(state);
-    evaluate(state, program);
-    Ok(())
+    evaluate(state, program)
 }
 
 // Begins with costs moved apart, and a basis whose reduced costs are right if one is found.
@@ -181,9 +181,9 @@ fn begin(
     effort: u64,
 ) -> Result<(), AllocError> {
     perturb(state, program, 0);
-    reduce(state, program);
+    reduce(state, program)?;
     settle_all(state);
-    evaluate(state, program);
+    evaluate(state, program)?;
     if state.most_wrong() > state.limits.dual {
         first_phase(alloc, state, program, effort)?;
     }
@@ -214,7 +214,7 @@ fn finish(
     effort: u64,
 ) -> Result<Option<Kind>, AllocError> {
     copy(&mut state.cost, &program.cost);
-    reduce(state, program);
+    reduce(state, program)?;
     if is_feasible && state.most_wrong() <= state.limits.dual {
         return Ok(Some(Kind::Optimal));
     }

@@ -2,6 +2,7 @@
 use crate::basis::{Basis, NOWHERE, basis_of};
 use crate::number::{at, index_at, put};
 use crate::program::Program;
+use lp_sparse::Sparse;
 use spec_pivot::Status;
 use std::alloc::{AllocError, Global};
 
@@ -13,6 +14,8 @@ pub(crate) struct State {
     pub(crate) value: Vec<f64>,
     pub(crate) reduced: Vec<f64>,
     pub(crate) status: Vec<Status>,
+    /// Whether a column never enters: it is basic, or its bounds are the same.
+    pub(crate) idle: Vec<bool>,
     pub(crate) basis: Basis,
     /// The weights of the dual method, by position, and those of the primal one, by column.
     pub(crate) weight: Vec<f64>,
@@ -25,20 +28,19 @@ pub(crate) struct State {
 /// Room for the steps of a run.
 pub(crate) struct Room {
     /// By row: the row of the inverse at the leaving position.
-    pub(crate) inverse_row: Vec<f64>,
-    /// By column: the row of the tableau at the leaving position, and which columns are not 0 there.
-    pub(crate) row: Vec<f64>,
-    pub(crate) touched: Vec<usize>,
+    pub(crate) inverse_row: Sparse<f64>,
+    /// By column: the row of the tableau at the leaving position, without the columns that never enter.
+    pub(crate) row: Sparse<f64>,
     /// By position: the square of how far the value is outside, 0 where that is within the tolerance.
     pub(crate) outside: Vec<f64>,
     /// By position: the entering column, solved, and another solution.
-    pub(crate) column: Vec<f64>,
-    pub(crate) other: Vec<f64>,
+    pub(crate) column: Sparse<f64>,
+    pub(crate) other: Sparse<f64>,
     /// Right sides by row and by position.
-    pub(crate) by_row: Vec<f64>,
-    pub(crate) by_place: Vec<f64>,
+    pub(crate) by_row: Sparse<f64>,
+    pub(crate) by_place: Sparse<f64>,
     /// By row: multipliers.
-    pub(crate) multiplier: Vec<f64>,
+    pub(crate) multiplier: Sparse<f64>,
 }
 
 /// How far values may be outside of their bounds, and reduced costs on the wrong side of 0.
@@ -53,7 +55,6 @@ impl Drop for Room {
         let Room {
             inverse_row,
             row,
-            touched,
             outside,
             column,
             other,
@@ -63,7 +64,6 @@ impl Drop for Room {
         } = self;
         drop(inverse_row);
         drop(row);
-        drop(touched);
         drop(outside);
         drop(column);
         drop(other);
@@ -82,6 +82,7 @@ impl Drop for State {
             value,
             reduced,
             status,
+            idle,
             basis,
             weight,
             reference,
@@ -95,6 +96,7 @@ impl Drop for State {
         drop(value);
         drop(reduced);
         drop(status);
+        drop(idle);
         drop(basis);
         drop(weight);
         drop(reference);
@@ -169,15 +171,14 @@ pub(crate) fn resting(wanted: Status, lower: f64, upper: f64) -> Status {
 fn room_for(alloc: Global, program: &Program) -> Result<Room, AllocError> {
     let rows = program.rows;
     Ok(Room {
-        inverse_row: Vec::from_elem(alloc, 0.0, rows)?,
-        row: Vec::from_elem(alloc, 0.0, program.len())?,
-        touched: Vec::new(alloc),
+        inverse_row: Sparse::new(alloc, rows)?,
+        row: Sparse::new(alloc, program.len())?,
         outside: Vec::from_elem(alloc, 0.0, rows)?,
-        column: Vec::from_elem(alloc, 0.0, rows)?,
-        other: Vec::from_elem(alloc, 0.0, rows)?,
-        by_row: Vec::from_elem(alloc, 0.0, rows)?,
-        by_place: Vec::from_elem(alloc, 0.0, rows)?,
-        multiplier: Vec::from_elem(alloc, 0.0, rows)?,
+        column: Sparse::new(alloc, rows)?,
+        other: Sparse::new(alloc, rows)?,
+        by_row: Sparse::new(alloc, rows)?,
+        by_place: Sparse::new(alloc, rows)?,
+        multiplier: Sparse::new(alloc, rows)?,
     })
 }
 
@@ -205,6 +206,7 @@ pub(crate) fn state_at(
         value: Vec::from_elem(alloc, 0.0, program.len())?,
         reduced: Vec::from_elem(alloc, 0.0, program.len())?,
         status: statuses(alloc, program, start)?,
+        idle: Vec::from_elem(alloc, false, program.len())?,
         basis: basis_of(alloc, program, head)?,
         weight: Vec::from_elem(alloc, 1.0, program.rows)?,
         reference: Vec::from_elem(alloc, 1.0, program.len())?,
@@ -265,6 +267,15 @@ impl State {
         put(&mut self.room.outside, place, square);
     }
 
+    /// Notes whether a column never enters.
+    pub(crate) fn note_idle(&mut self, k: usize) {
+        let is_fixed = at(&self.lower, k) == at(&self.upper, k);
+        let is_idle = is_fixed || self.is_basic(k);
+        if let Some(idle) = self.idle.get_mut(k) {
+            *idle = is_idle;
+        }
+    }
+
     /// How far apart the bounds of a column are.
     #[inline(always)]
     pub(crate) fn range(&self, k: usize) -> f64 {
@@ -321,6 +332,7 @@ fn mark_basic(state: &mut State) {
             let wanted = status_at(&state.status, k);
             state.settle(k, wanted);
         }
+        state.note_idle(k);
     }
 }
 

@@ -1,0 +1,92 @@
+// Numbers most of which are 0.
+use crate::number::{add_at, at, put};
+use lp_sparse::Sparse;
+use std::alloc::AllocError;
+
+// What stands for 0 at a place that is noted.
+const TRACE: f64 = 1e-100;
+
+// A sum that may be 0.
+#[inline(always)]
+fn unless_zero(sum: f64) -> f64 {
+    if sum == 0.0 { TRACE } else { sum }
+}
+
+/// Adds to the number at `k`, and notes its place.
+#[inline(always)]
+pub(crate) fn add_to(list: &mut Sparse<f64>, k: usize, more: f64) -> Result<(), AllocError> {
+    let before = at(&list.numbers, k);
+    if before == 0.0 && !list.is_full() {
+        list.places.push(k)?;
+    }
+    put(&mut list.numbers, k, unless_zero(before + more));
+    Ok(())
+}
+
+/// Puts a number at `k`, and notes its place.
+#[inline(always)]
+pub(crate) fn put_in(list: &mut Sparse<f64>, k: usize, number: f64) -> Result<(), AllocError> {
+    if at(&list.numbers, k) == 0.0 && !list.is_full() {
+        list.places.push(k)?;
+    }
+    put(&mut list.numbers, k, unless_zero(number));
+    Ok(())
+}
+
+// Adds a multiple of a sparse line, of which all places are noted.
+#[inline(always)]
+fn add_noted(list: &mut [f64], line: &[(usize, f64)], times: f64) {
+    for (k, number) in line {
+        add_at(list, *k, times * *number);
+    }
+}
+
+/// Adds a multiple of a sparse line.
+#[inline(always)]
+pub(crate) fn add_line(
+    list: &mut Sparse<f64>,
+    line: &[(usize, f64)],
+    times: f64,
+) -> Result<(), AllocError> {
+    if list.is_full() {
+        add_noted(&mut list.numbers, line, times);
+        return Ok(());
+    }
+    for (k, number) in line {
+        add_to(list, *k, times * *number)?;
+    }
+    Ok(())
+}
+
+/// Copies numbers.
+pub(crate) fn copy_to(list: &mut Sparse<f64>, from: &Sparse<f64>) -> Result<(), AllocError> {
+    list.clear();
+    for k in &from.places {
+        let number = at(&from.numbers, *k);
+        if number != 0.0 {
+            put_in(list, *k, number)?;
+        }
+    }
+    Ok(())
+}
+
+/// Whether more than one number in so many is not 0.
+pub(crate) fn is_dense(list: &Sparse<f64>, part: usize) -> bool {
+    let mut count = 0usize;
+    for k in &list.places {
+        if at(&list.numbers, *k) != 0.0 {
+            count = count.wrapping_add(1);
+        }
+    }
+    count.saturating_mul(part) > list.numbers.len()
+}
+
+/// The sum of squares.
+pub(crate) fn square(list: &Sparse<f64>) -> f64 {
+    let mut sum = 0.0;
+    for k in &list.places {
+        let number = at(&list.numbers, *k);
+        sum += number * number;
+    }
+    sum
+}
