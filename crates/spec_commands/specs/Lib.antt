@@ -8,6 +8,7 @@ pub mod BasisWideOut
 pub mod PresolveOut
 pub mod IisOut
 pub mod RangeOut
+pub mod RangesOut
 pub mod TextOut
 pub mod Draws
 pub mod Generated

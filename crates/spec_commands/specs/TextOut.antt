@@ -3,12 +3,13 @@
 use Rattle.std.specs.Prelude.{ℕ, Option, List}
 use Rattle.spec_text.specs.declared.line.Line.{Line}
 use Rattle.spec_mps.specs.declared.style.Style.{Style}
-use Rattle.spec_program.specs.declared.command_line.TextCommand.TheVariants.{Solve, SolveWide, Check, CheckWide, Basis, BasisWide, Presolve, Iis, Range}
+use Rattle.spec_program.specs.declared.command_line.TextCommand.TheVariants.{Solve, SolveWide, Check, CheckWide, Basis, BasisWide, Presolve, Iis, Range, RangeAll}
 use Rattle.spec_program.specs.CommandLine.{ExactTextCommand}
 use Rattle.spec_program.specs.TextLimits.{limits_of}
 use Rattle.spec_commands.specs.PresolveOut.{PresolveOut, presolve_code}
 use Rattle.spec_commands.specs.IisOut.{IisOut, iis_code}
 use Rattle.spec_commands.specs.RangeOut.{RangeOut, range_code}
+use Rattle.spec_commands.specs.RangesOut.{RangesOut}
 use Rattle.spec_server.specs.Machine.{ExactReply}
 use Rattle.spec_commands.specs.CheckOut.{said, CheckOut, check_code}
 use Rattle.spec_commands.specs.CheckWideOut.{wide_said, WideCheckOut}
@@ -29,6 +30,7 @@ SaidBy BasisWide = BasisSaid
 SaidBy Presolve = TextSaid
 SaidBy Iis = TextSaid
 SaidBy (Range moved name) = TextSaid
+SaidBy RangeAll = TextSaid
 
 -- by the lines of the input; nothing where more are needed
 abbrev pub said_of : (command : ExactTextCommand) → Style → List (Line (List ℕ)) → Option (SaidBy command)
@@ -41,6 +43,7 @@ said_of BasisWide style lines = basis_said (limits_of BasisWide) style lines
 said_of Presolve style lines = text_said style lines
 said_of Iis style lines = text_said style lines
 said_of (Range moved name) style lines = text_said style lines
+said_of RangeAll style lines = text_said style lines
 
 -- what may be written of it
 abbrev pub MayWrite : (command : ExactTextCommand) → SaidBy command → List ℕ → Type 0
@@ -53,6 +56,7 @@ MayWrite BasisWide what written = BasisWideOut what written
 MayWrite Presolve what written = PresolveOut what written
 MayWrite Iis what written = IisOut what written
 MayWrite (Range moved name) what written = RangeOut moved name what written
+MayWrite RangeAll what written = RangesOut what written
 
 -- the status of it
 abbrev pub code_of : (command : ExactTextCommand) → SaidBy command → ℕ
@@ -65,3 +69,4 @@ code_of BasisWide what = basis_code what
 code_of Presolve what = presolve_code what
 code_of Iis what = iis_code what
 code_of (Range moved name) what = range_code moved name what
+code_of RangeAll what = solve_code what

@@ -12,6 +12,7 @@
 //! | `BasisWideOut` | what it writes where the numbers of its answer may have any width | specs/BasisWideOut |
 //! | `BasisFault` | why it has no model to solve | src/basis |
 //! | `RangeOut` | what the command `range` writes of a text | specs/RangeOut |
+//! | `RangesOut` | what the command `range all` writes of a text | specs/RangesOut |
 //! | `PresolveOut` | what the command `presolve` writes of a text | specs/PresolveOut |
 //! | `IisOut` | what the command `iis` writes of a text | specs/IisOut |
 //! | `next`, `draw`, `draws` | the states of a generator of numbers, and what is drawn | specs/Draws |

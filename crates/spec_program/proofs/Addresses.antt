@@ -24,7 +24,7 @@ IsNoServer (Serve workers each places) = ⊥
 asked : (row : Row) (words : List Word) (command : ExactLine) →
     ((given : Given) → row.asks given ≡ Some command → IsNoServer command) → asked_by words row ≡ Some command →
     IsNoServer command
-asked row words command none e = by (given_in row.plain row.names row.switches words) e
+asked row words command none e = by (given_in (row.plain words) row.names row.switches words) e
   where
     by : (given : Option Given) → option_and_then row.asks given ≡ Some command → IsNoServer command
     by None h = absurd (none_is_not command h)

@@ -14,12 +14,12 @@ use Rattle.spec_program.specs.CommandLine.{Word, ExactLine, ExactTextCommand, Gi
 use Rattle.spec_program.specs.CommandLine.{places_given, links_of, links_given, seed_of, row_count_of, column_count_of}
 use Rattle.spec_program.specs.CommandLine.{Options, Row, is_plain, run_by, run_row, text_row, generate_by}
 use Rattle.spec_program.specs.CommandLine.{generate_with, generate_row, serve_by, serve_with, serve_row, asked_by}
-use Rattle.spec_program.specs.CommandLine.{moved_of, name_of, range_by, range_with, range_row}
+use Rattle.spec_program.specs.CommandLine.{is_all, moved_of, name_of, range_by, range_with, range_row}
 use Rattle.spec_program.specs.CommandLine.{by_width, wide_row}
 use Rattle.spec_program.specs.CommandLine.{command_line_of}
 use Rattle.spec_program.specs.declared.command_line.CommandLine.TheVariants.{Run, Read, Generate, Serve}
 use Rattle.spec_program.specs.declared.command_line.Moved.{Moved}
-use Rattle.spec_program.specs.declared.command_line.TextCommand.TheVariants.{Solve, SolveWide, Check, CheckWide, Basis, BasisWide, Presolve, Iis, Range}
+use Rattle.spec_program.specs.declared.command_line.TextCommand.TheVariants.{Solve, SolveWide, Check, CheckWide, Basis, BasisWide, Presolve, Iis, Range, RangeAll}
 use Rattle.spec_server.specs.Shared.{IsWorkers, IsPlaces}
 use Rattle.spec_program.specs.Fits.{IsLinks, Fits}
 
@@ -80,7 +80,7 @@ columns-within word n e = (number-within 512 3 word n e).1
 row-fits : (row : Row) (words : List Word) (command : ExactLine) →
     ((given : Given) → row.asks given ≡ Some command → Fits command) → asked_by words row ≡ Some command →
     Fits command
-row-fits row words command fits e = by (given_in row.plain row.names row.switches words) e
+row-fits row words command fits e = by (given_in (row.plain words) row.names row.switches words) e
   where
     by : (given : Option Given) → option_and_then row.asks given ≡ Some command → Fits command
     by None h = absurd (none_is_not command h)
@@ -129,7 +129,12 @@ range_by-fits (Some w) (Some n) style command e = read-fits (Range w n) style co
 range_with-fits : (words : List Word) (options : Options) (command : ExactLine) →
     range_with words options ≡ Some command → Fits command
 range_with-fits [] options command e = absurd (none_is_not command e)
-range_with-fits (what ∷ []) options command e = absurd (none_is_not command e)
+range_with-fits (what ∷ []) options command e =
+    by (is_all what) (form_given (look_up (codes "--form") options)) e
+  where
+    by : (t : Bool) (style : Option Style) → cond t (option_map (Read RangeAll) style) None ≡ Some command → Fits command
+    by true style h = read-fits RangeAll style command h
+    by false style h = absurd (none_is_not command h)
 range_with-fits (what ∷ name ∷ []) options command e =
     range_by-fits (moved_of what) (name_of name) (form_given (look_up (codes "--form") options)) command e
 range_with-fits (what ∷ name ∷ word ∷ words) options command e = absurd (none_is_not command e)

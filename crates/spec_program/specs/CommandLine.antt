@@ -13,7 +13,7 @@ use Rattle.spec_program.specs.declared.command_line.CommandLine.TheVariants.{Run
 use Rattle.spec_program.specs.declared.command_line.Moved.{Moved}
 use Rattle.spec_program.specs.declared.command_line.Moved.TheVariants.{Cost, RightSide}
 use Rattle.spec_program.specs.declared.command_line.TextCommand.{TextCommand}
-use Rattle.spec_program.specs.declared.command_line.TextCommand.TheVariants.{Solve, SolveWide, Check, CheckWide, Basis, BasisWide, Presolve, Iis, Range}
+use Rattle.spec_program.specs.declared.command_line.TextCommand.TheVariants.{Solve, SolveWide, Check, CheckWide, Basis, BasisWide, Presolve, Iis, Range, RangeAll}
 use Rattle.spec_server.specs.Command.{number_to}
 
 abbrev pub Word : Type 0
@@ -137,10 +137,10 @@ row_count_of word = number_to 256 3 word
 unfoldable pub column_count_of : Word → Option ℕ
 column_count_of word = number_to 512 3 word
 
--- a command: how many plain words it has, the names of its options, which of these are switches, and what it asks with
--- all of them
+-- a command: how many of the words behind its own are plain ones, the names of its options, which of these are switches, and
+-- what it asks with all of them
 pub record Row : Type 0 where
-  pub plain : ℕ
+  pub plain : List Word → ℕ
   pub names : OptionNames
   pub switches : OptionNames
   pub asks : Given → Option ExactLine
@@ -150,7 +150,7 @@ run_by workers places = option_and_then (λ k. option_map (Run k) places) worker
 
 abbrev pub run_row : Row
 run_row = record {
-  plain = 0;
+  plain = λ words. 0;
   names = codes "--workers" ∷ codes "--places" ∷ [];
   switches = [];
   asks = λ given. run_by (workers_given (look_up (codes "--workers") given.options))
@@ -159,7 +159,7 @@ run_row = record {
 
 abbrev pub text_row : ExactTextCommand → Row
 text_row command = record {
-  plain = 0;
+  plain = λ words. 0;
   names = codes "--form" ∷ [];
   switches = [];
   asks = λ given. option_map (Read command) (form_given (look_up (codes "--form") given.options));
@@ -172,7 +172,7 @@ by_width narrow wide (Some given) = wide
 
 abbrev pub wide_row : ExactTextCommand → ExactTextCommand → Row
 wide_row narrow wide = record {
-  plain = 0;
+  plain = λ words. 0;
   names = codes "--form" ∷ codes "--wide" ∷ [];
   switches = codes "--wide" ∷ [];
   asks = λ given. option_map (Read (by_width narrow wide (look_up (codes "--wide") given.options)))
@@ -190,15 +190,26 @@ abbrev pub range_by : Option Moved → Option Word → Option Style → Option E
 range_by moved name style =
     option_and_then (λ w. option_and_then (λ n. option_map (Read (Range w n)) style) name) moved
 
--- which number, the name of its column or row, and the form
+-- the word for all numbers
+abbrev pub is_all : Word → Bool
+is_all word = same word (codes "all")
+
+-- it stands alone, and another one with a name
+abbrev pub range_plain : List Word → ℕ
+range_plain [] = 2
+range_plain (what ∷ words) = if is_all what then 1 else 2
+
+-- all numbers, or which and the name of its column or row; and the form
 abbrev pub range_with : List Word → Options → Option ExactLine
+range_with (what ∷ []) options =
+    if is_all what then option_map (Read RangeAll) (form_given (look_up (codes "--form") options)) else None
 range_with (what ∷ name ∷ []) options =
     range_by (moved_of what) (name_of name) (form_given (look_up (codes "--form") options))
 range_with words options = None
 
 abbrev pub range_row : Row
 range_row = record {
-  plain = 2;
+  plain = range_plain;
   names = codes "--form" ∷ [];
   switches = [];
   asks = λ given. range_with given.plain given.options;
@@ -214,7 +225,7 @@ generate_with (seed ∷ rows ∷ columns ∷ []) = generate_by (seed_of seed) (r
 generate_with words = None
 
 abbrev pub generate_row : Row
-generate_row = record { plain = 3; names = []; switches = []; asks = λ given. generate_with given.plain }
+generate_row = record { plain = λ words. 3; names = []; switches = []; asks = λ given. generate_with given.plain }
 
 abbrev pub serve_by : Option ℕ → Option ℕ → Option ℕ → Option ExactLine
 serve_by workers each places =
@@ -231,7 +242,7 @@ serve_with words options = None
 
 abbrev pub serve_row : Row
 serve_row = record {
-  plain = 1;
+  plain = λ words. 1;
   names = codes "--workers" ∷ codes "--each" ∷ codes "--places" ∷ [];
   switches = [];
   asks = λ given. serve_with given.plain given.options;
@@ -252,7 +263,7 @@ commands =
 
 -- what the words after a command's word ask
 abbrev pub asked_by : List Word → Row → Option ExactLine
-asked_by words row = option_and_then row.asks (given_in row.plain row.names row.switches words)
+asked_by words row = option_and_then row.asks (given_in (row.plain words) row.names row.switches words)
 
 -- what the words after the program's name ask
 unfoldable pub command_line_of : List Word → Option ExactLine

@@ -4,7 +4,7 @@ use denote.Ref.{Bor}
 use Rattle.spec_program.specs.declared.command_line.CommandLine.{CommandLine}
 use Rattle.spec_program.specs.declared.command_line.CommandLine.TheVariants.{Run, Read, Generate, Serve}
 use Rattle.spec_program.specs.declared.command_line.TextCommand.{TextCommand}
-use Rattle.spec_program.specs.declared.command_line.TextCommand.TheVariants.{Solve, SolveWide, Check, CheckWide, Basis, BasisWide, Presolve, Iis, Range}
+use Rattle.spec_program.specs.declared.command_line.TextCommand.TheVariants.{Solve, SolveWide, Check, CheckWide, Basis, BasisWide, Presolve, Iis, Range, RangeAll}
 use Rattle.spec_program.specs.CommandLine.{ExactLine, ExactTextCommand}
 
 abbrev pub spelled_text : TextCommand (Bor (List ℕ)) → ExactTextCommand
@@ -17,6 +17,7 @@ spelled_text BasisWide = BasisWide
 spelled_text Presolve = Presolve
 spelled_text Iis = Iis
 spelled_text (Range moved name) = Range moved name.now
+spelled_text RangeAll = RangeAll
 
 abbrev pub spelled : CommandLine (Bor (List ℕ)) → ExactLine
 spelled (Run workers places) = Run workers places

@@ -31,6 +31,8 @@ pub enum TextCommand<N> {
     Iis,
     /// To solve the model, and to range this number of the column or row with this name.
     Range { moved: Moved, name: N },
+    /// To solve the model, and to range each of its costs and right sides.
+    RangeAll,
 }
 
 /// What the words of a command line ask.
