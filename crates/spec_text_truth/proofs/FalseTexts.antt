@@ -13,12 +13,12 @@ use Rattle.spec_mps.specs.NumberText.{Is, number_of, parts_of, number_by, unsign
 use Rattle.spec_mps.specs.Steps.{Verdict, Spelled, Refused, Spells}
 use Rattle.spec_program.specs.declared.command_line.Moved.TheVariants.{RightSide}
 use Rattle.spec_program.specs.declared.command_line.CommandLine.TheVariants.{Read}
-use Rattle.spec_program.specs.declared.command_line.TextCommand.TheVariants.{Solve, Range}
+use Rattle.spec_program.specs.declared.command_line.TextCommand.TheVariants.{Solve, Range, RangeAll}
 use Rattle.spec_commands.specs.RangeOut.{place_by}
 use Rattle.spec_server.specs.Output.{ended_lines}
 use Rattle.spec_text_truth.specs.SaidRange.{with_number, SaysEnd}
 use Rattle.spec_text_truth.specs.TrueOutput.{IsModelOf, IsTrueRange, IsTrueOf}
-use Rattle.spec_text_truth.specs.FalseOutputs.{unended_text, ended_text, too_wide_range}
+use Rattle.spec_text_truth.specs.FalseOutputs.{unended_text, ended_text, too_wide_range, too_wide_ranges}
 use Rattle.spec_text_truth.proofs.PlainText.{tested_no_feed}
 use Rattle.spec_text_truth.proofs.ComputedExamples.{model_with, ended_is, cut_is}
 use Rattle.spec_text_truth.proofs.RangedTexts.{printed_has_no}
@@ -85,6 +85,16 @@ wide_range_refuted after behind h =
     let said =
     h.1 (codes "5") (codes "NONE") (codes "NONE") (codes "0") behind (tested_no_feed (codes "5") refl)
     (printed_has_no 32 (omega arith) (codes "NONENONE") refl) (tested_no_feed (codes "0") refl) refl in
+    range_refuted said.0 (spelled_is after said.0 said.1) said.2
+
+pub wide_ranges_refuted : (after : Option (List ℕ)) (behind : List ℕ) →
+    IsTrueOf (Read RangeAll style.Free) after ended_text (too_wide_ranges ++ behind) → ⊥
+unfolding ended_lines
+wide_ranges_refuted after behind h =
+    let said =
+    h.1 RightSide (codes "5") (codes "ROW") (codes "NONE") (codes "NONE") (codes "0") behind
+    (codes "rhs ROW RANGE 0 NONE SLOPE 0" ∷ []) (tested_no_feed (codes "5") refl)
+    (printed_has_no 32 (omega arith) (codes "ROWNONENONE") refl) (tested_no_feed (codes "0") refl) refl in
     range_refuted said.0 (spelled_is after said.0 said.1) said.2
 
 -- ---- a text that is not all read

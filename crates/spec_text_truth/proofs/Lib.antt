@@ -14,6 +14,7 @@ pub mod WideLines
 pub mod RangedTexts
 pub mod PresolvedTexts
 pub mod SidesTexts
+pub mod RangesTexts
 pub mod ReadLines
 pub mod TrueLines
 pub mod TrueTexts

@@ -123,35 +123,43 @@ behind_word x y e = cc
 behind_slope : (x y : List ℕ) → codes "SLOPE " ++ x ≡ codes "SLOPE " ++ y → x ≡ y
 behind_slope x y e = cc
 
-line_said : (r : Range ℚ) (low high slope behind : List ℕ) → NarrowRange r → HasNo 32 low → HasNo 32 high → HasNo 10 slope →
-    range_line r ≡ line_with low high slope behind → SaysNumbers r low high slope
-unfolding range_line
-line_said r low high slope behind n in_low in_high in_slope e =
+-- behind the line of a range, whatever stands behind that
+pub texts_said : (r : Range ℚ) (low high slope more behind : List ℕ) → NarrowRange r → HasNo 32 low → HasNo 32 high →
+    HasNo 10 slope →
+    line_with (end_text r.ends.low) (end_text r.ends.high) (number_text r.slope) more ≡ line_with low high slope behind →
+    SaysNumbers r low high slope
+texts_said r low high slope more behind n in_low in_high in_slope e =
     let numbers =
-    behind_word (numbers_with (end_text r.ends.low) (end_text r.ends.high) (number_text r.slope) [])
+    behind_word (numbers_with (end_text r.ends.low) (end_text r.ends.high) (number_text r.slope) more)
     (numbers_with low high slope behind) e
     in
     let one =
     cut_at 32 (end_text r.ends.low) low
-    (end_text r.ends.high ++ 32 ∷ (codes "SLOPE " ++ (number_text r.slope ++ 10 ∷ [])))
+    (end_text r.ends.high ++ 32 ∷ (codes "SLOPE " ++ (number_text r.slope ++ 10 ∷ more)))
     (high ++ 32 ∷ (codes "SLOPE " ++ (slope ++ 10 ∷ behind)))
     (end_has_no 32 (omega arith) r.ends.low n.ends.low) in_low
-    (sym (grouped (end_text r.ends.low) (end_text r.ends.high) (number_text r.slope) []) ∙ numbers
+    (sym (grouped (end_text r.ends.low) (end_text r.ends.high) (number_text r.slope) more) ∙ numbers
     ∙ grouped low high slope behind)
     in
     let two =
-    cut_at 32 (end_text r.ends.high) high (codes "SLOPE " ++ (number_text r.slope ++ 10 ∷ []))
+    cut_at 32 (end_text r.ends.high) high (codes "SLOPE " ++ (number_text r.slope ++ 10 ∷ more))
     (codes "SLOPE " ++ (slope ++ 10 ∷ behind)) (end_has_no 32 (omega arith) r.ends.high n.ends.high) in_high one.1
     in
     let three =
-    cut_at 10 (number_text r.slope) slope [] behind (number_has_no 10 (omega arith) r.slope n.slope) in_slope
-    (behind_slope (number_text r.slope ++ 10 ∷ []) (slope ++ 10 ∷ behind) two.1)
+    cut_at 10 (number_text r.slope) slope more behind (number_has_no 10 (omega arith) r.slope n.slope) in_slope
+    (behind_slope (number_text r.slope ++ 10 ∷ more) (slope ++ 10 ∷ behind) two.1)
     in
     record {
       says_low = end_said r.ends.low low n.ends.low one.0;
       says_high = end_said r.ends.high high n.ends.high two.0;
       says_slope = ap number_of (sym three.0) ∙ read_back r.slope n.slope;
     }
+
+line_said : (r : Range ℚ) (low high slope behind : List ℕ) → NarrowRange r → HasNo 32 low → HasNo 32 high → HasNo 10 slope →
+    range_line r ≡ line_with low high slope behind → SaysNumbers r low high slope
+unfolding range_line
+line_said r low high slope behind n in_low in_high in_slope e =
+    texts_said r low high slope [] behind n in_low in_high in_slope e
 
 -- the line of a refused operation begins with the letter P
 past_first : (p : Past ℚ) → first (check_line (reply.Answered (answer.Past p))) ≡ 80
@@ -161,7 +169,7 @@ past_first p = refl
 -- ---- the range
 
 -- what a range at the limit is: narrow, and the whole span
-range_is : (moved : Moved) (name : Name) (m : Model) (f : Form) (basis : List Status) (at : ℕ) (v : ℚ) (r : Range ℚ) →
+pub range_is : (moved : Moved) (name : Name) (m : Model) (f : Form) (basis : List Status) (at : ℕ) (v : ℚ) (r : Range ℚ) →
     IsNarrowModel m → place_by moved m name ≡ Some at → form_of (Some number_limit) m ≡ Ok f → Keeps m basis →
     IsOptimal m v → range_of moved (Some number_limit) m f basis at ≡ Ok r →
     NarrowRange r × IsRange (with_number moved m at) basis (number_at moved m at) v r

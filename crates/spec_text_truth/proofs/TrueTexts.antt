@@ -27,12 +27,13 @@ use Rattle.spec_presolve.specs.declared.presolved.Way.{Way}
 use Rattle.spec_presolve.specs.declared.presolved.Way.TheVariants.{Reduced, Plain}
 use Rattle.spec_program.specs.declared.command_line.Moved.{Moved}
 use Rattle.spec_program.specs.declared.command_line.TextCommand.TheVariants.{Solve, SolveWide, Check, CheckWide, Basis, BasisWide}
-use Rattle.spec_program.specs.declared.command_line.TextCommand.TheVariants.{Presolve, Iis, Range}
+use Rattle.spec_program.specs.declared.command_line.TextCommand.TheVariants.{Presolve, Iis, Range, RangeAll}
 use Rattle.spec_program.specs.CommandLine.{ExactTextCommand}
 use Rattle.spec_program.specs.TextLimits.{limits_of}
 use Rattle.spec_commands.specs.IisOut.{IisOut}
 use Rattle.spec_commands.specs.PresolveOut.{way_line, PresolveOut}
 use Rattle.spec_commands.specs.RangeOut.{RangeOut}
+use Rattle.spec_commands.specs.RangesOut.{RangesOut}
 use Rattle.spec_commands.specs.TextOut.{SaidBy, said_of, MayWrite}
 use Rattle.spec_server.specs.declared.asks.Refusal.TheVariants as refusal
 use Rattle.spec_server.specs.declared.asks.Reply.TheVariants as reply
@@ -51,7 +52,7 @@ use Rattle.spec_text_truth.specs.Certified.{IsCertifiedBy}
 use Rattle.spec_text_truth.specs.SaidRange.{SaysRange}
 use Rattle.spec_text_truth.specs.SaidSides.{SaysSides}
 use Rattle.spec_text_truth.specs.TrueOutput.{HasNoFeed, IsNumber, IsWideNumber, IsTrueLine, BehindYes, OfFirst, OfFirstTwo}
-use Rattle.spec_text_truth.specs.TrueOutput.{IsTrueRange, SaysTrueRange, AreTrueSides, SaysTrueSides, IsTrueOfText, IsModelOf}
+use Rattle.spec_text_truth.specs.TrueOutput.{IsTrueRange, SaysTrueRange, SaysTrueRanges, AreTrueSides, SaysTrueSides, IsTrueOfText, IsModelOf}
 use Rattle.spec_truth.proofs.Shown.{IsShown}
 use Rattle.spec_text_truth.proofs.TextLemmas.{said_spelled}
 use Rattle.spec_truth.proofs.AnswerLines.{same_line, first, apart}
@@ -69,6 +70,7 @@ use Rattle.spec_text_truth.proofs.CertifiedTexts.{certified, wide_yes_is}
 use Rattle.spec_text_truth.proofs.WideLines.{valued_or_same}
 use Rattle.spec_text_truth.proofs.PresolvedTexts.{out_answered}
 use Rattle.spec_text_truth.proofs.SidesTexts.{iis_optimal, iis_infeasible, iis_unbounded, iis_sides}
+use Rattle.spec_text_truth.proofs.RangesTexts.{ranges_optimal, ranges_infeasible, ranges_unbounded, ranges_range}
 use Rattle.spec_text_truth.proofs.RangedTexts.{ranged_optimal, ranged_infeasible, ranged_unbounded, ranged_range}
 
 -- the line of a fault begins with the letter E
@@ -323,6 +325,29 @@ module _ (style : Style) (lines : Lines) (IsOf : Model → Type 0) (is_of : (m :
         absurd (apart 69 79 refl (sym (ap first out ∙ misspelled_first fault) ∙ ap first e)),
   )
 
+  ranges_true : (what : TextSaid) → text_said style lines ≡ Some what → RangesOut what written →
+      OfFirst (IsTrueLine IsOf IsNumber) written × SaysTrueRanges IsOf written
+  ranges_true (Ok m) is out =
+      let spells = said_spelled usual_limits style lines m is in (
+        begins_true IsOf written IsNumber m (is_of m spells) (ranges_optimal style lines m (Ok m) written is out spells)
+            (ranges_infeasible style lines m (Ok m) written is out spells)
+            (ranges_unbounded style lines m (Ok m) written is out spells),
+        λ moved value name low high slope behind before no_feed in_words in_slope e.
+            let words = both_parts (λ b. b ≢ 32) (name ++ low) high in_words in
+            let named = both_parts (λ b. b ≢ 32) name low words.0 in (
+              m,
+              is_of m spells,
+              range_true moved name m value low high slope
+                  (ranges_range style lines m (Ok m) written is out spells moved value name low high slope behind before no_feed
+                  named.0 named.1 words.1 in_slope e),
+            ),
+      )
+  ranges_true (Err fault) is out = (
+    misspelled_true IsOf written IsNumber fault out,
+    λ moved value name low high slope behind before no_feed in_words in_slope e.
+        absurd (apart 69 79 refl (sym (ap first out ∙ misspelled_first fault) ∙ ap first e)),
+  )
+
 -- large models, and numbers of any width
 module _ (style : Style) (lines : Lines) (IsOf : Model → Type 0)
     (is_of : (m : Model) → SpellsWithin large_limits style lines m → IsOf m) (written : List ℕ) where
@@ -396,6 +421,7 @@ text_true Presolve style lines IsOf is_of written what is out = presolve_true st
 text_true Iis style lines IsOf is_of written what is out = iis_true style lines IsOf is_of written what is out
 text_true (Range moved name) style lines IsOf is_of written what is out =
     ranged_true style lines IsOf is_of written moved name what is out
+text_true RangeAll style lines IsOf is_of written what is out = ranges_true style lines IsOf is_of written what is out
 
 -- what was said of the bytes that were read
 pub said_true : (command : ExactTextCommand) (style : Style) (after : Option (List ℕ)) (read written : List ℕ)
@@ -426,6 +452,10 @@ none_true Iis IsOf =
     (nothing_true (IsTrueLine IsOf IsNumber), λ count behind plain e. absurd (no_byte 73 _ e))
 none_true (Range moved name) IsOf =
     (nothing_true (IsTrueLine IsOf IsNumber), λ value low high slope behind a b c e. absurd (no_byte 79 _ e))
+none_true RangeAll IsOf = (
+  nothing_true (IsTrueLine IsOf IsNumber),
+  λ moved value name low high slope behind before a b c e. absurd (no_byte 79 _ e),
+)
 
 pub no_seed_true : (IsTrue : List ℕ → Type 0) → OfFirstTwo IsTrue []
 no_seed_true IsTrue = λ line behind plain e. absurd (no_line line behind e)

@@ -15,6 +15,11 @@ ended_text = unended_text ++ 10 ∷ []
 abbrev pub too_wide_range : List ℕ
 too_wide_range = ended_lines (codes "OPTIMAL 5" ∷ codes "RANGE NONE NONE SLOPE 0" ∷ [])
 
+-- the same in a list, behind the range that it has
+abbrev pub too_wide_ranges : List ℕ
+too_wide_ranges =
+    ended_lines (codes "OPTIMAL 5" ∷ codes "rhs ROW RANGE 0 NONE SLOPE 0" ∷ codes "rhs ROW RANGE NONE NONE SLOPE 0" ∷ [])
+
 -- what a link asks: to load the model and solve it, for the certificate, to make the value 6, and to solve again
 abbrev pub asked_twice : List ℕ
 asked_twice =

@@ -22,11 +22,12 @@ use Rattle.spec_iis.specs.Sides.{IsSide, MeetsAll}
 use Rattle.spec_program.specs.declared.command_line.CommandLine.TheVariants.{Run, Read, Generate, Serve}
 use Rattle.spec_program.specs.declared.command_line.Moved.{Moved}
 use Rattle.spec_program.specs.declared.command_line.TextCommand.TheVariants.{SolveWide, Check, CheckWide, BasisWide}
-use Rattle.spec_program.specs.declared.command_line.TextCommand.TheVariants.{Presolve, Iis, Range}
+use Rattle.spec_program.specs.declared.command_line.TextCommand.TheVariants.{Presolve, Iis, Range, RangeAll}
 use Rattle.spec_program.specs.CommandLine.{ExactLine, ExactTextCommand}
 use Rattle.spec_program.specs.TextLimits.{limits_of}
 use Rattle.spec_commands.specs.IisOut.{side_line}
 use Rattle.spec_commands.specs.RangeOut.{place_by}
+use Rattle.spec_commands.specs.RangesOut.{number_words}
 use Rattle.spec_server.specs.declared.addressing.Addressing.{Addressing}
 use Rattle.spec_server.specs.declared.addressing.Addressing.TheVariants.{Numbered}
 use Rattle.spec_server.specs.declared.command.Command.TheVariants as commands
@@ -95,6 +96,15 @@ SaysTrueRange moved name IsOf output =
     output ≡ codes "OPTIMAL " ++ value ++ 10 ∷ (codes "RANGE " ++ low ++ codes " " ++ high ++ codes " SLOPE " ++ slope ++ 10 ∷ behind) →
     (m : Model) × IsOf m × IsTrueRange moved name m value low high slope
 
+-- It is so of each line with a range, whatever lines stand between it and the first.
+abbrev pub SaysTrueRanges : (Model → Type 0) → List ℕ → Type 0
+SaysTrueRanges IsOf output =
+    (moved : Moved) (value name low high slope behind : List ℕ) (before : List (List ℕ)) →
+    HasNoFeed value → All (λ b. b ≢ 32) (name ++ low ++ high) → HasNoFeed slope →
+    output ≡ codes "OPTIMAL " ++ value ++ 10 ∷ (ended_lines before ++ number_words moved name
+    ++ (codes "RANGE " ++ low ++ codes " " ++ high ++ codes " SLOPE " ++ slope ++ 10 ∷ behind)) →
+    (m : Model) × IsOf m × IsTrueRange moved name m value low high slope
+
 -- So many limits of rows and bounds of columns are listed. No point meets them all, though each set of all but one is met.
 pub record AreTrueSides (m : Model) (count behind : List ℕ) : Type 0 where
   pub sides : List Side
@@ -120,6 +130,7 @@ IsTrueOfText Presolve IsOf output = OfFirstTwo (IsTrueLine IsOf IsNumber) output
 IsTrueOfText Iis IsOf output = OfFirst (IsTrueLine IsOf IsNumber) output × SaysTrueSides IsOf output
 IsTrueOfText (Range moved name) IsOf output =
     OfFirst (IsTrueLine IsOf IsNumber) output × SaysTrueRange moved name IsOf output
+IsTrueOfText RangeAll IsOf output = OfFirst (IsTrueLine IsOf IsNumber) output × SaysTrueRanges IsOf output
 IsTrueOfText command IsOf output = OfFirst (IsTrueLine IsOf IsNumber) output
 
 -- ---- what lines ask of sessions, as far as it changes their models

@@ -64,6 +64,7 @@ ghost use Rattle.spec_commands.specs.IisOut.{IisOut};
 ghost use Rattle.spec_presolve.specs.declared.presolved.Way.{Way};
 ghost use Rattle.spec_commands.specs.PresolveOut.{way_line, PresolveOut};
 ghost use Rattle.spec_commands.specs.RangeOut.{place_by, RangeOut};
+ghost use Rattle.spec_commands.specs.RangesOut.{number_words, RangesOut};
 ghost use Rattle.spec_program.specs.CommandLine.{ExactTextCommand};
 ghost use Rattle.spec_program.specs.TextLimits.{limits_of};
 ghost use Rattle.spec_commands.specs.TextOut.{SaidBy, said_of, MayWrite};
@@ -73,7 +74,7 @@ ghost use Rattle.spec_text_truth.specs.SaidRange.{SaysRange};
 ghost use Rattle.spec_text_truth.specs.SaidSides.{SaysSides};
 ghost use Rattle.spec_text_truth.specs.SpelledBasis.{BeginsWithText, AreHanded, HaveWrongFile};
 ghost use Rattle.spec_truth.specs.TrueAnswer.{IsTrueOf};
-ghost use Rattle.spec_text_truth.specs.FalseOutputs.{unended_text, ended_text, too_wide_range};
+ghost use Rattle.spec_text_truth.specs.FalseOutputs.{unended_text, ended_text, too_wide_range, too_wide_ranges};
 ghost use Rattle.spec_text_truth.specs.FalseOutputs.{asked_twice, answered_as_before, asked_widely, answered_widely};
 ghost use Rattle.spec_text_truth.specs.TrueOutput.{HasNoFeed, IsTrueOfText, IsModelOf, AreTrueReplies, IsTrueOf as is_true_of};
 ghost use Rattle.spec_mps.specs.declared.style.Style.TheVariants as form;
@@ -243,6 +244,33 @@ pub fn ranges_of_texts_are_true()
         SaysRange moved name m value low high slope }
 {}
 
+/// What `range all` writes of a text that spells a model is true of the model: the line of an answer and, after `OPTIMAL`
+/// alone, each line that says the range of a cost or right side, whatever lines stand between the two.
+pub fn all_ranges_of_texts_are_true()
+    ensures answer { (style : Style) (lines : List (Line (List ℕ))) (m : Model) (what : TextSaid) (written : List ℕ) →
+        text_said style lines ≡ Some what → RangesOut what written → Spells style lines m →
+        (answer : Answer ℚ) × (behind : List ℕ)
+        × (written ≡ reply_text (reply.Answered answer) ++ 10 ∷ behind) × IsTrueOf m answer }
+    ensures optimal { (style : Style) (lines : List (Line (List ℕ))) (m : Model) (what : TextSaid) (written : List ℕ) →
+        text_said style lines ≡ Some what → RangesOut what written → Spells style lines m →
+        (text behind : List ℕ) → All (λ b. b ≢ 10) text → written ≡ codes "OPTIMAL " ++ text ++ 10 ∷ behind →
+        (v : ℚ) × (number_of text ≡ Is v) × IsOptimal m v }
+    ensures infeasible { (style : Style) (lines : List (Line (List ℕ))) (m : Model) (what : TextSaid)
+        (written : List ℕ) → text_said style lines ≡ Some what → RangesOut what written → Spells style lines m →
+        (behind : List ℕ) → written ≡ codes "INFEASIBLE" ++ 10 ∷ behind → IsInfeasible m }
+    ensures unbounded { (style : Style) (lines : List (Line (List ℕ))) (m : Model) (what : TextSaid)
+        (written : List ℕ) → text_said style lines ≡ Some what → RangesOut what written → Spells style lines m →
+        (behind : List ℕ) → written ≡ codes "UNBOUNDED" ++ 10 ∷ behind → IsUnbounded m }
+    ensures range { (style : Style) (lines : List (Line (List ℕ))) (m : Model) (what : TextSaid) (written : List ℕ) →
+        text_said style lines ≡ Some what → RangesOut what written → Spells style lines m →
+        (moved : Moved) (value name low high slope behind : List ℕ) (before : List (List ℕ)) →
+        All (λ b. b ≢ 10) value → All (λ b. b ≢ 32) name → All (λ b. b ≢ 32) low → All (λ b. b ≢ 32) high →
+        All (λ b. b ≢ 10) slope →
+        written ≡ codes "OPTIMAL " ++ value ++ 10 ∷ (ended_lines before ++ number_words moved name
+        ++ (codes "RANGE " ++ low ++ codes " " ++ high ++ codes " SLOPE " ++ slope ++ 10 ∷ behind)) →
+        SaysRange moved name m value low high slope }
+{}
+
 /// What `iis` writes of a text that spells a model begins with the line of an answer, which is true of the model. Where a
 /// line `IIS n` follows, the n lines behind it are those of n single limits and bounds that no point meets together, though
 /// each set of all but one is met. The lines alone say it: they are those of no others.
@@ -383,7 +411,8 @@ pub fn outputs_of_sessions_are_true()
         AreTrueReplies addressing after read (flat_map (λ x. reply_lines addressing x.session x.reply) exchanges) }
 {}
 
-/// Outputs that are false are refuted, however they go on: a range in which the value of the optimum is not the stated one;
+/// Outputs that are false are refuted, however they go on: a range in which the value of the optimum is not the stated one,
+/// alone or behind another line;
 /// an answer to a text up to its last line feed but one byte, where another byte is left; and over a link an answer that was
 /// true before an edit, behind a certificate of which each line would be a reply, were it not counted, or another value as that
 /// of a wide solve.
@@ -391,6 +420,8 @@ pub fn false_outputs_are_refuted()
     ensures range { (after : Option (List ℕ)) (behind : List ℕ) →
         ¬ (is_true_of (lines.Read (of_text.Range moved.RightSide (codes "ROW")) form.Free) after ended_text
         (too_wide_range ++ behind)) }
+    ensures ranges { (after : Option (List ℕ)) (behind : List ℕ) →
+        ¬ (is_true_of (lines.Read of_text.RangeAll form.Free) after ended_text (too_wide_ranges ++ behind)) }
     ensures unended { (left behind : List ℕ) →
         ¬ (is_true_of (lines.Read of_text.Solve form.Free) (Some (88 ∷ left)) unended_text
         (codes "OPTIMAL 5" ++ 10 ∷ behind)) }
