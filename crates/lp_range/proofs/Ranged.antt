@@ -1,8 +1,8 @@
--- A range from the start from a basis, and what stops one.
-use Rattle.std.proofs.Common.{◌≡◌, ◌≢◌, ℕ, ◌+◌, ◌<◌, List, length, Option, None, Result, Ok, Err, Bool}
-use Rattle.std.proofs.Common.{true, false, not, ◌||◌, IfOk, IfErr, refl, sym, ap, ◌∙◌, subst}
+-- The ranges from the start from a basis.
+use Rattle.std.proofs.Common.{◌≡◌, ◌≢◌, ℕ, ◌+◌, ◌<◌, List, length, Option, Some, None, Result, Ok, Err, Bool}
+use Rattle.std.proofs.Common.{true, false, not, ◌||◌, IfOk, refl, sym, ap, ◌∙◌, subst}
 use Rattle.spec_exact.specs.Fraction.{ℚ, 0ℚ, eq_ℚ}
-use Rattle.spec_exact.specs.declared.past.Past.{Past}
+use Rattle.spec_exact.specs.Narrow.{number_limit}
 use Rattle.spec_exact.specs.Run.{Run, ◌>>=◌, refused_as}
 use Rattle.spec_exact.proofs.Results.{ok_same, ok_not_err}
 use Rattle.spec_exact.proofs.Same.{eq_test}
@@ -11,7 +11,7 @@ use Rattle.spec_model.specs.Truth.{IsOptimal}
 use Rattle.spec_edit.specs.Changes.{with_cost, with_rhs}
 use Rattle.spec_pivot.specs.declared.status.Status.{Status}
 use Rattle.spec_simplex.specs.declared.ends.StartStop.{StartStop}
-use Rattle.spec_simplex.specs.declared.ends.StartStop.TheVariants as start
+use Rattle.spec_simplex.specs.declared.ends.StartStop.TheVariants as stops
 use Rattle.spec_simplex.specs.Form.{Form, form_of}
 use Rattle.spec_simplex.specs.Tableau.{Tableau, entry_at, status_at, lower_at, upper_at, is_basic, is_fixed}
 use Rattle.spec_simplex.specs.Eliminate.{IsBasisOf, start_from}
@@ -23,11 +23,8 @@ use Rattle.spec_range.proofs.CostRange.{cost_range_is}
 use Rattle.spec_range.proofs.SideRange.{side_range_is}
 use Rattle.spec_range.proofs.Exists.{form_without}
 use Rattle.std.proofs.Common.{⊎_elim}
-use Rattle.lp_frac.specs.declared.stop.Stop.{Stop}
-use Rattle.lp_form.specs.declared.stop.Singular.{Singular}
-use Rattle.lp_frac.specs.declared.stop.Stop.TheVariants as stop
-use Rattle.lp_tableau.specs.Based.{StopsAt}
-use Rattle.lp_range.specs.Answer.{IsRefused, Answers}
+use Rattle.lp_range.specs.Answer.{Start, IsFrom}
+use Rattle.lp_range.proofs.Seated.{Suited, suited}
 
 -- a column that is moved has an entry
 last_false : (x y z : Bool) → not (x || (y || z)) ≡ true → z ≡ false
@@ -53,79 +50,69 @@ module _ (limit : Option ℕ) (m : Model) (f : Form) (basis : List Status) (form
   started : start_from None f basis ≡ Ok keeps.tableau
   started = ap (λ f. start_from None f basis) (sym same_form) ∙ keeps.started
 
-  never_singular : start_from limit f basis ≢ Err start.Singular
+  pub never_singular : start_from limit f basis ≢ Err stops.Singular
   never_singular e =
       ⊎_elim
-      (λ z. ok_not_err keeps.tableau start.Singular (sym started ∙ sym z ∙ e))
-      (λ p. let y : ◌≡◌ {A = Result Tableau (StartStop ℚ)} (Err start.Singular) (Err (start.Past p.0)) = sym e ∙ p.1 in
-      let x : ◌≡◌ {A = StartStop ℚ} start.Singular (start.Past p.0) = cc in cc)
+      (λ z. ok_not_err keeps.tableau stops.Singular (sym started ∙ sym z ∙ e))
+      (λ p. let y : ◌≡◌ {A = Result Tableau (StartStop ℚ)} (Err stops.Singular) (Err (stops.Past p.0)) = sym e ∙ p.1 in
+      let x : ◌≡◌ {A = StartStop ℚ} stops.Singular (stops.Past p.0) = cc in cc)
       (from_agrees limit f basis).same
 
-  pub start_refused : (run : Tableau → Run (Range ℚ)) (s : Stop Singular) → StopsAt (start_from limit f basis) s →
-      IsRefused (start_from limit f basis >>= λ t. refused_as start.Past (run t)) s
-  start_refused run (stop.Cause why) e = never_singular e
-  start_refused run (stop.Past p) e = ap (λ o. o >>= λ t. refused_as start.Past (run t)) e
-  start_refused run stop.NoMemory e = tt
+-- the sizes of the tableau, where there is one
+pub suits : (m : Model) (start : Start) → ((f : Form) × (basis : List Status) × IsFrom m f basis start) → (t : Tableau) →
+    start ≡ Ok t → Suited m t
+suits m start (f, basis, from) t e =
+    suited (Some number_limit) m f basis t from.formed from.keeps (from.is_start ∙ ap (refused_as stops.Past) e)
 
-  range_ok : (run : Tableau → Run (Range ℚ)) (t : Tableau) (r : Range ℚ) → start_from limit f basis ≡ Ok t →
-      run t ≡ Ok r → (start_from limit f basis >>= λ t. refused_as start.Past (run t)) ≡ Ok r
-  range_ok run t r e q = ap (λ o. o >>= λ t. refused_as start.Past (run t)) e ∙ ap (refused_as start.Past) q
+-- what is read off the start is what the start from the basis gives
+refused_on : (run : Tableau → Run (Range ℚ)) (start : Start) →
+    (refused_as stops.Past start >>= λ t. refused_as stops.Past (run t)) ≡ refused_as stops.Past (start >>= run)
+refused_on run (Ok t) = refl
+refused_on run (Err p) = refl
 
-  range_refused : (run : Tableau → Run (Range ℚ)) (t : Tableau) (s : Stop Singular) → start_from limit f basis ≡ Ok t →
-      Answers (run t) (Err s) → IsRefused (start_from limit f basis >>= λ t. refused_as start.Past (run t)) s
-  range_refused run t (stop.Cause why) e q = q
-  range_refused run t (stop.Past p) e q =
-      ap (λ o. o >>= λ t. refused_as start.Past (run t)) e ∙ ap (refused_as start.Past) q
-  range_refused run t stop.NoMemory e q = absurd q
+read_off : (run : Tableau → Run (Range ℚ)) (m : Model) (f : Form) (basis : List Status) (start : Start) (result : Run (Range ℚ)) →
+    IsFrom m f basis start → result ≡ (start >>= run) →
+    (start_from (Some number_limit) f basis >>= λ t. refused_as stops.Past (run t)) ≡ refused_as stops.Past result
+read_off run m f basis start result from is =
+    ap (λ o. o >>= λ t. refused_as stops.Past (run t)) from.is_start
+    ∙ refused_on run start
+    ∙ ap (refused_as stops.Past) (sym is)
 
-  -- ---- a cost
-  pub cost_stops : (j : ℕ) (s : Stop Singular) → StopsAt (start_from limit f basis) s →
-      IsRefused (cost_range limit m f basis j) s
-  unfolding cost_range
-  cost_stops j s e = start_refused (λ t. cost_run limit m t j) s e
-
-  module _ (t : Tableau) (ok : start_from limit f basis ≡ Ok t) (j : ℕ) (run : Result (Range ℚ) (Past ℚ))
-      (is : run ≡ cost_run limit m t j) where
-    pub cost_ok : (o : Result (Range ℚ) (Stop Singular)) → Answers run o →
-        IfOk o (λ r. cost_range limit m f basis j ≡ Ok r)
+module _ (m : Model) (start : Start) (at : ℕ) (result : Run (Range ℚ)) where
+  module _ (is : result ≡ (start >>= λ t. cost_run (Some number_limit) m t at)) where
+    pub cost_value : (f : Form) (basis : List Status) → IsFrom m f basis start →
+        cost_range (Some number_limit) m f basis at ≡ refused_as stops.Past result
     unfolding cost_range
-    cost_ok (Ok r) a = range_ok (λ t. cost_run limit m t j) t r ok (sym is ∙ a)
-    cost_ok (Err s) a = tt
+    cost_value f basis from = read_off (λ t. cost_run (Some number_limit) m t at) m f basis start result from is
 
-    pub cost_is : j < width m → (o : Result (Range ℚ) (Stop Singular)) → Answers run o →
-        IfOk o (λ r. (v : ℚ) → IsOptimal m v → IsRange (with_cost m j) basis (cost m j) v r)
-    cost_is j_in (Ok r) a = λ v optimal. cost_range_is limit m f basis j r v formed j_in keeps optimal (cost_ok (Ok r) a)
-    cost_is j_in (Err s) a = tt
+    pub cost_spans : at < width m →
+        IfOk result (λ r. (f : Form) (basis : List Status) → IsFrom m f basis start → (v : ℚ) → IsOptimal m v →
+        IsRange (with_cost m at) basis (cost m at) v r)
+    cost_spans l = by result refl
+      where
+        by : (o : Run (Range ℚ)) → result ≡ o →
+            IfOk o (λ r. (f : Form) (basis : List Status) → IsFrom m f basis start → (v : ℚ) → IsOptimal m v →
+            IsRange (with_cost m at) basis (cost m at) v r)
+        by (Ok r) e = λ f basis from v optimal.
+            cost_range_is (Some number_limit) m f basis at r v from.formed l from.keeps optimal
+            (cost_value f basis from ∙ ap (refused_as stops.Past) e)
+        by (Err p) e = tt
 
-    pub cost_refused : (o : Result (Range ℚ) (Stop Singular)) → Answers run o →
-        IfErr o (IsRefused (cost_range limit m f basis j))
-    unfolding cost_range
-    cost_refused (Ok r) a = tt
-    cost_refused (Err s) a =
-        range_refused (λ t. cost_run limit m t j) t s ok (subst (λ o. Answers o (Err s)) is a)
-
-  -- ---- a right side
-  pub side_stops : (i : ℕ) (s : Stop Singular) → StopsAt (start_from limit f basis) s →
-      IsRefused (side_range limit m f basis i) s
-  unfolding side_range
-  side_stops i s e = start_refused (λ t. side_run limit m t i) s e
-
-  module _ (t : Tableau) (ok : start_from limit f basis ≡ Ok t) (i : ℕ) (run : Result (Range ℚ) (Past ℚ))
-      (is : run ≡ side_run limit m t i) where
-    pub side_ok : (o : Result (Range ℚ) (Stop Singular)) → Answers run o →
-        IfOk o (λ r. side_range limit m f basis i ≡ Ok r)
+  module _ (is : result ≡ (start >>= λ t. side_run (Some number_limit) m t at)) where
+    pub side_value : (f : Form) (basis : List Status) → IsFrom m f basis start →
+        side_range (Some number_limit) m f basis at ≡ refused_as stops.Past result
     unfolding side_range
-    side_ok (Ok r) a = range_ok (λ t. side_run limit m t i) t r ok (sym is ∙ a)
-    side_ok (Err s) a = tt
+    side_value f basis from = read_off (λ t. side_run (Some number_limit) m t at) m f basis start result from is
 
-    pub side_is : i < height m → (o : Result (Range ℚ) (Stop Singular)) → Answers run o →
-        IfOk o (λ r. (v : ℚ) → IsOptimal m v → IsRange (with_rhs m i) basis (row m i).rhs v r)
-    side_is i_in (Ok r) a = λ v optimal. side_range_is limit m f basis i r v formed i_in keeps optimal (side_ok (Ok r) a)
-    side_is i_in (Err s) a = tt
-
-    pub side_refused : (o : Result (Range ℚ) (Stop Singular)) → Answers run o →
-        IfErr o (IsRefused (side_range limit m f basis i))
-    unfolding side_range
-    side_refused (Ok r) a = tt
-    side_refused (Err s) a =
-        range_refused (λ t. side_run limit m t i) t s ok (subst (λ o. Answers o (Err s)) is a)
+    pub side_spans : at < height m →
+        IfOk result (λ r. (f : Form) (basis : List Status) → IsFrom m f basis start → (v : ℚ) → IsOptimal m v →
+        IsRange (with_rhs m at) basis (row m at).rhs v r)
+    side_spans l = by result refl
+      where
+        by : (o : Run (Range ℚ)) → result ≡ o →
+            IfOk o (λ r. (f : Form) (basis : List Status) → IsFrom m f basis start → (v : ℚ) → IsOptimal m v →
+            IsRange (with_rhs m at) basis (row m at).rhs v r)
+        by (Ok r) e = λ f basis from v optimal.
+            side_range_is (Some number_limit) m f basis at r v from.formed l from.keeps optimal
+            (side_value f basis from ∙ ap (refused_as stops.Past) e)
+        by (Err p) e = tt

@@ -1,30 +1,34 @@
--- What a range needs of a tableau, and what stops one.
-use Rattle.std.specs.Prelude.{◌≡◌, ⊤, ℕ, ◌<◌, Result, Ok, Err}
-use Rattle.spec_exact.specs.Fraction.{ℚ}
-use Rattle.spec_exact.specs.declared.past.Past.{Past}
+-- What a range needs of a tableau, and from what ranges start.
+use Rattle.std.specs.Prelude.{◌≡◌, ℕ, ◌<◌, List, Some, Ok}
+use Rattle.spec_exact.specs.Narrow.{number_limit}
+use Rattle.spec_exact.specs.Run.{Run, refused_as}
+use Rattle.spec_model.specs.Model.{Model}
+use Rattle.spec_pivot.specs.declared.status.Status.{Status}
 use Rattle.spec_pivot.specs.declared.status.Status.TheVariants.{Basic}
-use Rattle.spec_simplex.specs.declared.ends.StartStop.{StartStop}
-use Rattle.spec_simplex.specs.declared.ends.StartStop.TheVariants as start
+use Rattle.spec_simplex.specs.declared.ends.StartStop.TheVariants as stop
+use Rattle.spec_simplex.specs.Form.{Form, form_of}
 use Rattle.spec_simplex.specs.Tableau.{Tableau, all_columns, status_at}
 use Rattle.spec_simplex.specs.Dual.{place_of}
-use Rattle.spec_range.specs.declared.range.Range.{Range}
-use Rattle.lp_frac.specs.declared.stop.Stop.{Stop}
-use Rattle.lp_form.specs.declared.stop.Singular.{Singular}
-use Rattle.lp_frac.specs.declared.stop.Stop.TheVariants as stop
+use Rattle.spec_simplex.specs.Eliminate.{start_from}
+use Rattle.spec_range.specs.Span.{Keeps}
 
 -- each basic column has a position
 abbrev pub IsSeated : Tableau → Type 0
 IsSeated t = (k : ℕ) → k < all_columns t → status_at t k ≡ Basic → place_of t k < t.rows
 
--- an operation of the run is refused, or memory ran out
-abbrev pub IsRefused : {A : Type 0} → Result A (StartStop ℚ) → Stop Singular → Type 0
-IsRefused run (stop.Cause why) = ⊥
-IsRefused run (stop.Past p) = run ≡ Err (start.Past p)
-IsRefused run stop.NoMemory = ⊤
+-- the tableau of a basis, or the operation that its elimination is refused
+abbrev pub Start : Type 0
+Start = Run Tableau
 
--- the same range, or the same refusal
-abbrev pub Answers : Result (Range ℚ) (Past ℚ) → Result (Range ℚ) (Stop Singular) → Type 0
-Answers o (Ok r) = o ≡ Ok r
-Answers o (Err (stop.Cause why)) = ⊥
-Answers o (Err (stop.Past p)) = o ≡ Err p
-Answers o (Err stop.NoMemory) = ⊥
+-- the form is that of a model that the basis keeps
+abbrev pub IsKept : Form → List Status → Type 0
+IsKept f basis = (m : Model) × (form_of (Some number_limit) m ≡ Ok f) × Keeps m basis
+
+abbrev pub IsStart : Form → List Status → Start → Type 0
+IsStart f basis start = start_from (Some number_limit) f basis ≡ refused_as stop.Past start
+
+-- the basis keeps this model, and that is its start
+pub record IsFrom (m : Model) (f : Form) (basis : List Status) (start : Start) : Type 0 where
+  pub formed : form_of (Some number_limit) m ≡ Ok f
+  pub keeps : Keeps m basis
+  pub is_start : IsStart f basis start

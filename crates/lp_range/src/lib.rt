@@ -1,8 +1,8 @@
-//! Exact ranging: the range of one cost, or of one right side, in which a basis stays optimal.
+//! Exact ranging: the ranges of single costs and right sides in which a basis stays optimal.
 //!
 //! | Item | What it is | Where |
 //! |---|---|---|
-//! | `cost`, `side` | the range of a column's cost, and of a row's right side | src/ranging |
+//! | `Ranging` | a basis of which the range of each column's cost, and of each row's right side, is read off one tableau | src/ranging |
 //! | `Range`, `Ends` | a range, with the slope of the optimal value; its ends, as far as they are there | src/ends |
 //!
 //! Each is exactly spec_range's `cost_range` or `side_range`, up to the first operation that is past 127 bits, and by
@@ -16,4 +16,4 @@ mod moved;
 mod ranging;
 
 pub use ends::{Ends, Range};
-pub use ranging::{cost, side};
+pub use ranging::Ranging;

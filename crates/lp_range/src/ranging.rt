@@ -1,25 +1,42 @@
-// The range of a cost, and of a right side.
-ghost use Rattle.std.specs.Prelude.{◌≡◌, ◌<◌, ℕ, IfOk, IfErr, Ok, Some};
+// The ranges of costs and right sides from one basis.
+ghost use Rattle.std.specs.Prelude.{◌≡◌, ◌<◌, List, IfOk, Ok, Some};
 ghost use Rattle.spec_exact.specs.Fraction.{ℚ};
 ghost use Rattle.spec_exact.specs.Narrow.{number_limit};
+ghost use Rattle.spec_exact.specs.Run.{refused_as};
 ghost use Rattle.spec_model.specs.Model.{width, height, row, cost as cost_of};
 ghost use Rattle.spec_model.specs.Truth.{IsOptimal};
 ghost use Rattle.spec_edit.specs.Changes.{with_cost, with_rhs};
-ghost use Rattle.spec_simplex.specs.Form.{form_of};
-ghost use Rattle.spec_simplex.specs.Eliminate as elimination;
+ghost use Rattle.spec_pivot.specs.declared.status.Status.{Status as exact_status};
+ghost use Rattle.spec_simplex.specs.declared.ends.StartStop.TheVariants as stops;
+ghost use Rattle.spec_simplex.specs.Form.{Form as exact_form};
 ghost use Rattle.spec_range.specs.Rule as rule;
-ghost use Rattle.spec_range.specs.Span.{Keeps, IsRange};
-ghost use Rattle.lp_range.specs.Answer.{Answers, IsSeated, IsRefused};
+ghost use Rattle.spec_range.specs.Span.{IsRange};
+ghost use Rattle.lp_range.specs.Answer.{IsSeated, IsKept, IsStart, IsFrom};
 
 use crate::carried::side_ends;
 use crate::columns::{least_cost, logical};
 use crate::ends::Range;
 use crate::moved::cost_ends;
-use lp_form::{Basis, BasisStop, Form};
+use lp_form::{Basis, Form};
 use lp_frac::{Past, Stop};
 use lp_model::Model;
 use lp_tableau::{Tableau, start_from};
-use std::alloc::Global;
+use std::alloc::{AllocError, Global};
+
+/// A basis that the numbers of a model are ranged from. Its tableau is made once, and each range is read off that.
+#[derive(Drop)]
+pub struct Ranging {
+    // The tableau, or the operation that its elimination was refused.
+    start: Result<Tableau, Past>,
+}
+
+impl std::marker::Model for Ranging {
+    ghost use Rattle.lp_range.specs.Answer.{Start};
+
+    ghost Value = { Start };
+
+    ghost view = { λ ranging. ranging.start };
+}
 
 #[tactic(auto, unfolding(spec_range::specs::Rule::cost_run))]
 fn cost_at(tab: &Tableau, model: &Model, col: u32) -> Result<Range, Past>
@@ -50,67 +67,49 @@ fn side_at(tab: &Tableau, model: &Model, row: u32) -> Result<Range, Past>
     })
 }
 
-fn answer(range: Result<Range, Past>) -> Result<Range, BasisStop>
-    ensures { Answers range result }
-{
-    match range {
-        Ok(range) => Ok(range),
-        Err(past) => Err(Stop::Past(past)),
-    }
-}
-
-/// The range of the cost of column `col`: the basis keeps the model optimal with exactly the costs in it, and with each
-/// of them the optimal value is the present one, and the slope times what the cost is above the present one. Refused
-/// where an operation of the elimination or of the candidates is, or memory runs out.
-pub fn cost(
-    alloc: Global,
-    model: &Model,
-    form: &Form,
-    basis: &Basis,
-    col: u32,
-) -> Result<Range, BasisStop>
-    requires column { col < width model.now }
-    requires formed { form_of (Some number_limit) model.now ≡ Ok form.now }
-    requires keeps { Keeps model.now basis.now }
-    ensures ok { IfOk result (λ r. rule.cost_range (Some number_limit) model.now form.now basis.now col ≡ Ok r) }
-    ensures range { IfOk result (λ r. (v : ℚ) → IsOptimal model.now v →
-        IsRange (with_cost model.now col) basis.now (cost_of model.now col) v r) }
-    ensures err { IfErr result (IsRefused (rule.cost_range (Some number_limit) model.now form.now basis.now col)) }
-{
-    match start_from(alloc, form, basis) {
-        Ok(tab) => {
-            let range = cost_at(&tab, model, col);
-            drop(tab);
-            answer(range)
+impl Ranging {
+    /// Starts from a basis that keeps the model of the form optimal.
+    pub fn new(alloc: Global, form: &Form, basis: &Basis) -> Result<Ranging, AllocError>
+        requires { IsKept form.now basis.now }
+        ensures { IfOk result (IsStart form.now basis.now) }
+    {
+        match start_from(alloc, form, basis) {
+            Ok(tab) => Ok(Ranging { start: Ok(tab) }),
+            Err(Stop::Past(past)) => Ok(Ranging { start: Err(past) }),
+            Err(Stop::NoMemory) => Err(AllocError),
+            Err(Stop::Cause(_)) => unreachable!(),
         }
-        Err(stop) => Err(stop),
     }
-}
 
-/// The range of the right side of row `row`: the basis keeps the model optimal with exactly the right sides in it, and
-/// with each of them the optimal value is the present one, and the slope times what the right side is above the
-/// present one. Refused where an operation of the elimination or of the candidates is, or memory runs out.
-pub fn side(
-    alloc: Global,
-    model: &Model,
-    form: &Form,
-    basis: &Basis,
-    at: u32,
-) -> Result<Range, BasisStop>
-    requires row { at < height model.now }
-    requires formed { form_of (Some number_limit) model.now ≡ Ok form.now }
-    requires keeps { Keeps model.now basis.now }
-    ensures ok { IfOk result (λ r. rule.side_range (Some number_limit) model.now form.now basis.now at ≡ Ok r) }
-    ensures range { IfOk result (λ r. (v : ℚ) → IsOptimal model.now v →
-        IsRange (with_rhs model.now at) basis.now (row model.now at).rhs v r) }
-    ensures err { IfErr result (IsRefused (rule.side_range (Some number_limit) model.now form.now basis.now at)) }
-{
-    match start_from(alloc, form, basis) {
-        Ok(tab) => {
-            let range = side_at(&tab, model, at);
-            drop(tab);
-            answer(range)
+    /// The range of the cost of column `col` of the model that the basis keeps: it does so with exactly the costs in it, and with
+    /// each of them the optimal value is the present one, and the slope times what the cost is above the present one. Refused
+    /// where an operation of the elimination or of the candidates is.
+    pub fn cost(&self, model: &Model, col: u32) -> Result<Range, Past>
+        requires column { col < width model.now }
+        requires from { (f : exact_form) × (basis : List exact_status) × IsFrom model.now f basis self.now }
+        ensures value { (f : exact_form) (basis : List exact_status) → IsFrom model.now f basis self.now →
+            rule.cost_range (Some number_limit) model.now f basis col ≡ refused_as stops.Past result }
+        ensures range { IfOk result (λ r. (f : exact_form) (basis : List exact_status) → IsFrom model.now f basis self.now →
+            (v : ℚ) → IsOptimal model.now v → IsRange (with_cost model.now col) basis (cost_of model.now col) v r) }
+    {
+        match &self.start {
+            Ok(tab) => cost_at(tab, model, col),
+            Err(past) => Err(*past),
         }
-        Err(stop) => Err(stop),
+    }
+
+    /// The range of the right side of row `at`, in the same way.
+    pub fn side(&self, model: &Model, at: u32) -> Result<Range, Past>
+        requires row { at < height model.now }
+        requires from { (f : exact_form) × (basis : List exact_status) × IsFrom model.now f basis self.now }
+        ensures value { (f : exact_form) (basis : List exact_status) → IsFrom model.now f basis self.now →
+            rule.side_range (Some number_limit) model.now f basis at ≡ refused_as stops.Past result }
+        ensures range { IfOk result (λ r. (f : exact_form) (basis : List exact_status) → IsFrom model.now f basis self.now →
+            (v : ℚ) → IsOptimal model.now v → IsRange (with_rhs model.now at) basis (row model.now at).rhs v r) }
+    {
+        match &self.start {
+            Ok(tab) => side_at(tab, model, at),
+            Err(past) => Err(*past),
+        }
     }
 }
