@@ -6,7 +6,8 @@
 The program takes those of the table `commands` in crates/spec_program/specs/CommandLine.antt. docs/CLI.md, of which the manual
 page is made, has to describe each command with as many plain words, and each of its options. The usage of
 crates/lpd/src/usage.rt has to name each command with as many plain words, and each option. bash, completing by
-tools/lpd.bash, has to offer each command, then nothing for a plain word, and then the options that are not given yet. In place
+tools/lpd.bash, has to offer each command, then nothing for a plain word, and then the options that are not given yet; these also
+behind the word for all numbers, which stands alone. In place
 of a command there may stand the notices of `named` in crates/lp_command_line/specs/Notices.antt, which the manual's synopsis
 and bash have to name too. The version that the program shows, and that its definition has, is that of the file VERSION. It
 prints what differs; the status is 1 where something does.
@@ -29,7 +30,9 @@ VERSIONS = {
     TOP / "crates" / "lpd" / "specs" / "Notices.antt": r'^IsTextOf Version text = text ≡ codes "lpd ([^"]*)" \+\+ 10 ∷ \[\]$',
 }
 COMPLETION = TOP / "tools" / "lpd.bash"
-ROW = re.compile(r"^(\w+)(?: \w+)* = record \{\s*plain = (\d+);\s*names = ([^;]*);\s*switches = ([^;]*);", re.M)
+ROW = re.compile(r"^(\w+)(?: \w+)* = record \{\s*plain = (?:λ words\. )?(\w+);\s*names = ([^;]*);\s*switches = ([^;]*);", re.M)
+# How many plain words there are where the first of them decides: of a word that stands alone, and of others.
+ALONE = re.compile(r"^(\w+) \[\] = (\d+)\n\1 \(what ∷ words\) = if is_(\w+) what then 1 else \2$", re.M)
 NAMES = re.compile(r'(?:codes "--[\w-]+" ∷ )*\[\]')
 COMMAND = re.compile(r'\(codes "([\w-]+)", (\w+)(?: \w+)*\)')
 COMPLETES = 'source "$1"; shift; COMP_WORDS=("$@"); COMP_CWORD=$(($# - 1)); _lpd; printf "%s\\n" "${COMPREPLY[@]}"'
@@ -38,12 +41,13 @@ COMPLETES = 'source "$1"; shift; COMP_WORDS=("$@"); COMP_CWORD=$(($# - 1)); _lpd
 def taken():
     """The commands that the program takes: of each, how many plain words it has, which options, and which of these are switches."""
     text = TABLE.read_text(encoding="utf-8")
+    counts = {name: count for name, count, _ in ALONE.findall(text)}
     rows = {}
     for name, plain, *options in ROW.findall(text):
         for names in options:
             if not NAMES.fullmatch(" ".join(names.split())):
                 raise ValueError(f"{TABLE.relative_to(TOP)}: the options of {name} are not read: {names}")
-        rows[name] = int(plain), *(set(re.findall(r'"([^"]+)"', names)) for names in options)
+        rows[name] = int(counts.get(plain, plain)), *(set(re.findall(r'"([^"]+)"', names)) for names in options)
     table = re.search(r"^commands =\s+(.*?)\n\n", text, re.M | re.S)
     if not table or COMMAND.sub("", table[1]).split() != ["∷"] * len(COMMAND.findall(table[1])) + ["[]"]:
         raise ValueError(f"{TABLE.relative_to(TOP)}: the table of commands is not read")
@@ -51,6 +55,12 @@ def taken():
     if not commands or not set(commands.values()) <= rows.keys():
         raise ValueError(f"{TABLE.relative_to(TOP)}: the rows of the table of commands are not read")
     return {command: rows[row] for command, row in commands.items()}
+
+
+def alone():
+    """The words that stand alone in place of a command's plain words."""
+    text = TABLE.read_text(encoding="utf-8")
+    return {name.removesuffix("_plain"): word for name, _, word in ALONE.findall(text) if f'is_{word} word = same word (codes "{word}")' in text}
 
 
 def shown():
@@ -117,6 +127,7 @@ def wrong_completions(commands, notices):
     tried = [((), set(commands) | notices)]
     for command, (plain, options, switches) in commands.items():
         tried += [((command, *["1"] * count), set()) for count in range(plain)]
+        tried += [((command, word), options) for name, word in alone().items() if name == command]
         words = (command, *["1"] * plain)
         tried.append((words, options))
         tried += [((*words, option, "1"), options - {option}) for option in options - switches]

@@ -15,6 +15,11 @@ declare -A _lpd_commands=(
     [serve]="ADDRESS --workers --each --places"
 )
 
+# What may stand in place of all plain words.
+declare -A _lpd_alone=(
+    [range]="all"
+)
+
 # What may stand in place of a command.
 _lpd_notices="--help --version"
 
@@ -38,6 +43,9 @@ _lpd() {
                 choices+=" $each"
             fi
         done
+        if ((COMP_CWORD > 2)) && [[ ${COMP_WORDS[2]} == "${_lpd_alone[${COMP_WORDS[1]:--}]-}" ]]; then
+            place=3
+        fi
         if ((COMP_CWORD < place)); then
             choices=""
         else

@@ -200,7 +200,8 @@ def check_text(program: Program, dice: random.Random, made: made_models.Made) ->
     form = ["--form", "fixed"] if made.fixed else []
     command = dice.choice(["solve", "solve", "check", "check", "basis", "range", "run"])
     script = made.text + (made.certificate if command == "check" else BASIS if command == "basis" else "")
-    what = [dice.choice(["cost", "rhs"]), dice.choice(["r0", "x0", "R1", "cost", "v1"])] if command == "range" else []
+    one = [dice.choice(["cost", "rhs"]), dice.choice(["r0", "x0", "R1", "cost", "v1"])]
+    what = dice.choice([one, ["all"]]) if command == "range" else []
     ran = program.run([command, *what, *([] if command == "run" else form)], script.encode("latin-1", "replace"))
     if command == "run":
         expect_status(ran, 0, 6)

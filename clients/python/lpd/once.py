@@ -20,6 +20,7 @@ WORDS = {
     "iis": ["iis"],
     "presolve": ["presolve"],
     "range": ["range", "cost", "x"],
+    "range all": ["range", "all"],
     "solve --wide": ["solve", "--wide"],
 }
 SWITCH = "--wide"  # which later versions of a command have

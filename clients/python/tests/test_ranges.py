@@ -17,7 +17,7 @@ import lpd
 from lpd.dialects import PROFILE, written
 from lpd.exact import BASIC, UPPER, Basis
 from lpd.model import Model
-from lpd.once import has_command
+from lpd.once import has_command, output_of
 from lpd.pieces import DOWN, UP, Piece, Walk, edge, picture_of
 from lpd.ranging import COST, RHS, Range, number_of, range_of, read_range, with_number
 from lpd.tableau import Gap, Tableau, ends_of
@@ -190,6 +190,38 @@ class WithoutTheCommand(unittest.TestCase):
             with self.assertRaises(lpd.CommandMissing) as raised:
                 range_of(lpd.read_model(SHOP), COST, "x", str(program))
         self.assertEqual((str(raised.exception), raised.exception.status), ("this program has no command range", 2))
+
+
+@unittest.skipUnless(ready() and has_command("range all"), "there is no program, or it does not range all numbers")
+class AllAtOnce(unittest.TestCase):
+    """`lpd range all` writes what `lpd range` writes of each cost and then of each right side, and nothing else."""
+
+    def compare(self, text: str, *form: str) -> int:
+        """How many numbers have a range."""
+        model, body = lpd.read_model(text, fixed=bool(form)), text.splitlines()
+        first, *lines = output_of(["range", "all", *form], body)
+        self.assertEqual(first, output_of(["solve", *form], body)[0])
+        if not first.startswith("OPTIMAL "):
+            self.assertEqual(lines, [])
+            return 0
+        numbers = [(COST, name) for name in model.columns] + [(RHS, name) for name in model.rows]
+        self.assertEqual([line.split(" ")[:2] for line in lines], [[what, name] for what, name in numbers])
+        for line, (what, name) in zip(lines, numbers):
+            if not name.startswith("-"):  # which begins no name on a command line
+                alone = output_of(["range", what, name, *form], body)
+                self.assertEqual([first, line], [alone[0], f"{what} {name} {alone[1]}"])
+        return sum(" RANGE " in line for line in lines)
+
+    def test_the_examples(self) -> None:
+        counts = {path.stem: self.compare(path.read_text(), *(["--form", "fixed"] if ".fixed" in path.name else []))
+                  for path in sorted(MODELS.glob("*.mps"))}
+        self.assertEqual((counts["diet"], counts["orders"]), (9, 0))
+        self.assertGreater(sum(map(bool, counts.values())), 3)
+
+    def test_random_models(self) -> None:
+        dice = random.Random(int(os.environ.get("SEED", "9")))
+        models = [some_model(dice) for _ in range(int(os.environ.get("MODELS", "25")))]
+        self.assertGreater(sum(self.compare(written(model, PROFILE).text) for model in models), 0)
 
 
 @unittest.skipUnless(ready(), "there is no program, or it has no command range")

@@ -7,7 +7,7 @@ use Rattle.spec_mps.specs.declared.style.Style.{Style}
 use Rattle.spec_program.specs.declared.command_line.CommandLine.TheVariants.{Read}
 use Rattle.spec_program.specs.declared.command_line.Moved.{Moved}
 use Rattle.spec_program.specs.Spelled.{spelled_text}
-use Rattle.spec_program.specs.CommandLine.{ExactLine, ExactTextCommand, moved_of, range_by, range_row}
+use Rattle.spec_program.specs.CommandLine.{ExactLine, ExactTextCommand, moved_of, is_all, range_by, range_row}
 use Rattle.spec_program.specs.CommandLine.{Given, Row, Options, in_pairs, options_in, given_in, asked_by}
 use Rattle.spec_program.specs.CommandLine.{workers_given, links_given, places_given, form_given, run_by, serve_by}
 use Rattle.spec_program.specs.CommandLine.{OptionNames, by_width, wide_row, run_row, text_row, generate_row, generate_by, serve_row, is_plain}
@@ -18,35 +18,35 @@ use Rattle.spec_text.specs.Words.{same}
 use Rattle.spec_program.specs.declared.command_line.TextCommand.TheVariants as text
 use Rattle.lp_command_line.specs.declared.line.Command.{Command}
 use Rattle.lp_command_line.specs.declared.line.Command.TheVariants as command
-use Rattle.lp_command_line.specs.Words.{value_in, are_in, range_in, serve_in}
+use Rattle.lp_command_line.specs.Words.{value_in, are_in, range_in, serve_in, number_row}
 use Rattle.lp_command_line.proofs.OptionLemmas.{value-look_up, options-some, options-none}
 
 -- ---- options after plain words
 
-module _ (row : Row) (words : List (List ℕ)) (enough : row.plain ≤ length words) where
+module _ (row : Row) (words : List (List ℕ)) (enough : row.plain words ≤ length words) where
   abbrev given : Options → Given
-  given options = record { plain = take row.plain words; options = options }
+  given options = record { plain = take (row.plain words) words; options = options }
 
   abbrev asked : Option Options → Option ExactLine
   asked options = option_and_then row.asks (option_map given options)
 
-  asks : asked_by words row ≡ asked (options_in row.names row.switches (drop row.plain words))
+  asks : asked_by words row ≡ asked (options_in row.names row.switches (drop (row.plain words) words))
   unfolding given_in
   asks =
       ap (λ (t : Bool).
-      option_and_then row.asks (cond t (option_map given (options_in row.names row.switches (drop row.plain words))) None))
-      (le-leb row.plain (length words) enough)
+      option_and_then row.asks (cond t (option_map given (options_in row.names row.switches (drop (row.plain words) words))) None))
+      (le-leb (row.plain words) (length words) enough)
 
   -- words that are no options ask nothing
-  pub refused : are_in row.names row.switches (drop row.plain words) ≡ false → asked_by words row ≡ None
-  refused e = asks ∙ ap asked (options-none row.names row.switches (drop row.plain words) e)
+  pub refused : are_in row.names row.switches (drop (row.plain words) words) ≡ false → asked_by words row ≡ None
+  refused e = asks ∙ ap asked (options-none row.names row.switches (drop (row.plain words) words) e)
 
   -- others ask what is asked with the pairs that they are
-  taken : are_in row.names row.switches (drop row.plain words) ≡ true →
+  taken : are_in row.names row.switches (drop (row.plain words) words) ≡ true →
       (options : Options) ×
       (asked_by words row ≡ row.asks (given options)) ×
-      (in_pairs row.switches (drop row.plain words) ≡ Some options)
-  taken e = let o = options-some row.names row.switches (drop row.plain words) e in (o.0, asks ∙ ap asked o.1, o.2)
+      (in_pairs row.switches (drop (row.plain words) words) ≡ Some options)
+  taken e = let o = options-some row.names row.switches (drop (row.plain words) words) e in (o.0, asks ∙ ap asked o.1, o.2)
 
 -- ---- a script, or a text: no plain words
 
@@ -202,14 +202,14 @@ module _ (address : List ℕ) (words all : List (List ℕ)) (cut : all ≡ addre
         sym (value-look_up [] (codes "--places") words t.0 t.2),
       ) refl
 
--- ---- a range: which number, a name, and options
+-- ---- a range of one number: which, a name, and options
 
-pub few-range : {X : Type 0} (f : X → List ℕ) (words : List X) → length words < 2 →
-    asked_by (map f words) range_row ≡ None
+pub few-number : {X : Type 0} (f : X → List ℕ) (words : List X) → length words < 2 →
+    asked_by (map f words) number_row ≡ None
 unfolding given_in
-few-range f [] few = refl
-few-range f (a ∷ []) few = refl
-few-range f (a ∷ b ∷ words) few = absurd (omega (arith, few))
+few-number f [] few = refl
+few-number f (a ∷ []) few = refl
+few-number f (a ∷ b ∷ words) few = absurd (omega (arith, few))
 
 -- the first two texts, and the words behind them
 pub first-two : {X : Type 0} (f : X → List ℕ) (words : List X) (x y : X) (a b : List ℕ) → 2 ≤ length words →
@@ -228,8 +228,8 @@ module _ (what name : List ℕ) (words all : List (List ℕ)) (cut : all ≡ wha
   two_more : 2 ≤ length (what ∷ name ∷ words)
   two_more = omega arith
 
-  same_range : asked_by all range_row ≡ asked_by (what ∷ name ∷ words) range_row
-  same_range = ap (λ (ws : List (List ℕ)). asked_by ws range_row) cut
+  same_number : asked_by all number_row ≡ asked_by (what ∷ name ∷ words) number_row
+  same_number = ap (λ (ws : List (List ℕ)). asked_by ws number_row) cut
 
   abbrev by_name : Option Style → Option Moved → Bool → Option ExactLine
   by_name style moved test = range_by moved (cond test (Some name) None) style
@@ -238,27 +238,73 @@ module _ (what name : List ℕ) (words all : List (List ℕ)) (cut : all ≡ wha
   no_place style None = refl
   no_place style (Some w) = refl
 
-  pub no-name : is_plain name ≡ false → asked_by all range_row ≡ None
-  no-name e = same_range ∙ asks range_row (what ∷ name ∷ words) two_more ∙ each (options_in range_row.names range_row.switches words)
+  pub no-name : is_plain name ≡ false → asked_by all number_row ≡ None
+  no-name e = same_number ∙ asks number_row (what ∷ name ∷ words) two_more ∙ each (options_in number_row.names number_row.switches words)
     where
-      each : (options : Option Options) → asked range_row (what ∷ name ∷ words) two_more options ≡ None
+      each : (options : Option Options) → asked number_row (what ∷ name ∷ words) two_more options ≡ None
       each None = refl
       each (Some options) =
           ap (by_name (form_given (look_up (codes "--form") options)) (moved_of what)) e
           ∙ no_place (form_given (look_up (codes "--form") options)) (moved_of what)
 
-  pub range-refused : are_in range_row.names range_row.switches words ≡ false → asked_by all range_row ≡ None
-  range-refused e = same_range ∙ refused range_row (what ∷ name ∷ words) two_more e
+  pub number-refused : are_in number_row.names number_row.switches words ≡ false → asked_by all number_row ≡ None
+  number-refused e = same_number ∙ refused number_row (what ∷ name ∷ words) two_more e
 
-  pub asks-range : (moved : Option Moved) → is_plain name ≡ true → are_in range_row.names range_row.switches words ≡ true →
-      moved_of what ≡ moved → asked_by all range_row ≡ option_and_then (λ w. range_in w name words) moved
-  asks-range moved holds e is_moved =
-      let t = taken range_row (what ∷ name ∷ words) two_more e in
-      same_range
+  pub asks-number : (moved : Option Moved) → is_plain name ≡ true → are_in number_row.names number_row.switches words ≡ true →
+      moved_of what ≡ moved → asked_by all number_row ≡ option_and_then (λ w. range_in w name words) moved
+  asks-number moved holds e is_moved =
+      let t = taken number_row (what ∷ name ∷ words) two_more e in
+      same_number
       ∙ t.1
       ∙ ap (by_name (form_given (look_up (codes "--form") t.0)) (moved_of what)) holds
       ∙ ap (λ v. by_name (form_given v) (moved_of what) true) (sym (value-look_up [] (codes "--form") words t.0 t.2))
       ∙ ap (λ m. by_name (form_given (value_in [] (codes "--form") words)) m true) is_moved
+
+-- ---- a range of all numbers, or of one
+
+pub few-range : {X : Type 0} (f : X → List ℕ) (words : List X) → length words < 1 →
+    asked_by (map f words) range_row ≡ None
+unfolding given_in
+few-range f [] few = refl
+few-range f (x ∷ words) few = absurd (omega (arith, few))
+
+-- the rows by whether the first word is that for all
+abbrev all_row : Row
+all_row = record {
+  plain = λ words. 1;
+  names = range_row.names;
+  switches = range_row.switches;
+  asks = range_row.asks;
+}
+
+module _ (what : List ℕ) (words all : List (List ℕ)) (cut : all ≡ what ∷ words) where
+  more_words : 1 ≤ length (what ∷ words)
+  more_words = omega arith
+
+  abbrev counted : Bool → Option ExactLine
+  counted t =
+      option_and_then range_row.asks (given_in (cond t 1 2) range_row.names range_row.switches (what ∷ words))
+
+  pub asks-all : is_all what ≡ true → asked_by all range_row ≡ asked_by words (text_row text.RangeAll)
+  asks-all e =
+      ap (λ (ws : List (List ℕ)). asked_by ws range_row) cut
+      ∙ ap counted e
+      ∙ asks all_row (what ∷ words) more_words
+      ∙ each (options_in range_row.names range_row.switches words)
+      ∙ sym (asks (text_row text.RangeAll) words (at_once words))
+    where
+      each : (options : Option Options) →
+          asked all_row (what ∷ words) more_words options ≡ asked (text_row text.RangeAll) words (at_once words) options
+      each None = refl
+      each (Some options) =
+          ap (λ (t : Bool).
+          cond t (option_map (Read text.RangeAll) (form_given (look_up (codes "--form") options))) None) e
+
+  pub asks-one : is_all what ≡ false → asked_by all range_row ≡ asked_by all number_row
+  asks-one e =
+      ap (λ (ws : List (List ℕ)). asked_by ws range_row) cut
+      ∙ ap counted e
+      ∙ ap (λ (ws : List (List ℕ)). asked_by ws number_row) (sym cut)
 
 -- ---- a command, by the word that names it
 

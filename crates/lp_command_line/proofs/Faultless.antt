@@ -7,9 +7,9 @@ use denote.Ref.{Bor}
 use Rattle.spec_mps.specs.Shapes.{look_up}
 use Rattle.spec_program.specs.declared.command_line.CommandLine.TheVariants.{Read}
 use Rattle.spec_program.specs.declared.command_line.Moved.{Moved}
-use Rattle.spec_program.specs.declared.command_line.TextCommand.TheVariants.{Range}
+use Rattle.spec_program.specs.declared.command_line.TextCommand.TheVariants.{Range, RangeAll}
 use Rattle.spec_program.specs.Spelled.{spelled_text}
-use Rattle.spec_program.specs.CommandLine.{ExactTextCommand, moved_of, range_row}
+use Rattle.spec_program.specs.CommandLine.{ExactTextCommand, moved_of, is_all, range_row}
 use Rattle.spec_program.specs.CommandLine.{Word, OptionNames, given_or, given_in, asked_by, is_one_of, is_plain}
 use Rattle.spec_program.specs.CommandLine.{usual_workers, workers_of, workers_given, usual_links, links_of, links_given}
 use Rattle.spec_program.specs.CommandLine.{usual_places, places_of, places_given, form_of, form_given}
@@ -17,7 +17,7 @@ use Rattle.spec_program.specs.CommandLine.{seed_of, row_count_of, column_count_o
 use Rattle.spec_program.specs.CommandLine.{run_row, text_row, by_width, wide_row, generate_row, serve_row, command_line_of}
 use Rattle.spec_mps.specs.declared.style.Style.{Style}
 use Rattle.spec_mps.specs.declared.style.Style.TheVariants.{Free}
-use Rattle.lp_command_line.specs.Words.{value_in, is_new_option, are_in, wide_switch}
+use Rattle.lp_command_line.specs.Words.{value_in, is_new_option, are_in, wide_switch, number_row}
 use Rattle.lp_command_line.specs.declared.fault.Plain.{Plain}
 use Rattle.lp_command_line.specs.declared.fault.Plain.TheVariants.{Address, Number, Name, Seed, Rows, Columns}
 use Rattle.lp_command_line.specs.declared.fault.WordFault.{WordFault}
@@ -25,12 +25,12 @@ use Rattle.lp_command_line.specs.declared.fault.WordFault.TheVariants.{NoOption,
 use Rattle.lp_command_line.specs.WordFaults.{Fault, told, lone_fault, behind_option, option_fault, value_fault, plain_fault, workers_fault}
 use Rattle.lp_command_line.specs.WordFaults.{links_fault}
 use Rattle.lp_command_line.specs.WordFaults.{places_fault, form_fault, run_fault, text_fault, wide_fault, generate_fault}
-use Rattle.lp_command_line.specs.WordFaults.{range_fault, serve_fault, fault_by, word_fault}
+use Rattle.lp_command_line.specs.WordFaults.{number_fault, range_fault, serve_fault, fault_by, word_fault}
 use Rattle.lp_command_line.specs.declared.line.Command.{Command}
 use Rattle.lp_command_line.specs.declared.line.Command.TheVariants as command
 use Rattle.lp_command_line.proofs.Asking.{refused, run-refused, asks-run, text-refused, asks-text, wide-refused, asks-wide, asks-generate}
 use Rattle.lp_command_line.proofs.Asking.{no-address, serve-refused, asks-serve, command_words, row_of, look_up-map}
-use Rattle.lp_command_line.proofs.Asking.{no-name, range-refused, asks-range, asks-command}
+use Rattle.lp_command_line.proofs.Asking.{no-name, number-refused, asks-number, asks-all, asks-one, asks-command}
 
 -- ---- one fault, or another
 
@@ -207,28 +207,38 @@ range-some name None style = refl
 range-some name (Some w) None = refl
 range-some name (Some w) (Some style) = refl
 
-no-range_fault : (words : List Word) → is_none (range_fault words) ≡ is_some (asked_by words range_row)
+no-number_fault : (words : List Word) → is_none (number_fault words) ≡ is_some (asked_by words number_row)
 unfolding given_in
-no-range_fault [] = refl
-no-range_fault (what ∷ []) = refl
-no-range_fault (what ∷ name ∷ words) =
+no-number_fault [] = refl
+no-number_fault (what ∷ []) = refl
+no-number_fault (what ∷ name ∷ words) =
     neither _ _ _ _
     (neither _ _ _ _ (no-plain_fault Number what (is_some (moved_of what))) (no-plain_fault Name name (is_plain name)))
-    (neither _ _ _ _ (no-option_fault range_row.names range_row.switches words) (no-form_fault words []))
-    ∙ by (is_plain name) (are_in range_row.names range_row.switches words) refl refl
+    (neither _ _ _ _ (no-option_fault number_row.names number_row.switches words) (no-form_fault words []))
+    ∙ by (is_plain name) (are_in number_row.names number_row.switches words) refl refl
   where
-    by : (a t : Bool) → is_plain name ≡ a → are_in range_row.names range_row.switches words ≡ t →
+    by : (a t : Bool) → is_plain name ≡ a → are_in number_row.names number_row.switches words ≡ t →
         ((is_some (moved_of what) && a) && (t && is_some (form words [])))
-        ≡ is_some (asked_by (what ∷ name ∷ words) range_row)
+        ≡ is_some (asked_by (what ∷ name ∷ words) number_row)
     by false t h e =
         no_name (is_some (moved_of what)) (t && is_some (form words []))
         ∙ ap is_some (sym (no-name what name words (what ∷ name ∷ words) refl h))
     by true false h e =
         no_options (is_some (moved_of what)) (is_some (form words []))
-        ∙ ap is_some (sym (range-refused what name words (what ∷ name ∷ words) refl e))
+        ∙ ap is_some (sym (number-refused what name words (what ∷ name ∷ words) refl e))
     by true true h e =
         range-some name (moved_of what) (form words [])
-        ∙ ap is_some (sym (asks-range what name words (what ∷ name ∷ words) refl (moved_of what) h e refl))
+        ∙ ap is_some (sym (asks-number what name words (what ∷ name ∷ words) refl (moved_of what) h e refl))
+
+no-range_fault : (words : List Word) → is_none (range_fault words) ≡ is_some (asked_by words range_row)
+unfolding given_in
+no-range_fault [] = refl
+no-range_fault (what ∷ words) = by (is_all what) refl
+  where
+    by : (t : Bool) → is_all what ≡ t →
+        is_none (cond t (text_fault words) (number_fault (what ∷ words))) ≡ is_some (asked_by (what ∷ words) range_row)
+    by true e = no-text_fault RangeAll words ∙ ap is_some (sym (asks-all what words (what ∷ words) refl e))
+    by false e = no-number_fault (what ∷ words) ∙ ap is_some (sym (asks-one what words (what ∷ words) refl e))
 
 generate_by-some : (seed rows columns : Option ℕ) →
     (((is_some seed && is_some rows) && is_some columns) && true) ≡ is_some (generate_by seed rows columns)
@@ -289,6 +299,17 @@ no-serve_fault (address ∷ words) =
     by true true h e =
         serve_by-some (workers words) (links words) (places words)
         ∙ ap is_some (sym (asks-serve address words (address ∷ words) refl h e))
+
+-- by whether the first word is that for all numbers
+pub all_fault : (what : Word) (words all : List Word) → all ≡ what ∷ words → is_all what ≡ true →
+    range_fault all ≡ text_fault words
+all_fault what words all cut e =
+    ap range_fault cut ∙ ap (λ t. cond t (text_fault words) (number_fault (what ∷ words))) e
+
+pub one_fault : (what : Word) (words all : List Word) → all ≡ what ∷ words → is_all what ≡ false →
+    range_fault all ≡ number_fault all
+one_fault what words all cut e =
+    ap range_fault cut ∙ ap (λ t. cond t (text_fault words) (number_fault (what ∷ words))) e ∙ ap number_fault (sym cut)
 
 -- ---- all of them
 

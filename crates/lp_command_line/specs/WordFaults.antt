@@ -5,7 +5,7 @@ use Rattle.std.specs.Prelude.{codes, if◌then◌else◌}
 use denote.Ref.{Bor}
 use Rattle.std.specs.Option.{option_or}
 use Rattle.spec_mps.specs.Shapes.{look_up}
-use Rattle.spec_program.specs.CommandLine.{Word, OptionNames, is_one_of, is_plain}
+use Rattle.spec_program.specs.CommandLine.{Word, OptionNames, is_one_of, is_plain, is_all}
 use Rattle.spec_program.specs.CommandLine.{workers_given, links_given, places_given, form_given}
 use Rattle.spec_program.specs.CommandLine.{seed_of, row_count_of, column_count_of, moved_of}
 use Rattle.lp_command_line.specs.Words.{value_in, wide_switch}
@@ -88,12 +88,17 @@ abbrev pub wide_fault : List Word → Option Fault
 wide_fault words =
     option_or (option_fault (codes "--form" ∷ codes "--wide" ∷ []) wide_switch words) (form_fault wide_switch words)
 
-abbrev pub range_fault : List Word → Option Fault
-range_fault (what ∷ name ∷ words) =
+abbrev pub number_fault : List Word → Option Fault
+number_fault (what ∷ name ∷ words) =
     option_or
     (option_or (plain_fault Number what (is_some (moved_of what))) (plain_fault Name name (is_plain name)))
     (text_fault words)
-range_fault words = Some TooFew
+number_fault words = Some TooFew
+
+-- behind the word for all numbers, or of the words for one
+abbrev pub range_fault : List Word → Option Fault
+range_fault [] = Some TooFew
+range_fault (what ∷ words) = if is_all what then text_fault words else number_fault (what ∷ words)
 
 abbrev pub generate_fault : List Word → Option Fault
 generate_fault (seed ∷ rows ∷ columns ∷ words) =

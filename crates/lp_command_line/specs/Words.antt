@@ -7,7 +7,7 @@ use denote.Ref.{Bor}
 use Rattle.spec_program.specs.declared.command_line.CommandLine.TheVariants.{Read}
 use Rattle.spec_program.specs.declared.command_line.Moved.{Moved}
 use Rattle.spec_program.specs.declared.command_line.TextCommand.TheVariants.{Range}
-use Rattle.spec_program.specs.CommandLine.{Address, ExactLine, OptionNames, is_one_of}
+use Rattle.spec_program.specs.CommandLine.{Address, ExactLine, OptionNames, Row, is_one_of, range_row}
 use Rattle.spec_program.specs.CommandLine.{serve_by, workers_given, links_given, places_given, form_given}
 use Rattle.lp_command_line.specs.declared.listening.Serving.{Serving}
 
@@ -66,6 +66,15 @@ planned (Some serving) = Some (record { address = string_bytes serving.address.n
 -- the switch that asks for numbers of any width
 abbrev pub wide_switch : OptionNames
 wide_switch = codes "--wide" ∷ []
+
+-- the range of one number, whatever word stands before its name
+abbrev pub number_row : Row
+number_row = record {
+  plain = λ words. 2;
+  names = range_row.names;
+  switches = range_row.switches;
+  asks = range_row.asks;
+}
 
 -- the range of a number, by options
 abbrev pub range_in : Moved → List ℕ → List (List ℕ) → Option ExactLine

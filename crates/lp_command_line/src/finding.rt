@@ -7,8 +7,8 @@ ghost use Rattle.lp_command_line.specs.WordFaults as faults;
 
 use crate::fault::{Plain, WordFault};
 use crate::line::{
-    COMMANDS, Command, WIDE, first_option, form_in, is_one_of, is_plain, links_in, moved_of,
-    places_in, seed_of, value_of, workers_in,
+    COMMANDS, Command, WIDE, first_option, form_in, is_all, is_one_of, is_plain, links_in,
+    moved_of, places_in, seed_of, value_of, workers_in,
 };
 use lp_base::look_up;
 use lp_line::number_to;
@@ -128,8 +128,8 @@ fn wide_fault(words: &[String]) -> Option<WordFault<&[u8]>>
     option_fault(words, &["--form", "--wide"], &WIDE).or(form_fault(words, &WIDE))
 }
 
-fn range_fault(words: &[String]) -> Option<WordFault<&[u8]>>
-    ensures { told result ≡ faults.range_fault (map string_bytes words.now) }
+fn number_fault(words: &[String]) -> Option<WordFault<&[u8]>>
+    ensures { told result ≡ faults.number_fault (map string_bytes words.now) }
 {
     let [what, name, options @ ..] = words else {
         return Some(WordFault::TooFew);
@@ -138,6 +138,18 @@ fn range_fault(words: &[String]) -> Option<WordFault<&[u8]>>
     plain_fault(Plain::Number, what, moved_of(what).is_some())
         .or(plain_fault(Plain::Name, name, is_plain(name)))
         .or(text_fault(options))
+}
+
+fn range_fault(words: &[String]) -> Option<WordFault<&[u8]>>
+    ensures { told result ≡ faults.range_fault (map string_bytes words.now) }
+{
+    let [what, options @ ..] = words else {
+        return Some(WordFault::TooFew);
+    };
+    if is_all(what.as_bytes()) {
+        return text_fault(options);
+    }
+    number_fault(words)
 }
 
 #[tactic(auto, unfolding(spec_program::specs::CommandLine::row_count_of, spec_program::specs::CommandLine::column_count_of))]

@@ -7,7 +7,7 @@ ghost use Rattle.spec_program.specs.CommandLine.{run_row, text_row, wide_row, by
 ghost use Rattle.spec_program.specs.CommandLine.{serve_row, asked_by};
 ghost use Rattle.spec_program.specs.CommandLine as command_lines;
 ghost use Rattle.spec_program.specs.Spelled.{spelled_text, told};
-ghost use Rattle.lp_command_line.specs.Words.{bytes_of, first_in, value_in, are_in, wide_switch, range_in, serve_in};
+ghost use Rattle.lp_command_line.specs.Words.{bytes_of, first_in, value_in, are_in, wide_switch, range_in, serve_in, number_row};
 
 use lp_base::{are_same, look_up};
 use lp_line::number_to;
@@ -263,9 +263,16 @@ fn range_with<'a>(moved: Moved, name: &'a [u8], options: &[String]) -> Option<Co
     Some(CommandLine::Read(TextCommand::Range { moved, name }, style))
 }
 
+// Whether a word names all numbers of a model.
+pub(crate) fn is_all(word: &[u8]) -> bool
+    ensures { result ≡ command_lines.is_all word.now }
+{
+    are_same(word, b"all")
+}
+
 // The cost of a column, or the right side of a row, is ranged.
-fn range_line(words: &[String]) -> Option<CommandLine<&[u8]>>
-    ensures { told result ≡ asked_by (map string_bytes words.now) range_row }
+fn number_line(words: &[String]) -> Option<CommandLine<&[u8]>>
+    ensures { told result ≡ asked_by (map string_bytes words.now) number_row }
 {
     let [what, name, options @ ..] = words else {
         return None;
@@ -276,6 +283,19 @@ fn range_line(words: &[String]) -> Option<CommandLine<&[u8]>>
     }
     let moved = moved_of(what.as_bytes())?;
     range_with(moved, name, options)
+}
+
+// All numbers are ranged, or one.
+fn range_line(words: &[String]) -> Option<CommandLine<&[u8]>>
+    ensures { told result ≡ asked_by (map string_bytes words.now) range_row }
+{
+    let [what, options @ ..] = words else {
+        return None;
+    };
+    if is_all(what.as_bytes()) {
+        return text_line(TextCommand::RangeAll, options);
+    }
+    number_line(words)
 }
 
 // The number that a model is made from; 0 is one too.

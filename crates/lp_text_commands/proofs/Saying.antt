@@ -10,7 +10,7 @@ use Rattle.spec_mps.specs.Reader.{start}
 use denote.Ref.{Bor}
 use Rattle.spec_program.specs.declared.command_line.Moved.{Moved}
 use Rattle.spec_program.specs.declared.command_line.TextCommand.{TextCommand}
-use Rattle.spec_program.specs.declared.command_line.TextCommand.TheVariants.{Solve, SolveWide, Check, CheckWide, Basis, BasisWide, Presolve, Iis, Range}
+use Rattle.spec_program.specs.declared.command_line.TextCommand.TheVariants.{Solve, SolveWide, Check, CheckWide, Basis, BasisWide, Presolve, Iis, Range, RangeAll}
 use Rattle.lp_text_commands.specs.declared.tasked.Task.TheVariants as task
 use Rattle.lp_text_commands.specs.Tasked.{TaskOut, task_code}
 use Rattle.spec_commands.specs.RangeOut.{RangeOut, range_code}
@@ -185,6 +185,13 @@ module _ (style : Style) (reader : TextRead) (begun : reader ≡ record { style 
     iis_reads asked h =
         reads_as command Iis style s result asked
         (subst (λ (r : TextRead). SaysSo (text_said r.style) (TaskOut task.Search) task_code s result) begun h)
+
+    pub ranges_reads : command ≡ RangeAll →
+        SaysSo (text_said reader.style) (TaskOut task.Range) task_code s result →
+        ReadsText (spelled_text command) style s result
+    ranges_reads asked h =
+        reads_as command RangeAll style s result asked
+        (subst (λ (r : TextRead). SaysSo (text_said r.style) (TaskOut task.Range) task_code s result) begun h)
 
 -- ---- and of a basis file after it
 

@@ -3,10 +3,11 @@ use Rattle.std.specs.Prelude.{ℕ, List, Ok, Err}
 use Rattle.spec_model.specs.Kept.{IsUsualModel}
 use Rattle.spec_commands.specs.IisOut.{IisOut}
 use Rattle.spec_commands.specs.PresolveOut.{PresolveOut}
+use Rattle.spec_commands.specs.RangesOut.{RangesOut}
 use Rattle.spec_server.specs.TextSaid.{TextSaid}
 use Rattle.spec_commands.specs.SolveOut.{solve_code}
 use Rattle.lp_text_commands.specs.declared.tasked.Task.{Task}
-use Rattle.lp_text_commands.specs.declared.tasked.Task.TheVariants.{Presolve, Search}
+use Rattle.lp_text_commands.specs.declared.tasked.Task.TheVariants.{Presolve, Search, Range}
 
 -- a model that the text spells may be kept
 abbrev pub MayBeKept : TextSaid → Type 0
@@ -22,6 +23,7 @@ pub record ExactTasked : Type 0 where
 abbrev pub TaskOut : Task → TextSaid → List ℕ → Type 0
 TaskOut Presolve said written = PresolveOut said written
 TaskOut Search said written = IisOut said written
+TaskOut Range said written = RangesOut said written
 
 -- its status, whatever is done
 abbrev pub task_code : TextSaid → ℕ

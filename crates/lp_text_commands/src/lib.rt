@@ -1,6 +1,7 @@
 //! The commands on the texts of models: to solve a text's model, at 127 bits, at any width or by a smaller model, to check
 //! the certificate after the text, to solve from the basis of the file after it, at 127 bits or at any width, to find limits
-//! that contradict each other, and to range one of its numbers. And the command that makes a model from a seed, and solves it.
+//! that contradict each other, and to range one of its numbers or all. And the command that makes a model from a seed, and
+//! solves it.
 //!
 //! | Item | What it is | Where |
 //! |---|---|---|
@@ -15,6 +16,7 @@
 //! | `place_of` | the column or the row whose number is ranged, by its name | src/named |
 //! | `print_unknown` | writes that nothing has the name | src/named |
 //! | `print_ranged` | writes what a solve ends with, and the range | src/range_out |
+//! | `print_ranges` | writes what a solve ends with, and the ranges of all numbers | src/ranges_out |
 //! | `KeepsAtEnd` | the basis that an end leaves keeps the model | specs/RangeEnds |
 //! | `print_iis` | writes what a search of a model ends with | src/iis_out |
 //! | `print_presolved` | writes what a solve of a model by a smaller one ends with | src/presolve_out |
@@ -55,6 +57,7 @@ mod points;
 mod presolve_out;
 mod range_out;
 mod ranged;
+mod ranges_out;
 mod sides;
 mod solve;
 mod tasked;

@@ -1,26 +1,29 @@
 // The solve of a model, and the range of one of its numbers.
-ghost use Rattle.std.specs.Prelude.{◌≡◌, ◌<◌, ◌++◌, OnOk, IfOk, IfErr, Ok, Some};
+ghost use Rattle.std.specs.Prelude.{◌≡◌, ◌<◌, ◌++◌, List, OnOk, Ok, Some};
 ghost use Rattle.spec_exact.specs.Narrow.{number_limit};
 ghost use Rattle.spec_model.specs.Kept.{IsUsual};
-ghost use Rattle.spec_simplex.specs.Form.{form_of};
+ghost use Rattle.spec_exact.specs.Run.{refused_as};
+ghost use Rattle.spec_pivot.specs.declared.status.Status.{Status as exact_status};
+ghost use Rattle.spec_simplex.specs.declared.ends.StartStop.TheVariants as stops;
+ghost use Rattle.spec_simplex.specs.Form.{Form as exact_form, form_of};
 ghost use Rattle.spec_range.specs.Span.{Keeps};
 ghost use Rattle.spec_commands.specs.RangeOut as ranges;
 ghost use Rattle.spec_server.specs.Output.{check_line};
 ghost use Rattle.spec_server.specs.declared.answer.Answer.TheVariants as answers;
 ghost use Rattle.spec_server.specs.declared.asks.Reply.TheVariants as replies;
-ghost use Rattle.lp_range.specs.Answer.{IsRefused};
+ghost use Rattle.lp_range.specs.Answer.{IsFrom};
 ghost use Rattle.lp_text_commands.specs.Prints.{Prints};
 ghost use Rattle.lp_text_commands.specs.RangeEnds.{count_by, KeepsAtEnd};
 
 use crate::solve::print_answer;
 use lp_base::Bytes;
 use lp_check::Known;
-use lp_form::{Basis, BasisStop, Form, form};
+use lp_form::{Basis, Form, form};
 use lp_frac::{Frac, Past, Stop};
 use lp_line::{Reply, print_said};
 use lp_model::Model;
 use lp_numtext::write;
-use lp_range::{Range, cost, side};
+use lp_range::{Range, Ranging};
 use lp_solve::{End, OPENING_BUDGET, solved_within};
 use spec_program::Moved;
 use spec_server::Answer;
@@ -113,24 +116,21 @@ fn print_from(
     }
 }
 
-fn range_of(
-    alloc: Global,
+/// The range of this number of the column or row `at`, or the operation that it is refused.
+pub(crate) fn range_of(
+    ranging: &Ranging,
     model: &Model,
-    form: &Form,
-    basis: &Basis,
     moved: Moved,
     at: u32,
-) -> Result<Range, BasisStop>
+) -> Result<Range, Past>
     requires inside { at < count_by moved model.now }
-    requires formed { form_of (Some number_limit) model.now ≡ Ok form.now }
-    requires keeps { Keeps model.now basis.now }
-    ensures ok { IfOk result (λ r. ranges.range_of moved (Some number_limit) model.now form.now basis.now at ≡ Ok r) }
-    ensures err { IfErr result
-        (IsRefused (ranges.range_of moved (Some number_limit) model.now form.now basis.now at)) }
+    requires from { (f : exact_form) × (basis : List exact_status) × IsFrom model.now f basis ranging.now }
+    ensures { (f : exact_form) (basis : List exact_status) → IsFrom model.now f basis ranging.now →
+        ranges.range_of moved (Some number_limit) model.now f basis at ≡ refused_as stops.Past result }
 {
     match moved {
-        Moved::Cost => cost(alloc, model, form, basis, at),
-        Moved::RightSide => side(alloc, model, form, basis, at),
+        Moved::Cost => ranging.cost(model, at),
+        Moved::RightSide => ranging.side(model, at),
     }
 }
 
@@ -150,11 +150,23 @@ fn print_formed(
     ensures { OnOk result (to.new ≡ to.old ++ ranges.ranged_text
         (ranges.range_of moved (Some number_limit) model.now form.now basis.now at)) }
 {
-    match range_of(alloc, model, form, basis, moved, at) {
+    let ranging = Ranging::new(alloc, form, basis)?;
+    let range = range_of(&ranging, model, moved, at);
+    drop(ranging);
+    print_range(alloc, range, to)
+}
+
+/// Writes a range, or the operation that it was refused.
+pub(crate) fn print_range(
+    alloc: Global,
+    range: Result<Range, Past>,
+    to: &mut Bytes,
+) -> Result<(), AllocError>
+    ensures { OnOk result (to.new ≡ to.old ++ ranges.ranged_text (refused_as stops.Past range)) }
+{
+    match range {
         Ok(range) => print_line(alloc, range, to),
-        Err(Stop::Past(past)) => print_past(alloc, past, to),
-        Err(Stop::Cause(_)) => Ok(()),
-        Err(Stop::NoMemory) => Err(AllocError),
+        Err(past) => print_past(alloc, past, to),
     }
 }
 

@@ -13,6 +13,7 @@ use crate::exit_status::ExitStatus;
 use crate::hearing::{Output, hear_input, write_said};
 use crate::iis_out::print_iis;
 use crate::presolve_out::print_presolved;
+use crate::ranges_out::print_ranges;
 use lp_base::{Bytes, Sink, Source};
 use lp_line::{Halt, Refusal, Reply, TextSaid};
 use lp_model::Model;
@@ -26,6 +27,8 @@ pub(crate) enum Task {
     Presolve,
     /// To seek limits that contradict each other.
     Search,
+    /// To range each of its costs and right sides.
+    Range,
 }
 
 /// What a text says, whose model is one that may be kept, and what is done with that.
@@ -84,6 +87,7 @@ fn print_model(alloc: Global, task: Task, model: &Model, to: &mut Bytes) -> Resu
     match task {
         Task::Presolve => print_presolved(alloc, model, to),
         Task::Search => print_iis(alloc, model, to),
+        Task::Range => print_ranges(alloc, model, to),
     }
 }
 

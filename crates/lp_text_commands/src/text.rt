@@ -58,5 +58,8 @@ pub fn read_text<S: Source, K: Sink>(
         TextCommand::Range { moved, name } => {
             say_range(alloc, Reader::new(alloc, style), moved, name, src, out)
         }
+        TextCommand::RangeAll => {
+            say_tasked(alloc, Reader::new(alloc, style), Task::Range, src, out)
+        }
     }
 }

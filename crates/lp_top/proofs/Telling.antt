@@ -4,7 +4,7 @@ use Rattle.std.specs.Io.KnownBytes.{Consumes}
 use denote.Ref.{Bor}
 use Rattle.spec_text.specs.declared.line.Line.{Line}
 use Rattle.spec_program.specs.declared.command_line.CommandLine.{CommandLine}
-use Rattle.spec_program.specs.declared.command_line.TextCommand.TheVariants.{Solve, SolveWide, Check, CheckWide, Basis, BasisWide, Presolve, Iis, Range}
+use Rattle.spec_program.specs.declared.command_line.TextCommand.TheVariants.{Solve, SolveWide, Check, CheckWide, Basis, BasisWide, Presolve, Iis, Range, RangeAll}
 use Rattle.spec_program.specs.CommandLine.{ExactTextCommand}
 use Rattle.spec_program.specs.Spelled.{spelled}
 use Rattle.spec_commands.specs.RangeOut.{place_by, place_code}
@@ -168,6 +168,8 @@ text_codes Iis (Ok m) = inl refl
 text_codes Iis (Err fault) = inr refl
 text_codes (Range moved name) (Ok m) = place_codes (place_by moved m name)
 text_codes (Range moved name) (Err fault) = inr refl
+text_codes RangeAll (Ok m) = inl refl
+text_codes RangeAll (Err fault) = inr refl
 
 pub text_done : (command : ExactTextCommand) (style : Style) (s : Streams) (code : ℕ) →
     Says (said_of command style) (MayWrite command) (code_of command) s code → TellsOfText command style s code

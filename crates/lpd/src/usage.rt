@@ -21,7 +21,7 @@ pub const COMMANDS: [(&str, &str); 9] = [
     ),
     (
         "range WHAT NAME",
-        "Solve a model, and range a cost or a right side (rhs)",
+        "Solve a model, and range a cost, a right side (rhs) or all",
     ),
     (
         "gen SEED ROWS COLS",

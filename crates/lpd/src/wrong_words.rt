@@ -170,7 +170,7 @@ fn text(word: &[u8]) -> &str {
 fn wanted(plain: Plain) -> &'static str {
     match plain {
         Plain::Address => "ADDRESS: an IP address or a host, a colon and a port",
-        Plain::Number => "WHAT: cost or rhs",
+        Plain::Number => "WHAT: cost, rhs or all",
         Plain::Name => "NAME: that of a column or row, and it begins with no -",
         Plain::Seed => "SEED: 0 to 1,000,000",
         Plain::Rows => "ROWS: 1 to 256",
@@ -209,7 +209,7 @@ fn hint(
             meant(alloc, nearest(alloc, text(value), &["free", "fixed"])?)
         }
         (Some(_), WordFault::NotPlain(Plain::Number, word)) => {
-            meant(alloc, nearest(alloc, text(word), &["cost", "rhs"])?)
+            meant(alloc, nearest(alloc, text(word), &["cost", "rhs", "all"])?)
         }
         _ => Ok(String::new(alloc)),
     }

@@ -1,5 +1,5 @@
 -- From the start of a text on.
-use Rattle.lp_text_commands.proofs.Saying.{solve_reads, wide_solve_reads, check_reads, wide_reads, basis_reads, wide_basis_reads, presolve_reads, iis_reads, range_reads}
+use Rattle.lp_text_commands.proofs.Saying.{solve_reads, wide_solve_reads, check_reads, wide_reads, basis_reads, wide_basis_reads, presolve_reads, iis_reads, range_reads, ranges_reads}
 use Rattle.lp_text_commands.proofs.text.read_text.Goals as goal
 
 pub returns-in-Solve-clause-output : goal.returns-in-Solve-clause-output
@@ -45,3 +45,8 @@ returns-in-Range-clause-output g c =
     range_reads c.args.style c.new-in-Range.result c.new-in-Range.ensures c.args.command c.in-Range.moved
     c.in-Range.name
     c.in-Range.is _ _ c.say_range.ensures.output
+
+pub returns-in-RangeAll-clause-output : goal.returns-in-RangeAll-clause-output
+returns-in-RangeAll-clause-output g c =
+    ranges_reads c.args.style c.new-in-RangeAll.result c.new-in-RangeAll.ensures c.args.command _ _ c.in-RangeAll.is
+    c.say_tasked-in-RangeAll.ensures.output
