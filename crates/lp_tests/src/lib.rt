@@ -11,6 +11,7 @@
 //! | `links` | two links in memory that one worker serves, a listener without a link, and links that fail | src/links |
 //! | `tcp` | two links over loopback, each served by a worker of its own | src/tcp |
 //! | `wide_numbers` | texts of numbers past 127 bits | src/wide_numbers |
+//! | `float_ends` | ends of runs in floats, at an optimum, without a feasible point and without a limit | src/float_ends |
 //! | `long_words` | common divisors, quotients and sizes of numbers of many words | src/long_words |
 //! | `sparse_factors` | factors of small matrices modulo a prime | src/sparse_factors |
 //! | `lifted_bases` | answers of bases that are optimal, of some that are none, and of some that are a few steps away | src/lifted_bases |
@@ -18,6 +19,8 @@
 
 #[cfg(test)]
 mod board;
+#[cfg(test)]
+mod float_ends;
 #[cfg(test)]
 mod full_board;
 #[cfg(test)]

@@ -12,7 +12,7 @@ use std::alloc::{AllocError, Global};
 use std::test::Fail;
 
 // The model that a text spells, if it has fewer than a hundred lines.
-fn model_of(alloc: Global, text: &str) -> Result<Option<Model>, AllocError> {
+pub(crate) fn model_of(alloc: Global, text: &str) -> Result<Option<Model>, AllocError> {
     let mut pieces = Texts::new(alloc);
     pieces.push(Bytes::from_slice(alloc, text.as_bytes())?)?;
     let mut source = MemSource::new(pieces, Vec::new(alloc));
@@ -59,7 +59,7 @@ fn is_value(alloc: Global, value: &Ratio, wanted: &str) -> bool {
 }
 
 // Whether a certificate is accepted, and shows this.
-fn shows(alloc: Global, verdict: &Verdict, wanted: &str) -> bool {
+pub(crate) fn shows(alloc: Global, verdict: &Verdict, wanted: &str) -> bool {
     match verdict {
         Verdict::Yes(Known::Optimal(value)) => is_value(alloc, value, wanted),
         Verdict::Yes(Known::Infeasible) => are_same(wanted.as_bytes(), b"infeasible"),
