@@ -6,7 +6,7 @@ use crate::number::{add_at, at, index_at, put};
 use crate::program::Program;
 use crate::rebuild::{add_column, evaluate, make_row, reduce, solve_column, solve_unit};
 use crate::sparse::{copy_to, square};
-use crate::state::{Room, State, put_status, refactor, status_at};
+use crate::state::{Room, State, put_status, refactor};
 use spec_pivot::Status;
 use std::alloc::{AllocError, Global};
 

@@ -304,15 +304,6 @@ impl State {
         }
     }
 
-    /// The greatest magnitude by which a value is outside.
-    pub(crate) fn most_outside(&self) -> f64 {
-        let mut most = 0.0;
-        for k in 0..self.status.len() {
-            most = self.outside(k).abs().max(most);
-        }
-        most
-    }
-
     /// The most that a reduced cost is wrong.
     pub(crate) fn most_wrong(&self) -> f64 {
         let mut most = 0.0;
