@@ -617,16 +617,22 @@ def as_the_program(fault: TextFault, lines: List[str], fixed: bool, encoding: st
 CUTS = [slice(first - 1, last) for first, last in FIELDS]
 
 
+# Where a line has words, by its bytes: x, and ? for what is neither printable ASCII nor a space, and for $.
+SHAPES = bytes(10 if n == 10 else 32 if n == 32 else 120 if 32 < n < 127 and n != 36 else 63 for n in range(256))
+
+
 def is_same_in_fixed(lines: Sequence[str]) -> bool:
-    """Whether each card has the same words in fixed form as in free form. Then it says the same in fixed form, or is a fault there."""
-    for line in lines:
+    """Whether each card has the same words in fixed form as in free form. Then it says the same in fixed form, or is a fault there. Many
+    lines have their words in the same places, of which one is looked at."""
+    shapes, same = "\n".join(lines).encode("utf-8", "replace").translate(SHAPES).split(b"\n"), set()
+    for line, shape in zip(lines, shapes):
         if line[:1] not in (" ", "\t", "\r"):
             if line[:6].upper() == "ENDATA":
                 return True
-        elif "$" in line or not (line.isascii() and line.isprintable()):
-            return False
-        elif [part for part in [line[cut].strip() for cut in CUTS] if part] != line.split():
-            return False
+        elif shape not in same:
+            if b"?" in shape or list(filter(None, [shape[cut].strip() for cut in CUTS])) != shape.split():
+                return False
+            same.add(shape)
     return True
 
 
@@ -647,10 +653,11 @@ def as_it_stands(text: str, options: Options) -> Optional[Converted]:
         return None
     cards = lines[:count]
     fields = cards[next(n for n, line in enumerate(cards) if line.startswith("ROWS")) :]
-    if not (is_none_in_fixed(fields) or is_same_in_fixed(fields)):
+    if not (is_same_in_fixed(fields) or is_none_in_fixed(fields)):
         return None
     # A card of a bound without a number, whose second word may be a set or a column.
-    unclear = (words[1] for words in map(words_of, cards) if len(words) == 3 and words[0] in WITHOUT_NUMBER)
+    bounds = fields[next((n for n, line in enumerate(fields) if line.startswith("BOUNDS")), len(fields)) :]
+    unclear = (words[1] for words in map(words_of, bounds) if len(words) == 3 and words[0] in WITHOUT_NUMBER)
     is_free = any(row.kind == FREE for row in model.rows.values())
     if model.skipped or is_free or any(word in model.columns for word in unclear):
         return None

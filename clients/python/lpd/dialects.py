@@ -7,7 +7,7 @@ from typing import Callable, Dict, List, Optional, Sequence, Tuple
 from .errors import LpdError
 from .model import Column, Limits, Model
 from .names import Renamed, renamed
-from .number_text import DECIMAL, shown
+from .number_text import shown
 from .records import dataclass, field, replace
 
 DIGITS = 17  # enough for each float to be read back
@@ -95,10 +95,18 @@ class Writer:
     def __init__(self, model: Model, dialect: Dialect, rounds: bool = False) -> None:
         self.model, self.dialect, self.rounds = model, dialect, rounds
         self.rounded: List[str] = []
+        self.texts: Dict[Tuple[int, int], str] = {}  # of numbers by tops and bottoms: most stand more than once
 
     def number(self, value: Fraction) -> str:
+        key = (value.numerator, value.denominator)
+        found = self.texts.get(key)
+        if found is None:
+            found = self.texts[key] = self.text_of(value)
+        return found
+
+    def text_of(self, value: Fraction) -> str:
         exact = shown(value)
-        if self.dialect.reads_quotients or DECIMAL.match(exact):
+        if self.dialect.reads_quotients or "/" not in exact:
             return exact
         found = decimal(value)
         if found is None:
@@ -147,6 +155,8 @@ class Writer:
 
 def with_names(model: Model, rows: Dict[str, str], columns: Dict[str, str]) -> Model:
     """The model with other names for the rows and columns that are in the tables."""
+    if not rows and not columns:
+        return model
 
     def entries(column: Column) -> Dict[str, Fraction]:
         return {rows.get(row, row): value for row, value in column.entries.items()}
@@ -161,6 +171,8 @@ def with_names(model: Model, rows: Dict[str, str], columns: Dict[str, str]) -> M
 
 def without_free_rows(model: Model) -> Model:
     """The model without the rows that limit nothing."""
+    if not model.free_rows():
+        return model
     rows = {name: row for name, row in model.rows.items() if not row.is_free()}
 
     def entries(column: Column) -> Dict[str, Fraction]:
