@@ -31,21 +31,30 @@ else:
     class FrozenInstanceError(AttributeError):
         """A field of a value that does not change was set."""
 
+    def given_to(record, values, named):
+        """The fields that are given, by their names."""
+        fields = record.record_fields
+        if len(values) > len(fields):
+            raise TypeError(f"{type(record).__name__} has {len(fields)} fields, and {len(values)} values are given")
+        given = dict(zip(fields, values))
+        for name, value in named.items():
+            if name not in fields or name in given:
+                raise TypeError(f"{type(record).__name__} has no field {name!r}, or it is given twice")
+            given[name] = value
+        return given
+
     class Record:
-        """What the classes have for methods. `record_fields` are the fields of a class by their names, in their order."""
+        """What the classes have for methods. `record_fields` are the fields of a class by their names, in their order, `record_plain` what
+        those are that are not given and have one value for that, and `record_others` the names of the others."""
 
         def __init__(self, *values, **named):
-            fields = self.record_fields
-            if len(values) > len(fields):
-                raise TypeError(f"{type(self).__name__} has {len(fields)} fields, and {len(values)} values are given")
-            given = dict(zip(fields, values))
-            for name, value in named.items():
-                if name not in fields or name in given:
-                    raise TypeError(f"{type(self).__name__} has no field {name!r}, or it is given twice")
-                given[name] = value
-            own = self.__dict__
-            for name, field in fields.items():
-                own[name] = given[name] if name in given else field.value(name)
+            fields, own = self.record_fields, self.__dict__
+            own.update(self.record_plain)
+            if values or named:
+                own.update(given_to(self, values, named))
+            for name in self.record_others:
+                if name not in own:
+                    own[name] = fields[name].value(name)
 
         def record_values(self):
             return tuple(getattr(self, name) for name, field in self.record_fields.items() if field.counts)
@@ -81,6 +90,8 @@ else:
             if name not in own or name == "__hash__" and own[name] is None:
                 setattr(made, name, method)
         made.record_fields = fields
+        made.record_others = tuple(name for name, field in fields.items() if field.made is not None or field.default is REQUIRED)
+        made.record_plain = {name: field.default for name, field in fields.items() if name not in made.record_others}
         return made
 
     def replace(record, **changes):
