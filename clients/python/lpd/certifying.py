@@ -1,6 +1,6 @@
 """A floating point solver's answer, made exact: by `lpd basis --wide` from its basis, where that has no answer from the basis that the
 solver ends with when it refines that one, and else, of a model that is not large, by exact steps in Python. Without a
-solver `lpd solve --wide` is asked. The certificate is judged by the checkers.
+solver `lpd solve --wide` is asked first. The certificate is judged by the checkers.
 
 `lpd basis --wide` goes on where the start from a basis meets a number past 127 bits: so it alone is asked. A program without it
 is asked for `lpd basis`, and once more with rows and columns in another order."""
@@ -131,10 +131,7 @@ def answered(text: str, basis: Sequence[str], command: str = BASIS, seconds: Opt
     try:
         found = solve_from(text, basis, wide=command == BASIS_WIDE, seconds=seconds)
     except TextFault as fault:
-        if fault.fault not in (TOO_WIDE, TOO_MUCH):
-            raise
-        has = "has a number past 127 bits" if fault.fault == TOO_WIDE else "is past what it takes"
-        raise NotAnswered(f"line {fault.line} of the model {has}", command=command) from None
+        raise refusal_of(fault, command) from None
     except CommandMissing:
         raise
     except (OutOfTime, ProgramEnded) as ended:
@@ -249,34 +246,44 @@ def made_exact(
     return Exact(known, certificate, steps, PYTHON, notes=notes)
 
 
-def made_exact_alone(text: str, model: Model, claim: Claim, watch: Watch) -> Exact:
-    """What is exactly true, from a basis of the package's own; before exact steps in Python `lpd solve --wide` is asked."""
-    try:
-        with watch.half() as part:
-            return made_exact(text, model, claim, PROGRAM, part)
-    except NotAnswered as failed:
-        notes, is_wide = [str(failed)], failed.command == BASIS_WIDE
-    try:
-        with watch.half() as part:
-            found = by_own_solve(text, model, None, part.left()) if is_wide else made_exact(text, model, claim, PYTHON, watch)
-    except NotAnswered as failed:
-        notes.append(str(failed))
-        found = made_exact(text, model, claim, PYTHON, watch)
-    return replace(found, notes=[*notes, *found.notes])
+def refusal_of(fault: TextFault, command: str) -> NotAnswered:
+    """Why a command has no answer which refuses a text for its numbers or its size. Another fault is raised."""
+    if fault.fault not in (TOO_WIDE, TOO_MUCH):
+        raise fault
+    has = "has a number past 127 bits" if fault.fault == TOO_WIDE else "is past what it takes"
+    return NotAnswered(f"line {fault.line} of the model {has}", command=command)
 
 
-def by_own_solve(text: str, model: Model, way: Optional[str], seconds: Optional[float]) -> Exact:
+def by_own_solve(text: str, model: Model, seconds: Optional[float]) -> Exact:
     """The answer of `lpd solve --wide`, without a solver to begin with."""
-    if way == PYTHON:
-        must_be_small(model, "exact steps in Python are")
     try:
         with Watch(seconds) as watch, watch.telling(SOLVE_WIDE):
             found = solve_wide(text, seconds=seconds)
+    except TextFault as fault:
+        raise refusal_of(fault, SOLVE_WIDE) from None
     except (CommandMissing, OutOfTime, ProgramEnded) as failed:
         raise NotAnswered(str(failed), command=SOLVE_WIDE) from None
     if not found.certificate:
         raise NotAnswered(f"it ends with {found.answer}", found.answer, SOLVE_WIDE)
     return exact_of(model, FromBasis(found.answer, "COLD", None, found.certificate, []), SOLVE_WIDE, [])
+
+
+def made_exact_alone(text: str, model: Model, way: Optional[str], watch: Watch) -> Exact:
+    """What is exactly true, without a solver: by `lpd solve --wide`, and where that has no answer, of a model that is not large, from
+    a basis of the package's own; or, as `way` may say, only by exact steps in Python."""
+    notes: List[str] = []
+    if way == PYTHON:
+        must_be_small(model, "exact steps in Python are")
+    else:
+        try:
+            return by_own_solve(text, model, (watch if model.is_large else watch.half()).left())
+        except NotAnswered as failed:
+            if model.is_large:
+                raise
+            notes = [str(failed)]
+    claim = ask(NONE, model, watch.half().left())
+    found = made_exact(text, model, claim, way, watch)
+    return replace(found, notes=[*notes, *found.notes])
 
 
 def certify(
@@ -291,18 +298,16 @@ def certify(
     may take so many seconds, and what comes behind it as many: then it ends with OutOfTime. Who has read the model may give it."""
     model = read_model(text, wide=True, large=True) if model is None else model
     started = time.monotonic()
-    if solver == NONE and model.is_large:
+    if solver == NONE:
         claim, asked = Claim("nothing"), started
-        found = by_own_solve(text, model, way, seconds)
+        with Watch(seconds) as watch:
+            found = made_exact_alone(text, model, way, watch)
     else:
         with Watch(seconds) as watch, watch.telling(solver):
             claim = ask(solver, model, seconds)
         asked = time.monotonic()
         with Watch(seconds) as watch:
-            if solver == NONE and way is None:
-                found = made_exact_alone(text, model, claim, watch)
-            else:
-                found = made_exact(text, model, claim, way, watch, solver=solver)
+            found = made_exact(text, model, claim, way, watch, solver=solver)
     with Watch() as watch, watch.telling("the proved checker"):
         by = judged(text, found.certificate, model.is_large)
     if by.known not in (None, found.known):

@@ -174,7 +174,13 @@ class BySolvers(unittest.TestCase):
     def test_no_solver(self) -> None:
         for path in sorted(MODELS.glob("*.mps")):
             answer = path.with_suffix(".solved").read_text().splitlines()[0]
-            self.assertEqual(str(certify(convert(path.read_bytes()).text, "none").known), answer)
+            found = certify(convert(path.read_bytes()).text, "none")
+            self.assertEqual((str(found.known), found.command), (answer, "lpd solve --wide"))
+
+    def test_no_solver_and_a_number_that_the_program_does_not_take(self) -> None:
+        found = certify(WIDE, "none")
+        self.assertEqual((found.known, found.way, found.narrow), (lpd.Optimal(Fraction(10**50, 3)), "python", False))
+        self.assertEqual(found.notes[0], "lpd solve --wide has no answer: line 7 of the model has a number past 127 bits")
 
     def test_glpsol(self) -> None:
         self.by("glpsol")
