@@ -106,6 +106,15 @@ class Browser:
             raise BrowserFailed(details.get("exception", {}).get("description", details["text"]))
         return result["result"].get("value")
 
+    def page_seconds(self):
+        """The seconds of the processor that the processes of pages had."""
+        session, self.session = self.session, None
+        try:
+            processes = self.call("SystemInfo.getProcessInfo")["processInfo"]
+        finally:
+            self.session = session
+        return sum(each["cpuTime"] for each in processes if each["type"] == "renderer")
+
     def open(self, path):
         """Opens a file, and waits until its page is there."""
         self.call("Page.navigate", url=path.resolve().as_uri())

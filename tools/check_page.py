@@ -1,7 +1,7 @@
 #!/usr/bin/env python3
 """Opens web/check.html in Chromium, from its file and without a window, and checks what it says.
 
-    check_page.py [--all] [--seed N] [--models DIR] [--certificates DIR] [--pictures DIR] [PROGRAM]
+    check_page.py [--all] [--only WORD] [--seed N] [--models DIR] [--certificates DIR] [--pictures DIR] [PROGRAM]
 
 It checks that
 
@@ -20,8 +20,9 @@ It checks that
 With --all it makes 500 models, instead of 40, for each of the three. With --models it makes the basis at which glpsol stops on
 each model DIR/*.mps exact, as `certify --by python` of clients/python does, in numbers of any width, and the page has to accept
 that certificate for the text, or for what it is converted to. With --certificates it gives the page the files NAME.mps (or
-NAME.fixed.mps) and NAME.certificate of each name in DIR, which all have to be accepted, and then the same with one number changed:
-the page says the line of `PROGRAM check --wide`, shows progress, and goes on. With --pictures it takes the pictures of docs/. Without
+NAME.fixed.mps) and NAME.certificate of each name in DIR, which all have to be accepted, and then the same with one digit and with one
+number changed: the page says the line of `PROGRAM check --wide`, shows progress, and goes on. It prints how long each takes, of the
+wall and of the processor. With --only just the checks are made whose names have WORD. With --pictures it takes the pictures of docs/. Without
 PROGRAM the checker of clients/python stands for it. It prints what is wrong, and the status is 1 where something is.
 """
 import argparse
@@ -46,7 +47,7 @@ from browser import Browser, find_browser  # noqa: E402
 from lpd.certifying import PYTHON, certify  # noqa: E402
 from lpd.conversion import Options, convert  # noqa: E402
 from lpd.page import page_with  # noqa: E402
-from made_models import Made, Maker, mutated, with_one_number_changed  # noqa: E402
+from made_models import Made, Maker, mutated, with_one_digit_changed, with_one_number_changed  # noqa: E402
 from page_texts import CLAIMS, FAULTS, edges, large_model, wide_edges  # noqa: E402
 
 PAGE = TOP / "web" / "check.html"
@@ -281,7 +282,7 @@ class PageCheck:
             self.compare(cases, what)
 
     def check_certificates(self):
-        """Certificates of a folder, which are all right, and each with one number changed."""
+        """Certificates of a folder, which are all right, and each with one digit, and with one number, changed."""
         dice = random.Random(self.words.seed)
         for path in sorted(Path(self.words.certificates).glob("*.mps")):
             certificate = path.with_name(path.name.split(".")[0] + ".certificate")
@@ -291,7 +292,16 @@ class PageCheck:
             expect(line.startswith("YES "), f"{path.name}: {line[:80]} {self.run('byId(`reason`)?.textContent')}")
             same(line, self.expected(made, True)[0], path.name)
             self.count("certificates of the folder")
+            self.check_digit(path, with_one_digit_changed(dice, made))
             self.compare([(with_one_number_changed(dice, made), True)], "of these with one number changed")
+
+    def check_digit(self, path, made):
+        """The page says of the files with a digit changed what the program does, and that is no YES."""
+        changed = self.folder / path.with_suffix(".changed").name
+        changed.write_text(made.certificate)
+        line = self.chosen(path, changed, made.fixed)
+        same(line, self.expected(made, True)[0], f"{path.name} with one digit changed")
+        self.count("of these refused with one digit changed", not line.startswith("YES "))
 
     def chosen(self, model, certificate, fixed):
         """What the page says of two files that are chosen, and a line that says how long that takes."""
@@ -299,12 +309,14 @@ class PageCheck:
         self.run(f"document.querySelector('[name=form][value={'fixed' if fixed else 'free'}]').checked = true")
         self.browser.choose("#certificate-file", certificate)
         self.run(CLOCK)
-        start = time.monotonic()
+        start, spent = time.monotonic(), self.browser.page_seconds()
         self.browser.choose("#model-file", model)
         line = self.run("until(() => stages.size > 0).then(settled).then(said)")
         seconds, longest = time.monotonic() - start, self.run("longest")
+        spent = self.browser.page_seconds() - spent
         expect(certificate.stat().st_size < MUCH or self.run("stages.size") >= 2, f"{model.name}: no progress is shown")
-        print(f"check_page.py: {model.name} in {seconds:.2f} s; the page stood for {longest:.0f} ms at most", flush=True)
+        times = f"{seconds:.2f} s, of the processor {spent:.2f} s; the page stood for {longest:.0f} ms at most"
+        print(f"check_page.py: {model.name} and {certificate.name}: {line[:12]} in {times}", flush=True)
         return line
 
     def check_models(self):
@@ -506,6 +518,7 @@ class PageCheck:
 def main():
     parser = argparse.ArgumentParser(description="Checks web/check.html in Chromium.")
     parser.add_argument("--all", action="store_true", help="500 made models, instead of 40")
+    parser.add_argument("--only", default="", metavar="WORD", help="just the checks whose names have this word")
     parser.add_argument("--seed", type=int, default=1, metavar="N", help="of what is made (1)")
     parser.add_argument("--models", metavar="DIR", help="models, each of which is certified and checked")
     parser.add_argument("--certificates", metavar="DIR", help="pairs of NAME.mps and NAME.certificate, all right")
@@ -527,6 +540,8 @@ def main():
         checks += [page.check_models] if words.models else []
         checks += [page.check_certificates] if words.certificates else []
         for check in checks:
+            if words.only not in check.__name__:
+                continue
             try:
                 check()
             except Wrong as what:

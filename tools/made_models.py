@@ -317,6 +317,17 @@ def with_one_number_changed(dice: random.Random, made: Made) -> Made:
     return Made(changed, made.fixed, made.certificate) if in_model else Made(made.text, made.fixed, changed)
 
 
+def with_one_digit_changed(dice: random.Random, made: Made) -> Made:
+    """The same, with another digit in a number of the certificate that is not 0."""
+    lines = made.certificate.split("\n")
+    place = dice.choice([i for i, line in enumerate(lines) if len(line.split()) == 3 and line.split()[2] != "0"])
+    front, _, word = lines[place].rpartition(" ")
+    at = dice.choice([n for n, letter in enumerate(word) if letter.isdigit()])
+    digit = dice.choice([digit for digit in "123456789" if digit != word[at]])
+    lines[place] = f"{front} {word[:at]}{digit}{word[at + 1 :]}"
+    return Made(made.text, made.fixed, "\n".join(lines))
+
+
 def is_number(word: str) -> bool:
     try:
         value_of(word)
