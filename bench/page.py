@@ -1,4 +1,5 @@
 """What the programs here have in common at their end: lines that are shown, kept and put into a page of the documents."""
+import datetime
 import sys
 
 
@@ -12,8 +13,9 @@ def shown(lines):
 
 
 def write(page, begin, end, lines):
-    """The lines take the place of what stands between the marks."""
+    """The lines, with the day above them, take the place of what stands between the marks."""
     front, rest = page.read_text().split(begin, 1)
+    lines = [f"Measured on {datetime.date.today()}.", "", *lines]
     page.write_text(front + begin + "\n\n" + "\n".join(lines) + "\n\n" + end + rest.split(end, 1)[1])
 
 
