@@ -111,9 +111,10 @@ class Tableau:
         return ends_of(gap for other, rate in rates.items() for gap in self.limit_gaps(other, rate))
 
 
-def by_program(text: str, model: Model, path: Optional[str]) -> Optional[Tuple[Answer, Basis]]:
-    """The answer of `lpd basis --wide`, or of `lpd basis`, and the basis that it ends with."""
-    for wide in (True, False):
+def by_program(text: str, path: Optional[str], is_narrow: bool) -> Optional[Tuple[Answer, Basis]]:
+    """The answer of `lpd basis --wide`, or of `lpd basis`, and the basis that it ends with. Of a narrow model the second is asked
+    first, since it solves as `lpd range all` does."""
+    for wide in (not is_narrow, is_narrow):
         try:
             found = solve_from(text, NO_CARDS, path, wide)
         except (ProgramEnded, Refused, OutOfTime):
@@ -138,7 +139,8 @@ def by_ways(text: str, model: Model) -> Tuple[Answer, Basis]:
     return found.answer, Basis(columns, {r.name: near(r.limits, r.activity) for r in point.rows})
 
 
-def tableau_of(text: str, model: Model, path: Optional[str] = None, watch: Optional[Watch] = None) -> Tuple[Answer, Optional[Tableau]]:
-    """The answer to the model of a text of the profile in free form, and of an optimum its tableau."""
-    answer, basis = by_program(text, model, path) or by_ways(text, model)
-    return answer, Tableau(model, basis, watch) if isinstance(answer, Optimal) else None
+def tableau_of(text: str, model: Model, path: Optional[str] = None, is_narrow: bool = False) -> Tuple[Answer, Optional[Tableau]]:
+    """The answer to the model of a text of the profile in free form, and of an optimum its tableau; of a narrow model the program
+    solves within 127 bits."""
+    answer, basis = by_program(text, path, is_narrow) or by_ways(text, model)
+    return answer, Tableau(model, basis) if isinstance(answer, Optimal) else None

@@ -19,7 +19,7 @@ from lpd.exact import BASIC, UPPER, Basis
 from lpd.model import Model
 from lpd.once import has_command, output_of
 from lpd.pieces import DOWN, UP, Piece, Walk, edge, picture_of
-from lpd.ranging import COST, RHS, Range, number_of, range_of, read_range, with_number
+from lpd.ranging import COST, RHS, Range, number_of, numbers_of, range_of, read_range, read_ranges, with_number
 from lpd.tableau import Gap, Tableau, ends_of
 
 from .commands import Said, command, reported
@@ -83,6 +83,34 @@ class Written(unittest.TestCase):
         for lines in ([], ["RANGE 1 2 SLOPE 1"], ["OPTIMAL 1"], ["OPTIMAL 1", "RANGE 1 2"], ["OPTIMAL 1", "RANGE 1 2 SLOPE q"], ["OPTIMAL 1", "RANGE 1 2 SLOPE 1", ""]):
             with self.assertRaises(lpd.Unexpected):
                 read_range(lines, Fraction(0))
+
+
+class WrittenOfAll(unittest.TestCase):
+    """What the program writes of all numbers."""
+
+    model = lpd.read_model(SHOP)
+    lines = [
+        "OPTIMAL 7",
+        "cost x RANGE -1 NONE SLOPE 3",
+        "cost y PAST DIV 1 3",
+        "rhs R1 RANGE 2 NONE SLOPE 1.5",
+        "rhs R2 RANGE -4 4 SLOPE 0.5",
+    ]
+
+    def test_what_is_read(self) -> None:
+        found = read_ranges(self.lines, self.model)
+        self.assertEqual((found.answer, list(found.costs), list(found.sides)), (lpd.Optimal(Fraction(7)), ["x", "y"], ["R1", "R2"]))
+        one = found.sides["R2"]
+        self.assertEqual((one.now, one.says(), one.is_proved) if isinstance(one, Range) else one, (2, (-4, 4, Fraction(1, 2)), True))
+        self.assertEqual(found.costs["y"], lpd.Past("DIV", Fraction(1), Fraction(3)))
+        self.assertEqual(found.told(), "Of 4 ranges 3 are as lpd range all has them, which is proved.")
+        self.assertEqual(read_ranges(["INFEASIBLE"], self.model), lpd.Ranges(lpd.Infeasible()))
+
+    def test_what_is_none(self) -> None:
+        other_order = [*self.lines[:3], self.lines[4], self.lines[3]]
+        for lines in ([], self.lines[:4], [*self.lines, "rhs R2 RANGE -4 4 SLOPE 0.5"], other_order, [*self.lines[:4], "rhs R2"]):
+            with self.assertRaises(lpd.Unexpected):
+                read_ranges(lines, self.model)
 
 
 class Steps(unittest.TestCase):
@@ -204,7 +232,7 @@ class AllAtOnce(unittest.TestCase):
         if not first.startswith("OPTIMAL "):
             self.assertEqual(lines, [])
             return 0
-        numbers = [(COST, name) for name in model.columns] + [(RHS, name) for name in model.rows]
+        numbers = numbers_of(model)
         self.assertEqual([line.split(" ")[:2] for line in lines], [[what, name] for what, name in numbers])
         for line, (what, name) in zip(lines, numbers):
             if not name.startswith("-"):  # which begins no name on a command line
@@ -223,6 +251,13 @@ class AllAtOnce(unittest.TestCase):
         models = [some_model(dice) for _ in range(int(os.environ.get("MODELS", "25")))]
         self.assertGreater(sum(self.compare(written(model, PROFILE).text) for model in models), 0)
 
+    def test_the_examples_are_proved(self) -> None:
+        """Those of all examples are: what the tableau has the program has too."""
+        for path in sorted(MODELS.glob("*.mps")):
+            found = lpd.ranges(path.read_text(), fixed=".fixed" in path.name)
+            every = [*found.costs.values(), *found.sides.values()]
+            self.assertTrue(all(isinstance(one, Range) and one.is_proved for one in every), path.stem)
+
 
 @unittest.skipUnless(ready(), "there is no program, or it has no command range")
 class WithTheProgram(unittest.TestCase):
@@ -236,6 +271,15 @@ class WithTheProgram(unittest.TestCase):
         self.assertEqual((cost.below, cost.above), (["R1 leaves its upper limit"], ["R2 leaves its upper limit"]))
         self.assertEqual((side.now, side.low, side.high, side.slope), (4, 2, None, Fraction(3, 2)))
         self.assertEqual((side.below, side.above), (["y comes to its lower bound"], []))
+
+    def test_without_the_command_for_all(self) -> None:
+        """The ranges are the same, and none is called proved."""
+        whole = lpd.ranges(SHOP)
+        for why in (lpd.CommandMissing("range"), lpd.OutOfTime("lpd range is not done in 2 seconds")):
+            with mock.patch("lpd.ranging.output_of", side_effect=why):
+                found = lpd.ranges(SHOP)
+            self.assertEqual(found, whole)
+            self.assertEqual(found.told(), "Of 4 ranges none is as lpd range all has them, which is proved.")
 
     def test_a_session(self) -> None:
         with lpd.Session() as session:
@@ -330,10 +374,11 @@ class WithTheProgram(unittest.TestCase):
         cards = [f" x{i}.{j} cost {dice.randint(1, 99)} s{i} 1\n x{i}.{j} d{j} 1" for i in range(10) for j in range(24)]
         sides = [f" RHS s{i} 30" for i in range(10)] + [f" RHS d{j} 9.5" for j in range(24)]
         text = "\n".join(["ROWS", " N cost", *rows, "COLUMNS", *cards, "RHS", *sides, "ENDATA", ""])
-        with mock.patch("lpd.from_basis.output_of", wraps=lpd.once.output_of) as asked, mock.patch("lpd.ranging.output_of") as one_by_one:
+        by_program = lpd.once.output_of
+        with mock.patch("lpd.from_basis.output_of", wraps=by_program) as basis, mock.patch("lpd.ranging.output_of", wraps=by_program) as whole:
             found = lpd.ranges(text)
-        self.assertEqual((len(found.costs), len(found.sides), asked.call_count), (240, 34, 1))
-        one_by_one.assert_not_called()
+        self.assertEqual((len(found.costs), len(found.sides), basis.call_count, whole.call_count), (240, 34, 1, 1))
+        self.assertEqual(whole.call_args.args[0], ["range", "all"])
 
     def test_past_127_bits(self) -> None:
         """Where the rule's own operations pass them, and where a number of the model does."""
@@ -342,7 +387,8 @@ class WithTheProgram(unittest.TestCase):
             found = lpd.ranges(text.format(side))
             self.assertEqual(found.answer, lpd.Optimal(Fraction(10**30 * side, 3)))
             one = found.sides["a"]
-            self.assertEqual((one.low, one.high, one.slope) if isinstance(one, Range) else one, (0, None, Fraction(10**30, 3)))
+            self.assertEqual(one.says() if isinstance(one, Range) else one, (0, None, Fraction(10**30, 3)))
+            self.assertFalse(isinstance(one, Range) and one.is_proved)
             self.assertEqual(range_of(lpd.read_model(text.format(side), wide=True), RHS, "a")[1], one)
 
     def try_range(self, model: Model, what: str, name: str, found: Range) -> None:
@@ -374,6 +420,8 @@ class Shown(unittest.TestCase):
         self.assertIn("from =-2", lines[5])
         self.assertTrue(lines[5].startswith("y") and lines[5].endswith("R1 leaves its upper limit"), lines[5])
         self.assertIn("to   inf", lines[10])
+        proved = [line for line in lines if line == "All 4 ranges are as lpd range all has them, which is proved."]
+        self.assertEqual(len(proved), has_command("range all"))
 
     def test_fractions_have_decimals(self) -> None:
         third = "ROWS\n N cost\n G need\nCOLUMNS\n x cost 1 need 3\nRHS\n need 1\nENDATA\n"

@@ -59,6 +59,7 @@ def print_ranges(found: Ranges, style: Style) -> None:
     behind = ["obj value at break point", "limiting variable"]
     print("\n" + table_of(found.costs, ["column", "obj coef", "value", "obj coef range", *behind], style))
     print("\n" + table_of(found.sides, ["row", "right side", "price", "right side range", *behind], style))
+    print("\n" + found.told())
 
 
 def in_json(found: Ranged, places: Optional[int]) -> Dict[str, object]:
@@ -70,7 +71,7 @@ def in_json(found: Ranged, places: Optional[int]) -> Dict[str, object]:
     values["value_at_high"] = None if high is None else found.optimum(high)
     told: Dict[str, object] = {name: None if value is None else shown(value) for name, value in values.items()}
     decimals = {name: number_in(value, places) for name, value in values.items()}
-    return {**told, "decimals": decimals, "below": found.below, "above": found.above}
+    return {**told, "decimals": decimals, "below": found.below, "above": found.above, "is_proved": found.is_proved}
 
 
 def ranges_in_json(found: Optional[Ranges], places: Optional[int]) -> Optional[Dict[str, object]]:
