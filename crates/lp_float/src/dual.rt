@@ -1,7 +1,7 @@
 // The dual method (Koberstein, "The dual simplex method, techniques for a fast and stable implementation", 2005): the
 // column with the greatest infeasibility for its weight leaves, by the weights of the dual steepest edge (Forrest and
 // Goldfarb, "Steepest-edge simplex algorithms for linear programming", 1992).
-use crate::dual_ratio::{Trial, choose};
+use crate::dual_ratio::{NO_PIVOT, Trial, choose};
 use crate::number::{add_at, at, index_at, put};
 use crate::program::Program;
 use crate::rebuild::{add_column, evaluate, make_row, reduce, solve_column, solve_unit};
@@ -19,8 +19,10 @@ const APART: f64 = 1e-7;
 
 const FAR_APART: f64 = 0.1;
 
-// What is no pivot.
-const NO_PIVOT: f64 = 1e-9;
+// How much larger than a number that turned out to be none a pivot is then, and up to which number that is tried.
+const LARGER: f64 = 10.0;
+
+const MOST_LEAST: f64 = 1e-3;
 
 // How much larger than its weight a norm may be, and how often in a row others are looked for then.
 const OFF: f64 = 4.0;
@@ -227,11 +229,20 @@ fn correct_weight(state: &mut State, place: usize, norm: f64) -> bool {
     norm > OFF * weight
 }
 
+// What comes of a pivot that is none: numbers that small are none until the next exchange, if they are small at all.
+fn refused(trial: &mut Trial, by_row: f64) -> DualStep {
+    if by_row.abs() > MOST_LEAST {
+        return DualStep::End(DualEnd::Lost);
+    }
+    trial.least = (LARGER * by_row.abs()).max(trial.least);
+    DualStep::Unsure
+}
+
 // Makes the exchange if the pivot is sure enough.
 fn exchange_surely(
     state: &mut State,
     program: &Program,
-    trial: &Trial,
+    trial: &mut Trial,
     pivot: Pivot,
 ) -> Result<DualStep, AllocError> {
     solve_column(state, program, pivot.entering)?;
@@ -242,9 +253,10 @@ fn exchange_surely(
         return Ok(DualStep::Unsure);
     }
     if by_column.abs() < NO_PIVOT || apart > FAR_APART * by_column.abs() {
-        return Ok(DualStep::End(DualEnd::Lost));
+        return Ok(refused(trial, by_row));
     }
     apply(state, program, trial, pivot)?;
+    trial.least = NO_PIVOT;
     Ok(DualStep::Done)
 }
 
@@ -266,7 +278,7 @@ fn dual_step(
     trial.retries = 0;
     make_row(state, program)?;
     let k = index_at(&state.basis.head, place);
-    match choose(state, state.outside(k), trial)? {
+    match choose(state, state.outside(k), norm, trial)? {
         Some(entering) => exchange_surely(
             state,
             program,

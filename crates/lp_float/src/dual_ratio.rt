@@ -5,8 +5,10 @@ use crate::state::{State, status_at};
 use spec_pivot::Status;
 use std::alloc::{AllocError, Global};
 
-// A number of the row that is no pivot.
-const NO_PIVOT: f64 = 1e-9;
+// A number of the row that is no pivot, and what part of the norm of the inverse's row is none: less of that may be 0.
+pub(crate) const NO_PIVOT: f64 = 1e-9;
+
+const NOISE: f64 = 1e-14;
 
 // How many groups are looked at.
 const GROUPS: u32 = 60;
@@ -34,6 +36,8 @@ pub(crate) struct Trial {
     pub(crate) flips: Vec<usize>,
     /// How often in a row a leaving position was looked for again.
     pub(crate) retries: u32,
+    /// What is no pivot until the next exchange.
+    pub(crate) least: f64,
 }
 
 impl Drop for Trial {
@@ -44,6 +48,7 @@ impl Drop for Trial {
             ends,
             flips,
             retries: _,
+            least: _,
         } = self;
         drop(waiting);
         drop(taken);
@@ -60,6 +65,7 @@ impl Trial {
             ends: Vec::new(alloc),
             flips: Vec::new(alloc),
             retries: 0,
+            least: NO_PIVOT,
         }
     }
 }
@@ -75,12 +81,12 @@ fn way(status: Status, number: f64) -> f64 {
     }
 }
 
-// The candidate that a column is, if it is one.
-fn candidate_of(state: &State, column: usize, turn: f64) -> Option<Candidate> {
+// The candidate that a column is, if it is one: if its number is past the least one that counts.
+fn candidate_of(state: &State, column: usize, turn: f64, least: f64) -> Option<Candidate> {
     let number = at(&state.room.row.numbers, column) * turn;
     let way = way(status_at(&state.status, column), number);
     let range = state.range(column);
-    if number * way > NO_PIVOT && range > 0.0 {
+    if number * way > least && range > 0.0 {
         Some(Candidate {
             column,
             number: number * way,
@@ -93,13 +99,13 @@ fn candidate_of(state: &State, column: usize, turn: f64) -> Option<Candidate> {
 }
 
 // Finds the candidates.
-fn collect(state: &State, turn: f64, trial: &mut Trial) -> Result<(), AllocError> {
+fn collect(state: &State, turn: f64, least: f64, trial: &mut Trial) -> Result<(), AllocError> {
     trial.waiting.clear();
     trial.taken.clear();
     trial.ends.clear();
     trial.flips.clear();
     for k in &state.room.row.places {
-        if let Some(candidate) = candidate_of(state, *k, turn) {
+        if let Some(candidate) = candidate_of(state, *k, turn, least) {
             trial.waiting.push(candidate)?;
         }
     }
@@ -213,14 +219,17 @@ fn note_flips(trial: &mut Trial, group: usize) -> Result<(), AllocError> {
     Ok(())
 }
 
-/// The column that enters where the leaving one is outside by so much, if there is one.
+/// The column that enters where the leaving one is outside by so much, if there is one. The row of the inverse has this square
+/// of its norm.
 pub(crate) fn choose(
     state: &State,
     outside: f64,
+    square: f64,
     trial: &mut Trial,
 ) -> Result<Option<usize>, AllocError> {
     let turn = if outside > 0.0 { 1.0 } else { -1.0 };
-    collect(state, turn, trial)?;
+    let least = (NOISE * square.sqrt()).max(trial.least);
+    collect(state, turn, least, trial)?;
     take_groups(state, trial, outside.abs())?;
     let Some(most) = largest(&trial.taken) else {
         return Ok(None);
