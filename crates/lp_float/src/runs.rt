@@ -257,34 +257,60 @@ fn rounds(
     Ok(Kind::GivenUp)
 }
 
-// Runs once more with tight tolerances. Whether that ends at an optimum.
-fn polish(
-    alloc: Global,
-    state: &mut State,
-    program: &Program,
-    effort: u64,
-) -> Result<bool, AllocError> {
-    state.limits = TIGHT;
-    match round(alloc, state, program, effort)? {
-        Some(Kind::Optimal) => Ok(true),
-        Some(_) | None => Ok(false),
+// Whether a run with tight tolerances ended as the run before.
+fn are_alike(kind: Kind, again: Kind) -> bool {
+    matches!(
+        (kind, again),
+        (Kind::Optimal, Kind::Optimal) | (Kind::Unbounded(_), Kind::Unbounded(_))
+    )
+}
+
+// Whether tight tolerances may lead further. An end without a limit is as good as its point.
+fn is_rough(state: &State, kind: Kind) -> bool {
+    match kind {
+        Kind::Optimal => true,
+        Kind::Unbounded(_) => state.most_outside() > TIGHT.primal,
+        Kind::Infeasible(_) | Kind::GivenUp => false,
     }
 }
 
-// The statuses at the end of a kind: at an optimum those with tight tolerances, if that is reached.
-fn last_statuses(
+// Runs once more with tight tolerances from an optimum, or where nothing stops a column. The kind of that end, if it is
+// alike.
+fn polish(
     alloc: Global,
     state: &mut State,
     program: &Program,
     kind: Kind,
     effort: u64,
-) -> Result<Vec<Status>, AllocError> {
-    let statuses = Vec::from_slice(alloc, &state.status)?;
-    let is_optimal = matches!(kind, Kind::Optimal);
-    if is_optimal && polish(alloc, state, program, effort)? {
-        return Vec::from_slice(alloc, &state.status);
+) -> Result<Option<Kind>, AllocError> {
+    state.limits = TIGHT;
+    match round(alloc, state, program, effort)? {
+        Some(again) if are_alike(kind, again) => Ok(Some(again)),
+        Some(_) | None => Ok(None),
     }
-    Ok(statuses)
+}
+
+// The end of a kind: with the statuses that tight tolerances lead to, if that is alike.
+fn last_end(
+    alloc: Global,
+    state: &mut State,
+    program: &Program,
+    kind: Kind,
+    effort: u64,
+) -> Result<FloatEnd, AllocError> {
+    let statuses = Vec::from_slice(alloc, &state.status)?;
+    if is_rough(state, kind) {
+        if let Some(again) = polish(alloc, state, program, kind, effort)? {
+            return Ok(FloatEnd {
+                statuses: Vec::from_slice(alloc, &state.status)?,
+                witness: witness_of(again),
+            });
+        }
+    }
+    Ok(FloatEnd {
+        statuses,
+        witness: witness_of(kind),
+    })
 }
 
 // The column by which there is no optimum, if one is named.
@@ -307,10 +333,7 @@ fn end_of(
     if matches!(kind, Kind::GivenUp) {
         return Ok(None);
     }
-    Ok(Some(FloatEnd {
-        statuses: last_statuses(alloc, state, program, kind, effort)?,
-        witness: witness_of(kind),
-    }))
+    Ok(Some(last_end(alloc, state, program, kind, effort)?))
 }
 
 /// The end of a run of the simplex method in floats, if it has one. It begins at the basis of the given statuses, which is

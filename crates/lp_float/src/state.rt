@@ -304,6 +304,15 @@ impl State {
         }
     }
 
+    /// The most that a value is outside of its bounds.
+    pub(crate) fn most_outside(&self) -> f64 {
+        let mut most = 0.0;
+        for k in 0..self.status.len() {
+            most = self.outside(k).abs().max(most);
+        }
+        most
+    }
+
     /// The most that a reduced cost is wrong.
     pub(crate) fn most_wrong(&self) -> f64 {
         let mut most = 0.0;
