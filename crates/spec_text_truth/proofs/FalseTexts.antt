@@ -92,9 +92,10 @@ pub wide_ranges_refuted : (after : Option (List ℕ)) (behind : List ℕ) →
 unfolding ended_lines
 wide_ranges_refuted after behind h =
     let said =
-    h.1 RightSide (codes "5") (codes "ROW") (codes "NONE") (codes "NONE") (codes "0") behind
-    (codes "rhs ROW RANGE 0 NONE SLOPE 0" ∷ []) (tested_no_feed (codes "5") refl)
-    (printed_has_no 32 (omega arith) (codes "ROWNONENONE") refl) (tested_no_feed (codes "0") refl) refl in
+    h.1 RightSide (codes "ROW") (codes "rhs ROW RANGE 0 NONE SLOPE 0" ∷ [])
+    (printed_has_no 32 (omega arith) (codes "ROW") refl) (codes "5") (codes "NONE") (codes "NONE") (codes "0") behind
+    (tested_no_feed (codes "5") refl) (printed_has_no 32 (omega arith) (codes "NONENONE") refl)
+    (tested_no_feed (codes "0") refl) refl in
     range_refuted said.0 (spelled_is after said.0 said.1) said.2
 
 -- ---- a text that is not all read

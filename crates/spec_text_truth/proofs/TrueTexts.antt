@@ -304,7 +304,7 @@ module _ (style : Style) (lines : Lines) (IsOf : Model → Type 0) (is_of : (m :
 
   ranged_true : (moved : Moved) (name : Name) (what : TextSaid) → text_said style lines ≡ Some what →
       RangeOut moved name what written →
-      OfFirst (IsTrueLine IsOf IsNumber) written × SaysTrueRange moved name IsOf written
+      OfFirst (IsTrueLine IsOf IsNumber) written × SaysTrueRange moved name [] IsOf written
   ranged_true moved name (Ok m) is out =
       let spells = said_spelled usual_limits style lines m is in (
         begins_true IsOf written IsNumber m (is_of m spells) (ranged_optimal style lines m moved name (Ok m) written is out spells)
@@ -332,19 +332,18 @@ module _ (style : Style) (lines : Lines) (IsOf : Model → Type 0) (is_of : (m :
         begins_true IsOf written IsNumber m (is_of m spells) (ranges_optimal style lines m (Ok m) written is out spells)
             (ranges_infeasible style lines m (Ok m) written is out spells)
             (ranges_unbounded style lines m (Ok m) written is out spells),
-        λ moved value name low high slope behind before no_feed in_words in_slope e.
-            let words = both_parts (λ b. b ≢ 32) (name ++ low) high in_words in
-            let named = both_parts (λ b. b ≢ 32) name low words.0 in (
+        λ moved name before in_name value low high slope behind no_feed in_ends in_slope e.
+            let ends = both_parts (λ b. b ≢ 32) low high in_ends in (
               m,
               is_of m spells,
               range_true moved name m value low high slope
                   (ranges_range style lines m (Ok m) written is out spells moved value name low high slope behind before no_feed
-                  named.0 named.1 words.1 in_slope e),
+                  in_name ends.0 ends.1 in_slope e),
             ),
       )
   ranges_true (Err fault) is out = (
     misspelled_true IsOf written IsNumber fault out,
-    λ moved value name low high slope behind before no_feed in_words in_slope e.
+    λ moved name before in_name value low high slope behind no_feed in_ends in_slope e.
         absurd (apart 69 79 refl (sym (ap first out ∙ misspelled_first fault) ∙ ap first e)),
   )
 
@@ -454,7 +453,7 @@ none_true (Range moved name) IsOf =
     (nothing_true (IsTrueLine IsOf IsNumber), λ value low high slope behind a b c e. absurd (no_byte 79 _ e))
 none_true RangeAll IsOf = (
   nothing_true (IsTrueLine IsOf IsNumber),
-  λ moved value name low high slope behind before a b c e. absurd (no_byte 79 _ e),
+  λ moved name before a value low high slope behind b c d e. absurd (no_byte 79 _ e),
 )
 
 pub no_seed_true : (IsTrue : List ℕ → Type 0) → OfFirstTwo IsTrue []

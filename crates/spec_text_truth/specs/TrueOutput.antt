@@ -90,20 +90,19 @@ pub record IsTrueRange (moved : Moved) (name : Name) (m : Model) (value low high
   pub optimal : (t : ℚ) → IsBetween ends t →
       IsOptimal (with_number moved m at t) (optimum +ℚ (t -ℚ number_at moved m at) *ℚ growth)
 
-abbrev pub SaysTrueRange : Moved → Name → (Model → Type 0) → List ℕ → Type 0
-SaysTrueRange moved name IsOf output =
+-- It is so of a line with a range, behind that of an optimum and this text.
+abbrev pub SaysTrueRange : Moved → Name → List ℕ → (Model → Type 0) → List ℕ → Type 0
+SaysTrueRange moved name between IsOf output =
     (value low high slope behind : List ℕ) → HasNoFeed value → All (λ b. b ≢ 32) (low ++ high) → HasNoFeed slope →
-    output ≡ codes "OPTIMAL " ++ value ++ 10 ∷ (codes "RANGE " ++ low ++ codes " " ++ high ++ codes " SLOPE " ++ slope ++ 10 ∷ behind) →
+    output ≡ codes "OPTIMAL " ++ value
+    ++ 10 ∷ (between ++ (codes "RANGE " ++ low ++ codes " " ++ high ++ codes " SLOPE " ++ slope ++ 10 ∷ behind)) →
     (m : Model) × IsOf m × IsTrueRange moved name m value low high slope
 
--- It is so of each line with a range, whatever lines stand between it and the first.
+-- It is so of each number whose line stands there, whatever lines stand before it.
 abbrev pub SaysTrueRanges : (Model → Type 0) → List ℕ → Type 0
 SaysTrueRanges IsOf output =
-    (moved : Moved) (value name low high slope behind : List ℕ) (before : List (List ℕ)) →
-    HasNoFeed value → All (λ b. b ≢ 32) (name ++ low ++ high) → HasNoFeed slope →
-    output ≡ codes "OPTIMAL " ++ value ++ 10 ∷ (ended_lines before ++ number_words moved name
-    ++ (codes "RANGE " ++ low ++ codes " " ++ high ++ codes " SLOPE " ++ slope ++ 10 ∷ behind)) →
-    (m : Model) × IsOf m × IsTrueRange moved name m value low high slope
+    (moved : Moved) (name : Name) (before : List (List ℕ)) → All (λ b. b ≢ 32) name →
+    SaysTrueRange moved name (ended_lines before ++ number_words moved name) IsOf output
 
 -- So many limits of rows and bounds of columns are listed. No point meets them all, though each set of all but one is met.
 pub record AreTrueSides (m : Model) (count behind : List ℕ) : Type 0 where
@@ -129,7 +128,7 @@ IsTrueOfText BasisWide IsOf output = OfFirst (IsTrueLine IsOf IsWideNumber) outp
 IsTrueOfText Presolve IsOf output = OfFirstTwo (IsTrueLine IsOf IsNumber) output
 IsTrueOfText Iis IsOf output = OfFirst (IsTrueLine IsOf IsNumber) output × SaysTrueSides IsOf output
 IsTrueOfText (Range moved name) IsOf output =
-    OfFirst (IsTrueLine IsOf IsNumber) output × SaysTrueRange moved name IsOf output
+    OfFirst (IsTrueLine IsOf IsNumber) output × SaysTrueRange moved name [] IsOf output
 IsTrueOfText RangeAll IsOf output = OfFirst (IsTrueLine IsOf IsNumber) output × SaysTrueRanges IsOf output
 IsTrueOfText command IsOf output = OfFirst (IsTrueLine IsOf IsNumber) output
 
