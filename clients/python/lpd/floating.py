@@ -5,22 +5,23 @@ they miss limits by is at most 1e-9.
 """
 from __future__ import annotations
 
+import os
 import re
-import shutil
 import subprocess
+import sys
 import tempfile
 from fractions import Fraction
 from pathlib import Path
 from typing import Callable, Dict, List, Optional, Sequence, Tuple
 
 from .basis_file import basis_lines, read_bas
-from .dialects import DIALECTS, with_names, without_free_rows, written
+from .dialects import DIALECTS, PROFILE, with_names, without_free_rows, written
 from .errors import LpdError
 from .exact import BASIC, LOWER, UPPER, Basis
 from .model import Model, Row
 from .number_text import NotANumber, parse
 from .records import dataclass, field
-from .solver_names import NONE
+from .solver_names import NONE, SCIPY, is_there
 
 Parts = Dict[str, Fraction]
 
@@ -201,15 +202,25 @@ SOLVERS = {
         Solver("esolver", ("-O", "solution", "-b", "basis"), read_esolver),
         # As HiGHS is documented; it was never run.
         Solver("highs", ("--presolve", "off", "--solver", "simplex", "--solution_file", "solution"), read_highs),
+        Solver(SCIPY, (), read_coin),
     )
 }
 
 
 def command_of(solver: Solver, command: List[str], arguments: Sequence[str]) -> List[str]:
-    """The command, with the solver's arguments before the text for esolver, whose words come first, and else behind."""
+    """The command, with the solver's arguments before the text for esolver, whose words come first, and else behind. That of scipy is
+    one of this package."""
+    if solver.name == SCIPY:
+        return [sys.executable, "-m", "lpd.by_scipy", *command[1:]]
     if solver.name == "esolver":
         return [command[0], *arguments, *command[1:]]
     return [*command, *arguments]
+
+
+def environment() -> Dict[str, str]:
+    """That of this process, in which Python finds this package."""
+    paths = [str(Path(__file__).resolve().parents[1]), *filter(None, [os.environ.get("PYTHONPATH")])]
+    return {**os.environ, "PYTHONPATH": os.pathsep.join(paths)}
 
 
 def side_of(row: Row, status: str) -> str:
@@ -244,6 +255,21 @@ def with_new_names(basis: Basis, rows: Dict[str, str], columns: Dict[str, str]) 
     )
 
 
+def asked_in(folder: Path, solver: Solver, command: List[str], ways: Sequence[Sequence[str]], seconds: Optional[float]) -> Claim:
+    """What a solver says that runs in a folder: in the first of these ways that ends with an optimum, or in the last."""
+    claim = Claim("nothing")
+    for arguments in ways:
+        words = command_of(solver, command, arguments)
+        try:
+            done = subprocess.run(words, cwd=folder, env=environment(), capture_output=True, timeout=seconds, stdin=subprocess.DEVNULL)
+        except subprocess.TimeoutExpired:
+            return Claim(f"nothing within {seconds} seconds")
+        claim = solver.read((done.stdout + done.stderr).decode("latin-1"), folder)
+        if claim.said == "OPTIMAL":
+            break
+    return claim
+
+
 def ask(name: str, model: Model, seconds: Optional[float] = None, begin: Optional[Basis] = None) -> Claim:
     """What a solver says of the model, written with plain names, without its free rows, and with numbers rounded where it reads no
     quotients. It begins with a basis that is given, if it can. Without a solver there is a rough basis of the package's own."""
@@ -251,9 +277,9 @@ def ask(name: str, model: Model, seconds: Optional[float] = None, begin: Optiona
         from .rough import rough_basis  # here, since few commands need it
 
         return Claim("nothing", basis=rough_basis(model, seconds))
-    solver = SOLVERS[name]
-    if not shutil.which(name):
-        raise SolverMissing(f"{name} is not on the path")
+    solver, dialect = SOLVERS[name], DIALECTS.get(name, PROFILE)
+    if not is_there(name):
+        raise SolverMissing(f"{name} is not {'in this Python' if name == SCIPY else 'on the path'}")
     limiting = without_free_rows(model)
     rows = {row: f"R{i}" for i, row in enumerate(limiting.rows)}
     columns = {column: f"C{j}" for j, column in enumerate(model.columns)}
@@ -264,20 +290,12 @@ def ask(name: str, model: Model, seconds: Optional[float] = None, begin: Optiona
         ways = [solver.begins]
     with tempfile.TemporaryDirectory() as place:
         folder = Path(place)
-        out = written(plain, DIALECTS[name], rounds=True, path="model.mps")
+        out = written(plain, dialect, rounds=True, path="model.mps")
         (folder / "model.mps").write_text(out.text)
         if begin is not None:
             (folder / BEGIN).write_text("".join(f"{line}\n" for line in solver.lines_of(plain, with_new_names(begin, rows, columns))))
-        for arguments in ways:
-            try:
-                command = command_of(solver, out.command, arguments)
-                done = subprocess.run(command, cwd=folder, capture_output=True, timeout=seconds, stdin=subprocess.DEVNULL)
-            except subprocess.TimeoutExpired:
-                return Claim(f"nothing within {seconds} seconds")
-            claim = solver.read((done.stdout + done.stderr).decode("latin-1"), folder)
-            if claim.said == "OPTIMAL":
-                break
-    if claim.value is not None and DIALECTS[name].offset_sign == 0:
+        claim = asked_in(folder, solver, out.command, ways, seconds)
+    if claim.value is not None and dialect.offset_sign == 0:
         claim.value += model.offset
     if claim.basis and solver.has_far_sides:
         known = [name for name in claim.basis.rows if name in plain.rows]

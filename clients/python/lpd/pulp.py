@@ -179,7 +179,7 @@ class Options(argparse.ArgumentParser):
 
 class LPD(pulp.LpSolver):  # type: ignore[misc]
     """The solver. `budget` is the most pivots, and `timeLimit` the seconds of all ways together. Where lpd itself has no answer
-    within 127 bits it goes on by the basis of the solver that `certify` names (glpsol, clp, cbc, esolver, highs, or none), or of
+    within 127 bits it goes on by the basis of the solver that `certify` names (glpsol, clp, cbc, esolver, highs, scipy, or none), or of
     the first that is there, and by lpd solve --wide, unless only_lpd=True; where a budget is set it is kept to, unless certify
     names one. With `wide=False` lpd solve --wide is not asked, and no answer is taken whose numbers pass 127 bits, by whichever
     way: what is accepted is accepted by lpd check. A float is taken with the 13 digits that PuLP writes to MPS, which the log says of those

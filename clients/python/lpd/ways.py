@@ -18,7 +18,6 @@ the basis of one solver after the other, of those that are there, to `lpd basis 
 from __future__ import annotations
 
 import contextlib
-import shutil
 import threading
 from typing import TYPE_CHECKING, Callable, Iterator, List, Optional, Sequence
 
@@ -31,7 +30,7 @@ from .program import Program
 from .records import dataclass, field, replace
 from .replies import Accepted, Answer, Open, Past, Spent
 from .session import Session
-from .solver_names import NAMES, NONE, QUICKEST_FIRST
+from .solver_names import NAMES, NONE, QUICKEST_FIRST, is_there
 from .wide import SOLVE_WIDE, solve_wide
 
 if TYPE_CHECKING:
@@ -144,12 +143,12 @@ def made_exact(text: str, model: Model, claim: Claim, wide: bool, watch: Watch, 
 
 
 def other_solver(named: Optional[str]) -> str:
-    """The solver that is named, or else the first that is on the path, or none."""
+    """The solver that is named, or else the first that is there, or none."""
     return named or (solvers_there(NAMES) or [NONE])[0]
 
 
 def solvers_there(names: Sequence[str]) -> List[str]:
-    return [name for name in names if shutil.which(name)]
+    return [name for name in names if is_there(name)]
 
 
 def by_lpd(text: str, model: Model, budget: Optional[int] = None, seconds: Optional[float] = None) -> Answered:

@@ -22,6 +22,7 @@ from lpd.conversion import Options, convert
 from lpd.dialects import PROFILE, written
 from lpd.exact import BASIC, LOWER, UPPER, Basis, Factors, Simplex, Vector
 from lpd.floating import SOLVERS, Claim, SolverMissing, ask, read_highs, read_highs_basis
+from lpd.solver_names import SCIPY, is_there
 
 from .commands import command
 from .models import has_program, some_model
@@ -129,8 +130,9 @@ class Claims(unittest.TestCase):
         model = lpd.read_model((MODELS / "diet.mps").read_text())
         with tempfile.TemporaryDirectory() as place, mock.patch.dict(os.environ, {"PATH": place}):
             for solver in SOLVERS:
-                with self.assertRaisesRegex(SolverMissing, f"^{solver} is not on the path$"):
-                    ask(solver, model)
+                if solver != SCIPY:
+                    with self.assertRaisesRegex(SolverMissing, f"^{solver} is not on the path$"):
+                        ask(solver, model)
             said = command("certify", str(MODELS / "diet.mps"), "--with", "highs")
         self.assertEqual((said.status, said.complaints), (3, "lpd: highs is not on the path\n"))
 
@@ -145,8 +147,8 @@ class Claims(unittest.TestCase):
 @unittest.skipUnless(has_program(), "the program is not built")
 class BySolvers(unittest.TestCase):
     def by(self, solver: str) -> None:
-        if not shutil.which(solver):
-            self.skipTest(f"{solver} is not on the path")
+        if not is_there(solver):
+            self.skipTest(f"{solver} is not there")
         for path in sorted(MODELS.glob("*.mps")):
             with self.subTest(path.name):
                 answer = path.with_suffix(".solved").read_text().splitlines()[0]
@@ -200,6 +202,9 @@ class BySolvers(unittest.TestCase):
     def test_highs(self) -> None:
         self.by("highs")
 
+    def test_scipy(self) -> None:
+        self.by(SCIPY)
+
     def test_what_stands_in_for_highs(self) -> None:
         with tempfile.TemporaryDirectory() as place:
             program = Path(place) / "highs"
@@ -212,7 +217,7 @@ class BySolvers(unittest.TestCase):
         self.assertEqual((found.known, found.steps, found.narrow), (lpd.Optimal(Fraction(185, 2)), 0, True))
 
     def test_random_models(self) -> None:
-        solvers = [name for name in SOLVERS if shutil.which(name)]
+        solvers = [name for name in SOLVERS if is_there(name)]
         if not solvers:
             self.skipTest("there is no other solver on the path")
         dice = random.Random(5)
