@@ -1,4 +1,7 @@
-"""batch by a scheduler of Dask with two workers on this machine, of which one is killed in mid-run."""
+"""batch by a scheduler of Dask with two workers on this machine, of which one is killed in mid-run.
+
+LPD_STOPPED may name a folder of models in place of the examples.
+"""
 import csv
 import importlib.util
 import io
@@ -17,7 +20,7 @@ from unittest import mock
 from .commands import command
 from .models import has_program
 
-MODELS = Path(__file__).resolve().parents[3] / "examples" / "models"
+MODELS = Path(os.environ.get("LPD_STOPPED") or Path(__file__).resolve().parents[3] / "examples" / "models")
 PACKAGE = Path(__file__).resolve().parents[1]
 TIMES = 2
 SECONDS = 600.0
