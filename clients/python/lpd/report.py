@@ -10,10 +10,11 @@ from typing import Callable, Dict, List, Optional, Sequence
 from .certificate import activities, matched, read_certificate, reduced_cost, weighed, wholes_of
 from .model import Limits, Model
 from .number_text import shown
-from .records import dataclass, replace
+from .records import dataclass, field, replace
 
 ZERO = Fraction(0)
 MOST_TERMS = 6  # of a sum that is told
+MOST_BOUNDS = 3  # that are told by name
 SOME, LONG_MULTIPLIER = 10, 1000
 SHORT = 4  # decimals of a multiplier that is told
 
@@ -84,13 +85,14 @@ class ConflictRow:
 @dataclass(frozen=True)
 class Conflict:
     """Why there is no feasible point: the rows, each times its multiplier, ask for `asked` at least, and the bounds of the columns
-    allow `allowed` at most, which is less. The multipliers are whole numbers without a common divisor. Or else `column` has
-    a lower bound above its upper one, and these are the two."""
+    allow `allowed` at most, which is less. The multipliers are whole numbers without a common divisor. `bounded` has the columns whose
+    bounds are not 0 in that. Or else `column` has a lower bound above its upper one, and these are the two."""
 
     rows: List[ConflictRow]
     asked: Fraction
     allowed: Fraction
     column: Optional[str] = None
+    bounded: List[str] = field(default_factory=list)
 
     def __str__(self) -> str:
         return self.told(shown)
@@ -109,7 +111,14 @@ class Conflict:
 
     def divided(self, by: Fraction) -> Conflict:
         rows = [replace(row, multiplier=row.multiplier / by) for row in self.rows]
-        return Conflict(rows, self.asked / by, self.allowed / by)
+        return replace(self, rows=rows, asked=self.asked / by, allowed=self.allowed / by)
+
+    def bounds(self) -> str:
+        """The bounds that count, by the names of their columns where these are few."""
+        if not 0 < len(self.bounded) <= MOST_BOUNDS:
+            return "the bounds of the columns"
+        *names, last = self.bounded
+        return f"the bounds of {', '.join(names)} and {last}" if names else f"the bound of {last}"
 
     def told(self, number: Callable[[Fraction], str]) -> str:
         """What contradicts what, in a sentence whose numbers are shown so."""
@@ -120,20 +129,25 @@ class Conflict:
         lower, upper = [row for row in self.rows if row.is_lower], [row for row in self.rows if not row.is_lower]
         most = sum((-row.multiplier * row.limit for row in upper), ZERO)
         if not lower:
-            return f"{sum_of(upper, number)} allow {number(most)} at most, and the bounds of the columns ask for {number(-self.allowed)} at least."
-        least, of_bounds = self.asked + most, "the bounds of the columns"
+            return f"{sum_of(upper, number)} allow {number(most)} at most, and {self.said('ask', number(-self.allowed), 'least')}."
+        least = self.asked + most
         asks = f"{sum_of(lower, number)} ask{'' if len(lower) > 1 else 's'} for {number(least)} at least"
         if not upper:
-            return f"{asks}, and {of_bounds} allow {number(self.allowed)} at most."
+            return f"{asks}, and {self.said('allow', number(self.allowed), 'most')}."
         s = "" if len(upper) > 1 or self.allowed else "s"
-        return f"{asks}, and {sum_of(upper, number)}{f' with {of_bounds}' if self.allowed else ''} allow{s} {number(most + self.allowed)} at most."
+        return f"{asks}, and {sum_of(upper, number)}{f' with {self.bounds()}' if self.allowed else ''} allow{s} {number(most + self.allowed)} at most."
 
     def of_one_row(self, number: Callable[[Fraction], str]) -> str:
         row, times = self.rows[0], abs(self.rows[0].multiplier)
         most = number(self.allowed / times if row.is_lower else -self.allowed / times)
         if row.is_lower:
-            return f"Row {row.name} asks for {number(row.limit)} at least, and the bounds of the columns allow {most} at most."
-        return f"Row {row.name} allows {number(row.limit)} at most, and the bounds of the columns ask for {most} at least."
+            return f"Row {row.name} asks for {number(row.limit)} at least, and {self.said('allow', most, 'most')}."
+        return f"Row {row.name} allows {number(row.limit)} at most, and {self.said('ask', most, 'least')}."
+
+    def said(self, verb: str, number: str, end: str) -> str:
+        """What the bounds ask for, or allow."""
+        s = "s" if len(self.bounded) == 1 else ""
+        return f"{self.bounds()} {verb}{s}{' for' if verb == 'ask' else ''} {number} at {end}"
 
 
 def sum_of(rows: Sequence[ConflictRow], number: Callable[[Fraction], str]) -> str:
@@ -159,7 +173,8 @@ def conflict(model: Model, certificate: Sequence[str]) -> Conflict:
     rows = [ConflictRow(name, Fraction(value), value > 0, side_of(model.rows[name].limits(), value) or ZERO) for name, value in y.items()]
     rows.sort(key=lambda row: not row.is_lower)
     asked = sum((row.multiplier * row.limit for row in rows), ZERO)
-    return Conflict(rows, asked, sum((most_of(model, y, name) for name in model.columns), ZERO))
+    parts = {name: most_of(model, y, name) for name in model.columns}
+    return Conflict(rows, asked, sum(parts.values(), ZERO), bounded=[name for name, part in parts.items() if part])
 
 
 def without_fractions(values: Dict[str, Fraction]) -> Dict[str, int]:

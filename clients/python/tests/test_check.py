@@ -316,9 +316,9 @@ class Reports(unittest.TestCase):
         self.assertEqual(str(found), "R2 asks for 2 at least, and R1 allows 1 at most.")
         text = text.replace("x R1 1 R2 1\nRHS", "x R1 1 R2 1\n z R2 -3\nRHS").replace("ENDATA", "BOUNDS\n LO B z 1/2\nENDATA")
         found = lpd.conflict(lpd.read_model(text), ["INFEASIBLE", "y R1 -1/7", "y R2 1/7", "END"])
-        self.assertEqual(str(found), "R2 asks for 2 at least, and R1 with the bounds of the columns allow -0.5 at most.")
+        self.assertEqual(str(found), "R2 asks for 2 at least, and R1 with the bound of z allow -0.5 at most.")
         found = lpd.conflict(lpd.read_model(text), ["INFEASIBLE", "y R1 -2", "y R2 1", "END"])
-        self.assertEqual(str(found), "R2 asks for 2 at least, and 2 R1 with the bounds of the columns allow 0.5 at most.")
+        self.assertEqual(str(found), "R2 asks for 2 at least, and 2 R1 with the bound of z allow 0.5 at most.")
 
     def test_long_multipliers(self) -> None:
         text = "ROWS\n N cost\n L R1\n G R2\nCOLUMNS\n x R1 1 R2 0.001\nRHS\n R1 1 R2 2\nENDATA\n"
@@ -333,7 +333,7 @@ class Reports(unittest.TestCase):
         text += "BOUNDS\n UP soy 400\nENDATA\n"
         found = lpd.conflict(lpd.read_model(text), ["INFEASIBLE", "y total -9", "y protein 100", "END"])
         self.assertIn("100 protein asks for 46000 at least", str(found))
-        told = "protein asks for 460 at least, and 0.09 total with the bounds of the columns allow 258 at most."
+        told = "protein asks for 460 at least, and 0.09 total with the bound of soy allow 258 at most."
         self.assertEqual(found.scaled().told(READABLE.word), told)
         text = text.replace("0.09", "1/9")
         found = lpd.conflict(lpd.read_model(text), ["INFEASIBLE", "y total -1", "y protein 9", "END"])
@@ -351,7 +351,7 @@ class Reports(unittest.TestCase):
     def test_upper_limits_alone(self) -> None:
         text = "ROWS\n N c\n L a\n L b\nCOLUMNS\n x a 1 b 1\n y a 1 b -1\nRHS\n a 3 b 3\nBOUNDS\n LO x 4\nENDATA\n"
         found = lpd.conflict(lpd.read_model(text), ["INFEASIBLE", "y a -1", "y b -1", "END"])
-        self.assertEqual(str(found), "a + b allow 6 at most, and the bounds of the columns ask for 8 at least.")
+        self.assertEqual(str(found), "a + b allow 6 at most, and the bound of x asks for 8 at least.")
 
     def test_a_conflict_with_the_columns(self) -> None:
         text = (EXAMPLES / "models" / "diet.mps").read_text().replace("energy 2000", "energy 5000")
@@ -359,7 +359,10 @@ class Reports(unittest.TestCase):
         self.assertEqual(str(found), "Row energy asks for 5000 at least, and the bounds of the columns allow 4015 at most.")
         text = "ROWS\n N c\n L r\nCOLUMNS\n x r 2\nRHS\n r 3\nBOUNDS\n LO B x 5\nENDATA\n"
         found = lpd.conflict(lpd.read_model(text), ["INFEASIBLE", "y r -1/3", "END"])
-        self.assertEqual(str(found), "Row r allows 3 at most, and the bounds of the columns ask for 10 at least.")
+        self.assertEqual(str(found), "Row r allows 3 at most, and the bound of x asks for 10 at least.")
+        text = "ROWS\n N c\n L r\nCOLUMNS\n x r 2\n z r 1\nRHS\n r 3\nBOUNDS\n LO B x 5\n LO B z 1\nENDATA\n"
+        found = lpd.conflict(lpd.read_model(text), ["INFEASIBLE", "y r -1/3", "END"])
+        self.assertEqual(str(found), "Row r allows 3 at most, and the bounds of x and z ask for 11 at least.")
 
     def test_a_conflict_of_bounds(self) -> None:
         text = "ROWS\n N c\nCOLUMNS\n x c 2\nBOUNDS\n LO B x 5\n UP B x 4.5\nENDATA\n"

@@ -184,7 +184,7 @@ class WithTheProgram(unittest.TestCase):
 
     def test_one_row_and_the_columns(self) -> None:
         said = command("solve", "-", stdin=PROTEIN.encode())
-        self.assertIn("Row protein asks for 40 at least, and the bounds of the columns allow 36 at most.\n", said.output)
+        self.assertIn("Row protein asks for 40 at least, and the bounds of beans and eggs allow 36 at most.\n", said.output)
         self.assertIn("  beans may be 2 at most, but the others ask for ~2.44444 at least\n", said.output)
         self.assertIn("beans at most ~2.44445 in place of 2 (~0.444444 more).\n", said.output)
         said = command("solve", "-", "--exact", stdin=PROTEIN.encode())
