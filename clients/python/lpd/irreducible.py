@@ -130,6 +130,12 @@ def only(model: Model, sides: Sequence[Side]) -> Model:
     return found
 
 
+def bare(model: Model, sides: Sequence[Side]) -> Model:
+    """The same without the columns that these do not have, so that `lpd iis` may take what is left of a large model."""
+    found, bounded = only(model, sides), {side.name for side in sides if not side.is_row}
+    return replace(found, columns={name: column for name, column in found.columns.items() if column.entries or name in bounded})
+
+
 def satisfies(model: Model, point: Dict[str, Fraction], side: Side) -> bool:
     value, limit = value_at(model, point, side), limit_of(model, side)
     return value <= limit if side.is_upper else value >= limit

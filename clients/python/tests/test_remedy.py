@@ -174,7 +174,7 @@ class Told(unittest.TestCase):
     def test_the_list_has_points_of_the_model_alone(self) -> None:
         said = command("solve", "-", "--iis", stdin=FEED.encode())
         self.assertNotRegex(said.output, "x maize .?-")
-        self.assertIn("is left out: it meets the other limits of the list, but not all of the model.", said.output)
+        self.assertIn("\n3 points are left out: each meets the other limits of the list, but not all of the model.\n", said.output)
         told = json.loads(command("solve", "-", "--iis", "--json", stdin=FEED.encode()).output)
         self.assertIn(None, [member["point"] for member in told["iis"]["members"]])
         change = told["advice"]["single"]["changes"][0]

@@ -10,7 +10,7 @@ from ..dialects import PROFILE, written
 from ..errors import TOO_MUCH, CommandMissing, LpdError, Refused, TextFault
 from ..exact import OutOfTime
 from ..figures import NEAR, Style, outward
-from ..irreducible import Irreducible, Member, Side, iis, only
+from ..irreducible import Irreducible, Member, Side, bare, iis
 from ..judging import LARGE
 from ..model import Model
 from ..number_text import shown
@@ -57,7 +57,7 @@ def limits_of(words: argparse.Namespace, text: str, model: Model, certificate: L
     except (NotKnown, OutOfTime, TextFault) as fault:
         if isinstance(fault, TextFault) and not model.is_large:
             raise
-        part = only(model, list(weights_of(model, certificate)))
+        part = bare(model, list(weights_of(model, certificate)))
         return known(iis(written(part, PROFILE).text, seconds=seconds_of(words, model)))
 
 
@@ -191,13 +191,16 @@ def print_list(model: Model, found: Irreducible, style: Style) -> None:
         values = (member.limit, member.best, member.by, member.reached)
         lines.append([str(number), member.words(), *(style.cell(value) for value in values)])
     print("\n" + table(lines, style))
+    kept = [is_of_the_model(model, member) for member in found.members]
     for number, member in enumerate(found.members, 1):
-        if is_of_the_model(model, member):
+        if kept[number - 1]:
             print(f"\nPOINT {number}")
             for name, value in member.point.items():
                 print(f"x {name} {style.cell(value)}")
-        else:
-            print_prose(f"\nPOINT {number} is left out: it meets the other limits of the list, but not all of the model.")
+    left = kept.count(False)
+    if left:
+        points = "1 point is left out: it meets" if left == 1 else f"{left} points are left out: each meets"
+        print_prose(f"\n{points} the other limits of the list, but not all of the model.")
 
 
 # ---- as JSON
