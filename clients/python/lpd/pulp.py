@@ -21,16 +21,18 @@ from .certificate import matched, read_certificate
 from .commands.common import budget as budget_word
 from .commands.solve import add_ways
 from .dialects import PROFILE, written
-from .errors import LpdError, ProgramMissing
+from .errors import LpdError, ProgramMissing, TextFault
 from .exact import OutOfTime
-from .irreducible import Irreducible, iis, renamed
-from .model import MOST_COLUMNS, MOST_ROWS, Column, Model, Row, is_name, read_model
+from .figures import READABLE
+from .irreducible import Irreducible, bare, iis, renamed
+from .model import LARGE_COLUMNS, LARGE_ROWS, MOST_COLUMNS, MOST_ROWS, Column, Model, Row, is_name, read_model
 from .names import LONGEST, plain
 from .program import the_program
 from .ranging import Ranges, ranges
-from .records import dataclass, field
+from .records import dataclass, field, replace
+from .remedy import weights_of
 from .replies import Answer, Infeasible, Optimal, Unbounded
-from .report import report
+from .report import conflict, report
 from .solver_names import CHOICES
 from .ways import Effort, answered
 
@@ -57,8 +59,22 @@ class Exact:
     @functools.cached_property
     def conflict(self) -> Irreducible:
         """Constraints and bounds of an infeasible problem that contradict each other, none of which can be left out, by PuLP's names,
-        from a solve of their own (`lpd iis`), as `lpd.iis` has them."""
-        return renamed(iis(self.text), self.rows, self.columns)
+        from a solve of their own (`lpd iis`), as `lpd.iis` has them. Of a large problem they are looked for in those of the certificate."""
+        model = read_model(self.text, wide=True, large=True)
+        if not model.is_large:
+            return renamed(iis(self.text), self.rows, self.columns)
+        try:
+            part = bare(model, list(weights_of(model, self.certificate)))
+            return renamed(iis(written(part, PROFILE).text), self.rows, self.columns)
+        except TextFault:
+            raise LpdError("the constraints that contradict each other have more than 256 rows or 512 columns: the log says what they come to") from None
+
+    def told_conflict(self, model: Model) -> str:
+        """What contradicts what, in a sentence, by PuLP's names."""
+        found = conflict(model, self.certificate).scaled()
+        rows = [replace(row, name=self.rows[row.name]) for row in found.rows]
+        bounded = [self.columns[name] for name in found.bounded]
+        return replace(found, rows=rows, column=self.columns.get(found.column or ""), bounded=bounded).told(READABLE.word)
 
     @functools.cached_property
     def ranges(self) -> Ranges:
@@ -155,12 +171,14 @@ def must_be_linear(problem: Any, relaxes: bool) -> None:
         raise pulp.PulpSolverError(f"lpd solves linear programs, and these are special ordered sets: {', '.join(map(str, sets[:6]))}")
 
 
-def must_fit(problem: Any) -> None:
-    """Refuses a problem that is too large, in its own terms."""
+def must_fit(problem: Any, is_wide: bool) -> None:
+    """Refuses a problem that is too large, in its own terms. One of more than 256 x 512 goes to lpd solve --wide alone."""
     rows, columns = len(problem.constraints), len(problem.variables())
-    if rows > MOST_ROWS or columns > MOST_COLUMNS:
+    most = (LARGE_ROWS, LARGE_COLUMNS) if is_wide else (MOST_ROWS, MOST_COLUMNS)
+    if rows > most[0] or columns > most[1]:
         size = f"this problem has {rows} constraints and {columns} variables"
-        raise pulp.PulpSolverError(f"lpd: {size}, and lpd takes at most {MOST_ROWS} and {MOST_COLUMNS}")
+        without = "" if is_wide else " with wide=False"
+        raise pulp.PulpSolverError(f"lpd: {size}, and lpd takes at most {most[0]} and {most[1]}{without}")
 
 
 class Options(argparse.ArgumentParser):
@@ -224,7 +242,7 @@ class LPD(pulp.LpSolver):  # type: ignore[misc]
     def actualSolve(self, lp: Any) -> int:
         """Solves the problem, and gives PuLP's status: Not Solved where there is no answer in the end."""
         must_be_linear(lp, relaxes=not self.mip)
-        must_fit(lp)
+        must_fit(lp, self.wide)
         take = Numbers(BINARY if self.binary else ROUNDED if self.round else SHOWN)
         text = written(model_of(lp, take), PROFILE).text
         lp.exact = None
@@ -239,7 +257,9 @@ class LPD(pulp.LpSolver):  # type: ignore[misc]
         lp.exact = Exact(found.answer, found.certificate, text, certified_with=found.solver, way=found.way, accepted_by=found.accepted_by)
         lp.exact.rows = dict(zip(model.rows, lp.constraints))
         lp.exact.columns = dict(zip(model.columns, (variable.name for variable in lp.variables())))
-        self.log([f"lpd: {found.answer}", *(f"lpd: {line}" for line in [*take.told(), *found.notes, *([] if found.is_by_lpd else [found.told()])])])
+        lines = [lp.exact.told_conflict(model)] if isinstance(found.answer, Infeasible) else []
+        lines += [*take.told(), *found.notes, *([] if found.is_by_lpd else [found.told()])]
+        self.log([f"lpd: {found.answer}", *(f"lpd: {line}" for line in lines)])
         put_values(lp, model, lp.exact)
         return put_status(lp, lp.exact.answer)
 

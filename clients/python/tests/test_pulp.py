@@ -182,8 +182,29 @@ class WithPulp(unittest.TestCase):
         problem = self.diet()
         for number in range(300):
             problem += self.bread <= 100 + number
-        with self.assertRaisesRegex(pulp.PulpSolverError, "this problem has 302 constraints and 2 variables, and lpd takes at most 256 and 512"):
+        told = "this problem has 302 constraints and 2 variables, and lpd takes at most 256 and 512 with wide=False"
+        with self.assertRaisesRegex(pulp.PulpSolverError, told):
+            problem.solve(LPD(msg=False, wide=False))
+        with mock.patch("lpd.pulp.LARGE_ROWS", 301), self.assertRaisesRegex(pulp.PulpSolverError, "lpd takes at most 301 and 131072$"):
             problem.solve(LPD(msg=False))
+
+    def test_a_large_problem(self) -> None:
+        """A transport of 20 x 40, which has more columns than a session takes."""
+        costs = {(i, j): (7 * i + 11 * j) % 13 + 1 for i in range(20) for j in range(40)}
+        problem = pulp.LpProblem("transport", pulp.LpMinimize)
+        carried = {(i, j): pulp.LpVariable(f"x_{i}_{j}", 0) for i, j in costs}
+        problem += pulp.lpSum(costs[place] * carried[place] for place in costs), "cost"
+        for i in range(20):
+            problem += pulp.lpSum(carried[i, j] for j in range(40)) <= 20, f"plant_{i}"
+        for j in range(40):
+            problem += pulp.lpSum(carried[i, j] for i in range(20)) >= 5, f"city_{j}"
+        self.assertEqual(problem.solve(LPD(msg=False)), pulp.LpStatusOptimal)
+        exact = problem.exact
+        self.assertEqual((exact.way, exact.answer.value), ("lpd solve --wide", sum(costs[place] * exact.values[f"x_{place[0]}_{place[1]}"] for place in costs)))
+        self.assertEqual(len(exact.ranges.costs), 800)
+        problem += pulp.lpSum(carried[0, j] for j in range(40)) >= 21, "too_much"
+        self.assertEqual(problem.solve(LPD(msg=False)), pulp.LpStatusInfeasible)
+        self.assertEqual(str(problem.exact.conflict), "at most 20 of plant_0 is there, but too_much asks for 21 at least\nat least 21 of too_much is asked for, but plant_0 allows 20 at most")
 
     def test_what_is_no_linear_program(self) -> None:
         problem = self.diet()
