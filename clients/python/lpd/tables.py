@@ -87,11 +87,20 @@ def cells_of(result: Result) -> Cells:
     }
 
 
+class NotOptima(LpdError):
+    """A file has no known answers."""
+
+    ends_with = 2
+
+
 def read_optima(text: str) -> Dict[str, str]:
-    """Known answers by the names of models: lines of a name, an outcome and an optimum, between tabs, below a line of heads."""
+    """Known answers by the names of models: lines of a name, an outcome and an optimum, between tabs, below a line of heads. An outcome
+    may be another than these three, as `unknown`, or missing, but no number, as a table of another kind has there."""
     found = {}
-    for line in text.splitlines()[1:]:
+    for count, line in enumerate(text.splitlines()[1:], 2):
         name, outcome, value, *_ = [*line.split("\t"), "", "", ""]
+        if outcome and not outcome[0].isalpha():
+            raise NotOptima(f"line {count} of the known answers has {outcome!r} behind its name, where optimal, infeasible or unbounded stands")
         found[name] = f"{outcome.upper()} {value}".strip()
     return found
 

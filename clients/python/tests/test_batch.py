@@ -103,6 +103,11 @@ class Tables(unittest.TestCase):
         for answer, value, name, word in cases:
             self.assertEqual(tables.against({"answer": answer, "value": value}, known.get(name)), word)
 
+    def test_a_table_of_another_kind(self) -> None:
+        """One that has numbers where outcomes stand compares with nothing."""
+        with self.assertRaisesRegex(tables.NotOptima, "line 2 of the known answers has '27' behind its name, where optimal, infeasible"):
+            tables.read_optima("model\trows\tcolumns\toptimum\nafiro\t27\t32\t-406659/875\n")
+
 
 @unittest.skipUnless(has_program(), "the program is not built")
 class Batch(unittest.TestCase):
