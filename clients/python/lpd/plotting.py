@@ -29,6 +29,10 @@ class NoPicture(LpdError):
     ends_with = 2
 
 
+class NoOptimum(NoPicture):
+    """At an end of what is to be shown there is no optimum."""
+
+
 class Side(NamedTuple):
     """The points with a x + b y at least c. `name` is the row's, or the column's."""
 
@@ -193,7 +197,7 @@ def turns_of(model: Model, rhs: Optional[str], cost: Optional[str], low: Fractio
         changed = with_number_of(model, rhs, cost, number)
         found = answered(written(changed, PROFILE).text, changed, effort)
         if not isinstance(found.answer, Optimal):
-            raise NoPicture(f"at {shown(number)} the answer is {found.answer}: choose other ends by --from and --to")
+            raise NoOptimum(f"at {shown(number)} the answer is {found.answer}: choose other ends by --from and --to")
         parts = report(changed, found.certificate)
         slope = next(row.price for row in parts.rows if row.name == rhs) if rhs is not None else next(c.value for c in parts.columns if c.name == cost)
         return Turn(number, found.answer.value, slope)

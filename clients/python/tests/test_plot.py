@@ -119,6 +119,15 @@ class Plot(unittest.TestCase):
                 self.assertIn("x.png ends with .png: name a file .svg", said.complaints)
             self.assertEqual(sorted(path.name for path in Path(folder).iterdir()), ["energy.svg", "shop.mps", "shop.svg"])
 
+    def test_an_end_without_an_optimum(self) -> None:
+        """Where nobody asks for it, the picture ends where the optimum does."""
+        text = "NAME feed\nROWS\n N cost\n E mass\n L fat\nCOLUMNS\n maize cost 2 mass 1\n maize fat 4\n soy cost 5 mass 1\n soy fat 1\nRHS\n mass 10 fat 15\nENDATA\n"
+        said = command("plot", "-", "--rhs", "fat", "-o", "-", stdin=text.encode())
+        told = "below 10: INFEASIBLE\nfrom 10 to 22.5: 50 to 37.5, -1 for each unit\n"
+        self.assertEqual((said.status, said.complaints), (0, told))
+        said = command("plot", "-", "--rhs", "fat", "--from", "9", "-o", "-", stdin=text.encode())
+        self.assertEqual((said.status, said.complaints), (2, "lpd: at 9 the answer is INFEASIBLE: choose other ends by --from and --to\n"))
+
     def test_what_cannot_be_shown(self) -> None:
         cases = {
             "--rhs none": "the model has no row none",

@@ -5,13 +5,15 @@ from __future__ import annotations
 import argparse
 from fractions import Fraction
 from pathlib import Path
-from typing import Optional
+from typing import List, Optional, Tuple
 
 from ..basis_file import read_bas
+from ..errors import CommandMissing, Refused
 from ..exact import Basis
 from ..model import Model
 from ..number_text import number
-from ..plotting import NoPicture, curve, plane, turns_of
+from ..plotting import NoOptimum, NoPicture, Turn, curve, plane, turns_of
+from ..ranging import COST, RHS
 from ..reading import name_of
 from ..solver_names import NONE
 from ..ways import ask, answered, other_solver
@@ -41,8 +43,8 @@ def add(commands: "argparse._SubParsersAction[argparse.ArgumentParser]") -> None
     over.add_argument("--rhs", metavar="ROW", help="the optimum over the right side of this row")
     over.add_argument("--cost", metavar="COLUMN", help="the optimum over the cost of this column")
     add_large(over, plot)
-    plot.add_argument("--from", dest="low", type=number_word, metavar="A", help="where the number begins (half of what it is)")
-    plot.add_argument("--to", dest="high", type=number_word, metavar="B", help="where the number ends (one and a half times what it is)")
+    plot.add_argument("--from", dest="low", type=number_word, metavar="A", help="where the number begins (half of what it is, or where there is an optimum)")
+    plot.add_argument("--to", dest="high", type=number_word, metavar="B", help="where the number ends (one and a half times what it is, or where there is one)")
     add_style(plot)
     plot.add_argument("-o", "--output", metavar="FILE", help="where the picture goes, as SVG, or - for standard output (MODEL.svg, or NAME.svg of a number)")
 
@@ -107,6 +109,45 @@ def around(model: Model, words: argparse.Namespace) -> "tuple[Fraction, Fraction
     return (now - gap if words.low is None else words.low), (now + gap if words.high is None else words.high)
 
 
+def shown_turns(model: Model, words: argparse.Namespace) -> List[Turn]:
+    """The optimum between the ends. Where there is none at an end that nobody asked for, it begins, or ends, where there is one."""
+    low, high = around(model, words)
+    effort = effort_of(words)
+    try:
+        return turns_of(model, words.rhs, words.cost, low, high, effort)
+    except NoOptimum:
+        if words.low is not None and words.high is not None:
+            raise
+        ends = ends_of_optimum(model, words)
+        if ends is None:
+            raise
+    (least, below), (most, above) = ends
+    if words.low is None and least is not None and least > low:
+        low = least
+        tell(f"below {style_of(words).word(low)}: {below}")
+    if words.high is None and most is not None and most < high:
+        high = most
+        tell(f"above {style_of(words).word(high)}: {above}")
+    return turns_of(model, words.rhs, words.cost, low, high, effort)
+
+
+End = Tuple[Optional[Fraction], str]
+
+
+def ends_of_optimum(model: Model, words: argparse.Namespace) -> "Optional[Tuple[End, End]]":
+    """Up to where there is an optimum on each side, and what there is beyond; or nothing, where that is not known."""
+    from ..pieces import DOWN, UP, Curve, curve_of
+
+    what, name = (RHS, words.rhs) if words.rhs is not None else (COST, words.cost)
+    try:
+        _, found = curve_of(model, what, name)
+    except (CommandMissing, Refused):
+        return None
+    if not isinstance(found, Curve):
+        return None
+    return (found.pieces[0].low, found.beyond.get(DOWN, "")), (found.pieces[-1].high, found.beyond.get(UP, ""))
+
+
 def put_picture(picture: str, path: Optional[str], name: str) -> None:
     """Writes a picture, to a file of this name where no other is named, and tells which."""
     file = path or f"{Path(name.replace('/', '_')).name}.svg"
@@ -141,8 +182,7 @@ def run(words: argparse.Namespace) -> int:
             raise NoPicture("--from and --to are of a number: name it by --rhs ROW or --cost COLUMN")
         put_picture(plane(model, effort_of(words)), words.output, name_of_model(words.model))
         return 0
-    low, high = around(model, words)
-    turns = turns_of(model, words.rhs, words.cost, low, high, effort_of(words))
+    turns = shown_turns(model, words)
     name, what = (words.rhs, "right side of") if words.rhs is not None else (words.cost, "cost of")
     word = style_of(words).word
     for turn, after in zip(turns, turns[1:]):
