@@ -25,10 +25,11 @@ HEAD = '''#!/usr/bin/env python3
     check_certificate.py [--form free|fixed] [--wide] [MODEL [CERTIFICATE]]
 
 It reads the files, or else standard input: the text of the model, and the certificate behind ENDATA. In front of a certificate that is
-a file of its own may stand the answer that it is for, as lpd solve prints it, which counts for nothing. It prints YES and what the certificate shows, NO and the number of the first condition that fails, or an ERR line. The status is 0
-behind YES and behind NO, as that of `lpd check` is, and 9 behind an ERR line: a script tests the first word. Why a certificate is not
-accepted goes to standard error. With --wide the numbers in the texts may be of any width too,
-and a model as large as `lpd check --wide` takes it.
+a file of its own may stand the answer that it is for, as lpd solve prints it. It prints YES and what the certificate shows, NO and the
+number of the first condition that fails, NO CLAIM where the certificate shows another answer than the one in front of it, or an ERR
+line. The status is 0 behind YES and behind NO, as that of `lpd check` is, and 9 behind an ERR line: a script tests the first word. Why
+a certificate is not accepted goes to standard error. With --wide the numbers in the texts may be of any width too, and a model as large
+as `lpd check --wide` takes it.
 
 This one file is all there is to it, and to read: it needs Python 3.8 or later and its standard library, shares nothing with the
 program, and is written from docs/FORMATS.md alone. tools/build_checker.py makes it of the checker in clients/python.
@@ -47,21 +48,36 @@ FOOT = '''
 # ---- the command
 
 
-def text_of(paths: List[str]) -> str:
-    """What is in the files, one behind the other, or on standard input."""
+def text_of(paths: List[str]) -> Tuple[str, List[str]]:
+    """What is in the files, one behind the other, or on standard input; and the words of the answer in front of the certificate."""
     if not paths:
-        return sys.stdin.buffer.read().decode("latin-1")
+        return sys.stdin.buffer.read().decode("latin-1"), []
     parts = []
     for path in paths:
         with open(path, "rb") as source:
             parts.append(source.read().decode("latin-1"))
-    return "\\n".join([*(part[:-1] if part.endswith("\\n") else part for part in parts[:1]), *map(without_answer, parts[1:])])
+    if len(parts) == 1:
+        return parts[0], []
+    text = parts[0][:-1] if parts[0].endswith("\\n") else parts[0]
+    certificate, claim = without_answer(parts[1])
+    return f"{text}\\n{certificate}", claim
 
 
-def without_answer(text: str) -> str:
-    """A certificate without the answer in front of it."""
+def without_answer(text: str) -> Tuple[str, List[str]]:
+    """A certificate without the answer in front of it, and the words of that."""
     first, _, rest = text.partition("\\n")
-    return rest if words_of(first)[:1] in ANSWERS and words_of(rest.partition("\\n")[0])[:1] in ANSWERS else text
+    is_answer = words_of(first)[:1] in ANSWERS and words_of(rest.partition("\\n")[0])[:1] in ANSWERS
+    return (rest, words_of(first)) if is_answer else (text, [])
+
+
+def shows(known: Known, claim: List[str]) -> bool:
+    """Whether an answer is the one that is claimed."""
+    if not isinstance(known, Optimal):
+        return claim == words_of(str(known))
+    try:
+        return claim[:1] == ["OPTIMAL"] and number(" ".join(claim[1:]), True) == known.value
+    except NotANumber:
+        return False
 
 
 def main() -> int:
@@ -73,7 +89,8 @@ def main() -> int:
     if len(words.files) > 2:
         parser.error("a model and a certificate are two files at most")
     try:
-        verdict = check(text_of(words.files), fixed=words.form == "fixed", wide=words.wide)
+        text, claim = text_of(words.files)
+        verdict = check(text, fixed=words.form == "fixed", wide=words.wide)
     except Refused as refused:
         sys.stdout.buffer.write(refused.reply.encode("latin-1") + b"\\n")
         print(refused, file=sys.stderr)
@@ -81,6 +98,10 @@ def main() -> int:
     except OSError as error:
         print(f"{error.filename}: {error.strerror}", file=sys.stderr)
         return 3
+    if isinstance(verdict, Accepted) and claim and not shows(verdict.known, claim):
+        print("NO CLAIM")
+        print(f"the certificate is accepted and shows {verdict.known}, and the answer in front of it is {' '.join(claim)}", file=sys.stderr)
+        return 0
     print(verdict)
     if isinstance(verdict, Rejected):
         print(verdict.why, file=sys.stderr)

@@ -77,6 +77,11 @@ class Checker(unittest.TestCase):
                 Path(name).write_text(content)
             for words in (names[:2], [names[0], names[2]], names[3:]):
                 self.assertEqual(self.checked(*words).stdout, "YES OPTIMAL 92.5\n")
+            for claim, shown in (("OPTIMAL 92.6", "NO CLAIM"), ("OPTIMAL 185/2", "YES OPTIMAL 92.5"), ("INFEASIBLE", "NO CLAIM"), ("OPTIMAL x", "NO CLAIM")):
+                Path(names[1]).write_text(f"{claim}\n{bare}")
+                said = self.checked(*names[:2])
+                self.assertEqual((said.returncode, said.stdout), (0, f"{shown}\n"))
+            self.assertEqual(said.stderr, "the certificate is accepted and shows OPTIMAL 92.5, and the answer in front of it is OPTIMAL x\n")
             said = self.checked(names[0], f"{folder}/none")
             self.assertEqual((said.returncode, said.stderr), (3, f"{folder}/none: No such file or directory\n"))
             self.assertEqual(self.checked(*names[:3]).returncode, 2)
