@@ -4,10 +4,10 @@
     front.py FOLDER [--program PROGRAM] [--most N] [--write PAGE]
 
 Of the folder it takes the first N (20) models that `PROGRAM solve --wide` answers within 10 seconds, and last a transport of 12 x 40
-that is made, with all its ranges. Times are of the processor, for the whole process with those that it begins, the least of three runs.
-What the front adds is what it takes more than the program: to start Python, to read the model, to have `lpd check` or `lpd check --wide`
-judge the certificate, to check it itself, and to write the report. With --write the table takes the place of what stands between the two
-marks of PAGE.
+that is made, with all its ranges. Times are of the processor, for the whole process with those that it begins, and behind them of the
+wall, each the least of three runs. On a machine with other work the wall says how busy it is. What the front adds is what it takes more
+than the program: to start Python, to read the model, to have `lpd check` or `lpd check --wide` judge the certificate, to check it
+itself, and to write the report. With --write the table takes the place of what stands between the two marks of PAGE.
 """
 import os
 import pathlib
@@ -15,6 +15,8 @@ import random
 import subprocess
 import sys
 import tempfile
+import time
+from typing import NamedTuple
 
 from options import read_options
 from page import ended
@@ -25,23 +27,32 @@ RUNS, SECONDS = 3, 10
 FRONT = [sys.executable, "-m", "lpd", "solve"]
 
 
+class Spent(NamedTuple):
+    """Seconds."""
+
+    processor: float
+    wall: float
+
+
 def spent(words, path=None):
-    """The least processor time of some runs, or nothing where one takes too long or fails."""
-    times = []
+    """The least seconds of the processor of some runs, and the least of the wall, or nothing where one takes too long or fails."""
+    times, walls = [], []
     for _ in range(RUNS):
         with open(path or os.devnull, "rb") as given:
+            began = time.monotonic()
             try:
                 run = subprocess.Popen(words, stdin=given, stdout=subprocess.DEVNULL, stderr=subprocess.DEVNULL)
             except OSError:
                 return None
             _, status, usage = os.wait4(run.pid, 0)
             run.returncode = os.waitstatus_to_exitcode(status)
+            walls.append(time.monotonic() - began)
         if run.returncode not in (0, 10, 11):
             return None
         times.append(usage.ru_utime + usage.ru_stime)
         if times[-1] > SECONDS:
             return None
-    return min(times)
+    return Spent(min(times), min(walls))
 
 
 def transport(sources, goals):
@@ -54,18 +65,21 @@ def transport(sources, goals):
     return "\n".join(["ROWS", " N cost", *rows, "COLUMNS", *cards, "RHS", *sides, "ENDATA", ""])
 
 
-def cell(time):
-    return "" if time is None else f"{time:.3f}"
+def cell(seconds):
+    return "" if seconds is None else f"{seconds:.3f}"
 
 
-def line(name, by_program, by_front, by_glpsol):
+def line(name, *found):
+    """The processor's times of the program, of the front and of glpsol, with what the front adds, and their times of the wall."""
+    by_program, by_front, by_glpsol = (one.processor if one else None for one in found)
     more = None if by_front is None or by_program is None else by_front - by_program
-    return f"| {name} | {cell(by_program)} | {cell(by_front)} | {cell(more)} | {cell(by_glpsol)} |"
+    walls = [one.wall if one else None for one in found]
+    return f"| {name} | {' | '.join(cell(one) for one in (by_program, by_front, more, by_glpsol, *walls))} |"
 
 
 def measure(options):
-    yield "| Model | `lpd solve --wide`, s | `lpd-py solve`, s | the front's own, s | `glpsol`, s |"
-    yield "|---|---|---|---|---|"
+    yield "| Model | `lpd solve --wide`, s | `lpd-py solve`, s | the front's own, s | `glpsol`, s | wall: program | front | `glpsol` |"
+    yield "|---|---|---|---|---|---|---|---|"
     kept = 0
     for path in sorted(options.folder.glob("*.mps")):
         by_program = spent([*options.program, "solve", "--wide"], path)
