@@ -10,8 +10,7 @@
    texts are those of tools/try_dialects.py, mutated ones, the examples, and those that are named: files of MPS, or scripts of
    sessions, whose texts are tried.
 
-With --chk coqchk judges the compiled files of coq/ and of one answer too, and may name no axiom but what a module of Coq's own
-library hides.
+With --chk coqchk judges the compiled files of coq/ and of one answer too, and may name no axiom.
 """
 import argparse
 import random
@@ -41,8 +40,8 @@ EXAMPLES = TOP / "examples"
 KINDS = ("optimal", "infeasible", "unbounded", "clash")
 TEXTS_AT_ONCE = 120
 LONGEST = 3000  # bytes of a text that is tried; longer ones take Coq long
-# A module of Coq's own library that hides what it is made of, which coqchk calls axioms.
-SEALED = "Coq.ssr.ssrunder."
+# A module of Coq's own library that hides what it is made of: coqchk calls that axioms where it does not judge the module.
+SEALED = "Coq.ssr.ssrunder"
 STRING = re.compile(r'"((?:[^"]|"")*)"%mps')
 
 
@@ -280,13 +279,13 @@ def judge_compiled(case: Case) -> List[str]:
     with tempfile.TemporaryDirectory() as room:
         (Path(room) / "answer.v").write_bytes(file_of(case, known).encode("latin-1"))
         coq.coqc(["-noglob", "answer.v"], Path(room))
-        judged = [word for source in coq.sources(coq.library()) for word in ("-norec", f"Lpd.{source.stem}")]
-        command = ["coqchk", "-silent", "-o", "-Q", str(coq.library()), "Lpd", "-Q", ".", "", *judged, "-norec", "answer"]
+        names = [SEALED, *(f"Lpd.{source.stem}" for source in coq.sources(coq.library())), "answer"]
+        judged = [word for name in names for word in ("-norec", name)]
+        command = ["coqchk", "-silent", "-o", "-Q", str(coq.library()), "Lpd", "-Q", ".", "", *judged]
         done = subprocess.run(command, cwd=room, capture_output=True, text=True)
     said = done.stdout + done.stderr
     axioms = said.partition("* Axioms:")[2].partition("*")[0].split()
-    others = [name for name in axioms if not name.startswith((SEALED, "<none>"))]
-    return [f"coqchk: {said}"] if done.returncode or others else []
+    return [f"coqchk: {said}"] if done.returncode or axioms != ["<none>"] else []
 
 
 def main() -> int:
