@@ -1,17 +1,20 @@
 #!/usr/bin/env python3
 """Has Coq prove the answers of the models of a folder, as `lpd-py theorem` writes them, of the text and of the data.
 
-    coq.py FOLDER.. [--certificates FOLDER] [--program PROGRAM] [--kept FILE] [--seconds N] [--jobs N] [--only NAME,..] [--data] [--write PAGE]
+    coq.py FOLDER.. [--certificates FOLDER] [--program PROGRAM] [--made N] [--kept FILE] [--seconds N] [--jobs N] [--only NAME,..] [--data] [--write PAGE]
 
 A certificate is NAME.cert of the second folder, as `exact.cpp` or `lpd` writes it, or else what `PROGRAM solve --wide` finds. It is
-not judged before: Coq does that. A proof may take N (600) seconds of the processor. What was proved is kept in FILE, a line for
-each, and is not proved again. --jobs proves as many at once (1), and --data proves those of the data too. The smallest come first.
+not judged before: Coq does that. With --made, N models are made too, of each kind as many; those without a feasible point are
+proved once more by what `PROGRAM iis` writes. A proof may take N (600) seconds of the processor. What was proved is kept in FILE,
+a line for each, and is not proved again. --jobs proves as many at once (1), and --data proves those of the data too. The smallest
+come first.
 
 Times are of the processor, for the whole of coqc, of one run each, and the memory is the most that it held. With --write the table of
 all that is kept takes the place of what stands between the two marks of PAGE.
 """
 import argparse
 import os
+import random
 import resource
 import subprocess
 import sys
@@ -21,8 +24,11 @@ from pathlib import Path
 from typing import Dict, Iterator, List, NamedTuple, Optional
 
 from page import ended
-from solvers import PROGRAM
+from solvers import PROGRAM, TOP
 
+sys.path.insert(0, str(TOP / "tools"))
+
+import check_theorems  # (a tool of this repository)
 from lpd import coq, theorem
 from lpd.certificate import Certificate, matched, read_certificate
 from lpd.conversion import convert
@@ -34,6 +40,9 @@ BEGIN, END = "<!-- measured by bench/coq.py -->", "<!-- end of the proofs -->"
 LETTERS = ("x ", "y ", "r ")
 HEAD = ["Model", "Rows", "Columns", "Coefficients", "Bytes of the text", "Bits of the certificate", "Answer", "Text, s", "Memory, MB"]
 OF_DATA = ["Data, s", "Memory, MB"]
+HEAD_OF_MADE = ["Made models", "Proved", "Text, s in all", "Text, s at most", "Memory, MB at most"]
+MADE = "made_"  # begins the name of a model that is made
+SEED = 1
 
 
 class Read(NamedTuple):
@@ -74,9 +83,22 @@ def read_model(path: Path) -> Read:
     return Read(found.model, lines_of(found.text), False)
 
 
+def write_made(folder: Path, count: int, program: str) -> List[Path]:
+    """So many models of each kind by turns, with their certificates beside them, and the conflicts of those that have one."""
+    cases = list(check_theorems.made(random.Random(SEED), count))
+    paths = []
+    for case in [*cases, *check_theorems.conflicts(program, cases)]:
+        path = folder / f"{MADE}{case.name.replace(' ', '_')}.mps"
+        path.write_text(case.text, encoding="latin-1")
+        path.with_suffix(".cert").write_text("".join(f"{line}\n" for line in case.certificate), encoding="latin-1")
+        paths.append(path)
+    return paths
+
+
 def certificate_of(path: Path, read: Read, folder: Optional[Path], program: str) -> Certificate:
-    kept = folder / f"{path.stem}.cert" if folder else None
-    if kept and kept.exists():
+    beside = path.with_suffix(".cert")
+    kept = folder / beside.name if folder and not path.stem.startswith(MADE) else beside
+    if kept.exists():
         lines = lines_of(kept.read_text(encoding="latin-1"))
         if lines[0].startswith(LETTERS):
             lines = ["OPTIMAL", *lines, "END"]
@@ -154,8 +176,23 @@ def measured(proof: Optional[Proof]) -> List[str]:
     return [proof.failed[:20] or f"{proof.seconds:.1f}", f"{proof.memory:.0f}"]
 
 
+def table_of_made(done: Dict[str, Proof]) -> List[str]:
+    """A row for each kind of made models, if there are any."""
+    kinds: Dict[str, List[Proof]] = {}
+    for proof in done.values():
+        if proof.name.startswith(MADE) and proof.kind == "text":
+            kinds.setdefault(proof.name[len(MADE) :].rpartition("_")[0].replace("_", " "), []).append(proof)
+    rows = [HEAD_OF_MADE, ["---"] * len(HEAD_OF_MADE)]
+    for kind, proofs in sorted(kinds.items()):
+        times = [proof.seconds for proof in proofs]
+        proved = f"{sum(not proof.failed for proof in proofs)} of {len(proofs)}"
+        rows.append([kind, proved, f"{sum(times):.1f}", f"{max(times):.1f}", f"{max(proof.memory for proof in proofs):.0f}"])
+    return ["", *("| " + " | ".join(row) + " |" for row in rows)] if kinds else []
+
+
 def table(done: Dict[str, Proof]) -> List[str]:
-    texts = sorted((proof for proof in done.values() if proof.kind == "text"), key=lambda proof: proof.seconds)
+    texts = [proof for proof in done.values() if proof.kind == "text" and not proof.name.startswith(MADE)]
+    texts.sort(key=lambda proof: proof.seconds)
     has_data = any(proof.kind == "data" for proof in done.values())
     rows = [HEAD + (OF_DATA if has_data else [])]
     rows.append(["---"] * len(rows[0]))
@@ -167,7 +204,7 @@ def table(done: Dict[str, Proof]) -> List[str]:
     total = sum(proof.seconds for proof in proved)
     said = f"{len(proved)} of {len(texts)} answers are proved of the text, in {total:.0f} seconds in all;"
     said += f" {len(within)} of them are of models of at most 256 rows and 512 columns, and take {sum(p.seconds for p in within):.0f} seconds, at most {max((p.seconds for p in within), default=0):.1f}."
-    return [said, "", *("| " + " | ".join(row) + " |" for row in rows)]
+    return [said, "", *("| " + " | ".join(row) + " |" for row in rows), *table_of_made(done)]
 
 
 def main() -> int:
@@ -175,6 +212,7 @@ def main() -> int:
     parser.add_argument("folders", type=Path, nargs="*")
     parser.add_argument("--certificates", type=Path)
     parser.add_argument("--program", default=PROGRAM)
+    parser.add_argument("--made", type=int, default=0)
     parser.add_argument("--kept", type=Path, default=Path("coq.tsv"))
     parser.add_argument("--seconds", type=int, default=600)
     parser.add_argument("--jobs", type=int, default=1)
@@ -187,7 +225,8 @@ def main() -> int:
     done = {f"{proof.name} {proof.kind}": proof for proof in map(read_proof, kept)}
     paths = sorted((path for folder in options.folders for path in folder.glob("*.mps")), key=lambda path: path.stat().st_size)
     resource.setrlimit(resource.RLIMIT_CORE, (0, 0))
-    with ThreadPoolExecutor(options.jobs) as pool:
+    with ThreadPoolExecutor(options.jobs) as pool, tempfile.TemporaryDirectory() as room:
+        paths += write_made(Path(room), options.made, options.program)
         list(pool.map(lambda path: prove(path, options, done), [path for path in paths if not options.only or path.stem in options.only]))
     return ended(options.write, BEGIN, END, table(done), [f"{proof.name}: {proof.failed}" for proof in done.values() if proof.failed])
 
