@@ -16,6 +16,9 @@ const APART: f64 = 1e-7;
 
 const FAR_APART: f64 = 0.1;
 
+// The greatest weight of a column.
+const MOST_WEIGHT: f64 = 1e12;
+
 /// How a run of the primal method ended.
 #[derive(Clone, Copy)]
 pub(crate) enum PrimalEnd {
@@ -90,25 +93,31 @@ fn priced(state: &State) -> Option<usize> {
     found
 }
 
-// Raises the weights of the columns that the row has numbers for.
-fn raise_weights(state: &mut State, pivot: f64, own: f64) {
+// Raises the weights of the columns that the row has numbers for. The greatest of them.
+fn raise_weights(state: &mut State, pivot: f64, own: f64) -> f64 {
     let row = &state.room.row;
+    let mut most = 0.0;
     for k in &row.places {
         let quotient = at(&row.numbers, *k) / pivot;
         let weight = quotient * quotient * own;
         if weight > at(&state.reference, *k) {
             put(&mut state.reference, *k, weight);
         }
+        most = weight.max(most);
     }
+    most
 }
 
-// The weights after the exchange.
+// The weights after the exchange. Where they are too large to tell columns apart, they begin anew.
 fn update_weights(state: &mut State, entering: usize, leaving: usize) {
     let pivot = at(&state.room.row.numbers, entering);
     let own = at(&state.reference, entering);
-    raise_weights(state, pivot, own);
+    let most = raise_weights(state, pivot, own);
     let weight = own / (pivot * pivot);
     put(&mut state.reference, leaving, weight.max(1.0));
+    if most.max(weight) > MOST_WEIGHT {
+        fill(&mut state.reference, 1.0);
+    }
 }
 
 // The entering column, which way it goes, and whether values are outside.
