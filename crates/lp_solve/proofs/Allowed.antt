@@ -24,7 +24,7 @@ use Rattle.spec_solve.proofs.Left.{solved_left}
 use Rattle.lp_solve.specs.Fit.{IsFit, IsWarmFit, LeavesBasis}
 use Rattle.lp_solve.specs.Formless.{HasNoForm}
 use Rattle.lp_solve.specs.Stopped.{IsAfterStop}
-use Rattle.lp_solve.proofs.WarmRuns.{ends_warm, falls, nothing_handed}
+use Rattle.lp_solve.proofs.WarmRuns.{ends_warm, falls, no_starting}
 
 fit_end : (m : Model) (end : ExactSolveEnd) → IsFit m end → HasFitEnd m end
 fit_end m end fit = λ known c basis pivots is. subst (IsFit m) is fit
@@ -32,9 +32,9 @@ fit_end m end fit = λ known c basis pivots is. subst (IsFit m) is fit
 -- ---- from a basis of the form
 module _ (budget : ℕ) (m : Model) (f : Form) (basis : List Status) (formed : form_of (Some number_limit) m ≡ Ok f)
     (fits : IsBasisOf f basis) where
-  handed_solved : (s : SolveEnd) → MayEnd (Some number_limit) budget m (Some basis) s → IsFit m s.end →
+  warm_is_solved : (s : SolveEnd) → MayEnd (Some number_limit) budget m (Some basis) s → IsFit m s.end →
       IsSolved m budget (Some basis) s
-  handed_solved s may fit = is_solved m budget (Some basis) s (f, formed, fits) may (fit_end m s.end fit)
+  warm_is_solved s may fit = is_solved m budget (Some basis) s (f, formed, fits) may (fit_end m s.end fit)
 
   pub warm_solved : (answer : Known ℚ) (c : Certificate (List ℚ)) (left : Option (List Status)) (pivots : ℕ)
       (w : WarmResult) → w ≡ warm.Ended answer c left pivots →
@@ -42,7 +42,7 @@ module _ (budget : ℕ) (m : Model) (f : Form) (basis : List Status) (formed : f
       IsWarmFit m w →
       IsSolved m budget (Some basis) (record { end = Ended answer c left pivots; route = route.Warm })
   warm_solved answer c left pivots w e h fit =
-      handed_solved (record { end = Ended answer c left pivots; route = route.Warm })
+      warm_is_solved (record { end = Ended answer c left pivots; route = route.Warm })
       (ends_warm (Some number_limit) budget m f basis formed answer c left pivots w e h) (subst (IsWarmFit m) e fit)
 
   pub fall_solved : (stop : WarmStop ℚ) (w : WarmResult) (end : ExactSolveEnd) → w ≡ warm.Stopped stop →
@@ -50,7 +50,7 @@ module _ (budget : ℕ) (m : Model) (f : Form) (basis : List Status) (formed : f
       IsFit m end →
       IsSolved m budget (Some basis) (record { end = end; route = route.Fell (fall_of stop) })
   fall_solved stop w end e h may fit =
-      handed_solved (record { end = end; route = route.Fell (fall_of stop) })
+      warm_is_solved (record { end = end; route = route.Fell (fall_of stop) })
       (falls (Some number_limit) budget m f basis formed stop w end e h may) fit
 
   pub after_solved : {E : Type 0} (stop : WarmStop ℚ) (w : WarmResult) (r : Result SolveEnd E) →
@@ -66,41 +66,41 @@ pub after_stop : (budget : ℕ) (m : Model) (f : Form) (stop : WarmStop ℚ) (en
 after_stop budget m f stop end formed may fit = λ basis fits stops.
     fall_solved budget m f basis formed fits stop (warm.Stopped stop) end refl (sym stops) may fit
 
--- ---- where nothing is handed
-pub unhanded_solved : (budget : ℕ) (m : Model) (end : ExactSolveEnd) (s : SolveEnd) →
+-- ---- without a starting basis
+pub cold_is_solved : (budget : ℕ) (m : Model) (end : ExactSolveEnd) (s : SolveEnd) →
     s ≡ record { end = end; route = route.Cold } → MayEndCold (Some number_limit) budget m end → IsFit m end →
     IsSolved m budget None s
-unhanded_solved budget m end s is may fit =
+cold_is_solved budget m end s is may fit =
     subst (IsSolved m budget None) (sym is) (cold_solved m budget end may (fit_end m end fit))
 
--- a model without a form has no basis, so that none is handed
-pub formless_solved : {B E : Type 0} (budget : ℕ) (m : Model) (view : B → List Status) (handed : Option B)
-    (ended : Result SolveEnd E) → IfSome handed (λ basis. HasBasis (Some number_limit) m (view basis)) →
+-- a model without a form has no basis
+pub formless_solved : {B E : Type 0} (budget : ℕ) (m : Model) (view : B → List Status) (starting : Option B)
+    (ended : Result SolveEnd E) → IfSome starting (λ basis. HasBasis (Some number_limit) m (view basis)) →
     IfOk ended (λ s. (budget : ℕ) → IsSolved m budget None s) → IfOk ended (λ _. HasNoForm m) →
-    IfOk ended (IsSolved m budget (option_map view handed))
-formless_solved budget m view handed (Err why) fits solved formless = tt
-formless_solved budget m view handed (Ok s) fits solved formless =
-    subst (λ handed. IsSolved m budget (option_map view handed) s)
-    (sym (nothing_handed (Some number_limit) m view handed formless.0 formless.1 fits)) (solved budget)
+    IfOk ended (IsSolved m budget (option_map view starting))
+formless_solved budget m view starting (Err why) fits solved formless = tt
+formless_solved budget m view starting (Ok s) fits solved formless =
+    subst (λ starting. IsSolved m budget (option_map view starting) s)
+    (sym (no_starting (Some number_limit) m view starting formless.0 formless.1 fits)) (solved budget)
 
 -- ---- the basis that is left
-handed_fits : {B : Type 0} (view : B → List Status) (f : Form) (handed : Option B) →
-    IfSome handed (λ basis. IsBasisOf f (view basis)) → IfSome (option_map view handed) (IsBasisOf f)
-handed_fits view f None fits = tt
-handed_fits view f (Some basis) fits = fits
+pub starting_fits : {B : Type 0} (view : B → List Status) (f : Form) (starting : Option B) →
+    IfSome starting (λ basis. IsBasisOf f (view basis)) → IfSome (option_map view starting) (IsBasisOf f)
+starting_fits view f None fits = tt
+starting_fits view f (Some basis) fits = fits
 
-module _ {B : Type 0} (budget : ℕ) (m : Model) (f : Form) (view : B → List Status) (handed : Option B)
-    (formed : form_of (Some number_limit) m ≡ Ok f) (fits : IfSome handed (λ basis. IsBasisOf f (view basis))) where
-  pub solve_leaves : (s : SolveEnd) → IsSolved m budget (option_map view handed) s → LeavesBasis f s.end
+module _ {B : Type 0} (budget : ℕ) (m : Model) (f : Form) (view : B → List Status) (starting : Option B)
+    (formed : form_of (Some number_limit) m ≡ Ok f) (fits : IfSome starting (λ basis. IsBasisOf f (view basis))) where
+  pub solve_leaves : (s : SolveEnd) → IsSolved m budget (option_map view starting) s → LeavesBasis f s.end
   solve_leaves s h = by s.end refl
     where
       by : (end : ExactSolveEnd) → s.end ≡ end → LeavesBasis f end
       by (Ended (known.Optimal v) c (Some left) pivots) is =
-          solved_left (known.Optimal v) c left pivots m budget f formed s is (option_map view handed)
-          (handed_fits view f handed fits) h
+          solved_left (known.Optimal v) c left pivots m budget f formed s is (option_map view starting)
+          (starting_fits view f starting fits) h
       by end is = tt
 
-  pub solves_leave : {E : Type 0} (r : Result SolveEnd E) → IfOk r (IsSolved m budget (option_map view handed)) →
+  pub solves_leave : {E : Type 0} (r : Result SolveEnd E) → IfOk r (IsSolved m budget (option_map view starting)) →
       IfOk r (λ s. LeavesBasis f s.end)
   solves_leave (Ok s) h = solve_leaves s h
   solves_leave (Err why) h = tt

@@ -1,5 +1,5 @@
 -- What an exact solve answers.
-use Rattle.std.proofs.Common.{◌≡◌, ℕ, List, Option, Some, None, Result, Ok, Err, IfSome, refl, sym, ◌∙◌, subst}
+use Rattle.std.proofs.Common.{◌≡◌, ℕ, List, Option, Some, None, Result, Ok, Err, IfSome, IfOk, option_map, refl, sym, subst, ◌∙◌}
 use Rattle.spec_exact.specs.Fraction.{ℚ}
 use Rattle.spec_exact.specs.Narrow.{number_limit}
 use Rattle.spec_exact.specs.declared.past.Past.{Past}
@@ -22,12 +22,14 @@ use Rattle.spec_solve.specs.Answers.{MayAnswer, IsSolved}
 use Rattle.spec_solve.specs.OfBasis.{IsOfBasis}
 use Rattle.spec_solve.specs.Order.{GivesUp}
 use Rattle.spec_solve.specs.declared.exact.Origin.TheVariants.{Cold}
-use Rattle.spec_solve.specs.Exact.{IsShown, IsBasisOfAnswer, IsExactAnswer, MayGiveUp}
+use Rattle.spec_solve.specs.Exact.{IsShown, IsBasisOfAnswer, IsExactAnswer, IsExactEnd, MayGiveUp, RationalEnd}
 use Rattle.spec_solve.proofs.ExactAnswers.{narrow_shown}
 use Rattle.spec_solve.proofs.Left.{solved_left}
 use Rattle.spec_simplex.specs.declared.ends.FormFault.{FormFault}
 use Rattle.spec_simplex.specs.declared.ends.FormFault.TheVariants as fault
-use Rattle.lp_solve.proofs.Allowed.{unhanded_solved}
+use Rattle.lp_solve.specs.Formless.{HasNoForm}
+use Rattle.lp_solve.proofs.WarmRuns.{no_starting}
+use Rattle.lp_solve.proofs.Allowed.{cold_is_solved}
 use Rattle.lp_solve.proofs.Solved.{formless}
 
 -- a model has one form
@@ -79,17 +81,17 @@ pub refusal_gives_up : (m : Model) (budget : ℕ) (p : Past ℚ) → form_of (So
 refusal_gives_up m budget p h =
     let solved : SolveEnd = record { end = outcome.Past p; route = route.Cold } in (
       solved,
-      unhanded_solved budget m (outcome.Past p) solved refl
+      cold_is_solved budget m (outcome.Past p) solved refl
           (formless (Some number_limit) budget m (fault.Past p) (outcome.Past p) h refl) tt,
       tt,
     )
 
--- ---- from a basis of a form
-
-module _ (m : Model) (basis : List Status) (has : HasBasis (Some number_limit) m basis) where
-  pub basis_fits : (f : Form) → form_of (Some number_limit) m ≡ Ok f → IsBasisOf f basis
-  basis_fits f formed = subst (λ g. IsBasisOf g basis) (same_form m has.0 f has.1 formed) has.2
-
-  -- so the model has one
-  pub no_fault : (why : FormFault ℚ) → ¬ (form_of (Some number_limit) m ≡ Err why)
-  no_fault why h = let z : ◌≡◌ {A = Result Form (FormFault ℚ)} (Ok has.0) (Err why) = sym has.1 ∙ h in cc
+-- such a model has no basis
+pub formless_exactly : {B E : Type 0} (m : Model) (budget : ℕ) (view : B → List Status) (starting : Option B)
+    (ended : Result RationalEnd E) → IfSome starting (λ basis. HasBasis (Some number_limit) m (view basis)) →
+    IfOk ended (IsExactEnd m budget None) → IfOk ended (λ _. HasNoForm m) →
+    IfOk ended (IsExactEnd m budget (option_map view starting))
+formless_exactly m budget view starting (Err why) has ends formless = tt
+formless_exactly m budget view starting (Ok end) has ends formless =
+    subst (λ starting. IsExactEnd m budget (option_map view starting) end)
+    (sym (no_starting (Some number_limit) m view starting formless.0 formless.1 has)) ends

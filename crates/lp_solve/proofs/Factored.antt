@@ -1,5 +1,5 @@
 -- The run over factors and its check.
-use Rattle.std.proofs.Common.{◌≡◌, ◌⊎◌, inl, inr, ℕ, List, Option, Some, None, Result, Ok, Err, IfOk, IfSome}
+use Rattle.std.proofs.Common.{◌≡◌, ◌≢◌, ◌⊎◌, inl, inr, ℕ, List, Option, Some, None, Result, Ok, Err, IfOk, IfSome}
 use Rattle.std.proofs.Common.{refl, sym, ap, ◌∙◌, subst}
 use Rattle.spec_exact.specs.Fraction.{ℚ}
 use Rattle.spec_exact.specs.declared.past.Past.{Past}
@@ -7,7 +7,9 @@ use Rattle.spec_exact.specs.Narrow.{number_limit}
 use Rattle.spec_model.specs.Model.{Model}
 use Rattle.spec_check.specs.declared.certificate.Certificate.{Certificate}
 use Rattle.spec_check.specs.declared.certificate.Known.{Known}
+use Rattle.spec_check.specs.declared.certificate.CheckStop.TheVariants.{No}
 use Rattle.spec_check.specs.Certificate.{IsFor}
+use Rattle.spec_check.specs.Run.{check_run}
 use Rattle.spec_pivot.specs.declared.status.Status.{Status}
 use Rattle.spec_simplex.specs.declared.ends.RunStop.{RunStop}
 use Rattle.spec_simplex.specs.Form.{Form, form_of}
@@ -27,24 +29,33 @@ use Rattle.lp_revised.specs.declared.stop.Spent.{Spent}
 use Rattle.lp_frac.specs.declared.stop.Stop.TheVariants as revised
 use Rattle.lp_revised.specs.Answer.{StopsRevised}
 use Rattle.lp_revised.specs.Runs.{over_end}
-use Rattle.lp_solve.specs.Fit.{IsFit}
+use Rattle.lp_solve.specs.declared.strategy.Engine.TheVariants.{Factors, Tableaus}
+use Rattle.lp_solve.specs.Strategy.{IsRunOf}
+use Rattle.lp_solve.proofs.Accepted.{never_no}
 use Rattle.lp_solve.proofs.Left.{phases_leave}
 use Rattle.lp_solve.proofs.Solved.{cold_is}
 
 module _ (budget : ℕ) (m : Model) (f : Form) (formed : form_of (Some number_limit) m ≡ Ok f) where
   -- ---- the run over factors
   -- its certificate is that of the run over whole tableaus without a limit
-  pub over_fits : (e : RunEnd) → answer_in (phases_run None budget f) ≡ Ok (over_end e) → IsFor m e.certificate
-  over_fits e = by (phases_run None budget f) refl
+  over_is_accepted : (e : RunEnd) → answer_in (phases_run None budget f) ≡ Ok (over_end e) → IsAccepted None m e.certificate
+  over_is_accepted e = by (phases_run None budget f) refl
     where
       by : (o : Result PhasesEnd (RunStop ℚ)) → phases_run None budget f ≡ o → answer_in o ≡ Ok (over_end e) →
-          IsFor m e.certificate
+          IsAccepted None m e.certificate
       by (Ok end) q h =
-          let a : IsAccepted None m (certificate_of end) =
-          end_accepted None budget m f end (form_without (Some number_limit) m f formed) q in
           let same : answer_of end ≡ over_end e = cc in
-          subst (λ (o : OverEnd). IsFor m o.certificate) same a.fits
+          subst (λ (o : OverEnd). IsAccepted None m o.certificate) same
+          (end_accepted None budget m f end (form_without (Some number_limit) m f formed) q)
       by (Err s) q h = let z : ◌≡◌ {A = Result OverEnd (RunStop ℚ)} (Err s) (Ok (over_end e)) = h in cc
+
+  pub over_fits : (e : RunEnd) → answer_in (phases_run None budget f) ≡ Ok (over_end e) → IsFor m e.certificate
+  over_fits e h = let a : IsAccepted None m e.certificate = over_is_accepted e h in a.fits
+
+  -- so the checker does not say no to it
+  pub over_accepted : (e : RunEnd) → answer_in (phases_run None budget f) ≡ Ok (over_end e) → (n : ℕ) →
+      check_run (Some number_limit) m e.certificate ≢ Err (No n)
+  over_accepted e h = never_no None m e.certificate (over_is_accepted e h)
 
   -- its basis is one of the form
   pub over_leaves : (e : RunEnd) → answer_in (phases_run None budget f) ≡ Ok (over_end e) →
@@ -88,71 +99,49 @@ module _ (budget : ℕ) (m : Model) (f : Form) (formed : form_of (Some number_li
       or_tableaus o (cold (Some number_limit) budget m) ≡ cold_over (Some number_limit) budget m
   or_is o h = ap (λ o. or_tableaus o (cold (Some number_limit) budget m)) h ∙ part_is
 
-  pub or_ended : (o : ExactSolveEnd) (known : Known ℚ) (c : Certificate (List ℚ)) (basis : Option (List Status))
-      (pivots : ℕ) →
+  -- what either of them answers is what both do
+  ended_over : (o : ExactSolveEnd) (known : Known ℚ) (c : Certificate (List ℚ)) (basis : Option (List Status)) (pivots : ℕ) →
       o ≡ outcome.Ended known c basis pivots → o ≡ over_factors (Some number_limit) budget m f →
       o ≡ cold_over (Some number_limit) budget m
-  or_ended o known c basis pivots is h =
-      is ∙ or_is (outcome.Ended known c basis pivots) (sym is ∙ h)
+  ended_over o known c basis pivots is h = is ∙ or_is (outcome.Ended known c basis pivots) (sym is ∙ h)
 
-  -- after an end without an answer
-  pub or_given_up : {E : Type 0} (o : ExactSolveEnd) (r : Result ExactSolveEnd E) →
-      ((p : Past ℚ) × (o ≡ outcome.Past p)) ⊎ (o ≡ outcome.Spent) → o ≡ over_factors (Some number_limit) budget m f →
-      IfOk r (λ s. s ≡ after_form (Some number_limit) budget m (Ok f)) →
-      IfOk r (λ s. s ≡ cold_over (Some number_limit) budget m)
-  or_given_up o (Err e) why h is = tt
-  or_given_up o (Ok end) (inl past) h is =
-      is ∙ cold_is (Some number_limit) budget m (Ok f) formed ∙ or_is (outcome.Past past.0) (sym past.1 ∙ h)
-  or_given_up o (Ok end) (inr spent) h is =
-      is ∙ cold_is (Some number_limit) budget m (Ok f) formed ∙ or_is outcome.Spent (sym spent ∙ h)
-
-  -- ---- tableaus first
-  -- both runs end as the solve over them, or that one gives up
   cold_kept : (cold_over (Some number_limit) budget m ≡ cold (Some number_limit) budget m)
       ⊎ GivesUp (cold (Some number_limit) budget m)
   cold_kept = part_kept (Some number_limit) budget m (cold_over (Some number_limit) budget m) (part_may
       (Some number_limit) budget m)
 
-  -- what they answer
-  pub tableaus_ended : (o : ExactSolveEnd) (known : Known ℚ) (c : Certificate (List ℚ)) (basis : Option (List Status))
-      (pivots : ℕ) →
-      o ≡ outcome.Ended known c basis pivots → o ≡ after_form (Some number_limit) budget m (Ok f) →
+  ended_cold : (o : ExactSolveEnd) (known : Known ℚ) (c : Certificate (List ℚ)) (basis : Option (List Status)) (pivots : ℕ) →
+      o ≡ outcome.Ended known c basis pivots → o ≡ cold (Some number_limit) budget m →
       o ≡ cold_over (Some number_limit) budget m
-  tableaus_ended o known c basis pivots is h =
-      let whole : o ≡ cold (Some number_limit) budget m = h ∙ cold_is (Some number_limit) budget m (Ok f) formed in
-      whole ∙ kept cold_kept
+  ended_cold o known c basis pivots is whole = whole ∙ kept cold_kept
     where
       kept : (cold_over (Some number_limit) budget m ≡ cold (Some number_limit) budget m)
           ⊎ GivesUp (cold (Some number_limit) budget m) → cold (Some number_limit) budget m ≡ cold_over
           (Some number_limit) budget m
       kept (inl e) = sym e
-      kept (inr up) =
-          absurd (subst GivesUp (sym (h ∙ cold_is (Some number_limit) budget m (Ok f) formed) ∙ is) up)
+      kept (inr up) = absurd (subst GivesUp (sym whole ∙ is) up)
 
-  -- what they are refused, after an end over factors without an answer
-  pub refused_kept : (o refused : ExactSolveEnd) → ((p : Past ℚ) × (o ≡ outcome.Past p)) ⊎ (o ≡ outcome.Spent) →
-      o ≡ over_factors (Some number_limit) budget m f → refused ≡ cold (Some number_limit) budget m →
-      refused ≡ cold_over (Some number_limit) budget m
-  refused_kept o refused (inl past) h is = is ∙ or_is (outcome.Past past.0) (sym past.1 ∙ h)
-  refused_kept o refused (inr spent) h is = is ∙ or_is outcome.Spent (sym spent ∙ h)
+  stated_may : (o : ExactSolveEnd) → o ≡ cold_over (Some number_limit) budget m →
+      MayEndCold (Some number_limit) budget m o
+  stated_may o is = subst (MayEndCold (Some number_limit) budget m) (sym is) (part_may (Some number_limit) budget m)
 
-  pub gives_up_is : (o : ExactSolveEnd) → ((p : Past ℚ) × (o ≡ outcome.Past p)) ⊎ (o ≡ outcome.Spent) → GivesUp o
-  gives_up_is o (inl past) = subst GivesUp (sym past.1) tt
-  gives_up_is o (inr spent) = subst GivesUp (sym spent) tt
+  -- ---- what each engine ends with
+  pub factors_run : {E : Type 0} (r : Result ExactSolveEnd E) →
+      IfOk r (λ s. s ≡ over_factors (Some number_limit) budget m f) → IfOk r (IsRunOf budget m f Factors)
+  factors_run (Ok (outcome.Ended known c basis pivots)) h =
+      stated_may _ (ended_over (outcome.Ended known c basis pivots) known c basis pivots refl h)
+  factors_run (Ok (outcome.Past p)) h = subst GivesUp h tt
+  factors_run (Ok outcome.Spent) h = subst GivesUp h tt
+  factors_run (Err e) h = tt
 
-  pub gives_up_fits : (o : ExactSolveEnd) → GivesUp o → IsFit m o
-  gives_up_fits (outcome.Ended known c basis pivots) up = absurd up
-  gives_up_fits (outcome.Past p) up = tt
-  gives_up_fits outcome.Spent up = tt
-
-  -- ---- the cold part
-  -- both runs may be all that is tried
-  pub stated_may : {E : Type 0} (r : Result ExactSolveEnd E) →
-      IfOk r (λ s. s ≡ cold_over (Some number_limit) budget m) →
-      IfOk r (MayEndCold (Some number_limit) budget m)
-  stated_may (Ok end) is = subst (MayEndCold (Some number_limit) budget m) (sym is) (part_may (Some number_limit) budget
-      m)
-  stated_may (Err e) is = tt
+  pub tableaus_run : {E : Type 0} (r : Result ExactSolveEnd E) →
+      IfOk r (λ s. s ≡ after_form (Some number_limit) budget m (Ok f)) → IfOk r (IsRunOf budget m f Tableaus)
+  tableaus_run (Ok (outcome.Ended known c basis pivots)) h =
+      stated_may _ (ended_cold (outcome.Ended known c basis pivots) known c basis pivots refl
+      (h ∙ cold_is (Some number_limit) budget m (Ok f) formed))
+  tableaus_run (Ok (outcome.Past p)) h = (tt, h ∙ cold_is (Some number_limit) budget m (Ok f) formed)
+  tableaus_run (Ok outcome.Spent) h = (tt, h ∙ cold_is (Some number_limit) budget m (Ok f) formed)
+  tableaus_run (Err e) h = tt
 
   -- another run may win the answer: what it ends with is the end of both phases without a limit, and the checker says
   -- yes to its certificate

@@ -1,4 +1,6 @@
+pub mod Accepted
 pub mod BothPhases
+pub mod Engines
 pub mod Factored
 pub mod Left
 pub mod Pushed

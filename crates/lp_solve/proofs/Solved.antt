@@ -1,10 +1,13 @@
 -- The cold solve by its form, and certificates that fit their model.
-use Rattle.std.proofs.Common.{◌≡◌, ℕ, ◌<◌, Option, Some, None, Result, Ok, Err, refl, sym, subst, ap, ◌∙◌}
+use Rattle.std.proofs.Common.{◌≡◌, ◌≢◌, ℕ, ◌<◌, Option, Some, None, Result, Ok, Err, refl, sym, subst, ap, ◌∙◌}
 use Rattle.spec_exact.specs.Fraction.{ℚ}
 use Rattle.spec_exact.specs.declared.past.Past.{Past}
+use Rattle.spec_exact.specs.Narrow.{number_limit}
 use Rattle.spec_model.specs.Model.{Model, width}
 use Rattle.spec_check.specs.declared.certificate.Certificate.TheVariants as certificate
+use Rattle.spec_check.specs.declared.certificate.CheckStop.TheVariants.{No}
 use Rattle.spec_check.specs.Certificate.{IsFor}
+use Rattle.spec_check.specs.Run.{check_run}
 use Rattle.spec_simplex.specs.declared.ends.FormFault.{FormFault}
 use Rattle.spec_simplex.specs.declared.ends.FormFault.TheVariants as fault
 use Rattle.spec_simplex.specs.declared.ends.PrimalEnd.{PrimalEnd}
@@ -26,6 +29,7 @@ use Rattle.lp_tableau.specs.Answer.{Stops}
 use Rattle.std.specs.declared.convert.Infallible.{Infallible}
 use Rattle.lp_frac.specs.declared.stop.Stop.TheVariants as stop
 use Rattle.lp_solve.specs.Ends.{end_by}
+use Rattle.lp_solve.proofs.Accepted.{never_no}
 use Rattle.lp_solve.proofs.BothPhases.{start_refused}
 
 -- ---- stops as the code has them
@@ -71,3 +75,15 @@ module _ (limit : Option ℕ) (budget : ℕ) (m : Model) where
 
   pub clash_fits : (j : ℕ) → form_of limit m ≡ Err (fault.Clash j) → j < width m
   clash_fits j h = let a : IsAccepted limit m (certificate.Clash j) = clash_accepted limit m j h in a.fits
+
+-- to these the checker does not say no
+pub end_never_no : (budget : ℕ) (m : Model) (f : Form) (e : PhasesEnd) → form_of (Some number_limit) m ≡ Ok f →
+    phases_run (Some number_limit) budget f ≡ Ok e → (n : ℕ) →
+    check_run (Some number_limit) m (certificate_of e) ≢ Err (No n)
+end_never_no budget m f e h g =
+    never_no (Some number_limit) m (certificate_of e) (end_accepted (Some number_limit) budget m f e h g)
+
+pub clash_never_no : (m : Model) (j : ℕ) → form_of (Some number_limit) m ≡ Err (fault.Clash j) → (n : ℕ) →
+    check_run (Some number_limit) m (certificate.Clash j) ≢ Err (No n)
+clash_never_no m j h =
+    never_no (Some number_limit) m (certificate.Clash j) (clash_accepted (Some number_limit) m j h)

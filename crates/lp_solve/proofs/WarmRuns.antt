@@ -1,12 +1,14 @@
 -- The warm start part by part, from the tableau of a basis.
-use Rattle.std.proofs.Common.{◌≡◌, ℕ, List, Option, Some, None, IfSome, Result, Ok, Err}
+use Rattle.std.proofs.Common.{◌≡◌, ◌≢◌, ℕ, List, Option, Some, None, IfSome, Result, Ok, Err}
 use Rattle.std.proofs.Common.{refl, ap, sym, subst, ◌∙◌}
 use Rattle.spec_exact.specs.Fraction.{ℚ}
 use Rattle.spec_exact.specs.declared.past.Past.{Past}
 use Rattle.spec_model.specs.Model.{Model}
 use Rattle.spec_check.specs.declared.certificate.Certificate.{Certificate}
 use Rattle.spec_check.specs.declared.certificate.Known.{Known}
+use Rattle.spec_check.specs.declared.certificate.CheckStop.TheVariants.{No}
 use Rattle.spec_check.specs.Certificate.{IsFor}
+use Rattle.spec_check.specs.Run.{check_run}
 use Rattle.spec_pivot.specs.declared.status.Status.{Status}
 use Rattle.spec_simplex.specs.declared.ends.Fit.{Fit}
 use Rattle.spec_simplex.specs.declared.ends.Fit.TheVariants as fit
@@ -33,7 +35,7 @@ use Rattle.spec_runs.specs.declared.ends.Route.TheVariants as route
 use Rattle.spec_runs.specs.declared.ends.Warm.TheVariants as warm
 use Rattle.spec_runs.specs.Based.{BeginsFrom}
 use Rattle.spec_runs.specs.Warm.{WarmResult, ByPrimal, ByDual, stopped_as, start_stop, run_stop, run_by, warm_run}
-use Rattle.spec_runs.specs.Warm.{warm_certificate, dual_certificate, dual_basis, after_form, warm as warm_start}
+use Rattle.spec_runs.specs.Warm.{dual_certificate, dual_basis, after_form, warm as warm_start}
 use Rattle.spec_runs.specs.Solve.{HasBasis, fall_of}
 use Rattle.spec_solve.specs.Order.{MayEndCold, MayEndBy, MayEnd}
 use Rattle.spec_runs.proofs.Started.{start_begins_from}
@@ -45,6 +47,7 @@ use Rattle.lp_frac.specs.declared.stop.Stop.TheVariants as stop
 use Rattle.lp_simplex.specs.Starts.{IsDualStart}
 use Rattle.lp_simplex.proofs.Fitted.{can_start}
 use Rattle.lp_solve.specs.Begun.{IsBegun}
+use Rattle.lp_solve.proofs.Accepted.{never_no}
 use Rattle.lp_solve.proofs.Left.{warm_leaves}
 
 -- ---- stops as the code has them
@@ -119,17 +122,17 @@ module _ (limit : Option ℕ) (budget : ℕ) where
         subst (λ w. MayEndBy limit budget m w (record { end = end; route = route.Fell (fall_of s) }))
         (sym e ∙ h ∙ warm_is) (may, refl)
 
--- ---- where nothing is handed
-pub nothing_handed : {B : Type 0} (limit : Option ℕ) (m : Model) (view : B → List Status) (handed : Option B)
+-- ---- without a form there is no starting basis
+pub no_starting : {B : Type 0} (limit : Option ℕ) (m : Model) (view : B → List Status) (starting : Option B)
     (why : FormFault ℚ) → form_of limit m ≡ Err why
-    → IfSome handed (λ basis. HasBasis limit m (view basis)) → handed ≡ None
-nothing_handed limit m view None why h fits = refl
-nothing_handed limit m view (Some basis) why h fits =
+    → IfSome starting (λ basis. HasBasis limit m (view basis)) → starting ≡ None
+no_starting limit m view None why h fits = refl
+no_starting limit m view (Some basis) why h fits =
     let z : ◌≡◌ {A = Result Form (FormFault ℚ)} (Ok fits.0) (Err why) = sym fits.1 ∙ h in cc
 
-pub fits_form : {B : Type 0} (limit : Option ℕ) (m : Model) (view : B → List Status) (handed : Option B) (f : Form) →
-    form_of limit m ≡ Ok f → IfSome handed (λ basis. HasBasis limit m (view basis)) →
-    IfSome handed (λ basis. IsBasisOf f (view basis))
+pub fits_form : {B : Type 0} (limit : Option ℕ) (m : Model) (view : B → List Status) (starting : Option B) (f : Form) →
+    form_of limit m ≡ Ok f → IfSome starting (λ basis. HasBasis limit m (view basis)) →
+    IfSome starting (λ basis. IsBasisOf f (view basis))
 fits_form limit m view None f h fits = fits
 fits_form limit m view (Some basis) f h fits =
     let same : ◌≡◌ {A = Result Form (FormFault ℚ)} (Ok fits.0) (Ok f) = sym fits.1 ∙ h in
@@ -149,22 +152,40 @@ module _ (m : Model) (t : Tableau) (kind : Fit) (k : IsBegun m t kind) where
   runs : (budget : ℕ) → warm_run (Some number_limit) budget k.form k.basis ≡ run_by (Some number_limit) budget t kind
   runs budget = runs_by (Some number_limit) budget k.form k.basis t k.starts kind k.fit
 
+primal_accepted : (budget : ℕ) (m : Model) (t : Tableau) (e : PrimalEnded) → IsBegun m t fit.Primal →
+    run_from (Some number_limit) budget 0 t ≡ Ok e →
+    IsAccepted (Some number_limit) m (colds.certificate_at e.tableau e.end)
+primal_accepted budget m t e k h =
+    run_accepted (Some number_limit) budget m k.form k.basis (ByPrimal e) k.formed k.fits
+    (runs m t fit.Primal k budget ∙ primal_ends (Some number_limit) budget t e h)
+
 pub primal_fits : (budget : ℕ) (m : Model) (t : Tableau) (e : PrimalEnded) → IsBegun m t fit.Primal →
     run_from (Some number_limit) budget 0 t ≡ Ok e → IsFor m (colds.certificate_at e.tableau e.end)
 primal_fits budget m t e k h =
-    let a : IsAccepted (Some number_limit) m (warm_certificate (ByPrimal e)) = run_accepted (Some number_limit) budget m
-    k.form
-    k.basis (ByPrimal e) k.formed k.fits (runs m t fit.Primal k budget ∙ primal_ends (Some number_limit) budget t e h)
-    in
-    a.fits
+    let a : IsAccepted (Some number_limit) m (colds.certificate_at e.tableau e.end) = primal_accepted budget m t e k h in a.fits
+
+pub primal_never_no : (budget : ℕ) (m : Model) (t : Tableau) (e : PrimalEnded) → IsBegun m t fit.Primal →
+    run_from (Some number_limit) budget 0 t ≡ Ok e → (n : ℕ) →
+    check_run (Some number_limit) m (colds.certificate_at e.tableau e.end) ≢ Err (No n)
+primal_never_no budget m t e k h =
+    never_no (Some number_limit) m (colds.certificate_at e.tableau e.end) (primal_accepted budget m t e k h)
+
+dual_accepted : (budget : ℕ) (m : Model) (t : Tableau) (e : DualEnded) → IsBegun m t fit.Dual →
+    dual_run (Some number_limit) budget t ≡ Ok e → IsAccepted (Some number_limit) m (dual_certificate e.tableau e.end)
+dual_accepted budget m t e k h =
+    run_accepted (Some number_limit) budget m k.form k.basis (ByDual e) k.formed k.fits
+    (runs m t fit.Dual k budget ∙ dual_ends (Some number_limit) budget t e h)
 
 pub dual_fits : (budget : ℕ) (m : Model) (t : Tableau) (e : DualEnded) → IsBegun m t fit.Dual →
     dual_run (Some number_limit) budget t ≡ Ok e → IsFor m (dual_certificate e.tableau e.end)
 dual_fits budget m t e k h =
-    let a : IsAccepted (Some number_limit) m (warm_certificate (ByDual e)) = run_accepted (Some number_limit) budget m
-    k.form
-    k.basis (ByDual e) k.formed k.fits (runs m t fit.Dual k budget ∙ dual_ends (Some number_limit) budget t e h) in
-    a.fits
+    let a : IsAccepted (Some number_limit) m (dual_certificate e.tableau e.end) = dual_accepted budget m t e k h in a.fits
+
+pub dual_never_no : (budget : ℕ) (m : Model) (t : Tableau) (e : DualEnded) → IsBegun m t fit.Dual →
+    dual_run (Some number_limit) budget t ≡ Ok e → (n : ℕ) →
+    check_run (Some number_limit) m (dual_certificate e.tableau e.end) ≢ Err (No n)
+dual_never_no budget m t e k h =
+    never_no (Some number_limit) m (dual_certificate e.tableau e.end) (dual_accepted budget m t e k h)
 
 -- ---- the bases that are left
 same_form : (m : Model) (f g : Form) → form_of (Some number_limit) m ≡ Ok f → form_of (Some number_limit) m ≡ Ok g →

@@ -5,3 +5,4 @@ pub mod Formless
 pub mod Stopped
 pub mod Lines
 pub mod Standing
+pub mod Strategy

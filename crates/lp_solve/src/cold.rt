@@ -1,7 +1,9 @@
 // The cold solve of a model from its form.
-ghost use Rattle.std.specs.Prelude.{◌≡◌, IfOk, IfSome, Ok, Some};
+ghost use Rattle.std.specs.Prelude.{◌≡◌, ◌≢◌, ℕ, Err, IfOk, IfSome, Ok, Some};
 ghost use Rattle.spec_exact.specs.Narrow.{number_limit};
 ghost use Rattle.spec_check.specs.Certificate.{IsFor, IsNarrowCertificate};
+ghost use Rattle.spec_check.specs.Run.{check_run};
+ghost use Rattle.spec_check.specs.declared.certificate.CheckStop.TheVariants.{No};
 ghost use Rattle.spec_simplex.specs.Eliminate.{IsBasisOf};
 ghost use Rattle.spec_simplex.specs.Form.{form_of};
 ghost use Rattle.spec_runs.specs.Cold as cold;
@@ -22,7 +24,7 @@ use std::alloc::{AllocError, Global};
 /// is spent (`Spent`).
 pub type End = spec_check::SolveEnd<Frac, Fracs, Basis>;
 
-/// The certificate with what the checker says of it. It never says no.
+/// The certificate with what the checker says of it. It never says no to that of an end (`ends_are_accepted` of spec_runs).
 pub(crate) fn checked_cold(
     model: &Model,
     certificate: Certificate,
@@ -30,6 +32,7 @@ pub(crate) fn checked_cold(
     pivots: u64,
 ) -> End
     requires fits { IsFor model.now certificate }
+    requires never_no { (n : ℕ) → check_run (Some number_limit) model.now certificate ≢ Err (No n) }
     requires narrow { IsNarrowCertificate certificate }
     ensures answer { result ≡ cold.answered (Some number_limit) model.now certificate basis pivots }
     ensures narrow { IsFit model.now result }
@@ -46,11 +49,7 @@ pub(crate) fn checked_cold(
             drop(basis);
             End::Past(past)
         }
-        Verdict::No(_) => {
-            drop(certificate);
-            drop(basis);
-            End::Spent
-        }
+        Verdict::No(_) => unreachable!(),
     }
 }
 
@@ -80,6 +79,8 @@ fn statuses(alloc: Global, ended: &Ended) -> Result<Option<StatusList>, AllocErr
 fn finished(alloc: Global, model: &Model, form: &Form, ended: &Ended) -> Result<End, AllocError>
     requires inside { IsInside ended.now.tab ended.now.end }
     requires fits { IsFor model.now (cold.certificate_of (end_of ended.now)) }
+    requires never_no { (n : ℕ) →
+        check_run (Some number_limit) model.now (cold.certificate_of (end_of ended.now)) ≢ Err (No n) }
     requires based { IfSome (cold.basis_of (end_of ended.now)) (λ basis. IsBasisOf form.now basis) }
     ensures answer { IfOk result (λ s. s ≡ cold.after_phases (Some number_limit) model.now (Ok (end_of ended.now))) }
     ensures narrow { IfOk result (IsFit model.now) }

@@ -1,5 +1,5 @@
 // The exact solve of a model, whose numbers may have any width.
-ghost use Rattle.std.specs.Prelude.{◌≡◌, ◌↔◌, ℕ, List, Option, IfOk, IfErr, IfSome, IsTrue, Ok, Some, None};
+ghost use Rattle.std.specs.Prelude.{◌≡◌, ◌↔◌, ℕ, List, Option, IfOk, IfErr, IfSome, IsTrue, Ok, Some, None, option_map};
 ghost use Rattle.spec_exact.specs.Narrow.{number_limit};
 ghost use Rattle.spec_model.specs.Kept.{IsUsual};
 ghost use Rattle.spec_model.specs.Model.{Model as model};
@@ -10,14 +10,14 @@ ghost use Rattle.spec_runs.specs.Solve.{HasBasis};
 ghost use Rattle.lp_frac.specs.declared.stop.Stop.TheVariants as stops;
 ghost use Rattle.lp_form.specs.Answer.{IsFaultOf};
 ghost use Rattle.spec_solve.specs.Exact.{IsShown, IsExactAnswer, IsExactEnd, MayGiveUp};
+ghost use Rattle.lp_solve.specs.Formless.{HasNoForm};
 
 use crate::cold::End;
-use crate::rows::WORK;
 use crate::shown::{
     at_basis, at_float_end, at_float_end_beside, at_float_end_from, basis_of_answer, origin_of,
     over_rows, over_rows_from,
 };
-use crate::solving::{Solved, cold_within, solve_formed};
+use crate::solving::{Solved, solve_formed};
 use crate::widened::{widened_certificate, widened_known};
 use lp_check::wide::{self, Ratios};
 use lp_check::{Certificate, Known};
@@ -91,9 +91,9 @@ fn settled_at(
     })
 }
 
-// How it ends where a solve at 127 bits gave up, by what was found else.
+// How it ends by what was found, where a solve at 127 bits may give up if the model is usual.
 fn or_open(found: Option<ExactAnswer>) -> ExactEnd
-    ensures { (m : model) (budget : ℕ) (starting : Option (List status)) → MayGiveUp m budget starting →
+    ensures { (m : model) (budget : ℕ) (starting : Option (List status)) → (IsUsual m → MayGiveUp m budget starting) →
         IfSome found (IsExactAnswer m) → IsExactEnd m budget starting result }
 {
     match found {
@@ -102,38 +102,102 @@ fn or_open(found: Option<ExactAnswer>) -> ExactEnd
     }
 }
 
-// ---- from the start that each model has
-
-// At 127 bits, and where an operation is refused there over rows without a limit on their numbers.
-fn by_runs(alloc: Global, model: &Model, budget: u64, form: &Form) -> Result<ExactEnd, AllocError>
-    requires { form_of (Some number_limit) model.now ≡ Ok form.now }
-    ensures { IfOk result (IsExactEnd model.now budget None) }
+// What is found where a solve at 127 bits is refused an operation.
+fn beyond(
+    alloc: Global,
+    model: &Model,
+    budget: u64,
+    form: &Form,
+    starting: Option<&Basis>,
+) -> Result<Option<ExactAnswer>, AllocError>
+    requires formed { form_of (Some number_limit) model.now ≡ Ok form.now }
+    requires fits { IfSome starting (λ basis. IsBasisOf form.now basis.now) }
+    ensures { IfOk result (λ o. IfSome o (IsExactAnswer model.now)) }
 {
-    let Solved { end, .. } = cold_within(alloc, model, budget, WORK, form)?;
+    let Some(basis) = starting else {
+        return over_rows(alloc, model, form, budget, Route::Cold);
+    };
+    if let Some(answer) = over_rows_from(alloc, model, form, budget, basis)? {
+        return Ok(Some(answer));
+    }
+    if let Some(answer) = at_float_end_beside(alloc, model)? {
+        return Ok(Some(answer));
+    }
+    over_rows(alloc, model, form, budget, Route::Fell(Fall::Past))
+}
+
+// What is found where its budget is spent. Without a starting basis the run in floats was asked before.
+fn beside(
+    alloc: Global,
+    model: &Model,
+    starting: Option<&Basis>,
+) -> Result<Option<ExactAnswer>, AllocError>
+    ensures { IfOk result (λ o. IfSome o (IsExactAnswer model.now)) }
+{
+    match starting {
+        Some(_) => at_float_end_beside(alloc, model),
+        None => Ok(None),
+    }
+}
+
+// At 127 bits, and without a limit where an operation is refused there.
+fn by_runs(
+    alloc: Global,
+    model: &Model,
+    budget: u64,
+    form: &Form,
+    starting: Option<&Basis>,
+) -> Result<ExactEnd, AllocError>
+    requires formed { form_of (Some number_limit) model.now ≡ Ok form.now }
+    requires fits { IfSome starting (λ basis. IsBasisOf form.now basis.now) }
+    ensures { IfOk result (IsExactEnd model.now budget (option_map (λ basis. basis.now) starting.entry)) }
+{
+    let Solved { end, route } = solve_formed(alloc, model, budget, form, starting)?;
     match end {
         End::Ended {
             answer,
             certificate,
             basis,
-            ..
+            pivots,
         } => {
-            drop(basis);
-            let answer = settled(alloc, answer, certificate, Origin::Cold)?;
+            let answer = settled(alloc, answer, certificate, origin_of(route, pivots))?;
+            let answer = settled_at(alloc, model, form, answer, basis)?;
             Ok(ExactEnd::Answered(answer))
         }
-        End::Past(_) => Ok(or_open(over_rows(alloc, model, form, budget, Route::Cold)?)),
-        End::Spent => Ok(or_open(None)),
+        End::Past(_) => Ok(or_open(beyond(alloc, model, budget, form, starting)?)),
+        End::Spent => Ok(or_open(beside(alloc, model, starting)?)),
+    }
+}
+
+// The answer that is guessed: that of the starting basis or of one a few steps on, or that of a run in floats.
+fn guessed(
+    alloc: Global,
+    model: &Model,
+    starting: Option<&Basis>,
+) -> Result<Option<ExactAnswer>, AllocError>
+    ensures { IfOk result (λ o. IfSome o (IsExactAnswer model.now)) }
+{
+    match starting {
+        Some(basis) => at_basis(alloc, model, basis),
+        None => at_float_end(alloc, model),
     }
 }
 
 // By the form of the model.
-fn by_form(alloc: Global, model: &Model, budget: u64, form: &Form) -> Result<ExactEnd, AllocError>
-    requires { form_of (Some number_limit) model.now ≡ Ok form.now }
-    ensures { IfOk result (IsExactEnd model.now budget None) }
+fn by_form(
+    alloc: Global,
+    model: &Model,
+    budget: u64,
+    form: &Form,
+    starting: Option<&Basis>,
+) -> Result<ExactEnd, AllocError>
+    requires formed { form_of (Some number_limit) model.now ≡ Ok form.now }
+    requires fits { IfSome starting (λ basis. IsBasisOf form.now basis.now) }
+    ensures { IfOk result (IsExactEnd model.now budget (option_map (λ basis. basis.now) starting.entry)) }
 {
-    match at_float_end(alloc, model)? {
+    match guessed(alloc, model, starting)? {
         Some(answer) => Ok(ExactEnd::Answered(answer)),
-        None => by_runs(alloc, model, budget, form),
+        None => by_runs(alloc, model, budget, form, starting),
     }
 }
 
@@ -141,6 +205,7 @@ fn by_form(alloc: Global, model: &Model, budget: u64, form: &Form) -> Result<Exa
 fn formless(model: &Model, stop: FormStop) -> Result<ExactEnd, AllocError>
     requires { IsFaultOf (form_of (Some number_limit) model.now) stop }
     ensures end { (budget : ℕ) → IfOk result (IsExactEnd model.now budget None) }
+    ensures formless { IfOk result (λ _. HasNoForm model.now) }
     ensures memory { IfErr result (λ _. stop ≡ stops.NoMemory) }
 {
     match stop {
@@ -156,13 +221,19 @@ fn formless(model: &Model, stop: FormStop) -> Result<ExactEnd, AllocError>
 }
 
 // Of a usual model.
-fn usual_exactly(alloc: Global, model: &Model, budget: u64) -> Result<ExactEnd, AllocError>
-    requires { IsUsual model.now }
-    ensures { IfOk result (IsExactEnd model.now budget None) }
+fn usual_exactly(
+    alloc: Global,
+    model: &Model,
+    budget: u64,
+    starting: Option<&Basis>,
+) -> Result<ExactEnd, AllocError>
+    requires usual { IsUsual model.now }
+    requires starting { IfSome starting (λ basis. HasBasis (Some number_limit) model.now basis.now) }
+    ensures { IfOk result (IsExactEnd model.now budget (option_map (λ basis. basis.now) starting.entry)) }
 {
     match form(alloc, model) {
         Ok(form) => {
-            let end = by_form(alloc, model, budget, &form);
+            let end = by_form(alloc, model, budget, &form, starting);
             drop(form);
             end
         }
@@ -170,140 +241,22 @@ fn usual_exactly(alloc: Global, model: &Model, budget: u64) -> Result<ExactEnd, 
     }
 }
 
-// What was found of a model past the usual limits.
-fn of_large(found: Option<ExactAnswer>) -> ExactEnd
-    ensures { (m : model) (budget : ℕ) (starting : Option (List status)) → ¬ (IsUsual m) →
-        IfSome found (IsExactAnswer m) → IsExactEnd m budget starting result }
-{
-    match found {
-        Some(answer) => ExactEnd::Answered(answer),
-        None => ExactEnd::Open,
-    }
-}
-
 // Of a model past the usual limits: bounds that clash are found without a run.
-fn large_exactly(alloc: Global, model: &Model) -> Result<ExactEnd, AllocError>
+fn large_cold(alloc: Global, model: &Model) -> Result<ExactEnd, AllocError>
     requires { ¬ (IsUsual model.now) }
     ensures { (budget : ℕ) → IfOk result (IsExactEnd model.now budget None) }
 {
     match large_form(alloc, model) {
         Ok(form) => {
             drop(form);
-            Ok(of_large(at_float_end(alloc, model)?))
+            Ok(or_open(at_float_end(alloc, model)?))
         }
         Err(stop) => formless(model, stop),
     }
 }
 
-/// Solves the model, and has the certificate of its answer checked without a limit, unless it is that of a solve at 127
-/// bits, which was checked there. It asks first for what the end of a run in floating point leads to: the answer of a
-/// basis, or that there is no optimum. Where that comes to nothing, it solves a usual model at 127 bits, and where an operation
-/// is refused there over rows of whole numbers without a limit. Of a usual model it ends open only where a solve at 127 bits
-/// gives up.
-pub fn solve_exactly(alloc: Global, model: &Model, budget: u64) -> Result<ExactEnd, AllocError>
-    ensures { IfOk result (IsExactEnd model.now budget None) }
-{
-    if is_usual(model) {
-        usual_exactly(alloc, model, budget)
-    } else {
-        large_exactly(alloc, model)
-    }
-}
-
-// ---- from a basis
-
-// What is found where a solve at 127 bits from the basis is refused an operation.
-fn beyond(
-    alloc: Global,
-    model: &Model,
-    budget: u64,
-    form: &Form,
-    basis: &Basis,
-) -> Result<Option<ExactAnswer>, AllocError>
-    requires formed { form_of (Some number_limit) model.now ≡ Ok form.now }
-    requires fits { IsBasisOf form.now basis.now }
-    ensures { IfOk result (λ o. IfSome o (IsExactAnswer model.now)) }
-{
-    if let Some(answer) = over_rows_from(alloc, model, form, budget, basis)? {
-        return Ok(Some(answer));
-    }
-    if let Some(answer) = at_float_end_beside(alloc, model)? {
-        return Ok(Some(answer));
-    }
-    over_rows(alloc, model, form, budget, Route::Fell(Fall::Past))
-}
-
-// At 127 bits from the basis, and without a limit where an operation is refused there.
-fn by_runs_from(
-    alloc: Global,
-    model: &Model,
-    budget: u64,
-    form: &Form,
-    basis: &Basis,
-) -> Result<ExactEnd, AllocError>
-    requires formed { form_of (Some number_limit) model.now ≡ Ok form.now }
-    requires fits { IsBasisOf form.now basis.now }
-    ensures { IfOk result (IsExactEnd model.now budget (Some basis.now)) }
-{
-    let Solved { end, route } = solve_formed(alloc, model, budget, form, Some(basis))?;
-    match end {
-        End::Ended {
-            answer,
-            certificate,
-            basis: left,
-            pivots,
-        } => {
-            let answer = settled(alloc, answer, certificate, origin_of(route, pivots))?;
-            let answer = settled_at(alloc, model, form, answer, left)?;
-            Ok(ExactEnd::Answered(answer))
-        }
-        End::Past(_) => Ok(or_open(beyond(alloc, model, budget, form, basis)?)),
-        End::Spent => Ok(or_open(at_float_end_beside(alloc, model)?)),
-    }
-}
-
-// By the form of the model.
-fn by_form_from(
-    alloc: Global,
-    model: &Model,
-    budget: u64,
-    form: &Form,
-    basis: &Basis,
-) -> Result<ExactEnd, AllocError>
-    requires formed { form_of (Some number_limit) model.now ≡ Ok form.now }
-    requires fits { IsBasisOf form.now basis.now }
-    ensures { IfOk result (IsExactEnd model.now budget (Some basis.now)) }
-{
-    match at_basis(alloc, model, basis)? {
-        Some(answer) => Ok(ExactEnd::Answered(answer)),
-        None => by_runs_from(alloc, model, budget, form, basis),
-    }
-}
-
-// Of a usual model. It has a form, so that only memory can be wanting for that.
-fn usual_exactly_from(
-    alloc: Global,
-    model: &Model,
-    budget: u64,
-    basis: &Basis,
-) -> Result<ExactEnd, AllocError>
-    requires usual { IsUsual model.now }
-    requires fits { HasBasis (Some number_limit) model.now basis.now }
-    ensures { IfOk result (IsExactEnd model.now budget (Some basis.now)) }
-{
-    match form(alloc, model) {
-        Ok(form) => {
-            let end = by_form_from(alloc, model, budget, &form, basis);
-            drop(form);
-            end
-        }
-        Err(Stop::NoMemory) => Err(AllocError),
-        Err(Stop::Cause(_) | Stop::Past(_)) => unreachable!(),
-    }
-}
-
-// Of a model past the usual limits: by the basis, by a run in floats from there, and by one from the start that each model has.
-fn large_exactly_from(
+// By the basis, by a run in floats from there, and by one from the start that each model has.
+fn large_from(
     alloc: Global,
     model: &Model,
     basis: &Basis,
@@ -319,23 +272,46 @@ fn large_exactly_from(
     at_float_end_beside(alloc, model)
 }
 
-/// Solves the model from a basis of its form. It asks first for the answer of the basis, or of one that is reached from it in
-/// a few steps. Where that is none, it solves a usual model from the basis at 127 bits. Where an operation is refused there,
-/// it goes on over rows of whole numbers from the basis without a limit, then to what the end of a run in floating point
-/// leads to, and at last over rows from the start that each model has. Of a larger model it goes on to what a run in floating
-/// point from the basis leads to, and then one without it. The basis of an answer is one at which its certificate stands.
-pub fn solve_exactly_from(
+// Of a model past the usual limits.
+fn large_exactly(
     alloc: Global,
     model: &Model,
     budget: u64,
-    basis: &Basis,
+    starting: Option<&Basis>,
 ) -> Result<ExactEnd, AllocError>
-    requires { HasBasis (Some number_limit) model.now basis.now }
-    ensures { IfOk result (IsExactEnd model.now budget (Some basis.now)) }
+    requires { ¬ (IsUsual model.now) }
+    ensures { IfOk result (IsExactEnd model.now budget (option_map (λ basis. basis.now) starting.entry)) }
+{
+    match starting {
+        Some(basis) => Ok(or_open(large_from(alloc, model, basis)?)),
+        None => large_cold(alloc, model),
+    }
+}
+
+/// Solves the model, and has the certificate of its answer checked without a limit, unless it is that of a solve at 127
+/// bits, which was checked there.
+///
+/// Without a starting basis it asks first for what the end of a run in floating point leads to: the answer of a basis, or
+/// that there is no optimum. From a starting basis it asks first for the answer of this basis, or of one that is reached
+/// from it in a few steps. Where that comes to nothing, it solves a usual model at 127 bits, and where an operation is
+/// refused there over rows of whole numbers without a limit: from the starting basis, then to what the end of a run in
+/// floating point leads to, and at last from the start that each model has. Of a larger model it goes on from the basis to
+/// what a run in floating point from there leads to, and then one without it.
+///
+/// Of a usual model it ends open only where a solve at 127 bits gives up. The basis of an answer is one at which its
+/// certificate stands.
+pub fn solve_exactly(
+    alloc: Global,
+    model: &Model,
+    budget: u64,
+    starting: Option<&Basis>,
+) -> Result<ExactEnd, AllocError>
+    requires { IfSome starting (λ basis. HasBasis (Some number_limit) model.now basis.now) }
+    ensures { IfOk result (IsExactEnd model.now budget (option_map (λ basis. basis.now) starting.entry)) }
 {
     if is_usual(model) {
-        usual_exactly_from(alloc, model, budget, basis)
+        usual_exactly(alloc, model, budget, starting)
     } else {
-        Ok(of_large(large_exactly_from(alloc, model, basis)?))
+        large_exactly(alloc, model, budget, starting)
     }
 }

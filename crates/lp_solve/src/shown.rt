@@ -24,7 +24,7 @@ use spec_solve::Origin;
 use std::alloc::{AllocError, Global};
 
 // How many steps, each with systems of its own, an answer may be from the basis that a run in floats ends with, or from the
-// one that is handed in: where floats end at a basis that is not optimal exactly, it is mostly within a dozen.
+// starting basis: where floats end at a basis that is not optimal exactly, it is mostly within a dozen.
 const MOST_STEPS: u32 = 20;
 
 // How many steps more there may be, times the columns and rows: of small models more, since a step of them takes little.
@@ -263,7 +263,7 @@ pub(crate) fn at_float_end_from(
     }
 }
 
-/// That of a run in floats without the basis, though one was handed in.
+/// That of a run in floats without the starting basis.
 pub(crate) fn at_float_end_beside(
     alloc: Global,
     model: &Model,

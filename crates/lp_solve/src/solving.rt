@@ -1,4 +1,4 @@
-// The solve of a model, of which a basis may be handed.
+// The solve of a model, from a starting basis if there is one.
 ghost use Rattle.std.specs.Prelude.{◌≡◌, ℕ, IfOk, IfErr, IfSome, Ok, Some, None, option_map};
 ghost use Rattle.spec_exact.specs.Narrow.{number_limit};
 ghost use Rattle.spec_model.specs.Kept.{IsUsual};
@@ -14,8 +14,8 @@ ghost use Rattle.lp_solve.specs.Formless.{HasNoForm};
 ghost use Rattle.lp_solve.specs.Stopped.{IsAfterStop};
 
 use crate::cold::{End, checked_cold};
-use crate::factors::cold_part;
 use crate::rows::WORK;
+use crate::strategy::cold_solve;
 use crate::warm::{Warm, WarmStop, from_basis};
 use lp_check::Certificate;
 use lp_form::{Basis, Form, FormStop, form};
@@ -23,6 +23,9 @@ use lp_frac::{Frac, Fracs, Stop};
 use lp_model::Model;
 use spec_runs::{Fall, Route};
 use std::alloc::{AllocError, Global};
+
+/// The pivots and flips that a solve of a new session may make.
+pub const OPENING_BUDGET: u64 = 10_000;
 
 /// How a solve ends.
 pub type Solved = spec_runs::Solved<Frac, Fracs, Basis>;
@@ -51,7 +54,7 @@ fn cold_after(
     ensures { IfOk result (IsAfterStop budget model.now form.now stop) }
 {
     Ok(Solved {
-        end: cold_part(alloc, budget, WORK, model, form)?,
+        end: cold_solve(alloc, budget, WORK, model, form)?,
         route: Route::Fell(fall(stop)),
     })
 }
@@ -104,18 +107,12 @@ fn ended_cold(end: End) -> Solved
     }
 }
 
-/// From the start that each model has, with `work` as the bound on the effort over rows.
-pub(crate) fn cold_within(
-    alloc: Global,
-    model: &Model,
-    budget: u64,
-    work: u64,
-    form: &Form,
-) -> Result<Solved, AllocError>
+// From the start that each model has.
+fn cold_first(alloc: Global, budget: u64, model: &Model, form: &Form) -> Result<Solved, AllocError>
     requires { form_of (Some number_limit) model.now ≡ Ok form.now }
     ensures { IfOk result (IsSolved model.now budget None) }
 {
-    Ok(ended_cold(cold_part(alloc, budget, work, model, form)?))
+    Ok(ended_cold(cold_solve(alloc, budget, WORK, model, form)?))
 }
 
 /// The same solve of a model whose form is at hand. The basis of an optimum is one of this form.
@@ -124,16 +121,16 @@ pub fn solve_formed(
     model: &Model,
     budget: u64,
     form: &Form,
-    handed: Option<&Basis>,
+    starting: Option<&Basis>,
 ) -> Result<Solved, AllocError>
     requires formed { form_of (Some number_limit) model.now ≡ Ok form.now }
-    requires fits { IfSome handed (λ basis. IsBasisOf form.now basis.now) }
-    ensures solved { IfOk result (IsSolved model.now budget (option_map (λ basis. basis.now) handed.entry)) }
+    requires fits { IfSome starting (λ basis. IsBasisOf form.now basis.now) }
+    ensures solved { IfOk result (IsSolved model.now budget (option_map (λ basis. basis.now) starting.entry)) }
     ensures basis { IfOk result (λ s. LeavesBasis form.now s.end) }
 {
-    match handed {
+    match starting {
         Some(basis) => warm_first(alloc, budget, model, form, basis),
-        None => cold_within(alloc, model, budget, WORK, form),
+        None => cold_first(alloc, budget, model, form),
     }
 }
 
@@ -155,24 +152,22 @@ pub fn solve_formless(model: &Model, stop: FormStop) -> Result<Solved, AllocErro
     }
 }
 
-/// Solves the model within a budget of pivots and flips, and has the certificate of the end checked: from the basis
-/// that is handed to it, if one is, by the method that this is fit for; and where nothing is handed, or the start from
-/// the basis stops, from the start that each model has: over rows of whole numbers, over whole tableaus and over factors,
-/// each with the whole budget, until one of them has an answer. The tableaus alone decide what is refused. Only a budget
-/// below `enough_pivots` is ever spent.
+/// Solves the model within a budget of pivots and flips, and has the certificate of the end checked: from the starting
+/// basis, if there is one, by the method that this is fit for; and where there is none, or the start from it stops, from
+/// the start that each model has, by the engines of `cold_solve`. Only a budget below `enough_pivots` is ever spent.
 pub fn solve(
     alloc: Global,
     model: &Model,
     budget: u64,
-    handed: Option<&Basis>,
+    starting: Option<&Basis>,
 ) -> Result<Solved, AllocError>
     requires usual { IsUsual model.now }
-    requires handed { IfSome handed (λ basis. solve.HasBasis (Some number_limit) model.now basis.now) }
-    ensures { IfOk result (IsSolved model.now budget (option_map (λ basis. basis.now) handed.entry)) }
+    requires starting { IfSome starting (λ basis. solve.HasBasis (Some number_limit) model.now basis.now) }
+    ensures { IfOk result (IsSolved model.now budget (option_map (λ basis. basis.now) starting.entry)) }
 {
     match form(alloc, model) {
         Ok(form) => {
-            let solved = solve_formed(alloc, model, budget, &form, handed);
+            let solved = solve_formed(alloc, model, budget, &form, starting);
             drop(form);
             solved
         }

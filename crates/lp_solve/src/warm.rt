@@ -1,7 +1,9 @@
 // The warm start of a model from a basis of its form.
-ghost use Rattle.std.specs.Prelude.{◌≡◌, IfOk, Ok, Some};
+ghost use Rattle.std.specs.Prelude.{◌≡◌, ◌≢◌, ℕ, Err, IfOk, Ok, Some};
 ghost use Rattle.spec_exact.specs.Narrow.{number_limit};
 ghost use Rattle.spec_check.specs.Certificate.{IsFor, IsNarrowCertificate};
+ghost use Rattle.spec_check.specs.Run.{check_run};
+ghost use Rattle.spec_check.specs.declared.certificate.CheckStop.TheVariants.{No};
 ghost use Rattle.spec_simplex.specs.declared.ends.Fit.TheVariants as fitted;
 ghost use Rattle.spec_simplex.specs.Eliminate.{IsBasisOf};
 ghost use Rattle.spec_simplex.specs.Eliminate as eliminated;
@@ -36,9 +38,11 @@ fn run_stop(stop: RunStop) -> WarmStop
     }
 }
 
-// The certificate with what the checker says of it. It never says no.
+// The certificate with what the checker says of it. It never says no to that of an end (`warm_ends_are_accepted` of
+// spec_runs).
 fn checked_warm(model: &Model, certificate: Certificate, basis: Option<Basis>, pivots: u64) -> Warm
     requires fits { IsFor model.now certificate }
+    requires never_no { (n : ℕ) → check_run (Some number_limit) model.now certificate ≢ Err (No n) }
     requires narrow { IsNarrowCertificate certificate }
     ensures answer { result ≡ warm.answered (Some number_limit) model.now certificate basis pivots }
     ensures narrow { IsWarmFit model.now result }
@@ -55,11 +59,7 @@ fn checked_warm(model: &Model, certificate: Certificate, basis: Option<Basis>, p
             drop(basis);
             Warm::Stopped(WarmStop::Past(past))
         }
-        Verdict::No(_) => {
-            drop(certificate);
-            drop(basis);
-            Warm::Stopped(WarmStop::Spent)
-        }
+        Verdict::No(_) => unreachable!(),
     }
 }
 

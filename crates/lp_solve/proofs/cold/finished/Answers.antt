@@ -1,7 +1,9 @@
 -- The certificate fits the model, the basis is one of the form, and the count is that of the end.
-use Rattle.std.proofs.Common.{List, Option, Some, IfSome, sym, subst, ◌∙◌}
+use Rattle.std.proofs.Common.{◌≢◌, ℕ, List, Option, Some, IfSome, Err, sym, subst, ◌∙◌}
 use Rattle.spec_exact.specs.Narrow.{number_limit}
 use Rattle.spec_check.specs.Certificate.{IsFor}
+use Rattle.spec_check.specs.Run.{check_run}
+use Rattle.spec_check.specs.declared.certificate.CheckStop.TheVariants.{No}
 use Rattle.spec_pivot.specs.declared.status.Status.{Status}
 use Rattle.spec_simplex.specs.Eliminate.{IsBasisOf}
 use Rattle.lp_solve.proofs.Solved.{finishes}
@@ -15,6 +17,11 @@ basis_of-requires c =
 pub checked_cold-requires-clause-fits : goal.checked_cold-requires-clause-fits
 checked_cold-requires-clause-fits c =
     subst (IsFor c.args.model.now) (sym c.in_ok-certificate.ensures.value) c.requires.fits
+
+pub checked_cold-requires-clause-never_no : goal.checked_cold-requires-clause-never_no
+checked_cold-requires-clause-never_no c =
+    subst (λ cert. (n : ℕ) → check_run (Some number_limit) c.args.model.now cert ≢ Err (No n))
+    (sym c.in_ok-certificate.ensures.value) c.requires.never_no
 
 pub returns-clause-answer : goal.returns-clause-answer
 returns-clause-answer c =

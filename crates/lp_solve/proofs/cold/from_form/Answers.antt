@@ -2,7 +2,7 @@
 use Rattle.std.proofs.Common.{◌≡◌, IfOk, Some, sym, subst}
 use Rattle.spec_exact.specs.Narrow.{number_limit}
 use Rattle.spec_runs.specs.Cold.{after_phases}
-use Rattle.lp_solve.proofs.Solved.{start_stop, refused_from, end_fits}
+use Rattle.lp_solve.proofs.Solved.{start_stop, refused_from, end_fits, end_never_no}
 use Rattle.lp_solve.proofs.Left.{phases_leave}
 use Rattle.lp_solve.proofs.cold.from_form.Goals as goal
 
@@ -13,6 +13,10 @@ returns-in-Err-Past-clause-answer c =
 
 pub finished-end-requires-clause-fits : goal.finished-end-requires-clause-fits
 finished-end-requires-clause-fits c = end_fits _ c.args.budget _ _ _ c.requires c.in-Ok-phases.ensures.answer
+
+pub finished-end-requires-clause-never_no : goal.finished-end-requires-clause-never_no
+finished-end-requires-clause-never_no c =
+    end_never_no c.args.budget c.args.model.now c.args.form.now _ c.requires c.in-Ok-phases.ensures.answer
 
 pub finished-end-requires-clause-based : goal.finished-end-requires-clause-based
 finished-end-requires-clause-based c =

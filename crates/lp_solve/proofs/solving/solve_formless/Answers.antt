@@ -1,15 +1,19 @@
 -- Bounds that clash, and an operation that is refused.
 use Rattle.std.proofs.Common.{refl}
-use Rattle.lp_solve.proofs.Solved.{form_stop, form_clash, formless, clash_fits}
-use Rattle.lp_solve.proofs.Allowed.{unhanded_solved}
+use Rattle.lp_solve.proofs.Solved.{form_stop, form_clash, formless, clash_fits, clash_never_no}
+use Rattle.lp_solve.proofs.Allowed.{cold_is_solved}
 use Rattle.lp_solve.proofs.solving.solve_formless.Goals as goal
 
 pub checked_cold-requires-clause-fits : goal.checked_cold-requires-clause-fits
 checked_cold-requires-clause-fits c = clash_fits _ 0 _ _ (form_clash _ _ _ c.in-Cause.is c.requires)
 
+pub checked_cold-requires-clause-never_no : goal.checked_cold-requires-clause-never_no
+checked_cold-requires-clause-never_no c =
+    clash_never_no c.args.model.now _ (form_clash _ _ _ c.in-Cause.is c.requires)
+
 pub returns-in-Cause-clause-solved : goal.returns-in-Cause-clause-solved
 returns-in-Cause-clause-solved c budget =
-    unhanded_solved budget c.args.model.now _ _ c.ended_cold.ensures
+    cold_is_solved budget c.args.model.now _ _ c.ended_cold.ensures
     (formless _ _ _ _ _ (form_clash _ _ _ c.in-Cause.is c.requires) c.checked_cold.ensures.answer)
     c.checked_cold.ensures.narrow
 
@@ -18,7 +22,7 @@ returns-in-Cause-clause-formless c = (_, form_clash _ _ _ c.in-Cause.is c.requir
 
 pub returns-in-Past-clause-solved : goal.returns-in-Past-clause-solved
 returns-in-Past-clause-solved c budget =
-    unhanded_solved budget c.args.model.now _ _ c.ended_cold-in-Past.ensures
+    cold_is_solved budget c.args.model.now _ _ c.ended_cold-in-Past.ensures
     (formless _ _ _ _ _ (form_stop _ _ _ c.in-Past.is c.requires) refl) tt
 
 pub returns-in-Past-clause-formless : goal.returns-in-Past-clause-formless

@@ -1,5 +1,5 @@
 use Rattle.std.proofs.Common.{◌+◌}
-use Rattle.spec_model.specs.Model.{width, part}
+use Rattle.spec_model.specs.Model.{width}
 use Rattle.spec_simplex.specs.Eliminate.{basis_at}
 use Rattle.lp_solve.proofs.Standing.{column_stands_by, row_stands_by}
 use Rattle.lp_solve.proofs.stands.stand_at_basis.Goals as goal

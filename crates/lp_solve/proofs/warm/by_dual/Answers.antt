@@ -1,11 +1,13 @@
 -- The end of the run, its certificate and basis, and a stop.
-use Rattle.std.proofs.Common.{refl, ap, sym, ◌∙◌, subst, List, Option, Some, IfSome}
+use Rattle.std.proofs.Common.{◌≢◌, ℕ, Err, refl, ap, sym, ◌∙◌, subst, List, Option, Some, IfSome}
 use Rattle.spec_exact.specs.Narrow.{number_limit}
 use Rattle.spec_check.specs.Certificate.{IsFor}
+use Rattle.spec_check.specs.Run.{check_run}
+use Rattle.spec_check.specs.declared.certificate.CheckStop.TheVariants.{No}
 use Rattle.spec_pivot.specs.declared.status.Status.{Status}
 use Rattle.spec_simplex.specs.Eliminate.{IsBasisOf}
 use Rattle.spec_runs.specs.Warm.{after_run}
-use Rattle.lp_solve.proofs.WarmRuns.{can_run, dual_ends, dual_stops, dual_fits, dual_leaves}
+use Rattle.lp_solve.proofs.WarmRuns.{can_run, dual_ends, dual_stops, dual_fits, dual_never_no, dual_leaves}
 use Rattle.lp_solve.proofs.warm.by_dual.Goals as goal
 
 pub run-requires-clause-ready : goal.run-requires-clause-ready
@@ -23,6 +25,13 @@ pub checked_warm-requires-clause-fits : goal.checked_warm-requires-clause-fits
 checked_warm-requires-clause-fits c =
     subst (IsFor c.args.model.now) (sym (c.in_ok-certificate-in-Ok.ensures.value))
     (dual_fits _ _ _ (record { end = c.in-Ok.end; tableau = c.run.new.tab; used = c.run.new.used }) c.requires.begun
+    c.in-Ok.ensures.runs)
+
+pub checked_warm-requires-clause-never_no : goal.checked_warm-requires-clause-never_no
+checked_warm-requires-clause-never_no c =
+    subst (λ cert. (n : ℕ) → check_run (Some number_limit) c.args.model.now cert ≢ Err (No n))
+    (sym (c.in_ok-certificate-in-Ok.ensures.value))
+    (dual_never_no _ _ _ (record { end = c.in-Ok.end; tableau = c.run.new.tab; used = c.run.new.used }) c.requires.begun
     c.in-Ok.ensures.runs)
 
 pub returns-in_ok-certificate-in-Ok-clause-answer : goal.returns-in_ok-certificate-in-Ok-clause-answer

@@ -1,6 +1,6 @@
 -- Each end of the run over factors, with a certificate that fits, and a basis of the form.
-use Rattle.lp_solve.proofs.Factored.{over_fits, over_leaves, over_ends, past_stops, spent_stops}
-use Rattle.lp_solve.proofs.factors.over_factors.Goals as goal
+use Rattle.lp_solve.proofs.Factored.{over_fits, over_accepted, over_leaves, over_ends, past_stops, spent_stops}
+use Rattle.lp_solve.proofs.strategy.over_factors.Goals as goal
 
 pub basis_of-requires : goal.basis_of-requires
 basis_of-requires c =
@@ -10,6 +10,11 @@ basis_of-requires c =
 pub checked_cold-requires-clause-fits : goal.checked_cold-requires-clause-fits
 checked_cold-requires-clause-fits c =
     over_fits c.args.budget c.args.model.now c.args.form.now c.requires c.in-Ok.end
+    (c.in-Ok.ensures.whole c.args.model.now c.requires)
+
+pub checked_cold-requires-clause-never_no : goal.checked_cold-requires-clause-never_no
+checked_cold-requires-clause-never_no c =
+    over_accepted c.args.budget c.args.model.now c.args.form.now c.requires c.in-Ok.end
     (c.in-Ok.ensures.whole c.args.model.now c.requires)
 
 pub returns-in-Ok-clause-answer : goal.returns-in-Ok-clause-answer
