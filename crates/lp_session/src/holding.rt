@@ -17,7 +17,7 @@ use lp_line::{
 };
 use lp_model::{Edit, EditError, EditFault, Model, UsualModel, apply};
 use lp_mps::write::{WriteStop, fixed, free};
-use lp_solve::{End, OPENING_BUDGET, solve_formless, solved_exactly_within};
+use lp_solve::{End, OPENING_BUDGET, solve_exactly, solve_formless};
 use spec_board::{BasisWords, Found};
 use spec_mps::Style;
 use spec_server::{How, Plain, Publication};
@@ -53,7 +53,7 @@ impl Holding {
     {
         Holding {
             model: None,
-            budget: OPENING_BUDGET,
+            budget: OPENING_BUDGET as u32,
             last: None,
         }
     }
@@ -217,7 +217,7 @@ impl Holding {
         let Some(model) = &self.model else {
             return Reply::Refused(Refusal::NoModel);
         };
-        let Ok(end) = solved_exactly_within(alloc, model.model(), self.budget) else {
+        let Ok(end) = solve_exactly(alloc, model.model(), u64::from(self.budget), None) else {
             return Reply::Memory;
         };
         let lines = wide_lines(alloc, model.model(), &end);

@@ -7,11 +7,6 @@ use Rattle.spec_server.specs.Machine.{opening_budget}
 use Rattle.spec_commands.specs.PresolveOut.{PresolveOut, presolved_lines}
 use Rattle.lp_text_commands.specs.Prints.{Prints}
 
--- within the budget of a new session
-pub opening : (m : Model) (budget : ℕ) (p : ExactPresolved) → budget ≡ opening_budget → IsPresolved m budget p →
-    IsPresolved m opening_budget p
-opening m budget p e is = subst (λ n. IsPresolved m n p) e is
-
 -- the lines of an end are an output
 pub prints_presolved : {T E : Type 0} (m : Model) (p : ExactPresolved) (before after : List ℕ) (result : Result T E) →
     IsPresolved m opening_budget p → OnOk result (after ≡ before ++ presolved_lines m p) →

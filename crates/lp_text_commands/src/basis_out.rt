@@ -23,7 +23,7 @@ use lp_check::Known;
 use lp_form::LargeForm;
 use lp_line::{Refusal, Reply, pivots_of, print_said};
 use lp_model::Model;
-use lp_solve::{End, OPENING_BUDGET, Solved, solved_from_basis, solved_within};
+use lp_solve::{End, OPENING_BUDGET, Solved, solve};
 use spec_commands::BasisFault;
 use spec_mps::MpsFault;
 use std::alloc::{AllocError, Global};
@@ -68,7 +68,7 @@ fn print_from(alloc: Global, model: &Model, start: &Start, to: &mut Bytes) -> Re
     requires start { IsStartOf model.now (Some start.now) }
     ensures { OnOk result (Prints (BasisOut (Ok (handed_of model.now (Some start.now)))) to.old to.new) }
 {
-    let solved = solved_from_basis(alloc, model, OPENING_BUDGET, &start.basis)?;
+    let solved = solve(alloc, model, OPENING_BUDGET, Some(&start.basis))?;
     let printed = print_whole(alloc, model, &start.form, &solved, to);
     drop(solved);
     printed
@@ -97,7 +97,7 @@ pub(crate) fn print_formless(alloc: Global, model: &Model, to: &mut Bytes) -> Re
     requires start { IsStartOf model.now None }
     ensures { OnOk result (Prints (BasisOut (Ok (handed_of model.now None))) to.old to.new) }
 {
-    let solved = solved_within(alloc, model, OPENING_BUDGET)?;
+    let solved = solve(alloc, model, OPENING_BUDGET, None)?;
     let printed = print_end(alloc, model, &solved, to);
     drop(solved);
     printed

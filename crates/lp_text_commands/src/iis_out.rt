@@ -29,7 +29,7 @@ pub(crate) fn print_iis(alloc: Global, model: &Model, to: &mut Bytes) -> Result<
     requires { IsUsualModel model.now }
     ensures { OnOk result (Prints (IisOut (Ok model.now)) to.old to.new) }
 {
-    let found = find(alloc, model, u64::from(OPENING_BUDGET))?;
+    let found = find(alloc, model, OPENING_BUDGET)?;
     let printed = print_ended(alloc, model, &found, to);
     drop(found);
     printed

@@ -13,7 +13,7 @@ use crate::solve::print_answer;
 use lp_base::{Bytes, Sink, send};
 use lp_line::Halt;
 use lp_model::Model;
-use lp_solve::{End, OPENING_BUDGET, solved_within};
+use lp_solve::{End, OPENING_BUDGET, solve};
 use std::alloc::{AllocError, Global};
 
 /// Makes the model of this seed, with so many rows and columns, and writes its size and what a solve of it ends with.
@@ -42,7 +42,7 @@ fn generated_text(alloc: Global, model: &Model) -> Result<Bytes, AllocError>
     requires { IsUsual model.now }
     ensures { IfOk result (SolvedOut model.now) }
 {
-    let solved = solved_within(alloc, model, OPENING_BUDGET)?;
+    let solved = solve(alloc, model, OPENING_BUDGET, None)?;
     let text = ended_text(alloc, model, &solved.end);
     drop(solved);
     text

@@ -23,7 +23,7 @@ pub(crate) fn print_presolved(
     requires { IsUsualModel model.now }
     ensures { OnOk result (Prints (out.PresolveOut (Ok model.now)) to.old to.new) }
 {
-    let presolved = presolve(alloc, model, u64::from(OPENING_BUDGET))?;
+    let presolved = presolve(alloc, model, OPENING_BUDGET)?;
     let printed = print_lines(alloc, model, &presolved, to);
     drop(presolved);
     printed

@@ -24,7 +24,7 @@ use lp_line::{Reply, print_said};
 use lp_model::Model;
 use lp_numtext::write;
 use lp_range::{Range, Ranging};
-use lp_solve::{End, OPENING_BUDGET, solved_within};
+use lp_solve::{End, OPENING_BUDGET, solve};
 use spec_program::Moved;
 use spec_server::Answer;
 use std::alloc::{AllocError, Global};
@@ -41,7 +41,7 @@ pub(crate) fn print_ranged(
     requires inside { at < count_by moved model.now }
     ensures { OnOk result (Prints (ranges.RangedOut moved model.now at) to.old to.new) }
 {
-    let solved = solved_within(alloc, model, OPENING_BUDGET)?;
+    let solved = solve(alloc, model, OPENING_BUDGET, None)?;
     let printed = print_solved(alloc, model, &solved.end, moved, at, to);
     drop(solved);
     printed

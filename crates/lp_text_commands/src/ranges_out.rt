@@ -18,7 +18,7 @@ use lp_form::{Basis, Form, form};
 use lp_frac::Stop;
 use lp_model::Model;
 use lp_range::Ranging;
-use lp_solve::{End, OPENING_BUDGET, solved_within};
+use lp_solve::{End, OPENING_BUDGET, solve};
 use spec_program::Moved;
 use std::alloc::{AllocError, Global};
 
@@ -27,7 +27,7 @@ pub(crate) fn print_ranges(alloc: Global, model: &Model, to: &mut Bytes) -> Resu
     requires { IsUsualModel model.now }
     ensures { OnOk result (Prints (ranges.RangesOut (Ok model.now)) to.old to.new) }
 {
-    let solved = solved_within(alloc, model, OPENING_BUDGET)?;
+    let solved = solve(alloc, model, OPENING_BUDGET, None)?;
     let printed = print_solved(alloc, model, &solved.end, to);
     drop(solved);
     printed

@@ -11,7 +11,7 @@ ghost use Rattle.lp_text_commands.specs.Prints.{Prints};
 use lp_base::Bytes;
 use lp_line::{Reply, answer_of, certificate_lines, print_lines, print_said};
 use lp_model::Model;
-use lp_solve::{End, OPENING_BUDGET, solved_within};
+use lp_solve::{End, OPENING_BUDGET, solve};
 use std::alloc::{AllocError, Global};
 
 /// Writes what a solve of the model ends with.
@@ -19,7 +19,7 @@ pub(crate) fn print_solved(alloc: Global, model: &Model, to: &mut Bytes) -> Resu
     requires { IsUsual model.now }
     ensures { OnOk result (Prints (SolveOut (Ok model.now)) to.old to.new) }
 {
-    let solved = solved_within(alloc, model, OPENING_BUDGET)?;
+    let solved = solve(alloc, model, OPENING_BUDGET, None)?;
     let printed = print_end(alloc, model, &solved.end, to);
     drop(solved);
     printed
@@ -44,7 +44,7 @@ pub(crate) fn print_end(
 pub(crate) fn print_answer(alloc: Global, end: &End, to: &mut Bytes) -> Result<(), AllocError>
     ensures { OnOk result (to.new ≡ to.old ++ check_line (replies.Answered (machine.answer_of machine.opening_budget end.now))) }
 {
-    let reply = Reply::Answered(answer_of(OPENING_BUDGET, end));
+    let reply = Reply::Answered(answer_of(OPENING_BUDGET as u32, end));
     let printed = print_said(alloc, &reply, to);
     drop(reply);
     printed

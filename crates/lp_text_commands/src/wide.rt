@@ -12,7 +12,7 @@ use crate::hearing::Output;
 use lp_base::Bytes;
 use lp_line::{LargeSaid, Refusal, Reply, print_lines, wide_lines};
 use lp_model::Model;
-use lp_solve::{ExactEnd, OPENING_BUDGET, solved_exactly_within};
+use lp_solve::{ExactEnd, OPENING_BUDGET, solve_exactly};
 use std::alloc::{AllocError, Global};
 
 impl Output for LargeSaid {
@@ -37,7 +37,7 @@ impl Output for LargeSaid {
 fn print_exactly_solved(alloc: Global, model: &Model, to: &mut Bytes) -> Result<(), AllocError>
     ensures { OnOk result (Prints (SolveWideOut (Ok model.now)) to.old to.new) }
 {
-    let end = solved_exactly_within(alloc, model, OPENING_BUDGET)?;
+    let end = solve_exactly(alloc, model, OPENING_BUDGET, None)?;
     let printed = print_exact_end(alloc, model, &end, to);
     drop(end);
     printed

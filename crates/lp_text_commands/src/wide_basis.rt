@@ -20,9 +20,7 @@ use lp_certificate::cert_text;
 use lp_form::{Basis, LargeForm};
 use lp_line::{print_lines, push_numbered, push_wide_known};
 use lp_model::Model;
-use lp_solve::{
-    ExactAnswer, ExactEnd, OPENING_BUDGET, solved_exactly_from_basis, solved_exactly_within,
-};
+use lp_solve::{ExactAnswer, ExactEnd, OPENING_BUDGET, solve_exactly};
 use spec_solve::Origin;
 use std::alloc::{AllocError, Global};
 
@@ -45,7 +43,7 @@ fn print_exactly_formless(alloc: Global, model: &Model, to: &mut Bytes) -> Resul
     requires { IsStartOf model.now None }
     ensures { OnOk result (Prints (BasisWideOut (Ok (handed_of model.now None))) to.old to.new) }
 {
-    let end = solved_exactly_within(alloc, model, OPENING_BUDGET)?;
+    let end = solve_exactly(alloc, model, OPENING_BUDGET, None)?;
     let printed = print_end(alloc, model, &end, to);
     drop(end);
     printed
@@ -61,7 +59,7 @@ fn print_exactly_from(
     requires { IsStartOf model.now (Some start.now) }
     ensures { OnOk result (Prints (BasisWideOut (Ok (handed_of model.now (Some start.now)))) to.old to.new) }
 {
-    let end = solved_exactly_from_basis(alloc, model, OPENING_BUDGET, &start.basis)?;
+    let end = solve_exactly(alloc, model, OPENING_BUDGET, Some(&start.basis))?;
     let printed = print_whole(alloc, model, &start.form, &end, to);
     drop(end);
     printed

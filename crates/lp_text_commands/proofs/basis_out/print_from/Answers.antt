@@ -5,8 +5,8 @@ use Rattle.lp_text_commands.specs.Handed.{handed_of}
 use Rattle.lp_text_commands.proofs.BasisPrints.{prints_basis, start_has, solve_leaves}
 use Rattle.lp_text_commands.proofs.basis_out.print_from.Goals as goal
 
-pub solved_from_basis-requires-clause-fits : goal.solved_from_basis-requires-clause-fits
-solved_from_basis-requires-clause-fits c = start_has c.args.model.now c.args.start.now c.requires.start
+pub solve-requires-clause-starting : goal.solve-requires-clause-starting
+solve-requires-clause-starting c = start_has c.args.model.now c.args.start.now c.requires.start
 
 pub print_whole-printed-requires-clause-basis : goal.print_whole-printed-requires-clause-basis
 print_whole-printed-requires-clause-basis c =

@@ -2,5 +2,5 @@
 use Rattle.lp_text_commands.proofs.BasisPrints.{start_has}
 use Rattle.lp_text_commands.proofs.wide_basis.print_exactly_from.Goals as goal
 
-pub solved_exactly_from_basis-requires : goal.solved_exactly_from_basis-requires
-solved_exactly_from_basis-requires c = start_has c.args.model.now c.args.start.now c.requires
+pub solve_exactly-requires : goal.solve_exactly-requires
+solve_exactly-requires c = start_has c.args.model.now c.args.start.now c.requires
