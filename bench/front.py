@@ -62,7 +62,7 @@ def transport(sources, goals):
     rows = [f" L s{i}" for i in range(sources)] + [f" G d{j}" for j in range(goals)]
     cards = [f" x{i}.{j} cost {dice.randint(100, 5000) / 100} s{i} 1\n x{i}.{j} d{j} 1" for i in range(sources) for j in range(goals)]
     sides = [f" RHS s{i} {sum(need) * 12 // sources / 1000:.2f}" for i in range(sources)] + [f" RHS d{j} {need[j] / 100}" for j in range(goals)]
-    return "\n".join(["ROWS", " N cost", *rows, "COLUMNS", *cards, "RHS", *sides, "ENDATA", ""])
+    return "\n".join(["NAME transport", "ROWS", " N cost", *rows, "COLUMNS", *cards, "RHS", *sides, "ENDATA", ""])
 
 
 def cell(seconds):
