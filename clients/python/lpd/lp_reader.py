@@ -25,7 +25,9 @@ SECTIONS = (
 )
 HEAD = [(name, re.compile(rf"\s*(?:{words})(?![^\s])(?!\s*[:<>=+*^\[-])", re.I | re.A)) for name, words in SECTIONS]
 NUMBER = r"(?:\d+\.?\d*|\.\d+)(?:[eE][+-]?\d+)?"
-NAME = r"[A-Za-z!\"#$%&(),;?@_`'{}|~/][\w!\"#$%&(),.;?@`'{}|~/]*"
+LETTER = r"\w!\"#$%&(),.;?@`'{}|~/"
+# Brackets, as some programs write them, are of a name where they follow at once.
+NAME = rf"[A-Za-z!\"#$%&(),;?@_`'{{}}|~/](?:[{LETTER}]|\[[{LETTER}-]+\])*"
 TOKEN = re.compile(rf"\s*(?:({NUMBER})|(<=|>=|=<|=>|<|>|=|->)|({NAME})|(\S))", re.A)
 COMMA = re.compile(r"[\d.]*,\d+", re.A)  # of a decimal as it is written in many countries
 OF_LP_SOLVE = re.compile(r"\s*(?:/[/*]|(?:max|min)(?:imi[sz]e)?\s*:)", re.I)
@@ -92,9 +94,21 @@ def tokens_of(text: str, line: int) -> List[Token]:
         comma = COMMA.match(text, match.start(1)) if kind == "number" else None
         if comma:
             raise Unfit(line, f"{comma[0]} is no number: a decimal has a point, as {comma[0].replace(',', '.')}")
+        if kind == "name" and has_parentheses(match[0].strip()):
+            raise Unfit(line, f"{match[0].strip()}: the LP format has no parentheses around terms: multiply out, as 2 x + 2 y")
         found.append(Token(kind, match[match.lastindex or 0], line))
         at = match.end()
     return found
+
+
+def has_parentheses(name: str) -> bool:
+    """Whether a name has parentheses that are meant as those of a formula: some that begin it, or one without the other."""
+    depth = 0
+    for letter in name:
+        depth += {"(": 1, ")": -1}.get(letter, 0)
+        if depth < 0:
+            return True
+    return depth > 0 or name.startswith("(")
 
 
 def sections_of(text: str) -> List[Tuple[str, List[Token]]]:
@@ -207,6 +221,8 @@ def read_row(model: LpModel, tokens: Tokens) -> None:
     line = tokens.peek().line
     name = tokens.label() or f"r.{line}"
     if tokens.peek().kind == "name" and name == f"r.{line}" and tokens.peek(1).kind in ("number", "name"):
+        if tokens.peek(1).kind == "name" and tokens.peek(2).text == ":":
+            raise Unfit(line, f"the name of a constraint has no blanks, as {tokens.peek().text}_{tokens.peek(1).text}:")
         raise Unfit(line, f"the name of a constraint ends with a colon, as {tokens.peek().text}:")
     entries, left = tokens.sum()
     first = tokens.relation()
@@ -219,6 +235,7 @@ def read_row(model: LpModel, tokens: Tokens) -> None:
         raise Unfit(tokens.peek().line, "a constraint behind an indicator, which no linear program has")
     if first:
         ends.append((first, tokens.number()))
+    must_be_next(tokens)
     row = Row(name, entries)
     for relation, end in ends:
         limit = None if end is None else end - left
@@ -231,6 +248,13 @@ def read_row(model: LpModel, tokens: Tokens) -> None:
     model.rows.append(row)
     for column in entries:
         model.column(column)
+
+
+def must_be_next(tokens: Tokens) -> None:
+    """Behind the last number of a constraint the next one stands, on a line of its own or with its name."""
+    last, token = tokens.peek(-1), tokens.peek()
+    if token.line == last.line and token.kind in ("name", "number", "sign") and not (token.kind == "name" and tokens.peek(1).text == ":"):
+        raise Unfit(token.line, f"one number is on the right side of a constraint, and {token.text!r} stands behind it: columns stand on the left side alone")
 
 
 def set_bound(column: Column, relation: str, number: Optional[Fraction]) -> None:

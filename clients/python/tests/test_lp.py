@@ -58,6 +58,10 @@ class Read(unittest.TestCase):
         model = model_of("Minimize\n c: bin + end2 + free\nSubject To\n st: bin + free >= 1\n bin - end2 >= 2\nEnd\n")
         self.assertEqual((list(model.columns), list(model.rows)), (["bin", "end2", "free"], ["st", "r.5"]))
 
+    def test_names_with_brackets(self) -> None:
+        model = model_of("min\n 2 flow[Pencils,Detroit] + x(1,2)\nst\n r[-1]: flow[Pencils,Detroit] + 3x[2][y] + x(1,2) >= 2 s: x[2][y] <= 1\nend\n")
+        self.assertEqual((list(model.columns), list(model.rows)), (["flow[Pencils,Detroit]", "x(1,2)", "x[2][y]"], ["r[-1]", "s"]))
+
     def test_what_does_not_fit(self) -> None:
         cases = {
             "": "a model begins with Minimize or Maximize",
@@ -69,6 +73,12 @@ class Read(unittest.TestCase):
             HEADS + " s: x >= y\nEnd\n": "line 5: a number was expected, and not 'y': columns stand on the left side alone",
             HEADS + " s: x >= 4,5\nEnd\n": "line 5: 4,5 is no number: a decimal has a point, as 4.5",
             HEADS + " s 4 x >= 4\nEnd\n": "line 5: the name of a constraint ends with a colon, as s:",
+            HEADS + " s: y <= 0.4 x\n t: x >= 2\nEnd\n": "line 5: one number is on the right side of a constraint, and 'x' stands behind it",
+            HEADS + " s: x <= 3 + 2\nEnd\n": "line 5: one number is on the right side of a constraint, and '+' stands behind it",
+            HEADS + " total need: x >= 2\nEnd\n": "line 5: the name of a constraint has no blanks, as total_need:",
+            "Minimize\n c: x + 2 (y + z)\nEnd\n": "line 2: (y: the LP format has no parentheses around terms: multiply out",
+            "Minimize\n c: x + 2 (y)\nEnd\n": "line 2: (y): the LP format has no parentheses around terms",
+            "Minimize\n c: x + y(1 + z\nEnd\n": "line 2: y(1: the LP format has no parentheses around terms",
             "/* own */\nmax: 3x;\n": "line 1: a model begins with Minimize or Maximize. If this is the format of lp_solve: lp_solve -S1",
             HEADS + " s: x = 1 -> x >= 2\nEnd\n": "line 5: ",
             HEADS + "Bounds\n x\nEnd\n": "free, or a relation",
