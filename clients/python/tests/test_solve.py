@@ -147,6 +147,11 @@ class Shown(unittest.TestCase):
         told = "The value has the offset -7, by the right side of the objective. Solvers differ there: without it it is ~0.333333, and with the "
         self.assertEqual(unwrapped(said.output).count(f"{told}other sign ~7.33333.\n"), 1)
         self.assertNotIn("offset", command("solve", "-", stdin=THIRD.encode()).output)
+        with tempfile.TemporaryDirectory() as folder:
+            path = Path(folder) / "some.lp"
+            path.write_text("Minimize\n cost: 3 x + 7\nSubject To\n need: x >= 2\nEnd\n")  # of a constant no two solvers differ
+            said = command("solve", str(path))
+        self.assertEqual((said.output.splitlines()[0], "Solvers differ" in said.output), ("OPTIMAL 13", False))
 
     def test_cards_that_were_not_read_come_first(self) -> None:
         said = command("solve", "-", stdin=SETS.encode())

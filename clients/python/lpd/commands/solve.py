@@ -458,7 +458,7 @@ def print_answer(
         lines += sentences(aim, found, style, bool(words.output))
     if found.certificate and not is_as_ever(found):
         lines.append(found.told())
-    if model.offset and isinstance(found.answer, Optimal) and words.show != "answer":
+    if model.offset and isinstance(found.answer, Optimal) and words.show != "answer" and not is_lp(words.model):
         lines.append(offset_words(model.offset, found.answer.value, style))
     for line in lines:
         print_prose(line)
