@@ -12,8 +12,8 @@ It starts 'PROGRAM WORD .. serve' some times, each time for as many links as it 
 - a client that sends more behind its QUIT, or too much, gets the replies that it has not read, and no reset;
 - at its end the server writes how each link ended, and another one can listen at the same address at once;
 - a server that examples/serve/stop.py has end serves the link that is open to its end;
-- one that examples/serve/orderly.py runs ends in order at SIGTERM, whether or not that can take its sockets, and serves on where
-  nobody reads its lines;
+- one that examples/serve/orderly.py runs ends in order at SIGTERM, whether or not that can take its sockets;
+- with orderly.py and without, it serves on where nobody reads its lines, and a later line says how many were dropped;
 - as each link ends, it says so in a line on standard error, with the same word, the link's peer and what it took;
 - a server whose standard error takes nothing serves as another does;
 - where it cannot listen or accept, where its words are no command line, and where its output cannot be written, its status
@@ -465,8 +465,14 @@ def is_refused(port: int) -> None:
 
 
 def check_full_pipe(command: List[str]) -> None:
-    """Nobody reads what orderly.py passes on: lines are dropped, links are served, and the next line says how many were dropped."""
-    words = [sys.executable, str(ORDERLY), *command, "serve", f"{HOST}:0", "--each", "1000"]
+    """Nobody reads what the server says: lines are dropped, links are served, and a later line says how many were dropped."""
+    drops_lines(command, rb" dropped=[1-9]\d*\n")
+    drops_lines([sys.executable, str(ORDERLY), *command], rb" dropped=[1-9]\d*\n|\norderly.py: lines dropped, since nobody read standard error: \d+\n")
+
+
+def drops_lines(command: List[str], told: bytes) -> None:
+    """That a server, whose standard error nobody reads, says in such a line how many were dropped."""
+    words = [*command, "serve", f"{HOST}:0", "--each", "1000"]
     with subprocess.Popen(words, stdout=subprocess.DEVNULL, stderr=subprocess.PIPE) as program:
         try:
             pipe = program.stderr.fileno() if program.stderr else -1
@@ -479,12 +485,12 @@ def check_full_pipe(command: List[str]) -> None:
                 with Link(HOST, port, SECONDS) as link:
                     ask(link, (b"QUIT\n", b"BYE\n"))
             said, end = os.read(pipe, MOST), time.monotonic() + SECONDS
-            while b"lines dropped" not in said and time.monotonic() < end:
+            while not re.search(told, b"\n" + said) and time.monotonic() < end:
                 with Link(HOST, port, SECONDS) as link:
                     ask(link, (b"QUIT\n", b"BYE\n"))
                 ready, _, _ = select.select([pipe], [], [], 1)
                 said += os.read(pipe, MOST) if ready else b""
-            expect("lines that were dropped", len(re.findall(rb"\norderly.py: lines dropped, since nobody read standard error: \d+\n", b"\n" + said)), 1)
+            expect("lines that say how many were dropped", len(re.findall(told, b"\n" + said)), 1)
         finally:
             program.kill()
 

@@ -2,7 +2,7 @@
 ghost use Rattle.std.specs.Prelude.{None};
 
 use crate::TcpLink;
-use crate::said::LinkLine;
+use crate::said::{LinkLine, can_say};
 use lp_base::{Failed, LinkReport, Listen};
 use std::io::ErrorKind;
 use std::net::TcpListener;
@@ -10,6 +10,7 @@ use std::time::{Clock, Instant};
 
 /// Gives one worker the links of a socket, which others may share. Where there is no socket, none is given. When a link
 /// comes back, it is closed, after which a line on standard error says how it ended; a fault of that write changes nothing.
+/// Where standard error would have the worker wait, the line is dropped, and the next one says how many were.
 #[derive(Drop)]
 pub struct TcpNet<'a, R> {
     rt: &'a R,
@@ -17,6 +18,7 @@ pub struct TcpNet<'a, R> {
     faults: u64,
     worker: u32,
     links: u64,
+    dropped: u64,
 }
 
 impl<'a, R> TcpNet<'a, R> {
@@ -28,6 +30,7 @@ impl<'a, R> TcpNet<'a, R> {
             faults: 0,
             worker,
             links: 0,
+            dropped: 0,
         }
     }
 }
@@ -71,8 +74,19 @@ impl<'a, R: Clock + Eprint> Listen for TcpNet<'a, R> {
 
     fn give_back(&mut self, link: TcpLink, report: LinkReport) {
         self.links = self.links.saturating_add(1);
-        let line = LinkLine::of(self.rt, self.worker, self.links, &link, report);
+        let line = LinkLine::of(
+            self.rt,
+            self.worker,
+            self.links,
+            &link,
+            report,
+            self.dropped,
+        );
         link.close(self.rt);
-        let _ = eprintln!(self.rt; "{line}");
+        if can_say() && eprintln!(self.rt; "{line}").is_ok() {
+            self.dropped = 0;
+        } else {
+            self.dropped = self.dropped.saturating_add(1);
+        }
     }
 }

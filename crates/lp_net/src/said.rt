@@ -1,10 +1,26 @@
 // What is said of a link on standard error, in logfmt. No contract speaks of it.
 use crate::TcpLink;
 use jiff::Timestamp;
+use libc::net::{POLLOUT, poll};
+use libc::types::pollfd;
 use lp_base::LinkReport;
 use std::fmt;
 use std::net::SocketAddr;
 use std::time::{Clock, Duration};
+
+// Standard error.
+const STDERR: i32 = 2;
+
+/// Whether a line on standard error is taken at once. A pipe that takes more takes 4,096 bytes: a line of each of 16
+/// workers. What cannot be asked is taken to take it.
+pub(crate) fn can_say() -> bool {
+    let mut asked = [pollfd {
+        fd: STDERR,
+        events: POLLOUT,
+        revents: 0,
+    }];
+    poll(&mut asked, 0) != 0
+}
 
 /// The line of a link that has ended. A time that the clock did not tell is left out.
 #[derive(Drop)]
@@ -17,6 +33,7 @@ pub(crate) struct LinkLine {
     bytes_read: u64,
     bytes_written: u64,
     lasted: Option<Duration>,
+    dropped: u64,
 }
 
 impl LinkLine {
@@ -27,6 +44,7 @@ impl LinkLine {
         number: u64,
         link: &TcpLink,
         report: LinkReport,
+        dropped: u64,
     ) -> Self {
         LinkLine {
             time: Timestamp::now(rt).ok(),
@@ -37,6 +55,7 @@ impl LinkLine {
             bytes_read: link.bytes_read,
             bytes_written: link.bytes_written,
             lasted: lasted(rt, link),
+            dropped,
         }
     }
 }
@@ -61,6 +80,9 @@ impl fmt::Display for LinkLine {
         if let Some(lasted) = self.lasted {
             let (seconds, millis) = (lasted.as_secs(), lasted.subsec_millis());
             write!(f, " seconds={seconds}.{millis:03}")?;
+        }
+        if self.dropped > 0 {
+            write!(f, " dropped={}", self.dropped)?;
         }
         Ok(())
     }
