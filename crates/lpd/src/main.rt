@@ -19,7 +19,7 @@ use std::alloc::{AllocError, Global};
 use std::io::ErrorKind;
 use std::process::ExitCode;
 use std::{env, io};
-use told::tell;
+use told::{tell, tell_reading};
 use unbound::Unbound;
 
 fn main(rt: HostRuntime) -> ExitCode {
@@ -43,6 +43,7 @@ fn main(rt: HostRuntime) -> ExitCode {
     };
     let status = match nets_at(&rt, alloc, wanted(&words), socket) {
         Ok(mut nets) => {
+            tell_reading(&rt, &words);
             let mut source = Counted::new(rt.stdin());
             let mut sink = Counted::new(rt.stdout());
             lpd_top(

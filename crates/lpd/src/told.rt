@@ -1,9 +1,10 @@
 // What is said on standard error.
 use crate::unbound::{Unbound, tell_unbound};
 use crate::wrong_words::tell_words;
+use lp_command_line::word_fault;
 use lp_top::ExitStatus;
 use std::alloc::Global;
-use std::io;
+use std::io::{self, IsTerminal};
 
 /// Writes on standard error what happened, if not all was done. `words` are those of the command line, unless they could
 /// not be read, and `unbound` is where a server could not listen. Where memory runs out or a write fails, no more is
@@ -38,6 +39,26 @@ fn what_happened(status: ExitStatus) -> Option<&'static str> {
         ExitStatus::REFUSED => {
             Some("the text was refused; the reason is on standard output (status 9)")
         }
+        _ => None,
+    }
+}
+
+/// Says on standard error what a command reads, where it reads a terminal. A fault of that write changes nothing.
+pub fn tell_reading(rt: &HostRuntime, words: &[String]) {
+    if !rt.stdin().is_terminal() || word_fault(words).is_some() {
+        return;
+    }
+    if let Some(what) = what_is_read(words) {
+        let _ = eprintln!(rt; "lpd: reading {what}, up to the end of the input (Ctrl-D)");
+    }
+}
+
+fn what_is_read(words: &[String]) -> Option<&'static str> {
+    match words.first()?.as_str() {
+        "run" => Some("a script, as `1 LOAD FREE`, a model and `1 SOLVE` (docs/PROTOCOL.md)"),
+        "solve" | "presolve" | "iis" | "range" => Some("a model in MPS"),
+        "check" => Some("a model in MPS, and its certificate behind it"),
+        "basis" => Some("a model in MPS, and a basis file behind it"),
         _ => None,
     }
 }
