@@ -10,9 +10,10 @@ each model, its words parted by tabs, with which every answer is compared. Times
 checks, and of each certificate with the other solver and with both checks in them. With --write the table takes the
 place of what stands between the two marks of PAGE.
 
-With --parts the command is run as a person runs it, and nothing is solved beside it. The times are of the processor: of the solver, of
-the programs of lpd, of the checker in Python, of one reading of the text by Python with its own start, and of the whole. The memory is
-Python's own. Its table has marks of its own. FILE keeps what is measured, line by line, and a later run goes on with it.
+With --parts the command is run as a person runs it, from the second run on, and nothing is solved beside it. The times are of the
+processor: of the solver, of the programs of lpd, of the checker in Python, of one reading of the text by Python with its own start, and
+of the whole. The memory is Python's own. Its table has marks of its own. FILE keeps what is measured, line by line, and a later run
+goes on with it. The smallest models come first.
 """
 import argparse
 import contextlib
@@ -21,9 +22,9 @@ import json
 import os
 import pathlib
 import resource
-import shutil
 import subprocess
 import sys
+import tempfile
 
 from page import ended
 
@@ -37,7 +38,7 @@ from lpd.certifying import BASIS, BASIS_WIDE, WAYS  # noqa: E402
 from lpd.judging import LPD_CHECK, LPD_CHECK_WIDE, PYTHON_ALONE  # noqa: E402
 from lpd.number_text import number  # noqa: E402
 from lpd.replies import Optimal  # noqa: E402
-from lpd.solver_names import NONE  # noqa: E402
+from lpd.solver_names import NONE, is_there  # noqa: E402
 from lpd.tables import off_of  # noqa: E402
 from lpd.ways import Effort  # noqa: E402
 
@@ -163,7 +164,10 @@ def measure_one(path, solver, seconds):
 
 def parts_of(path, solver, options):
     words = [sys.executable, __file__, options.folder, "--one", path, "--with", solver, "--seconds", str(options.seconds)]
-    return json.loads(subprocess.run(words, stdout=subprocess.PIPE, check=True).stdout)
+    # Python finds its modules compiled, as it does from the second run on.
+    there = {**os.environ, "PYTHONPYCACHEPREFIX": str(options.compiled)}
+    there.pop("PYTHONDONTWRITEBYTECODE", None)
+    return json.loads(subprocess.run(words, stdout=subprocess.PIPE, env=there, check=True).stdout)
 
 
 class Kept:
@@ -202,16 +206,15 @@ def told_of(solver, measured):
 
 
 def measure_parts(options, faults):
-    optima, measured, kept = optima_of(options.optima), {}, Kept(options.keep)
     paths = sorted(pathlib.Path(options.folder).glob("*.mps"))
-    for solver in options.solvers:
-        measured[solver] = {}
-        for path in paths:
-            found = measured[solver][path.stem] = kept.measured(solver, path, options)
-            told = f"{found['parts']['whole']:.2f} s, {found['parts']['whole'] / sum_of(found):.2f} times its parts, {found['memory']:.0f} MB"
-            print(f"{path.stem} {solver}: {found['answer'][:40]}, {found['judge']}, {told}", file=sys.stderr, flush=True)
-            faults += wrong_parts(path.stem, found, optima)
-        yield told_of(solver, measured[solver])
+    with tempfile.TemporaryDirectory() as options.compiled:
+        by_size = sorted(paths, key=lambda path: path.stat().st_size)
+        parts_of(str(by_size[0]), options.solvers[0], options)  # which compiles, and is not kept
+        measured = dict(measured_by(by_size, options))
+    optima = optima_of(options.optima)
+    for solver, found in measured.items():
+        faults += [fault for name, one in found.items() for fault in wrong_parts(name, one, optima)]
+        yield told_of(solver, found)
     yield ""
     heads = (head for solver in measured for head in (f"`{solver}`, s", "`lpd`, s", "Python's check, s", "reading, s", "whole, s"))
     yield row(["Model", *heads])
@@ -219,6 +222,18 @@ def measure_parts(options, faults):
     for path in paths:
         parts = [measured[solver][path.stem]["parts"] for solver in measured]
         yield row([path.stem, *(f"{each[part]:.2f}" for each in parts for part in ("solver", "lpd", "checker", "reading", "whole"))])
+
+
+def measured_by(paths, options):
+    """For each solver what is measured of the models."""
+    kept = Kept(options.keep)
+    for solver in options.solvers:
+        measured = {}
+        for path in paths:
+            found = measured[path.stem] = kept.measured(solver, path, options)
+            told = f"{found['parts']['whole']:.2f} s, {found['parts']['whole'] / sum_of(found):.2f} times its parts, {found['memory']:.0f} MB"
+            print(f"{path.stem} {solver}: {found['answer'][:40]}, {found['judge']}, {told}", file=sys.stderr, flush=True)
+        yield solver, measured
 
 
 def wrong_parts(name, found, optima):
@@ -246,9 +261,9 @@ def main():
     os.environ["LPD"] = options.program
     if options.one:
         return measure_one(options.one, options.solvers[0], options.seconds)
-    missing = [solver for solver in options.solvers if solver != NONE and not shutil.which(solver)]
+    missing = [solver for solver in options.solvers if solver != NONE and not is_there(solver)]
     if missing:
-        sys.exit(f"not on the path: {', '.join(missing)}")
+        sys.exit(f"not there: {', '.join(missing)}")
     faults = []
     lines = list((measure_parts if options.parts else measure)(options, faults))
     print("\n".join(lines))
