@@ -9,7 +9,8 @@ layer of the tables in docs/ARCHITECTURE.md, and names in crates.txt only crates
 the tables there are what tools/draw_crates.py writes, docs/PROOFS.md is what tools/list_laws.py writes, and docs/lpd.1 is what
 tools/make_manual.py writes. The table of the promises in docs/TRUST.md has a row for each sentence of each promise there, and each
 clause that a row names is there. No sentence of a page has more words than tools/sentences.py allows; docs/PROOFS.md, which is made
-of comments in the sources, is left out. It prints what is missing or too long; the status is 1 where something is.
+of comments in the sources, is left out. No page is more than a tenth longer than its size below.
+It prints what is missing or too long; the status is 1 where something is.
 """
 import re
 import sys
@@ -29,6 +30,24 @@ NAME = re.compile(r"[A-Za-z]\w*(?:[:-]+\w+)*")
 CLAUSE = re.compile(r"\w+\.\w+")
 # Where one sentence of a promise ends and the next begins.
 BETWEEN = re.compile(r"(?<=\.) (?=[A-Z`])")
+# How long pages are to be, in KiB; a tenth more is fine.
+SIZES = {
+    "README.md": 5,
+    "docs/ALGORITHMS.md": 24,
+    "docs/ARCHITECTURE.md": 12,
+    "docs/CLI.md": 14,
+    "docs/COMPARISON.md": 5,
+    "docs/DECISIONS.md": 30,
+    "docs/FORMATS.md": 18,
+    "docs/GLOSSARY.md": 5,
+    "docs/HACKING.md": 14,
+    "docs/PERFORMANCE.md": 8,
+    "docs/PROTOCOL.md": 12,
+    "docs/PYTHON.md": 20,
+    "docs/SERVING.md": 14,
+    "docs/TRUST.md": 12,
+    "docs/TUTORIAL.md": 9,
+}
 # What a build makes.
 MADE = {"crates/lpd/out/lpd"}
 
@@ -144,6 +163,14 @@ def overlong():
                 yield f"{page.relative_to(TOP)}: a sentence has {words} words: {sentence[:80]} .."
 
 
+def oversized():
+    """The pages that are longer than they are to be."""
+    for page, size in SIZES.items():
+        length = (TOP / page).stat().st_size
+        if length > 1.1 * 1024 * size:
+            yield f"{page}: it has {length:,} bytes, and is to have {size} KiB, or a tenth more"
+
+
 def wrong():
     """What is wrong with the pages that are made of others, or speak of them."""
     for what in misplaced():
@@ -162,7 +189,7 @@ def main():
         for document in pages()
         for what in missing_in(document, names if document in named else None)
     ]
-    found += [*wrong(), *overlong()]
+    found += [*wrong(), *overlong(), *oversized()]
     for what in found:
         print(what)
     return 1 if found else 0
