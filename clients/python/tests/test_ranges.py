@@ -423,6 +423,14 @@ class Shown(unittest.TestCase):
         proved = [line for line in lines if line == "All 4 ranges are as lpd range all has them, which is proved."]
         self.assertEqual(len(proved), has_command("range all"))
 
+    def test_several_limit_at_once(self) -> None:
+        """The first is shown and how many more there are; all of them with fractions."""
+        columns = "".join(f" y{n} cost 1 need 1\n" for n in range(3))
+        text = f"ROWS\n N cost\n G need\nCOLUMNS\n x cost 1/2 need 1\n{columns}RHS\n need 4\nENDATA\n"
+        self.assertIn("y0 leaves its lower bound, and 2 more\n", self.solve(text, "--ranges", "--show", "answer").output)
+        every = "; ".join(f"y{n} leaves its lower bound" for n in range(3))
+        self.assertIn(f"{every}\n", self.solve(text, "--ranges", "--show", "answer", "--exact").output)
+
     def test_fractions_have_decimals(self) -> None:
         third = "ROWS\n N cost\n G need\nCOLUMNS\n x cost 1 need 3\nRHS\n need 1\nENDATA\n"
         self.assertIn("~0.333333", self.solve(third, "--ranges", "--show", "answer").output)

@@ -46,9 +46,16 @@ def lines_of(name: str, found: Ranged, style: Style) -> List[List[str]]:
     lines = []
     for word, end, without, limiting in ends:
         there = "" if end is None else style.cell(found.optimum(end))
-        lines.append(["", "", "", f"{word} {style.cell(end) or without}", there, "; ".join(limiting)])
+        lines.append(["", "", "", f"{word} {style.cell(end) or without}", there, told(limiting, style)])
     lines[0][:3] = [name, style.cell(found.now), style.cell(found.slope)]
     return lines
+
+
+def told(limiting: Sequence[str], style: Style) -> str:
+    """What gives a basis up: of several, which come there at once, the first and how many more. JSON and `--exact` have all of them."""
+    if len(limiting) < 2 or style.is_exact:
+        return "; ".join(limiting)
+    return f"{limiting[0]}, and {len(limiting) - 1} more"
 
 
 def table_of(found: Mapping[str, Ranged], heads: Sequence[str], style: Style) -> str:
