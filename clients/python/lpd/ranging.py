@@ -205,10 +205,11 @@ def as_told(found: Ranged, told: Optional[Ranged]) -> Ranged:
 
 def ranges(text: str, fixed: bool = False, path: Optional[str] = None, tell: Callable[[int, int], None] = nothing) -> Ranges:
     """The ranges of all costs and right sides of the model that a text of the profile spells, as one basis of its optimum has them, in
-    fractions of any width. `lpd range all` is asked once, and a basis once; `tell` is told how many ranges are done, and of how many."""
+    fractions of any width. `lpd range all`, which takes no large model, is asked once, and a basis once; `tell` is told how many ranges
+    are done, and of how many."""
     model = read_model(text, fixed, wide=True)
     body = written(model, PROFILE).text if fixed else text
-    told = told_at_once(body, model, path)
+    told = None if model.is_large else told_at_once(body, model, path)
     if told is not None and isinstance(told.answer, (Infeasible, Unbounded)):
         return told
     answer, tableau = tableau_of(body, model, path, is_narrow=told is not None and isinstance(told.answer, Optimal))

@@ -281,6 +281,12 @@ class WithTheProgram(unittest.TestCase):
             self.assertEqual(found, whole)
             self.assertEqual(found.told(), "Of 4 ranges none is as lpd range all has them, which is proved.")
 
+    def test_a_large_model(self) -> None:
+        """It goes to no command that has the limits of a session."""
+        columns = "".join(f" x{n} cost {n % 7 + 1} need 1\n" for n in range(600))
+        found = lpd.ranges(f"ROWS\n N cost\n G need\nCOLUMNS\n{columns}RHS\n need 4\nENDATA\n")
+        self.assertEqual((found.answer, len(found.costs), found.sides["need"].slope), (lpd.Optimal(Fraction(4)), 600, 1))
+
     def test_a_session(self) -> None:
         with lpd.Session() as session:
             session.load(SHOP)
