@@ -9,7 +9,7 @@ import codecs
 from typing import Callable, Dict, Iterator, List, NamedTuple, Optional, Sequence, Set, Tuple
 
 from .errors import LpdError, TextFault
-from .model import FIELDS, FREE, GAPS, SECTIONS, SENSES, Fault, Model, Reader, is_name, lines_of, read_lines, words_of
+from .model import FIELDS, FREE, SECTIONS, SENSES, Fault, Model, Reader, has_gaps, is_name, lines_of, read_lines, words_of
 from .names import Renamed, renamed
 from .number_text import NotANumber, parse
 from .records import dataclass, field, replace
@@ -26,6 +26,7 @@ FOREIGN = {
     **dict.fromkeys(("INDICATORS", "GENCONS", "PWLOBJ", "PWLNAM", "PWLCON"), "constraints that are not linear"),
     **dict.fromkeys(("LAZYCONS", "USERCUTS"), "rows that hold only where a solver needs them"),
 }
+CUTS = [slice(first - 1, last) for first, last in FIELDS]
 
 
 class Unconvertible(LpdError):
@@ -304,12 +305,11 @@ class Cards:
         fixed form are counted in characters, or in bytes of UTF-8 if only these fit."""
         if not self.fixed:
             return list(words_of(text))
-        for data in (text, text.encode("utf-8", "replace").decode("latin-1")):
-            if all(data[c - 1 : c] in ("", " ") for c in GAPS) and "\t" not in data[:62]:
-                cut = [data[first - 1 : last].strip(" ") for first, last in FIELDS]
-                if data is not text:
-                    cut = [part.encode("latin-1").decode("utf-8", "replace") for part in cut]
-                return [part or None for part in cut]
+        if has_gaps(text) and "\t" not in text[:62]:
+            return [text[cut].strip(" ") or None for cut in CUTS]
+        data = text.encode("utf-8", "replace").decode("latin-1")
+        if has_gaps(data) and "\t" not in data[:62]:
+            return [data[cut].strip(" ").encode("latin-1").decode("utf-8", "replace") or None for cut in CUTS]
         raise TextFault(line, 3, text)
 
     def row_card(self, line: int, text: str, fields: List[Optional[str]]) -> None:
@@ -638,7 +638,7 @@ def is_same_in_fixed(lines: Sequence[str]) -> bool:
 
 def is_none_in_fixed(lines: Sequence[str]) -> bool:
     """Whether a card has something between the fields of fixed form."""
-    return any(line[:1] == " " and any(line[column - 1 : column] not in ("", " ") for column in GAPS) for line in lines)
+    return any(line[:1] == " " and not has_gaps(line) for line in lines)
 
 
 def as_it_stands(text: str, options: Options) -> Optional[Converted]:
