@@ -1,7 +1,7 @@
 #!/usr/bin/env python3
 """Certifies the models of a folder by the bases of other solvers, and writes a table of who judged each certificate.
 
-    certify.py FOLDER [--program PROGRAM] [--with SOLVER,..] [--by WAY] [--optima FILE] [--seconds N] [--parts [--keep FILE]]
+    certify.py FOLDER [--program PROGRAM] [--with SOLVER,..] [--by WAY] [--optima FILE] [--seconds N] [--parts [--keep FILE [--kept]]]
                [--write PAGE]
 
 Each NAME.mps is converted into the profile, solved by lpd with the largest budget, and certified as the command `certify`
@@ -13,7 +13,7 @@ place of what stands between the two marks of PAGE.
 With --parts the command is run as a person runs it, from the second run on, and nothing is solved beside it. The times are of the
 processor: of the solver, of the programs of lpd, of the checker in Python, of one reading of the text by Python with its own start, and
 of the whole. The memory is Python's own. Its table has marks of its own. FILE keeps what is measured, line by line, and a later run
-goes on with it. The smallest models come first.
+goes on with it. The smallest models come first. With --kept nothing is measured: the table has what FILE has, and empty cells.
 """
 import argparse
 import contextlib
@@ -42,6 +42,7 @@ from lpd.solver_names import NONE, is_there  # noqa: E402
 from lpd.tables import off_of  # noqa: E402
 from lpd.ways import Effort  # noqa: E402
 
+PARTS = ("solver", "lpd", "checker", "reading", "whole")
 BEGIN_PARTS, END_PARTS = "<!-- measured by bench/certify.py --parts -->", "<!-- end of the certificates by parts -->"
 BEGIN, END = "<!-- measured by bench/certify.py -->", "<!-- end of the certificates -->"
 LARGEST = 1_000_000
@@ -209,7 +210,8 @@ def measure_parts(options, faults):
     paths = sorted(pathlib.Path(options.folder).glob("*.mps"))
     with tempfile.TemporaryDirectory() as options.compiled:
         by_size = sorted(paths, key=lambda path: path.stat().st_size)
-        parts_of(str(by_size[0]), options.solvers[0], options)  # which compiles, and is not kept
+        if not options.kept:
+            parts_of(str(by_size[0]), options.solvers[0], options)  # which compiles, and is not kept
         measured = dict(measured_by(by_size, options))
     optima = optima_of(options.optima)
     for solver, found in measured.items():
@@ -220,8 +222,8 @@ def measure_parts(options, faults):
     yield row(["Model", *heads])
     yield row(["---"] * (1 + 5 * len(measured)))
     for path in paths:
-        parts = [measured[solver][path.stem]["parts"] for solver in measured]
-        yield row([path.stem, *(f"{each[part]:.2f}" for each in parts for part in ("solver", "lpd", "checker", "reading", "whole"))])
+        found = [measured[solver].get(path.stem) for solver in measured]
+        yield row([path.stem, *(f"{one['parts'][part]:.2f}" if one else "" for one in found for part in PARTS)])
 
 
 def measured_by(paths, options):
@@ -230,6 +232,8 @@ def measured_by(paths, options):
     for solver in options.solvers:
         measured = {}
         for path in paths:
+            if options.kept and (solver, path.stem) not in kept.found:
+                continue
             found = measured[path.stem] = kept.measured(solver, path, options)
             told = f"{found['parts']['whole']:.2f} s, {found['parts']['whole'] / sum_of(found):.2f} times its parts, {found['memory']:.0f} MB"
             print(f"{path.stem} {solver}: {found['answer'][:40]}, {found['judge']}, {told}", file=sys.stderr, flush=True)
@@ -255,6 +259,7 @@ def main():
     parser.add_argument("--seconds", type=float, default=60)
     parser.add_argument("--parts", action="store_true")
     parser.add_argument("--keep", type=pathlib.Path, metavar="FILE")
+    parser.add_argument("--kept", action="store_true")
     parser.add_argument("--one", metavar="MODEL", help=argparse.SUPPRESS)
     parser.add_argument("--write", type=pathlib.Path, metavar="PAGE")
     options = parser.parse_args()
