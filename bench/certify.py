@@ -200,9 +200,9 @@ def told_of(solver, measured):
     said += " and ".join(f"{number} by {words}" for number, words in counts if number)
     refined = sum(any("refined its basis" in note for note in one["notes"] or []) for one in found)
     said += f". {refined} bases were refined, and {sum(bool(one['steps']) for one in found)} needed steps."
-    most = max(one["parts"]["whole"] / sum_of(one) for one in found)
+    most, of = max((one["parts"]["whole"] / sum_of(one), name) for name, one in measured.items() if one in found)
     total = sum(one["parts"]["whole"] for one in found)
-    said += f" The whole took {total:.0f} s, and at most {most:.2f} times the sum of its parts."
+    said += f" The whole took {total:.0f} s, and at most {most:.2f} times the sum of its parts (`{of}`)."
     return f"{said} Python had at most {max(one['memory'] for one in found):.0f} MB."
 
 
