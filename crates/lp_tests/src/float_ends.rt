@@ -30,9 +30,9 @@ fn ends(
 }
 
 // x = 3 and y = 1.
-const CORNER: &str =
-    "NAME corner\nROWS\n N cost\n L R1\n L R2\nCOLUMNS\n x cost -1 R1 1\n x R2 1\n y cost -2 R1 1\n\
- y R2 3\nRHS\n r R1 5 R2 6\nBOUNDS\n UP b x 3\n UP b y 9\nENDATA\n";
+const CORNER: &str = "NAME corner\nROWS\n N cost\n L R1\n L R2\n\
+COLUMNS\n x cost -1 R1 1\n x R2 1\n y cost -2 R1 1\n y R2 3\n\
+RHS\n r R1 5 R2 6\nBOUNDS\n UP b x 3\n UP b y 9\nENDATA\n";
 
 #[test]
 fn finds_an_optimum(rt: HostRuntime) -> Result<(), Fail> {
@@ -52,9 +52,10 @@ fn begins_with_statuses(rt: HostRuntime) -> Result<(), Fail> {
 }
 
 // x is free, y at most 0, and R1 from 2 to 8; R2 is an equation.
-const MIXED: &str =
-    "NAME mixed\nROWS\n N cost\n G R1\n E R2\nCOLUMNS\n x cost 3 R1 1\n x R2 1\n y cost -1 R1 1\n\
- y R2 -2\n z cost 1 R2 1\nRHS\n r R1 2 R2 4\nRANGES\n g R1 6\nBOUNDS\n FR b x\n MI b y\n UP b y 0\n UP b z 5\nENDATA\n";
+const MIXED: &str = "NAME mixed\nROWS\n N cost\n G R1\n E R2\n\
+COLUMNS\n x cost 3 R1 1\n x R2 1\n y cost -1 R1 1\n y R2 -2\n z cost 1 R2 1\n\
+RHS\n r R1 2 R2 4\nRANGES\n g R1 6\n\
+BOUNDS\n FR b x\n MI b y\n UP b y 0\n UP b z 5\nENDATA\n";
 
 #[test]
 fn takes_bounds_of_each_kind(rt: HostRuntime) -> Result<(), Fail> {
@@ -63,9 +64,9 @@ fn takes_bounds_of_each_kind(rt: HostRuntime) -> Result<(), Fail> {
 }
 
 // x is at least 3 and y at least 2, so R1 is at most 5 and R2 at least 9.
-const NOWHERE: &str =
-    "NAME nowhere\nROWS\n N cost\n L R1\n L R2\nCOLUMNS\n x cost -1 R1 1\n x R2 1\n y cost -2 R1 1\n\
- y R2 3\nRHS\n r R1 5 R2 6\nBOUNDS\n LO b x 3\n LO b y 2\nENDATA\n";
+const NOWHERE: &str = "NAME nowhere\nROWS\n N cost\n L R1\n L R2\n\
+COLUMNS\n x cost -1 R1 1\n x R2 1\n y cost -2 R1 1\n y R2 3\n\
+RHS\n r R1 5 R2 6\nBOUNDS\n LO b x 3\n LO b y 2\nENDATA\n";
 
 #[test]
 fn finds_no_feasible_point(rt: HostRuntime) -> Result<(), Fail> {
