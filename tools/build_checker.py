@@ -43,6 +43,7 @@ import sys
 from dataclasses import dataclass, field
 from fractions import Fraction
 from math import gcd
+from operator import itemgetter
 '''
 FOOT = '''
 # ---- the command
