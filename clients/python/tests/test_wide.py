@@ -48,6 +48,7 @@ VALUE = f"1{'0' * 60}/3"
 CERTIFICATE = ["OPTIMAL", f"x x 1{'0' * 30}/3", f"x y {VALUE}", f"y a 1{'0' * 30}/3", "y b 1", "END"]
 OPTIMAL = f"OPTIMAL {VALUE}"
 NO_COMMAND, NO_SOLVE = "this program has no command check --wide", "this program has no command solve --wide"
+NO_SOLVE_ANSWER = f"lpd solve --wide has no answer: {NO_SOLVE}"
 TOO_WIDE = "line 3 of the certificate has a number past 127 bits"
 
 
@@ -198,7 +199,8 @@ class SolveWide(unittest.TestCase):
 
     def test_no_answer(self) -> None:
         """A line that later programs write in place of PAST and SPENT: other ways are gone then."""
-        with program_with_wide(), program("/bin/cat >/dev/null; echo OPEN", "solve --wide"):
+        says_open = "/bin/cat >/dev/null; echo OPEN"
+        with program_with_wide(), program(says_open, "solve --wide"):
             said = command("solve", "-", "--wide", "--only-lpd", stdin=TEXT.encode())
             self.assertEqual((said.status, said.output.splitlines()[:2]), (12, ["OPEN", "There is no answer, at whatever width the program has."]))
             said = command("solve", "-", "--show", "answer", "--exact", stdin=TEXT.encode())
@@ -206,7 +208,7 @@ class SolveWide(unittest.TestCase):
             self.assertIn("note: the first try, lpd solve --wide, has no answer\n", said.complaints)
             told = json.loads(command("solve", "-", "--wide", "--only-lpd", "--json", stdin=TEXT.encode()).output)
         self.assertEqual((told["answer"], told["kind"], told["certificate"]), ("OPEN", "OPEN", []))
-        with program_with_wide(), program("/bin/cat >/dev/null; echo OPEN", "basis --wide"):
+        with program_with_wide(), program(says_open, "solve --wide"), program(says_open, "basis --wide"):
             self.assertEqual(command("certify", "-", "--with", "none", "--by", "lpd", stdin=TEXT.encode()).status, 12)
 
     def test_a_certificate_that_a_checker_does_not_accept(self) -> None:
@@ -253,8 +255,9 @@ class BasisWide(unittest.TestCase):
     """Where lpd basis ends past 127 bits from the basis of a solver, here of one that the package comes to by itself."""
 
     def setUp(self) -> None:
-        missing = (mock.patch(f"lpd.ways.{name}", side_effect=lpd.CommandMissing(name)) for name in ("presolve", "solve_wide"))
-        for patch in missing:
+        missing = {"ways.presolve": "presolve", "ways.solve_wide": "solve --wide", "certifying.solve_wide": "solve --wide"}
+        for place, name in missing.items():
+            patch = mock.patch(f"lpd.{place}", side_effect=lpd.CommandMissing(name))
             patch.start()
             self.addCleanup(patch.stop)
 
@@ -274,7 +277,7 @@ class BasisWide(unittest.TestCase):
             with self.answers(start):
                 said = command("certify", "-", "--with", "none", stdin=TEXT.encode())
                 told = json.loads(command("certify", "-", "--with", "none", "--by", "lpd", "--json", stdin=TEXT.encode()).output)
-            self.assertEqual((said.status, said.complaints), (0, ""))
+            self.assertEqual((said.status, said.complaints), (0, f"none: {NO_SOLVE_ANSWER}\n"))
             self.assertIn(f"from there    {words}\n", said.output)
             self.assertIn("certificate   accepted by lpd check --wide, and by the checker in Python", unwrapped(said.output))
             wanted = (f"OPTIMAL {VALUE}", "lpd", BASIS_WIDE, start.partition(" PIVOTS")[0], CERTIFICATE)
@@ -293,7 +296,8 @@ class BasisWide(unittest.TestCase):
             said = command("certify", "-", "--with", "none", stdin=TEXT.encode())
             self.assertEqual(command("certify", "-", "--with", "none", "--by", "lpd", stdin=TEXT.encode()).status, 12)
         self.assertRegex(said.output, "from there    [01] exact steps in Python\n")
-        self.assertRegex(said.complaints, "^none: lpd basis has no answer: it ends with PAST .* and this program has no command basis --wide\n$")
+        missing = "and this program has no command basis --wide"
+        self.assertRegex(said.complaints, f"^none: {NO_SOLVE_ANSWER}\nnone: lpd basis has no answer: it ends with PAST .* {missing}\n$")
 
     def test_solve_and_batch(self) -> None:
         with self.answers(), tempfile.TemporaryDirectory() as folder:
