@@ -173,7 +173,7 @@ def marks_of(options, found):
     if any(one.is_large for one in found):
         outcomes = {answer[0].lower() for answer in optima_of(options.optima).values()} if options.optima else {"optimal"}
         kind = "large" if "optimal" in outcomes else min(outcomes)
-    return [mark.format(kind) for mark in LARGE_MARKS]
+        return [mark.format(kind) for mark in LARGE_MARKS]
     return FOLDER_MARKS if options.folder else SIZES_MARKS if options.only else (BEGIN, END)
 
 
