@@ -43,8 +43,8 @@ pub fn notes_are_made_then()
     ensures { NotesAreMadeThen }
 {}
 
-/// No kind of step, and none that anyone may yet write, notes by a load or by a compare-exchange that fails what is not
-/// so: not that a place is open which is done, nor a count that is none.
+/// No kind of step notes what is not so, by a load or by a compare-exchange that fails. Nor does any that anyone may
+/// yet write. So none notes that a place is open which is done, or a count that is none.
 pub fn only_what_is_so_is_noted()
     ensures so { OnlyWhatIsSo }
     ensures allowed { AllowedNotesAreSo }

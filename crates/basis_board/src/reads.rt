@@ -47,7 +47,7 @@ pub fn reads_change_the_board()
         Answers places now session made next → Changes now made next }
 {}
 
-/// In each state that keeps the board's rule, each kind of step is one read of the places that the words spell: the
+/// In each state that keeps the board's rule, each kind of step is one read of the places that the words spell. The
 /// places answer it, and the words that the step leaves spell the places that it leaves.
 pub fn steps_are_reads()
     ensures { (places : ℕ) (s : State ℕ View) (now : List ExactPlace) →
@@ -69,8 +69,8 @@ pub fn calls_keep_order()
         Puts before words put after → Consistent before → Consistent after → IsOrderly before → IsOrderly after }
 {}
 
-/// What a whole pass read, itself or by those that were met into it: no place is published twice, the published places
-/// are those below a number that no count exceeds, and what is read as done was published with those words.
+/// In what a whole pass read, itself or by those that were met into it, no place is published twice. The published
+/// places are those below a number that no count exceeds, and what is read as done was published with those words.
 pub fn whole_passes_are_backed()
     ensures { (v : View) (n : ℕ) → v.share ≡ 64 → Consistent v → OwnsBelow v n → CountTells v n →
         AllByRecursion IsWhole (reads_of v) → AreBacked (reads_of v) }
@@ -81,8 +81,8 @@ pub fn backed_in_any_order()
     ensures { (a b : List ExactRead) → IsPermutation a b → AreBacked a → AreBacked b }
 {}
 
-/// What workers read, each by a pass of its own, stands in one order, which places answer one read after the other, if
-/// the notes of their passes together are those of all passes of a board.
+/// What workers read, each by a pass of its own, stands in one order, in which places answer one read after the other.
+/// It is so if the notes of their passes together are those of all passes of a board.
 pub fn whole_logs_are_played()
     ensures { WholeLogsArePlayed }
 {}

@@ -169,8 +169,8 @@ fn begin(end: End) -> First
     }
 }
 
-/// An irreducible infeasible subset of the model's sides, if no point is feasible, within a budget of pivots and flips
-/// for each solve; or what the model's solve ends with; or that the solve of some of its sides gives up.
+/// An irreducible infeasible subset of the model's sides, if no point is feasible. Each solve has a budget of pivots
+/// and flips. Otherwise it is what the model's solve ends with, or that the solve of some of its sides gives up.
 pub fn find(alloc: Global, model: &Model, budget: u64) -> Result<Iis, AllocError>
     requires { IsUsualModel model.now }
     ensures { IfOk result (MayFind model.now budget) }

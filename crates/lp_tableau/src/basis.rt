@@ -194,9 +194,9 @@ fn solved(alloc: Global, form: &Form, basis: &Basis) -> Result<Tableau, BasisSto
     Ok(tab)
 }
 
-/// The tableau of a basis: the form's equations solved for the basic columns, one after the other, each
-/// in the least position that is left and where its entry is not 0; then the values of these columns and
-/// the reduced costs for the form's costs. A basis is singular where a column has no such position.
+/// The tableau of a basis: the form's equations solved for the basic columns, with their values and the reduced costs
+/// for the form's costs. The equations are solved for one column after the other, each in the least position that is
+/// left and where its entry is not 0. A basis is singular where a column has no such position.
 pub fn start_from(alloc: Global, form: &Form, basis: &Basis) -> Result<Tableau, BasisStop>
     requires { length basis.now ≡ form.now.cols + form.now.rows }
     ensures ok { IfOk result (λ t. elimination.start_from (Some number_limit) form.now basis.now ≡ Ok t) }

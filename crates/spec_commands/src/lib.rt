@@ -120,9 +120,9 @@ pub fn exact_solves_from_bases_write_true_answers()
         × (written ≡ wide_known_text known ++ 10 ∷ behind) × Holds handed.model known) }
 {}
 
-/// Anyone can check an exact answer: to a text that spells its model with the lines of its certificate behind it
-/// `check --wide` says yes, and that the same is known, whatever follows, as far as an input may be read. It is so of an
-/// answer from a basis too.
+/// Anyone can check an exact answer: `check --wide` says yes to its certificate behind a text that spells its model,
+/// and that the same is known. It says so whatever follows, as far as an input may be read. It is so of an answer from
+/// a basis too.
 pub fn wide_answers_check_against_the_text()
     ensures { (style : Style) (text : List ℕ) (front : List (Line (List ℕ))) (last : Line (List ℕ)) (m : Model)
         (budget : ℕ) (starting : Option (List Status)) (a : RationalAnswer) →

@@ -37,7 +37,7 @@ ghost use Rattle.spec_factor.specs.Over.{over_run, answer_in, over_factors};
 ghost use Rattle.spec_factor.specs.Same.{SameChoice, GoesWith};
 
 /// Two tableaus of the same rows, costs and bounds with the same statuses have the same values, reduced costs and rows
-/// by their basic columns; the same step is chosen from both, named by its columns; and after it they have the same
+/// by their basic columns. The same step is chosen from both, named by its columns, and after it they have the same
 /// statuses.
 pub fn one_basis_one_step()
     ensures tableau { (m n : ℕ) (f : Matrix) (cost : ℕ → ℚ) (b : Bounds) (t u : Tableau) →
@@ -54,8 +54,8 @@ pub fn one_basis_one_step()
         SameStatuses (n + m + m) (table_of v) (table_of w) }
 {}
 
-/// A state over factors that goes with a tableau chooses the same step, named by its columns; without a limit the step
-/// leaves a state that goes with the tableau that it leaves; and so does taking factors anew.
+/// A state over factors that goes with a tableau chooses the same step, named by its columns. Without a limit the step
+/// leaves a state that goes with the tableau that it leaves, and so does taking factors anew.
 pub fn factors_step_as_tableaus()
     ensures choice { (limit other : Option ℕ) (f : Form) (starts : List (RowStart ℚ)) (costs : List ℚ) (b : Bounds)
         (t : Tableau) (s : Revised) (c : Choice ℚ) (selection : Selection) →

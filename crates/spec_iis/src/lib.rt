@@ -84,8 +84,8 @@ pub fn sides_alone_may_be_kept()
         IsUsualModel m → All IsNarrowRow (only m sides).rows → IsUsualModel (only m sides) }
 {}
 
-/// On the way of the rule: it begins with sides that are infeasible together; a side is left out where the others are,
-/// and kept with a point that meets the others; and where none is left, those that are kept are irreducible.
+/// Where no side is left to be tried, the sides that the rule keeps are irreducible. It begins with sides that are
+/// infeasible together. It leaves a side out where the others are, and keeps it with a point that meets the others.
 pub fn the_rule_keeps_what_is_needed()
     ensures begin { (m : Model) (sides : List Side) →
         All (IsSide m) sides → IsInfeasible (only m sides) → IsFiltered m [] sides [] }

@@ -128,8 +128,8 @@ pub fn ranges_cards_are_ranges()
         texts_for m.objective (used_pairs (cards_in style section.Ranges lines)) ≡ [] }
 {}
 
-/// The bounds of a column are what its cards in the set that BOUNDS names first make of 0 and none: the last card that
-/// sets a bound wins, and a negative upper bound takes away a lower bound that no card sets.
+/// The bounds of a column begin as 0 and none, and its cards in the set that BOUNDS names first change them. The last
+/// card that sets a bound wins, and a negative upper bound takes away a lower bound that no card sets.
 pub fn bounds_cards_are_bounds()
     ensures { (limits : SizeLimits) (style : Style) (lines : Lines) (m : Model) → SpellsWithin limits style lines m →
         (j : ℕ) → j < width m →

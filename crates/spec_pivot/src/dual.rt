@@ -27,7 +27,7 @@ ghost use Rattle.spec_pivot.specs.Dual.{Suits, IsDualFeasible, IsOrdered, Leaves
 ghost use Rattle.spec_pivot.specs.Dual.{IsCheapest, shift, after_dual, IsSolution, Refutes, IsComplementary};
 
 /// A dual step leaves a tableau of the same rows, costs and bounds, in which the column that leaves is at the bound
-/// that it had passed; and a flip does (Chvátal, Linear Programming, chapters 8 and 10).
+/// that it had passed. A flip leaves a tableau of these too (Chvátal, Linear Programming, chapters 8 and 10).
 pub fn dual_steps_keep_tableaus()
     ensures pivot { (m n : ℕ) (f : Matrix) (cost : ℕ → ℚ) (b : Bounds) (t : Table)
         (way : Way) (p j : ℕ) (c : ℚ) →
@@ -56,8 +56,8 @@ pub fn dual_ratio_test()
         IsDualFeasible n b (after_flip m t way j theta to) }
 {}
 
-/// Where no column may enter, the leaving column's row and the bounds at which it stops make more than 0; and where
-/// some row and bounds do, no values solve the rows within the bounds (Farkas' lemma).
+/// Where a row makes more than 0 with some bounds, no values solve the rows within the bounds (Farkas' lemma). The
+/// leaving column's row does so, with the bounds at which it stops, where no column may enter.
 pub fn stuck_rows_refute()
     ensures row { (m n : ℕ) (f : Matrix) (cost : ℕ → ℚ) (b : Bounds) (t : Table)
         (way : Way) (p : ℕ) (c : ℚ) →
@@ -67,9 +67,9 @@ pub fn stuck_rows_refute()
         (x : ℕ → ℚ) → ¬ (IsSolution m n f b x) }
 {}
 
-/// Where no basic value is outside its bounds, none is; and where the reduced costs have their signs, no column is
-/// eligible for the primal method, values and reduced costs are complementary, and no solution costs less
-/// (Chvátal, Linear Programming, chapters 5 and 8).
+/// Where the reduced costs have their signs, no column is eligible for the primal method, and no solution costs less
+/// (Chvátal, Linear Programming, chapters 5 and 8). Values and reduced costs are complementary then. And where no basic
+/// value is outside its bounds, no value is.
 pub fn dual_ends_are_optimal()
     ensures within { (m n : ℕ) (f : Matrix) (cost : ℕ → ℚ) (b : Bounds) (t : Table) →
         IsTableau m n f cost b t → IsOrdered n b →

@@ -35,8 +35,8 @@ ghost use Rattle.spec_range.specs.Rule.{cost_range, side_range};
 
 pub use range::{Ends, Range};
 
-/// The range of a cost, or of a right side, of a model that a basis keeps has exactly the numbers with which the basis
-/// keeps the model, and its slope says the optimal value with each of them.
+/// Where a basis keeps a model, the range of a cost or of a right side has exactly the numbers with which it still
+/// does. Its slope says the optimal value with each of them.
 pub fn ranges_are_spans()
     ensures cost { (limit : Option ℕ) (m : Model) (f : Form) (basis : List Status) (j : ℕ) (r : Range ℚ) (v : ℚ) →
         form_of limit m ≡ Ok f → j < width m → Keeps m basis → IsOptimal m v → cost_range limit m f basis j ≡ Ok r →

@@ -70,8 +70,8 @@ pub fn cold_ends_true()
         (f : Form) × (form_of limit m ≡ Ok f) × (phases_run limit budget f ≡ Err stop.Spent) }
 {}
 
-/// A run goes by steps from one tableau to the next: to the tableau that it ends with by as many as it counts, and where
-/// its budget is spent, by as many as that has. Without a limit each tableau is at an end, or has a next one.
+/// A run goes by steps from one tableau to the next, by as many as it counts to the one that it ends with. Where its
+/// budget is spent, it goes by as many as that has. Without a limit each tableau is at an end, or has a next one.
 pub fn runs_go_by_steps()
     ensures ended { (limit : Option ℕ) (left used : ℕ) (t : Tableau) (e : PrimalEnded) →
         run_from limit left used t ≡ Ok e → (k : ℕ) × (e.used ≡ used + k) × IsAfter limit k t e.tableau }
@@ -97,10 +97,9 @@ pub fn phases_go_by_steps()
         ⊎ ((t u : Tableau) × (two : BeginsPhaseTwo limit budget f t) × IsAfter limit (budget - two.one.used) t u) }
 {}
 
-/// No pair of basis and statuses comes back within a phase: no two tableaus at different steps of it have the same
-/// statuses, which say of each column whether it is basic, and where it stands if it is not. Phase one goes on from the
-/// start of a model's form, phase two from the tableau that it begins with
-/// (Bland, New finite pivoting rules for the simplex method).
+/// No statuses come back within a phase: two tableaus at different steps of it have different ones (Bland, New finite
+/// pivoting rules for the simplex method). The statuses say of each column whether it is basic, and where it stands if
+/// it is not. Phase one goes on from the start of a model's form, phase two from the tableau that it begins with.
 pub fn no_statuses_come_back()
     ensures one { (limit : Option ℕ) (m : Model) (f : Form) (t u v : Tableau) (i k : ℕ) →
         form_of limit m ≡ Ok f → start_of limit f ≡ Ok t →
@@ -117,8 +116,8 @@ pub fn some_steps_are_taken()
         ((t u : Tableau) × BeginsPhaseTwo None budget f t × IsNext None t u) }
 {}
 
-/// Each phase has fewer steps than there are ways to give each of its columns one of three statuses, so twice as many
-/// are enough for both (Bland, New finite pivoting rules for the simplex method).
+/// Each phase has fewer steps than there are ways to give each of its columns one of three statuses (Bland, New finite
+/// pivoting rules for the simplex method). So twice as many are enough for both.
 pub fn a_stated_budget_is_enough()
     ensures { (limit : Option ℕ) (budget : ℕ) (m : Model) →
         2 * 3 ^ (width m + 2 * height m) ≤ budget → ¬ (cold limit budget m ≡ outcome.Spent) }

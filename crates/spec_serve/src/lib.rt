@@ -37,7 +37,7 @@ mod link_end;
 pub use link_end::LinkEnd;
 
 /// The models that a link asks its session to hold may be kept, and its edits have numbers and bounds that a kept model
-/// may have: so are all asks of a link, those of its lines that end, and those of a service.
+/// may have. So it is of all asks of a link, of those of its lines that end, and of those of a service.
 pub fn links_ask_kept_models()
     ensures whole { (bytes : List ℕ) → AreKept (link_asks_of bytes).asks }
     ensures ended { (bytes : List ℕ) → AreKept (ended_link_asks_of bytes) }
@@ -62,8 +62,8 @@ pub fn links_can_be_served()
         × (filter (λ x. is_memory x.reply) exchanges ≡ []) }
 {}
 
-/// A model that a link asks its session to hold is spelled by the lines after a line with the command LOAD: by those of
-/// all bytes of the link, or those that end, and in a service by those of the bytes that were read.
+/// A model that a link asks its session to hold is spelled by the lines after a line with the command LOAD. These are
+/// lines of all bytes of the link, or those that end, and in a service those of the bytes that were read.
 pub fn models_of_links_are_spelled()
     ensures ended { (bytes : List ℕ) (before behind : List (Asked ExactAsk)) (session : ℕ) (m : Model) →
         ended_link_asks_of bytes ≡ before ++ record { session = session; ask = ask.Loaded m } ∷ behind →
@@ -98,9 +98,9 @@ pub fn one_worker_is_many()
     ensures { (places workers : ℕ) (xs : List Exchange) → RunFits places xs → RunsBy workers places xs }
 {}
 
-/// What workers had beside each other, each with its own asks, stands in the order of the asks; and then it is what
-/// many workers may reply, if each answered its own asks alone and in order, and all that was read is backed and stands
-/// in one order.
+/// What workers had beside each other, each with its own asks, stands in the order of the asks. It is then what many
+/// workers may reply, if each answered its own asks alone and in order, and all that was read is backed and stands in
+/// one order.
 pub fn workers_are_many()
     ensures interleave { (workers : ℕ) (asks : List (Asked ExactAsk)) (had : ℕ → List Exchange) →
         ((worker : ℕ) → map asked_in (had worker) ≡ asks_of_worker workers worker asks) →
@@ -110,9 +110,8 @@ pub fn workers_are_many()
         AreBacked (reads_in_all xs) → HaveOneOrder places workers (logs_of workers xs) → ManyFits places workers xs }
 {}
 
-/// Two runs of the same asks, by any numbers of workers and with any numbers of places, give each session the same
-/// replies, but for how answers were found, the lines of certificates, and answers in place of a refused operation or
-/// of a spent budget.
+/// Runs of the same asks, by any workers and places, give a session the same replies, but for `HOW`, certificates, and
+/// answers in place of a refused operation or of a spent budget.
 pub fn workers_agree()
     ensures { (workers workers' places places' session : ℕ) (xs ys : List Exchange) →
         RunsBy workers places xs → RunsBy workers' places' ys → map asked_in xs ≡ map asked_in ys →

@@ -123,8 +123,9 @@ pub fn asks_have_a_run()
         × (filter (λ x. is_memory x.reply) xs ≡ []) }
 {}
 
-/// The models that asks are to hold may be kept, and their edits have numbers and bounds that a kept model may have: the
-/// asks of lines, of the lines that end among some bytes, and of a whole script, whether its lines name sessions or not.
+/// The models that asks are to hold may be kept, and their edits have numbers and bounds that a kept model may have.
+/// The asks are those of lines, of the lines that end among some bytes, and of a whole script, whether its lines name
+/// sessions or not.
 pub fn scripts_ask_kept_models()
     ensures lines { (addressing : addressing_kind) (lines : List (Line (List ℕ))) →
         AreKept (asks_from addressing Between lines) }

@@ -28,9 +28,8 @@ ghost use Rattle.spec_simplex.specs.Phases.{is_stuck, phase_two_run};
 ghost use Rattle.spec_simplex.specs.Tables.{bounds_of, IsTableauOf, IsWithinBounds, IsMeant};
 ghost use Rattle.spec_simplex.specs.Begins.{IsProper, Begins};
 
-/// A choice of the run means what the rule of the least index says: its flips and pivots are steps by the rule to
-/// tableaus of the same rows, costs and bounds; where it ends, no column is eligible,
-/// or the one that enters is never stopped.
+/// The flips and pivots that a run chooses are steps by the rule of the least index, to tableaus of the same rows,
+/// costs and bounds. Where it ends, no column is eligible, or the one that enters is never stopped.
 pub fn steps_mean_pivots()
     ensures { (limit : Option ℕ) (m n : ℕ) (f : Matrix) (cost : ℕ → ℚ) (b : Bounds) (t : Tableau) (choice : Choice ℚ) →
         IsTableauOf m n f cost b t → IsWithinBounds m n b t → choice_run limit t ≡ Ok choice →

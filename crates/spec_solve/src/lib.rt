@@ -95,8 +95,8 @@ pub fn checked_ends_without_a_limit_may_be()
         MayEndCold limit budget m (outcome.Ended known (certificate_of e) (basis_of e) (pivots_of e)) }
 {}
 
-/// Further runs take no answer away and change none: the cold part ends as the two stated runs, or these give up; and
-/// a solve ends as the one over whole tableaus alone, or that one gives up.
+/// Further runs take no answer away and change none. The cold part ends as the two stated runs, or these give up. A
+/// solve ends as the one over whole tableaus alone, or that one gives up.
 pub fn further_runs_only_add_answers()
     ensures stated { (limit : Option ℕ) (budget : ℕ) (m : Model) (end : ExactSolveEnd) →
         MayEndCold limit budget m end → (end ≡ cold_over limit budget m) ⊎ GivesUp (cold_over limit budget m) }

@@ -58,8 +58,8 @@ pub fn edits_answered_ok_are_made()
 {}
 
 /// A model that a script asks a session to hold is spelled by the lines after a line with the command LOAD of the
-/// session, whether lines name sessions or not: by lines of any input, and by those of the bytes that are read, up to
-/// the last line feed or to the end.
+/// session. It is so whether lines name sessions or not: of lines of any input, and of those of the bytes that are
+/// read, up to the last line feed or to the end.
 pub fn loaded_models_are_spelled()
     ensures lines { (addressing : Addressing) (lines : List (Line (List ℕ))) (before behind : List (asked_of ExactAsk))
         (session : ℕ) (m : Model) →
@@ -89,8 +89,8 @@ pub fn yes_is_true_of_the_model_then()
         (m : Model) × (model_then x.session before ≡ Some m) × Holds m what }
 {}
 
-/// In each run of sessions, the first line that is replied to an exact solve says that nothing is known, or is that of an
-/// answer that is true of the model that the session has then.
+/// In each run of sessions, the first line of the reply to an exact solve says that nothing is known, or is that of a
+/// true answer. It is true of the model that the session has then.
 pub fn wide_answers_are_true_of_the_model_then()
     ensures { (places : ℕ) (before behind : List Exchange) (x : Exchange) (line : List ℕ) (more : List (List ℕ)) →
         RunAlone places (before ++ x ∷ behind) → x.reply ≡ reply.Wide (line ∷ more) →
@@ -99,7 +99,7 @@ pub fn wide_answers_are_true_of_the_model_then()
 {}
 
 /// In each run of sessions, the text of a reply alone says what is true of the model that the session has then, as an
-/// answer or behind the word YES: after the word OPTIMAL stands the text of the optimal value.
+/// answer or behind the word YES. After the word OPTIMAL stands the text of the optimal value.
 pub fn reply_texts_are_true_of_the_model_then()
     ensures optimal { (places : ℕ) (before behind : List Exchange) (x : Exchange) (text : List ℕ) →
         RunAlone places (before ++ x ∷ behind) → Says x.reply (codes "OPTIMAL " ++ text) →
@@ -131,8 +131,8 @@ pub fn known_answers_have_their_own_texts()
         RunAlone places (before ++ x ∷ behind) → x.reply ≡ reply.Checked (verdict.Yes what) → IsNarrowKnown what }
 {}
 
-/// Two runs in which a session is asked the same reply the same, whatever each reads, but for how answers were found,
-/// the lines of certificates, and answers in place of a refused operation or of a spent budget.
+/// Two runs in which a session is asked the same reply alike, but for `HOW`, the lines of certificates, and answers in
+/// place of a refused operation or of a spent budget. So it is whatever each reads.
 pub fn runs_of_the_same_asks_agree()
     ensures { (places places' : ℕ) (xs ys : List Exchange) (last last' : State) →
         AloneRun places opening xs last → AloneRun places' opening ys last' →

@@ -81,8 +81,8 @@ pub fn events_happen()
         (end : ExactEnd) × (new : World) × WorldStep server old event end new }
 {}
 
-/// In two worlds, even of two servers, a session that was asked the same replied the same, but for how answers were
-/// found, the lines of certificates, and answers in place of a refused operation or of a spent budget.
+/// In two worlds a session that was asked the same replied the same, but for `HOW`, certificates, and answers in place
+/// of a refused operation or of a spent budget. The worlds may be of two servers.
 pub fn replies_agree()
     ensures { (server server' : Server) (events events' : List ExactEvent) (world world' : World) (session : ℕ) →
         WorldRun server opening_world events world → WorldRun server' opening_world events' world' →

@@ -39,7 +39,7 @@ fn entries_changed<T: Words>(tab: &RowTableau<T>, j: usize) -> usize {
 }
 
 /// How much a step changes: about as many numbers as are not 0 in the rows with an entry in its column, and in the
-/// reduced costs, each by the square of its words, since it is multiplied. Nothing is promised of it.
+/// reduced costs. Each counts by the square of its words, since it is multiplied. Nothing is promised of it.
 pub fn effort_of<T: Words>(tab: &RowTableau<T>, step: Step) -> u64 {
     let col = match step {
         Step::End(_) => return 0,

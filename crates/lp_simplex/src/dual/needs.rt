@@ -87,10 +87,10 @@ fn fit_by(tab: &Tableau, outside: Option<Leaving>) -> Fit
     }
 }
 
-/// The method that a tableau is fit for: the primal one where each basic value is within its bounds;
-/// else the dual one where each reduced cost has the sign that it needs, or gets it when its column
-/// goes to its other bound. The values are compared with their bounds in order, up to the first one
-/// outside them.
+/// The method that a tableau is fit for: the primal one where each basic value is within its bounds, else the dual one
+/// or neither. It is fit for the dual one where each reduced cost has the sign that it needs, or gets it when its
+/// column goes to its other bound. The values are compared with their bounds in order, up to the first one outside
+/// them.
 #[tactic(auto, unfolding(spec_simplex::specs::Fit::fit_run))]
 pub fn fit(tab: &Tableau) -> Result<Fit, Past>
     ensures { result ≡ spec.fit_run (Some number_limit) tab.now }

@@ -46,10 +46,10 @@ fn steps(tab: &mut Tableau, used: &mut u64, budget: u64) -> Result<DualEnd, RunS
     }
 }
 
-/// GivesRun each reduced cost the sign that it needs by flips, and then takes dual steps until each value
-/// is within its bounds (`Optimal`), one is not and no column can bring it back (`Infeasible`), an
-/// operation is past 127 bits (`Past`), or `budget` flips and pivots were made (`Spent`). `used` counts
-/// them. After `Past` the tableau is spent.
+/// Gives each reduced cost the sign that it needs by flips, and then takes dual steps. It ends `Optimal` where each
+/// value is within its bounds, and `Infeasible` where one is not and no column can bring it back. It ends `Past` where
+/// an operation is past 127 bits, and `Spent` where `budget` flips and pivots were made. `used` counts them. After
+/// `Past` the tableau is spent.
 ///
 /// `IsDualStart` holds of the tableau of a basis that is fit for the dual method.
 #[tactic(auto, unfolding(spec_simplex::specs::Dual::dual_run))]
