@@ -53,9 +53,9 @@ fn end_from(
     }
 }
 
-/// The end of a run of the simplex method in floats: a status for each column of the model and then one for the logical
-/// column of each row, and the column by which there is no optimum, if there is none. It begins with the statuses of
-/// `start`, which may be those of no basis, or else with the basis of the logical columns.
+/// The end of a run of the simplex method in floats: a status for each column of the model, and then one for the
+/// logical column of each row. Where there is no optimum it has the column that shows so, if there is one. The run
+/// begins with the statuses of `start`, which may be those of no basis, or else with the basis of the logical columns.
 ///
 /// The basis is likely one that is optimal; or one whose row at the basic column that is named shows that no point is
 /// feasible; or one from which the other column that is named goes on for ever, at ever less cost. There is no end where the

@@ -397,8 +397,9 @@ fn answer_from(
     Ok(None)
 }
 
-/// The answer of a basis with these statuses of the structural and then of the logical columns, or of a basis that is
-/// reached from it in so many steps at most: a certificate for the model, of an optimum or that there is none.
+/// A certificate for the model, of an optimum or that there is none, from a basis with these statuses of the structural
+/// and then of the logical columns. It is that of this basis, or of one that is reached from it in so many steps at
+/// most.
 ///
 /// The statuses may be those of no basis. Of columns that depend on each other some leave, logical columns come in where
 /// basic ones are missing, and a column without a bound where it stands goes to another. A basis that is mended so counts

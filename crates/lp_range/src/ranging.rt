@@ -81,9 +81,9 @@ impl Ranging {
         }
     }
 
-    /// The range of the cost of column `col` of the model that the basis keeps: it does so with exactly the costs in it, and with
-    /// each of them the optimal value is the present one, and the slope times what the cost is above the present one. Refused
-    /// where an operation of the elimination or of the candidates is.
+    /// The range of the cost of column `col` of a model that the basis keeps: exactly the costs with which it keeps the
+    /// model. With each of them the optimal value is the present one, and the slope times what the cost is above the
+    /// present one. Refused where an operation of the elimination or of the candidates is.
     pub fn cost(&self, model: &Model, col: u32) -> Result<Range, Past>
         requires column { col < width model.now }
         requires from { (f : exact_form) × (basis : List exact_status) × IsFrom model.now f basis self.now }

@@ -415,9 +415,9 @@ fn cold_run<N: Listed>(
     }
 }
 
-/// The cold run over rows of whole numbers, within a budget of pivots and flips and a bound on the work that the caller
-/// has: from the form's start through both phases, with the certificate of the end. Each number that is changed counts for
-/// the square of its words.
+/// The cold run over rows of whole numbers, from the form's start through both phases, with the certificate of the end.
+/// It has a budget of pivots and flips, and the caller's bound on the work. Each number that is changed counts for the
+/// square of its words.
 ///
 /// For the form of a model it ends as the stated run with no limit on numbers, or has no end: where the start is past
 /// 127 bits, a number of a row past 2,048, or one of the certificate past 127, or where the budget is spent, or the bound

@@ -209,8 +209,8 @@ fn begun_64(
     }
 }
 
-/// The run from a basis over rows of whole numbers, within a budget of pivots and flips: the form's equations are solved
-/// for the basic columns, and where each of these is within its bounds, phase two goes on from there.
+/// The run from a basis over rows of whole numbers, within a budget of pivots and flips. The form's equations are
+/// solved for the basic columns. Where each of these is within its bounds, phase two goes on from there.
 ///
 /// For the form of a model it ends as the stated run with no limit on numbers, or has no end: where the basis is
 /// singular or not fit for the primal method, where a number of a row is past 2,048 bits, or where the budget is spent,

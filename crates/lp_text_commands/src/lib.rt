@@ -1,7 +1,7 @@
-//! The commands on the texts of models: to solve a text's model, at 127 bits, at any width or by a smaller model, to check
-//! the certificate after the text, to solve from the basis of the file after it, at 127 bits or at any width, to find limits
-//! that contradict each other, and to range one of its numbers or all. And the command that makes a model from a seed, and
-//! solves it.
+//! The commands on the texts of models: each reads a text, and what may stand behind it, and says something of it. One
+//! solves the text's model, at 127 bits, at any width or by a smaller model. Others check the certificate after the
+//! text, solve from the basis of the file after it, find limits that contradict each other, and range one of its
+//! numbers or all. And the command that makes a model from a seed, and solves it.
 //!
 //! | Item | What it is | Where |
 //! |---|---|---|

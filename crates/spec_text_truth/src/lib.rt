@@ -117,9 +117,9 @@ pub fn solved_texts_have_true_answers()
         (behind : List ℕ) → written ≡ codes "UNBOUNDED" ++ 10 ∷ behind → IsUnbounded m }
 {}
 
-/// What `solve --wide` writes of a text that spells a model is true of the model, as its first line alone says it: behind
-/// `OPTIMAL` stands the text of the optimal value, and it is read as this value, however wide, where it is no longer than a
-/// power of ten may have zeros.
+/// What `solve --wide` writes of a text that spells a model is true of the model, as its first line alone says it.
+/// Behind `OPTIMAL` stands the text of the optimal value. It is read as this value, however wide, where it is no longer
+/// than a power of ten may have zeros.
 pub fn wide_solved_texts_have_true_answers()
     ensures optimal { (style : Style) (lines : List (Line (List ℕ))) (m : Model) (what : TextSaid) (written : List ℕ) →
         text_said_within (limits_of of_text.SolveWide) style lines ≡ Some what → SolveWideOut what written → SpellsWithin (limits_of of_text.SolveWide) style lines m →
@@ -133,8 +133,9 @@ pub fn wide_solved_texts_have_true_answers()
         (behind : List ℕ) → written ≡ codes "UNBOUNDED" ++ 10 ∷ behind → IsUnbounded m }
 {}
 
-/// What `basis` takes its input for is the model that the text spells within the limits of size and, behind it, the basis that the file spells for
-/// the model's form; or it is the line and the fault that refuse the text, or the file.
+/// `basis` takes its input for a model and a basis, or for the line and the fault that refuse the text or the file. The
+/// model is the one that the text spells within the limits of size. The basis is the one that the file behind it spells
+/// for the model's form.
 pub fn basis_reads_what_texts_and_files_spell()
     ensures spelled { (limits : SizeLimits) (style : Style) (lines : List (Line (List ℕ))) (handed : Handed) →
         basis_said limits style lines ≡ Some (Ok handed) ↔ AreHanded limits style lines handed }
@@ -169,9 +170,9 @@ pub fn answers_from_bases_are_true()
         (m : Model) × Spells style lines m × IsUnbounded m }
 {}
 
-/// What `basis --wide` writes of a text and the basis file behind it is true of the model that the text spells, as its first
-/// line alone says it: behind `OPTIMAL` stands the text of the optimal value, and it is read as this value, however wide,
-/// where it is no longer than a power of ten may have zeros.
+/// What `basis --wide` writes of a text and the basis file behind it is true of the model that the text spells, as its
+/// first line alone says it. Behind `OPTIMAL` stands the text of the optimal value. It is read as this value, however
+/// wide, where it is no longer than a power of ten may have zeros.
 pub fn answers_from_bases_are_true_at_any_width()
     ensures optimal { (style : Style) (lines : List (Line (List ℕ))) (what : BasisSaid) (written : List ℕ) →
         basis_said (limits_of of_text.BasisWide) style lines ≡ Some what → BasisWideOut what written →
@@ -188,8 +189,9 @@ pub fn answers_from_bases_are_true_at_any_width()
         (m : Model) × SpellsWithin (limits_of of_text.BasisWide) style lines m × IsUnbounded m }
 {}
 
-/// Behind the answer's line `solve` and `presolve` write the lines of a certificate, and so does `basis` behind the line
-/// after it: to the lines of the text with these behind them `check` says yes, and that the same is known.
+/// To a text with the certificate behind it that `solve`, `presolve` or `basis` wrote of it, `check` says yes, and that
+/// the same is known. `solve` and `presolve` write the certificate behind the answer's line, and `basis` behind the
+/// line after it.
 pub fn written_certificates_are_accepted()
     ensures solve { (style : Style) (lines : List (Line (List ℕ))) (m : Model) (after : List (Line (List ℕ)))
         (written : List ℕ) (text : BeginsWithText usual_limits style lines m after) → SolveOut (Ok m) written →
@@ -207,10 +209,10 @@ pub fn written_certificates_are_accepted()
         × IsAccepted style (text.front ++ text.last ∷ []) answer behind }
 {}
 
-/// What `range` writes of a text that spells a model is true of the model: where nothing has the name, that; else the line
-/// of an answer and, after `OPTIMAL` alone, a line that says a range: with exactly the numbers in it in place of the one that
-/// the model has, the basis that shows the optimum shows one again, and the optimal value with each of them is the stated
-/// one. The lines alone say it.
+/// What `range` writes of a text that spells a model is true of the model. Where nothing has the name, it says so. Else
+/// it has the line of an answer and, after `OPTIMAL` alone, a line that says a range. With exactly the numbers in it in
+/// place of the one that the model has, the basis that shows the optimum shows one again. With each of them the optimal
+/// value is the stated one. The lines alone say it.
 pub fn ranges_of_texts_are_true()
     ensures unknown { (style : Style) (lines : List (Line (List ℕ))) (m : Model) (moved : Moved) (name : Name)
         (what : TextSaid) (written : List ℕ) →
@@ -244,8 +246,8 @@ pub fn ranges_of_texts_are_true()
         SaysRange moved name m value low high slope }
 {}
 
-/// What `range all` writes of a text that spells a model is true of the model: the line of an answer and, after `OPTIMAL`
-/// alone, each line that says the range of a cost or right side, whatever lines stand between the two.
+/// What `range all` writes of a text that spells a model is true of the model. That is the line of an answer and, after
+/// `OPTIMAL` alone, each line that says the range of a cost or right side, whatever lines stand between the two.
 pub fn all_ranges_of_texts_are_true()
     ensures answer { (style : Style) (lines : List (Line (List ℕ))) (m : Model) (what : TextSaid) (written : List ℕ) →
         text_said style lines ≡ Some what → RangesOut what written → Spells style lines m →
@@ -295,8 +297,8 @@ pub fn contradictions_of_texts_are_true()
         written ≡ codes "INFEASIBLE" ++ 10 ∷ (codes "IIS " ++ count ++ 10 ∷ behind) → SaysSides m count behind }
 {}
 
-/// What `presolve` writes of a text that spells a model begins with the line that says which model was solved; behind it
-/// stands the line of an answer, which is true of the model that the text spells. Behind the line of a smaller model the
+/// What `presolve` writes of a text that spells a model begins with the line that says which model was solved, and the
+/// line of a true answer. The answer is true of the model that the text spells. Behind the line of a smaller model the
 /// answer's line alone says it.
 pub fn presolved_texts_have_true_answers()
     ensures answer { (style : Style) (lines : List (Line (List ℕ))) (m : Model) (what : TextSaid) (written : List ℕ) →
@@ -411,11 +413,10 @@ pub fn outputs_of_sessions_are_true()
         AreTrueReplies addressing after read (flat_map (λ x. reply_lines addressing x.session x.reply) exchanges) }
 {}
 
-/// Outputs that are false are refuted, however they go on: a range in which the value of the optimum is not the stated one,
-/// alone or behind another line;
-/// an answer to a text up to its last line feed but one byte, where another byte is left; and over a link an answer that was
-/// true before an edit, behind a certificate of which each line would be a reply, were it not counted, or another value as that
-/// of a wide solve.
+/// Some false outputs are refuted, however they go on. Such is a range in which the value of the optimum is not the
+/// stated one, alone or behind another line. Such is an answer to a text up to its last line feed but one byte, where
+/// another byte is left. Over a link such is an answer that was true before an edit, behind a certificate of which each
+/// line would be a reply, were it not counted. So is another value as that of a wide solve.
 pub fn false_outputs_are_refuted()
     ensures range { (after : Option (List ℕ)) (behind : List ℕ) →
         ¬ (is_true_of (lines.Read (of_text.Range moved.RightSide (codes "ROW")) form.Free) after ended_text
@@ -432,9 +433,9 @@ pub fn false_outputs_are_refuted()
         ¬ (AreTrueReplies addressing.Alone after asked_widely (answered_widely ++ behind)) }
 {}
 
-/// Whatever a link asked before, the last answer of its session stands up, as `last_answers_stand_up` of `spec_commands`
-/// has it: what is known by it is true of the model that the session holds, and to the text of this model with the
-/// lines of the answer's certificate after it the command `check` says yes, and that the same is known.
+/// Whatever a link asked before, the last answer of its session stands up, as `last_answers_stand_up` of
+/// `spec_commands` has it. What is known by it is true of the model that the session holds. To the text of this model,
+/// with the lines of the answer's certificate after it, the command `check` says yes, and that the same is known.
 pub fn last_answers_of_links_stand_up()
     ensures { (places : ℕ) (s : Streams) (before behind : List Exchange) → LinkMoves places s (before ++ behind) →
         (state : State) (m : Model) (last : ExactLastAnswer) (known : Known ℚ) (cert : Certificate (List ℚ))
