@@ -10,19 +10,20 @@ ghost use Rattle.basis_board.specs.Rule.{Consistent, OwnsBelow};
 ghost use Rattle.basis_board.specs.contracts.seats.BoardRuleTableRuleU8SightU64.TheImpl.{holds-value as rule_holds};
 ghost use Rattle.basis_board.specs.Seen.{words_of, IsPrefixOf};
 
-/// Each step that changes a word changes the places that the words spell as one event does, and each load finds what
-/// its event reads.
+/// A step that changes a word changes the places that the words spell as one event does. A step that loads a word finds
+/// what its event reads.
 pub fn steps_are_events()
     ensures { AllTies }
 {}
 
-/// Each claimed place is claimed by one pass or done, a done place is well formed and was published by one pass, and
-/// every pass that has seen words of a place finds them there.
+/// A claimed place is claimed by one pass or done. A done place is well formed, and one pass published it. Each pass
+/// that has seen words of a place finds them there.
 pub fn meaning()
     ensures { AllMeans }
 {}
 
-/// What a pass had seen of a place is a prefix of what it sees of it later, after a meeting too.
+/// The words that a pass has seen of a place are the first of those that it sees there later, after it met another pass
+/// too.
 pub fn seen_words_stay()
     ensures later { (v : View) (more old : List (ℕ × List ℕ)) (k : ℕ) (words : List ℕ) →
         Consistent v → v.seen ≡ more ++ old →
@@ -32,25 +33,25 @@ pub fn seen_words_stay()
         words_of k old ≡ Some words → (now : List ℕ) × (words_of k v.seen ≡ Some now) × IsPrefixOf words now }
 {}
 
-/// A pass that every other was met into has published as many places as a read of the count gives.
+/// A pass that has met all others has published as many places as the count on the board says.
 pub fn whole_passes_own_all()
     ensures { (v : View) (count : ℕ) → OwnsBelow v count → length v.own ≡ count }
 {}
 
-/// Whatever one step of one seat writes and tells, if the rule holds before and after it: what it notes was so of the
-/// words between what they were before and what they are after. So a load notes nothing but what is so when it loads.
+/// What a step of a seat notes was so of words between those before the step and those after it. The rule has to hold
+/// before and after. So a load notes only what is so when it loads.
 pub fn notes_are_made_then()
     ensures { NotesAreMadeThen }
 {}
 
-/// No kind of step notes what is not so, by a load or by a compare-exchange that fails. Nor does any that anyone may
-/// yet write. So none notes that a place is open which is done, or a count that is none.
+/// By a load, or by a compare-exchange that fails, no kind of step notes what is not so. For example, none notes that a
+/// done place is open. This holds of each step that may ever be written, too.
 pub fn only_what_is_so_is_noted()
     ensures so { OnlyWhatIsSo }
     ensures allowed { AllowedNotesAreSo }
 {}
 
-/// The rule that each step on the table of a board keeps is no weaker than `KeptInTime`.
+/// The rule that each step on a board's table keeps implies `KeptInTime`.
 pub fn rule_is_kept()
     ensures { (places : ℕ) (s : State ℕ Sight) → rule_holds.it places s → KeptInTime places s }
 {}

@@ -152,9 +152,10 @@ pub fn solve_formless(model: &Model, stop: FormStop) -> Result<Solved, AllocErro
     }
 }
 
-/// Solves the model within a budget of pivots and flips, and has the certificate of the end checked: from the starting
-/// basis, if there is one, by the method that this is fit for; and where there is none, or the start from it stops, from
-/// the start that each model has, by the engines of `cold_solve`. Only a budget below `enough_pivots` is ever spent.
+/// Solves the model within a budget of pivots and flips, and has the certificate of the end checked. It begins with the
+/// starting basis, if there is one, by the method for which this basis is feasible. Where there is none, or that start
+/// stops, it begins with the start that each model has, by the engines of `cold_solve`. Only a budget below
+/// `enough_pivots` is ever spent.
 pub fn solve(
     alloc: Global,
     model: &Model,

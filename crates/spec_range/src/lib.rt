@@ -35,8 +35,8 @@ ghost use Rattle.spec_range.specs.Rule.{cost_range, side_range};
 
 pub use range::{Ends, Range};
 
-/// Where a basis keeps a model, the range of a cost or of a right side has exactly the numbers with which it still
-/// does. Its slope says the optimal value with each of them.
+/// Where a basis shows the optimum of a model, the range of a cost or right side has exactly the numbers with which it
+/// still does. The slope of the range says the optimal value with each of them.
 pub fn ranges_are_spans()
     ensures cost { (limit : Option ℕ) (m : Model) (f : Form) (basis : List Status) (j : ℕ) (r : Range ℚ) (v : ℚ) →
         form_of limit m ≡ Ok f → j < width m → Keeps m basis → IsOptimal m v → cost_range limit m f basis j ≡ Ok r →
@@ -46,7 +46,8 @@ pub fn ranges_are_spans()
         IsRange (with_rhs m i) basis (row m i).rhs v r }
 {}
 
-/// A basis that keeps a model has a range without a limit. At a limit this is the same, or an operation is refused.
+/// Where a basis shows the optimum of a model, numbers of any width have a range. At a limit the range is the same, or
+/// an operation is refused.
 pub fn ranges_stop_only_by_refusals()
     ensures cost { (limit : Option ℕ) (m : Model) (f : Form) (basis : List Status) (j : ℕ) →
         form_of limit m ≡ Ok f → Keeps m basis →
@@ -58,7 +59,7 @@ pub fn ranges_stop_only_by_refusals()
         ⊎ ((p : Past ℚ) × (side_range limit m f basis i ≡ Err (stop.Past p)))) }
 {}
 
-/// The basis that the cold solve of a model leaves at an optimal end keeps the model.
+/// Where the cold solve of a model ends with an optimum, the basis that it leaves shows this optimum.
 pub fn optimal_bases_keep_models()
     ensures answer { (limit : Option ℕ) (budget : ℕ) (m : Model) (known : Known ℚ) (cert : Certificate (List ℚ))
         (left : List Status) (pivots : ℕ) → cold limit budget m ≡ Ended known cert (Some left) pivots → Keeps m left }
