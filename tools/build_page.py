@@ -40,6 +40,7 @@ def page() -> str:
         raise SystemExit("build_page.py: an element of the page would end before its text does")
     parts = {"style": style, "script": script, "worker": worker}
     parts |= {"style-hash": hash_of(style), "script-hash": hash_of(script)}
+    parts["made"] = "Made by tools/build_page.py of the other files here: edit those."
     template = (WEB / "page.html").read_text(encoding="utf-8")
     return re.sub(r"\{([a-z-]+)\}", lambda place: parts[place[1]], template)
 
