@@ -1,4 +1,4 @@
-# What people type: ./lpd build, .ci/run and tools/release do the work.
+# What people type: ./lpd build, .ci/run and release/make_release do the work.
 prefix = /usr/local
 program = crates/lpd/out/lpd
 to = $(DESTDIR)$(prefix)
@@ -11,10 +11,10 @@ check:
 install:
 	install -D -m 755 $(program) $(to)/bin/lpd
 	install -D -m 644 docs/lpd.1 $(to)/share/man/man1/lpd.1
-	install -D -m 644 tools/lpd.bash $(to)/share/bash-completion/completions/lpd
+	install -D -m 644 completions/lpd.bash $(to)/share/bash-completion/completions/lpd
 uninstall:
 	rm -f $(to)/bin/lpd $(to)/share/man/man1/lpd.1 $(to)/share/bash-completion/completions/lpd
 dist:
-	tools/release
+	release/make_release
 clean:
 	rm -rf dist crates/*/out

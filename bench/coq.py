@@ -28,7 +28,7 @@ from solvers import PROGRAM, TOP
 
 sys.path.insert(0, str(TOP / "tools"))
 
-import check_theorems  # (a tool of this repository)
+import check_theorems  # (a test of this repository)
 from lpd import coq, theorem
 from lpd.certificate import Certificate, matched, read_certificate
 from lpd.conversion import convert

@@ -4,7 +4,7 @@
     models.py FOLDER [--program PROGRAM] [--optima FILE] [--seconds N] [--write PAGE]
 
 Each NAME.mps is solved in a session with the largest budget. A certificate goes back to `lpd check` and to
-tools/check_certificate.py behind the model's text, and both are to say yes to the answer. A text that is refused in
+bin/check_certificate.py behind the model's text, and both are to say yes to the answer. A text that is refused in
 both forms stands in the table with its fault. FILE has a line 'NAME outcome optimum form' for each model, its words
 parted by tabs, with which the answer is compared. A refusal is shown with its operation and operands, and with the
 pivots and flips that were made before it: the least budget that is not spent. It prints what is wrong, and with --write

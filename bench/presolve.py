@@ -6,7 +6,7 @@
 Each NAME.mps goes to `PROGRAM solve` and to `PROGRAM presolve`, once each, in free form where that is read and else in fixed
 form. The table has the rows and columns before and after, or PLAIN and why: the smaller model ended so, and the model was solved
 as it is. Both answers have to be the same. A model that only `presolve` answers is won. One that only `solve` answers is lost, which is
-a fault, unless a limit of time was the reason. tools/check_certificate.py has to accept each certificate of `presolve` behind the
+a fault, unless a limit of time was the reason. bin/check_certificate.py has to accept each certificate of `presolve` behind the
 original text. A text that is refused in both forms stands in the table with its fault.
 
 The program does not write pivots there. Those of `solve` are told by HOW of a session that is asked the same. For those of

@@ -33,7 +33,7 @@ from page import ended, shown
 from serve import load_of
 from solvers import PROGRAM, TOP
 
-sys.path.insert(0, str(TOP / "tools"))
+sys.path.insert(0, str(TOP / "bin"))
 
 from talk import Ended, Link  # noqa: E402
 

@@ -21,7 +21,7 @@ from typing import NamedTuple
 HERE = pathlib.Path(__file__).resolve().parent
 TOP = HERE.parent
 PROGRAM = str(TOP / "crates/lpd/out/lpd")
-CHECKER = [sys.executable, str(TOP / "tools/check_certificate.py")]
+CHECKER = [sys.executable, str(TOP / "bin/check_certificate.py")]
 LARGEST = 1_000_000
 MADE = [(5, 5, 1), (8, 10, 2), (10, 10, 3), (12, 20, 4), (15, 15, 5), (20, 20, 6), (30, 30, 7), (40, 60, 8)]
 sys.path.insert(0, str(TOP / "clients" / "python"))

@@ -33,7 +33,7 @@ from proxy import HOST, PATIENCE, PAUSE, PORTS, WORKERS, Keeper
 from solvers import PROGRAM, TOP
 from workers import change, plan
 
-sys.path.insert(0, str(TOP / "tools"))
+sys.path.insert(0, str(TOP / "bin"))
 
 from talk import Ended, Link  # noqa: E402
 

@@ -1,5 +1,5 @@
 #!/usr/bin/env python3
-"""Puts the checker that is one file together: tools/check_certificate.py, from modules of clients/python.
+"""Puts the checker that is one file together: bin/check_certificate.py, from modules of clients/python.
 
     build_checker.py          writes it
     build_checker.py --check  says whether it is what would be written, with status 1 where it is not
@@ -15,7 +15,7 @@ from helping import helps
 
 TOP = Path(__file__).resolve().parent.parent
 PACKAGE = TOP / "clients" / "python" / "lpd"
-TARGET = TOP / "tools" / "check_certificate.py"
+TARGET = TOP / "bin" / "check_certificate.py"
 # In this order each module stands behind those whose names it uses as it is read.
 MODULES = ("number_text", "errors", "replies", "model", "certificate")
 FIRST = "check"  # what the checker begins with

@@ -6,7 +6,7 @@
 The program takes those of the table `commands` in crates/spec_program/specs/CommandLine.antt. docs/CLI.md, of which the manual
 page is made, has to describe each command with as many plain words, and each of its options. The usage of
 crates/lpd/src/usage.rt has to name each command with as many plain words, and each option. bash, completing by
-tools/lpd.bash, has to offer each command, then nothing for a plain word, and then the options that are not given yet; these also
+completions/lpd.bash, has to offer each command, then nothing for a plain word, and then the options that are not given yet; these also
 behind the word for all numbers, which stands alone. In place
 of a command there may stand the notices of `named` in crates/lp_command_line/specs/Notices.antt, which the manual's synopsis
 and bash have to name too. The version that the program shows, and that its definition has, is that of the file VERSION. It
@@ -17,9 +17,11 @@ import subprocess
 import sys
 from pathlib import Path
 
-from helping import helps
-
 TOP = Path(__file__).resolve().parent.parent
+sys.path.insert(0, str(TOP / "tools"))
+
+from helping import helps  # noqa: E402
+
 TABLE = TOP / "crates" / "spec_program" / "specs" / "CommandLine.antt"
 PAGE = TOP / "docs" / "CLI.md"
 USAGE = TOP / "crates" / "lpd" / "src" / "usage.rt"
@@ -29,7 +31,7 @@ VERSIONS = {
     TOP / "crates" / "lpd" / "src" / "notice.rt": r'^const VERSION: &str = "lpd ([^"]*)\\n";$',
     TOP / "crates" / "lpd" / "specs" / "Notices.antt": r'^IsTextOf Version text = text ≡ codes "lpd ([^"]*)" \+\+ 10 ∷ \[\]$',
 }
-COMPLETION = TOP / "tools" / "lpd.bash"
+COMPLETION = TOP / "completions" / "lpd.bash"
 ROW = re.compile(r"^(\w+)(?: \w+)* = record \{\s*plain = (?:λ words\. )?(\w+);\s*names = ([^;]*);\s*switches = ([^;]*);", re.M)
 # How many plain words there are where the first of them decides: of a word that stands alone, and of others.
 ALONE = re.compile(r"^(\w+) \[\] = (\d+)\n\1 \(what ∷ words\) = if is_(\w+) what then 1 else \2$", re.M)
@@ -136,7 +138,7 @@ def wrong_completions(commands, notices):
         found = completed(*words)
         if found != wanted:
             after = " ".join(["lpd", *words])
-            yield f"tools/lpd.bash: after '{after}' it offers {sorted(found)}, and not {sorted(wanted)}"
+            yield f"completions/lpd.bash: after '{after}' it offers {sorted(found)}, and not {sorted(wanted)}"
 
 
 def wrong_versions():

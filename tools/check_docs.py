@@ -16,15 +16,17 @@ import re
 import sys
 from pathlib import Path
 
-import draw_crates
-import list_laws
-import make_manual
-from count_definitions import crates_below
-from helping import helps
-from sentences import too_long
-
 TOP = Path(__file__).resolve().parent.parent
-PATH = re.compile(r"(?:crates|docs|examples|tools|bench|web|coq)/[\w./-]*")
+sys.path.insert(0, str(TOP / "tools"))
+
+import draw_crates  # noqa: E402
+import list_laws  # noqa: E402
+import make_manual  # noqa: E402
+from count_definitions import crates_below  # noqa: E402
+from helping import helps  # noqa: E402
+from sentences import too_long  # noqa: E402
+
+PATH = re.compile(r"(?:crates|docs|examples|tests|tools|bin|release|completions|bench|web|coq)/[\w./-]*")
 NAME = re.compile(r"[A-Za-z]\w*(?:[:-]+\w+)*")
 # A clause of a function, or a part of a record, as the table of the promises names it.
 CLAUSE = re.compile(r"\w+\.\w+")

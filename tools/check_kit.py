@@ -12,10 +12,12 @@ import re
 import sys
 from pathlib import Path
 
-from count_definitions import crates_below
-from helping import helps
-
 TOP = Path(__file__).resolve().parent.parent
+sys.path.insert(0, str(TOP / "tools"))
+
+from count_definitions import crates_below  # noqa: E402
+from helping import helps  # noqa: E402
+
 PROGRAM = "lpd"
 
 

@@ -39,7 +39,7 @@ from fractions import Fraction
 from pathlib import Path
 
 TOP = Path(__file__).resolve().parent.parent
-sys.path.insert(0, str(TOP / "clients" / "python"))
+sys.path[:0] = [str(TOP / "clients" / "python"), str(TOP / "tools")]
 
 import build_page  # noqa: E402
 import lpd  # noqa: E402

@@ -31,9 +31,11 @@ import urllib.request
 from pathlib import Path
 from typing import Dict, List, NoReturn, Tuple
 
-from talk import Ended, Link
-
 TOP = Path(__file__).resolve().parent.parent
+sys.path.insert(0, str(TOP / "bin"))
+
+from talk import Ended, Link  # noqa: E402
+
 SERVE = TOP / "examples" / "serve"
 HOST, NAMES = "127.0.0.1", ("one", "two")
 # The ports of haproxy.cfg: with TLS, without, the page, and the two servers.

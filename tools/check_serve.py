@@ -39,8 +39,10 @@ from pathlib import Path
 from types import TracebackType
 from typing import Callable, Iterator, List, NamedTuple, NoReturn, Optional, Set, Tuple, Type
 
-from check_talk import MODEL, SESSION
-from talk import Ended, Link
+sys.path.insert(0, str(Path(__file__).resolve().parent.parent / "bin"))
+
+from check_talk import MODEL, SESSION  # noqa: E402
+from talk import Ended, Link  # noqa: E402
 
 HOST = "127.0.0.1"
 STOP = Path(__file__).resolve().parent.parent / "examples" / "serve" / "stop.py"

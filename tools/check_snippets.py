@@ -19,9 +19,11 @@ import tempfile
 import time
 from pathlib import Path
 
-from helping import helps
-
 TOP = Path(__file__).resolve().parent.parent
+sys.path.insert(0, str(TOP / "tools"))
+
+from helping import helps  # noqa: E402
+
 PROGRAM = TOP / "crates" / "lpd" / "out" / "lpd"
 SECONDS = 1200
 BLOCK = re.compile(r"^```(\w*)\n(.*?)^```$", re.S | re.M)

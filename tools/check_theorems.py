@@ -25,7 +25,7 @@ from typing import Iterator, List, NamedTuple, Optional, Tuple
 TOP = Path(__file__).resolve().parent.parent
 sys.path[:0] = [str(TOP / "clients" / "python"), str(TOP / "tools")]
 
-# The package of this repository, and tools beside this one.
+# The package of this repository, and what stands beside this one.
 import lpd  # noqa: E402
 from lpd import coq, theorem  # noqa: E402
 from lpd.certificate import check_lines, read_certificate  # noqa: E402

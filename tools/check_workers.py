@@ -9,7 +9,7 @@ the commands those of the random scripts that fuzz.py of FOLDER makes, with refu
 
 Each reply has to be the one that one worker gives, but for HOW, CERT, and an answer in place of PAST or SPENT, and so
 has the status. Each certificate has to show what the session was last answered, by the checker of clients/python (that
-of tools/check_certificate.py), of the text that WRITE gives in front of CERT. A script that fails is kept in FOLDER
+of bin/check_certificate.py), of the text that WRITE gives in front of CERT. A script that fails is kept in FOLDER
 (the one for temporary files). The last line says how many scripts passed, and what was compared in them.
 """
 import argparse

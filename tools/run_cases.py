@@ -14,8 +14,11 @@ prints what differs, and at last 'N passed, N failed'.
 """
 import subprocess
 import sys
+from pathlib import Path
 
-from helping import helps
+sys.path.insert(0, str(Path(__file__).resolve().parent.parent / "tools"))
+
+from helping import helps  # noqa: E402
 
 
 class Case:

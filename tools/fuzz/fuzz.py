@@ -7,7 +7,7 @@ After each input
 
 - the program ends with a stated status, and within 512 MiB of addresses, as 'ulimit -v' counts them, memory is never short;
 - its output is made of lines that docs/PROTOCOL.md knows;
-- each OPTIMAL, INFEASIBLE and UNBOUNDED is accepted by the checker in Python (tools/check_certificate.py), with the text
+- each OPTIMAL, INFEASIBLE and UNBOUNDED is accepted by the checker in Python (bin/check_certificate.py), with the text
   that WRITE gave just before it and the certificate that CERT gives just after, or that stands behind it in a reply WIDE;
 - the same input, cut at a random place, gives a prefix of the output; and cut there, but with other numbers of workers and
   places, a prefix again, but for the words of HOW, the lines of certificates, and answers in place of PAST or SPENT.

@@ -1,4 +1,4 @@
-"""The tools that people begin by hand: their help, and what talk.py says where it is asked for what there is not."""
+"""The scripts that people begin by hand: their help, and what talk.py says where it is asked for what there is not."""
 import os
 import pty
 import shutil
@@ -12,14 +12,17 @@ from typing import List
 
 from .serving import HOST, Server, by_bytes, commands
 
-TOOLS = Path(__file__).resolve().parents[3] / "tools"
-GATE = TOOLS.parent / ".ci" / "run"
+TOP = Path(__file__).resolve().parents[3]
+BIN = TOP / "bin"
+GATE = TOP / ".ci" / "run"
+# Where scripts stand that people begin by hand.
+FOLDERS = ("bin", "release", "tools")
 
 
 class Help(unittest.TestCase):
     def test_help(self) -> None:
         """Of each script that is begun by hand. What others import has no help."""
-        scripts = [path for path in TOOLS.rglob("*") if path.is_file() and path.suffix in ("", ".py") and "__pycache__" not in path.parts]
+        scripts = [path for folder in FOLDERS for path in (TOP / folder).rglob("*") if path.is_file() and path.suffix in ("", ".py") and "__pycache__" not in path.parts]
         begun = [path for path in scripts if path.read_text().startswith("#!") and "packing" not in path.parts]
         self.assertGreater(len(begun), 20)
         for path in begun:
@@ -45,14 +48,14 @@ class Checker(unittest.TestCase):
     """The checker that is one file."""
 
     def test_it_is_as_the_package_has_it(self) -> None:
-        said = subprocess.run([sys.executable, str(TOOLS / "build_checker.py"), "--check"], capture_output=True, text=True, timeout=300)
+        said = subprocess.run([sys.executable, str(TOP / "tools" / "build_checker.py"), "--check"], capture_output=True, text=True, timeout=300)
         self.assertEqual((said.returncode, said.stdout), (0, ""))
 
     def test_alone(self) -> None:
         """Copied into an empty folder, by a Python that looks nowhere else."""
-        examples = TOOLS.parent / "examples"
+        examples = TOP / "examples"
         with tempfile.TemporaryDirectory() as folder:
-            shutil.copy(TOOLS / "check_certificate.py", folder)
+            shutil.copy(BIN / "check_certificate.py", folder)
             line = [sys.executable, "-I", f"{folder}/check_certificate.py"]
             for path in sorted(examples.glob("*.mps")):
                 said = subprocess.run(line, input=path.read_bytes(), capture_output=True, cwd=folder, timeout=300)
@@ -63,12 +66,12 @@ class Checker(unittest.TestCase):
             self.assertIn(b"drop the first line", said.stderr)
 
     def checked(self, *words: str, stdin: str = "") -> "subprocess.CompletedProcess[str]":
-        line = [sys.executable, "-I", str(TOOLS / "check_certificate.py"), *words]
+        line = [sys.executable, "-I", str(BIN / "check_certificate.py"), *words]
         return subprocess.run(line, input=stdin, capture_output=True, text=True, timeout=300)
 
     def test_files(self) -> None:
         """A model and an answer as lpd solve prints it, where the text has no newline at its end too; or both in one file."""
-        models = TOOLS.parent / "examples" / "models"
+        models = TOP / "examples" / "models"
         text, answer = (models / "diet.mps").read_text(), (models / "diet.solved").read_text()
         with tempfile.TemporaryDirectory() as folder:
             names = [f"{folder}/{name}" for name in ("text", "answer", "certificate", "both")]
@@ -87,7 +90,7 @@ class Checker(unittest.TestCase):
             self.assertEqual(self.checked(*names[:3]).returncode, 2)
 
     def test_a_certificate_that_ends_early(self) -> None:
-        text = (TOOLS.parent / "examples" / "models" / "diet.mps").read_text()
+        text = (TOP / "examples" / "models" / "diet.mps").read_text()
         said = self.checked(stdin=text)
         self.assertEqual((said.returncode, said.stdout), (9, "ERR 14 CERT 1\n"))
         self.assertIn("there is no certificate", said.stderr)
@@ -100,7 +103,7 @@ class Talk(unittest.TestCase):
     def talk(self, script: bytes, *replies: bytes) -> "subprocess.CompletedProcess[bytes]":
         server = Server(by_bytes(*replies))
         self.addCleanup(server.join, 300)
-        return subprocess.run([sys.executable, str(TOOLS / "talk.py"), f"{HOST}:{server.port}"], input=script, capture_output=True, timeout=300)
+        return subprocess.run([sys.executable, str(BIN / "talk.py"), f"{HOST}:{server.port}"], input=script, capture_output=True, timeout=300)
 
     def test_a_script_with_numbers(self) -> None:
         said = self.talk(b"1 SOLVE\n1 QUIT\n", b"ERR 1 WORD\n", b"ERR 1 WORD\n")
@@ -116,14 +119,14 @@ class Talk(unittest.TestCase):
         server = Server(by_bytes(b"BYE\n"))
         self.addCleanup(server.join, 300)
         above, below = pty.openpty()
-        words = [sys.executable, str(TOOLS / "talk.py"), f"{HOST}:{server.port}"]
+        words = [sys.executable, str(BIN / "talk.py"), f"{HOST}:{server.port}"]
         with subprocess.Popen(words, stdin=below, stdout=subprocess.PIPE, stderr=subprocess.PIPE) as run:
             os.write(above, b"help\nQUIT\n")
             output, complaints = run.communicate(timeout=300)
         os.close(above)
         os.close(below)
         self.assertEqual((run.returncode, output), (0, b"BYE\n"))
-        protocol = (TOOLS.parent / "docs" / "PROTOCOL.md").read_text()
+        protocol = (TOP / "docs" / "PROTOCOL.md").read_text()
         for command in ("LOAD FREE", "SETRHS row value", "SETBOUND column lower upper", "QUIT"):
             self.assertIn(command.encode(), complaints)
             self.assertIn(f"`{command}`", protocol)
@@ -139,7 +142,7 @@ class Talk(unittest.TestCase):
 
         server = Server(serve)
         self.addCleanup(server.join, 300)
-        words = [sys.executable, str(TOOLS / "talk.py"), f"{HOST}:{server.port}"]
+        words = [sys.executable, str(BIN / "talk.py"), f"{HOST}:{server.port}"]
         with subprocess.Popen(words, stdin=subprocess.PIPE, stdout=subprocess.PIPE, stderr=subprocess.PIPE) as run:
             if run.stdin and run.stdout and run.stderr:
                 run.stdout.close()

@@ -79,7 +79,7 @@ def contents(checkout: Checkout, program: Path) -> Iterator[Entry]:
     manual = (TOP / "docs" / "lpd.1").read_text(encoding="utf-8")
     yield Entry("usr/bin/lpd", program.read_bytes(), runs=True)
     yield Entry("usr/share/man/man1/lpd.1.gz", small(manual))
-    yield Entry("usr/share/bash-completion/completions/lpd", (TOP / "tools" / "lpd.bash").read_bytes())
+    yield Entry("usr/share/bash-completion/completions/lpd", (TOP / "completions" / "lpd.bash").read_bytes())
     yield Entry("lib/systemd/system/lpd@.service", unit())
     yield Entry("usr/share/lintian/overrides/lpd", OVERRIDES.encode())
     yield Entry(f"{DOCUMENTS}/copyright", license_page().encode())

@@ -1,6 +1,6 @@
 #!/bin/sh
 # Installs a Debian package over this system as it is, without the kit and with what changes kept in memory, uses it and
-# removes it. tools/try_release runs it in a mount namespace of its own:
+# removes it. release/try_release runs it in a mount namespace of its own:
 #
 #     unshare -m --propagation private sh in_chroot.sh PACKAGE REPOSITORY
 #

@@ -13,7 +13,7 @@ from typing import List
 from .checkout import TOP, Checkout, Entry, Unfit, committed, entries
 
 PROJECT = TOP / "clients" / "python" / "pyproject.toml"
-WHEEL = "Wheel-Version: 1.0\nGenerator: tools/release\nRoot-Is-Purelib: true\nTag: py3-none-any\n"
+WHEEL = "Wheel-Version: 1.0\nGenerator: release/make_release\nRoot-Is-Purelib: true\nTag: py3-none-any\n"
 # What of a project's table the wheel carries over.
 CARRIED = {"name", "dynamic", "description", "requires-python", "license", "scripts"}
 

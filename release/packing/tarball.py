@@ -12,7 +12,7 @@ from .checkout import Checkout, Entry, committed, entries
 # What of the repository goes along: the documents, the manual page, the completion, the checkers and the examples.
 PLACES = [
     "README.md", "CHANGELOG.md", "CONTRIBUTING.md", "SECURITY.md", "LICENSE", "VERSION", "docs", "examples", "web", "coq",
-    "tools/lpd.bash", "tools/lpd-py", "tools/talk.py", "tools/check_certificate.py",
+    "completions/lpd.bash", "bin/lpd-py", "bin/talk.py", "bin/check_certificate.py",
     "clients/python/lpd", "clients/python/README.md",
 ]  # fmt: skip
 

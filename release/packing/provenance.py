@@ -27,13 +27,13 @@ With that kit's `rt` on the path, in a clone of the repository:
 ```
 git checkout {commit}
 .ci/run 2>&1 | tee gate.log
-tools/release --log gate.log
+release/make_release --log gate.log
 ```
 
-The program is what the kit makes of the sources, and the files should have the checksums above: `tools/release` refuses a
+The program is what the kit makes of the sources, and the files should have the checksums above: `release/make_release` refuses a
 program with other bytes than the gate's, and all times in the files are those of the commit. The gate packs them twice, and
 compares. With the kit's proofs kept on that machine this takes minutes, and else as long as the gate does.
-`tools/try_release dist` installs the files and uses them.
+`release/try_release dist` installs the files and uses them.
 
 What is proved is listed in docs/PROOFS.md, and docs/TRUST.md says what is only tested or trusted.
 """

@@ -1,4 +1,4 @@
-# Completion of lpd's command lines in bash, which begins with: source tools/lpd.bash
+# Completion of lpd's command lines in bash, which begins with: source completions/lpd.bash
 #
 # tools/check_commands.py checks that these are the commands and the options that the program takes.
 
