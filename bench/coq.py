@@ -26,7 +26,7 @@ from typing import Dict, Iterator, List, NamedTuple, Optional
 from page import ended
 from solvers import PROGRAM, TOP
 
-sys.path.insert(0, str(TOP / "tools"))
+sys.path.insert(0, str(TOP / "tests"))
 
 import check_theorems  # (a test of this repository)
 from lpd import coq, theorem

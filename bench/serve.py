@@ -30,7 +30,7 @@ import time
 from page import ended, shown
 from solvers import PROGRAM, TOP
 
-sys.path.insert(0, str(TOP / "tools"))
+sys.path.insert(0, str(TOP / "tests"))
 
 from check_serve import HOST, Server  # noqa: E402
 

@@ -1,6 +1,6 @@
 # Completion of lpd's command lines in bash, which begins with: source completions/lpd.bash
 #
-# tools/check_commands.py checks that these are the commands and the options that the program takes.
+# tests/check_commands.py checks that these are the commands and the options that the program takes.
 
 # The commands: the plain words of each, as placeholders, and then its options.
 declare -A _lpd_commands=(

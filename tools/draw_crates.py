@@ -3,7 +3,7 @@
 
     draw_crates.py
 
-It writes docs/architecture.svg and the tables in docs/ARCHITECTURE.md; tools/check_docs.py says where they are not up to date.
+It writes docs/architecture.svg and the tables in docs/ARCHITECTURE.md; tests/check_docs.py says where they are not up to date.
 The layers are those of these tables, from the top: a row with a layer's name begins it, and the rows behind it without one belong
 to it. So a new crate is put where it belongs, as a row with its name alone. What a crate is, is the first sentence of its
 src/lib.rt (of lpd, its src/main.rt), or where that is long its first part.

@@ -4,7 +4,7 @@
     list_laws.py
 
 A crate of definitions has laws: functions that do nothing, whose contracts are proved. A crate of code has public calls, whose
-contracts say their exact results. Each has a row with the first sentence of its comment. tools/check_docs.py says where the page is
+contracts say their exact results. Each has a row with the first sentence of its comment. tests/check_docs.py says where the page is
 not up to date.
 """
 import re

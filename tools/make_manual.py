@@ -4,7 +4,7 @@
     make_manual.py
 
 It takes what stands there: headings, paragraphs, lists, tables and blocks of code. The first heading has the program's name, and what it
-is. tools/check_docs.py says where the page is not up to date.
+is. tests/check_docs.py says where the page is not up to date.
 """
 import re
 from pathlib import Path

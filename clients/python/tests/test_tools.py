@@ -16,7 +16,7 @@ TOP = Path(__file__).resolve().parents[3]
 BIN = TOP / "bin"
 GATE = TOP / ".ci" / "run"
 # Where scripts stand that people begin by hand.
-FOLDERS = ("bin", "release", "tools")
+FOLDERS = ("bin", "release", "tests", "tools")
 
 
 class Help(unittest.TestCase):

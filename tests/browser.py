@@ -1,4 +1,4 @@
-"""Chromium without a window, asked over a pipe by its DevTools protocol, for tools/check_page.py.
+"""Chromium without a window, asked over a pipe by its DevTools protocol, for tests/check_page.py.
 
 No port is opened: the browser reads commands from its file 3 and writes replies to its file 4, each with a zero byte
 behind it.

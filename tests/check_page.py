@@ -7,7 +7,7 @@ It checks that
 
 - web/check.html is what tools/build_page.py makes, its security policy lets nothing out, and nothing is asked for;
 - the page says of the examples, of texts with each fault, of texts at the edges of the formats, and of the texts in
-  examples/cases.txt what `PROGRAM check` says, and what is said there;
+  tests/cases.txt what `PROGRAM check` says, and what is said there;
 - so it is of models that are made with right certificates, of these with one number changed, and of mutated texts: the
   same line and, where a condition fails, the same row or column as the checker of clients/python. Where PROGRAM says
   PAST, or numbers pass 127 bits, what that checker says counts;
@@ -234,7 +234,7 @@ class PageCheck:
 
     def check_cases(self):
         """The texts of all cases and example scripts, as the program reads them."""
-        scripts = [*(TOP / "examples").glob("*.lpd"), TOP / "examples" / "cases.txt"]
+        scripts = [*(TOP / "examples").glob("*.lpd"), TOP / "tests" / "cases.txt"]
         loads = re.compile(r"^\d+ LOAD (FREE|FIXED)\n(.*?^ENDATA(?:[ \t].*)?\n)", re.M | re.S)
         texts = [each for path in scripts for each in loads.findall(path.read_text(encoding="latin-1"))]
         mades = [Made(text, form == "FIXED", "CLASH nothing\nEND\n") for form, text in texts if "\n%" not in text]

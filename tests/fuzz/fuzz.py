@@ -18,7 +18,7 @@ is run. Those of a batch stand behind each other in one run, each in sessions of
 
 It goes on until N inputs were tried (1,000,000), or it and its children have used S seconds of processor time. The seed, by
 default the day's date, and the number of a batch make all that is in the batch. With --from FILE it puts down there how far it
-is, and begins where the file says. Each run first tries the cases of FOLDER (tools/fuzz/cases). What is found is kept in the
+is, and begins where the file says. Each run first tries the cases of FOLDER (tests/fuzz/cases). What is found is kept in the
 folder of --found, one file each with what is wrong as its first line, to be named and put among the cases. It prints the
 counts last; the status is 1 where something was found.
 """

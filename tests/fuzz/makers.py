@@ -8,7 +8,7 @@ from pathlib import Path
 from typing import Callable, Iterator, List, Tuple
 
 TOP = Path(__file__).resolve().parent.parent.parent
-sys.path.insert(0, str(TOP / "tools"))
+sys.path.insert(0, str(TOP / "tests"))
 
 import made_models  # noqa: E402
 

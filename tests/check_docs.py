@@ -8,7 +8,7 @@ name in backquotes in docs/TRUST.md and docs/HACKING.md has to be a crate or sta
 layer of the tables in docs/ARCHITECTURE.md, and names in crates.txt only crates of its layer and of those below. The picture and
 the tables there are what tools/draw_crates.py writes, docs/PROOFS.md is what tools/list_laws.py writes, and docs/lpd.1 is what
 tools/make_manual.py writes. The table of the promises in docs/TRUST.md has a row for each sentence of each promise there, and each
-clause that a row names is there. No sentence of a page has more words than tools/sentences.py allows; docs/PROOFS.md, which is made
+clause that a row names is there. No sentence of a page has more words than tests/sentences.py allows; docs/PROOFS.md, which is made
 of comments in the sources, is left out. No page is more than a tenth longer than its size below.
 It prints what is missing or too long; the status is 1 where something is.
 """

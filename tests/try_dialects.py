@@ -27,7 +27,7 @@ from lpd.dialects import DIALECTS, without_free_rows, written  # noqa: E402
 from lpd.model import Column, Model, Row  # noqa: E402
 from lpd.number_text import shown  # noqa: E402
 
-BEGIN, END = "<!-- tried by tools/try_dialects.py -->", "<!-- end of what was tried -->"
+BEGIN, END = "<!-- tried by tests/try_dialects.py -->", "<!-- end of what was tried -->"
 
 # ---- questions
 

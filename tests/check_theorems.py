@@ -7,7 +7,7 @@
    feasible point by what `lpd iis` writes, too.
 2. Of some certificates a number is changed. Coq accepts each that the checker in Python accepts, and no other.
 3. Coq's reader says of each text what the program says of it: the same line and fault, or the same model, which it prints back. The
-   texts are those of tools/try_dialects.py, mutated ones, the examples, and those that are named: files of MPS, or scripts of
+   texts are those of tests/try_dialects.py, mutated ones, the examples, and those that are named: files of MPS, or scripts of
    sessions, whose texts are tried.
 
 With --chk coqchk judges the compiled files of coq/ and of one answer too, and may name no axiom.
@@ -23,7 +23,7 @@ from pathlib import Path
 from typing import Iterator, List, NamedTuple, Optional, Tuple
 
 TOP = Path(__file__).resolve().parent.parent
-sys.path[:0] = [str(TOP / "clients" / "python"), str(TOP / "tools")]
+sys.path[:0] = [str(TOP / "clients" / "python"), str(TOP / "tests")]
 
 # The package of this repository, and what stands beside this one.
 import lpd  # noqa: E402

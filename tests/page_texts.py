@@ -1,4 +1,4 @@
-"""Texts for tools/check_page.py: each fault of a model's text, the edges of the formats, claims, and a large model."""
+"""Texts for tests/check_page.py: each fault of a model's text, the edges of the formats, claims, and a large model."""
 import random
 
 FREE = """NAME a
