@@ -8,8 +8,9 @@ name in backquotes in docs/TRUST.md and docs/HACKING.md has to be a crate or sta
 layer of the tables in docs/ARCHITECTURE.md, and names in crates.txt only crates of its layer and of those below. The picture and
 the tables there are what tools/draw_crates.py writes, docs/PROOFS.md is what tools/list_laws.py writes, and docs/lpd.1 is what
 tools/make_manual.py writes. The table of the promises in docs/TRUST.md has a row for each sentence of each promise there, and each
-clause that a row names is there. No sentence of a page has more words than tests/sentences.py allows; docs/PROOFS.md, which is made
-of comments in the sources, is left out. No page is more than a tenth longer than its size below.
+clause that a row names is there. No sentence of a page has more words than tests/sentences.py allows, with no place left out: also
+those of docs/PROOFS.md and of the tables in docs/ARCHITECTURE.md, which are made of comments in the sources. No page is more than a
+tenth longer than its size below.
 It prints what is missing or too long; the status is 1 where something is.
 """
 import re
@@ -118,8 +119,9 @@ def section(document, title):
 
 
 def numbered(document, title):
-    """The numbers and the texts of a numbered list."""
-    return re.findall(r"^(\d+)\. (.*)$", section(document, title), re.M)
+    """The numbers and the texts of a numbered list, each with what is indented below it."""
+    items = re.findall(r"^(\d+)\. (.*(?:\n+ +.*)*)", section(document, title), re.M)
+    return [(number, " ".join(text.split())) for number, text in items]
 
 
 def unpromised():
@@ -159,10 +161,9 @@ def pages():
 
 def overlong():
     """The sentences that are too long, by their first words."""
-    for page in pages():
-        if page.name != "PROOFS.md":
-            for words, sentence in too_long(page.read_text(encoding="utf-8")):
-                yield f"{page.relative_to(TOP)}: a sentence has {words} words: {sentence[:80]} .."
+    for page in (*pages(), TOP / "wrong-bodies" / "README.md"):
+        for words, sentence in too_long(page.read_text(encoding="utf-8")):
+            yield f"{page.relative_to(TOP)}: a sentence has {words} words: {sentence[:80]} .."
 
 
 def oversized():
