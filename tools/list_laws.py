@@ -19,10 +19,10 @@ PAGE = TOP / "docs" / "PROOFS.md"
 ARCHITECTURE = TOP / "docs" / "ARCHITECTURE.md"
 HEAD = """# What is proved
 
-Made by `tools/list_laws.py` from the comments in the sources. Each row is a contract that the prover checked: the clauses behind `ensures` say it exactly, in the file of the crate. [TRUST.md](TRUST.md) says which of these to believe first, what is only tested, and what is trusted.
+`tools/list_laws.py` makes this page of the comments in the sources. Each row is the first sentence on a contract that the prover checked. The exact statement stands behind `ensures`, in the sources of the crate. [TRUST.md](TRUST.md) says which of these to believe first, what is only tested, and what is trusted.
 
 - A crate `spec_x` has laws. A law is a function that does nothing; its contract is the theorem.
-- A crate `lp_x` has calls. A contract says the exact result of the call, what each error leaves, and when it comes. Each call also has no undefined behaviour, no overflow and no index out of range.
+- A crate `lp_x` has calls, its public functions. A contract says the exact result of the call. It also says when each error comes, and what holds then. Each call has no undefined behaviour, no overflow and no index out of range.
 """
 CALL = re.compile(r"^((?: *///.*\n)+)((?: *#\[.*\n)*) *pub fn (\w+)([^{;]*?ensures)?", re.M)
 
