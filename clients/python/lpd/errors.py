@@ -61,7 +61,7 @@ class Unreadable(LpdError):
 
 
 class LinkFailed(LpdError):
-    """A link to a server failed. It is closed."""
+    """A connection to a server failed. It is closed."""
 
 
 class ConnectFailed(LinkFailed):
@@ -69,7 +69,7 @@ class ConnectFailed(LinkFailed):
 
 
 class LinkClosed(LinkFailed):
-    """The link was closed before the whole reply came."""
+    """The connection was closed before the whole reply came."""
 
 
 class LinkTimeout(LinkFailed):

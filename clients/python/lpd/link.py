@@ -1,4 +1,4 @@
-"""A TCP link, which holds one session: commands and replies as in docs/PROTOCOL.md, without a session's number."""
+"""A TCP connection, which holds one session: commands and replies as in docs/PROTOCOL.md, without a session's number."""
 from __future__ import annotations
 
 import socket
@@ -16,7 +16,7 @@ TIMEOUT = 60.0
 
 
 class NotEncrypted(Exception):
-    """Why a link is not encrypted as it should be."""
+    """Why a connection is not encrypted as it should be."""
 
 
 def encrypted(link: socket.socket, host: str, ca: Optional[str]) -> socket.socket:
@@ -29,8 +29,8 @@ def encrypted(link: socket.socket, host: str, ca: Optional[str]) -> socket.socke
 
 
 class Link:
-    """A link to the server at this address. Connecting, and each reply from its command to its last byte, may take
-    `timeout` seconds; how long a host's name is looked up is the system's matter. After a fault the link is closed, since
+    """A connection to the server at this address. Connecting, and each reply from its command to its last byte, may take
+    `timeout` seconds; how long a host's name is looked up is the system's matter. After a fault the connection is closed, since
     what would come next is not the next command's reply. With `tls` it is encrypted, and the certificate of the other side has
     to be for the host, and one that the file `ca` vouches for, or without it the system."""
 
@@ -49,18 +49,18 @@ class Link:
                 self.socket = encrypted(self.socket, host, ca)
         except NotEncrypted as why:
             self.close()
-            raise ConnectFailed(f"the link to {self.peer} is not encrypted as it should be: {why}") from None
+            raise ConnectFailed(f"the connection to {self.peer} is not encrypted as it should be: {why}") from None
         except socket.timeout:
             self.close()
             raise ConnectFailed(f"{self.peer} does not answer within {timeout} seconds") from None
         except OSError as error:
             self.close()
-            raise ConnectFailed(f"there is no link to {self.peer}: {error.strerror or error}") from None
+            raise ConnectFailed(f"there is no connection to {self.peer}: {error.strerror or error}") from None
 
     def begin_session(self) -> List[str]:
         """No words stand in front of a command."""
         if self.is_taken:
-            raise ValueError("a link has one session: connect once more for another")
+            raise ValueError("a connection has one session: connect once more for another")
         self.is_taken = True
         return []
 
@@ -122,7 +122,7 @@ class Link:
     def within(self) -> socket.socket:
         """The socket, which waits for what is left of the time."""
         if self.socket is None:
-            raise LinkClosed(f"the link to {self.peer} is closed")
+            raise LinkClosed(f"the connection to {self.peer} is closed")
         left = self.deadline - time.monotonic()
         if left <= 0:
             raise self.late()
@@ -134,10 +134,10 @@ class Link:
 
     def ended(self, error: Optional[OSError] = None) -> LinkFailed:
         why = f": {error.strerror}" if error and error.strerror else ""
-        return self.failed(LinkClosed(f"{self.peer} closed the link before it replied{why}"))
+        return self.failed(LinkClosed(f"{self.peer} closed the connection before it replied{why}"))
 
     def failed(self, fault: LinkFailed) -> LinkFailed:
-        """The fault, after which the link is closed and has nothing more to read."""
+        """The fault, after which the connection is closed and has nothing more to read."""
         self.close()
         self.lines.clear()
         self.rest = b""

@@ -118,8 +118,8 @@ class Basis:
 
 @dataclass(frozen=True)
 class Fell:
-    """The basis at this place was tried and given up, and the solve began anew. The basis is SINGULAR in this model or UNFIT for
-    it, a number was PAST 127 bits on the way from it, or the budget was SPENT on the way."""
+    """The basis at this place was tried and given up, and the solve began anew. The basis is SINGULAR in this model or UNFIT
+    (neither primal nor dual feasible), a number was PAST 127 bits on the way from it, or the budget was SPENT on the way."""
 
     place: int
     why: str

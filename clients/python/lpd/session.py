@@ -133,7 +133,7 @@ class Session:
             self.close()
 
     def close(self) -> None:
-        """Resets the session, whose number is free again; ends a program of its own, or a link."""
+        """Resets the session, whose number is free again; ends a program of its own, or a connection."""
         if self.is_open:
             self.is_open = False
             try:
@@ -314,7 +314,7 @@ def encoded(lines: Sequence[str]) -> bytes:
 
 
 def connect(host: str, port: int, timeout: float = 60.0, tls: bool = False, ca: Optional[str] = None) -> Session:
-    """A session of the server at this address, over a link that ends with it. Connecting, and each reply, may take
+    """A session of the server at this address, over a connection that ends with it. Connecting, and each reply, may take
     `timeout` seconds. With `tls` the link is encrypted, and the certificate of the other side is one that the file `ca`
     vouches for, or without it the system."""
     from .link import Link  # here, since most sessions are of a program of this machine

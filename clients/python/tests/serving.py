@@ -1,4 +1,4 @@
-"""Servers on 127.0.0.1 for tests. Each has a thread and a port of its own, serves one link, and ends with it."""
+"""Servers on 127.0.0.1 for tests. Each has a thread and a port of its own, serves one connection, and ends with it."""
 import socket
 import threading
 from typing import Callable, Iterator, List
@@ -13,7 +13,7 @@ Serve = Callable[[socket.socket], object]
 
 
 class Server(threading.Thread):
-    """Serves the first link that comes within some seconds."""
+    """Serves the first connection that comes within some seconds."""
 
     def __init__(self, serve: Serve) -> None:
         super().__init__(daemon=True)
@@ -42,7 +42,7 @@ def body_ends(words: List[str], line: str) -> bool:
 
 
 def commands(link: socket.socket) -> Iterator[List[str]]:
-    """The lines of each command with its body, until the client closes the link."""
+    """The lines of each command with its body, until the client closes the connection."""
     with link.makefile("rb") as source:
         lines = (line.decode("latin-1").rstrip("\n") for line in source)
         for line in lines:
@@ -70,7 +70,7 @@ def by_program(link: socket.socket) -> None:
 
 
 def by_bytes(*replies: bytes, stays: bool = False) -> Serve:
-    """Sends these bytes, some for each command, and then closes the link, or waits until the client does."""
+    """Sends these bytes, some for each command, and then closes the connection, or waits until the client does."""
 
     def serve(link: socket.socket) -> None:
         asked = commands(link)

@@ -1,4 +1,4 @@
-"""Sessions over links: the replies of test_session without numbers, bad peers, and the program behind a server."""
+"""Sessions over connections: the replies of test_session without numbers, bad peers, and the program behind a server."""
 import select
 import shutil
 import socket
@@ -64,7 +64,7 @@ class BadPeers(Linked):
     def test_nobody_listens(self) -> None:
         with socket.create_server((HOST, 0)) as listener:
             port = listener.getsockname()[1]
-        with self.assertRaisesRegex(lpd.ConnectFailed, f"there is no link to {HOST}:{port}: Connection refused"):
+        with self.assertRaisesRegex(lpd.ConnectFailed, f"there is no connection to {HOST}:{port}: Connection refused"):
             lpd.connect(HOST, port)
 
     def test_a_connect_that_is_not_answered(self) -> None:
@@ -76,7 +76,7 @@ class BadPeers(Linked):
         for reply in (b"", b"CERT 3", b"CERT 3\n", b"CERT 3\nOPTIMAL\nx x", b"CERT 3\nOPTIMAL\nx x 1\n"):
             with self.subTest(reply):
                 session = self.link(by_bytes(reply))
-                with self.assertRaisesRegex(lpd.LinkClosed, "closed the link before it replied"):
+                with self.assertRaisesRegex(lpd.LinkClosed, "closed the connection before it replied"):
                     session.certificate()
                 with self.assertRaisesRegex(lpd.LinkClosed, "is closed"):
                     session.solve()
@@ -142,7 +142,7 @@ class BadPeers(Linked):
             by_bytes(b"OPTIMAL 1\n")(link)
             time.sleep(0.1)
             link.sendall(b"OPTIMAL 2\n")
-            link.recv(1)  # until the client closes the link
+            link.recv(1)  # until the client closes the connection
 
         session = self.link(serve)
         self.assertEqual(session.solve(), lpd.Optimal(Fraction(1)))
