@@ -6,9 +6,9 @@
 It starts two servers of four workers at the ports that examples/serve/haproxy.cfg names, and HAProxy with that file and a
 certificate that openssl makes. A server that has ended is started anew a tenth of a second later, as the unit lpd@.service
 has it. N (8) clients connect over TLS, load a model of 30 rows, change and solve it N (20) times, quit and begin anew, for
-S (10) seconds. It is done with servers of 1,000 links a worker; with servers of 25 and of 40, which end again and again;
-with both of 25, which end at about the same time; and with the first of the two killed by SIGKILL at a third and at two
-thirds of the time.
+S (10) seconds. It is done with servers of 1,000 connections a worker; with servers of 25 and of 40, which end again and
+again; with both of 25, which end at about the same time; and with the first of the two killed by SIGKILL at a third and at
+two thirds of the time.
 
 A session that did not end with BYE is tried again a tenth of a second later. 'Waited' is the longest time from the first
 try of a session to its BYE. It needs haproxy and openssl on the path, and the ports 7000, 7007, 7008 and 7443 of

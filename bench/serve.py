@@ -1,15 +1,17 @@
 #!/usr/bin/env python3
-"""Measures `lpd serve` on 127.0.0.1: small solves over one link and over more at once, and many links one after the other.
+"""Measures `lpd serve` on 127.0.0.1: small solves over one connection and over more at once, and many connections one after
+the other.
 
     serve.py [--program PROGRAM] [--seconds S] [--runs N] [--at-once N] [--workers K] [--each C] [--waves N,..]
         [--write PAGE]
 
-For the solves each client is a process with one link, which has a worker of its own. It loads a model, and then for S (2)
-seconds changes a right side and solves, two commands, each sent when the reply to the one before has come. It is measured
-with one client and with N (16), for a model of 3 rows and for one of 30, and the best of some runs (5) counts.
+For the solves each client is a process with one connection, which has a worker of its own. It loads a model, and then for
+S (2) seconds changes a right side and solves, two commands, each sent when the reply to the one before has come. It is
+measured with one client and with N (16), for a model of 3 rows and for one of 30, and the best of some runs (5) counts.
 
-For the links the server has K (16) workers of C (1,000) links each, which come in waves of N (100 and then 200) at once:
-each connects, loads a model, solves it and quits. The server's memory is read before the first link and before the last.
+For the connections the server has K (16) workers of C (1,000) connections each, which come in waves of N (100 and then
+200) at once: each connects, loads a model, solves it and quits. The server's memory is read before the first connection
+and before the last.
 
 Times are of the wall, and the clients have a part in them. With --write the tables take the place of what stands between
 the two marks of PAGE.
@@ -61,7 +63,7 @@ def round_trip(link, command):
     while not reply.endswith(b"\n"):
         piece = link.recv(4096)
         if not piece:
-            raise ConnectionError("the link ended before the reply came")
+            raise ConnectionError("the connection ended before the reply came")
         reply += piece
     return reply
 

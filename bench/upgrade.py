@@ -4,10 +4,10 @@
     upgrade.py [--program PROGRAM] [--clients N] [--over SECONDS] [--solves N] [--write PAGE]
 
 It starts two servers of four workers at the ports that examples/serve/haproxy.cfg names, and HAProxy with that file. N (1,000)
-clients connect, at once or evenly over some SECONDS, from as many addresses of the loopback as the file's limit of links asks for;
-each loads a model of 3 rows, changes and solves it N (20) times, a hundredth of a second apart, and quits. While they come, wait
-and are served, examples/serve/renew.py starts one server anew and then the other, from another path. Then the same is done without
-renew.py: both servers are killed and started anew, as by an operator in a hurry.
+clients connect, at once or evenly over some SECONDS, from as many addresses of the loopback as the file's limit of connections
+asks for; each loads a model of 3 rows, changes and solves it N (20) times, a hundredth of a second apart, and quits. While they
+come, wait and are served, examples/serve/renew.py starts one server anew and then the other, from another path. Then the same is
+done without renew.py: both servers are killed and started anew, as by an operator in a hurry.
 
 A client does not try again. 'Refused' are those that got no reply at all, 'broken off' those that got one and no BYE. The
 clients are one process, and HAProxy and the servers have the rest of the machine. It needs haproxy on the path, and the ports
@@ -74,7 +74,7 @@ async def ask(reader, writer, command):
     await writer.drain()
     reply = await asyncio.wait_for(reader.readline(), PATIENCE)
     if not reply.endswith(b"\n"):
-        raise ConnectionError("the link ended before the reply")
+        raise ConnectionError("the connection ended before the reply")
     return reply
 
 

@@ -1,18 +1,18 @@
 #!/usr/bin/env python3
-"""Talks with `lpd serve`: sends the commands of one session over a link, and prints the replies.
+"""Talks with `lpd serve`: sends the commands of one session over a connection, and prints the replies.
 
     talk.py HOST:PORT [--timeout SECONDS] [--ca FILE] < SCRIPT
 
-The script has the commands of docs/PROTOCOL.md without a session's number. Each is sent, a LOAD or a CHECK with its body,
-and its whole reply is printed before the next one is sent. With --ca the link is encrypted, and the certificate of the
-other side has to be one that FILE vouches for. Connecting, and each reply, may take SECONDS (60).
+The script has the commands of docs/PROTOCOL.md without a session's number. Each is sent, a LOAD or a CHECK with its body, and
+its whole reply is printed before the next one is sent. With --ca the connection is encrypted, and the certificate of the other
+side has to be one that FILE vouches for. Connecting, and each reply, may take SECONDS (60).
 
 Where a command is refused as unknown, a line on standard error says where the commands are described, and for a script with
 numbers of sessions how these come out. On a terminal it begins with a line of the commands, and HELP lists all of them.
 
-The status is 0 after BYE, and where the script ended and each command has its reply. It is 1 where there is no link, where
-the link ended early, and where a reply did not come in time; a line on standard error says which. It is 141 where nobody reads
-the replies any more, and 130 after an interrupt.
+The status is 0 after BYE, and where the script ended and each command has its reply. It is 1 where there is no connection,
+where the connection ended early, and where a reply did not come in time; a line on standard error says which. It is 141 where
+nobody reads the replies any more, and 130 after an interrupt.
 """
 from __future__ import annotations
 
@@ -31,7 +31,7 @@ SECONDS = 60.0
 LONGEST = 16384
 PIECE = 2**16
 LOADS = ([b"LOAD", b"FREE"], [b"LOAD", b"FIXED"])
-BANNER = """talk.py: one session on this link. LOAD FREE, and then the lines of a model until ENDATA; SOLVE; CERT; HOW; SETRHS ROW VALUE;
+BANNER = """talk.py: one session on this connection. LOAD FREE, and then the lines of a model until ENDATA; SOLVE; CERT; HOW; SETRHS ROW VALUE;
 talk.py: WRITE FREE; QUIT, without a session's number. HELP lists all commands; docs/PROTOCOL.md has their replies."""
 HELP = """LOAD FREE, LOAD FIXED   loads the model whose text follows, up to and with ENDATA
 SOLVE                   solves it, within BUDGET n; WIDE does in numbers of any width, and writes the certificate
@@ -43,16 +43,16 @@ SETBOUND column lower upper, SENSE MIN|MAX
 ADDROW name L|G|E|N rhs [range], ADDCOL name cost [row value ..], DELROW name, DELCOL name
 BUDGET n, QUIT"""
 UNKNOWN = "talk.py: docs/PROTOCOL.md describes the commands, of which this is none"
-NUMBERED = "talk.py: a link has one session, and its commands have no number: sed 's/^[0-9][0-9]* //' takes it off the script's lines"
+NUMBERED = "talk.py: a connection has one session, and its commands have no number: sed 's/^[0-9][0-9]* //' takes it off the script's lines"
 FOLLOWED = re.compile(rb"(?:TEXT|CERT|WIDE) (\d{1,9})\n")
 
 
 class Ended(Exception):
-    """There is no link any more, or no reply in time."""
+    """There is no connection any more, or no reply in time."""
 
 
 class Link:
-    """One session. As a context manager it closes the link."""
+    """One session. As a context manager it closes the connection."""
 
     def __init__(self, host: str, port: int, seconds: float = SECONDS, ca: Optional[str] = None, source: str = "") -> None:
         self.seconds, self.end, self.rest = seconds, time.monotonic() + seconds, b""
@@ -62,7 +62,7 @@ class Link:
             if ca:
                 self.socket = ssl.create_default_context(cafile=ca).wrap_socket(self.socket, server_hostname=host)
         except OSError as error:
-            raise Ended(f"there is no link to {host}:{port}: {error}") from None
+            raise Ended(f"there is no connection to {host}:{port}: {error}") from None
 
     def __enter__(self) -> Link:
         return self
@@ -77,7 +77,7 @@ class Link:
             self.socket.settimeout(self.seconds)
             self.socket.sendall(command)
         except OSError as error:
-            raise Ended(f"the link ended before a command was sent: {error}") from None
+            raise Ended(f"the connection ended before a command was sent: {error}") from None
 
     def close_asks(self) -> None:
         """Says that no more commands come."""
@@ -87,7 +87,7 @@ class Link:
             pass  # the link has ended already, as the next read will find
 
     def line(self) -> bytes:
-        """The next line that comes, or what came of it before the link ended."""
+        """The next line that comes, or what came of it before the connection ended."""
         while b"\n" not in self.rest:
             try:
                 self.socket.settimeout(max(0.001, self.end - time.monotonic()))
@@ -95,7 +95,7 @@ class Link:
             except socket.timeout:
                 raise Ended(f"no whole reply came within {self.seconds:g} seconds") from None
             except OSError as error:
-                raise Ended(f"the link ended before the reply came: {error}") from None
+                raise Ended(f"the connection ended before the reply came: {error}") from None
             if not piece:
                 line, self.rest = self.rest, b""
                 return line
@@ -113,7 +113,7 @@ class Link:
     def whole_line(self) -> bytes:
         line = self.line()
         if not line.endswith(b"\n"):
-            raise Ended("the link ended before the reply came")
+            raise Ended("the connection ended before the reply came")
         return line
 
     def ask(self, command: bytes) -> bytes:

@@ -4,12 +4,13 @@
     check_proxy.py [--clients N] PROGRAM
 
 The file is taken as it is, but for its ports, in whose place free ones stand, and its certificate, which is left out. N clients
-(12) connect at once, from as many addresses of the loopback as the file's limit of links asks for, and have sessions all the time,
-each of which thinks between its commands; examples/serve/renew.py starts one server anew, and then the other. It checks that
+(12) connect at once, from as many addresses of the loopback as the file's limit of connections asks for, and have sessions all
+the time, each of which thinks between its commands; examples/serve/renew.py starts one server anew, and then the other. It checks
+that
 
 - HAProxy takes the file, and its stats socket is for its user alone;
 - each session of each client ends with BYE, and each server was started anew;
-- the metrics that docs/SERVING.md names are those that HAProxy has, and one address gets no more links than it may.
+- the metrics that docs/SERVING.md names are those that HAProxy has, and one address gets no more connections than it may.
 
 It prints what is wrong, and its status is 1 where something is. It takes some ten seconds; with --clients, which prints the counts
 too, as long as it takes eight workers to serve each client.

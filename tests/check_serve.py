@@ -1,20 +1,21 @@
 #!/usr/bin/env python3
-"""Has lpd serve links on 127.0.0.1, and checks what good and bad peers see of it.
+"""Has lpd serve connections on 127.0.0.1, and checks what good and bad peers see of it.
 
     check_serve.py PROGRAM [WORD ..]
 
-It starts 'PROGRAM WORD .. serve' some times, each time for as many links as it makes itself, and checks that
+It starts 'PROGRAM WORD .. serve' some times, each time for as many connections as it makes itself, and checks that
 
-- two workers serve links at once, which wait for each other's replies; each reply comes before the next command is sent;
-  and what one link has published another one finds;
-- a bad peer (one that closes within a line, a body or a reply, sends too much or no text, never reads, or resets) ends
-  its own link alone: another link is served meanwhile, a later one finds the same basis, and the server goes on;
+- two workers serve connections at once, which wait for each other's replies; each reply comes before the next command is
+  sent; and what one connection has published another one finds;
+- a bad peer (one that closes within a line, a body or a reply, sends too much or no text, never reads, or resets) ends its
+  own connection alone: another connection is served meanwhile, a later one finds the same basis, and the server goes on;
 - a client that sends more behind its QUIT, or too much, gets the replies that it has not read, and no reset;
-- at its end the server writes how each link ended, and another one can listen at the same address at once;
-- a server that examples/serve/stop.py has end serves the link that is open to its end;
+- at its end the server writes how each connection ended, and another one can listen at the same address at once;
+- a server that examples/serve/stop.py has end serves the connection that is open to its end;
 - one that examples/serve/orderly.py runs ends in order at SIGTERM, whether or not that can take its sockets;
 - with orderly.py and without, it serves on where nobody reads its lines, and a later line says how many were dropped;
-- as each link ends, it says so in a line on standard error, with the same word, the link's peer and what it took;
+- as each connection ends, it says so in a line on standard error, with the same word, the connection's peer and what it
+  took;
 - a server whose standard error takes nothing serves as another does;
 - where it cannot listen or accept, where its words are no command line, and where its output cannot be written, its status
   says so, and standard error why it cannot listen.

@@ -1,15 +1,15 @@
 #!/usr/bin/env python3
-"""Has a server of lpd started anew behind HAProxy, and breaks off no link.
+"""Has a server of lpd started anew behind HAProxy, and breaks off no connection.
 
     renew.py [--seconds S] SOCKET BACKEND/SERVER COMMAND ..
 
-It tells HAProxy, at its stats socket, to send the server no more links; waits until those that it has have ended; runs COMMAND,
-which has to start the server anew; waits until HAProxy's check finds it; and has links sent to it again:
+It tells HAProxy, at its stats socket, to send the server no more connections; waits until those that it has have ended; runs
+COMMAND, which has to start the server anew; waits until HAProxy's check finds it; and has connections sent to it again:
 
     renew.py haproxy.sock servers/one systemctl restart lpd@7007
 
-Meanwhile links go to the other servers, or wait in HAProxy's queue. Where the links have not ended after S (3600) seconds,
-nothing is started anew, and the server gets links again. The status is that of COMMAND, or 1.
+Meanwhile connections go to the other servers, or wait in HAProxy's queue. Where the connections have not ended after S (3600)
+seconds, nothing is started anew, and the server gets connections again. The status is that of COMMAND, or 1.
 """
 from __future__ import annotations
 
@@ -49,7 +49,7 @@ class Proxy:
             raise Failed(f"HAProxy says: {said}")
 
     def give_links(self) -> None:
-        """Has links sent to the server again. HAProxy 2.6 gives a server that was drained none of those that wait, until one
+        """Has connections sent to the server again. HAProxy 2.6 gives a server that was drained none of those that wait, until one
         more comes; to a server that comes out of maintenance it gives them at once."""
         self.set_state("maint")
         self.set_state("ready")
@@ -84,7 +84,7 @@ def renew(proxy: Proxy, command: "list[str]", seconds: float) -> int:
     proxy.set_state("drain")
     try:
         if not wait(proxy.is_empty, seconds):
-            raise Failed(f"{proxy.server} still has links after {seconds:g} seconds")
+            raise Failed(f"{proxy.server} still has connections after {seconds:g} seconds")
         status = subprocess.run(command).returncode
         time.sleep(CHECKED)
         if not wait(proxy.is_found, STARTS):

@@ -1,11 +1,12 @@
 #!/usr/bin/env python3
-"""Has a server of lpd end by itself, after the links that are open.
+"""Has a server of lpd end by itself, after the connections that are open.
 
     stop.py [--seconds S] HOST:PORT
 
-A server ends once each of its workers has served its links. So this makes links that say QUIT alone, one after the other, until
-the server takes no more. A link that is open keeps its worker, and is served to its end; those that come meanwhile are served
-too. Then the server writes the lines of all links, with status 0. Where it has not ended after S seconds (60), the status is 1.
+A server ends once each of its workers has served its connections. So this makes connections that say QUIT alone, one after the
+other, until the server takes no more. A connection that is open keeps its worker, and is served to its end; those that come
+meanwhile are served too. Then the server writes the lines of all connections, with status 0. Where it has not ended after S
+seconds (60), the status is 1.
 """
 from __future__ import annotations
 
@@ -17,7 +18,7 @@ from typing import Tuple
 
 
 def quits(address: Tuple[str, int], end: float) -> None:
-    """One link, from its start to its end. Where no worker is free it waits."""
+    """One connection, from its start to its end. Where no worker is free it waits."""
     with socket.create_connection(address, max(0.01, end - time.monotonic())) as link:
         link.sendall(b"QUIT\n")
         while link.recv(4096):
@@ -25,7 +26,7 @@ def quits(address: Tuple[str, int], end: float) -> None:
 
 
 def has_ended(address: Tuple[str, int], seconds: float) -> bool:
-    """Whether the server takes no more links within so many seconds."""
+    """Whether the server takes no more connections within so many seconds."""
     end = time.monotonic() + seconds
     while time.monotonic() < end:
         try:

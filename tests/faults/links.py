@@ -1,16 +1,17 @@
 #!/usr/bin/env python3
-"""Has lpd serve one link while one of the server's requests for memory is refused, each in turn, and checks how both end.
+"""Has lpd serve one connection while one of the server's requests for memory is refused, each in turn, and checks how both end.
 
     links.py PROGRAM
 
-- The word of the link is MEMORY, and its client has got the first of the replies, each whole as without a fault, and no other.
-- Or one command has the reply MEMORY, the link goes on, and its word is DONE.
+- The word of the connection is MEMORY, and its client has got the first of the replies, each whole as without a fault, and no
+  other.
+- Or one command has the reply MEMORY, the connection goes on, and its word is DONE.
 - Or the server has no memory for itself: it says so, with status 5, and the client has got the first of the replies.
 - Or nothing changes.
 
 Where the server ends with status 0, the line on standard error has the word that standard output has. It builds refuse_memory.c
 beside it, as sweep.py does. It prints each fault after which something is otherwise, and the counts last; the status is 0 where
-there is none, and links have ended by MEMORY.
+there is none, and connections have ended by MEMORY.
 """
 from __future__ import annotations
 
@@ -49,7 +50,7 @@ def served(command: List[str]) -> Seen:
             with server.link() as link:
                 replies += map(link.ask, COMMANDS)
         except Ended:
-            pass  # the link ended before a reply: its word says why
+            pass  # the connection ended before a reply: its word says why
         status = server.program.wait(SECONDS)
         server.output.seek(0)
         words = [line.split()[-1] for line in server.output.read().decode("latin-1").splitlines()]

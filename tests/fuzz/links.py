@@ -4,24 +4,24 @@
     links.py PROGRAM [--seconds S] [--clients N] [--every S] [--each C] [--seed WORD] [--stay]
 
 Round after round N clients (1,000) connect at once to 'PROGRAM serve' with 16 workers, until S seconds (30) are over; rounds
-begin at least --every seconds (0) after each other. Each worker serves C links (1,000); when a server has served all of its
-links, the next one is started.
+begin at least --every seconds (0) after each other. Each worker serves C connections (1,000); when a server has served all of its
+connections, the next one is started.
 
-With --stay the N clients are there all the time, and not in rounds, before one server: a client that ends comes again at once. Its
-links are spread over the S seconds: a good client pauses between its commands, of which it has more, or behind the first of them,
-and a bad one stays as long in the midst of what it does.
+With --stay the N clients are there all the time, and not in rounds, before one server: a client that ends comes again at once.
+Its connections are spread over the S seconds: a good client pauses between its commands, of which it has more, or behind the
+first of them, and a bad one stays as long in the midst of what it does.
 
 - Good clients ask a session of fuzz.py's makers, command by command, or all at once. Some send more behind their QUIT. Their
-  replies are those of 'PROGRAM run' to the same session alone, but for the words of HOW, the lines of CERT, and answers in
-  place of PAST or SPENT; each answer is accepted by the checker in Python. Then the link ends, without a reset, with DONE.
-- Bad ones are silent, are cut off, flood the server, send more than 2^26 bytes, reset their link in the midst of a reply,
-  send a byte at a time, speak HTTP or TLS, or send bytes at random. Their links end by any word but MEMORY.
+  replies are those of 'PROGRAM run' to the same session alone, but for the words of HOW, the lines of CERT, and answers in place
+  of PAST or SPENT; each answer is accepted by the checker in Python. Then the connection ends, without a reset, with DONE.
+- Bad ones are silent, are cut off, flood the server, send more than 2^26 bytes, reset their connection in the midst of a reply,
+  send a byte at a time, speak HTTP or TLS, or send bytes at random. Their connections end by any word but MEMORY.
 - At the end the server has as many descriptors as at the start, never more than one for each worker besides, and hardly more
   memory than in the middle. (At first each worker's share grows to what the largest sessions take.)
 
-A client that gets no connection, or whose link is reset and was none that the server had, as the system does where its queue is
-full for long, is tried again, and counted. It tells of each round, or of each sixtieth of the time, on standard error, prints two
-lines of counts for each server, and has status 1 where something is wrong.
+A client that gets no connection, or whose connection is reset and was none that the server had, as the system does where its
+queue is full for long, is tried again, and counted. It tells of each round, or of each sixtieth of the time, on standard error,
+prints two lines of counts for each server, and has status 1 where something is wrong.
 """
 from __future__ import annotations
 
@@ -499,7 +499,7 @@ class Served:
             ends.setdefault(peer, set()).add(word)
         if status != 0 or len(lines) != self.links or not set(words) <= WORDS:
             self.wrong.append(f"the server ends with status {status}, {len(lines)} lines and the words {dict(words)}")
-        self.wrong += [f"a good link ended with {ends.get(name)}" for name in self.good if "DONE" not in ends.get(name, set())]
+        self.wrong += [f"a good connection ended with {ends.get(name)}" for name in self.good if "DONE" not in ends.get(name, set())]
         # Where the system's queue was full for long, the server has never had the link.
         had = [name for name in self.reset if name in ends and self.made[name] == 1]
         self.wrong += [f"a good link was reset, and ended with {ends[name]}" for name in had]

@@ -108,7 +108,7 @@ class Talk(unittest.TestCase):
     def test_a_script_with_numbers(self) -> None:
         said = self.talk(b"1 SOLVE\n1 QUIT\n", b"ERR 1 WORD\n", b"ERR 1 WORD\n")
         self.assertEqual(said.stdout, b"ERR 1 WORD\nERR 1 WORD\n")
-        self.assertEqual(said.stderr.count(b"a link has one session, and its commands have no number: sed"), 1)
+        self.assertEqual(said.stderr.count(b"a connection has one session, and its commands have no number: sed"), 1)
 
     def test_a_command_that_there_is_not(self) -> None:
         said = self.talk(b"SOLV\n", b"ERR 1 WORD\n")
