@@ -31,8 +31,8 @@ use Rattle.lp_row_runs.specs.declared.phases.State.{State}
 use Rattle.lp_row_runs.specs.declared.phases.RowEnd.{RowEnd}
 use Rattle.lp_row_runs.specs.declared.based.Based.{Based}
 use Rattle.lp_row_runs.specs.declared.based.Based.TheVariants as based
-use Rattle.lp_row_runs.specs.declared.warm_run.Begun.{Begun}
-use Rattle.lp_row_runs.specs.declared.warm_run.Begun.TheVariants as begun
+use Rattle.lp_row_runs.specs.declared.start.Begun.{Begun}
+use Rattle.lp_row_runs.specs.declared.start.Begun.TheVariants as begun
 use Rattle.lp_row_runs.specs.Rows.{IfRows, ShowsStart}
 use Rattle.lp_row_runs.specs.Warm.{EndsFromBasis, StandsAtBasis, BeginsAtBasis, BeginsReady}
 use Rattle.lp_row_runs.proofs.Fitted.{basis_reached}

@@ -23,17 +23,15 @@ use Rattle.lp_rows.specs.Shows.{IsReached}
 use Rattle.lp_rows.specs.Ends.{AllFit}
 use Rattle.lp_rows.proofs.Converted.{if_some}
 use Rattle.lp_row_runs.specs.Phases.{row_end, row_end_in, HasCosts, IsReady, IsLeft, PausesWith, StaysReady}
-use Rattle.lp_row_runs.specs.Cold.{start_run, EndsAs, EndsAsStated, IsFitEnd, IsNarrowEnd, over_end, LeavesAt}
+use Rattle.lp_row_runs.specs.Cold.{start_run, EndsAs, EndsAsStated, IsFitEnd, IsNarrowEnd, over_end}
 use Rattle.lp_row_runs.specs.declared.phases.State.{State}
 use Rattle.lp_row_runs.specs.declared.phases.RowEnd.{RowEnd}
 use Rattle.lp_row_runs.specs.declared.phases.PhasesPause.{PhasesPause}
 use Rattle.lp_row_runs.specs.declared.phases.PhasesPause.TheVariants as pause
-use Rattle.lp_row_runs.specs.declared.cold_run.Left.{Left}
-use Rattle.lp_row_runs.specs.declared.cold_run.Left.TheVariants as left
 use Rattle.lp_row_runs.proofs.Reached.{start_reached, start_without}
 use Rattle.lp_row_runs.proofs.Ended.{same_at}
 
--- ---- what pauses and widths leave
+-- ---- what a pause leaves
 module _ {T : Type 0} (value : T → ℕ) (budget : ℕ) (f : Form) (whole : Result PhasesEnd (RunStop ℚ)) where
   module _ {N : Type 0} (of : ℚ → N) where
     pub pause_ended : (s : State T) (p : PhasesPause N) (e : RowEnd N) → p ≡ pause.Ended e →
@@ -43,18 +41,6 @@ module _ {T : Type 0} (value : T → ℕ) (budget : ℕ) (f : Form) (whole : Res
     pub pause_left : (s : State T) (p : PhasesPause N) → p ≡ pause.Narrow → PausesWith of value budget f whole s p →
         IsLeft value budget f whole s
     pause_left s p h k = subst (PausesWith of value budget f whole s) h k
-
-    pub width_ended : (l : Left T N) (e : RowEnd N) → l ≡ left.Ended e → LeavesAt of value budget f whole l →
-        row_end_in of whole ≡ Ok e
-    width_ended l e h k = subst (LeavesAt of value budget f whole) h k
-
-    pub width_left : (l : Left T N) (s : State T) → l ≡ left.Wider s → LeavesAt of value budget f whole l →
-        IsLeft value budget f whole s
-    width_left l s h k = subst (LeavesAt of value budget f whole) h k
-
-  pub then_leaves : {N E : Type 0} (of : ℚ → N) (mid : Result PhasesEnd (RunStop ℚ)) (result : Result (Left T N) E) →
-      whole ≡ mid → IfOk result (LeavesAt of value budget f mid) → IfOk result (LeavesAt of value budget f whole)
-  then_leaves of mid result e k = subst (λ run. IfOk result (LeavesAt of value budget f run)) (sym e) k
 
 pub pause_ready : {N T : Type 0} (value : T → ℕ) (f : Form) (s : State T) (p : PhasesPause N) → p ≡ pause.Narrow →
     StaysReady value f s p → IsReady value f s

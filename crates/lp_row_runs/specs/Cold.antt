@@ -1,4 +1,4 @@
--- What a width leaves, and what the whole run ends with.
+-- What the whole run ends with.
 use Rattle.std.specs.Prelude.{◌≡◌, ℕ, Option, None, IfSome, Result, Ok}
 use Rattle.spec_exact.specs.Fraction.{ℚ}
 use Rattle.spec_check.specs.Certificate.{IsNarrowCertificate}
@@ -9,10 +9,8 @@ use Rattle.spec_simplex.specs.Tableau.{Tableau}
 use Rattle.spec_simplex.specs.Phases.{PhasesEnd, phase_one}
 use Rattle.spec_factor.specs.Over.{OverEnd, answer_in}
 use Rattle.lp_rows.specs.Ends.{AllFit}
-use Rattle.lp_row_runs.specs.Phases.{after_one, row_end_in, IsReady, IsLeft}
+use Rattle.lp_row_runs.specs.Phases.{after_one, row_end_in}
 use Rattle.lp_row_runs.specs.declared.phases.RowEnd.{RowEnd}
-use Rattle.lp_row_runs.specs.declared.cold_run.Left.{Left}
-use Rattle.lp_row_runs.specs.declared.cold_run.Left.TheVariants.{Ended, Wider, GaveUp}
 
 -- both phases from the tableau that a form begins with
 abbrev pub start_run : ℕ → Form → Tableau → Result PhasesEnd (RunStop ℚ)
@@ -36,14 +34,3 @@ EndsAsStated whole result = IfSome result (λ e. answer_in whole ≡ Ok (over_en
 -- the numbers of a certificate are of at most 127 bits
 abbrev pub IsNarrowEnd : Option (RowEnd ℚ) → Type 0
 IsNarrowEnd result = IfSome result (λ e. IsNarrowCertificate e.certificate)
-
--- both phases end so, or the wider rows are what is left
-abbrev pub LeavesAt : {N T : Type 0} → (ℚ → N) → (T → ℕ) → ℕ → Form → Result PhasesEnd (RunStop ℚ) → Left T N → Type 0
-LeavesAt of value budget f whole (Ended e) = row_end_in of whole ≡ Ok e
-LeavesAt of value budget f whole (Wider s) = IsLeft value budget f whole s
-LeavesAt of value budget f whole GaveUp = Unit {0}
-
-abbrev pub LeavesReady : {N T : Type 0} → (N → Type 0) → (T → ℕ) → Form → Left T N → Type 0
-LeavesReady fits value f (Ended e) = AllFit fits e.certificate
-LeavesReady fits value f (Wider s) = IsReady value f s
-LeavesReady fits value f GaveUp = Unit {0}

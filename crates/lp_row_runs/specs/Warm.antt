@@ -13,8 +13,8 @@ use Rattle.lp_row_runs.specs.Phases.{IsReady}
 use Rattle.lp_row_runs.specs.declared.phases.Phase.TheVariants.{Two}
 use Rattle.lp_row_runs.specs.declared.phases.State.{State}
 use Rattle.lp_row_runs.specs.declared.phases.RowEnd.{RowEnd}
-use Rattle.lp_row_runs.specs.declared.warm_run.Begun.{Begun}
-use Rattle.lp_row_runs.specs.declared.warm_run.Begun.TheVariants.{Ready, Narrow, Stopped}
+use Rattle.lp_row_runs.specs.declared.start.Begun.{Begun}
+use Rattle.lp_row_runs.specs.declared.start.Begun.TheVariants.{Ready, Narrow, Stopped}
 
 -- the end is that of the stated run from a basis, with no limit on numbers
 pub record EndsFromBasis (budget : ℕ) (f : Form) (from : List Status) (e : RowEnd ℚ) : Type 0 where

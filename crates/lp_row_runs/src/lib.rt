@@ -5,23 +5,22 @@
 //! | Item | What it is | Where |
 //! |---|---|---|
 //! | `cold_over_rows`, `wide_cold`, `RowEnd` | the run of a form within a budget, with numbers of 127 bits or of any width in the certificate, and what it ends with | src/cold_run, src/phases |
+//! | `wide_warm` | the run from a basis of a form within a budget | src/warm_run |
+//! | `AllWidths`, `Widths` | the widths of words, and a run in words of one width after the other | src/ladder |
+//! | `at_start`, `at_basis` | where a run begins, in words of one width | src/start |
 //! | `State`, `Phase` | where a run stands | src/phases |
-//! | `from_64`, `from_128`, `from_256`, `from_512`, `from_1024`, `from_2048` | both phases from where they stand, in words of that width and in wider ones | src/cold_run |
 //! | `go_on` | both phases at one width, from where they stand | src/phases |
 //! | `run` | steps at one width | src/steps |
-//! | `wide_warm` | the run from a basis of a form within a budget | src/warm_run |
 //! | `from_basis` | the rows of the tableau that a form has for a basis | src/based |
 //! | `is_fit` | whether each basic value is within its bounds | src/fit |
 //! | `Elimination` | equations that are solved for one column after the other | src/elimination |
 //! | `unsolved`, `place_values` | the form's equations, and the values of the columns that are not basic | src/equations |
-//! | `EndsFromBasis` | what the run ends with | specs/Warm |
+//! | `EndsFromBasis` | what the run from a basis ends with | specs/Warm |
 //! | `IsSolvedBelow` | which elimination of exact fractions the rows are | specs/Rows |
 //!
-//! What the run ends with is the end of spec_simplex's `phases_run` without a limit. That it ends is not promised:
-//! numbers past the widest words, the budget and a bound on the work let it give up.
-//!
-//! What it ends with is the end of spec_runs's `warm_run` without a limit, by the primal method. That it ends is not
-//! promised.
+//! The cold run ends with the end of spec_simplex's `phases_run` without a limit. The run from a basis ends with that of
+//! spec_runs's `warm_run` without a limit, by the primal method. That they end is not promised: numbers past the widest
+//! words, the budget and a bound on the work let them give up.
 #![tactic(auto)]
 
 mod based;
@@ -29,12 +28,12 @@ mod cold_run;
 mod elimination;
 mod equations;
 mod fit;
+mod ladder;
 mod phases;
+mod start;
 mod steps;
 mod warm_run;
 
-pub use cold_run::{
-    cold_over_rows, from_64, from_128, from_256, from_512, from_1024, from_2048, wide_cold,
-};
-pub use phases::{Phase, RowEnd, State};
+pub use cold_run::{cold_over_rows, wide_cold};
+pub use phases::RowEnd;
 pub use warm_run::wide_warm;

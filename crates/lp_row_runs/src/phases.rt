@@ -30,7 +30,7 @@ pub struct RowEnd<N> {
 
 /// Which phase a run is in.
 #[derive(Clone, Copy)]
-pub enum Phase {
+pub(crate) enum Phase {
     One,
     /// Phase one has ended, and phase two's costs are next.
     Between,
@@ -39,7 +39,7 @@ pub enum Phase {
 
 /// Where a run stands.
 #[derive(Drop)]
-pub struct State<T: Words> {
+pub(crate) struct State<T: Words> {
     pub tab: RowTableau<T>,
     pub phase: Phase,
     /// How many pivots and flips were made.

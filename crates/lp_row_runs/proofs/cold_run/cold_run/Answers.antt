@@ -4,14 +4,14 @@ use Rattle.spec_exact.specs.Narrow.{number_limit}
 use Rattle.lp_row_runs.proofs.Widths.{start_size, whole_ends}
 use Rattle.lp_row_runs.proofs.cold_run.cold_run.Goals as goal
 
-pub from_start-end-requires-clause-rows : goal.from_start-end-requires-clause-rows
-from_start-end-requires-clause-rows g c = (start_size (Some number_limit) _ _ c.in-Ok.ensures.ok).0
+pub run_cold-end-requires-clause-rows : goal.run_cold-end-requires-clause-rows
+run_cold-end-requires-clause-rows g c = (start_size (Some number_limit) _ _ c.in-Ok.ensures.ok).0
 
-pub from_start-end-requires-clause-cols : goal.from_start-end-requires-clause-cols
-from_start-end-requires-clause-cols g c = (start_size (Some number_limit) _ _ c.in-Ok.ensures.ok).1
+pub run_cold-end-requires-clause-cols : goal.run_cold-end-requires-clause-cols
+run_cold-end-requires-clause-cols g c = (start_size (Some number_limit) _ _ c.in-Ok.ensures.ok).1
 
 pub returns-in-Ok-clause-whole : goal.returns-in-Ok-clause-whole
 returns-in-Ok-clause-whole g c = λ m formed.
-    whole_ends g.N.Listed.of (Some number_limit) c.args.budget m c.args.form.now c.in-Ok.tab c.from_start-end.result
+    whole_ends g.N.Listed.of (Some number_limit) c.args.budget m c.args.form.now c.in-Ok.tab c.run_cold-end.result
     formed
-    c.in-Ok.ensures.ok c.from_start-end.ensures.run
+    c.in-Ok.ensures.ok c.run_cold-end.ensures.run

@@ -8,5 +8,5 @@ use Rattle.lp_row_runs.proofs.warm_run.wide_warm.Goals as goal
 pub returns : goal.returns
 returns c = λ m formed.
     let o = form_is (Some number_limit) m c.args.form.now formed in
-    c.begun_64.ensures (form_proper (Some number_limit) m c.args.form.now formed)
+    c.run_warm.ensures (form_proper (Some number_limit) m c.args.form.now formed)
     (subst HasCosts o.2 (cost_length m o.0 o.1))

@@ -1,7 +1,7 @@
 -- The rows are those of phase two.
 use Rattle.std.proofs.Common.{refl}
 use Rattle.lp_row_runs.proofs.Ended.{stands_at}
-use Rattle.lp_row_runs.proofs.warm_run.if_fit.Goals as goal
+use Rattle.lp_row_runs.proofs.start.if_fit.Goals as goal
 
 pub returns-then-is_fit-clause-run : goal.returns-then-is_fit-clause-run
 returns-then-is_fit-clause-run g c = λ f basis proper fits costs shows.

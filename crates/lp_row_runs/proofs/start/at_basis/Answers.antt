@@ -1,6 +1,6 @@
 -- The rows of the basis, if they are fit.
 use Rattle.lp_row_runs.proofs.Ended.{rows_of}
-use Rattle.lp_row_runs.proofs.warm_run.begin.Goals as goal
+use Rattle.lp_row_runs.proofs.start.at_basis.Goals as goal
 
 pub if_fit-requires : goal.if_fit-requires
 if_fit-requires g c = (rows_of _ _ _ c.in-Rows.is c.in_ok-tab.ensures.whole).whole

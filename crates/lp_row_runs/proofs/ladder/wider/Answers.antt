@@ -1,7 +1,7 @@
 -- The rows are the same fractions.
 use Rattle.std.proofs.Common.{refl, sym, ◌∙◌}
 use Rattle.lp_row_runs.proofs.BothPhases.{of_some}
-use Rattle.lp_row_runs.proofs.cold_run.wider.Goals as goal
+use Rattle.lp_row_runs.proofs.ladder.wider.Goals as goal
 
 pub returns-in-Some-clause-run : goal.returns-in-Some-clause-run
 returns-in-Some-clause-run g c = λ budget f t reached shown. record {
