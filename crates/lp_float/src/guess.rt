@@ -4,7 +4,7 @@ ghost use Rattle.spec_model.specs.Model.{width, height};
 
 use crate::model::program_of;
 use crate::program::Program;
-use crate::runs::{FloatEnd, logical_start, run};
+use crate::runs::{FloatEnd, logical_start, run, run_near};
 use crate::state::status_at;
 use lp_model::Model;
 use spec_pivot::Status;
@@ -53,6 +53,23 @@ fn end_from(
     }
 }
 
+// The end with a status for each column and each row of a model.
+fn fitted_end(
+    alloc: Global,
+    model: &Model,
+    end: Option<FloatEnd>,
+) -> Result<Option<FloatEnd>, AllocError>
+    ensures { IfOk result (λ o. IfSome o (λ e. length e.statuses.items ≡ width model.now + height model.now)) }
+{
+    match end {
+        Some(end) => Ok(Some(FloatEnd {
+            statuses: fitted(alloc, model, &end.statuses)?,
+            witness: end.witness,
+        })),
+        None => Ok(None),
+    }
+}
+
 /// The end of a run of the simplex method in floats: a status for each column of the model, and then one for the
 /// logical column of each row. Where there is no optimum it has the column that shows so, if there is one. The run
 /// begins with the statuses of `start`, which may be those of no basis, or else with the basis of the logical columns.
@@ -73,11 +90,21 @@ pub fn float_end(
     ensures { IfOk result (λ o. IfSome o (λ e. length e.statuses.items ≡ width model.now + height model.now)) }
 {
     let program = program_of(alloc, model)?;
-    match end_from(alloc, &program, start)? {
-        Some(end) => Ok(Some(FloatEnd {
-            statuses: fitted(alloc, model, &end.statuses)?,
-            witness: end.witness,
-        })),
-        None => Ok(None),
-    }
+    let end = end_from(alloc, &program, start)?;
+    fitted_end(alloc, model, end)
+}
+
+/// The end of a short run from a basis that is likely near one, with the statuses of `start`. It is as that of `float_end`,
+/// with less effort: 1,000 steps at most, of which the first already has the costs as they are, and tight tolerances. From
+/// a basis that is optimal in floats it ends at once with this basis.
+pub fn near_end(
+    alloc: Global,
+    model: &Model,
+    start: &[Status],
+) -> Result<Option<FloatEnd>, AllocError>
+    ensures { IfOk result (λ o. IfSome o (λ e. length e.statuses.items ≡ width model.now + height model.now)) }
+{
+    let program = program_of(alloc, model)?;
+    let end = run_near(alloc, &program, start, effort(&program))?;
+    fitted_end(alloc, model, end)
 }

@@ -3,8 +3,10 @@
 //! | Item | What it is | Where |
 //! |---|---|---|
 //! | `float_end`, `FloatEnd` | how a run for a model ends: its statuses, and why there is no optimum | src/guess, src/runs |
+//! | `near_end` | how a short run ends, from a basis that is likely near an end | src/guess |
 //! | `Program`, `program_of` | a program in floats, scaled; that of a model | src/program, src/model, src/scaling |
-//! | `run`, `logical_start` | a run from a basis to its end; the basis of the logical columns | src/runs |
+//! | `run`, `run_near` | a run from a basis to its end, and a short one | src/runs |
+//! | `logical_start` | the basis of the logical columns | src/runs |
 //! | `run_dual` | the dual method, by the steepest edge | src/dual, src/dual_ratio |
 //! | `run_primal` | the primal method, by the weights of Devex | src/primal, src/primal_ratio |
 //! | `State` | the basis, the values and the reduced costs of a run | src/state, src/rebuild |
@@ -30,5 +32,5 @@ mod scaling;
 mod sparse;
 mod state;
 
-pub use guess::float_end;
+pub use guess::{float_end, near_end};
 pub use runs::FloatEnd;

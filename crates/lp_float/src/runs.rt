@@ -22,6 +22,9 @@ const TIGHT: Limits = Limits {
 // How often the dual and then the primal method are run.
 const ROUNDS: u32 = 5;
 
+// How many steps a basis is from an end that is near, at most.
+const NEAR: u64 = 1000;
+
 // How far costs are moved apart, beside 1, and beside the greatest.
 const APART: f64 = 5e-7;
 
@@ -348,4 +351,23 @@ pub(crate) fn run(
     let mut state = state_at(alloc, program, start, LIMITS)?;
     begin(alloc, &mut state, program, effort)?;
     end_of(alloc, &mut state, program, effort)
+}
+
+/// The end of a run that leaves the costs as they are, with tight tolerances, if it has one within a few steps. It begins at
+/// the basis of the given statuses, which is mended where it is none, and takes at most `effort` steps. Only want of memory
+/// is an error.
+pub(crate) fn run_near(
+    alloc: Global,
+    program: &Program,
+    start: &[Status],
+    effort: u64,
+) -> Result<Option<FloatEnd>, AllocError> {
+    let mut state = state_at(alloc, program, start, TIGHT)?;
+    match round(alloc, &mut state, program, effort.min(NEAR))? {
+        Some(Kind::GivenUp | Kind::Infeasible(None)) | None => Ok(None),
+        Some(kind) => Ok(Some(FloatEnd {
+            statuses: Vec::from_slice(alloc, &state.status)?,
+            witness: witness_of(kind),
+        })),
+    }
 }
