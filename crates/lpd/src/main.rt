@@ -4,7 +4,9 @@
 mod listening;
 mod nearest;
 mod notice;
+mod opening;
 mod outside;
+mod refusal;
 mod told;
 mod unbound;
 mod usage;
@@ -14,24 +16,24 @@ use listening::{listen, nets_at, wanted};
 use lp_command_line::notice_of;
 use lp_top::{ExitStatus, NeverHolds, lpd_top, plan};
 use notice::show;
+use opening::Opening;
 use outside::Counted;
-use std::alloc::{AllocError, Global};
+use std::alloc::Global;
 use std::io::ErrorKind;
 use std::process::ExitCode;
 use std::{env, io};
-use told::{tell, tell_reading};
-use unbound::Unbound;
+use told::{Ending, tell, tell_reading};
 
 fn main(rt: HostRuntime) -> ExitCode {
     let alloc = rt.alloc();
     let words = match words_of(&rt, alloc) {
         Ok(words) => words,
-        Err(error) => return end(&rt, alloc, status_of(&error), None, None),
+        Err(error) => return end(&rt, alloc, Ending::new(status_of(&error), None)),
     };
     if let Some(notice) = notice_of(&words) {
         let mut sink = Counted::new(rt.stdout());
         let status = show(alloc, notice, &mut sink);
-        return end(&rt, alloc, status, Some(&words), None);
+        return end(&rt, alloc, Ending::new(status, Some(&words)));
     }
     let bound = match plan(&words) {
         Some(serving) => Some(listen(&rt, serving.address)),
@@ -41,40 +43,38 @@ fn main(rt: HostRuntime) -> ExitCode {
         Some(Ok(socket)) => Some(socket),
         _ => None,
     };
-    let status = match nets_at(&rt, alloc, wanted(&words), socket) {
-        Ok(mut nets) => {
-            tell_reading(&rt, &words);
-            let mut source = Counted::new(rt.stdin());
-            let mut sink = Counted::new(rt.stdout());
-            lpd_top(
-                &rt,
-                alloc,
-                &words,
-                &mut source,
-                &mut sink,
-                &mut nets,
-                &NeverHolds,
-            )
-        }
-        Err(AllocError) => ExitStatus::NO_MEMORY,
+    let Ok(mut nets) = nets_at(&rt, alloc, wanted(&words), socket) else {
+        return end(&rt, alloc, Ending::new(ExitStatus::NO_MEMORY, Some(&words)));
     };
+    tell_reading(&rt, &words);
+    let mut source = Counted::new(rt.stdin());
+    let mut sink = Opening::new(Counted::new(rt.stdout()));
+    let status = lpd_top(
+        &rt,
+        alloc,
+        &words,
+        &mut source,
+        &mut sink,
+        &mut nets,
+        &NeverHolds,
+    );
     let unbound = match &bound {
         Some(Err(unbound)) => Some(unbound),
         _ => None,
     };
-    end(&rt, alloc, status, Some(&words), unbound)
+    let ending = Ending {
+        status,
+        words: Some(&words),
+        unbound,
+        first_line: sink.first_line(),
+    };
+    end(&rt, alloc, ending)
 }
 
 // Says what happened, and gives the status.
-fn end(
-    rt: &HostRuntime,
-    alloc: Global,
-    status: ExitStatus,
-    words: Option<&[String]>,
-    unbound: Option<&Unbound<'_>>,
-) -> ExitCode {
-    let _ = tell(rt, alloc, status, words, unbound);
-    ExitCode::from(status.code)
+fn end(rt: &HostRuntime, alloc: Global, ending: Ending<'_>) -> ExitCode {
+    let _ = tell(rt, alloc, ending);
+    ExitCode::from(ending.status.code)
 }
 
 // The words of the command line, without the program's own name. Words that are no text fail all together.

@@ -1,4 +1,5 @@
 // What is said on standard error.
+use crate::refusal::tell_refused;
 use crate::unbound::{Unbound, tell_unbound};
 use crate::wrong_words::tell_words;
 use lp_command_line::word_fault;
@@ -6,22 +7,42 @@ use lp_top::ExitStatus;
 use std::alloc::Global;
 use std::io::{self, IsTerminal};
 
-/// Writes on standard error what happened, if not all was done. `words` are those of the command line, unless they could
-/// not be read, and `unbound` is where a server could not listen. Where memory runs out or a write fails, no more is
+/// How the program ends.
+#[derive(Clone, Copy)]
+pub struct Ending<'a> {
+    pub status: ExitStatus,
+    /// The words of the command line, unless they could not be read.
+    pub words: Option<&'a [String]>,
+    /// Where a server could not listen.
+    pub unbound: Option<&'a Unbound<'a>>,
+    /// The first line that was written, where it is known.
+    pub first_line: Option<&'a str>,
+}
+
+impl<'a> Ending<'a> {
+    /// An ending of which no more is known.
+    pub fn new(status: ExitStatus, words: Option<&'a [String]>) -> Self {
+        Ending {
+            status,
+            words,
+            unbound: None,
+            first_line: None,
+        }
+    }
+}
+
+/// Writes on standard error what happened, if not all was done. Where memory runs out or a write fails, no more is
 /// written.
-pub fn tell(
-    rt: &HostRuntime,
-    alloc: Global,
-    status: ExitStatus,
-    words: Option<&[String]>,
-    unbound: Option<&Unbound<'_>>,
-) -> io::Result<()> {
-    match (status, words, unbound) {
+pub fn tell(rt: &HostRuntime, alloc: Global, ending: Ending<'_>) -> io::Result<()> {
+    match (ending.status, ending.words, ending.unbound) {
         (ExitStatus::ACCEPT, _, Some(unbound)) => return tell_unbound(rt, unbound),
         (ExitStatus::BAD_COMMAND_LINE, Some(words), _) => return tell_words(rt, alloc, words),
+        (ExitStatus::REFUSED, Some(words), _) => {
+            return tell_refused(rt, words, ending.first_line);
+        }
         _ => {}
     }
-    match what_happened(status) {
+    match what_happened(ending.status) {
         Some(what) => eprintln!(rt; "lpd: {what}"),
         None => Ok(()),
     }
@@ -36,9 +57,6 @@ fn what_happened(status: ExitStatus) -> Option<&'static str> {
         ExitStatus::CUT => Some("standard input ended inside a body (status 6)"),
         ExitStatus::ACCEPT => Some("a link could not be accepted (status 7)"),
         ExitStatus::OVER => Some("standard input is longer than 67,108,864 bytes (status 8)"),
-        ExitStatus::REFUSED => {
-            Some("the text was refused; the reason is on standard output (status 9)")
-        }
         _ => None,
     }
 }

@@ -1,0 +1,64 @@
+// The first line that a sink took.
+ghost use Rattle.std.specs.Prelude.{◌≤◌};
+
+use lp_base::{Failed, Sink};
+
+// A refusal by a name of a model has 80 bytes at most, and a line feed.
+const KEPT: usize = 96;
+
+// The first bytes that were written.
+#[derive(Drop)]
+struct Start {
+    bytes: [u8; KEPT],
+    count: usize,
+    ghost fits: { count ≤ 96 },
+}
+
+impl Start {
+    // Keeps of what is written next as much as there is room for.
+    fn keep(&mut self, piece: &[u8]) {
+        let room = &mut self.bytes[self.count..];
+        let more = room.len().min(piece.len());
+        room[..more].copy_from_slice(&piece[..more]);
+        self.count += more;
+    }
+}
+
+/// A sink that keeps the first line of what it takes.
+#[derive(Drop)]
+pub struct Opening<K> {
+    inner: K,
+    start: Start,
+}
+
+impl<K> Opening<K> {
+    pub fn new(inner: K) -> Self {
+        let start = Start {
+            bytes: [0; KEPT],
+            count: 0,
+        };
+        Opening { inner, start }
+    }
+
+    /// The line, if it is text and has fewer than 96 bytes.
+    pub fn first_line(&self) -> Option<&str> {
+        let start = &self.start;
+        let text = str::from_utf8(&start.bytes[..start.count]).ok()?;
+        let (line, _) = text.split_once('\n')?;
+        Some(line)
+    }
+}
+
+impl<K: Sink> Sink for Opening<K> {
+    ghost taken = { λ s. K.taken s.inner };
+
+    ghost write_faults = { λ s. K.write_faults s.inner };
+
+    ghost beside_writes = { λ s. K.beside_writes s.inner };
+
+    fn write(&mut self, piece: &[u8]) -> Result<usize, Failed> {
+        let count = self.inner.write(piece)?;
+        self.start.keep(&piece[..count]);
+        Ok(count)
+    }
+}

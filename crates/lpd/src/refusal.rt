@@ -1,0 +1,242 @@
+// Why what was read is refused, in a sentence. The reply on standard output says it by number.
+use lp_command_line::command_line_of;
+use spec_mps::Style;
+use spec_program::{CommandLine, Moved, TextCommand};
+use std::io;
+
+// A word of a reply, and what it says.
+type Meaning = (&'static str, &'static str);
+
+// The faults of a model's text.
+const MODEL_FAULTS: [Meaning; 18] = [
+    (
+        "M1",
+        "this section may not come here; the order is NAME, OBJSENSE, ROWS, COLUMNS, RHS, RANGES, BOUNDS, ENDATA",
+    ),
+    (
+        "M2",
+        "there is no such section; other lines begin with a blank",
+    ),
+    ("M3", "these are not the fields of a card of this section"),
+    (
+        "M4",
+        "there is no such type of row; the types are N, L, G and E",
+    ),
+    ("M5", "an earlier row, or the objective, has this name"),
+    ("M6", "the name of this row is not declared under ROWS"),
+    (
+        "M7",
+        "this column came before; the cards of a column stand together",
+    ),
+    ("M8", "this row has such a number already"),
+    (
+        "M9",
+        "this is no number; numbers are decimals, as -1.5e3, or quotients, as 2/3",
+    ),
+    (
+        "M10",
+        "this number does not fit 127 bits; its numerator and its denominator are at most 2^127 - 1",
+    ),
+    (
+        "M11",
+        "there is no such kind of bound, or it does not take this value; the kinds are UP, LO, FX, FR, MI and PL",
+    ),
+    (
+        "M12",
+        "integer columns are not read; lpd-py solve --relax takes them as others",
+    ),
+    (
+        "M13",
+        "semi-continuous columns are not read; give the column plain bounds",
+    ),
+    (
+        "M14",
+        "the name of this column is not declared under COLUMNS",
+    ),
+    ("M15", "there is no objective; ROWS needs a row of type N"),
+    (
+        "M17",
+        "this is no name; a name has 1 to 64 bytes from ! to ~, and no row is named 'MARKER'",
+    ),
+    ("M18", "the objective takes no range"),
+    ("M19", "the text ends before ENDATA"),
+];
+
+// The faults of a basis file.
+const BASIS_FAULTS: [Meaning; 7] = [
+    (
+        "B1",
+        "this is neither NAME, which comes first, nor ENDATA; a card begins with a blank",
+    ),
+    (
+        "B2",
+        "this is no card; XU and XL have a column and a row, and UL and LL a column",
+    ),
+    ("B3", "the model has no such column"),
+    ("B4", "the model has no such row; the objective is none"),
+    ("B5", "an earlier card has this column or this row"),
+    (
+        "B6",
+        "this column has no upper bound; without its card it is at its lower bound, or at 0",
+    ),
+    ("B7", "the file ends before ENDATA"),
+];
+
+// What is refused, why, and what may be done about it.
+#[derive(Clone, Copy)]
+enum Refusal<'a> {
+    // A line, counted from 1, of the model's text or of what follows it.
+    Line {
+        number: &'a str,
+        of: &'static str,
+        why: &'static str,
+        hint: &'static str,
+    },
+    Name {
+        why: &'static str,
+        name: &'a str,
+    },
+}
+
+/// Writes on standard error why a command on a text was refused. The reply on standard output says it by number; where it is
+/// not known, this says where to look. Of a name no control character is written.
+pub fn tell_refused(rt: &HostRuntime, words: &[String], reply: Option<&str>) -> io::Result<()> {
+    match refusal_of(words, reply) {
+        Some(
+            Refusal::Line {
+                number,
+                of,
+                why,
+                hint,
+            },
+        ) => eprintln!(rt; "lpd: line {number}{of}: {why}{hint} (status 9)"),
+        Some(Refusal::Name { why, name }) => eprintln!(rt; "lpd: {why} {name:?} (status 9)"),
+        None => {
+            eprintln!(rt; "lpd: the text was refused; the reason is on standard output (status 9)")
+        }
+    }
+}
+
+// A reply is ERR, a number, a word, and what is refused.
+fn refusal_of<'a>(words: &[String], reply: Option<&'a str>) -> Option<Refusal<'a>> {
+    let Some(CommandLine::Read(command, style)) = command_line_of(words) else {
+        return None;
+    };
+    let (code, said) = reply?.strip_prefix("ERR ")?.split_once(' ')?;
+    let (_, what) = said.split_once(' ')?;
+    match code {
+        "5" => Some(unknown(command, what)),
+        "8" => of_model(command, style, what),
+        "12" => Some(repeated(what)),
+        "14" => Some(of_certificate(command, what)),
+        "17" => of_basis(what),
+        _ => None,
+    }
+}
+
+fn unknown<'a>(command: TextCommand<&[u8]>, name: &'a str) -> Refusal<'a> {
+    let why = match command {
+        TextCommand::Range {
+            moved: Moved::Cost,
+            ..
+        } => "the model has no column named",
+        TextCommand::Range { .. } => "beside its objective the model has no row named",
+        _ => "the model has no column, or for y no row, named",
+    };
+    Refusal::Name { why, name }
+}
+
+fn repeated(name: &str) -> Refusal<'_> {
+    Refusal::Name {
+        why: "the certificate has two lines of one letter for",
+        name,
+    }
+}
+
+fn of_model<'a>(command: TextCommand<&[u8]>, style: Style, what: &'a str) -> Option<Refusal<'a>> {
+    let (number, fault) = what.split_once(' ')?;
+    let (why, hint) = match (fault, style) {
+        ("M16", _) => limits(command),
+        ("M3", Style::Free) => (
+            meaning(&MODEL_FAULTS, fault)?,
+            "; a text in fixed form takes --form fixed",
+        ),
+        ("M3", Style::Fixed) => (
+            meaning(&MODEL_FAULTS, fault)?,
+            "; a text in free form takes --form free",
+        ),
+        _ => (meaning(&MODEL_FAULTS, fault)?, ""),
+    };
+    Some(Refusal::Line {
+        number,
+        of: "",
+        why,
+        hint,
+    })
+}
+
+// The limits that a line passes, and which command has others.
+fn limits(command: TextCommand<&[u8]>) -> (&'static str, &'static str) {
+    let narrow = "more than 256 rows, 512 columns or 16,384 bytes of a line";
+    match command {
+        TextCommand::SolveWide | TextCommand::CheckWide | TextCommand::BasisWide => (
+            "more than 65,536 rows, 131,072 columns or 16,384 bytes of a line",
+            "",
+        ),
+        TextCommand::Check => (narrow, "; lpd check --wide takes larger models"),
+        TextCommand::Basis => (narrow, "; lpd basis --wide takes larger models"),
+        _ => (narrow, "; lpd solve --wide takes larger models"),
+    }
+}
+
+fn of_basis(what: &str) -> Option<Refusal<'_>> {
+    let (number, fault) = what.split_once(' ')?;
+    Some(Refusal::Line {
+        number,
+        of: " of the basis file",
+        why: meaning(&BASIS_FAULTS, fault)?,
+        hint: "",
+    })
+}
+
+// The first line of what `solve` writes is no line of the certificate.
+fn of_certificate<'a>(command: TextCommand<&[u8]>, number: &'a str) -> Refusal<'a> {
+    let (why, hint) = match (number, command) {
+        ("1", _) => (
+            "expected OPTIMAL, INFEASIBLE, UNBOUNDED, or CLASH and a column",
+            "; of what lpd solve writes leave out the first line, as sed 1d does",
+        ),
+        ("2", TextCommand::CheckWide) => (
+            "expected END, or a letter of its kind (x, y or r), a name and a number",
+            "; of what lpd solve writes leave out the first line",
+        ),
+        ("2", _) => (
+            "expected END, or a letter of its kind (x, y or r), a name and a number of 127 bits",
+            "; lpd check --wide takes wider ones; of what lpd solve writes leave out the first line",
+        ),
+        (_, TextCommand::CheckWide) => (
+            "expected END, or a letter of its kind (x, y or r), a name and a number",
+            "",
+        ),
+        _ => (
+            "expected END, or a letter of its kind (x, y or r), a name and a number of 127 bits",
+            "; lpd check --wide takes wider ones",
+        ),
+    };
+    Refusal::Line {
+        number,
+        of: " of the certificate",
+        why,
+        hint,
+    }
+}
+
+// What the word of a fault says.
+fn meaning(faults: &[Meaning], fault: &str) -> Option<&'static str> {
+    for (word, why) in faults {
+        if *word == fault {
+            return Some(*why);
+        }
+    }
+    None
+}
