@@ -14,8 +14,8 @@ ghost use Rattle.lp_solve.specs.Formless.{HasNoForm};
 
 use crate::cold::End;
 use crate::shown::{
-    at_basis, at_float_end, at_float_end_beside, at_float_end_from, basis_of_answer, origin_of,
-    over_rows, over_rows_from,
+    at_basis, at_float_end, at_float_end_beside, at_float_end_from, at_near_end, basis_of_answer,
+    origin_of, over_rows, over_rows_from,
 };
 use crate::solving::{Solved, solve_formed};
 use crate::widened::{widened_certificate, widened_known};
@@ -255,7 +255,8 @@ fn large_cold(alloc: Global, model: &Model) -> Result<ExactEnd, AllocError>
     }
 }
 
-// By the basis, by a run in floats from there, and by one from the start that each model has.
+// By a short run in floats from the basis, by the basis itself, by a long run from there, and by one from the start that
+// each model has. Of a large model an exact step takes longer than many steps in floats.
 fn large_from(
     alloc: Global,
     model: &Model,
@@ -263,6 +264,9 @@ fn large_from(
 ) -> Result<Option<ExactAnswer>, AllocError>
     ensures { IfOk result (λ o. IfSome o (IsExactAnswer model.now)) }
 {
+    if let Some(answer) = at_near_end(alloc, model, basis)? {
+        return Ok(Some(answer));
+    }
     if let Some(answer) = at_basis(alloc, model, basis)? {
         return Ok(Some(answer));
     }
@@ -293,10 +297,11 @@ fn large_exactly(
 ///
 /// Without a starting basis it asks first for what the end of a run in floating point leads to: the answer of a basis, or
 /// that there is no optimum. From a starting basis it asks first for the answer of this basis, or of one that is reached
-/// from it in a few steps. Where that comes to nothing, it solves a usual model at 127 bits, and where an operation is
-/// refused there over rows of whole numbers without a limit: from the starting basis, then to what the end of a run in
-/// floating point leads to, and at last from the start that each model has. Of a larger model it goes on from the basis to
-/// what a run in floating point from there leads to, and then one without it.
+/// from it in a few steps; of a model past the usual limits it begins with what a short run in floating point from there
+/// leads to. Where that comes to nothing, it solves a usual model at 127 bits, and where an operation is refused there over
+/// rows of whole numbers without a limit: from the starting basis, then to what the end of a run in floating point leads
+/// to, and at last from the start that each model has. Of a larger model it goes on from the basis to what a long run in
+/// floating point from there leads to, and then one without it.
 ///
 /// Of a usual model it ends open only where a solve at 127 bits gives up. The basis of an answer is one at which its
 /// certificate stands.

@@ -10,9 +10,9 @@
 //! certificate, as of each other.
 //!
 //! An exact solve asks first for a certificate that the end of a run in floats leads to (lp_float, lp_lift), or from a
-//! starting basis for that of the basis: whatever the guess is, it is checked without a limit. Only where that comes to
-//! nothing it solves a model within the usual limits at 127 bits, and where it is refused an operation there over rows of
-//! whole numbers without a limit.
+//! starting basis for that of the basis; of a model past the usual limits a short run in floats from the basis comes before
+//! it. Whatever the guess is, it is checked without a limit. Only where that comes to nothing it solves a model within the
+//! usual limits at 127 bits, and where it is refused an operation there over rows of whole numbers without a limit.
 //!
 //! | Item | What it is | Where |
 //! |---|---|---|
@@ -20,7 +20,7 @@
 //! | `solve_formed`, `solve_formless` | the same by the model's form, or by why it has none | src/solving |
 //! | `OPENING_BUDGET` | the budget of a new session, and of the commands that solve | src/solving |
 //! | `solve_exactly`, `ExactEnd`, `ExactAnswer` | the exact solve of a model, whose numbers may have any width | src/exact |
-//! | `answered`, `at_basis`, `at_float_end`, `over_rows` | answers by certificates that are checked without a limit | src/shown |
+//! | `answered`, `at_basis`, `at_near_end`, `at_float_end`, `over_rows` | answers by certificates that are checked without a limit | src/shown |
 //! | `stand_at_basis` | whether a point and multipliers stand as a basis says | src/stands |
 //! | `fits_lines` | whether the numbers of a certificate fit their lines | src/lines |
 //! | `widened_certificate` | a certificate of 127 bits as one whose numbers may have any width | src/widened |

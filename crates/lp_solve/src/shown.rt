@@ -12,7 +12,7 @@ use crate::exact::ExactAnswer;
 use crate::lines::fits_lines;
 use crate::stands::stand_at_basis;
 use lp_check::wide::{Certificate, Known, Verdict, check};
-use lp_float::float_end;
+use lp_float::{FloatEnd, float_end, near_end};
 use lp_form::{Basis, Form, LargeForm, Status, is_basis, large_form};
 use lp_frac::Stop;
 use lp_lift::{Lifted, answer_of_basis};
@@ -213,7 +213,22 @@ fn most_steps(model: &Model) -> u32 {
     MOST_STEPS + MORE_STEPS / (model.cols() + model.rows()).max(1)
 }
 
-// The answer of the basis that a run in floats ends with, or of one a few steps on.
+// The answer of the basis that a run in floats ended with, or of one a few steps on.
+fn lifted_at(
+    alloc: Global,
+    model: &Model,
+    end: Option<FloatEnd>,
+) -> Result<Option<Lifted>, AllocError>
+    ensures { IfOk result (λ o. IfSome o (λ l. IsFor model.now l.certificate)) }
+{
+    let Some(end) = end else {
+        return Ok(None);
+    };
+    let lifted = answer_of_basis(alloc, model, &end.statuses, end.witness, most_steps(model))?;
+    Ok(lifted)
+}
+
+// That of a run from these statuses, or from the start that each model has.
 fn lifted_end(
     alloc: Global,
     model: &Model,
@@ -221,11 +236,30 @@ fn lifted_end(
 ) -> Result<Option<Lifted>, AllocError>
     ensures { IfOk result (λ o. IfSome o (λ l. IsFor model.now l.certificate)) }
 {
-    let Some(end) = float_end(alloc, model, start)? else {
-        return Ok(None);
-    };
-    let lifted = answer_of_basis(alloc, model, &end.statuses, end.witness, most_steps(model))?;
-    Ok(lifted)
+    let end = float_end(alloc, model, start)?;
+    lifted_at(alloc, model, end)
+}
+
+// Whether a column entered a basis, or went to another bound.
+fn has_moved(from: Status, to: Status) -> bool {
+    match (from, to) {
+        (Status::Basic, _)
+        | (Status::AtLower, Status::AtLower)
+        | (Status::AtUpper, Status::AtUpper)
+        | (Status::AtZero, Status::AtZero) => false,
+        _ => true,
+    }
+}
+
+// How many pivots and flips are between two bases, at the least.
+fn moves(from: &[Status], to: &[Status]) -> u64 {
+    let mut moves: u64 = 0;
+    for (from, to) in from.iter().zip(to) {
+        if has_moved(*from, *to) {
+            moves = moves.saturating_add(1);
+        }
+    }
+    moves
 }
 
 /// The answer that a run in floats leads to, without its basis.
@@ -241,6 +275,24 @@ pub(crate) fn at_float_end(alloc: Global, model: &Model) -> Result<Option<ExactA
             } = lifted;
             drop(statuses);
             answered(alloc, model, certificate, None, Origin::Cold)
+        }
+        None => Ok(None),
+    }
+}
+
+/// The answer that a short run in floats from a basis leads to: that of the basis, where it is optimal in floats.
+pub(crate) fn at_near_end(
+    alloc: Global,
+    model: &Model,
+    basis: &Basis,
+) -> Result<Option<ExactAnswer>, AllocError>
+    ensures { IfOk result (λ o. IfSome o (IsExactAnswer model.now)) }
+{
+    let end = near_end(alloc, model, basis.as_slice())?;
+    match lifted_at(alloc, model, end)? {
+        Some(lifted) => {
+            let origin = Origin::Warm(moves(basis.as_slice(), &lifted.statuses));
+            at_lifted(alloc, model, lifted, origin)
         }
         None => Ok(None),
     }

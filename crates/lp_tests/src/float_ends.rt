@@ -1,11 +1,31 @@
 // Ends of runs in floats: what lifting makes of their bases, with no step.
 use crate::lifted_bases::{model_of, shows};
 use lp_check::wide::check;
-use lp_float::float_end;
+use lp_float::{FloatEnd, float_end, near_end};
 use lp_lift::answer_of_basis;
+use lp_model::Model;
 use spec_pivot::Status;
 use std::alloc::{AllocError, Global};
 use std::test::Fail;
+
+// Whether a run ended, and at a basis with this answer.
+fn has_answer(
+    alloc: Global,
+    model: &Model,
+    end: Option<FloatEnd>,
+    wanted: &str,
+) -> Result<bool, AllocError> {
+    let Some(end) = end else {
+        return Ok(false);
+    };
+    match answer_of_basis(alloc, model, &end.statuses, end.witness, 0)? {
+        Some(lifted) => {
+            let verdict = check(alloc, model, &lifted.certificate)?;
+            Ok(shows(alloc, &verdict, wanted))
+        }
+        None => Ok(false),
+    }
+}
 
 // Whether a run from these statuses, or from the logical basis, ends at a basis with this answer.
 fn ends(
@@ -17,16 +37,22 @@ fn ends(
     let Some(model) = model_of(alloc, text)? else {
         return Ok(false);
     };
-    let Some(end) = float_end(alloc, &model, start)? else {
+    let end = float_end(alloc, &model, start)?;
+    has_answer(alloc, &model, end, wanted)
+}
+
+// Whether a short run from these statuses does.
+fn ends_near(
+    alloc: Global,
+    text: &str,
+    start: &[Status],
+    wanted: &str,
+) -> Result<bool, AllocError> {
+    let Some(model) = model_of(alloc, text)? else {
         return Ok(false);
     };
-    match answer_of_basis(alloc, &model, &end.statuses, end.witness, 0)? {
-        Some(lifted) => {
-            let verdict = check(alloc, &model, &lifted.certificate)?;
-            Ok(shows(alloc, &verdict, wanted))
-        }
-        None => Ok(false),
-    }
+    let end = near_end(alloc, &model, start)?;
+    has_answer(alloc, &model, end, wanted)
 }
 
 // x = 3 and y = 1.
@@ -48,6 +74,17 @@ fn begins_with_statuses(rt: HostRuntime) -> Result<(), Fail> {
     assert!(rt; ends(alloc, CORNER, Some(&[basic, basic, lower, lower]), "-5")?);
     assert!(rt; ends(alloc, CORNER, Some(&[lower, lower, lower, lower]), "-5")?);
     assert!(rt; ends(alloc, CORNER, Some(&[]), "-5")?);
+    Ok(())
+}
+
+#[test]
+fn ends_near_a_basis(rt: HostRuntime) -> Result<(), Fail> {
+    let alloc = rt.alloc();
+    let (basic, lower, upper) = (Status::Basic, Status::AtLower, Status::AtUpper);
+    assert!(rt; ends_near(alloc, CORNER, &[upper, basic, basic, upper], "-5")?);
+    assert!(rt; ends_near(alloc, CORNER, &[lower, upper, basic, basic], "-5")?);
+    assert!(rt; ends_near(alloc, NOWHERE, &[lower, lower, basic, basic], "infeasible")?);
+    assert!(rt; ends_near(alloc, RISING, &[lower, lower, basic], "unbounded")?);
     Ok(())
 }
 
