@@ -29,6 +29,7 @@ use Rattle.lp_revised.specs.declared.stop.Spent.{Spent}
 use Rattle.lp_frac.specs.declared.stop.Stop.TheVariants as revised
 use Rattle.lp_revised.specs.Answer.{StopsRevised}
 use Rattle.lp_revised.specs.Runs.{over_end}
+use Rattle.lp_solve.specs.declared.strategy.Engine.{Engine}
 use Rattle.lp_solve.specs.declared.strategy.Engine.TheVariants.{Factors, Tableaus}
 use Rattle.lp_solve.specs.Strategy.{IsRunOf}
 use Rattle.lp_solve.proofs.Accepted.{never_no}
@@ -126,13 +127,15 @@ module _ (budget : ℕ) (m : Model) (f : Form) (formed : form_of (Some number_li
   stated_may o is = subst (MayEndCold (Some number_limit) budget m) (sym is) (part_may (Some number_limit) budget m)
 
   -- ---- what each engine ends with
-  pub factors_run : {E : Type 0} (r : Result ExactSolveEnd E) →
-      IfOk r (λ s. s ≡ over_factors (Some number_limit) budget m f) → IfOk r (IsRunOf budget m f Factors)
-  factors_run (Ok (outcome.Ended known c basis pivots)) h =
-      stated_may _ (ended_over (outcome.Ended known c basis pivots) known c basis pivots refl h)
-  factors_run (Ok (outcome.Past p)) h = subst GivesUp h tt
-  factors_run (Ok outcome.Spent) h = subst GivesUp h tt
-  factors_run (Err e) h = tt
+  pub factors_run : (engine : Engine) (end : ExactSolveEnd) → engine ≡ Factors →
+      end ≡ over_factors (Some number_limit) budget m f → IsRunOf budget m f engine end
+  factors_run engine end is h = subst (λ engine. IsRunOf budget m f engine end) (sym is) (by end h)
+    where
+      by : (end : ExactSolveEnd) → end ≡ over_factors (Some number_limit) budget m f → IsRunOf budget m f Factors end
+      by (outcome.Ended known c basis pivots) h =
+          stated_may _ (ended_over (outcome.Ended known c basis pivots) known c basis pivots refl h)
+      by (outcome.Past p) h = subst GivesUp h tt
+      by outcome.Spent h = subst GivesUp h tt
 
   pub tableaus_run : {E : Type 0} (r : Result ExactSolveEnd E) →
       IfOk r (λ s. s ≡ after_form (Some number_limit) budget m (Ok f)) → IfOk r (IsRunOf budget m f Tableaus)

@@ -24,8 +24,7 @@
 //! | `stand_at_basis` | whether a point and multipliers stand as a basis says | src/stands |
 //! | `fits_lines` | whether the numbers of a certificate fit their lines | src/lines |
 //! | `widened_certificate` | a certificate of 127 bits as one whose numbers may have any width | src/widened |
-//! | `cold_solve`, `Engine` | the engines of a cold solve, and their order for a model | src/strategy |
-//! | `over_factors`, `over_rows` | what two of them end with at 127 bits, and its check | src/strategy, src/rows |
+//! | `cold_solve`, `Engine` | the engines of a cold solve, their order for a model, and the check of what each ends with | src/strategy |
 //! | `End`, `from_form` | what a solve ends with, and the engine over whole tableaus | src/cold |
 //! | `from_basis` | the warm start from a basis | src/warm |
 //! | `Ended` | how both phases of a cold solve ended | src/phases |
@@ -42,7 +41,6 @@ mod cold;
 mod exact;
 mod lines;
 mod phases;
-mod rows;
 mod shown;
 mod solving;
 mod stands;

@@ -14,8 +14,7 @@ ghost use Rattle.lp_solve.specs.Formless.{HasNoForm};
 ghost use Rattle.lp_solve.specs.Stopped.{IsAfterStop};
 
 use crate::cold::{End, checked_cold};
-use crate::rows::WORK;
-use crate::strategy::cold_solve;
+use crate::strategy::{WORK, cold_solve};
 use crate::warm::{Warm, WarmStop, from_basis};
 use lp_check::Certificate;
 use lp_form::{Basis, Form, FormStop, form};
@@ -107,14 +106,6 @@ fn ended_cold(end: End) -> Solved
     }
 }
 
-// From the start that each model has.
-fn cold_first(alloc: Global, budget: u64, model: &Model, form: &Form) -> Result<Solved, AllocError>
-    requires { form_of (Some number_limit) model.now ≡ Ok form.now }
-    ensures { IfOk result (IsSolved model.now budget None) }
-{
-    Ok(ended_cold(cold_solve(alloc, budget, WORK, model, form)?))
-}
-
 /// The same solve of a model whose form is at hand. The basis of an optimum is one of this form.
 pub fn solve_formed(
     alloc: Global,
@@ -130,7 +121,7 @@ pub fn solve_formed(
 {
     match starting {
         Some(basis) => warm_first(alloc, budget, model, form, basis),
-        None => cold_first(alloc, budget, model, form),
+        None => Ok(ended_cold(cold_solve(alloc, budget, WORK, model, form)?)),
     }
 }
 

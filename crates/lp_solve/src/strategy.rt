@@ -2,18 +2,17 @@
 ghost use Rattle.std.specs.Prelude.{◌≡◌, Contains, IfOk, Ok, Some};
 ghost use Rattle.spec_exact.specs.Narrow.{number_limit};
 ghost use Rattle.spec_simplex.specs.Form.{form_of};
-ghost use Rattle.spec_factor.specs.Over as over;
 ghost use Rattle.spec_solve.specs.Order as order;
 ghost use Rattle.lp_solve.specs.Fit.{IsFit};
 ghost use Rattle.lp_solve.specs.Strategy.{IsRunOf, KeepsRefusal};
 
 use crate::basis::basis_of;
 use crate::cold::{End, checked_cold, from_form};
-use crate::rows::over_rows;
 use lp_form::Form;
 use lp_frac::Stop;
 use lp_model::Model;
 use lp_revised::cold_over_factors;
+use lp_row_runs::cold_over_rows;
 use std::alloc::{AllocError, Global};
 
 /// What runs both phases. Each one has the whole budget.
@@ -25,25 +24,6 @@ pub(crate) enum Engine {
     Tableaus,
     /// Tableaus of integer rows, until their effort passes a bound.
     Rows,
-}
-
-// The run over factors, and the check of the certificate that it ended with.
-fn over_factors(alloc: Global, budget: u64, model: &Model, form: &Form) -> Result<End, AllocError>
-    requires { form_of (Some number_limit) model.now ≡ Ok form.now }
-    ensures answer { IfOk result (λ s. s ≡ over.over_factors (Some number_limit) budget model.now form.now) }
-    ensures narrow { IfOk result (IsFit model.now) }
-{
-    match cold_over_factors(alloc, form, budget) {
-        Ok(end) => Ok(checked_cold(
-            model,
-            end.certificate,
-            basis_of(form, end.basis),
-            end.pivots,
-        )),
-        Err(Stop::Past(past)) => Ok(End::Past(past)),
-        Err(Stop::Cause(_)) => Ok(End::Spent),
-        Err(Stop::NoMemory) => Err(AllocError),
-    }
 }
 
 // How many entries of a column are counted at the most, on average.
@@ -105,7 +85,12 @@ fn engines(form: &Form) -> [Engine; 3]
     }
 }
 
-// What one engine ends with.
+/// The effort of a run over rows whose certificate has numbers of 127 bits, some seconds of it: each number that is changed
+/// counts for the square of its words.
+pub(crate) const WORK: u64 = 512_000_000;
+
+// What one engine ends with, and the check of its certificate at 127 bits. The rows give up where their effort passes
+// `work`.
 fn run(
     alloc: Global,
     budget: u64,
@@ -119,9 +104,27 @@ fn run(
     ensures narrow { IfOk result (IsFit model.now) }
 {
     match engine {
-        Engine::Factors => over_factors(alloc, budget, model, form),
+        Engine::Factors => match cold_over_factors(alloc, form, budget) {
+            Ok(end) => Ok(checked_cold(
+                model,
+                end.certificate,
+                basis_of(form, end.basis),
+                end.pivots,
+            )),
+            Err(Stop::Past(past)) => Ok(End::Past(past)),
+            Err(Stop::Cause(_)) => Ok(End::Spent),
+            Err(Stop::NoMemory) => Err(AllocError),
+        },
         Engine::Tableaus => from_form(alloc, budget, model, form),
-        Engine::Rows => over_rows(alloc, budget, work, model, form),
+        Engine::Rows => match cold_over_rows(alloc, form, budget, work)? {
+            Some(row_end) => Ok(checked_cold(
+                model,
+                row_end.certificate,
+                basis_of(form, row_end.basis),
+                row_end.pivots,
+            )),
+            None => Ok(End::Spent),
+        },
     }
 }
 

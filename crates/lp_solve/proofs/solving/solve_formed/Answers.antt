@@ -1,7 +1,7 @@
 -- From the starting basis, or without one.
 use Rattle.std.proofs.Common.{IfOk, option_map, sym, subst}
 use Rattle.spec_solve.specs.Answers.{IsSolved}
-use Rattle.lp_solve.proofs.Allowed.{solves_leave}
+use Rattle.lp_solve.proofs.Allowed.{cold_is_solved, solve_leaves, solves_leave}
 use Rattle.lp_solve.proofs.solving.solve_formed.Goals as goal
 
 pub returns-in-Some-clause-solved : goal.returns-in-Some-clause-solved
@@ -18,16 +18,20 @@ returns-in-Some-clause-basis c =
     (IsSolved c.args.model.now c.args.budget (option_map (λ basis. basis.now) starting)))
     (sym c.in-Some.is) c.warm_first.ensures)
 
-pub returns-in-None-clause-solved : goal.returns-in-None-clause-solved
-returns-in-None-clause-solved c =
-    subst (λ starting. IfOk c.cold_first.result
-    (IsSolved c.args.model.now c.args.budget (option_map (λ basis. basis.now) starting)))
-    (sym c.in-None.is) c.cold_first.ensures
+pub returns-in_ok-cold_solve-in-None-clause-solved : goal.returns-in_ok-cold_solve-in-None-clause-solved
+returns-in_ok-cold_solve-in-None-clause-solved c =
+    subst
+    (λ starting. IsSolved c.args.model.now c.args.budget (option_map (λ basis. basis.now) starting) c.ended_cold.result)
+    (sym c.in-None.is)
+    (cold_is_solved c.args.budget c.args.model.now _ c.ended_cold.result c.ended_cold.ensures
+    c.in_ok-cold_solve-in-None.ensures.answer c.in_ok-cold_solve-in-None.ensures.narrow)
 
-pub returns-in-None-clause-basis : goal.returns-in-None-clause-basis
-returns-in-None-clause-basis c =
-    solves_leave c.args.budget c.args.model.now c.args.form.now _ c.args.starting c.requires.formed c.requires.fits
-    c.cold_first.result
-    (subst (λ starting. IfOk c.cold_first.result
-    (IsSolved c.args.model.now c.args.budget (option_map (λ basis. basis.now) starting)))
-    (sym c.in-None.is) c.cold_first.ensures)
+pub returns-in_ok-cold_solve-in-None-clause-basis : goal.returns-in_ok-cold_solve-in-None-clause-basis
+returns-in_ok-cold_solve-in-None-clause-basis c =
+    solve_leaves c.args.budget c.args.model.now c.args.form.now _ c.args.starting c.requires.formed c.requires.fits
+    c.ended_cold.result
+    (subst
+    (λ starting. IsSolved c.args.model.now c.args.budget (option_map (λ basis. basis.now) starting) c.ended_cold.result)
+    (sym c.in-None.is)
+    (cold_is_solved c.args.budget c.args.model.now _ c.ended_cold.result c.ended_cold.ensures
+    c.in_ok-cold_solve-in-None.ensures.answer c.in_ok-cold_solve-in-None.ensures.narrow))
