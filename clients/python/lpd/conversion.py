@@ -12,7 +12,7 @@ from .errors import LpdError, TextFault
 from .model import FIELDS, FREE, SECTIONS, SENSES, Fault, Model, Reader, has_gaps, is_name, lines_of, read_lines, words_of
 from .names import Renamed, renamed
 from .number_text import NotANumber, parse
-from .records import dataclass, field, replace
+from .records import dataclass
 
 # Senses by their words, in upper case.
 SENSE_WORDS = {**{word: word for word in SENSES}, "MINIMISE": "MINIMIZE", "MAXIMISE": "MAXIMIZE"}
@@ -111,24 +111,37 @@ class Options:
         return self.wide or self.large
 
 
-@dataclass
 class Card:
-    """A line of the text by its fields. Cards of one section have the fields that the section has."""
+    """A line of the text by its fields. Cards of one section have the fields that the section has. There is one for each line, so it is
+    no record, which takes longer to make."""
 
-    line: int
-    text: str
-    section: str = ""  # empty for a line without words and for a comment
-    kind: str = ""  # of a row or a bound
-    set: Optional[str] = None
-    name: str = ""  # of a row, a column, or what a section card has behind its word
-    pairs: List[Tuple[str, str]] = field(default_factory=list)
-    number: Optional[str] = None
-    is_head: bool = False  # a section card
+    def __init__(
+        self,
+        line: int,
+        text: str,
+        section: str = "",  # empty for a line without words and for a comment
+        kind: str = "",  # of a row or a bound
+        set: Optional[str] = None,
+        name: str = "",  # of a row, a column, or what a section card has behind its word
+        pairs: Sequence[Tuple[str, str]] = (),
+        number: Optional[str] = None,
+        is_head: bool = False,  # a section card
+    ) -> None:
+        self.line, self.text, self.section, self.kind, self.set = line, text, section, kind, set
+        self.name, self.pairs, self.number, self.is_head = name, pairs, number, is_head
+
+    def of_kind(self, kind: str, number: Optional[str]) -> Card:
+        """The card of a bound, with another kind and number."""
+        return Card(self.line, self.text, self.section, kind, self.set, self.name, self.pairs, number, self.is_head)
 
     def words(self) -> List[str]:
-        flat = [word for pair in self.pairs for word in pair]
-        front = [self.kind, self.set, self.name] if self.section == "BOUNDS" else [self.kind, self.name, self.set]
-        return [word for word in front if word] + flat + ([] if self.number is None else [self.number])
+        front = (self.kind, self.set, self.name) if self.section == "BOUNDS" else (self.kind, self.name, self.set)
+        words = [word for word in front if word]
+        for pair in self.pairs:
+            words += pair
+        if self.number is not None:
+            words.append(self.number)
+        return words
 
     def shown(self) -> str:
         """The line of the profile: the text as it stands where that says the same, or else written anew."""
@@ -138,8 +151,8 @@ class Card:
             words = [self.section] + ([self.name] if self.name else [])
             read = len(words) if self.section in ("NAME", "OBJSENSE") else 1
             return self.text if words_of(self.text)[: max(read, 1)] == words else " ".join(words)
-        is_indented = self.text[:1] in (" ", "\t")
-        return self.text if is_indented and words_of(self.text) == self.words() else " " + " ".join(self.words())
+        is_indented, words = self.text[:1] in (" ", "\t"), self.words()
+        return self.text if is_indented and words_of(self.text) == words else " " + " ".join(words)
 
 
 def is_number(text: str) -> bool:
@@ -172,6 +185,31 @@ def decoded(data: bytes) -> Decoded:
         return Decoded(data.decode("latin-1"), "latin-1", False)
 
 
+class Names(NamedTuple):
+    """The names of a text's rows and columns, which may begin with the sign of a comment."""
+
+    rows: Set[str]
+    columns: Set[str]
+
+    def has(self, name: str) -> bool:
+        return name in self.rows or name in self.columns
+
+
+def names_of(lines: Sequence[str], fixed: bool) -> Names:
+    """The names that lines of sections of rows and columns have. In free form a card of a column has its name before that of a row."""
+    names, section = Names(set(), set()), ""
+    for line in lines:
+        if line[:1] not in (" ", "\t", "*", ""):
+            section = words_of(line)[0].upper()
+            continue
+        words = [line[4:12].strip(), line[14:22].strip()] if fixed else words_of(line)[1:2] if section == "ROWS" else words_of(line)
+        if section == "ROWS" and words:
+            names.rows.add(words[0])
+        elif section == "COLUMNS" and len(words) > 1 and words[1] in names.rows:
+            names.columns.add(words[0])
+    return names
+
+
 class Cards:
     """Reads lines as cards, and lists what it changes."""
 
@@ -179,8 +217,7 @@ class Cards:
         self.lines, self.fixed, self.options = lines, fixed, options
         self.cards: List[Card] = []
         self.noted: Dict[str, List[int]] = {}
-        self.rows: Set[str] = set()
-        self.columns: Set[str] = set()
+        self.names: Optional[Names] = None
         self.whole: Dict[str, int] = {}  # whole-number columns, and the line of each
         self.sense: Optional[str] = None
         self.objective: Optional[Card] = None
@@ -193,24 +230,15 @@ class Cards:
             "RANGES": self.side_card,
             "BOUNDS": self.bound_card,
         }
-        self.names_of_text()
 
     def note(self, line: int, what: str) -> None:
         self.noted.setdefault(what, []).append(line)
 
-    def names_of_text(self) -> None:
-        """The names of rows and columns, which may begin with the sign of a comment. In free form a card of a column has its name
-        before that of a row."""
-        section = ""
-        for line in self.lines:
-            if line[:1] not in (" ", "\t", "*", ""):
-                section = words_of(line)[0].upper()
-                continue
-            words = [line[4:12].strip(), line[14:22].strip()] if self.fixed else words_of(line)[1:2] if section == "ROWS" else words_of(line)
-            if section == "ROWS" and words:
-                self.rows.add(words[0])
-            elif section == "COLUMNS" and len(words) > 1 and words[1] in self.rows:
-                self.columns.add(words[0])
+    def known(self) -> Names:
+        """The names of the text, which is looked through for them once, where a card asks for them."""
+        if self.names is None:
+            self.names = names_of(self.lines, self.fixed)
+        return self.names
 
     def read(self) -> None:
         section = ""
@@ -271,14 +299,11 @@ class Cards:
 
     # ---- data cards
 
-    def is_known(self, name: str) -> bool:
-        return name in self.rows or name in self.columns
-
     def without_comment(self, line: int, text: str, section: str) -> str:
         """The card without a comment behind $."""
         if self.fixed:
             for first in (15, 40):
-                if text[first - 1 : first] == "$" and not self.is_known(text[first - 1 : first + 7].strip()):
+                if text[first - 1 : first] == "$" and not self.known().has(text[first - 1 : first + 7].strip()):
                     self.note(line, "a comment behind $ is taken out")
                     return text[: first - 1]
             return text
@@ -286,7 +311,7 @@ class Cards:
             return text
         words, least = words_of(text), 2 if section in ("ROWS", "BOUNDS") else 1
         for at, word in enumerate(words):
-            if word[0] == "$" and at >= least and not self.is_known(word):
+            if word[0] == "$" and at >= least and not self.known().has(word):
                 self.note(line, "a comment behind $ is taken out")
                 return text[:1] + " ".join(words[:at])
         return text
@@ -396,8 +421,8 @@ class Cards:
                 raise TextFault(line, 3, text)
             return (words[0] if len(words) == 3 else None), words[-2], words[-1]
         is_numbered = len(words) == 3
-        if len(words) == 2 and words[0] in self.columns and is_number(words[1]):
-            if words[1] in self.columns:
+        if len(words) == 2 and is_number(words[1]) and words[0] in self.known().columns:
+            if words[1] in self.known().columns:
                 raise Unconvertible(line, f"{words[0]} and {words[1]} are both columns, so {kind} can be of either: take one word out")
             is_numbered = True
         if is_numbered:
@@ -416,7 +441,7 @@ class Cards:
 class Converter:
     def __init__(self, text: str, fixed: bool, options: Options) -> None:
         self.read = Cards(lines_of(text), fixed, options)
-        self.returns = {number for number, line in enumerate(text.split("\n"), 1) if line.endswith("\r")}
+        self.returns = {number for number, line in enumerate(text.split("\n"), 1) if line.endswith("\r")} if "\r" in text else set()
         self.options = options
         self.names: List[Renamed] = []
 
@@ -482,9 +507,10 @@ class Converter:
             return [card]
         if card.kind == "BV":
             self.read.note(card.line, "BV is written as LO 0 and UP 1")
-            return [replace(card, kind=kind, number=number) for kind, number in (("LO", "0"), ("UP", "1"))]
-        self.read.note(card.line, f"{card.kind} is written as {'LO' if card.kind == 'LI' else 'UP'}")
-        return [replace(card, kind="LO" if card.kind == "LI" else "UP")]
+            return [card.of_kind(kind, number) for kind, number in (("LO", "0"), ("UP", "1"))]
+        kind = "LO" if card.kind == "LI" else "UP"
+        self.read.note(card.line, f"{card.kind} is written as {kind}")
+        return [card.of_kind(kind, card.number)]
 
     def bound_by_one(self, names: List[str]) -> None:
         """Gives columns the upper bound 1, with the set of the section's first card."""
