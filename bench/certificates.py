@@ -41,8 +41,8 @@ def answer_of(line):
 
 
 def optima_of(path):
-    """For each model of a table its answer: a line of names, and then of each model its parts between tabs. The part named optimum is
-    the value; where one named outcome says something else than optimal, that is the answer."""
+    """For each model of a table its answer: a line of names, and then of each model its parts between tabs. The part in whose name there
+    is optimum is the value; where one named outcome says something else than optimal, that is the answer."""
     heads, *lines = [line.lstrip("# ").split("\t") for line in pathlib.Path(path).read_text().splitlines()]
     at = next(n for n, head in enumerate(heads) if "optimum" in head)
     outcome = heads.index("outcome") if "outcome" in heads else None

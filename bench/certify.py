@@ -5,15 +5,16 @@
                [--write PAGE]
 
 Each NAME.mps is converted into the profile, solved by lpd with the largest budget, and certified as the command `certify`
-of clients/python does, with each solver (glpsol and clp); WAY is one of its words for --by (lpd, python). FILE has a line 'NAME outcome optimum ..' for
-each model, its words parted by tabs, with which every answer is compared. Times are of the wall: of solve with both
+of clients/python does, with each solver (glpsol and clp); WAY is one of its words for --by (lpd, python). FILE has the answer of each
+model, as bench/certificates.py reads it, with which every answer is compared. Times are of the wall: of solve with both
 checks, and of each certificate with the other solver and with both checks in them. With --write the table takes the
 place of what stands between the two marks of PAGE.
 
 With --parts the command is run as a person runs it, from the second run on, and nothing is solved beside it. The times are of the
-processor: of the solver, of the programs of lpd, of the checker in Python, of one reading of the text by Python with its own start, and
-of the whole. The memory is Python's own. Its table has marks of its own. FILE keeps what is measured, line by line, and a later run
-goes on with it. The smallest models come first. With --kept nothing is measured: the table has what FILE has, and empty cells.
+processor: of the solver, of the programs of lpd, of the checker in Python, of the text, and of the whole. That of the text is of one
+reading by Python, or where something in the text has to be changed of the whole conversion, as `convert` makes it; Python's own start
+counts there. The memory is Python's own. Its table has marks of its own. The FILE of --keep keeps what is measured, line by line, and a
+later run goes on with it. The smallest models come first. With --kept nothing is measured: the table has what FILE has, and empty cells.
 """
 import argparse
 import contextlib
@@ -36,38 +37,36 @@ from lpd.__main__ import main as command  # noqa: E402
 from lpd.batching import Work, one_by_one, tasks_of  # noqa: E402
 from lpd.certifying import BASIS, BASIS_WIDE, WAYS  # noqa: E402
 from lpd.judging import LPD_CHECK, LPD_CHECK_WIDE, PYTHON_ALONE  # noqa: E402
-from lpd.number_text import number  # noqa: E402
-from lpd.replies import Optimal  # noqa: E402
 from lpd.solver_names import NONE, is_there  # noqa: E402
 from lpd.tables import off_of  # noqa: E402
 from lpd.ways import Effort  # noqa: E402
 
-PARTS = ("solver", "lpd", "checker", "reading", "whole")
+PARTS = ("solver", "lpd", "checker", "text", "whole")
 BEGIN_PARTS, END_PARTS = "<!-- measured by bench/certify.py --parts -->", "<!-- end of the certificates by parts -->"
 BEGIN, END = "<!-- measured by bench/certify.py -->", "<!-- end of the certificates -->"
 LARGEST = 1_000_000
 ANSWERS = ("OPTIMAL", "INFEASIBLE", "UNBOUNDED")
 JUDGES = {LPD_CHECK: "`lpd check`", LPD_CHECK_WIDE: "`lpd check --wide`", PYTHON_ALONE: "the checker in Python alone"}
-COMMANDS = {BASIS_WIDE: "by `lpd basis --wide`", BASIS: "by `lpd basis`", "": "by elimination in Python"}
+COMMANDS = {BASIS_WIDE: "`lpd basis --wide`", BASIS: "`lpd basis`", "": "elimination in Python"}
 
 
 def row(cells):
     return "| " + " | ".join(cells) + " |"
 
 
-def optima_of(path):
-    """For each name its outcome and its optimum."""
-    lines = pathlib.Path(path).read_text().splitlines()[1:] if path else []
-    return {name: (outcome.upper(), optimum) for name, outcome, optimum, *_ in (line.split("\t") for line in lines)}
+def answers_in(path):
+    """For each name its answer, by the file of them, if there is one."""
+    from certificates import optima_of  # here, since what it imports is no part of the command that is measured
+
+    return optima_of(path) if path else {}
 
 
-def wrong(name, known, optima):
+def wrong(name, answer, optima):
     """What is wrong with an answer, by the list."""
-    if name not in optima:
-        return []
-    outcome, optimum = optima[name]
-    is_right = str(known).split()[0] == outcome and (not isinstance(known, Optimal) or known.value == number(optimum, wide=True))
-    return [] if is_right else [f"{name}: {known}, and the list says {outcome} {optimum}"]
+    from certificates import answer_of
+
+    known = optima.get(name)
+    return [] if known in (None, answer_of(answer)) else [f"{name}: {answer[:80]}, and the list says another"]
 
 
 def cells_of(result):
@@ -78,16 +77,27 @@ def cells_of(result):
     return [found.judge, str(found.steps), off_of(found) or "", f"{result.certify_seconds:.2f}"]
 
 
+def listed(counts):
+    """How many there are of each, by its words, without those of which there is none."""
+    return " and ".join(f"{words} {number}" for words, number in counts if number)
+
+
+def accepted(solver, judges, models):
+    """How many models of all have a certificate, and by whom these are accepted."""
+    said = f"With {'no solver' if solver == NONE else f'the bases of `{solver}`'} {len(judges)} of {models} models have a certificate: "
+    return said + listed((f"{words} accepts", judges.count(judge)) for judge, words in JUDGES.items()) + "."
+
+
 def count(solver, results):
     found = [result for result in results if result.certified]
-    counts = [(sum(result.certified.judge == judge for result in found), words) for judge, words in JUDGES.items()]
     times = sorted(result.certify_seconds for result in found)
-    said = f"With the bases of `{solver}` {len(found)} of {len(results)} models are certified: "
-    said += " and ".join(f"{number} by {words}" for number, words in counts if number)
-    said += f". Each took at most {times[-1]:.1f} s, and half of them at most {times[len(times) // 2]:.2f} s. Of them"
-    commands = [(sum(r.certified.command == command for r in found), words) for command, words in COMMANDS.items()]
-    said += " " + " and ".join(f"{number} {words}" for number, words in commands if number)
-    return f"{said}, and {sum(r.certified.steps > 0 for r in found)} need steps from there."
+    makers = listed((f"{words} made", sum(r.certified.command == command for r in found)) for command, words in COMMANDS.items())
+    return " ".join((
+        accepted(solver, [result.certified.judge for result in found], len(results)),
+        f"Each took at most {times[-1]:.1f} s, and half of them at most {times[len(times) // 2]:.2f} s.",
+        f"Of the {len(found)} certificates {makers}.",
+        f"For {sum(result.certified.steps > 0 for result in found)} of the models exact steps had to mend the solver's basis.",
+    ))
 
 
 def after_convert(results):
@@ -96,7 +106,7 @@ def after_convert(results):
 
 def measure(options, faults):
     """The lines of the table, with the counts before it."""
-    optima, by_solver = optima_of(options.optima), {}
+    optima, by_solver = answers_in(options.optima), {}
     for solver in options.solvers:
         work = Work(effort=Effort(LARGEST, only_lpd=True, seconds=options.seconds), certifier=solver, way=options.way)
         by_solver[solver] = list(one_by_one(tasks_of(map(str, pathlib.Path(options.folder).glob("*.mps"))), work))
@@ -106,7 +116,7 @@ def measure(options, faults):
     for solver, results in by_solver.items():
         yield count(solver, results)
         for result in results:
-            faults += wrong(result.name, result.certified.known, optima) if result.certified else [f"{result.name}: {result.notes}"]
+            faults += wrong(result.name, str(result.certified.known), optima) if result.certified else [f"{result.name}: {result.notes}"]
     yield ""
     yield row(["Model", "`solve`", "s", *(head for solver in by_solver for head in (f"`{solver}`: judge", "steps", "off by", "s"))])
     yield row(["---"] * (3 + 4 * len(by_solver)))
@@ -127,7 +137,8 @@ class Clock:
     """The processor's seconds of calls, of Python's own or of the programs that it ran, by what they were for."""
 
     def __init__(self):
-        self.seconds = {"solver": [], "checker": [], "reading": []}
+        self.seconds = {"solver": [], "checker": [], "reading": [], "conversion": []}
+        self.converted = None
 
     def around(self, module, name, what, who):
         """From here on the calls of a function count for this."""
@@ -136,11 +147,19 @@ class Clock:
         def counted(*words, **more):
             start = spent(who)
             try:
-                return call(*words, **more)
+                found = call(*words, **more)
             finally:
                 self.seconds[what].append(spent(who) - start)
+            self.converted = found if what == "conversion" else self.converted
+            return found
 
         setattr(module, name, counted)
+
+    def text(self):
+        """The seconds of what a person does with the text before the solver has it: who has to convert it converts it, with all readings
+        in that; or else it is read once."""
+        is_changed = self.converted is not None and self.converted.changes
+        return max(self.seconds["conversion" if is_changed else "reading"], default=0)
 
 
 def measure_one(path, solver, seconds):
@@ -150,15 +169,14 @@ def measure_one(path, solver, seconds):
     clock.around(certifying, "ask", "solver", resource.RUSAGE_CHILDREN if is_other else resource.RUSAGE_SELF)
     clock.around(certifying, "check_lines", "checker", resource.RUSAGE_SELF)
     clock.around(conversion, "read_lines", "reading", resource.RUSAGE_SELF)
+    clock.around(conversion, "convert", "conversion", resource.RUSAGE_SELF)
     said, told = io.StringIO(), io.StringIO()
     with contextlib.redirect_stdout(said), contextlib.redirect_stderr(told):
         status = command(["certify", path, "--with", solver, "--seconds", str(seconds), "--json"])
     found = json.loads(said.getvalue()) if status in (0, 10, 11) else {"answer": told.getvalue().strip(), "judge": ""}
     programs, own = spent(resource.RUSAGE_CHILDREN), spent(resource.RUSAGE_SELF)
-    parts = {part: sum(seconds) for part, seconds in clock.seconds.items()}
-    # The text is read in each form that fits.
-    reading = max(clock.seconds["reading"], default=0) + started
-    parts.update(lpd=programs - (parts["solver"] if is_other else 0), reading=reading, whole=programs + own)
+    parts = {part: sum(clock.seconds[part]) for part in ("solver", "checker")}
+    parts.update(lpd=programs - (parts["solver"] if is_other else 0), text=clock.text() + started, whole=programs + own)
     memory = resource.getrusage(resource.RUSAGE_SELF).ru_maxrss / 1024
     print(json.dumps({key: found.get(key) for key in ("answer", "judge", "off", "steps", "start", "notes")} | {"parts": parts, "memory": memory}))
 
@@ -195,15 +213,15 @@ def sum_of(found):
 def told_of(solver, measured):
     """How many certificates there are, by whom they are accepted, and the most of times and memory."""
     found = [one for one in measured.values() if one["judge"] in JUDGES]
-    said = f"With {'no solver' if solver == NONE else f'the bases of `{solver}`'} {len(found)} of {len(measured)} models are certified: "
-    counts = [(sum(one["judge"] == judge for one in found), words) for judge, words in JUDGES.items()]
-    said += " and ".join(f"{number} by {words}" for number, words in counts if number)
     refined = sum(any("refined its basis" in note for note in one["notes"] or []) for one in found)
-    said += f". {refined} bases were refined, and {sum(bool(one['steps']) for one in found)} needed steps."
     most, of = max((one["parts"]["whole"] / sum_of(one), name) for name, one in measured.items() if one in found)
-    total = sum(one["parts"]["whole"] for one in found)
-    said += f" The whole took {total:.0f} s, and at most {most:.2f} times the sum of its parts (`{of}`)."
-    return f"{said} Python had at most {max(one['memory'] for one in found):.0f} MB."
+    return " ".join((
+        accepted(solver, [one["judge"] for one in found], len(measured)),
+        f"For {sum(bool(one['steps']) for one in found)} of the models exact steps had to mend the basis, and for {refined} the solver refined it.",
+        f"`certify` took {sum(one['parts']['whole'] for one in found):.0f} s for all of them,",
+        f"and for each model at most {most:.2f} times the sum of the parts (`{of}`).",
+        f"Python had at most {max(one['memory'] for one in found):.0f} MB.",
+    ))
 
 
 def measure_parts(options, faults):
@@ -213,12 +231,12 @@ def measure_parts(options, faults):
         if not options.kept:
             parts_of(str(by_size[0]), options.solvers[0], options)  # which compiles, and is not kept
         measured = dict(measured_by(by_size, options))
-    optima = optima_of(options.optima)
+    optima = answers_in(options.optima)
     for solver, found in measured.items():
         faults += [fault for name, one in found.items() for fault in wrong_parts(name, one, optima)]
         yield told_of(solver, found)
     yield ""
-    heads = (head for solver in measured for head in (f"`{solver}`, s", "`lpd`, s", "Python's check, s", "reading, s", "whole, s"))
+    heads = (head for solver in measured for head in (f"`{solver}`, s", "`lpd`, s", "Python's check, s", "text, s", "whole, s"))
     yield row(["Model", *heads])
     yield row(["---"] * (1 + 5 * len(measured)))
     for path in paths:
@@ -243,10 +261,7 @@ def measured_by(paths, options):
 def wrong_parts(name, found, optima):
     if found["judge"] not in (LPD_CHECK, LPD_CHECK_WIDE):
         return [f"{name}: {found['answer']}"]
-    outcome, _, value = found["answer"].partition(" ")
-    known = optima.get(name, (outcome, value))
-    is_right = outcome == known[0] and (not value or number(value, wide=True) == number(known[1], wide=True))
-    return [] if is_right else [f"{name}: {found['answer'][:80]}, and the list says another"]
+    return wrong(name, found["answer"], optima)
 
 
 def main():

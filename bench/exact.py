@@ -15,7 +15,7 @@ profile where they need it: how many are answered, and of how many the basis is 
 the longest number of a certificate; and the times. With --write it takes the place of what stands between the two marks of PAGE.
 
 With --optima, for models as large as Netlib's, it has the bytes of the certificates and the memory of the commands too, a sum stands
-before it, and it takes the place between marks of its own. FILE has the answer of each model, as bench/certificates.py reads it, and
+before it, and it takes the place between marks of its own, of which each SOLVER that is asked has a pair. FILE has the answer of each model, as bench/certificates.py reads it, and
 each answer has to be that. --only then names models. Bases are taken from NAME.bas in --bases, as clp writes them, or certificates
 from NAME.certificate in --certificates, and no solver is asked. With --tampered one digit of one number of each certificate is
 changed, and `lpd check --wide` has to say NO or ERR, and the checker in Python the same.
@@ -41,6 +41,7 @@ from lpd.floating import ask
 BEGIN, END = "<!-- measured by bench/exact.py -->", "<!-- end of the exact bases -->"
 FOLDER_MARKS = "<!-- measured by bench/exact.py of a folder -->", "<!-- end of the folder's exact bases -->"
 LARGE_MARKS = "<!-- measured by bench/exact.py of large models -->", "<!-- end of the large models' exact bases -->"
+SOLVER_MARKS = "<!-- measured by bench/exact.py --solver {} of large models -->", "<!-- end of the large models' bases of {} -->"
 MOST_CHANGES = 6
 # Of a large model: its answer and how that was found, the certificate, the seconds of the solver, and what the commands ran as.
 Certified = namedtuple("Certified", "answer how certificate solver basis")
@@ -148,7 +149,7 @@ def table(options, faults):
         counts = [counts[0] + len(found), counts[1] + int(said[0]), counts[2] + int(said[1])]
         yield row([*words, *said])
     yield ""
-    yield f"Of {counts[0]} models {counts[1]} are answered, {counts[2]} by the basis as it is."
+    yield f"Of {counts[0]} models {counts[1]} are answered. For {counts[2]} of them the basis is optimal as it is."
 
 
 # ---- large models
@@ -284,8 +285,8 @@ def beside_esolver(found):
         mean = statistics.geometric_mean(ratios.values())
         more = sum(ratio > 1 for ratio in ratios.values())
         yield (
-            f"`esolver` takes 0.1 s or more for {len(ratios)} models: of its time `basis --wide` takes {mean:.3f} in the geometric mean, "
-            f"at most {ratios[worst]:.2f} (`{worst}`), and more than it on {more}."
+            f"On the {len(ratios)} models for which `esolver` takes 0.1 s or more, `basis --wide` takes {mean:.3f} times as long in the geometric "
+            f"mean, and at most {ratios[worst]:.2f} times (`{worst}`). On {more} of these it takes longer than `esolver`."
         )
 
 
@@ -300,7 +301,7 @@ def summed_up(options, found):
     )
     if not options.certificates:
         as_it_is = sum(one.certified.how == "WARM PIVOTS 0" for one in found.values())
-        yield f"Of {as_it_is} the basis is optimal as it is."
+        yield f"For {as_it_is} of them the basis is optimal as it is."
         yield from told_of("`basis --wide`", {name: one.certified.basis for name, one in found.items()})
         yield from beside_esolver(judged_ones)
     yield from told_of("`check --wide`", {name: one.check for name, one in judged_ones.items()})
@@ -312,13 +313,18 @@ def summed_up(options, found):
         yield f"With one digit of one number changed {words.count('NO')} get `NO` and {words.count('ERR')} `ERR`{more}."
 
 
+def large_marks(options):
+    """The marks of large models: of those whose bases, or certificates, are there, or of those whose solver is asked."""
+    return LARGE_MARKS if options.bases or options.certificates else [mark.format(options.solver) for mark in SOLVER_MARKS]
+
+
 def main():
     places = dict.fromkeys(("folder", "bases", "certificates", "optima"), "")
     options = read_options(__doc__, **places, solver="glpsol", only="", seed="", runs=1, seconds=60, tampered=False, alone=False)
     faults, found = [], {}
     if options.optima:
         lines = shown(large_table(options, faults, found))
-        return ended(options.write, *LARGE_MARKS, [" ".join(shown(summed_up(options, found))), "", *lines], faults)
+        return ended(options.write, *large_marks(options), [" ".join(shown(summed_up(options, found))), "", *lines], faults)
     return ended(options.write, *(FOLDER_MARKS if options.folder else (BEGIN, END)), shown(table(options, faults)), faults)
 
 

@@ -119,16 +119,17 @@ def cells(found, is_kind):
 def beside(found):
     """How the times stand beside those of esolver."""
     times = [one.esolver for one in found if one.esolver is not None]
-    yield f"`esolver` takes at most {milliseconds(statistics.median(times))} ms for half of all, and at most {milliseconds(max(times))} ms for each."
+    yield f"`esolver` takes at most {milliseconds(statistics.median(times))} ms for half of the models, and at most {milliseconds(max(times))} ms for each."
     ratios = ratios_of(found)
     mean, (worst, name) = statistics.geometric_mean(ratio for ratio, _ in ratios), max(ratios)
-    yield f"Of its time the solve takes {mean:.2f} in the geometric mean, and at most {worst:.2f} (`{name}`)."
+    yield f"The solve takes {mean:.2f} times as long as `esolver` in the geometric mean over {len(ratios)} models, and at most {worst:.2f} times (`{name}`)."
     long = ratios_of(one for one in found if one.esolver and one.esolver >= 0.2)
     if long:
         worst, name = max(long)
         more = [f"`{name}`" for ratio, name in long if ratio > 2]
         names = f" ({', '.join(more)})" if more else ""
-        yield f"Where it takes 0.2 s or more, on {len(long)} models, that is at most {worst:.2f} (`{name}`), and above 2 on {len(more)}{names}."
+        yield f"On the {len(long)} models for which `esolver` takes 0.2 s or more, the solve takes at most {worst:.2f} times as long (`{name}`)."
+        yield f"On {len(more)} of these{names} it takes more than twice as long."
 
 
 def summed_up(found, seconds):
