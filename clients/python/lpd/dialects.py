@@ -5,8 +5,8 @@ from fractions import Fraction
 from typing import Callable, Dict, List, Optional, Sequence, Tuple
 
 from .errors import LpdError
-from .model import Column, Limits, Model
-from .names import Renamed, renamed
+from .model import Column, Limits, Model, is_name
+from .names import Renamed, plain, renamed
 from .number_text import shown
 from .records import dataclass, field, replace
 
@@ -17,6 +17,15 @@ class Inexact(LpdError):
     """A number has no finite decimal, and the program reads no quotients."""
 
     ends_with = 9
+
+
+class WrongName(LpdError):
+    """A name of a model that was made by a program, which no text can have."""
+
+    ends_with = 9
+
+    def __init__(self, name: str) -> None:
+        super().__init__(f"{name!r} is no name of a row or a column: lpd.names.plain makes {plain(name)!r} of it")
 
 
 def with_dollar_before(name: str) -> bool:
@@ -140,7 +149,7 @@ class Writer:
 
     def text(self) -> str:
         model = self.model
-        lines = [f"NAME {model.name or 'model'}{self.dialect.free_mark}"]
+        lines = [f"NAME {plain(model.name or 'model')}{self.dialect.free_mark}"]
         if model.sense < 0 and self.dialect.maximize is None:
             lines += ["OBJSENSE", "    MAX"]
         lines += ["ROWS", f" N {model.objective}", *(f" {row.kind} {name}" for name, row in model.rows.items()), "COLUMNS"]
@@ -187,7 +196,11 @@ def first_few(names: Sequence[str]) -> str:
 
 
 def written(model: Model, dialect: Dialect, rounds: bool = False, path: str = "MODEL") -> Written:
-    """The model's text for a program. A number that the program cannot read exactly raises Inexact, unless it may be rounded."""
+    """The model's text for a program. A number that the program cannot read exactly raises Inexact, unless it may be rounded, and a name
+    with a blank or the like WrongName."""
+    for name in (model.objective, *model.rows, *model.columns):
+        if not is_name(name):
+            raise WrongName(name)
 
     def fits(name: str) -> bool:
         return not dialect.misreads(name)

@@ -10,6 +10,7 @@ MOST = 2**26  # bytes, which is what the program reads
 GZIP = b"\x1f\x8b"
 LP, MATHPROG = ".lp", ".mod"
 ENDS = (".mps", LP, MATHPROG)
+TABLES = (".csv", ".tsv", ".xls", ".xlsx", ".ods")
 
 
 def unpacked(data: bytes, name: str) -> bytes:
@@ -49,6 +50,8 @@ def is_lp(path: str) -> bool:
 
 def mps_of_file(data: bytes, path: str) -> bytes:
     """The MPS text of a model in a file with this content."""
+    if path.lower().endswith(TABLES):
+        raise Unreadable(f"{path} is a table, and no text of a model: examples/python/table.py in the repository makes a model of one")
     text = unpacked(data, path)
     if not is_lp(path):
         return text

@@ -12,8 +12,8 @@ from typing import Dict, Optional
 
 import lpd
 from lpd.conversion import Converted, Options, Question, Unconvertible, as_it_stands, convert, is_same_in_fixed, of_form
-from lpd.dialects import DIALECTS, PROFILE, Inexact, written
-from lpd.model import Model, Row
+from lpd.dialects import DIALECTS, PROFILE, Inexact, WrongName, written
+from lpd.model import Column, Model, Row
 from lpd.names import Renamed
 
 from .commands import AS_EVER, command, reported
@@ -358,6 +358,14 @@ class Command(unittest.TestCase):
         self.assertEqual(said.status, 2)
         self.assertIn("line 6: whole-number columns (x)", said.complaints)
 
+    def test_a_table_is_no_text(self) -> None:
+        with tempfile.TemporaryDirectory() as folder:
+            path = Path(folder) / "Plan.CSV"
+            path.write_text("product,profit\nchair,12.5\n")
+            said = command("convert", str(path))
+        self.assertEqual((said.status, said.output), (9, ""))
+        self.assertIn("is a table, and no text of a model: examples/python/table.py", said.complaints)
+
     def test_refusals(self) -> None:
         self.assertEqual(command("convert", "-", stdin=plain("ENDATA", "SOS1\nENDATA").encode()).status, 9)
         self.assertEqual(command("convert", "-", "--to", "clp", stdin=plain("x cost 1", "x cost 1/3").encode()).status, 9)
@@ -475,6 +483,17 @@ class ForOthers(unittest.TestCase):
                 with tempfile.TemporaryDirectory() as folder:
                     self.assertEqual(self.said(name, model, Path(folder)), ("OPTIMAL", 5.0))
         self.assertEqual(written(model, PROFILE).notes, [])
+
+    def test_names_that_no_text_has(self) -> None:
+        for name in ("garden chair", "", "Stühle", "x" * 65):
+            for model in (
+                Model("made", objective="cost", rows={name: Row("L")}),
+                Model("made", objective="cost", columns={name: Column()}),
+                Model("made", objective=name),
+            ):
+                with self.assertRaises(WrongName):
+                    written(model, PROFILE)
+        self.assertTrue(written(Model("my plan", objective="cost"), PROFILE).text.startswith("NAME my_plan\n"))
 
     def test_notes(self) -> None:
         text = plain("ROWS", "OBJSENSE MAX\nROWS", plain("RHS need 4", "RHS need 4 cost 2"))

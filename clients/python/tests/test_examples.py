@@ -21,6 +21,9 @@ class Examples(unittest.TestCase):
     def test_transportation(self) -> None:
         self.prints("transportation")
 
+    def test_table(self) -> None:
+        self.prints("table")
+
     def test_infeasible(self) -> None:
         self.prints("infeasible")
 
