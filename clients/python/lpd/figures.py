@@ -1,7 +1,7 @@
 """Numbers as people read them: decimals of a few digits, with a mark that says whether they are exact.
 
 An exact number is shown as it is where its decimal has no more digits than that. Of a greater one the digits before the point are
-all shown, up to `MOST_DIGITS`, so that no amount of money ends with zeros that it does not have.
+all shown, up to `MOST_DIGITS`, and two behind it where it has no more: so an amount of money is shown to the cent.
 """
 from __future__ import annotations
 
@@ -13,6 +13,7 @@ from .records import dataclass
 
 DIGITS = 6  # significant ones
 MOST_DIGITS = 12  # before the point
+CENTS = 2  # digits behind the point
 SMALLEST = -4  # the power of ten of the first digit, below which there are zeros behind the point, and the decimal has an exponent
 EXACT, NEAR = "=", "~"
 
@@ -47,6 +48,8 @@ def decimal_of(value: Fraction, digits: int = DIGITS) -> str:
         text = f"{text[0]}.{text[1:]}".rstrip("0").rstrip(".")
         return f"{'-' if value < 0 else ''}{text}e{exponent:+03d}"
     places = max(0, digits - 1 - exponent)
+    if places < CENTS and 10**CENTS % value.denominator == 0:
+        places = CENTS
     text = rounded(value, places)
     return text.rstrip("0").rstrip(".") if places else text
 
