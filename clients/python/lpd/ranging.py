@@ -73,9 +73,12 @@ class Ranges:
         """How many of them are proved, in a sentence."""
         every = [*self.costs.values(), *self.sides.values()]
         proved = sum(isinstance(one, Range) and one.is_proved for one in every)
+        if not proved:
+            return f"None of the {len(every)} ranges is proved: they were found in Python alone."
+        agrees = "lpd range all, which is proved, says the same of"
         if proved == len(every):
-            return f"All {proved} ranges are as lpd range all has them, which is proved."
-        return f"Of {len(every)} ranges {proved or 'none'} {'is' if proved < 2 else 'are'} as lpd range all has them, which is proved."
+            return f"{agrees} all {proved} ranges."
+        return f"{agrees} {proved} of the {len(every)} ranges. The rest were found in Python alone."
 
 
 def number_of(model: Model, what: str, name: str) -> Fraction:

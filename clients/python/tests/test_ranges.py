@@ -103,7 +103,7 @@ class WrittenOfAll(unittest.TestCase):
         one = found.sides["R2"]
         self.assertEqual((one.now, one.says(), one.is_proved) if isinstance(one, Range) else one, (2, (-4, 4, Fraction(1, 2)), True))
         self.assertEqual(found.costs["y"], lpd.Past("DIV", Fraction(1), Fraction(3)))
-        self.assertEqual(found.told(), "Of 4 ranges 3 are as lpd range all has them, which is proved.")
+        self.assertEqual(found.told(), "lpd range all, which is proved, says the same of 3 of the 4 ranges. The rest were found in Python alone.")
         self.assertEqual(read_ranges(["INFEASIBLE"], self.model), lpd.Ranges(lpd.Infeasible()))
 
     def test_what_is_none(self) -> None:
@@ -279,7 +279,7 @@ class WithTheProgram(unittest.TestCase):
             with mock.patch("lpd.ranging.output_of", side_effect=why):
                 found = lpd.ranges(SHOP)
             self.assertEqual(found, whole)
-            self.assertEqual(found.told(), "Of 4 ranges none is as lpd range all has them, which is proved.")
+            self.assertEqual(found.told(), "None of the 4 ranges is proved: they were found in Python alone.")
 
     def test_a_large_model(self) -> None:
         """It goes to no command that has the limits of a session."""
@@ -426,7 +426,7 @@ class Shown(unittest.TestCase):
         self.assertIn("from =-2", lines[5])
         self.assertTrue(lines[5].startswith("y") and lines[5].endswith("R1 leaves its upper limit"), lines[5])
         self.assertIn("to   inf", lines[10])
-        proved = [line for line in lines if line == "All 4 ranges are as lpd range all has them, which is proved."]
+        proved = [line for line in lines if line == "lpd range all, which is proved, says the same of all 4 ranges."]
         self.assertEqual(len(proved), has_command("range all"))
 
     def test_several_limit_at_once(self) -> None:
