@@ -8,6 +8,7 @@ from typing import Callable, Dict, List, NamedTuple, NoReturn, Optional, Sequenc
 from .certificate import raise_unknown
 from .errors import LpdError
 from .model import Column, Model
+from .names import Renamed
 from .number_text import NotANumber, bound, number, shown
 from .records import replace
 
@@ -121,10 +122,26 @@ SETTERS: Dict[str, Callable[[Model, str], Changed]] = {
 }
 
 
-def changed(model: Model, words: Sequence[Tuple[str, str]]) -> Changed:
-    """The model with other numbers, by pairs of what is set (rhs, cost, bound or coef) and the word for it."""
+def with_new_names(model: Model, what: str, word: str, names: Sequence[Renamed]) -> str:
+    """The word for a change with names of the model, where it has those of the text before it was converted."""
+    name, sign, text = word.rpartition("=")
+    rows, columns = ({one.old: one.new for one in names if one.kind == kind} for kind in ("row", "column"))
+    if what != "coef":
+        of_kind = rows if what == "rhs" else columns
+        return f"{of_kind.get(name, name)}{sign}{text}"
+    for at in [n for n, letter in enumerate(name) if letter == ":"]:
+        row, column = name[:at], name[at + 1 :]
+        row, column = rows.get(row, row), columns.get(column, column)
+        if row in model.rows and column in model.columns:
+            return f"{row}:{column}{sign}{text}"
+    return word
+
+
+def changed(model: Model, words: Sequence[Tuple[str, str]], names: Sequence[Renamed] = ()) -> Changed:
+    """The model with other numbers, by pairs of what is set (rhs, cost, bound or coef) and the word for it. The words may have the names
+    before those that a conversion changed."""
     told: List[str] = []
     for what, word in words:
-        model, more = SETTERS[what](model, word)
+        model, more = SETTERS[what](model, with_new_names(model, what, word, names) if names else word)
         told += more
     return Changed(model, told)

@@ -9,6 +9,7 @@ from pathlib import Path
 from typing import List
 
 import lpd
+from lpd.conversion import convert
 from lpd.what_if import NoChange, changed
 
 from .commands import Said, command, unwrapped
@@ -32,6 +33,17 @@ class Words(unittest.TestCase):
         model = lpd.read_model(NAMES)
         found = changed(model, [("coef", "a:b:x:y=5"), ("coef", "a=1:x:y=6"), ("rhs", "a=1=4"), ("bound", "x:y=1:2")]).model
         self.assertEqual((found.columns["x:y"].entries, found.rows["a=1"].rhs, found.columns["x:y"].limits()), ({"a:b": 5, "a=1": 6}, 4, (1, 2)))
+
+    def test_names_before_a_conversion(self) -> None:
+        text = NAMES.replace("x:y c", "xü c").replace("x:y a", "xü a").replace(" a:b", " a:ö")
+        converted = convert(text.encode())
+        words = [("rhs", "a:ö=4"), ("cost", "xü=5"), ("bound", "xü=1:2"), ("coef", "a:ö:xü=6"), ("coef", "a=1:xü=7"), ("rhs", "a=1=8")]
+        found = changed(converted.model, words, converted.names).model
+        column = found.columns["xu"]
+        self.assertEqual((column.cost, column.limits(), column.entries), (5, (1, 2), {"a:o": 6, "a=1": 7}))
+        self.assertEqual([row.rhs for row in found.rows.values()], [4, 8])
+        with self.assertRaises(lpd.Refused):
+            changed(converted.model, [("rhs", "a:ä=4")], converted.names)
 
     def test_what_is_no_change(self) -> None:
         model = lpd.read_model(NAMES)

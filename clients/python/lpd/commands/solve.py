@@ -12,6 +12,7 @@ from ..dialects import PROFILE, written
 from ..figures import Style
 from ..judging import LARGE
 from ..model import Model, read_model
+from ..names import Renamed
 from ..number_text import shown
 from ..reading import MATHPROG, end_of, is_lp, read_model_file
 from ..records import replace
@@ -231,7 +232,7 @@ class Line(NamedTuple):
 
 class Loaded(NamedTuple):
     """A text in free form, its model, whether the text is another than that of the file, and the other objective that it was
-    given, if it was; and where other numbers were set, the model without them, and what they are."""
+    given, if it was; where other numbers were set, the model without them, and what they are; and the names that were changed."""
 
     text: str
     model: Model
@@ -239,6 +240,7 @@ class Loaded(NamedTuple):
     aim: Optional[Aim] = None
     before: Optional[Model] = None
     changes: Sequence[str] = ()
+    names: Sequence[Renamed] = ()
 
 
 def loaded(words: argparse.Namespace) -> Loaded:
@@ -249,7 +251,7 @@ def loaded(words: argparse.Namespace) -> Loaded:
     read = None if words.convert or words.relax else as_it_is(words, data)
     if read is None:
         found = converted(words, data, replace(options_of(words), wide=True, large=True))
-        read = Loaded(found.text, found.model, bool(found.changes))
+        read = Loaded(found.text, found.model, bool(found.changes), names=found.names)
     text, model, is_other = read.text, read.model, read.is_other or words.form == "fixed" or is_lp(words.model)
     if words.max or words.min:
         model, is_other = replace(model, sense=-1 if words.max else 1), True
@@ -259,12 +261,12 @@ def loaded(words: argparse.Namespace) -> Loaded:
         tell(f"note: {numbers.told()}, which was taken")
     elif numbers.numbers:
         tell(f"note: {numbers.told()}: --round takes that")
-    given = Loaded(written(model, PROFILE).text if is_other else text, model, is_other)
+    given = read._replace(text=written(model, PROFILE).text if is_other else text, model=model, is_other=is_other)
     if words.objective is not None:
         from .objectives import asked_aim
 
         aim = asked_aim(words, given.text, model)
-        given = given if aim is None else Loaded(aim.text, aim.model, True, aim)
+        given = given if aim is None else given._replace(text=aim.text, model=aim.model, is_other=True, aim=aim)
     return with_changes(given, words.changes)
 
 
@@ -275,7 +277,7 @@ def as_it_is(words: argparse.Namespace, data: bytes) -> Optional[Loaded]:
         return Loaded(text, read_model(text, words.form == "fixed", wide=True, large=True), False)
     except errors.TextFault as fault:
         found = in_dialect(words, data, fault)
-    return Loaded(found.text, found.model, True)
+    return Loaded(found.text, found.model, True, names=found.names)
 
 
 def with_changes(given: Loaded, words: Sequence[Tuple[str, str]]) -> Loaded:
@@ -284,7 +286,7 @@ def with_changes(given: Loaded, words: Sequence[Tuple[str, str]]) -> Loaded:
         return given
     from ..what_if import changed
 
-    model, changes = changed(given.model, words)
+    model, changes = changed(given.model, words, given.names)
     return given._replace(text=written(model, PROFILE).text, model=model, is_other=True, before=given.model, changes=changes)
 
 
@@ -312,7 +314,7 @@ def unchanged(words: argparse.Namespace, given: Loaded) -> Optional[Unchanged]:
 def run(words: argparse.Namespace) -> int:
     given = loaded(words)
     text, model, is_other, aim = given[:4]
-    number = named_number(words, model)
+    number = named_number(words, given)
     found = answered(text, model, effort_of(words))
     if words.output:
         put_beside(words.output, [str(found.answer), *found.certificate], text if is_other else None)
@@ -350,7 +352,7 @@ def run(words: argparse.Namespace) -> int:
     return status_of(found.answer) if found.is_proved or not found.certificate else PYTHON_ALONE
 
 
-def named_number(words: argparse.Namespace, model: Model) -> Optional[Tuple[str, str]]:
+def named_number(words: argparse.Namespace, given: Loaded) -> Optional[Tuple[str, str]]:
     """The number over which the optimum is to be drawn."""
     if not words.plot:
         return None
@@ -359,7 +361,8 @@ def named_number(words: argparse.Namespace, model: Model) -> Optional[Tuple[str,
     must_be_svg(words.picture)
     from .range_tables import number_named
 
-    return number_named(model, words.plot)
+    new = {name.old: name.new for name in given.names}
+    return number_named(given.model, new.get(words.plot, words.plot))
 
 
 def ranges_of(words: argparse.Namespace, text: str, model: Model, answer: Answer) -> Optional[Ranges]:
