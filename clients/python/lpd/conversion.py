@@ -73,13 +73,17 @@ class Changes:
     lines: Tuple[int, ...]
 
     def __str__(self) -> str:
+        return self.told(len(self.lines))
+
+    def told(self, most: int) -> str:
+        """In a line, with at most so many runs of lines."""
         runs: List[List[int]] = []
         for line in self.lines:
             if runs and line == runs[-1][1] + 1:
                 runs[-1][1] = line
             else:
                 runs.append([line, line])
-        shown = [str(first) if first == last else f"{first}-{last}" for first, last in runs]
+        shown = [str(first) if first == last else f"{first}-{last}" for first, last in runs[:most]] + [".."] * (len(runs) > most)
         return f"line{'s' if len(self.lines) > 1 else ''} {', '.join(shown)}: {self.what}"
 
 

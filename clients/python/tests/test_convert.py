@@ -9,9 +9,10 @@ import unittest
 from fractions import Fraction
 from pathlib import Path
 from typing import Dict, Optional
+from unittest import mock
 
 import lpd
-from lpd.conversion import Converted, Options, Question, Unconvertible, as_it_stands, convert, is_same_in_fixed, of_form
+from lpd.conversion import Changes, Converted, Options, Question, Unconvertible, as_it_stands, convert, is_same_in_fixed, of_form
 from lpd.dialects import DIALECTS, PROFILE, Inexact, WrongName, written
 from lpd.model import Column, Model, Row
 from lpd.names import Renamed
@@ -340,6 +341,17 @@ class Command(unittest.TestCase):
         self.assertEqual(said.status, 0, said.complaints)
         self.assertIn("row 'row 000' is named row_000, and 199 more names are changed: --renames FILE puts them down\n", said.complaints)
         self.assertLess(len(said.complaints.splitlines()), 5)
+
+    def test_many_lines(self) -> None:
+        """The command convert tells all, and other commands some."""
+        change = Changes("it is another", (1, 2, 3, 5, 7, 9, 11))
+        self.assertEqual(str(change), "lines 1-3, 5, 7, 9, 11: it is another")
+        self.assertEqual([change.told(most) for most in (2, 5)], ["lines 1-3, 5, ..: it is another", str(change)])
+        rows = "".join(f" L  row {n:03}\n L  row{n:03}\n" for n in range(20))
+        text = f"NAME\nROWS\n N  cost\n{rows}COLUMNS\n    x         cost      1\nENDATA\n"
+        with mock.patch("lpd.commands.certify.certify", side_effect=lpd.ProgramMissing("there is no program lpd")):
+            said = command("certify", "-", "--form", "fixed", stdin=text.encode())
+        self.assertIn("lines 4, 6, 8, 10, 12, 14, 16, 18, ..: written in free form", said.complaints)
 
     def test_large_models(self) -> None:
         text = plain(" G need", " G need\n" + "\n".join(f" L more{n}" for n in range(256))).encode()

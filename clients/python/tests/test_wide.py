@@ -95,7 +95,8 @@ class Wide(unittest.TestCase):
         with program_with_wide():
             said = command("certify", "-", "--with", "none", stdin=TEXT.encode())
             self.assertEqual(said.status, 0)
-            self.assertIn(f"certificate   accepted by lpd check --wide, and by the checker in Python: {TOO_WIDE}\n", unwrapped(said.output))
+            accepted = "accepted by lpd check --wide, and by the checker in Python"
+            self.assertIn(f"certificate   {accepted} (lpd check does not take it: {TOO_WIDE})\n", unwrapped(said.output))
             told = json.loads(command("certify", "-", "--with", "none", "--json", stdin=TEXT.encode()).output)
         self.assertEqual((told["answer"], told["judge"], told["accepted_by_lpd_check"]), (f"OPTIMAL {VALUE}", "lpd check --wide", True))
         with program(DOES_NOT_KNOW):

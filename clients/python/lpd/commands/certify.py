@@ -35,7 +35,7 @@ def add(commands: "argparse._SubParsersAction[argparse.ArgumentParser]") -> None
 
 def judge_of(found: Certified) -> str:
     if found.is_proved:
-        return f"accepted by {found.judge}, and by the checker in Python" + (f": {found.why}" if found.why else "")
+        return f"accepted by {found.judge}, and by the checker in Python" + (f" (lpd check does not take it: {found.why})" if found.why else "")
     return f"accepted by the checker in Python alone: {found.why}"
 
 

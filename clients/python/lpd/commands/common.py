@@ -21,6 +21,7 @@ if TYPE_CHECKING:
     from ..conversion import Converted, Options
 
 MOST_DECIMALS, MOST_PIVOTS = 1000, 1000000
+MOST_RUNS = 8  # of lines that were changed in one way
 WIDEST_LINE, SHORTEST = 120, 14  # characters of a line, and of a column of a table that is cut
 PYTHON_ALONE = 14  # an answer whose certificate the checker in Python alone accepts
 
@@ -204,9 +205,9 @@ def in_dialect(words: argparse.Namespace, data: bytes, fault: TextFault, wide: b
 
 
 def tell_changes(found: Converted, renames: Optional[str] = None) -> None:
-    """What was changed, and how many names were, whose table goes to a file."""
+    """What was changed, in some of the lines, and how many names were, whose table goes to a file. The command convert has all lines."""
     for change in found.changes:
-        tell(str(change))
+        tell(change.told(MOST_RUNS))
     tell_renames(found.names, renames)
 
 
