@@ -99,6 +99,7 @@ class Commands(unittest.TestCase):
             self.assertIn(f"303 of {ROWS * EACH} columns are not 0; {ROWS} of {ROWS} rows bind, and {ROWS} have a price.", said.output)
             self.assertIn("\nx0.19   =1     =-81", said.output)
             self.assertNotIn("\nx0.20 ", said.output)
+            self.assertNotIn("columns are not 0", command("solve", str(self.model), "--show", "answer").output)
             checked = command("check", str(self.model), str(self.certificate))
             self.assertEqual((checked.status, checked.output), (0, "YES OPTIMAL 15301.5\naccepted by lpd check --wide, and by the checker in Python\n"))
             self.certificate.write_text(self.certificate.read_text().replace("x x0.100 0.5", "x x0.100 0.4"))

@@ -57,6 +57,8 @@ def some_of(texts: Sequence[str]) -> str:
 def print_report(found: Report, show: str, style: Style, shows_all: bool, before: Optional[Report] = None) -> None:
     """What is asked for of a point, beside that of the model without the numbers that were set, if some were. Of a large model a summary
     comes first, and without `shows_all` the largest numbers alone."""
+    if show == "answer":
+        return
     if len(found.columns) > MOST_COLUMNS or len(found.rows) > MOST_ROWS:
         print_prose(f"\n{summary(found)}")
         if not shows_all:
