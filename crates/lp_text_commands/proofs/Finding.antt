@@ -1,8 +1,7 @@
 -- What is known of the sides and points that a search finds.
-use Rattle.std.proofs.Common.{◌≡◌, ℕ, ◌<◌, List, [], ◌∷◌, ◌++◌, All, Some, Result, Ok, Err, length, refl, sym, ◌∙◌}
+use Rattle.std.proofs.Common.{◌≡◌, ℕ, ◌<◌, List, [], ◌∷◌, ◌++◌, All, Some, length, sym, ◌∙◌}
 use Rattle.std.proofs.Common.{append-nil, ap, subst, ⊎_elim}
 use Rattle.std.proofs.lemmas.List.{append_assoc, get_or_default}
-use Rattle.std.specs.Prelude.{OnOk}
 use Rattle.spec_exact.specs.Fraction.{ℚ}
 use Rattle.spec_exact.specs.Narrow.{number_limit}
 use Rattle.spec_model.specs.Model.{Model, width}
@@ -10,14 +9,10 @@ use Rattle.spec_check.specs.declared.certificate.Certificate.{Certificate}
 use Rattle.spec_iis.specs.declared.side.Side.{Side}
 use Rattle.spec_iis.specs.Rule.{IsRead, Reaches, used}
 use Rattle.spec_iis.specs.Irreducible.{ArePointsWithout}
-use Rattle.spec_iis.specs.Found.{ExactIis, IsFound, MayFind}
+use Rattle.spec_iis.specs.Found.{IsFound}
 use Rattle.spec_iis.proofs.Listed.{listed_holds, among_both}
 use Rattle.spec_iis.proofs.Readings.{used_read}
 use Rattle.spec_iis.proofs.Points.{width-only}
-use Rattle.spec_server.specs.Machine.{opening_budget}
-use Rattle.spec_server.specs.Output.{ended_lines}
-use Rattle.spec_commands.specs.IisOut.{IisOut, iis_lines}
-use Rattle.lp_text_commands.specs.Prints.{Prints}
 
 -- ---- the sides
 
@@ -47,12 +42,3 @@ pub points_fit : (m : Model) (sides : List Side) (points : List (List ℚ)) → 
 points_fit m sides points w = λ k d l.
     let inside : k < length sides = subst (λ n. k < n) w.one_each l in
     ap length (get_or_default points k d [] l) ∙ (w.feasible k inside).one_each ∙ width-only m _
-
--- ---- the output
-
-pub prints_iis : {T E : Type 0} (m : Model) (found : ExactIis) (before after : List ℕ) (result : Result T E) →
-    MayFind m opening_budget found → OnOk result (after ≡ before ++ ended_lines (iis_lines m found)) →
-    OnOk result (Prints (IisOut (Ok m)) before after)
-prints_iis m found before after (Ok u) may lines =
-    record { output = ended_lines (iis_lines m found); is_output = (found, may, refl); behind = lines }
-prints_iis m found before after (Err why) may lines = tt

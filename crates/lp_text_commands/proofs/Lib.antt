@@ -3,7 +3,6 @@ pub mod Solving
 pub mod BasisPrints
 pub mod ExactPrints
 pub mod Generating
-pub mod Presolving
 pub mod Lines
 pub mod Finding
 pub mod Ranging

@@ -7,6 +7,7 @@
 //! |---|---|---|
 //! | `read_text` | reads the text that a source gives, and writes what the command says of it | src/text |
 //! | `ExitStatus` | how a command ended | src/exit_status |
+//! | `Command`, `print` | a command: it makes an outcome of a model, and then writes the lines of that | src/command |
 //! | `say`, `Output` | reads an input, and writes what is said of it, whatever says it | src/hearing |
 //! | `say_range`, `Ranged` | the same of a text of which a number is ranged | src/ranged |
 //! | `say_tasked`, `Task`, `Tasked` | the same of a text of whose model more is asked than a solve | src/tasked |
@@ -18,8 +19,8 @@
 //! | `print_ranged` | writes what a solve ends with, and the range | src/range_out |
 //! | `print_ranges` | writes what a solve ends with, and the ranges of all numbers | src/ranges_out |
 //! | `KeepsAtEnd` | the basis that an end leaves keeps the model | specs/RangeEnds |
-//! | `print_iis` | writes what a search of a model ends with | src/iis_out |
-//! | `print_presolved` | writes what a solve of a model by a smaller one ends with | src/presolve_out |
+//! | `FindIis` | seeks limits that contradict each other, and writes what the search ends with | src/iis |
+//! | `Presolve` | solves the model by a smaller one, and writes how and what that ends with | src/presolve |
 //! | `generate` | makes the model, and writes its size and what a solve of it ends with | src/made |
 //! | `Writes`, `TellsOfWriting` | what it writes, by its answer and by its status | specs/Generating |
 //! | `print_solved` | writes what a solve of a model ends with | src/solve |
@@ -45,20 +46,19 @@ mod basis_out;
 mod basis_start;
 mod check;
 mod check_wide;
+mod command;
 mod draws;
 mod exit_status;
 mod generator;
 mod hearing;
-mod iis_out;
+mod iis;
 mod made;
 mod named;
 mod outputs;
-mod points;
-mod presolve_out;
+mod presolve;
 mod range_out;
 mod ranged;
 mod ranges_out;
-mod sides;
 mod solve;
 mod tasked;
 mod text;

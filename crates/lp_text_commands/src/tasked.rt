@@ -9,10 +9,11 @@ ghost use Rattle.lp_text_commands.specs.Prints.{Prints};
 ghost use Rattle.lp_text_commands.specs.Hearing.{SaysSo};
 ghost use Rattle.lp_text_commands.specs.Tasked.{MayBeKept, TaskOut, task_code};
 
+use crate::command::print;
 use crate::exit_status::ExitStatus;
 use crate::hearing::{Output, hear_input, write_said};
-use crate::iis_out::print_iis;
-use crate::presolve_out::print_presolved;
+use crate::iis::FindIis;
+use crate::presolve::Presolve;
 use crate::ranges_out::print_ranges;
 use lp_base::{Bytes, Sink, Source};
 use lp_line::{Halt, Refusal, Reply, TextSaid};
@@ -85,8 +86,8 @@ fn print_model(alloc: Global, task: Task, model: &Model, to: &mut Bytes) -> Resu
     ensures { OnOk result (Prints (TaskOut task (Ok model.now)) to.old to.new) }
 {
     match task {
-        Task::Presolve => print_presolved(alloc, model, to),
-        Task::Search => print_iis(alloc, model, to),
+        Task::Presolve => print(alloc, &Presolve, model, to),
+        Task::Search => print(alloc, &FindIis, model, to),
         Task::Range => print_ranges(alloc, model, to),
     }
 }

@@ -1,0 +1,63 @@
+// What a command makes of what it is given, and then writes of that.
+ghost use Rattle.std.specs.Prelude.{◌≡◌, ◌++◌, ℕ, List, IfOk, OnOk};
+ghost use Rattle.lp_text_commands.specs.Prints.{Prints};
+
+use lp_base::Bytes;
+use std::alloc::{AllocError, Global};
+
+/// A command: it makes an outcome of what it is given, and then writes the lines of the outcome.
+pub(crate) trait Command {
+    /// A model, or a model and where its solve starts.
+    type Given;
+
+    type Outcome: Drop;
+
+    // what it may be given
+    ghost takes: { Self → Self.Given → Type 0 };
+
+    // what it may make of that
+    ghost may_make: { Self → Self.Given → Self.Outcome → Type 0 };
+
+    // the lines of an outcome
+    ghost lines: { Self → Self.Given → Self.Outcome → List ℕ };
+
+    // what may be written
+    ghost may_write: { Self → Self.Given → List ℕ → Type 0 };
+
+    /// Makes the outcome.
+    fn run(&self, alloc: Global, given: &Self::Given) -> Result<Self::Outcome, AllocError>
+        requires { takes self.now given.now }
+        ensures { IfOk result (may_make self.now given.now) };
+
+    /// Writes the lines of the outcome after what is there.
+    fn write(
+        &self,
+        alloc: Global,
+        given: &Self::Given,
+        outcome: &Self::Outcome,
+        to: &mut Bytes,
+    ) -> Result<(), AllocError>
+        requires takes { takes self.now given.now }
+        requires made { may_make self.now given.now outcome.now }
+        ensures { OnOk result (to.new ≡ to.old ++ lines self.now given.now outcome.now) };
+
+    // the lines of what it may make are what may be written
+    ghost is_written: { (command : Self) → (given : Self.Given) → (outcome : Self.Outcome) →
+        may_make command given outcome → may_write command given (lines command given outcome) };
+}
+
+/// Runs the command, and then writes what it made.
+pub(crate) fn print<C: Command>(
+    alloc: Global,
+    command: &C,
+    given: &C::Given,
+    to: &mut Bytes,
+) -> Result<(), AllocError>
+    requires { C.takes command.now given.now }
+    ensures { OnOk result (Prints (C.may_write command.now given.now) to.old to.new) }
+{
+    let outcome = command.run(alloc, given)?;
+    let printed = command.write(alloc, given, &outcome, to);
+    drop(outcome);
+    printed
+}
