@@ -1,11 +1,21 @@
 -- What a range needs of a model, and of what a solve of it ended with.
-use Rattle.std.specs.Prelude.{ℕ, Some}
+use Rattle.std.specs.Prelude.{ℕ, ◌≡◌, Option, Some, None, Result, Ok, Err, List}
+use Rattle.spec_exact.specs.Fraction.{ℚ}
+use Rattle.spec_exact.specs.Narrow.{number_limit}
 use Rattle.spec_model.specs.Model.{Model, width, height}
+use Rattle.spec_check.specs.declared.certificate.Known.TheVariants as known
 use Rattle.spec_check.specs.declared.solve_end.SolveEnd.TheVariants.{Ended}
+use Rattle.spec_pivot.specs.declared.status.Status.{Status}
+use Rattle.spec_simplex.specs.declared.ends.FormFault.{FormFault}
+use Rattle.spec_simplex.specs.Form.{Form, form_of}
 use Rattle.spec_runs.specs.Cold.{ExactSolveEnd}
+use Rattle.spec_solve.specs.Answers.{IsSolved}
 use Rattle.spec_range.specs.Span.{Keeps}
 use Rattle.spec_program.specs.declared.command_line.Moved.{Moved}
 use Rattle.spec_program.specs.declared.command_line.Moved.TheVariants.{Cost, RightSide}
+use Rattle.spec_server.specs.Machine.{opening_budget}
+use Rattle.lp_range.specs.Answer.{Start, IsFrom}
+use Rattle.lp_text_commands.specs.declared.range.ranging.Ranged.{Ranged}
 
 -- how many columns have such a number, or how many rows
 abbrev pub count_by : Moved → Model → ℕ
@@ -16,3 +26,20 @@ count_by RightSide m = height m
 abbrev pub KeepsAtEnd : Model → ExactSolveEnd → Type 0
 KeepsAtEnd m (Ended known certificate (Some basis) pivots) = Keeps m basis
 KeepsAtEnd m end = Unit {0}
+
+-- numbers are ranged from this basis, where the model has a form
+abbrev pub IsRangingFrom : Model → List Status → Result Form (FormFault ℚ) → Option Start → Type 0
+IsRangingFrom m basis (Ok f) (Some start) = IsFrom m f basis start
+IsRangingFrom m basis (Ok f) None = ⊥
+IsRangingFrom m basis (Err why) ranging = ranging ≡ None
+
+-- behind an optimum from its basis, and behind no other end
+abbrev pub IsRangingOf : Model → ExactSolveEnd → Option Start → Type 0
+IsRangingOf m (Ended (known.Optimal v) certificate (Some basis) pivots) ranging =
+    IsRangingFrom m basis (form_of (Some number_limit) m) ranging
+IsRangingOf m end ranging = ranging ≡ None
+
+-- what a solve of the model ends with, cold and within the budget of a new session, and what numbers are ranged from
+pub record IsRanged (m : Model) (ranged : Ranged) : Type 0 where
+  pub solved : IsSolved m opening_budget None ranged.solved
+  pub ranging : IsRangingOf m ranged.solved.end ranged.ranging

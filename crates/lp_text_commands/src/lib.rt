@@ -9,15 +9,14 @@
 //! | `ExitStatus` | how a command ended | src/exit_status |
 //! | `Command`, `print` | a command: it makes an outcome of a model, and then writes the lines of that | src/command |
 //! | `say`, `Output` | reads an input, and writes what is said of it, whatever says it | src/hearing |
-//! | `say_range`, `Ranged` | the same of a text of which a number is ranged | src/ranged |
+//! | `say_range`, `RangeAsked` | the same of a text of which a number is ranged | src/range/asked |
 //! | `say_tasked`, `Task`, `Tasked` | the same of a text of whose model more is asked than a solve | src/tasked |
 //! | `say_basis`, `UsualBasis` | the same of a text of a usual model and the basis file after it, at 127 bits | src/based |
 //! | `CheckStage`, `WideStage`, `BasisStage` | where the reading stands | src/check, src/check_wide, src/basis |
 //! | `ReadsText`, `TellsOfText` | what is read and written, by the answer and by the status | specs/TextCommands |
-//! | `place_of` | the column or the row whose number is ranged, by its name | src/named |
-//! | `print_unknown` | writes that nothing has the name | src/named |
-//! | `print_ranged` | writes what a solve ends with, and the range | src/range_out |
-//! | `print_ranges` | writes what a solve ends with, and the ranges of all numbers | src/ranges_out |
+//! | `place_of` | the column or the row whose number is ranged, by its name | src/range/named |
+//! | `print_unknown` | writes that nothing has the name | src/range/named |
+//! | `RangeAt`, `RangeAll` | solves the model, and writes what that ends with and the range of one number, or of each | src/range, src/range/all |
 //! | `KeepsAtEnd` | the basis that an end leaves keeps the model | specs/RangeEnds |
 //! | `FindIis` | seeks limits that contradict each other, and writes what the search ends with | src/iis |
 //! | `Presolve` | solves the model by a smaller one, and writes how and what that ends with | src/presolve |
@@ -53,12 +52,9 @@ mod generator;
 mod hearing;
 mod iis;
 mod made;
-mod named;
 mod outputs;
 mod presolve;
-mod range_out;
-mod ranged;
-mod ranges_out;
+mod range;
 mod solve;
 mod tasked;
 mod text;

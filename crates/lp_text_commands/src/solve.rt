@@ -5,13 +5,16 @@ ghost use Rattle.spec_solve.specs.Answers.{MayAnswer};
 ghost use Rattle.spec_server.specs.Machine as machine;
 ghost use Rattle.spec_server.specs.Output.{check_line, ended_lines};
 ghost use Rattle.spec_commands.specs.SolveOut.{SolveOut, solved_lines};
+ghost use Rattle.spec_server.specs.declared.answer.Answer.TheVariants as answers;
 ghost use Rattle.spec_server.specs.declared.asks.Reply.TheVariants as replies;
 ghost use Rattle.lp_text_commands.specs.Prints.{Prints};
 
 use lp_base::Bytes;
+use lp_frac::Past;
 use lp_line::{Reply, answer_of, certificate_lines, print_lines, print_said};
 use lp_model::Model;
 use lp_solve::{End, OPENING_BUDGET, solve};
+use spec_server::Answer;
 use std::alloc::{AllocError, Global};
 
 /// Writes what a solve of the model ends with.
@@ -45,6 +48,16 @@ pub(crate) fn print_answer(alloc: Global, end: &End, to: &mut Bytes) -> Result<(
     ensures { OnOk result (to.new ≡ to.old ++ check_line (replies.Answered (machine.answer_of machine.opening_budget end.now))) }
 {
     let reply = Reply::Answered(answer_of(OPENING_BUDGET as u32, end));
+    let printed = print_said(alloc, &reply, to);
+    drop(reply);
+    printed
+}
+
+/// Writes that an operation is past 127 bits.
+pub(crate) fn print_past(alloc: Global, past: Past, to: &mut Bytes) -> Result<(), AllocError>
+    ensures { OnOk result (to.new ≡ to.old ++ check_line (replies.Answered (answers.Past past))) }
+{
+    let reply = Reply::Answered(Answer::Past(past));
     let printed = print_said(alloc, &reply, to);
     drop(reply);
     printed

@@ -14,7 +14,7 @@ use crate::exit_status::ExitStatus;
 use crate::hearing::{Output, hear_input, write_said};
 use crate::iis::FindIis;
 use crate::presolve::Presolve;
-use crate::ranges_out::print_ranges;
+use crate::range::RangeAll;
 use lp_base::{Bytes, Sink, Source};
 use lp_line::{Halt, Refusal, Reply, TextSaid};
 use lp_model::Model;
@@ -88,7 +88,7 @@ fn print_model(alloc: Global, task: Task, model: &Model, to: &mut Bytes) -> Resu
     match task {
         Task::Presolve => print(alloc, &Presolve, model, to),
         Task::Search => print(alloc, &FindIis, model, to),
-        Task::Range => print_ranges(alloc, model, to),
+        Task::Range => print(alloc, &RangeAll, model, to),
     }
 }
 

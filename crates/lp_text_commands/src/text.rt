@@ -11,7 +11,7 @@ use crate::check::CheckStage;
 use crate::check_wide::WideStage;
 use crate::exit_status::ExitStatus;
 use crate::hearing::say;
-use crate::ranged::say_range;
+use crate::range::say_range;
 use crate::tasked::{Task, say_tasked};
 use lp_base::{Sink, Source};
 use lp_line::Halt;

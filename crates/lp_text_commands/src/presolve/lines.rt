@@ -3,10 +3,9 @@ ghost use Rattle.std.specs.Prelude.{◌≡◌, ◌++◌, OnOk};
 ghost use Rattle.spec_presolve.specs.declared.presolved.Way.TheVariants as ways;
 ghost use Rattle.spec_commands.specs.PresolveOut as out;
 
-use crate::solve::print_answer;
+use crate::solve::print_past;
 use lp_base::Bytes;
 use lp_presolve::{Way, Why};
-use lp_solve::End;
 use std::alloc::{AllocError, Global};
 
 /// Writes how small the model was made, or why it was solved as it is.
@@ -34,12 +33,7 @@ fn print_why(alloc: Global, why: &Why, to: &mut Bytes) -> Result<(), AllocError>
     ensures { OnOk result (to.new ≡ to.old ++ out.why_line why.now) }
 {
     match why {
-        Why::Past(past) => {
-            let end = End::Past(*past);
-            let printed = print_answer(alloc, &end, to);
-            drop(end);
-            printed
-        }
+        Why::Past(past) => print_past(alloc, *past, to),
         Why::Spent => to.extend(b"SPENT\n"),
     }
 }

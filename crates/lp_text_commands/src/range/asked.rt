@@ -1,4 +1,4 @@
-// What is said of a text, of which a number is ranged.
+// What is said of a text of which a number is ranged, and which number that is.
 ghost use Rattle.std.specs.Prelude.{◌≡◌, List, ℕ, OnOk, IfOk, IsErrOf, Option, Ok};
 ghost use Rattle.lp_base.specs.Causes.{Rose};
 ghost use Rattle.spec_text.specs.declared.line.Line.{Line as exact_line};
@@ -10,10 +10,11 @@ ghost use Rattle.lp_line.specs.Stages.{TextSays};
 ghost use Rattle.lp_text_commands.specs.Prints.{Prints};
 ghost use Rattle.lp_text_commands.specs.Hearing.{Agrees, SaysSo};
 
+use crate::command::print;
 use crate::exit_status::ExitStatus;
 use crate::hearing::{Output, hear_input, write_said};
-use crate::named::{place_of, print_unknown};
-use crate::range_out::print_ranged;
+use crate::range::RangeAt;
+use crate::range::named::{place_of, print_unknown};
 use lp_base::{Bytes, Sink, Source};
 use lp_line::{Halt, Refusal, Reply, TextSaid};
 use lp_model::Model;
@@ -23,19 +24,19 @@ use std::alloc::{AllocError, Global};
 
 /// What a text says, and which number of the model is ranged: that of the column or row with this name.
 #[derive(Drop)]
-pub(crate) struct Ranged<'a> {
+pub(crate) struct RangeAsked<'a> {
     pub said: TextSaid,
     pub moved: Moved,
     pub name: &'a [u8],
 }
 
-impl<'a> Output for Ranged<'a> {
-    ghost may_write = { λ ranged. RangeOut ranged.moved ranged.name.now ranged.said };
+impl<'a> Output for RangeAsked<'a> {
+    ghost may_write = { λ asked. RangeOut asked.moved asked.name.now asked.said };
 
-    ghost code = { λ ranged. range_code ranged.moved ranged.name.now ranged.said };
+    ghost code = { λ asked. range_code asked.moved asked.name.now asked.said };
 
     fn print(self, alloc: Global, to: &mut Bytes) -> Result<ExitStatus, AllocError> {
-        let Ranged { said, moved, name } = self;
+        let RangeAsked { said, moved, name } = self;
         match said {
             Ok(model) => {
                 let printed = print_model(alloc, model.model(), moved, name, to);
@@ -62,7 +63,7 @@ fn print_model(
 {
     match place_of(model, moved, name) {
         Some(at) => {
-            print_ranged(alloc, model, moved, at, to)?;
+            print(alloc, &RangeAt { moved, at }, model, to)?;
             Ok(ExitStatus::DONE)
         }
         None => {
@@ -89,5 +90,5 @@ pub(crate) fn say_range<S: Source, K: Sink>(
     ensures write { IsErrOf result Halt.Write → Rose (K.write_faults out.old) (K.write_faults out.new) }
 {
     let said = hear_input(alloc, text, src)?;
-    write_said(alloc, Ranged { said, moved, name }, out)
+    write_said(alloc, RangeAsked { said, moved, name }, out)
 }

@@ -2,7 +2,7 @@
 use Rattle.std.proofs.Common.{append-nil, sym, arith}
 use Rattle.lp_text_commands.proofs.Lines.{one_on}
 use Rattle.lp_text_commands.proofs.Ranging.{lines_more}
-use Rattle.lp_text_commands.proofs.ranges_out.print_numbers.Goals as goal
+use Rattle.lp_text_commands.proofs.range.all.print_numbers.Goals as goal
 
 pub loop-at-init : goal.loop-at-init
 loop-at-init c = λ f basis from. sym (append-nil c.args.to.now)

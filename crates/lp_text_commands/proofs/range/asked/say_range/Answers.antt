@@ -2,7 +2,7 @@
 use Rattle.std.proofs.lemmas.Result.{err_from_is_err_and}
 use Rattle.spec_commands.specs.RangeOut.{RangeOut, range_code}
 use Rattle.lp_text_commands.proofs.Saying.{says_nothing, says}
-use Rattle.lp_text_commands.proofs.ranged.say_range.Goals as goal
+use Rattle.lp_text_commands.proofs.range.asked.say_range.Goals as goal
 
 pub returns-in_err-said-clause-output : goal.returns-in_err-said-clause-output
 returns-in_err-said-clause-output g c = λ tells agrees.

@@ -4,7 +4,7 @@ use Rattle.std.proofs.lemmas.Result.{on_ok_weaker}
 use Rattle.spec_commands.specs.RangeOut.{ranged_text}
 use Rattle.lp_text_commands.proofs.Lines.{one_on}
 use Rattle.lp_text_commands.proofs.Ranging.{line_of}
-use Rattle.lp_text_commands.proofs.ranges_out.print_number.Goals as goal
+use Rattle.lp_text_commands.proofs.range.all.print_number.Goals as goal
 
 pub returns : goal.returns
 returns c =

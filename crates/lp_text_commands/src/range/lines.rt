@@ -1,0 +1,50 @@
+// A range, as it is written.
+ghost use Rattle.std.specs.Prelude.{◌≡◌, ◌++◌, OnOk};
+ghost use Rattle.spec_exact.specs.Run.{refused_as};
+ghost use Rattle.spec_simplex.specs.declared.ends.StartStop.TheVariants as stops;
+ghost use Rattle.spec_commands.specs.RangeOut as ranges;
+
+use crate::solve::print_past;
+use lp_base::Bytes;
+use lp_frac::{Frac, Past};
+use lp_numtext::write;
+use lp_range::Range;
+use std::alloc::{AllocError, Global};
+
+/// Writes a range, or the operation that it was refused.
+pub(crate) fn print_range(
+    alloc: Global,
+    range: Result<Range, Past>,
+    to: &mut Bytes,
+) -> Result<(), AllocError>
+    ensures { OnOk result (to.new ≡ to.old ++ ranges.ranged_text (refused_as stops.Past range)) }
+{
+    match range {
+        Ok(range) => print_line(alloc, range, to),
+        Err(past) => print_past(alloc, past, to),
+    }
+}
+
+#[tactic(auto, unfolding(spec_commands::specs::RangeOut::range_line))]
+fn print_line(alloc: Global, range: Range, to: &mut Bytes) -> Result<(), AllocError>
+    ensures { OnOk result (to.new ≡ to.old ++ ranges.range_line range) }
+{
+    let Range { ends, slope } = range;
+    to.extend(b"RANGE ")?;
+    print_end(alloc, ends.low, to)?;
+    to.extend(b" ")?;
+    print_end(alloc, ends.high, to)?;
+    to.extend(b" SLOPE ")?;
+    write(alloc, slope, to)?;
+    to.extend(b"\n")
+}
+
+// An end of a range, if it has one there.
+fn print_end(alloc: Global, end: Option<Frac>, to: &mut Bytes) -> Result<(), AllocError>
+    ensures { OnOk result (to.new ≡ to.old ++ ranges.end_text end) }
+{
+    match end {
+        Some(end) => write(alloc, end, to),
+        None => to.extend(b"NONE"),
+    }
+}
