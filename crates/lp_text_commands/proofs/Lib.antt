@@ -1,5 +1,4 @@
 -- Lemmas.
-pub mod Solving
 pub mod BasisPrints
 pub mod ExactPrints
 pub mod Generating

@@ -58,7 +58,6 @@ mod range;
 mod solve;
 mod tasked;
 mod text;
-mod wide;
 mod wide_basis;
 
 pub use exit_status::ExitStatus;

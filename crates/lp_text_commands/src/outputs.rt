@@ -5,9 +5,10 @@ ghost use Rattle.spec_commands.specs.BasisWideOut.{BasisWideOut};
 
 use crate::basis::BasisSaid;
 use crate::basis_out::print_fault;
+use crate::command::print;
 use crate::exit_status::ExitStatus;
 use crate::hearing::Output;
-use crate::solve::print_solved;
+use crate::solve::Solve;
 use crate::wide_basis::print_exactly_handed;
 use lp_base::Bytes;
 use lp_line::{Refusal, Reply, TextSaid};
@@ -21,7 +22,7 @@ impl Output for TextSaid {
     fn print(self, alloc: Global, to: &mut Bytes) -> Result<ExitStatus, AllocError> {
         match self {
             Ok(model) => {
-                let printed = print_solved(alloc, model.model(), to);
+                let printed = print(alloc, &Solve, model.model(), to);
                 drop(model);
                 printed?;
                 Ok(ExitStatus::DONE)

@@ -1,78 +1,48 @@
-// The solve of a model.
-ghost use Rattle.std.specs.Prelude.{◌≡◌, ◌++◌, ℕ, Ok, OnOk};
+// The command `solve`: it solves the model, and writes what that ended with.
+ghost use Rattle.std.specs.Prelude.{None, Ok, refl};
 ghost use Rattle.spec_model.specs.Kept.{IsUsual};
-ghost use Rattle.spec_solve.specs.Answers.{MayAnswer};
-ghost use Rattle.spec_server.specs.Machine as machine;
-ghost use Rattle.spec_server.specs.Output.{check_line, ended_lines};
+ghost use Rattle.spec_solve.specs.Answers.{IsSolved};
+ghost use Rattle.spec_server.specs.Machine.{opening_budget};
 ghost use Rattle.spec_commands.specs.SolveOut.{SolveOut, solved_lines};
-ghost use Rattle.spec_server.specs.declared.answer.Answer.TheVariants as answers;
-ghost use Rattle.spec_server.specs.declared.asks.Reply.TheVariants as replies;
-ghost use Rattle.lp_text_commands.specs.Prints.{Prints};
 
+mod lines;
+mod wide;
+
+use crate::command::Command;
+pub(crate) use lines::{print_answer, print_certificate, print_end, print_past};
 use lp_base::Bytes;
-use lp_frac::Past;
-use lp_line::{Reply, answer_of, certificate_lines, print_lines, print_said};
 use lp_model::Model;
-use lp_solve::{End, OPENING_BUDGET, solve};
-use spec_server::Answer;
+use lp_solve::{OPENING_BUDGET, Solved};
 use std::alloc::{AllocError, Global};
 
-/// Writes what a solve of the model ends with.
-pub(crate) fn print_solved(alloc: Global, model: &Model, to: &mut Bytes) -> Result<(), AllocError>
-    requires { IsUsual model.now }
-    ensures { OnOk result (Prints (SolveOut (Ok model.now)) to.old to.new) }
-{
-    let solved = solve(alloc, model, OPENING_BUDGET, None)?;
-    let printed = print_end(alloc, model, &solved.end, to);
-    drop(solved);
-    printed
-}
+pub(crate) struct Solve;
 
-/// Writes the answer that a solve within the budget of a new session ended with, and its certificate.
-#[tactic(auto, unfolding(spec_commands::specs::SolveOut::solved_lines))]
-pub(crate) fn print_end(
-    alloc: Global,
-    model: &Model,
-    end: &End,
-    to: &mut Bytes,
-) -> Result<(), AllocError>
-    requires { MayAnswer model.now machine.opening_budget end.now }
-    ensures { OnOk result (to.new ≡ to.old ++ solved_lines model.now end.now) }
-{
-    print_answer(alloc, end, to)?;
-    print_certificate(alloc, model, end, to)
-}
+impl Command for Solve {
+    type Given = Model;
 
-/// Writes the line of the answer that a solve within the budget of a new session ended with.
-pub(crate) fn print_answer(alloc: Global, end: &End, to: &mut Bytes) -> Result<(), AllocError>
-    ensures { OnOk result (to.new ≡ to.old ++ check_line (replies.Answered (machine.answer_of machine.opening_budget end.now))) }
-{
-    let reply = Reply::Answered(answer_of(OPENING_BUDGET as u32, end));
-    let printed = print_said(alloc, &reply, to);
-    drop(reply);
-    printed
-}
+    type Outcome = Solved;
 
-/// Writes that an operation is past 127 bits.
-pub(crate) fn print_past(alloc: Global, past: Past, to: &mut Bytes) -> Result<(), AllocError>
-    ensures { OnOk result (to.new ≡ to.old ++ check_line (replies.Answered (answers.Past past))) }
-{
-    let reply = Reply::Answered(Answer::Past(past));
-    let printed = print_said(alloc, &reply, to);
-    drop(reply);
-    printed
-}
+    ghost takes = { λ _ m. IsUsual m };
 
-/// Writes the lines of the certificate of a solve, none where it knows nothing of the model.
-pub(crate) fn print_certificate(
-    alloc: Global,
-    model: &Model,
-    end: &End,
-    to: &mut Bytes,
-) -> Result<(), AllocError>
-    requires { (budget : ℕ) × MayAnswer model.now budget end.now }
-    ensures { OnOk result (to.new ≡ to.old ++ ended_lines (machine.lines_of_solved model.now end.now)) }
-{
-    let lines = certificate_lines(alloc, model, end)?;
-    print_lines(&lines, to)
+    ghost may_make = { λ _ m solved. IsSolved m opening_budget None solved };
+
+    ghost lines = { λ _ m solved. solved_lines m solved.end };
+
+    ghost may_write = { λ _ m. SolveOut (Ok m) };
+
+    ghost is_written = { λ _ m solved is. (solved, is, refl) };
+
+    fn run(&self, alloc: Global, model: &Model) -> Result<Solved, AllocError> {
+        lp_solve::solve(alloc, model, OPENING_BUDGET, None)
+    }
+
+    fn write(
+        &self,
+        alloc: Global,
+        model: &Model,
+        solved: &Solved,
+        to: &mut Bytes,
+    ) -> Result<(), AllocError> {
+        print_end(alloc, model, &solved.end, to)
+    }
 }

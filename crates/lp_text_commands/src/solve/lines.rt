@@ -1,0 +1,65 @@
+// What a solve ended with, as it is written.
+ghost use Rattle.std.specs.Prelude.{◌≡◌, ◌++◌, ℕ, OnOk};
+ghost use Rattle.spec_solve.specs.Answers.{MayAnswer};
+ghost use Rattle.spec_server.specs.Machine as machine;
+ghost use Rattle.spec_server.specs.Output.{check_line, ended_lines};
+ghost use Rattle.spec_commands.specs.SolveOut.{solved_lines};
+ghost use Rattle.spec_server.specs.declared.answer.Answer.TheVariants as answers;
+ghost use Rattle.spec_server.specs.declared.asks.Reply.TheVariants as replies;
+
+use lp_base::Bytes;
+use lp_frac::Past;
+use lp_line::{Reply, answer_of, certificate_lines, print_lines, print_said};
+use lp_model::Model;
+use lp_solve::{End, OPENING_BUDGET};
+use spec_server::Answer;
+use std::alloc::{AllocError, Global};
+
+/// Writes the answer that a solve within the budget of a new session ended with, and its certificate.
+#[tactic(auto, unfolding(spec_commands::specs::SolveOut::solved_lines))]
+pub(crate) fn print_end(
+    alloc: Global,
+    model: &Model,
+    end: &End,
+    to: &mut Bytes,
+) -> Result<(), AllocError>
+    requires { MayAnswer model.now machine.opening_budget end.now }
+    ensures { OnOk result (to.new ≡ to.old ++ solved_lines model.now end.now) }
+{
+    print_answer(alloc, end, to)?;
+    print_certificate(alloc, model, end, to)
+}
+
+/// Writes the line of the answer that a solve within the budget of a new session ended with.
+pub(crate) fn print_answer(alloc: Global, end: &End, to: &mut Bytes) -> Result<(), AllocError>
+    ensures { OnOk result (to.new ≡ to.old ++ check_line (replies.Answered (machine.answer_of machine.opening_budget end.now))) }
+{
+    let reply = Reply::Answered(answer_of(OPENING_BUDGET as u32, end));
+    let printed = print_said(alloc, &reply, to);
+    drop(reply);
+    printed
+}
+
+/// Writes that an operation is past 127 bits.
+pub(crate) fn print_past(alloc: Global, past: Past, to: &mut Bytes) -> Result<(), AllocError>
+    ensures { OnOk result (to.new ≡ to.old ++ check_line (replies.Answered (answers.Past past))) }
+{
+    let reply = Reply::Answered(Answer::Past(past));
+    let printed = print_said(alloc, &reply, to);
+    drop(reply);
+    printed
+}
+
+/// Writes the lines of the certificate of a solve, none where it knows nothing of the model.
+pub(crate) fn print_certificate(
+    alloc: Global,
+    model: &Model,
+    end: &End,
+    to: &mut Bytes,
+) -> Result<(), AllocError>
+    requires { (budget : ℕ) × MayAnswer model.now budget end.now }
+    ensures { OnOk result (to.new ≡ to.old ++ ended_lines (machine.lines_of_solved model.now end.now)) }
+{
+    let lines = certificate_lines(alloc, model, end)?;
+    print_lines(&lines, to)
+}
