@@ -18,8 +18,8 @@ use Rattle.spec_commands.specs.BasisOut.{basis_step}
 use Rattle.spec_server.specs.Said as said
 use Rattle.lp_line.specs.declared.hearing.Step.{Step}
 use Rattle.lp_line.specs.Hearing.{Leads}
-use Rattle.lp_text_commands.specs.declared.basis.BasisStage.{BasisStage}
-use Rattle.lp_text_commands.specs.declared.basis.BasisStage.TheVariants as stage
+use Rattle.lp_text_commands.specs.declared.basis.stage.BasisStage.{BasisStage}
+use Rattle.lp_text_commands.specs.declared.basis.stage.BasisStage.TheVariants as stage
 use Rattle.lp_text_commands.proofs.LeadingOn as on
 use Rattle.lp_text_commands.proofs.LeadingOn.{on_same}
 use Rattle.lp_text_commands.specs.Basis.{ReadingAt, step_within, reading_step, stage_of, step_of, count_of, BasisSays}

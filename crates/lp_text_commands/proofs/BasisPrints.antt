@@ -1,6 +1,7 @@
 -- What is written of a solve from the basis of a file.
-use Rattle.std.proofs.Common.{◌≡◌, ℕ, List, [], ◌++◌, Some, None, Result, Ok, Err, OnOk, ap, sym, ◌∙◌, refl}
-use Rattle.std.proofs.Common.{append_assoc, append-nil}
+use Rattle.std.proofs.Common.{◌≡◌, ℕ, List, ◌++◌, Option, Some, None, option_map, Result, Ok, Err, OnOk, ap, sym, subst, refl, ◌∙◌}
+use Rattle.std.proofs.Common.{append-nil}
+use Rattle.std.proofs.lemmas.Result.{on_ok_weaker}
 use Rattle.spec_exact.specs.Fraction.{ℚ}
 use Rattle.spec_exact.specs.Narrow.{number_limit}
 use Rattle.spec_model.specs.Model.{Model}
@@ -13,46 +14,33 @@ use Rattle.spec_server.specs.declared.asks.Reply.TheVariants as reply
 use Rattle.spec_server.specs.declared.asks.Refusal.TheVariants as refusal
 use Rattle.spec_commands.specs.declared.basis.BasisFault.{BasisFault}
 use Rattle.spec_commands.specs.declared.basis.BasisFault.TheVariants as fault
-use Rattle.spec_server.specs.Machine.{opening_budget}
 use Rattle.spec_server.specs.Output.{check_line}
-use Rattle.spec_commands.specs.BasisOut.{Handed, BasisOut, basis_fault_line, basis_lines}
-use Rattle.spec_commands.specs.BasisOut.{final_text}
+use Rattle.spec_server.specs.Machine.{opening_budget}
+use Rattle.spec_commands.specs.BasisOut.{BasisOut, Handed, basis_fault_line, basis_lines, final_text}
 use Rattle.spec_check.specs.declared.certificate.Known.TheVariants as known
 use Rattle.spec_check.specs.declared.solve_end.SolveEnd.TheVariants.{Ended}
 use Rattle.spec_runs.specs.Cold.{ExactSolveEnd}
 use Rattle.spec_runs.specs.Solve.{HasBasis}
 use Rattle.spec_solve.proofs.Left.{solved_left}
 use Rattle.lp_solve.specs.Fit.{LeavesBasis}
-use Rattle.lp_text_commands.specs.declared.basis_start.Start.{Start}
-use Rattle.lp_text_commands.specs.Handed.{IsStartOf}
+use Rattle.lp_text_commands.specs.declared.basis.starting.Start.{Start}
+use Rattle.lp_text_commands.specs.Handed.{handed_of, IsStartOf}
 use Rattle.lp_text_commands.specs.Ends.{end_lines}
 use Rattle.lp_text_commands.specs.Prints.{Prints}
 
--- the whole
-pub prints_basis : {T E : Type 0} (handed : Handed) (form : Result Form (FormFault ℚ)) (solved : SolveEnd)
-    (before after : List ℕ) (result : Result T E) → form_of (Some number_limit) handed.model ≡ form →
-    IsSolved handed.model opening_budget handed.basis solved →
-    OnOk result (after ≡ before ++ (end_lines handed.model solved ++ final_text handed.model form solved.end)) →
-    OnOk result (Prints (BasisOut (Ok handed)) before after)
+-- ---- the whole
+
+-- by the form that the model has
+pub whole_lines : (m : Model) (form : Result Form (FormFault ℚ)) (solved : SolveEnd) →
+    form_of (Some number_limit) m ≡ form → end_lines m solved ++ final_text m form solved.end ≡ basis_lines m solved
 unfolding basis_lines
-prints_basis handed form solved before after (Ok u) formed is lines =
-    let m = handed.model in
-    record {
-      output = basis_lines m solved;
-      is_output = (solved, is, refl);
-      behind = lines ∙ ap (λ o. before ++ (end_lines m solved ++ final_text m o solved.end)) (sym formed);
-    }
-prints_basis handed form solved before after (Err why) formed is lines = tt
+whole_lines m form solved formed = ap (λ o. end_lines m solved ++ final_text m o solved.end) (sym formed)
 
 -- nothing is written of a basis where there is no form
-pub prints_formless : {T E : Type 0} (m : Model) (why : FormFault ℚ) (solved : SolveEnd) (before after : List ℕ)
-    (result : Result T E) → form_of (Some number_limit) m ≡ Err why → IsSolved m opening_budget None solved →
-    OnOk result (after ≡ before ++ end_lines m solved) →
-    OnOk result (Prints (BasisOut (Ok (record { model = m; basis = None }))) before after)
-prints_formless {E = E} m why solved before after (Ok u) formless is lines =
-    prints_basis {E = E} (record { model = m; basis = None }) (Err why) solved before after (Ok u) formless is
-    (lines ∙ sym (append-nil (before ++ end_lines m solved)) ∙ append_assoc before (end_lines m solved) [])
-prints_formless m why solved before after (Err u) formless is lines = tt
+pub formless_lines : (m : Model) (why : FormFault ℚ) (solved : SolveEnd) → form_of (Some number_limit) m ≡ Err why →
+    end_lines m solved ≡ basis_lines m solved
+formless_lines m why solved formless =
+    sym (append-nil (end_lines m solved)) ∙ whole_lines m (Err why) solved formless
 
 -- ---- a fault
 
@@ -81,3 +69,37 @@ solve_leaves m budget start solved is h = by solved.end refl
     by (Ended (known.Optimal v) c (Some left) pivots) e =
         solved_left (known.Optimal v) c left pivots m budget start.form is.0 solved e (Some start.basis) is.1 h
     by end e = tt
+
+-- ---- of a model that is handed with where its solve starts
+
+module _ (m : Model) (handed : Handed) (from : Option Start) (view : handed_of m from ≡ handed) (is : IsStartOf m from)
+    (solved : SolveEnd) where
+  pub leaves_basis : (start : Start) → from ≡ Some start →
+      IsSolved handed.model opening_budget handed.basis solved → LeavesBasis start.form solved.end
+  leaves_basis start e h =
+      let of_start : IsSolved m opening_budget (option_map (λ (s : Start). s.basis) from) solved =
+      subst (λ (o : Handed). IsSolved o.model opening_budget o.basis solved) (sym view) h in
+      solve_leaves m opening_budget start solved (subst (IsStartOf m) e is)
+      (subst (λ (o : Option Start). IsSolved m opening_budget (option_map (λ (s : Start). s.basis) o) solved) e of_start)
+
+  written_of : {T E : Type 0} (lines before after : List ℕ) (result : Result T E) → lines ≡ basis_lines m solved →
+      OnOk result (after ≡ before ++ lines) → OnOk result (after ≡ before ++ basis_lines handed.model solved)
+  written_of lines before after result e h =
+      subst (λ (o : Handed). OnOk result (after ≡ before ++ basis_lines o.model solved)) view
+      (on_ok_weaker result (λ written. written ∙ ap (λ bs. before ++ bs) e) h)
+
+  pub whole_written : {T E : Type 0} (start : Start) → from ≡ Some start → (before after : List ℕ)
+      (result : Result T E) →
+      OnOk result (after ≡ before ++ (end_lines m solved ++ final_text m (Ok start.form) solved.end)) →
+      OnOk result (after ≡ before ++ basis_lines handed.model solved)
+  whole_written start e before after result h =
+      let at : IsStartOf m (Some start) = subst (IsStartOf m) e is in
+      written_of (end_lines m solved ++ final_text m (Ok start.form) solved.end) before after result
+      (whole_lines m (Ok start.form) solved at.0) h
+
+  pub formless_written : {T E : Type 0} → from ≡ None → (before after : List ℕ) (result : Result T E) →
+      OnOk result (after ≡ before ++ end_lines m solved) →
+      OnOk result (after ≡ before ++ basis_lines handed.model solved)
+  formless_written e before after result h =
+      let at : IsStartOf m None = subst (IsStartOf m) e is in
+      written_of (end_lines m solved) before after result (formless_lines m at.0 solved at.1) h

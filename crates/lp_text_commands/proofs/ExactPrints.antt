@@ -9,16 +9,12 @@ use Rattle.spec_simplex.specs.Eliminate.{IsBasisOf}
 use Rattle.spec_simplex.specs.Form.{Form, form_of}
 use Rattle.spec_solve.specs.declared.exact.ExactEnd.TheVariants.{Answered, Open}
 use Rattle.spec_solve.specs.Exact.{RationalEnd, RationalAnswer, IsBasisOfAnswer, IsExactAnswer, IsExactEnd}
-use Rattle.spec_server.specs.Machine.{opening_budget}
 use Rattle.spec_server.specs.Output.{ended_lines}
 use Rattle.spec_certificate.specs.TextWritten.{wide_certificate_lines}
-use Rattle.spec_server.specs.WideLines.{wide_known_text, wide_lines}
-use Rattle.spec_commands.specs.SolveWideOut.{SolveWideOut}
-use Rattle.spec_commands.specs.BasisOut.{Handed}
-use Rattle.spec_commands.specs.BasisWideOut.{BasisWideOut, origin_text, based_lines}
+use Rattle.spec_server.specs.WideLines.{wide_known_text}
+use Rattle.spec_commands.specs.BasisWideOut.{origin_text, based_lines}
 use Rattle.lp_line.specs.ExactEnds.{HasFit}
 use Rattle.lp_text_commands.specs.Ends.{exact_lines, whole_lines, LeavesBased}
-use Rattle.lp_text_commands.specs.Prints.{Prints}
 
 -- ---- what such an end leaves
 
@@ -71,43 +67,20 @@ answer_lines m a before t u v w after lines (Err why) is_t is_u is_v is_w are is
 
 -- ---- the whole
 
--- the lines of an end are an output of the solve
-pub prints_exact : {T E : Type 0} (m : Model) (end : RationalEnd) (before after : List ℕ) (result : Result T E) →
-    IsExactEnd m opening_budget None end → OnOk result (after ≡ before ++ ended_lines (wide_lines m end)) →
-    OnOk result (Prints (SolveWideOut (Ok m)) before after)
-prints_exact m end before after (Ok u) is lines =
-    record { output = ended_lines (wide_lines m end); is_output = (end, is, refl); behind = lines }
-prints_exact m end before after (Err why) is lines = tt
-
 whole_is : (m : Model) (end : RationalEnd) → whole_lines m (form_of (Some number_limit) m) end ≡ based_lines m end
 whole_is m (Answered a) = refl
 whole_is m Open = refl
 
--- and with the basis of the answer one from a basis
-pub prints_whole : {T E : Type 0} (handed : Handed) (form : Result Form (FormFault ℚ)) (end : RationalEnd)
-    (before after : List ℕ) (result : Result T E) → form_of (Some number_limit) handed.model ≡ form →
-    IsExactEnd handed.model opening_budget handed.basis end →
-    OnOk result (after ≡ before ++ whole_lines handed.model form end) →
-    OnOk result (Prints (BasisWideOut (Ok handed)) before after)
-prints_whole handed form end before after (Ok u) formed is lines =
-    let m = handed.model in
-    record {
-      output = based_lines m end;
-      is_output = (end, is, refl);
-      behind = lines ∙ ap (λ o. before ++ whole_lines m o end) (sym formed) ∙ ap (λ bs. before ++ bs) (whole_is m end);
-    }
-prints_whole handed form end before after (Err why) formed is lines = tt
+-- by the form that the model has
+pub whole_based : (m : Model) (form : Result Form (FormFault ℚ)) (end : RationalEnd) →
+    form_of (Some number_limit) m ≡ form → whole_lines m form end ≡ based_lines m end
+whole_based m form end formed = ap (λ o. whole_lines m o end) (sym formed) ∙ whole_is m end
 
--- without a form there is no basis
 formless_is : (m : Model) (why : FormFault ℚ) (end : RationalEnd) → exact_lines m end ≡ whole_lines m (Err why) end
 formless_is m why (Answered a) = sym (append-nil (exact_lines m (Answered a)))
 formless_is m why Open = refl
 
-pub prints_formless : {T E : Type 0} (m : Model) (why : FormFault ℚ) (end : RationalEnd) (before after : List ℕ)
-    (result : Result T E) → form_of (Some number_limit) m ≡ Err why → IsExactEnd m opening_budget None end →
-    OnOk result (after ≡ before ++ exact_lines m end) →
-    OnOk result (Prints (BasisWideOut (Ok (record { model = m; basis = None }))) before after)
-prints_formless {E = E} m why end before after (Ok u) formless is lines =
-    prints_whole {E = E} (record { model = m; basis = None }) (Err why) end before after (Ok u) formless is
-    (lines ∙ ap (λ bs. before ++ bs) (formless_is m why end))
-prints_formless m why end before after (Err u) formless is lines = tt
+-- without a form there is no basis
+pub formless_based : (m : Model) (why : FormFault ℚ) (end : RationalEnd) → form_of (Some number_limit) m ≡ Err why →
+    exact_lines m end ≡ based_lines m end
+formless_based m why end formless = formless_is m why end ∙ whole_based m (Err why) end formless

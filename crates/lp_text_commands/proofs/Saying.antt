@@ -33,7 +33,7 @@ use Rattle.lp_text_commands.specs.Writing.{WritesAll, WritesInPart, WritesSo}
 use Rattle.spec_commands.specs.BasisOut.{BasisSaid, InText, basis_said, BasisOut, basis_code}
 use Rattle.spec_commands.specs.SolveWideOut.{SolveWideOut}
 use Rattle.spec_commands.specs.BasisWideOut.{BasisWideOut}
-use Rattle.lp_text_commands.specs.declared.basis.BasisStage.TheVariants as basis_stage
+use Rattle.lp_text_commands.specs.declared.basis.stage.BasisStage.TheVariants as basis_stage
 use Rattle.lp_text_commands.specs.Basis.{BasisSays}
 use Rattle.lp_text_commands.specs.declared.check_wide.WideStage.TheVariants as wide_stage
 use Rattle.lp_text_commands.specs.WideStage.{WideSays}

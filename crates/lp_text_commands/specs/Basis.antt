@@ -5,8 +5,8 @@ use Rattle.spec_model.specs.declared.parts.SizeLimits.{SizeLimits}
 use Rattle.spec_commands.specs.BasisOut as reading
 use Rattle.spec_server.specs.Said as said
 use Rattle.lp_line.specs.declared.hearing.Step.{Step}
-use Rattle.lp_text_commands.specs.declared.basis.BasisStage.{BasisStage}
-use Rattle.lp_text_commands.specs.declared.basis.BasisStage.TheVariants as stage
+use Rattle.lp_text_commands.specs.declared.basis.stage.BasisStage.{BasisStage}
+use Rattle.lp_text_commands.specs.declared.basis.stage.BasisStage.TheVariants as stage
 use Rattle.lp_text_commands.specs.Leading.{step_by, says_by}
 
 -- a stage of a reading of a model within these limits

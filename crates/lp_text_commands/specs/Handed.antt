@@ -7,7 +7,7 @@ use Rattle.spec_simplex.specs.declared.ends.FormFault.{FormFault}
 use Rattle.spec_simplex.specs.Form.{form_of}
 use Rattle.spec_simplex.specs.Eliminate.{IsBasisOf}
 use Rattle.spec_commands.specs.BasisOut as reading
-use Rattle.lp_text_commands.specs.declared.basis_start.Start.{Start}
+use Rattle.lp_text_commands.specs.declared.basis.starting.Start.{Start}
 
 abbrev pub handed_of : Model → Option Start → reading.Handed
 handed_of m start = record { model = m; basis = option_map (λ (s : Start). s.basis) start }

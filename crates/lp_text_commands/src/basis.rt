@@ -1,144 +1,61 @@
-// The basis file that follows the text of its model.
-ghost use Rattle.std.specs.Prelude.{◌≡◌, ◌<◌, ◌-◌, ◌^◌, IfOk, Ok, Some, refl};
-ghost use Rattle.spec_exact.specs.Narrow.{number_limit};
-ghost use Rattle.spec_simplex.specs.Form.{form_of};
-ghost use Rattle.spec_commands.specs.BasisOut.{InText, InFile, begun_file};
-ghost use Rattle.lp_text_commands.specs.Basis.{step_of, step_within, reading_step, count_of, BasisSays};
+// The command `basis`: it solves the model from the basis of the file after its text, and writes what that ended with.
+ghost use Rattle.std.specs.Prelude.{Ok, refl};
+ghost use Rattle.spec_model.specs.Kept.{IsUsual};
+ghost use Rattle.spec_solve.specs.Answers.{IsSolved};
+ghost use Rattle.spec_server.specs.Machine.{opening_budget};
+ghost use Rattle.spec_commands.specs.BasisOut.{BasisOut, basis_lines};
 
-use crate::basis_file::FileStage;
-use crate::basis_start::{Handed, Start};
-use lp_bas::BasReader;
-use lp_base::{Feed, Line};
-use lp_form::{LargeForm, large_form};
-use lp_frac::Stop;
-use lp_line::{Stage, Step};
-use lp_model::Model;
-use lp_mps::read::ReaderWithin;
-use spec_commands::BasisFault;
-use spec_model::SizeLimits;
+mod faults;
+mod file;
+mod lines;
+mod said;
+mod stage;
+mod starting;
+mod wide;
+
+use crate::command::Command;
+use lines::{print_end, print_whole};
+use lp_base::Bytes;
+use lp_solve::{OPENING_BUDGET, Solved, solve};
+pub(crate) use said::say_basis;
+pub(crate) use stage::BasisStage;
+use starting::Handed;
 use std::alloc::{AllocError, Global};
 
-/// What the text and the file say: a model to solve, or what is wrong.
-pub(crate) type BasisSaid = Result<Handed, BasisFault>;
+pub(crate) struct SolveFrom;
 
-type BasisStep = Step<BasisStage, BasisSaid>;
+impl Command for SolveFrom {
+    type Given = Handed;
 
-/// In the text of a model within some limits, or in the basis file after it.
-#[derive(Drop)]
-pub(crate) enum BasisStage {
-    Text(ReaderWithin),
-    File(FileStage),
-}
+    type Outcome = Solved;
 
-impl Stage for BasisStage {
-    type Said = BasisSaid;
+    ghost takes = { λ _ handed. IsUsual handed.model };
 
-    ghost says = { BasisSays };
+    ghost may_make = { λ _ handed solved. IsSolved handed.model opening_budget handed.basis solved };
 
-    ghost count = { count_of };
+    ghost lines = { λ _ handed solved. basis_lines handed.model solved };
 
-    ghost silent = { λ _. refl };
+    ghost may_write = { λ _ handed. BasisOut (Ok handed) };
 
-    fn advance(self, alloc: Global, line: &Line) -> Result<BasisStep, AllocError> {
-        match self {
-            BasisStage::Text(reader) => text_line(alloc, reader, line),
-            BasisStage::File(file) => file_line(alloc, file, line),
+    ghost is_written = { λ _ handed solved is. (solved, is, refl) };
+
+    fn run(&self, alloc: Global, handed: &Handed) -> Result<Solved, AllocError> {
+        match &handed.start {
+            Some(start) => solve(alloc, &handed.model, OPENING_BUDGET, Some(&start.basis)),
+            None => solve(alloc, &handed.model, OPENING_BUDGET, None),
         }
     }
-}
 
-// A file is read where the model has a form.
-fn begin_file(alloc: Global, limits: SizeLimits, model: Model) -> Result<BasisStep, AllocError>
-    ensures { IfOk result
-        (λ step. step_of step ≡ step_within limits (begun_file model (form_of (Some number_limit) model))) }
-{
-    match large_form(alloc, &model) {
-        Ok(form) => open_file(alloc, limits, model, form),
-        Err(Stop::Cause(_) | Stop::Past(_)) => Ok(Step::Says(Ok(Handed { model, start: None }))),
-        Err(Stop::NoMemory) => {
-            drop(model);
-            Err(AllocError)
+    fn write(
+        &self,
+        alloc: Global,
+        handed: &Handed,
+        solved: &Solved,
+        to: &mut Bytes,
+    ) -> Result<(), AllocError> {
+        match &handed.start {
+            Some(start) => print_whole(alloc, &handed.model, &start.form, solved, to),
+            None => print_end(alloc, &handed.model, solved, to),
         }
     }
-}
-
-// At the start of a file.
-fn open_file(
-    alloc: Global,
-    limits: SizeLimits,
-    model: Model,
-    form: LargeForm,
-) -> Result<BasisStep, AllocError>
-    requires { form_of (Some number_limit) model ≡ Ok form }
-    ensures { IfOk result (λ step. step_of step ≡ step_within limits (begun_file model (Ok form))) }
-{
-    match BasReader::new(alloc, &form) {
-        Ok(reader) => Ok(Step::On(BasisStage::File(FileStage {
-            limits,
-            model,
-            form,
-            reader,
-        }))),
-        Err(AllocError) => {
-            drop(form);
-            drop(model);
-            Err(AllocError)
-        }
-    }
-}
-
-// A line of the text.
-#[tactic(auto, unfolding(spec_commands::specs::BasisOut::basis_step))]
-fn text_line(alloc: Global, mut reader: ReaderWithin, line: &Line) -> Result<BasisStep, AllocError>
-    requires { reader.text.lines < 2 ^ 32 - 1 }
-    ensures { IfOk result (λ step. step_of step ≡ reading_step (record {
-      limits = reader.limits;
-      stage = InText reader.text.style reader.text.state reader.text.lines;
-    }) line.now) }
-{
-    let limits = reader.limits();
-    let step = match reader.feed(alloc, line) {
-        Feed::More => return Ok(Step::On(BasisStage::Text(reader))),
-        Feed::Done(model) => begin_file(alloc, limits, model),
-        Feed::Refused(fault) => Ok(Step::Says(Err(BasisFault::Text(fault)))),
-        Feed::NoMemory => Err(AllocError),
-    };
-    drop(reader);
-    step
-}
-
-// A line of the file.
-#[tactic(auto, unfolding(spec_commands::specs::BasisOut::basis_step))]
-fn file_line(alloc: Global, file: FileStage, line: &Line) -> Result<BasisStep, AllocError>
-    requires { file.lines < 2 ^ 32 - 1 }
-    ensures { IfOk result (λ step. step_of step ≡ reading_step (record {
-      limits = file.limits;
-      stage = InFile file.model file.form file.state file.lines;
-    }) line.now) }
-{
-    let FileStage {
-        limits,
-        model,
-        form,
-        mut reader,
-    } = file;
-    let step = match reader.feed(alloc, &model, &form, line) {
-        Feed::More => return Ok(Step::On(BasisStage::File(FileStage {
-            limits,
-            model,
-            form,
-            reader,
-        }))),
-        Feed::Done(basis) => {
-            drop(reader);
-            let start = Some(Start { form, basis });
-            return Ok(Step::Says(Ok(Handed { model, start })));
-        }
-        Feed::Refused(fault) => Ok(Step::Says(Err(BasisFault::File(fault)))),
-        Feed::NoMemory => Err(AllocError),
-    };
-    drop(model);
-    drop(form);
-    drop(reader);
-    step
 }

@@ -37,12 +37,7 @@
 //! Which model that is, is `generated` of `spec_commands`, and how its numbers are drawn is `draw` there.
 #![tactic(auto)]
 
-mod based;
-mod bases;
 mod basis;
-mod basis_file;
-mod basis_out;
-mod basis_start;
 mod check;
 mod check_wide;
 mod command;
@@ -58,7 +53,6 @@ mod range;
 mod solve;
 mod tasked;
 mod text;
-mod wide_basis;
 
 pub use exit_status::ExitStatus;
 pub use generator::make;

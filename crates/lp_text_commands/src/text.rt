@@ -5,8 +5,7 @@ ghost use Rattle.spec_server.specs.Streams.{streams};
 ghost use Rattle.spec_program.specs.Spelled.{spelled_text};
 ghost use Rattle.lp_text_commands.specs.TextCommands.{ReadsText};
 
-use crate::based::say_basis;
-use crate::basis::BasisStage;
+use crate::basis::{BasisStage, say_basis};
 use crate::check::CheckStage;
 use crate::check_wide::WideStage;
 use crate::exit_status::ExitStatus;

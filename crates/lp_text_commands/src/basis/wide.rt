@@ -1,20 +1,21 @@
-// The solve of a model from the basis of a file, whose answer may have numbers of any width.
-ghost use Rattle.std.specs.Prelude.{◌≡◌, ◌++◌, ◌∷◌, IfSome, Ok, OnOk, Some, None};
+// The command `basis --wide`: as `basis`, of a model that may be large and with an answer whose numbers have any width.
+ghost use Rattle.std.specs.Prelude.{◌≡◌, ◌++◌, ◌∷◌, IfSome, Ok, OnOk, Some, refl};
 ghost use Rattle.spec_exact.specs.Narrow.{number_limit};
 ghost use Rattle.spec_check.specs.Certificate.{IsFor};
 ghost use Rattle.spec_certificate.specs.TextWritten.{wide_certificate_lines};
 ghost use Rattle.spec_simplex.specs.Eliminate.{IsBasisOf};
 ghost use Rattle.spec_simplex.specs.Form.{form_of};
+ghost use Rattle.spec_solve.specs.Exact.{IsExactEnd};
+ghost use Rattle.spec_server.specs.Machine.{opening_budget};
 ghost use Rattle.spec_server.specs.Output.{ended_lines};
 ghost use Rattle.spec_server.specs.WideLines.{wide_known_text};
-ghost use Rattle.spec_commands.specs.BasisWideOut.{BasisWideOut, origin_text, based_text};
+ghost use Rattle.spec_commands.specs.BasisWideOut.{BasisWideOut, origin_text, based_lines, based_text};
 ghost use Rattle.lp_line.specs.ExactEnds.{HasFit};
 ghost use Rattle.lp_text_commands.specs.Ends.{exact_lines, whole_lines, LeavesBased};
-ghost use Rattle.lp_text_commands.specs.Handed.{handed_of, IsStartOf};
-ghost use Rattle.lp_text_commands.specs.Prints.{Prints};
 
-use crate::basis_start::{Handed, Start};
-use lp_bas::write;
+use crate::basis::lines::print_basis;
+use crate::basis::starting::Handed;
+use crate::command::Command;
 use lp_base::Bytes;
 use lp_certificate::cert_text;
 use lp_form::{Basis, LargeForm};
@@ -24,45 +25,44 @@ use lp_solve::{ExactAnswer, ExactEnd, OPENING_BUDGET, solve_exactly};
 use spec_solve::Origin;
 use std::alloc::{AllocError, Global};
 
-/// Writes what an exact solve of the model ends with, from the basis if the model has a form.
-pub(crate) fn print_exactly_handed(
-    alloc: Global,
-    handed: &Handed,
-    to: &mut Bytes,
-) -> Result<(), AllocError>
-    ensures { OnOk result (Prints (BasisWideOut (Ok handed.now)) to.old to.new) }
-{
-    match &handed.start {
-        Some(start) => print_exactly_from(alloc, &handed.model, start, to),
-        None => print_exactly_formless(alloc, &handed.model, to),
+pub(crate) struct SolveWideFrom;
+
+impl Command for SolveWideFrom {
+    type Given = Handed;
+
+    type Outcome = ExactEnd;
+
+    ghost takes = { λ _ _. Unit {0} };
+
+    ghost may_make = { λ _ handed end. IsExactEnd handed.model opening_budget handed.basis end };
+
+    ghost lines = { λ _ handed end. based_lines handed.model end };
+
+    ghost may_write = { λ _ handed. BasisWideOut (Ok handed) };
+
+    ghost is_written = { λ _ handed end is. (end, is, refl) };
+
+    fn run(&self, alloc: Global, handed: &Handed) -> Result<ExactEnd, AllocError> {
+        match &handed.start {
+            Some(start) => {
+                solve_exactly(alloc, &handed.model, OPENING_BUDGET, Some(&start.basis))
+            }
+            None => solve_exactly(alloc, &handed.model, OPENING_BUDGET, None),
+        }
     }
-}
 
-// A model without a form, of which there is no basis.
-fn print_exactly_formless(alloc: Global, model: &Model, to: &mut Bytes) -> Result<(), AllocError>
-    requires { IsStartOf model.now None }
-    ensures { OnOk result (Prints (BasisWideOut (Ok (handed_of model.now None))) to.old to.new) }
-{
-    let end = solve_exactly(alloc, model, OPENING_BUDGET, None)?;
-    let printed = print_end(alloc, model, &end, to);
-    drop(end);
-    printed
-}
-
-// From a basis of the model's form.
-fn print_exactly_from(
-    alloc: Global,
-    model: &Model,
-    start: &Start,
-    to: &mut Bytes,
-) -> Result<(), AllocError>
-    requires { IsStartOf model.now (Some start.now) }
-    ensures { OnOk result (Prints (BasisWideOut (Ok (handed_of model.now (Some start.now)))) to.old to.new) }
-{
-    let end = solve_exactly(alloc, model, OPENING_BUDGET, Some(&start.basis))?;
-    let printed = print_whole(alloc, model, &start.form, &end, to);
-    drop(end);
-    printed
+    fn write(
+        &self,
+        alloc: Global,
+        handed: &Handed,
+        end: &ExactEnd,
+        to: &mut Bytes,
+    ) -> Result<(), AllocError> {
+        match &handed.start {
+            Some(start) => print_whole(alloc, &handed.model, &start.form, end, to),
+            None => print_end(alloc, &handed.model, end, to),
+        }
+    }
 }
 
 // Writes what an exact solve ended with, and its basis.
@@ -140,10 +140,7 @@ fn print_based(
     ensures { OnOk result (to.new ≡ to.old ++ based_text model.now (Ok form.now) basis.now) }
 {
     match basis {
-        Some(basis) => {
-            let file = write(alloc, model, form, basis)?;
-            to.extend(file.as_slice())
-        }
+        Some(basis) => print_basis(alloc, model, form, basis, to),
         None => Ok(()),
     }
 }

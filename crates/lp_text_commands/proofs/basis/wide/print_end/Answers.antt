@@ -1,6 +1,6 @@
 -- The one line of an end of which nothing is known.
 use Rattle.lp_text_commands.proofs.ExactPrints.{open_line}
-use Rattle.lp_text_commands.proofs.wide_basis.print_end.Goals as goal
+use Rattle.lp_text_commands.proofs.basis.wide.print_end.Goals as goal
 
 pub returns-in-Open : goal.returns-in-Open
 returns-in-Open c =

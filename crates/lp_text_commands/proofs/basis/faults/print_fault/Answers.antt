@@ -2,7 +2,7 @@
 use Rattle.std.proofs.Common.{ap}
 use Rattle.spec_commands.specs.BasisOut.{basis_fault_line}
 use Rattle.lp_text_commands.proofs.BasisPrints.{prints_fault, line_of_text}
-use Rattle.lp_text_commands.proofs.basis_out.print_fault.Goals as goal
+use Rattle.lp_text_commands.proofs.basis.faults.print_fault.Goals as goal
 
 pub returns-in-Text : goal.returns-in-Text
 returns-in-Text c =

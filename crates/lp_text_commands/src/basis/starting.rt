@@ -4,14 +4,14 @@ use lp_model::Model;
 
 /// The form of a model, and a basis of it from which a solve starts.
 #[derive(Drop)]
-pub struct Start {
+pub(crate) struct Start {
     pub form: LargeForm,
     pub basis: Basis,
 }
 
 /// A model that is to be solved, and from where, if it has a form.
 #[derive(Drop)]
-pub struct Handed {
+pub(crate) struct Handed {
     pub model: Model,
     pub start: Option<Start>,
 }

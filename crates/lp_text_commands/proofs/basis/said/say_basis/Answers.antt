@@ -6,7 +6,7 @@ use Rattle.spec_commands.specs.BasisOut.{BasisSaid, BasisOut, basis_code, basis_
 use Rattle.lp_text_commands.specs.Writing.{WritesSo}
 use Rattle.lp_text_commands.proofs.Saying.{says_nothing, says, basis_agrees}
 use Rattle.lp_text_commands.proofs.BasisKept.{heard_usual}
-use Rattle.lp_text_commands.proofs.based.say_basis.Goals as goal
+use Rattle.lp_text_commands.proofs.basis.said.say_basis.Goals as goal
 
 pub new-requires : goal.new-requires
 new-requires g c =

@@ -1,6 +1,6 @@
 -- The lines, one after the other.
 use Rattle.lp_text_commands.proofs.ExactPrints.{answer_lines}
-use Rattle.lp_text_commands.proofs.wide_basis.print_answer.Goals as goal
+use Rattle.lp_text_commands.proofs.basis.wide.print_answer.Goals as goal
 
 pub returns : goal.returns
 returns c =

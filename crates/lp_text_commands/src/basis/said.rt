@@ -1,13 +1,17 @@
-// What is said of a text of a usual model and the basis file after it, as it is written at 127 bits.
+// What is said of a text and the basis file after it, as it is written.
 ghost use Rattle.std.specs.Prelude.{IsErrOf};
 ghost use Rattle.lp_base.specs.Causes.{Rose};
 ghost use Rattle.spec_model.specs.Kept.{usual_limits};
 ghost use Rattle.spec_commands.specs.BasisOut.{BasisOut, basis_code, basis_said};
+ghost use Rattle.spec_commands.specs.BasisWideOut.{BasisWideOut};
 ghost use Rattle.spec_server.specs.Streams.{streams};
 ghost use Rattle.lp_text_commands.specs.Hearing.{SaysSo};
 
-use crate::basis::{BasisSaid, BasisStage};
-use crate::basis_out::{print_fault, print_handed};
+use crate::basis::SolveFrom;
+use crate::basis::faults::print_fault;
+use crate::basis::stage::{BasisSaid, BasisStage};
+use crate::basis::wide::SolveWideFrom;
+use crate::command::print;
 use crate::exit_status::ExitStatus;
 use crate::hearing::{Output, hear_input, write_said};
 use lp_base::{Bytes, Sink, Source};
@@ -56,7 +60,28 @@ impl Output for UsualBasis {
         let UsualBasis { said } = self;
         match said {
             Ok(handed) => {
-                let printed = print_handed(alloc, &handed, to);
+                let printed = print(alloc, &SolveFrom, &handed, to);
+                drop(handed);
+                printed?;
+                Ok(ExitStatus::DONE)
+            }
+            Err(fault) => {
+                print_fault(alloc, fault, to)?;
+                Ok(ExitStatus::REFUSED)
+            }
+        }
+    }
+}
+
+impl Output for BasisSaid {
+    ghost may_write = { BasisWideOut };
+
+    ghost code = { basis_code };
+
+    fn print(self, alloc: Global, to: &mut Bytes) -> Result<ExitStatus, AllocError> {
+        match self {
+            Ok(handed) => {
+                let printed = print(alloc, &SolveWideFrom, &handed, to);
                 drop(handed);
                 printed?;
                 Ok(ExitStatus::DONE)
