@@ -14,8 +14,8 @@ use Rattle.spec_commands.specs.CheckOut.{check_step}
 use Rattle.spec_commands.proofs.CheckLemmas.{end_says}
 use Rattle.lp_line.specs.declared.hearing.Step.{Step}
 use Rattle.lp_line.specs.Hearing.{Leads}
-use Rattle.lp_text_commands.specs.declared.check.CheckStage.{CheckStage}
-use Rattle.lp_text_commands.specs.declared.check.CheckStage.TheVariants as stage
+use Rattle.lp_text_commands.specs.declared.check.stage.CheckStage.{CheckStage}
+use Rattle.lp_text_commands.specs.declared.check.stage.CheckStage.TheVariants as stage
 use Rattle.lp_text_commands.proofs.LeadingOn as on
 use Rattle.lp_text_commands.proofs.LeadingOn.{on_same}
 use Rattle.lp_text_commands.specs.Stage.{stage_of, step_of, count_of, CheckSays}

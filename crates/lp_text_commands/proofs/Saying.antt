@@ -23,7 +23,7 @@ use Rattle.spec_commands.specs.SolveOut.{SolveOut, solve_code}
 use Rattle.lp_base.specs.Beside.{Takes}
 use Rattle.lp_mps.specs.TextRead.{TextRead, ReadWithin}
 use Rattle.lp_line.specs.Stages.{TextSays, LargeSays}
-use Rattle.lp_text_commands.specs.declared.check.CheckStage.TheVariants as stage
+use Rattle.lp_text_commands.specs.declared.check.stage.CheckStage.TheVariants as stage
 use Rattle.lp_text_commands.specs.declared.exit_status.ExitStatus.{ExitStatus}
 use Rattle.lp_line.specs.declared.halt.Halt.{Halt}
 use Rattle.lp_line.specs.declared.halt.Halt.TheVariants as halts
@@ -35,7 +35,7 @@ use Rattle.spec_commands.specs.SolveWideOut.{SolveWideOut}
 use Rattle.spec_commands.specs.BasisWideOut.{BasisWideOut}
 use Rattle.lp_text_commands.specs.declared.basis.stage.BasisStage.TheVariants as basis_stage
 use Rattle.lp_text_commands.specs.Basis.{BasisSays}
-use Rattle.lp_text_commands.specs.declared.check_wide.WideStage.TheVariants as wide_stage
+use Rattle.lp_text_commands.specs.declared.check.wide_stage.WideStage.TheVariants as wide_stage
 use Rattle.lp_text_commands.specs.WideStage.{WideSays}
 use Rattle.lp_text_commands.specs.Stage.{CheckSays}
 use Rattle.spec_server.specs.Streams.{Streams, streams}

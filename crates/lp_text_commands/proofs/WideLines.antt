@@ -22,8 +22,8 @@ use Rattle.spec_commands.specs.CheckOut as reading
 use Rattle.spec_commands.specs.CheckWideOut.{behind_wide, wide_step, wide_reply_text, wide_check_line}
 use Rattle.lp_line.specs.declared.hearing.Step.{Step}
 use Rattle.lp_line.specs.Hearing.{Leads}
-use Rattle.lp_text_commands.specs.declared.check_wide.WideStage.{WideStage}
-use Rattle.lp_text_commands.specs.declared.check_wide.WideStage.TheVariants as stage
+use Rattle.lp_text_commands.specs.declared.check.wide_stage.WideStage.{WideStage}
+use Rattle.lp_text_commands.specs.declared.check.wide_stage.WideStage.TheVariants as stage
 use Rattle.lp_text_commands.proofs.LeadingOn as on
 use Rattle.lp_text_commands.proofs.LeadingOn.{on_same}
 use Rattle.lp_text_commands.proofs.CheckLines.{lines_in, text_counts}

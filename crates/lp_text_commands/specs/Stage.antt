@@ -5,8 +5,8 @@ use Rattle.spec_server.specs.Machine.{ExactReply}
 use Rattle.spec_commands.specs.CheckOut as reading
 use Rattle.spec_server.specs.Said as said
 use Rattle.lp_line.specs.declared.hearing.Step.{Step}
-use Rattle.lp_text_commands.specs.declared.check.CheckStage.{CheckStage}
-use Rattle.lp_text_commands.specs.declared.check.CheckStage.TheVariants as stage
+use Rattle.lp_text_commands.specs.declared.check.stage.CheckStage.{CheckStage}
+use Rattle.lp_text_commands.specs.declared.check.stage.CheckStage.TheVariants as stage
 use Rattle.lp_text_commands.specs.Leading.{step_by, says_by}
 
 abbrev pub stage_of : CheckStage → reading.Stage

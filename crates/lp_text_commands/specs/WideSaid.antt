@@ -4,8 +4,8 @@ use Rattle.spec_server.specs.declared.asks.Reply.TheVariants as reply
 use Rattle.spec_server.specs.Machine.{ExactReply}
 use Rattle.lp_check.specs.declared.wide.certificate.Verdict.{Verdict}
 use Rattle.lp_check.specs.declared.wide.certificate.Verdict.TheVariants as wide
-use Rattle.lp_text_commands.specs.declared.check_wide.WideSaid.{WideSaid}
-use Rattle.lp_text_commands.specs.declared.check_wide.WideSaid.TheVariants as said
+use Rattle.lp_text_commands.specs.declared.check.wide.WideSaid.{WideSaid}
+use Rattle.lp_text_commands.specs.declared.check.wide.WideSaid.TheVariants as said
 
 abbrev pub verdict_reply : Verdict → ExactReply
 verdict_reply (wide.Yes what) = reply.Checked (verdict.Yes what)

@@ -6,8 +6,8 @@ use Rattle.spec_commands.specs.CheckOut as reading
 use Rattle.spec_commands.specs.CheckWideOut.{wide_step}
 use Rattle.spec_server.specs.Said as said
 use Rattle.lp_line.specs.declared.hearing.Step.{Step}
-use Rattle.lp_text_commands.specs.declared.check_wide.WideStage.{WideStage}
-use Rattle.lp_text_commands.specs.declared.check_wide.WideStage.TheVariants as stage
+use Rattle.lp_text_commands.specs.declared.check.wide_stage.WideStage.{WideStage}
+use Rattle.lp_text_commands.specs.declared.check.wide_stage.WideStage.TheVariants as stage
 use Rattle.lp_text_commands.specs.Leading.{step_by, says_by}
 
 abbrev pub wide_stage_of : WideStage → reading.Stage

@@ -1,123 +1,89 @@
-// The parts of a generated model, in the order in which they are drawn.
-ghost use Rattle.std.specs.Prelude.{◌≡◌, ◌<◌, ◌≤◌, IfOk, OnOk};
-ghost use Rattle.spec_model.specs.Kept.{row_limit, column_limit};
-ghost use Rattle.spec_commands.specs.Draws.{after};
-ghost use Rattle.spec_commands.specs.Generated as generator;
+// The command `gen`: it makes the model of a seed, solves it, and writes its size and what the solve ended with.
+ghost use Rattle.std.specs.Prelude.{◌≤◌, IfOk, IsErrOf, None, refl};
+ghost use Rattle.lp_base.specs.Causes.{Rose};
+ghost use Rattle.spec_model.specs.Kept.{row_limit, column_limit, IsUsual};
+ghost use Rattle.spec_solve.specs.Answers.{IsSolved};
+ghost use Rattle.spec_server.specs.Machine.{opening_budget};
+ghost use Rattle.spec_commands.specs.GenOut.{generated_lines, GenOut, SolvedOut};
+ghost use Rattle.lp_text_commands.specs.Generating.{Writes};
 
-use crate::draws::Draws;
-use lp_base::Name;
-use lp_frac::{Entries, zero};
-use lp_model::{Column, Kind, Model, Row, Sense, UsualModel};
+mod draws;
+mod lines;
+mod parts;
+
+use crate::command::{Command, print};
+use crate::solve::print_answer;
+use lines::{print_pivots, print_size};
+use lp_base::{Bytes, Sink, send};
+use lp_line::Halt;
+use lp_model::Model;
+use lp_solve::{OPENING_BUDGET, Solved, solve};
+pub use parts::make;
 use std::alloc::{AllocError, Global};
 
-#[tactic(auto, unfolding(spec_commands::specs::Generated::row_name))]
-fn row_name(alloc: Global, i: u32) -> Result<Name, AllocError>
-    requires { i < row_limit }
-    ensures { IfOk result (λ name. name ≡ generator.row_name i) }
-{
-    let text = format!(in alloc; "R{}", i + 1)?;
-    Name::from_slice(alloc, text.as_bytes())
-}
+// Solves a model that was made.
+struct SolveMade;
 
-#[tactic(auto, unfolding(spec_commands::specs::Generated::column_name))]
-fn column_name(alloc: Global, j: u32) -> Result<Name, AllocError>
-    requires { j < column_limit }
-    ensures { IfOk result (λ name. name ≡ generator.column_name j) }
-{
-    let text = format!(in alloc; "C{}", j + 1)?;
-    Name::from_slice(alloc, text.as_bytes())
-}
+impl Command for SolveMade {
+    type Given = Model;
 
-// The entries of a column.
-fn entries(alloc: Global, draws: &mut Draws, rows: u32) -> Result<Entries, AllocError>
-    ensures entries { IfOk result (λ entries. entries ≡ generator.entries draws.old rows) }
-    ensures state { OnOk result (draws.new ≡ generator.at_row draws.old rows) }
-{
-    let mut entries = Entries::new(alloc);
-    for row in 0..rows {
-        if draws.draw() % 3 == 0 {
-            entries.push((row, draws.number_from(1, 9)))?;
-        }
+    type Outcome = Solved;
+
+    ghost takes = { λ _ m. IsUsual m };
+
+    ghost may_make = { λ _ m solved. IsSolved m opening_budget None solved };
+
+    ghost lines = { λ _ m solved. generated_lines m solved.end };
+
+    ghost may_write = { λ _ m. SolvedOut m };
+
+    ghost is_written = { λ _ m solved is. (solved, is, refl) };
+
+    fn run(&self, alloc: Global, model: &Model) -> Result<Solved, AllocError> {
+        solve(alloc, model, OPENING_BUDGET, None)
     }
-    Ok(entries)
+
+    #[tactic(auto, unfolding(spec_commands::specs::GenOut::generated_lines))]
+    fn write(
+        &self,
+        alloc: Global,
+        model: &Model,
+        solved: &Solved,
+        to: &mut Bytes,
+    ) -> Result<(), AllocError> {
+        print_size(alloc, model, to)?;
+        print_answer(alloc, &solved.end, to)?;
+        print_pivots(alloc, &solved.end, to)
+    }
 }
 
-#[tactic(auto, unfolding(spec_commands::specs::Generated::generated_column))]
-fn column(alloc: Global, draws: &mut Draws, rows: u32, j: u32) -> Result<Column, AllocError>
-    requires { j < column_limit }
-    ensures column { IfOk result (λ column. column ≡ generator.generated_column rows j draws.old) }
-    ensures state { OnOk result (draws.new ≡ generator.at_row (after 2 draws.old) rows) }
-{
-    let cost = draws.number_from(1, 9);
-    let upper = draws.number_from(1, 20);
-    let entries = entries(alloc, draws, rows)?;
-    Ok(Column {
-        name: column_name(alloc, j)?,
-        cost,
-        lower: Some(zero()),
-        upper: Some(upper),
-        entries,
-    })
-}
-
-fn columns(
+/// Makes the model of this seed, with so many rows and columns, and writes its size and what a solve of it ends with.
+pub fn generate<K: Sink>(
     alloc: Global,
-    draws: &mut Draws,
+    seed: u32,
     rows: u32,
-    count: u32,
-) -> Result<Vec<Column>, AllocError>
-    requires { count ≤ column_limit }
-    ensures columns { IfOk result (λ columns. columns.items ≡ generator.generated_columns draws.old rows count) }
-    ensures state { OnOk result (draws.new ≡ generator.at_column rows draws.old count) }
-{
-    let mut columns = Vec::new(alloc);
-    for j in 0..count {
-        columns.push(column(alloc, draws, rows, j)?)?;
-    }
-    Ok(columns)
-}
-
-#[tactic(auto, unfolding(spec_commands::specs::Generated::generated_row))]
-fn row(alloc: Global, draws: &mut Draws, i: u32) -> Result<Row, AllocError>
-    requires { i < row_limit }
-    ensures row { IfOk result (λ row. row ≡ generator.generated_row i draws.old) }
-    ensures state { OnOk result (draws.new ≡ after 1 draws.old) }
-{
-    Ok(Row {
-        name: row_name(alloc, i)?,
-        kind: Kind::L,
-        rhs: draws.number_from(10, 90),
-        range: None,
-    })
-}
-
-fn rows(alloc: Global, draws: &mut Draws, count: u32) -> Result<Vec<Row>, AllocError>
-    requires { count ≤ row_limit }
-    ensures { IfOk result (λ rows. rows.items ≡ generator.generated_rows draws.old count) }
-{
-    let mut rows = Vec::new(alloc);
-    for i in 0..count {
-        rows.push(row(alloc, draws, i)?)?;
-    }
-    Ok(rows)
-}
-
-/// The model of this seed, with so many rows and columns. The point 0 is feasible, and each column has both bounds.
-#[tactic(auto, unfolding(spec_commands::specs::Generated::generated))]
-pub fn make(alloc: Global, seed: u32, rows: u32, columns: u32) -> Result<UsualModel, AllocError>
+    columns: u32,
+    out: &mut K,
+) -> Result<(), Halt>
     requires rows { rows ≤ row_limit }
     requires columns { columns ≤ column_limit }
-    ensures { IfOk result (λ model. model ≡ generator.generated seed rows columns) }
+    ensures output { Writes (GenOut seed rows columns) (K.taken out.old) (K.taken out.new) result }
+    ensures write { IsErrOf result Halt.Write → Rose (K.write_faults out.old) (K.write_faults out.new) }
 {
-    let mut draws = Draws::new(seed);
-    let columns = self::columns(alloc, &mut draws, rows, columns)?;
-    let rows = self::rows(alloc, &mut draws, rows)?;
-    Ok(UsualModel::new(Model::new(
-        Name::from_slice(alloc, b"gen")?,
-        Sense::Max,
-        Name::from_slice(alloc, b"cost")?,
-        zero(),
-        rows,
-        columns,
-    )))
+    let model = make(alloc, seed, rows, columns)?;
+    let text = generated_text(alloc, model.model());
+    drop(model);
+    let text = text?;
+    send(out, text.as_slice())?;
+    Ok(())
+}
+
+// What is written of a model that was made.
+fn generated_text(alloc: Global, model: &Model) -> Result<Bytes, AllocError>
+    requires { IsUsual model.now }
+    ensures { IfOk result (SolvedOut model.now) }
+{
+    let mut text = Bytes::new(alloc);
+    print(alloc, &SolveMade, model, &mut text)?;
+    Ok(text)
 }

@@ -39,14 +39,11 @@
 
 mod basis;
 mod check;
-mod check_wide;
 mod command;
-mod draws;
 mod exit_status;
 mod generator;
 mod hearing;
 mod iis;
-mod made;
 mod outputs;
 mod presolve;
 mod range;
@@ -55,6 +52,5 @@ mod tasked;
 mod text;
 
 pub use exit_status::ExitStatus;
-pub use generator::make;
-pub use made::generate;
+pub use generator::{generate, make};
 pub use text::read_text;

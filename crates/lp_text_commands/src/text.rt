@@ -6,8 +6,7 @@ ghost use Rattle.spec_program.specs.Spelled.{spelled_text};
 ghost use Rattle.lp_text_commands.specs.TextCommands.{ReadsText};
 
 use crate::basis::{BasisStage, say_basis};
-use crate::check::CheckStage;
-use crate::check_wide::WideStage;
+use crate::check::{CheckStage, WideStage};
 use crate::exit_status::ExitStatus;
 use crate::hearing::say;
 use crate::range::say_range;

@@ -1,0 +1,110 @@
+// The command `check --wide`: the verdict on a certificate whose numbers may have any width, as it is written.
+ghost use Rattle.std.specs.Prelude.{◌≡◌, ◌++◌, IfOk, OnOk};
+ghost use Rattle.spec_check.specs.declared.certificate.Known.TheVariants as known;
+ghost use Rattle.spec_check.specs.declared.certificate.Verdict.TheVariants as verdict;
+ghost use Rattle.spec_server.specs.declared.asks.Reply.TheVariants as reply;
+ghost use Rattle.spec_commands.specs.CheckOut.{check_code};
+ghost use Rattle.spec_commands.specs.CheckWideOut.{wide_reply_text, wide_check_line, WideCheckOut};
+ghost use Rattle.spec_server.specs.Output.{reply_text};
+ghost use Rattle.lp_text_commands.specs.WideSaid.{verdict_reply};
+
+use crate::exit_status::ExitStatus;
+use crate::hearing::Output;
+use lp_base::Bytes;
+use lp_check::wide::{Known, Verdict};
+use lp_line::{Refusal, Reply};
+use lp_numtext::wide_text;
+use lp_ratio::Ratio;
+use std::alloc::{AllocError, Global};
+
+/// The verdict on a certificate, or why there is none.
+#[derive(Drop)]
+pub(crate) enum WideSaid {
+    Checked(Verdict),
+    Refused(Refusal),
+}
+
+/// What is said of a certificate. Contracts see the reply that says it.
+#[derive(Drop)]
+pub(crate) struct WideReply {
+    said: WideSaid,
+}
+
+impl std::marker::Model for WideReply {
+    ghost use Rattle.spec_server.specs.Machine.{ExactReply};
+
+    ghost Value = { ExactReply };
+
+    ghost use Rattle.lp_text_commands.specs.WideSaid.{reply_of};
+
+    ghost view = { λ r. reply_of r.said };
+}
+
+impl WideReply {
+    ghost use Rattle.std.specs.Prelude.{◌≡◌};
+    ghost use Rattle.lp_text_commands.specs.WideSaid.{reply_of};
+
+    pub(crate) fn new(said: WideSaid) -> WideReply
+        ensures { result ≡ reply_of said }
+    {
+        WideReply { said }
+    }
+}
+
+impl Output for WideReply {
+    ghost may_write = { WideCheckOut };
+
+    ghost code = { check_code };
+
+    fn print(self, alloc: Global, to: &mut Bytes) -> Result<ExitStatus, AllocError> {
+        let WideReply { said } = self;
+        match said {
+            WideSaid::Checked(verdict) => print_verdict(alloc, verdict, to),
+            WideSaid::Refused(why) => print_narrow(alloc, Reply::Refused(why), to),
+        }
+    }
+}
+
+// The line of an optimal value.
+#[tactic(auto, unfolding(spec_commands::specs::CheckWideOut::wide_check_line))]
+fn print_optimal(alloc: Global, value: &Ratio, to: &mut Bytes) -> Result<(), AllocError>
+    ensures { OnOk result (to.new ≡ to.old ++ wide_check_line (reply.Checked (verdict.Yes (known.Optimal value.now)))) }
+{
+    let text = wide_text(alloc, value)?;
+    to.extend(b"YES OPTIMAL ")?;
+    to.extend(text.as_slice())?;
+    to.push(b'\n')
+}
+
+// The line of a reply without a number that may have any width, which is that of a check of 127 bits.
+fn print_narrow(alloc: Global, reply: Reply, to: &mut Bytes) -> Result<ExitStatus, AllocError>
+    requires { wide_reply_text reply ≡ reply_text reply }
+    ensures output { OnOk result (to.new ≡ to.old ++ wide_check_line reply) }
+    ensures status { IfOk result (λ status. status.code ≡ check_code reply) }
+{
+    reply.print(alloc, to)
+}
+
+// The line of a verdict.
+fn print_verdict(alloc: Global, verdict: Verdict, to: &mut Bytes) -> Result<ExitStatus, AllocError>
+    ensures output { OnOk result (to.new ≡ to.old ++ wide_check_line (verdict_reply verdict)) }
+    ensures status { IfOk result (λ status. status.code ≡ 0) }
+{
+    match verdict {
+        Verdict::Yes(Known::Optimal(value)) => {
+            let printed = print_optimal(alloc, &value, to);
+            drop(value);
+            printed?;
+            Ok(ExitStatus::DONE)
+        }
+        Verdict::Yes(Known::Infeasible) => {
+            let infeasible = spec_check::Verdict::Yes(spec_check::Known::Infeasible);
+            print_narrow(alloc, Reply::Checked(infeasible), to)
+        }
+        Verdict::Yes(Known::Unbounded) => {
+            let unbounded = spec_check::Verdict::Yes(spec_check::Known::Unbounded);
+            print_narrow(alloc, Reply::Checked(unbounded), to)
+        }
+        Verdict::No(n) => print_narrow(alloc, Reply::Checked(spec_check::Verdict::No(n)), to),
+    }
+}
