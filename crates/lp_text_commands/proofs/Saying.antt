@@ -11,9 +11,14 @@ use denote.Ref.{Bor}
 use Rattle.spec_program.specs.declared.command_line.Moved.{Moved}
 use Rattle.spec_program.specs.declared.command_line.TextCommand.{TextCommand}
 use Rattle.spec_program.specs.declared.command_line.TextCommand.TheVariants.{Solve, SolveWide, Check, CheckWide, Basis, BasisWide, Presolve, Iis, Range, RangeAll}
-use Rattle.lp_text_commands.specs.declared.tasked.Task.TheVariants as task
-use Rattle.lp_text_commands.specs.Tasked.{TaskOut, task_code}
 use Rattle.spec_commands.specs.RangeOut.{RangeOut, range_code}
+use Rattle.spec_commands.specs.RangesOut.{RangesOut}
+use Rattle.spec_commands.specs.IisOut.{IisOut}
+use Rattle.spec_commands.specs.PresolveOut.{PresolveOut}
+use Rattle.spec_server.specs.declared.asks.Reply.TheVariants as reply
+use Rattle.spec_server.specs.declared.asks.Refusal.TheVariants as refusal
+use Rattle.spec_server.specs.Output.{check_line}
+use Rattle.spec_mps.specs.declared.fault.MpsFault.{MpsFault}
 use Rattle.spec_program.specs.Spelled.{spelled_text}
 use Rattle.spec_server.specs.Machine.{ExactReply}
 use Rattle.spec_commands.specs.CheckOut.{said, CheckOut, check_code}
@@ -28,6 +33,7 @@ use Rattle.lp_text_commands.specs.declared.exit_status.ExitStatus.{ExitStatus}
 use Rattle.lp_line.specs.declared.halt.Halt.{Halt}
 use Rattle.lp_line.specs.declared.halt.Halt.TheVariants as halts
 use Rattle.lp_text_commands.specs.Prints.{Prints}
+use Rattle.lp_text_commands.specs.Said.{TextOut}
 use Rattle.lp_text_commands.specs.Hearing.{Agrees, Hears, HearsSo, SaysSo}
 use Rattle.lp_text_commands.specs.Writing.{WritesAll, WritesInPart, WritesSo}
 use Rattle.spec_commands.specs.BasisOut.{BasisSaid, InText, basis_said, BasisOut, basis_code}
@@ -80,6 +86,33 @@ module _ {R : Type 0} (tells : List (Line (List ℕ)) → Option R) (Out : R →
   says what h now (Err halts.Cut) w = absurd w
   says what h now (Err halts.Over) w = absurd w
 
+-- what is written is also another output
+pub says_also : {R : Type 0} (tells : List (Line (List ℕ)) → Option R) (Out Other : R → List ℕ → Type 0)
+    (code_of : R → ℕ) (s : Streams) (result : Result ExitStatus Halt) →
+    ((what : R) (written : List ℕ) → Out what written → Other what written) → SaysSo tells Out code_of s result →
+    SaysSo tells Other code_of s result
+says_also tells Out Other code_of s (Ok status) also h =
+    record {
+      what = h.what;
+      hears = h.hears;
+      output = h.output;
+      is_output = also h.what h.output h.is_output;
+      written = h.written;
+      status = h.status;
+    }
+says_also tells Out Other code_of s (Err halts.Write) also h =
+    record {
+      what = h.what;
+      hears = h.hears;
+      output = h.output;
+      is_output = also h.what h.output h.is_output;
+      written = h.written;
+    }
+says_also tells Out Other code_of s (Err halts.Read) also h = h
+says_also tells Out Other code_of s (Err halts.Over) also h = h
+says_also tells Out Other code_of s (Err halts.NoMemory) also h = h
+says_also tells Out Other code_of s (Err halts.Cut) also h = absurd h
+
 -- ---- what is written of what is said
 
 module _ (Out : List ℕ → Type 0) (code : ℕ) (taken : Option (List ℕ)) where
@@ -129,13 +162,6 @@ module _ (style : Style) (reader : TextRead) (begun : reader ≡ record { style 
   check_agrees : Agrees (CheckSays (stage.Text reader)) (said style)
   check_agrees lines answer h = subst (λ (r : TextRead). CheckSays (stage.Text r) lines answer) begun h
 
-  pub solve_reads : (command : Asked) → command ≡ Solve → (s : Streams) (result : Result ExitStatus Halt) →
-      ((said : List (Line (List ℕ)) → Option TextSaid) → Agrees (TextSays reader) said →
-      SaysSo said SolveOut solve_code s result) →
-      ReadsText (spelled_text command) style s result
-  solve_reads command asked s result h =
-      reads_as command Solve style s result asked (h (text_said style) text_agrees)
-
   pub check_reads : (command : Asked) → command ≡ Check → (s : Streams) (result : Result ExitStatus Halt) →
       ((said : List (Line (List ℕ)) → Option ExactReply) → Agrees (CheckSays (stage.Text reader)) said →
       SaysSo said CheckOut check_code s result) →
@@ -171,27 +197,44 @@ module _ (style : Style) (reader : TextRead) (begun : reader ≡ record { style 
   range_reads command moved name asked s result h =
       reads_as command (Range moved name) style s result asked (h (text_said style) text_agrees)
 
+  -- a text whose model is given to a command
   module _ (command : Asked) (s : Streams) (result : Result ExitStatus Halt) where
+    of_text : (Out : TextSaid → List ℕ → Type 0) →
+        ((fault : MpsFault) (written : List ℕ) → written ≡ check_line (reply.Refused (refusal.Misspelled fault)) →
+        Out (Err fault) written) →
+        SaysSo (text_said reader.style) (TextOut (λ m written. Out (Ok m) written)) solve_code s result →
+        SaysSo (text_said style) Out solve_code s result
+    of_text Out refused h =
+        says_also (text_said style) (TextOut (λ m written. Out (Ok m) written)) Out solve_code s result by
+        (subst (λ (r : TextRead). SaysSo (text_said r.style) (TextOut (λ m written. Out (Ok m) written)) solve_code s
+        result) begun h)
+      where
+        by : (what : TextSaid) (written : List ℕ) → TextOut (λ m written. Out (Ok m) written) what written →
+            Out what written
+        by (Ok m) written out = out
+        by (Err fault) written is = refused fault written is
+
+    pub solve_reads : command ≡ Solve →
+        SaysSo (text_said reader.style) (TextOut (λ m. SolveOut (Ok m))) solve_code s result →
+        ReadsText (spelled_text command) style s result
+    solve_reads asked h = reads_as command Solve style s result asked (of_text SolveOut (λ fault written is. is) h)
+
     pub presolve_reads : command ≡ Presolve →
-        SaysSo (text_said reader.style) (TaskOut task.Presolve) task_code s result →
+        SaysSo (text_said reader.style) (TextOut (λ m. PresolveOut (Ok m))) solve_code s result →
         ReadsText (spelled_text command) style s result
     presolve_reads asked h =
-        reads_as command Presolve style s result asked
-        (subst (λ (r : TextRead). SaysSo (text_said r.style) (TaskOut task.Presolve) task_code s result) begun h)
+        reads_as command Presolve style s result asked (of_text PresolveOut (λ fault written is. is) h)
 
     pub iis_reads : command ≡ Iis →
-        SaysSo (text_said reader.style) (TaskOut task.Search) task_code s result →
+        SaysSo (text_said reader.style) (TextOut (λ m. IisOut (Ok m))) solve_code s result →
         ReadsText (spelled_text command) style s result
-    iis_reads asked h =
-        reads_as command Iis style s result asked
-        (subst (λ (r : TextRead). SaysSo (text_said r.style) (TaskOut task.Search) task_code s result) begun h)
+    iis_reads asked h = reads_as command Iis style s result asked (of_text IisOut (λ fault written is. is) h)
 
     pub ranges_reads : command ≡ RangeAll →
-        SaysSo (text_said reader.style) (TaskOut task.Range) task_code s result →
+        SaysSo (text_said reader.style) (TextOut (λ m. RangesOut (Ok m))) solve_code s result →
         ReadsText (spelled_text command) style s result
     ranges_reads asked h =
-        reads_as command RangeAll style s result asked
-        (subst (λ (r : TextRead). SaysSo (text_said r.style) (TaskOut task.Range) task_code s result) begun h)
+        reads_as command RangeAll style s result asked (of_text RangesOut (λ fault written is. is) h)
 
 -- ---- and of a basis file after it
 

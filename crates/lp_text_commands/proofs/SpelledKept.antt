@@ -4,7 +4,7 @@ use Rattle.spec_text.specs.declared.line.Line.{Line}
 use Rattle.spec_text.specs.declared.line.Line.TheVariants as line
 use Rattle.spec_text.specs.Lines.{lines_of, ended_lines_of, input_limit}
 use Rattle.spec_model.specs.Model.{Model}
-use Rattle.spec_model.specs.Kept.{usual_limits}
+use Rattle.spec_model.specs.Kept.{IsUsualModel, usual_limits}
 use Rattle.spec_model.proofs.Kept.{usual_from_within}
 use Rattle.spec_mps.specs.declared.style.Style.{Style}
 use Rattle.spec_mps.specs.Reader.{State, start}
@@ -15,7 +15,7 @@ use Rattle.spec_server.specs.TextSaid.{TextSaid, text_said, text_step, behind_li
 use Rattle.lp_mps.specs.TextRead.{TextRead}
 use Rattle.lp_line.specs.Stages.{TextSays}
 use Rattle.lp_text_commands.specs.Hearing.{Agrees, Hears}
-use Rattle.lp_text_commands.specs.Tasked.{MayBeKept}
+use Rattle.lp_text_commands.specs.Said.{MayTake}
 
 same_model : (m o : Model) → ◌≡◌ {A = Option TextSaid} (Some (Ok m)) (Some (Ok o)) → m ≡ o
 same_model m o e = cc
@@ -40,14 +40,14 @@ spelled_from style (next ∷ lines) s n m h = by (text.step usual_limits style s
     by (Err code) rest h = absurd (cc)
 
 said_kept : (style : Style) (lines : List (Line (List ℕ))) (what : TextSaid) → text_said style lines ≡ Some what →
-    MayBeKept what
+    MayTake IsUsualModel what
 said_kept style lines (Ok m) h = usual_from_within m (spelled_kept usual_limits style lines m (spelled_from style lines
     start 0 m h))
 said_kept style lines (Err fault) h = tt
 
 -- what is heard of a text from its start on
 pub heard_kept : (style : Style) (before after : Option (List ℕ)) (what : TextSaid) →
-    Hears (text_said style) before after what → MayBeKept what
+    Hears (text_said style) before after what → MayTake IsUsualModel what
 heard_kept style before after what h =
     ⊎_elim (λ early. said_kept style (ended_lines_of (take input_limit (h.read ++ []))) what (early []))
     (λ at_end. said_kept style (lines_of h.read ++ line.End ∷ []) what at_end.all) h.is_said
@@ -58,3 +58,9 @@ pub start_agrees : (reader : TextRead) → reader.state ≡ start → reader.lin
 start_agrees reader state lines said answer h =
     subst₂ (λ s n. said_by (text_step usual_limits reader.style) (record { state = s; lines = n }) said ≡ answer) state
     lines h
+
+-- what takes each model that may be kept takes the one of the text
+pub may_take : (Takes : Model → Type 0) (what : TextSaid) → ((m : Model) → IsUsualModel m → Takes m) →
+    MayTake IsUsualModel what → MayTake Takes what
+may_take Takes (Ok m) takes kept = takes m kept
+may_take Takes (Err fault) takes kept = tt

@@ -13,5 +13,5 @@ pub mod WideStage
 pub mod FileAt
 pub mod Basis
 pub mod Based
-pub mod Tasked
+pub mod Said
 pub mod TextCommands

@@ -15,6 +15,8 @@ use std::alloc::{AllocError, Global};
 pub(crate) use wide_stage::WideStage;
 
 impl Output for Reply {
+    ghost can_print = { λ _. Unit {0} };
+
     ghost may_write = { CheckOut };
 
     ghost code = { check_code };

@@ -14,6 +14,9 @@ use std::alloc::{AllocError, Global};
 
 /// What is said of an input, as it is written.
 pub(crate) trait Output: Drop {
+    // whether it may be printed
+    ghost can_print: { Self → Type 0 };
+
     // what may be written of it, and the status of it
     ghost may_write: { Self → List ℕ → Type 0 };
 
@@ -21,6 +24,7 @@ pub(crate) trait Output: Drop {
 
     /// Writes it after what is there, and tells the status.
     fn print(self, alloc: Global, to: &mut Bytes) -> Result<ExitStatus, AllocError>
+        requires { can_print self }
         ensures output { OnOk result (Prints (may_write self) to.old to.new) }
         ensures status { IfOk result (λ status. status.code ≡ code self) };
 }
@@ -50,6 +54,7 @@ pub(crate) fn write_said<O: Output, K: Sink>(
     said: O,
     out: &mut K,
 ) -> Result<ExitStatus, Halt>
+    requires { O.can_print said }
     ensures output { WritesSo (O.may_write said) (O.code said) (K.taken out.old) (K.taken out.new) result }
     ensures write { IsErrOf result Halt.Write → Rose (K.write_faults out.old) (K.write_faults out.new) }
 {
@@ -68,7 +73,8 @@ pub(crate) fn say<S: Source, K: Sink, T: Stage>(
 ) -> Result<ExitStatus, Halt>
 where
     T::Said: Output,
-    requires { T.count first ≡ 0 }
+    requires count { T.count first ≡ 0 }
+    requires can_print { (said : T.Said) → T.Said.can_print said }
     ensures output { (said : List (exact_line (List ℕ)) → Option T.Said) → Agrees (T.says first) said →
         SaysSo said T.Said.may_write T.Said.code
         (streams (S.left src.old) (S.left src.new) (K.taken out.old) (K.taken out.new)) result }

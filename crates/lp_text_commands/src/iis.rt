@@ -18,6 +18,7 @@ use lp_model::Model;
 use lp_solve::OPENING_BUDGET;
 use std::alloc::{AllocError, Global};
 
+#[derive(Drop)]
 pub(crate) struct FindIis;
 
 impl Command for FindIis {

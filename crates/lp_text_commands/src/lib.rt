@@ -44,11 +44,10 @@ mod exit_status;
 mod generator;
 mod hearing;
 mod iis;
-mod outputs;
 mod presolve;
 mod range;
+mod said;
 mod solve;
-mod tasked;
 mod text;
 
 pub use exit_status::ExitStatus;

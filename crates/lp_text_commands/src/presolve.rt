@@ -16,6 +16,7 @@ use lp_presolve::Presolved;
 use lp_solve::OPENING_BUDGET;
 use std::alloc::{AllocError, Global};
 
+#[derive(Drop)]
 pub(crate) struct Presolve;
 
 impl Command for Presolve {

@@ -15,6 +15,7 @@ use lp_model::Model;
 use lp_solve::{OPENING_BUDGET, Solved};
 use std::alloc::{AllocError, Global};
 
+#[derive(Drop)]
 pub(crate) struct Solve;
 
 impl Command for Solve {

@@ -9,8 +9,11 @@ use crate::basis::{BasisStage, say_basis};
 use crate::check::{CheckStage, WideStage};
 use crate::exit_status::ExitStatus;
 use crate::hearing::say;
-use crate::range::say_range;
-use crate::tasked::{Task, say_tasked};
+use crate::iis::FindIis;
+use crate::presolve::Presolve;
+use crate::range::{RangeAll, say_range};
+use crate::said::say_text;
+use crate::solve::Solve;
 use lp_base::{Sink, Source};
 use lp_line::Halt;
 use lp_model::LARGE_LIMITS;
@@ -33,7 +36,7 @@ pub fn read_text<S: Source, K: Sink>(
     ensures write { IsErrOf result Halt.Write → Rose (K.write_faults out.old) (K.write_faults out.new) }
 {
     match command {
-        TextCommand::Solve => say(alloc, Reader::new(alloc, style), src, out),
+        TextCommand::Solve => say_text(alloc, Reader::new(alloc, style), Solve, src, out),
         TextCommand::SolveWide => say(alloc, LargeReader::new(alloc, style), src, out),
         TextCommand::Check => say(alloc, CheckStage::Text(Reader::new(alloc, style)), src, out),
         TextCommand::CheckWide => {
@@ -49,15 +52,11 @@ pub fn read_text<S: Source, K: Sink>(
             let reader = ReaderWithin::new(alloc, LARGE_LIMITS, style);
             say(alloc, BasisStage::Text(reader), src, out)
         }
-        TextCommand::Presolve => {
-            say_tasked(alloc, Reader::new(alloc, style), Task::Presolve, src, out)
-        }
-        TextCommand::Iis => say_tasked(alloc, Reader::new(alloc, style), Task::Search, src, out),
+        TextCommand::Presolve => say_text(alloc, Reader::new(alloc, style), Presolve, src, out),
+        TextCommand::Iis => say_text(alloc, Reader::new(alloc, style), FindIis, src, out),
         TextCommand::Range { moved, name } => {
             say_range(alloc, Reader::new(alloc, style), moved, name, src, out)
         }
-        TextCommand::RangeAll => {
-            say_tasked(alloc, Reader::new(alloc, style), Task::Range, src, out)
-        }
+        TextCommand::RangeAll => say_text(alloc, Reader::new(alloc, style), RangeAll, src, out),
     }
 }

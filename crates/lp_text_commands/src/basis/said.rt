@@ -5,6 +5,7 @@ ghost use Rattle.spec_model.specs.Kept.{usual_limits};
 ghost use Rattle.spec_commands.specs.BasisOut.{BasisOut, basis_code, basis_said};
 ghost use Rattle.spec_commands.specs.BasisWideOut.{BasisWideOut};
 ghost use Rattle.spec_server.specs.Streams.{streams};
+ghost use Rattle.lp_text_commands.specs.Based.{IsOfUsual};
 ghost use Rattle.lp_text_commands.specs.Hearing.{SaysSo};
 
 use crate::basis::SolveFrom;
@@ -20,7 +21,6 @@ use lp_model::USUAL_LIMITS;
 use lp_mps::read::ReaderWithin;
 use spec_mps::Style;
 use std::alloc::{AllocError, Global};
-use std::marker::Model;
 
 /// What a text and the basis file after it say, whose model is a usual one.
 #[derive(Drop)]
@@ -28,33 +28,12 @@ pub(crate) struct UsualBasis {
     said: BasisSaid,
 }
 
-impl Model for UsualBasis {
-    ghost use Rattle.spec_commands.specs.BasisOut as reading;
-    ghost use Rattle.lp_text_commands.specs.Based.{IsOfUsual};
-
-    ghost Value = { reading.BasisSaid };
-
-    ghost view = { λ b. b.said };
-
-    ghost invariant = { λ b. IsOfUsual b.said };
-}
-
-impl UsualBasis {
-    ghost use Rattle.std.specs.Prelude.{◌≡◌};
-    ghost use Rattle.lp_text_commands.specs.Based.{IsOfUsual};
-
-    fn new(said: BasisSaid) -> UsualBasis
-        requires { IsOfUsual said }
-        ensures { result ≡ said }
-    {
-        UsualBasis { said }
-    }
-}
-
 impl Output for UsualBasis {
-    ghost may_write = { BasisOut };
+    ghost can_print = { λ usual. IsOfUsual usual.said };
 
-    ghost code = { basis_code };
+    ghost may_write = { λ usual. BasisOut usual.said };
+
+    ghost code = { λ usual. basis_code usual.said };
 
     fn print(self, alloc: Global, to: &mut Bytes) -> Result<ExitStatus, AllocError> {
         let UsualBasis { said } = self;
@@ -74,6 +53,8 @@ impl Output for UsualBasis {
 }
 
 impl Output for BasisSaid {
+    ghost can_print = { λ _. Unit {0} };
+
     ghost may_write = { BasisWideOut };
 
     ghost code = { basis_code };
@@ -109,5 +90,5 @@ pub(crate) fn say_basis<S: Source, K: Sink>(
 {
     let text = ReaderWithin::new(alloc, USUAL_LIMITS, style);
     let said = hear_input(alloc, BasisStage::Text(text), src)?;
-    write_said(alloc, UsualBasis::new(said), out)
+    write_said(alloc, UsualBasis { said }, out)
 }

@@ -52,6 +52,8 @@ impl WideReply {
 }
 
 impl Output for WideReply {
+    ghost can_print = { λ _. Unit {0} };
+
     ghost may_write = { WideCheckOut };
 
     ghost code = { check_code };

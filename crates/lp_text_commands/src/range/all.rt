@@ -18,6 +18,7 @@ use spec_program::Moved;
 use std::alloc::{AllocError, Global};
 
 /// Ranges each cost and each right side of the model.
+#[derive(Drop)]
 pub(crate) struct RangeAll;
 
 impl Command for RangeAll {

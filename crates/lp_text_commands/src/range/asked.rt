@@ -31,6 +31,8 @@ pub(crate) struct RangeAsked<'a> {
 }
 
 impl<'a> Output for RangeAsked<'a> {
+    ghost can_print = { λ _. Unit {0} };
+
     ghost may_write = { λ asked. RangeOut asked.moved asked.name.now asked.said };
 
     ghost code = { λ asked. range_code asked.moved asked.name.now asked.said };

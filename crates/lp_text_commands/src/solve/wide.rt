@@ -50,6 +50,8 @@ impl Command for SolveWide {
 }
 
 impl Output for LargeSaid {
+    ghost can_print = { λ _. Unit {0} };
+
     ghost may_write = { SolveWideOut };
 
     ghost code = { solve_code };

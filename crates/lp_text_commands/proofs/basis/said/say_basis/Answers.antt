@@ -1,15 +1,13 @@
 -- The model is a usual one, and what is written of what is said.
-use Rattle.std.proofs.Common.{subst}
 use Rattle.std.proofs.lemmas.Result.{err_from_is_err_and}
 use Rattle.spec_model.specs.Kept.{usual_limits}
-use Rattle.spec_commands.specs.BasisOut.{BasisSaid, BasisOut, basis_code, basis_said}
-use Rattle.lp_text_commands.specs.Writing.{WritesSo}
+use Rattle.spec_commands.specs.BasisOut.{BasisOut, basis_code, basis_said}
 use Rattle.lp_text_commands.proofs.Saying.{says_nothing, says, basis_agrees}
 use Rattle.lp_text_commands.proofs.BasisKept.{heard_usual}
 use Rattle.lp_text_commands.proofs.basis.said.say_basis.Goals as goal
 
-pub new-requires : goal.new-requires
-new-requires g c =
+pub write_said-requires : goal.write_said-requires
+write_said-requires g c =
     heard_usual c.args.style (g.S.Source.left c.args.src.now) (g.S.Source.left c.hear_input.new.src) c.in_ok-said.said
     (c.in_ok-said.ensures.output (basis_said usual_limits c.args.style)
     (basis_agrees usual_limits c.args.style c.new-text.result c.new-text.ensures))
@@ -28,6 +26,4 @@ returns-clause-output g c =
     (g.S.Source.left c.hear_input.new.src) (g.K.Sink.taken c.args.out.now) c.in_ok-said.said
     (c.in_ok-said.ensures.output (basis_said usual_limits c.args.style)
     (basis_agrees usual_limits c.args.style c.new-text.result c.new-text.ensures)) _ c.write_said.result
-    (subst (λ (said : BasisSaid). WritesSo (BasisOut said) (basis_code said)
-    (g.K.Sink.taken c.args.out.now) (g.K.Sink.taken c.write_said.new.out) c.write_said.result) c.new.ensures
-    c.write_said.ensures.output)
+    c.write_said.ensures.output
