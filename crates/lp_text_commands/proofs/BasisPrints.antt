@@ -8,15 +8,9 @@ use Rattle.spec_model.specs.Model.{Model}
 use Rattle.spec_simplex.specs.declared.ends.FormFault.{FormFault}
 use Rattle.spec_simplex.specs.Form.{Form, form_of}
 use Rattle.spec_runs.specs.Solve.{SolveEnd}
-use Rattle.spec_mps.specs.declared.fault.MpsFault.{MpsFault}
 use Rattle.spec_solve.specs.Answers.{IsSolved}
-use Rattle.spec_server.specs.declared.asks.Reply.TheVariants as reply
-use Rattle.spec_server.specs.declared.asks.Refusal.TheVariants as refusal
-use Rattle.spec_commands.specs.declared.basis.BasisFault.{BasisFault}
-use Rattle.spec_commands.specs.declared.basis.BasisFault.TheVariants as fault
-use Rattle.spec_server.specs.Output.{check_line}
 use Rattle.spec_server.specs.Machine.{opening_budget}
-use Rattle.spec_commands.specs.BasisOut.{BasisOut, Handed, basis_fault_line, basis_lines, final_text}
+use Rattle.spec_commands.specs.BasisOut.{Handed, basis_lines, final_text}
 use Rattle.spec_check.specs.declared.certificate.Known.TheVariants as known
 use Rattle.spec_check.specs.declared.solve_end.SolveEnd.TheVariants.{Ended}
 use Rattle.spec_runs.specs.Cold.{ExactSolveEnd}
@@ -26,7 +20,6 @@ use Rattle.lp_solve.specs.Fit.{LeavesBasis}
 use Rattle.lp_text_commands.specs.declared.basis.starting.Start.{Start}
 use Rattle.lp_text_commands.specs.Handed.{handed_of, IsStartOf}
 use Rattle.lp_text_commands.specs.Ends.{end_lines}
-use Rattle.lp_text_commands.specs.Prints.{Prints}
 
 -- ---- the whole
 
@@ -41,19 +34,6 @@ pub formless_lines : (m : Model) (why : FormFault ℚ) (solved : SolveEnd) → f
     end_lines m solved ≡ basis_lines m solved
 formless_lines m why solved formless =
     sym (append-nil (end_lines m solved)) ∙ whole_lines m (Err why) solved formless
-
--- ---- a fault
-
-pub prints_fault : {T E : Type 0} (why : BasisFault) (line before after : List ℕ) (result : Result T E) →
-    basis_fault_line why ≡ line → OnOk result (after ≡ before ++ line) →
-    OnOk result (Prints (BasisOut (Err why)) before after)
-prints_fault why line before after (Ok u) e h = record { output = line; is_output = sym e; behind = h }
-prints_fault why line before after (Err u) e h = tt
-
-pub line_of_text : (why : BasisFault) (at : MpsFault) → why ≡ fault.Text at →
-    basis_fault_line why ≡ check_line (reply.Refused (refusal.Misspelled at))
-unfolding basis_fault_line
-line_of_text why at e = ap basis_fault_line e
 
 -- ---- from a basis
 

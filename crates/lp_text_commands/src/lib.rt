@@ -12,6 +12,7 @@
 //! | `ExitStatus` | how a command ended | src/exit_status |
 //! | `Command`, `print` | a command: its `run` and its `write`; both, one after the other | src/command |
 //! | `say`, `Output` | reads an input, and writes what is said of it, whatever says it | src/hearing |
+//! | `print_reply` | writes the line of a reply | src/reply |
 //! | `say_text`, `Said` | the same of a text, whose model is given to a command | src/said |
 //! | `Solve`, `SolveWide` | solves the model, at 127 bits or at any width | src/solve |
 //! | `print_answer`, `print_past`, `print_certificate`, `print_end` | the lines of a solve, of which other commands write some | src/solve/lines |
@@ -41,6 +42,7 @@ mod hearing;
 mod iis;
 mod presolve;
 mod range;
+mod reply;
 mod said;
 mod solve;
 mod text;

@@ -1,41 +1,31 @@
 // What is wrong with a text or the basis file after it, as it is written.
 ghost use Rattle.std.specs.Prelude.{◌≡◌, ◌++◌, OnOk};
 ghost use Rattle.spec_bas.specs.Steps as checks;
-ghost use Rattle.spec_server.specs.Output.{check_line};
-ghost use Rattle.spec_server.specs.declared.asks.Reply.TheVariants as replies;
-ghost use Rattle.spec_server.specs.declared.asks.Refusal.TheVariants as refusals;
-ghost use Rattle.spec_commands.specs.BasisOut.{BasisOut, basis_fault_line};
+ghost use Rattle.spec_commands.specs.BasisOut.{basis_fault_line};
 ghost use Rattle.spec_commands.specs.declared.basis.BasisFault.TheVariants as faults;
-ghost use Rattle.lp_text_commands.specs.Prints.{Prints};
 
+use crate::reply::print_reply;
 use lp_base::Bytes;
-use lp_line::{Refusal, Reply, print_said, push_numbered};
+use lp_line::{Refusal, Reply, push_numbered};
 use spec_bas::{BasCode, BasFault};
 use spec_commands::BasisFault;
-use spec_mps::MpsFault;
 use std::alloc::{AllocError, Global};
 
 /// Writes what is wrong with a text or the basis file after it.
+#[tactic(auto, unfolding(spec_commands::specs::BasisOut::basis_fault_line))]
 pub(crate) fn print_fault(
     alloc: Global,
     fault: BasisFault,
     to: &mut Bytes,
 ) -> Result<(), AllocError>
-    ensures { OnOk result (Prints (BasisOut (Err fault)) to.old to.new) }
+    ensures { OnOk result (to.new ≡ to.old ++ basis_fault_line fault) }
 {
     match fault {
-        BasisFault::Text(why) => print_misspelled(alloc, why, to),
+        BasisFault::Text(why) => {
+            print_reply(alloc, Reply::Refused(Refusal::Misspelled(why)), to)
+        }
         BasisFault::File(why) => print_basis_fault(alloc, why, to),
     }
-}
-
-fn print_misspelled(alloc: Global, why: MpsFault, to: &mut Bytes) -> Result<(), AllocError>
-    ensures { OnOk result (to.new ≡ to.old ++ check_line (replies.Refused (refusals.Misspelled why))) }
-{
-    let reply = Reply::Refused(Refusal::Misspelled(why));
-    let printed = print_said(alloc, &reply, to);
-    drop(reply);
-    printed
 }
 
 // The number of what is wrong with a basis file.

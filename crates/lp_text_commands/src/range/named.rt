@@ -6,8 +6,9 @@ ghost use Rattle.spec_server.specs.declared.asks.Reply.TheVariants as replies;
 ghost use Rattle.spec_server.specs.declared.asks.Refusal.TheVariants as refusals;
 ghost use Rattle.lp_text_commands.specs.RangeEnds.{count_by};
 
+use crate::reply::print_reply;
 use lp_base::{Bytes, Name};
-use lp_line::{Refusal, Reply, print_said};
+use lp_line::{Refusal, Reply};
 use lp_model::Model;
 use spec_program::Moved;
 use std::alloc::{AllocError, Global};
@@ -28,8 +29,5 @@ pub(crate) fn print_unknown(alloc: Global, name: &[u8], to: &mut Bytes) -> Resul
     ensures { OnOk result (to.new ≡ to.old ++ check_line (replies.Refused (refusals.Name name.now))) }
 {
     let name = Name::from_slice(alloc, name)?;
-    let reply = Reply::Refused(Refusal::Name(name));
-    let printed = print_said(alloc, &reply, to);
-    drop(reply);
-    printed
+    print_reply(alloc, Reply::Refused(Refusal::Name(name)), to)
 }

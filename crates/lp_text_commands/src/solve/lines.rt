@@ -7,9 +7,10 @@ ghost use Rattle.spec_commands.specs.SolveOut.{solved_lines};
 ghost use Rattle.spec_server.specs.declared.answer.Answer.TheVariants as answers;
 ghost use Rattle.spec_server.specs.declared.asks.Reply.TheVariants as replies;
 
+use crate::reply::print_reply;
 use lp_base::Bytes;
 use lp_frac::Past;
-use lp_line::{Reply, answer_of, certificate_lines, print_lines, print_said};
+use lp_line::{Reply, answer_of, certificate_lines, print_lines};
 use lp_model::Model;
 use lp_solve::{End, OPENING_BUDGET};
 use spec_server::Answer;
@@ -34,20 +35,15 @@ pub(crate) fn print_end(
 pub(crate) fn print_answer(alloc: Global, end: &End, to: &mut Bytes) -> Result<(), AllocError>
     ensures { OnOk result (to.new ≡ to.old ++ check_line (replies.Answered (machine.answer_of machine.opening_budget end.now))) }
 {
-    let reply = Reply::Answered(answer_of(OPENING_BUDGET as u32, end));
-    let printed = print_said(alloc, &reply, to);
-    drop(reply);
-    printed
+    let answer = answer_of(OPENING_BUDGET as u32, end);
+    print_reply(alloc, Reply::Answered(answer), to)
 }
 
 /// Writes that an operation is past 127 bits.
 pub(crate) fn print_past(alloc: Global, past: Past, to: &mut Bytes) -> Result<(), AllocError>
     ensures { OnOk result (to.new ≡ to.old ++ check_line (replies.Answered (answers.Past past))) }
 {
-    let reply = Reply::Answered(Answer::Past(past));
-    let printed = print_said(alloc, &reply, to);
-    drop(reply);
-    printed
+    print_reply(alloc, Reply::Answered(Answer::Past(past)), to)
 }
 
 /// Writes the lines of the certificate of a solve, none where it knows nothing of the model.
