@@ -7,8 +7,7 @@ use Rattle.spec_exact.specs.Fraction.{ℚ}
 use Rattle.spec_exact.specs.Narrow.{number_limit}
 use Rattle.spec_model.specs.declared.parts.SizeLimits.{SizeLimits}
 use Rattle.spec_model.specs.Model.{Model}
-use Rattle.spec_model.specs.Kept.{usual_limits}
-use Rattle.spec_model.proofs.Kept.{usual_from_within}
+use Rattle.spec_model.specs.Kept.{IsModelWithin}
 use Rattle.spec_mps.specs.declared.style.Style.{Style}
 use Rattle.spec_mps.specs.Reader.{State, start}
 use Rattle.spec_mps.specs.Steps as text
@@ -19,8 +18,8 @@ use Rattle.spec_bas.specs.Steps as file
 use Rattle.spec_server.specs.Said.{follow}
 use Rattle.spec_commands.specs.BasisOut.{Handed, BasisSaid, InText, InFile, begun_file, behind_text, behind_file}
 use Rattle.spec_commands.specs.BasisOut.{basis_step, basis_said_from, basis_said}
-use Rattle.lp_text_commands.specs.Based.{IsOfUsual}
 use Rattle.lp_text_commands.specs.Hearing.{Hears}
+use Rattle.lp_text_commands.specs.Said.{MayTake}
 
 same_model : (a b : Handed) → ◌≡◌ {A = Option BasisSaid} (Some (Ok a)) (Some (Ok b)) → a.model ≡ b.model
 same_model a b e = let same : a ≡ b = cc in ap (λ (h : Handed). h.model) same
@@ -65,17 +64,15 @@ module _ (limits : SizeLimits) (handed : Handed) where
       by (Ok (text.Done m)) rest h = ap text.Spelled (begun_model m (form_of (Some number_limit) m) lines h)
       by (Err code) rest h = absurd (cc)
 
-said_usual : (style : Style) (lines : List (Line (List ℕ))) (what : BasisSaid) →
-    basis_said usual_limits style lines ≡ Some what → IsOfUsual what
-said_usual style lines (Ok handed) h =
-    let kept = usual_from_within handed.model
-    (spelled_kept usual_limits style lines handed.model (spelled_from usual_limits handed style lines start 0 h)) in
-    kept.1
-said_usual style lines (Err fault) h = tt
+said_within : (limits : SizeLimits) (style : Style) (lines : List (Line (List ℕ))) (what : BasisSaid) →
+    basis_said limits style lines ≡ Some what → MayTake (λ handed. IsModelWithin limits handed.model) what
+said_within limits style lines (Ok handed) h =
+    spelled_kept limits style lines handed.model (spelled_from limits handed style lines start 0 h)
+said_within limits style lines (Err fault) h = tt
 
 -- what is heard of them from the start on
-pub heard_usual : (style : Style) (before after : Option (List ℕ)) (what : BasisSaid) →
-    Hears (basis_said usual_limits style) before after what → IsOfUsual what
-heard_usual style before after what h =
-    ⊎_elim (λ early. said_usual style (ended_lines_of (take input_limit (h.read ++ []))) what (early []))
-    (λ at_end. said_usual style (lines_of h.read ++ line.End ∷ []) what at_end.all) h.is_said
+pub heard_within : (limits : SizeLimits) (style : Style) (before after : Option (List ℕ)) (what : BasisSaid) →
+    Hears (basis_said limits style) before after what → MayTake (λ handed. IsModelWithin limits handed.model) what
+heard_within limits style before after what h =
+    ⊎_elim (λ early. said_within limits style (ended_lines_of (take input_limit (h.read ++ []))) what (early []))
+    (λ at_end. said_within limits style (lines_of h.read ++ line.End ∷ []) what at_end.all) h.is_said

@@ -15,9 +15,6 @@ use Rattle.spec_commands.specs.RangeOut.{RangeOut, range_code}
 use Rattle.spec_commands.specs.RangesOut.{RangesOut}
 use Rattle.spec_commands.specs.IisOut.{IisOut}
 use Rattle.spec_commands.specs.PresolveOut.{PresolveOut}
-use Rattle.spec_server.specs.declared.asks.Reply.TheVariants as reply
-use Rattle.spec_server.specs.declared.asks.Refusal.TheVariants as refusal
-use Rattle.spec_server.specs.Output.{check_line}
 use Rattle.spec_mps.specs.declared.fault.MpsFault.{MpsFault}
 use Rattle.spec_program.specs.Spelled.{spelled_text}
 use Rattle.spec_server.specs.Machine.{ExactReply}
@@ -33,10 +30,10 @@ use Rattle.lp_text_commands.specs.declared.exit_status.ExitStatus.{ExitStatus}
 use Rattle.lp_line.specs.declared.halt.Halt.{Halt}
 use Rattle.lp_line.specs.declared.halt.Halt.TheVariants as halts
 use Rattle.lp_text_commands.specs.Prints.{Prints}
-use Rattle.lp_text_commands.specs.Said.{TextOut}
+use Rattle.lp_text_commands.specs.Said.{SaidOut, TextOut, misspelled_line}
 use Rattle.lp_text_commands.specs.Hearing.{Agrees, Hears, HearsSo, SaysSo}
 use Rattle.lp_text_commands.specs.Writing.{WritesAll, WritesInPart, WritesSo}
-use Rattle.spec_commands.specs.BasisOut.{BasisSaid, InText, basis_said, BasisOut, basis_code}
+use Rattle.spec_commands.specs.BasisOut.{InText, basis_said, BasisOut, basis_code, basis_fault_line}
 use Rattle.spec_commands.specs.SolveWideOut.{SolveWideOut}
 use Rattle.spec_commands.specs.BasisWideOut.{BasisWideOut}
 use Rattle.lp_text_commands.specs.declared.basis.stage.BasisStage.TheVariants as basis_stage
@@ -112,6 +109,20 @@ says_also tells Out Other code_of s (Err halts.Read) also h = h
 says_also tells Out Other code_of s (Err halts.Over) also h = h
 says_also tells Out Other code_of s (Err halts.NoMemory) also h = h
 says_also tells Out Other code_of s (Err halts.Cut) also h = absurd h
+
+-- and where an output is given by what is said, and by the fault
+pub says_out : {G F : Type 0} (tells : List (Line (List ℕ)) → Option (Result G F))
+    (Out : Result G F → List ℕ → Type 0) (line : F → List ℕ) (code_of : Result G F → ℕ) (s : Streams)
+    (result : Result ExitStatus Halt) →
+    ((fault : F) (written : List ℕ) → written ≡ line fault → Out (Err fault) written) →
+    SaysSo tells (SaidOut (λ given. Out (Ok given)) line) code_of s result → SaysSo tells Out code_of s result
+says_out {G} {F} tells Out line code_of s result refused =
+    says_also tells (SaidOut (λ given. Out (Ok given)) line) Out code_of s result by
+  where
+    by : (what : Result G F) (written : List ℕ) → SaidOut (λ given. Out (Ok given)) line what written →
+        Out what written
+    by (Ok given) written out = out
+    by (Err fault) written is = refused fault written is
 
 -- ---- what is written of what is said
 
@@ -200,19 +211,12 @@ module _ (style : Style) (reader : TextRead) (begun : reader ≡ record { style 
   -- a text whose model is given to a command
   module _ (command : Asked) (s : Streams) (result : Result ExitStatus Halt) where
     of_text : (Out : TextSaid → List ℕ → Type 0) →
-        ((fault : MpsFault) (written : List ℕ) → written ≡ check_line (reply.Refused (refusal.Misspelled fault)) →
-        Out (Err fault) written) →
-        SaysSo (text_said reader.style) (TextOut (λ m written. Out (Ok m) written)) solve_code s result →
+        ((fault : MpsFault) (written : List ℕ) → written ≡ misspelled_line fault → Out (Err fault) written) →
+        SaysSo (text_said reader.style) (TextOut (λ m. Out (Ok m))) solve_code s result →
         SaysSo (text_said style) Out solve_code s result
     of_text Out refused h =
-        says_also (text_said style) (TextOut (λ m written. Out (Ok m) written)) Out solve_code s result by
-        (subst (λ (r : TextRead). SaysSo (text_said r.style) (TextOut (λ m written. Out (Ok m) written)) solve_code s
-        result) begun h)
-      where
-        by : (what : TextSaid) (written : List ℕ) → TextOut (λ m written. Out (Ok m) written) what written →
-            Out what written
-        by (Ok m) written out = out
-        by (Err fault) written is = refused fault written is
+        says_out (text_said style) Out misspelled_line solve_code s result refused
+        (subst (λ (r : TextRead). SaysSo (text_said r.style) (TextOut (λ m. Out (Ok m))) solve_code s result) begun h)
 
     pub solve_reads : command ≡ Solve →
         SaysSo (text_said reader.style) (TextOut (λ m. SolveOut (Ok m))) solve_code s result →
@@ -246,15 +250,19 @@ module _ (limits : SizeLimits) (style : Style) (reader : ReadWithin)
       ∙ subst (λ (r : ReadWithin). BasisSays (basis_stage.Text r) lines answer) begun h
 
 pub basis_reads : (style : Style) (command : Asked) → command ≡ Basis → (s : Streams) (result : Result ExitStatus Halt) →
-    SaysSo (basis_said usual_limits style) BasisOut basis_code s result → ReadsText (spelled_text command) style s result
-basis_reads style command asked s result h = reads_as command Basis style s result asked h
-
-pub wide_basis_reads : (style : Style) (reader : ReadWithin) →
-    reader ≡ record { limits = large_limits; text = record { style = style; state = start; lines = 0 } } →
-    (command : Asked) → command ≡ BasisWide → (s : Streams) (result : Result ExitStatus Halt) →
-    ((said : List (Line (List ℕ)) → Option BasisSaid) → Agrees (BasisSays (basis_stage.Text reader)) said →
-    SaysSo said BasisWideOut basis_code s result) →
+    SaysSo (basis_said usual_limits style) (SaidOut (λ handed. BasisOut (Ok handed)) basis_fault_line) basis_code s
+    result →
     ReadsText (spelled_text command) style s result
-wide_basis_reads style reader begun command asked s result h =
+basis_reads style command asked s result h =
+    reads_as command Basis style s result asked
+    (says_out (basis_said usual_limits style) BasisOut basis_fault_line basis_code s result (λ fault written is. is) h)
+
+pub wide_basis_reads : (style : Style) (command : Asked) → command ≡ BasisWide → (s : Streams)
+    (result : Result ExitStatus Halt) →
+    SaysSo (basis_said large_limits style) (SaidOut (λ handed. BasisWideOut (Ok handed)) basis_fault_line) basis_code s
+    result →
+    ReadsText (spelled_text command) style s result
+wide_basis_reads style command asked s result h =
     reads_as command BasisWide style s result asked
-    (h (basis_said large_limits style) (basis_agrees large_limits style reader begun))
+    (says_out (basis_said large_limits style) BasisWideOut basis_fault_line basis_code s result
+    (λ fault written is. is) h)

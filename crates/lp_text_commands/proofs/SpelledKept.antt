@@ -1,5 +1,5 @@
 -- The model that is said of a text may be kept.
-use Rattle.std.proofs.Common.{◌≡◌, ℕ, ◌+◌, List, [], ◌∷◌, ◌++◌, take, Option, Some, Ok, Err, ap, subst₂, ⊎_elim}
+use Rattle.std.proofs.Common.{◌≡◌, ℕ, ◌+◌, List, [], ◌∷◌, ◌++◌, take, Option, Some, Result, Ok, Err, ap, subst₂, ⊎_elim}
 use Rattle.spec_text.specs.declared.line.Line.{Line}
 use Rattle.spec_text.specs.declared.line.Line.TheVariants as line
 use Rattle.spec_text.specs.Lines.{lines_of, ended_lines_of, input_limit}
@@ -59,8 +59,8 @@ start_agrees reader state lines said answer h =
     subst₂ (λ s n. said_by (text_step usual_limits reader.style) (record { state = s; lines = n }) said ≡ answer) state
     lines h
 
--- what takes each model that may be kept takes the one of the text
-pub may_take : (Takes : Model → Type 0) (what : TextSaid) → ((m : Model) → IsUsualModel m → Takes m) →
-    MayTake IsUsualModel what → MayTake Takes what
-may_take Takes (Ok m) takes kept = takes m kept
-may_take Takes (Err fault) takes kept = tt
+-- what takes all of a kind takes what is said, if that is of the kind
+pub may_take : {G F : Type 0} (Kind Takes : G → Type 0) (what : Result G F) → ((given : G) → Kind given → Takes given) →
+    MayTake Kind what → MayTake Takes what
+may_take Kind Takes (Ok given) takes is = takes given is
+may_take Kind Takes (Err fault) takes is = tt

@@ -1,5 +1,5 @@
 -- What is written of an end, but for its basis; and with that, by the form.
-use Rattle.std.specs.Prelude.{ℕ, ◌++◌, List, [], ◌∷◌, Result, IfSome}
+use Rattle.std.specs.Prelude.{ℕ, ◌++◌, List, ◌∷◌, Result, IfSome}
 use Rattle.spec_exact.specs.Fraction.{ℚ}
 use Rattle.spec_model.specs.Model.{Model}
 use Rattle.spec_certificate.specs.TextWritten.{wide_certificate_lines}

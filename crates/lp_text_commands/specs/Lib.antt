@@ -12,6 +12,5 @@ pub mod WideSaid
 pub mod WideStage
 pub mod FileAt
 pub mod Basis
-pub mod Based
 pub mod Said
 pub mod TextCommands

@@ -1,17 +1,25 @@
--- What a command may take of what a text says, and what is written of that.
-use Rattle.std.specs.Prelude.{ℕ, ◌≡◌, List, Ok, Err}
+-- What a command may take of what an input says, and what is written of that.
+use Rattle.std.specs.Prelude.{ℕ, ◌≡◌, List, Result, Ok, Err}
 use Rattle.spec_model.specs.Model.{Model}
+use Rattle.spec_mps.specs.declared.fault.MpsFault.{MpsFault}
 use Rattle.spec_server.specs.declared.asks.Reply.TheVariants as reply
 use Rattle.spec_server.specs.declared.asks.Refusal.TheVariants as refusal
 use Rattle.spec_server.specs.Output.{check_line}
 use Rattle.spec_server.specs.TextSaid.{TextSaid}
 
--- a model that the text spells may be taken
-abbrev pub MayTake : (Model → Type 0) → TextSaid → Type 0
-MayTake Takes (Ok m) = Takes m
+-- what the input gives may be taken, where it gives something
+abbrev pub MayTake : {G F : Type 0} → (G → Type 0) → Result G F → Type 0
+MayTake Takes (Ok given) = Takes given
 MayTake Takes (Err fault) = Unit {0}
 
--- what may be written of the model; or the line of the fault
+-- what may be written of that; or the line of the fault
+abbrev pub SaidOut : {G F : Type 0} → (G → List ℕ → Type 0) → (F → List ℕ) → Result G F → List ℕ → Type 0
+SaidOut Out line (Ok given) written = Out given written
+SaidOut Out line (Err fault) written = written ≡ line fault
+
+abbrev pub misspelled_line : MpsFault → List ℕ
+misspelled_line fault = check_line (reply.Refused (refusal.Misspelled fault))
+
+-- of a text alone
 abbrev pub TextOut : (Model → List ℕ → Type 0) → TextSaid → List ℕ → Type 0
-TextOut Out (Ok m) written = Out m written
-TextOut Out (Err fault) written = written ≡ check_line (reply.Refused (refusal.Misspelled fault))
+TextOut Out said written = SaidOut Out misspelled_line said written

@@ -18,10 +18,11 @@ use lines::{print_end, print_whole};
 use lp_base::Bytes;
 use lp_solve::{OPENING_BUDGET, Solved, solve};
 pub(crate) use said::say_basis;
-pub(crate) use stage::BasisStage;
 use starting::Handed;
 use std::alloc::{AllocError, Global};
+pub(crate) use wide::SolveWideFrom;
 
+#[derive(Drop)]
 pub(crate) struct SolveFrom;
 
 impl Command for SolveFrom {

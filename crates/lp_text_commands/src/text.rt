@@ -5,7 +5,7 @@ ghost use Rattle.spec_server.specs.Streams.{streams};
 ghost use Rattle.spec_program.specs.Spelled.{spelled_text};
 ghost use Rattle.lp_text_commands.specs.TextCommands.{ReadsText};
 
-use crate::basis::{BasisStage, say_basis};
+use crate::basis::{SolveFrom, SolveWideFrom, say_basis};
 use crate::check::{CheckStage, WideStage};
 use crate::exit_status::ExitStatus;
 use crate::hearing::say;
@@ -16,8 +16,8 @@ use crate::said::say_text;
 use crate::solve::Solve;
 use lp_base::{Sink, Source};
 use lp_line::Halt;
-use lp_model::LARGE_LIMITS;
-use lp_mps::read::{LargeReader, Reader, ReaderWithin};
+use lp_model::{LARGE_LIMITS, USUAL_LIMITS};
+use lp_mps::read::{LargeReader, Reader};
 use spec_mps::Style;
 use spec_program::TextCommand;
 use std::alloc::Global;
@@ -47,11 +47,8 @@ pub fn read_text<S: Source, K: Sink>(
                 out,
             )
         }
-        TextCommand::Basis => say_basis(alloc, style, src, out),
-        TextCommand::BasisWide => {
-            let reader = ReaderWithin::new(alloc, LARGE_LIMITS, style);
-            say(alloc, BasisStage::Text(reader), src, out)
-        }
+        TextCommand::Basis => say_basis(alloc, USUAL_LIMITS, style, SolveFrom, src, out),
+        TextCommand::BasisWide => say_basis(alloc, LARGE_LIMITS, style, SolveWideFrom, src, out),
         TextCommand::Presolve => say_text(alloc, Reader::new(alloc, style), Presolve, src, out),
         TextCommand::Iis => say_text(alloc, Reader::new(alloc, style), FindIis, src, out),
         TextCommand::Range { moved, name } => {

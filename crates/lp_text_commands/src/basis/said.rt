@@ -1,45 +1,44 @@
-// What is said of a text and the basis file after it, as it is written.
+// What is said of a text and the basis file after it, and the command on that.
 ghost use Rattle.std.specs.Prelude.{IsErrOf};
 ghost use Rattle.lp_base.specs.Causes.{Rose};
-ghost use Rattle.spec_model.specs.Kept.{usual_limits};
-ghost use Rattle.spec_commands.specs.BasisOut.{BasisOut, basis_code, basis_said};
-ghost use Rattle.spec_commands.specs.BasisWideOut.{BasisWideOut};
+ghost use Rattle.spec_model.specs.Kept.{AreAtMost, IsModelWithin, large_limits};
+ghost use Rattle.spec_commands.specs.BasisOut as reading;
 ghost use Rattle.spec_server.specs.Streams.{streams};
-ghost use Rattle.lp_text_commands.specs.Based.{IsOfUsual};
 ghost use Rattle.lp_text_commands.specs.Hearing.{SaysSo};
+ghost use Rattle.lp_text_commands.specs.Said.{MayTake, SaidOut};
 
-use crate::basis::SolveFrom;
 use crate::basis::faults::print_fault;
 use crate::basis::stage::{BasisSaid, BasisStage};
-use crate::basis::wide::SolveWideFrom;
-use crate::command::print;
+use crate::basis::starting::Handed;
+use crate::command::{Command, print};
 use crate::exit_status::ExitStatus;
 use crate::hearing::{Output, hear_input, write_said};
 use lp_base::{Bytes, Sink, Source};
 use lp_line::Halt;
-use lp_model::USUAL_LIMITS;
 use lp_mps::read::ReaderWithin;
+use spec_model::SizeLimits;
 use spec_mps::Style;
 use std::alloc::{AllocError, Global};
 
-/// What a text and the basis file after it say, whose model is a usual one.
+/// What a text and the basis file after it say, and the command on that.
 #[derive(Drop)]
-pub(crate) struct UsualBasis {
+pub(crate) struct SaidWithBasis<C> {
     said: BasisSaid,
+    command: C,
 }
 
-impl Output for UsualBasis {
-    ghost can_print = { λ usual. IsOfUsual usual.said };
+impl<C: Command<Given = Handed> + Drop> Output for SaidWithBasis<C> {
+    ghost can_print = { λ s. MayTake (C.takes s.command) s.said };
 
-    ghost may_write = { λ usual. BasisOut usual.said };
+    ghost may_write = { λ s. SaidOut (C.may_write s.command) reading.basis_fault_line s.said };
 
-    ghost code = { λ usual. basis_code usual.said };
+    ghost code = { λ s. reading.basis_code s.said };
 
     fn print(self, alloc: Global, to: &mut Bytes) -> Result<ExitStatus, AllocError> {
-        let UsualBasis { said } = self;
+        let SaidWithBasis { said, command } = self;
         match said {
             Ok(handed) => {
-                let printed = print(alloc, &SolveFrom, &handed, to);
+                let printed = print(alloc, &command, &handed, to);
                 drop(handed);
                 printed?;
                 Ok(ExitStatus::DONE)
@@ -52,43 +51,24 @@ impl Output for UsualBasis {
     }
 }
 
-impl Output for BasisSaid {
-    ghost can_print = { λ _. Unit {0} };
-
-    ghost may_write = { BasisWideOut };
-
-    ghost code = { basis_code };
-
-    fn print(self, alloc: Global, to: &mut Bytes) -> Result<ExitStatus, AllocError> {
-        match self {
-            Ok(handed) => {
-                let printed = print(alloc, &SolveWideFrom, &handed, to);
-                drop(handed);
-                printed?;
-                Ok(ExitStatus::DONE)
-            }
-            Err(fault) => {
-                print_fault(alloc, fault, to)?;
-                Ok(ExitStatus::REFUSED)
-            }
-        }
-    }
-}
-
-/// Reads the text that the source gives and the basis file after it, and writes what a solve at 127 bits from there ends
-/// with.
-pub(crate) fn say_basis<S: Source, K: Sink>(
+/// Reads the text of a model within these limits and the basis file after it, and writes what the command makes of that.
+pub(crate) fn say_basis<C: Command<Given = Handed> + Drop, S: Source, K: Sink>(
     alloc: Global,
+    limits: SizeLimits,
     style: Style,
+    command: C,
     src: &mut S,
     out: &mut K,
 ) -> Result<ExitStatus, Halt>
-    ensures output { SaysSo (basis_said usual_limits style) BasisOut basis_code
+    requires large { AreAtMost limits large_limits }
+    requires takes { (handed : reading.Handed) → IsModelWithin limits handed.model → C.takes command handed }
+    ensures output { SaysSo (reading.basis_said limits style) (SaidOut (C.may_write command) reading.basis_fault_line)
+        reading.basis_code
         (streams (S.left src.old) (S.left src.new) (K.taken out.old) (K.taken out.new)) result }
     ensures read { IsErrOf result Halt.Read → Rose (S.read_faults src.old) (S.read_faults src.new) }
     ensures write { IsErrOf result Halt.Write → Rose (K.write_faults out.old) (K.write_faults out.new) }
 {
-    let text = ReaderWithin::new(alloc, USUAL_LIMITS, style);
+    let text = ReaderWithin::new(alloc, limits, style);
     let said = hear_input(alloc, BasisStage::Text(text), src)?;
-    write_said(alloc, UsualBasis { said }, out)
+    write_said(alloc, SaidWithBasis { said, command }, out)
 }

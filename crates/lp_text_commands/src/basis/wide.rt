@@ -25,6 +25,7 @@ use lp_solve::{ExactAnswer, ExactEnd, OPENING_BUDGET, solve_exactly};
 use spec_solve::Origin;
 use std::alloc::{AllocError, Global};
 
+#[derive(Drop)]
 pub(crate) struct SolveWideFrom;
 
 impl Command for SolveWideFrom {

@@ -1,5 +1,6 @@
 -- The model may be kept, and what is written of what is said.
 use Rattle.std.proofs.lemmas.Result.{err_from_is_err_and}
+use Rattle.spec_model.specs.Kept.{IsUsualModel}
 use Rattle.spec_server.specs.TextSaid.{text_said}
 use Rattle.spec_commands.specs.SolveOut.{solve_code}
 use Rattle.lp_text_commands.specs.Said.{TextOut}
@@ -9,7 +10,7 @@ use Rattle.lp_text_commands.proofs.said.say_text.Goals as goal
 
 pub write_said-requires : goal.write_said-requires
 write_said-requires g c =
-    may_take (g.C.Command.takes c.args.command) c.in_ok-said.said c.requires.takes
+    may_take IsUsualModel (g.C.Command.takes c.args.command) c.in_ok-said.said c.requires.takes
     (heard_kept c.args.text.style (g.S.Source.left c.args.src.now) (g.S.Source.left c.hear_input.new.src)
     c.in_ok-said.said
     (c.in_ok-said.ensures.output (text_said c.args.text.style)

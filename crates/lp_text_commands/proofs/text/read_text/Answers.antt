@@ -27,8 +27,7 @@ returns-in-Basis-clause-output g c =
 
 pub returns-in-BasisWide-clause-output : goal.returns-in-BasisWide-clause-output
 returns-in-BasisWide-clause-output g c =
-    wide_basis_reads c.args.style c.new-reader.result c.new-reader.ensures c.args.command c.in-BasisWide.is _ _
-    c.say-in-BasisWide.ensures.output
+    wide_basis_reads c.args.style c.args.command c.in-BasisWide.is _ _ c.say_basis-in-BasisWide.ensures.output
 
 pub returns-in-Presolve-clause-output : goal.returns-in-Presolve-clause-output
 returns-in-Presolve-clause-output g c =
