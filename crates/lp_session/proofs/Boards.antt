@@ -1,16 +1,15 @@
 -- The parts of a step over a board are a whole one.
-use Rattle.std.proofs.Common.{◌≡◌, List, ◌++◌, refl, sym, ap, ◌∙◌, subst, inl, inr}
+use Rattle.std.proofs.Common.{◌≡◌, List, [], ◌++◌, Option, IfSome, ControlFlow, Continue, Break}
+use Rattle.std.proofs.Common.{refl, sym, ap, ◌∙◌, subst}
+use Rattle.std.proofs.Common.{inl, inr, append-nil}
 use Rattle.std.proofs.lemmas.List.{append_assoc}
-use Rattle.spec_board.specs.Words.{IsWellFormed}
+use Rattle.spec_model.specs.Model.{Model}
+use Rattle.spec_simplex.specs.Form.{Form}
+use Rattle.spec_board.specs.Words.{IsWellFormed, shape_of}
 use Rattle.spec_board.specs.declared.read.Put.{Put}
-use Rattle.spec_board.specs.Reads.{Words, ExactRead, Looked, LookReads, PutReads}
-use Rattle.spec_server.specs.declared.halves.Next.{Next}
-use Rattle.spec_server.specs.declared.halves.Next.TheVariants as next
-use Rattle.spec_server.specs.declared.halves.Started.{Started}
-use Rattle.spec_server.specs.declared.halves.Started.TheVariants as started
+use Rattle.spec_board.specs.Reads.{Words, ExactRead, Looked, LookReads, PutReads, front}
 use Rattle.spec_server.specs.Machine.{ExactAsk, ExactReply, State}
 use Rattle.spec_server.specs.Step as step
-use Rattle.spec_server.specs.Halves.{WhatBecameOf, Standing, StartFits, AwaitsPut, NextFits, PutFits}
 use Rattle.basis_board.specs.declared.seats.View.{View}
 use Rattle.basis_board.specs.declared.board.Look.{Look}
 use Rattle.basis_board.specs.declared.board.Look.TheVariants.{Found, NoneReady}
@@ -19,6 +18,11 @@ use Rattle.basis_board.specs.Rule.{Consistent}
 use Rattle.basis_board.specs.PassReads.{reads_of, looked_by, AddsLook, AddsPut}
 use Rattle.basis_board.proofs.ReadTying.{looks_read, puts_read}
 use Rattle.lp_session.specs.Boarding.{AddsStep, StepCalls}
+use Rattle.lp_session.specs.declared.awaited.Pending.{Pending}
+use Rattle.spec_server.specs.Halves.{Nothing, WhatIsFound, WhatBecameOf}
+use Rattle.lp_session.specs.declared.awaited.Awaited.{Awaited}
+use Rattle.lp_session.specs.declared.awaited.Awaited.TheVariants as awaited
+use Rattle.lp_session.specs.Parts.{FitsForm, BeginsSo, WorksSo, PublishesSo, pending_of, awaits_of, AwaitedFits}
 
 -- ---- a look
 places_kept : (shape : Words) (v w : View) (look : Look) → Looks shape v look w → w.places ≡ v.places
@@ -26,99 +30,123 @@ places_kept shape v w (NoneReady c) d = ap (λ (x : View). x.places) d.view
 places_kept shape v w (Found k xs) f =
     ap (λ (x : View). x.places) f.finds.view ∙ ap (λ (x : View). x.places) f.down.view
 
+-- what it finds are well-formed words of the shape
+look_fits : (shape : Words) (v w : View) (look : Look) → Looks shape v look w →
+    IfSome (looked_by look) (λ place. IsWellFormed place.words × (front place.words ≡ shape))
+look_fits shape v w (NoneReady c) d = tt
+look_fits shape v w (Found k xs) f = (f.finds.formed, f.finds.shape_is)
+
+pub found_fits_form : (f : Form) (shape : Words) (v w : View) (look : Look) (found : Looked) → shape ≡ shape_of f →
+    Looks shape v look w → found ≡ looked_by look → FitsForm f found
+found_fits_form f shape v w look found is called told =
+    subst (λ shape. IfSome found (λ place. IsWellFormed place.words × (front place.words ≡ shape))) is
+    (subst (λ found. IfSome found (λ place. IsWellFormed place.words × (front place.words ≡ shape))) (sym told)
+    (look_fits shape v w look called))
+
 -- ---- the reads of a look and a put
 reads_both : (xs made both ys zs : List ExactRead) → ys ≡ xs ++ made → zs ≡ ys ++ both → zs ≡ xs ++ (made ++ both)
 reads_both xs made both ys zs e f = f ∙ ap (λ rs. rs ++ both) e ∙ append_assoc xs made both
 
-module _ (old : State) (asked : ExactAsk) (begun : Started ExactReply) (first : Standing)
-    (start : StartFits old asked begun first) (v : View) where
-  module _ (shape : Words) (looks : begun ≡ started.Look shape) (w : View) (look : Look)
-      (called : Looks shape v look w) where
-    starts : StartFits old asked (started.Look shape) first
-    starts = subst (λ begun. StartFits old asked begun first) looks start
+-- ---- how an ask begins
+pub begins_with : (old : State) (asked : ExactAsk) (begun : ControlFlow ExactReply Form) (form : Form) (middle : State) →
+    BeginsSo old asked begun middle → begun ≡ Continue form → BeginsSo old asked (Continue form) middle
+begins_with old asked begun form middle h is = subst (λ begun. BeginsSo old asked begun middle) is h
 
-    made : AddsLook shape look v w
-    made = looks_read shape v w look called
+pub works_with : (old : State) (found : Looked) (worked : ControlFlow ExactReply Pending) (pending : Pending)
+    (new : State) → WorksSo old found worked new → worked ≡ Continue pending → PublishesSo old found pending new
+works_with old found worked pending new h is = subst (λ worked. WorksSo old found worked new) is h
 
-    module _ (found : Looked) (told : found ≡ looked_by look) (worked : Next ExactReply) (second : Standing)
-        (goes_on : NextFits first.state found worked second) where
-      look_reads : LookReads shape made.made found
-      look_reads = subst (LookReads shape made.made) (sym told) made.reads
+-- nothing is looked for
+pub replies_so : (old : State) (asked : ExactAsk) (begun : ControlFlow ExactReply Form) (replied : ExactReply)
+    (new : State) (v : View) → BeginsSo old asked begun new → begun ≡ Break replied → AddsStep old asked v replied new v
+replies_so old asked begun replied new v h is = record {
+  reads = [];
+  step = record {
+    begun = step.Answers replied new;
+    begins = subst (λ begun. BeginsSo old asked begun new) is h;
+    goes_on = (refl, refl, refl);
+  };
+  all = sym (append-nil (reads_of v));
+}
 
-      goes : NextFits old found worked second
-      goes = subst (λ (s : Standing). NextFits s.state found worked second) starts.1 goes_on
+module _ (old : State) (asked : ExactAsk) (form : Form) (middle : State)
+    (begins : BeginsSo old asked (Continue form) middle) (v : View) (shape : Words) (is_shape : shape ≡ shape_of form)
+    (w : View) (look : Look) (called : Looks shape v look w) (found : Looked) (told : found ≡ looked_by look) where
+  made : AddsLook shape look v w
+  made = looks_read shape v w look called
 
-      -- nothing is published
-      pub ends_so : (replied : ExactReply) → worked ≡ next.Reply replied →
-          AddsStep old asked v replied second.state w
-      ends_so replied is =
-          let so : NextFits old found (next.Reply replied) second =
-          subst (λ worked. NextFits old found worked second) is goes in
-          record {
-            reads = made.made;
-            step = record {
-              begun = step.Looks shape;
-              begins = starts.0;
-              goes_on = record {
-                looked = made.made;
-                found = found;
-                worked = step.Ends replied second.state;
-                look = look_reads;
-                works = so.0;
-                concludes = (refl, refl, refl);
-              };
-            };
-            all = made.all;
-          }
+  look_reads : LookReads shape made.made found
+  look_reads = subst (LookReads shape made.made) (sym told) made.reads
 
-      module _ (words : Words) (is : worked ≡ next.Publish words) (u : View) (put : Put)
-          (puts : Puts w words put u) where
-        awaits : AwaitsPut old found words second
-        awaits = subst (λ worked. NextFits old found worked second) is goes
+  begins_so : step.Begins old asked (step.Looks shape)
+  begins_so = subst (λ shape. step.Begins old asked (step.Looks shape)) (sym is_shape) begins.0
 
-        tried : AddsPut words put w u
-        tried = puts_read words w u put puts
+  -- nothing is published
+  pub ends_so : (worked : ControlFlow ExactReply Pending) (replied : ExactReply) (new : State) →
+      WorksSo middle found worked new → worked ≡ Break replied → AddsStep old asked v replied new w
+  ends_so worked replied new works is = record {
+    reads = made.made;
+    step = record {
+      begun = step.Looks shape;
+      begins = begins_so;
+      goes_on = record {
+        looked = made.made;
+        found = found;
+        worked = step.Ends replied new;
+        look = look_reads;
+        works = subst (λ s. step.Works s found (step.Ends replied new)) begins.1
+            (subst (λ worked. WorksSo middle found worked new) is works);
+        concludes = (refl, refl, refl);
+      };
+    };
+    all = made.all;
+  }
 
-        put_reads : PutReads v.places awaits.pending.words put tried.made
-        put_reads =
-            subst (λ words. PutReads v.places words put tried.made) (sym awaits.words_so)
-            (subst (λ places. PutReads places words put tried.made) (places_kept shape v w look called) tried.reads)
+  module _ (pending : Pending) (new : State) (publishes : PublishesSo middle found pending new) (u : View) (put : Put)
+      (puts : Puts w pending.words put u) where
+    tried : AddsPut pending.words put w u
+    tried = puts_read pending.words w u put puts
 
-        pub publishes_so : (replied : ExactReply) (third : Standing) →
-            PutFits second.state second.awaits put replied third → AddsStep old asked v replied third.state u
-        publishes_so replied third fits =
-            let so : PutFits old (WhatBecameOf awaits.pending) put replied third =
-            subst (λ (s : Standing). PutFits s.state s.awaits put replied third) awaits.awaited fits in
-            record {
-              reads = made.made ++ tried.made;
-              step = record {
-                begun = step.Looks shape;
-                begins = starts.0;
-                goes_on = record {
-                  looked = made.made;
-                  found = found;
-                  worked = step.Publishes awaits.pending;
-                  look = look_reads;
-                  works = awaits.works;
-                  concludes = record {
-                    put = put;
-                    tried = tried.made;
-                    puts = put_reads;
-                    all = refl;
-                    answer = so.0;
-                    kept = ap (λ (s : Standing). s.state) so.1;
-                  };
-                };
-              };
-              all = reads_both (reads_of v) made.made tried.made (reads_of w) (reads_of u) made.all tried.all;
-            }
+    put_reads : PutReads v.places pending.words put tried.made
+    put_reads =
+        subst (λ places. PutReads places pending.words put tried.made) (places_kept shape v w look called) tried.reads
+
+    stays : new ≡ old
+    stays = publishes.kept ∙ begins.1
+
+    pub publishes_so : (replied : ExactReply) (third : State) → replied ≡ step.answered new pending.end →
+        third ≡ step.after_put new (pending_of pending) put → AddsStep old asked v replied third u
+    publishes_so replied third answer kept = record {
+      reads = made.made ++ tried.made;
+      step = record {
+        begun = step.Looks shape;
+        begins = begins_so;
+        goes_on = record {
+          looked = made.made;
+          found = found;
+          worked = step.Publishes (pending_of pending);
+          look = look_reads;
+          works = subst (λ s. step.Works s found (step.Publishes (pending_of pending))) begins.1 publishes.works;
+          concludes = record {
+            put = put;
+            tried = tried.made;
+            puts = put_reads;
+            all = refl;
+            answer = answer ∙ ap (λ s. step.answered s pending.end) stays;
+            kept = kept ∙ ap (λ s. step.after_put s (pending_of pending) put) stays;
+          };
+        };
+      };
+      all = reads_both (reads_of v) made.made tried.made (reads_of w) (reads_of u) made.all tried.all;
+    }
+
+-- ---- nothing is awaited, whatever the model is
+pub rests_fit : (model : Option Model) (awaits : Awaited) → awaits_of awaits ≡ Nothing → AwaitedFits model awaits
+rests_fit model awaited.Nothing e = tt
+rests_fit model (awaited.WhatIsFound form) e = let z : WhatIsFound (shape_of form) ≡ Nothing = e in cc
+rests_fit model (awaited.WhatBecameOf pending) e = let z : WhatBecameOf (pending_of pending) ≡ Nothing = e in cc
 
 -- ---- the calls
-pub publishes_formed : (old : State) (found : Looked) (worked : Next ExactReply) (new : Standing) (words : Words) →
-    NextFits old found worked new → worked ≡ next.Publish words → IsWellFormed words
-publishes_formed old found worked new words fits is =
-    let so : AwaitsPut old found words new = subst (λ worked. NextFits old found worked new) is fits in so.formed
-
 pub calls_look : (shape : Words) (look : Look) (v w : View) → Looks shape v look w → Consistent w → StepCalls v w
 calls_look shape look v w called consistent = inr (shape, look, w, called, consistent, inl refl)
 

@@ -1,5 +1,5 @@
 -- What a solve ends with, and from where it starts.
-use Rattle.std.proofs.Common.{◌≡◌, ℕ, List, Option, Some, None, sym, ap, ◌∙◌, subst}
+use Rattle.std.proofs.Common.{◌≡◌, ℕ, List, Option, Some, None, Result, IfOk, sym, ap, ◌∙◌, subst, subst₂}
 use Rattle.spec_model.specs.Model.{Model}
 use Rattle.spec_check.specs.declared.certificate.Known.TheVariants as known
 use Rattle.spec_pivot.specs.declared.status.Status.{Status}
@@ -7,14 +7,15 @@ use Rattle.spec_simplex.specs.Form.{Form, IsForm}
 use Rattle.spec_simplex.specs.Eliminate.{IsBasisOf}
 use Rattle.spec_check.specs.declared.solve_end.SolveEnd.TheVariants.{Ended, Past, Spent}
 use Rattle.spec_runs.specs.Cold.{ExactSolveEnd}
-use Rattle.spec_solve.specs.Answers.{MayAnswer}
+use Rattle.spec_runs.specs.Solve.{SolveEnd}
+use Rattle.spec_solve.specs.Answers.{MayAnswer, IsSolved}
 use Rattle.spec_board.specs.Words.{IsWellFormed, packed, unpacked}
 use Rattle.spec_board.proofs.Bases.{packed_fits, unpacked_fits}
 use Rattle.spec_board.specs.declared.read.Found.{Found}
 use Rattle.spec_board.specs.Reads.{Words, Looked}
 use Rattle.spec_server.specs.Step.{handed_by, words_of_end}
 use Rattle.lp_solve.specs.Fit.{LeavesBasis}
-use Rattle.lp_session.specs.Parts.{IsEndOf, FitsForm}
+use Rattle.lp_session.specs.Parts.{IsEndOf, FitsForm, IsSolvedBy}
 
 pub end_of : (model : Option Model) (m : Model) (budget : ℕ) (end : ExactSolveEnd) → model ≡ Some m →
     MayAnswer m budget end →
@@ -28,9 +29,20 @@ found_fits f found place basis is fits e b =
     let g : FitsForm f (Some place) = subst (FitsForm f) e fits in
     subst (IsBasisOf f) (sym b) (unpacked_fits f is place.words g.1 g.0)
 
-pub found_handed : (found : Looked) (place : Found Words) (basis : List Status) → found ≡ Some place →
-    basis ≡ unpacked place.words → Some basis ≡ handed_by found
-found_handed found place basis e b = ap Some b ∙ sym (ap handed_by e)
+-- ---- the model that is held is solved, from what was found
+module _ {E : Type 0} (model : Option Model) (m : Model) (budget kept : ℕ) (found : Looked) where
+  pub solved_found : (place : Found Words) (basis : List Status) (result : Result SolveEnd E) → model ≡ Some m →
+      budget ≡ kept → found ≡ Some place → basis ≡ unpacked place.words →
+      IfOk result (IsSolved m budget (Some basis)) → IfOk result (IsSolvedBy model kept found)
+  solved_found place basis result held same is b h =
+      subst (λ model. IfOk result (IsSolvedBy model kept found)) (sym held)
+      (subst₂ (λ budget handed. IfOk result (IsSolved m budget handed)) same (ap Some b ∙ sym (ap handed_by is)) h)
+
+  pub solved_nothing : (result : Result SolveEnd E) → model ≡ Some m → budget ≡ kept → found ≡ None →
+      IfOk result (IsSolved m budget None) → IfOk result (IsSolvedBy model kept found)
+  solved_nothing result held same is h =
+      subst (λ model. IfOk result (IsSolvedBy model kept found)) (sym held)
+      (subst₂ (λ budget handed. IfOk result (IsSolved m budget handed)) same (sym (ap handed_by is)) h)
 
 -- ---- the words of an optimum
 pub left_formed : (f : Form) (end : ExactSolveEnd) (words : Words) → IsForm f → LeavesBasis f end →

@@ -1,32 +1,41 @@
 -- How a solve goes on.
-use Rattle.std.proofs.Common.{◌≡◌, Bool, true, false, Option, Some, None, sym, ap, ap₂, ◌∙◌, subst, cond, inl}
+use Rattle.std.proofs.Common.{◌≡◌, ℕ, Bool, true, false, Option, Some, None, refl, sym, ap, ap₂, ◌∙◌, cond, inl}
 use Rattle.spec_model.specs.Model.{Model}
 use Rattle.spec_simplex.specs.Form.{Form}
 use Rattle.spec_runs.specs.Solve.{SolveEnd}
-use Rattle.spec_solve.specs.Answers.{IsSolved}
 use Rattle.spec_board.specs.Reads.{Words, Looked}
 use Rattle.spec_server.specs.declared.answer.How.{How}
 use Rattle.spec_server.specs.declared.answer.Publication.TheVariants as publication
 use Rattle.spec_server.specs.Machine.{ExactReply, State}
 use Rattle.spec_server.specs.Step.{Worked, Ends, Publishes, Works, answered, with_answer}
-use Rattle.spec_server.specs.Step.{handed_by, how_by, is_found, words_of_end, worked_with}
-use Rattle.lp_session.specs.Parts.{IsFormHeld}
+use Rattle.spec_server.specs.Step.{how_by, is_found, words_of_end, worked_with}
+use Rattle.lp_session.specs.Parts.{IsFormHeld, IsEndOf, IsSolvedBy}
 
-module _ (old : State) (found : Looked) (m : Model) (f : Form) (solved : SolveEnd) (how : How) (words : Option Words)
-    (held : old.model ≡ Some m) (formed : IsFormHeld old.model f)
-    (is_solved : IsSolved m old.budget (handed_by found) solved) (is_how : how ≡ how_by found solved.route)
-    (are_words : words ≡ words_of_end f solved.end) where
+-- the end is one that the model may have
+pub solved_end : (model : Option Model) (budget : ℕ) (found : Looked) (solved : SolveEnd) →
+    IsSolvedBy model budget found solved → IsEndOf model solved.end
+solved_end None budget found solved h = absurd h
+solved_end (Some m) budget found solved h = (budget, h.may_answer)
+
+module _ (old : State) (found : Looked) (f : Form) (solved : SolveEnd) (how : How) (words : Option Words)
+    (formed : IsFormHeld old.model f) (is_solved : IsSolvedBy old.model old.budget found solved)
+    (is_how : how ≡ how_by found solved.route) (are_words : words ≡ words_of_end f solved.end) where
   works : (worked : Worked) → worked ≡ worked_with old found solved.end how words → Works old found worked
-  works worked e =
-      inl (record {
-        model = m;
-        form = f;
-        solved = solved;
-        held = held;
-        formed = subst (λ model. IsFormHeld model f) held formed;
-        is_solved = is_solved;
-        goes_on = e ∙ ap₂ (worked_with old found solved.end) is_how are_words;
-      })
+  works worked e = by old.model refl formed is_solved
+    where
+      by : (model : Option Model) → old.model ≡ model → IsFormHeld model f → IsSolvedBy model old.budget found solved →
+          Works old found worked
+      by None held formed is_solved = absurd formed
+      by (Some m) held formed is_solved =
+          inl (record {
+            model = m;
+            form = f;
+            solved = solved;
+            held = held;
+            formed = formed;
+            is_solved = is_solved;
+            goes_on = e ∙ ap₂ (worked_with old found solved.end) is_how are_words;
+          })
 
   pub ends_without : (replied : ExactReply) (new : State) → words ≡ None → replied ≡ answered old solved.end →
       new ≡ with_answer old solved.end how publication.Nothing → Works old found (Ends replied new)

@@ -1,5 +1,6 @@
 -- A session between the parts of a step, as the code keeps it.
 use Rattle.std.specs.Prelude.{ℕ, ◌≡◌, Option, Some, None, Ok, IfSome}
+use Rattle.std.proofs.Common.{ControlFlow, Continue, Break}
 use Rattle.spec_exact.specs.Narrow.{number_limit}
 use Rattle.spec_model.specs.Model.{Model}
 use Rattle.spec_simplex.specs.Form.{Form, form_of}
@@ -14,13 +15,9 @@ use Rattle.spec_server.specs.Step as step
 use Rattle.spec_server.specs.Halves.{Awaits, Nothing, WhatIsFound, WhatBecameOf}
 use Rattle.lp_model.specs.declared.edit.EditError.{EditError}
 use Rattle.lp_model.specs.declared.edit.EditError.TheVariants as edits
-use Rattle.lp_session.specs.declared.awaited.Begun.{Begun}
-use Rattle.lp_session.specs.declared.awaited.Begun.TheVariants as begun
 use Rattle.lp_session.specs.declared.awaited.Pending.{Pending}
 use Rattle.lp_session.specs.declared.awaited.Awaited.{Awaited}
 use Rattle.lp_session.specs.declared.awaited.Awaited.TheVariants as awaited
-use Rattle.lp_session.specs.declared.awaited.Worked.{Worked}
-use Rattle.lp_session.specs.declared.awaited.Worked.TheVariants as worked
 
 -- the model that is held has this form
 abbrev pub IsFormHeld : Option Model → Form → Type 0
@@ -64,9 +61,10 @@ AwaitedFits model (awaited.WhatBecameOf pending) = IsEndOf model pending.end
 
 -- ---- the parts of a step
 
-abbrev pub BeginsSo : State → ExactAsk → Begun → State → Type 0
-BeginsSo old asked (begun.Reply replied) new = step.Begins old asked (step.Answers replied new)
-BeginsSo old asked (begun.Look form) new =
+-- it breaks off with a reply, or goes on with the form of the model
+abbrev pub BeginsSo : State → ExactAsk → ControlFlow ExactReply Form → State → Type 0
+BeginsSo old asked (Break replied) new = step.Begins old asked (step.Answers replied new)
+BeginsSo old asked (Continue form) new =
     step.Begins old asked (step.Looks (shape_of form)) × (new ≡ old) × IsFormHeld new.model form
 
 -- words that are to be published are well formed, and stand with an end of the model
@@ -76,6 +74,7 @@ pub record PublishesSo (old : State) (found : Looked) (pending : Pending) (new :
   pub kept : new ≡ old
   pub fits : IsEndOf new.model pending.end
 
-abbrev pub WorksSo : State → Looked → Worked → State → Type 0
-WorksSo old found (worked.Reply replied) new = step.Works old found (step.Ends replied new)
-WorksSo old found (worked.Publish pending) new = PublishesSo old found pending new
+-- it breaks off with a reply, or goes on with what is to be published
+abbrev pub WorksSo : State → Looked → ControlFlow ExactReply Pending → State → Type 0
+WorksSo old found (Break replied) new = step.Works old found (step.Ends replied new)
+WorksSo old found (Continue pending) new = PublishesSo old found pending new

@@ -1,6 +1,5 @@
-// What a session awaits, and how the parts of an ask end.
+// What a session awaits between the parts of an ask.
 use lp_form::Form;
-use lp_line::Reply;
 use lp_solve::End;
 use spec_board::BasisWords;
 use spec_server::How;
@@ -22,18 +21,4 @@ pub(crate) enum Awaited {
     WhatIsFound(Form),
     /// What becomes of the words that it publishes.
     WhatBecameOf(Pending),
-}
-
-/// How an ask begins: it has ended, or the shape of the model's form is looked for.
-#[derive(Drop)]
-pub(crate) enum Begun {
-    Reply(Reply),
-    Look(Form),
-}
-
-/// How a solve goes on: the ask has ended, or words are to be published.
-#[derive(Drop)]
-pub(crate) enum Worked {
-    Reply(Reply),
-    Publish(Pending),
 }

@@ -5,23 +5,25 @@ ghost use Rattle.spec_server.specs.Step as step;
 ghost use Rattle.spec_server.specs.declared.asks.Ask.TheVariants as asks;
 ghost use Rattle.spec_server.specs.declared.asks.Reply.TheVariants as replies;
 ghost use Rattle.spec_server.specs.declared.command.Plain.TheVariants as commands;
-ghost use Rattle.lp_session.specs.Parts.{IsFormHeld, IsEndOf, FitsForm, BeginsSo, WorksSo, reply_unapplied};
+ghost use Rattle.lp_solve.specs.Fit.{LeavesBasis};
+ghost use Rattle.lp_session.specs.Parts.{IsFormHeld, IsEndOf, FitsForm, IsSolvedBy, BeginsSo, WorksSo, reply_unapplied};
 
-use crate::awaited::{Begun, Pending, Worked};
-use crate::working::{how_by, is_found, solved_from, words_of_end};
+use crate::awaited::Pending;
+use crate::working::{how_by, is_found, words_of_end};
 use lp_certificate::RawCertificate;
-use lp_form::{Basis, Form, form};
+use lp_form::{Basis, Form, form, unpack};
 use lp_frac::{Frac, Fracs};
 use lp_line::{
     Ask, Refusal, Reply, answer_of, certificate_lines, pivots_of, verdict_on, wide_lines,
 };
 use lp_model::{Edit, EditError, EditFault, Model, UsualModel, apply};
 use lp_mps::write::{WriteStop, fixed, free};
-use lp_solve::{End, OPENING_BUDGET, solve_exactly, solve_formless};
+use lp_solve::{End, OPENING_BUDGET, Solved, solve_exactly, solve_formed, solve_formless};
 use spec_board::{BasisWords, Found};
 use spec_mps::Style;
 use spec_server::{How, Plain, Publication};
 use std::alloc::{AllocError, Global};
+use std::ops::ControlFlow;
 use std::{marker, mem};
 
 /// What a session keeps of its last solve.
@@ -58,18 +60,20 @@ impl Holding {
         }
     }
 
-    /// Replies to what is asked, or gives the form of the model that is to be solved. If memory runs out the reply is
-    /// `Memory`, and all is as it was.
-    pub(crate) fn begin(&mut self, alloc: Global, ask: Ask) -> Begun
+    /// Begins what is asked. It breaks off with a reply, and goes on with the form of the model that is to be solved. If
+    /// memory runs out the reply is `Memory`, and all is as it was.
+    pub(crate) fn begin(&mut self, alloc: Global, ask: Ask) -> ControlFlow<Reply, Form>
         ensures { BeginsSo self.old ask result self.new }
     {
         match ask {
             Ask::Plain(asked) => self.answer(alloc, asked),
-            Ask::Loaded(model) => Begun::Reply(self.load(model)),
-            Ask::Misspelled(fault) => Begun::Reply(Reply::Refused(Refusal::Misspelled(fault))),
-            Ask::Checked(raw) => Begun::Reply(self.check(alloc, &raw)),
-            Ask::Unfit(line) => Begun::Reply(Reply::Refused(Refusal::Unfit(line))),
-            Ask::Bad(fault) => Begun::Reply(Reply::Refused(Refusal::Bad(fault))),
+            Ask::Loaded(model) => ControlFlow::Break(self.load(model)),
+            Ask::Misspelled(fault) => ControlFlow::Break(Reply::Refused(Refusal::Misspelled(
+                fault,
+            ))),
+            Ask::Checked(raw) => ControlFlow::Break(self.check(alloc, &raw)),
+            Ask::Unfit(line) => ControlFlow::Break(Reply::Refused(Refusal::Unfit(line))),
+            Ask::Bad(fault) => ControlFlow::Break(Reply::Refused(Refusal::Bad(fault))),
         }
     }
 
@@ -82,25 +86,25 @@ impl Holding {
         reply
     }
 
-    // Replies to what one line asks, or gives the form of the model that it asks to solve.
-    fn answer(&mut self, alloc: Global, asked: Plain<Edit>) -> Begun
+    // Begins what one line asks.
+    fn answer(&mut self, alloc: Global, asked: Plain<Edit>) -> ControlFlow<Reply, Form>
         ensures { BeginsSo self.old (asks.Plain asked) result self.new }
     {
         match asked {
-            Plain::Write(style) => Begun::Reply(self.write(alloc, style)),
+            Plain::Write(style) => ControlFlow::Break(self.write(alloc, style)),
             Plain::Solve => self.begin_solve(alloc),
-            Plain::Cert => Begun::Reply(self.certify(alloc)),
-            Plain::How => Begun::Reply(self.how()),
+            Plain::Cert => ControlFlow::Break(self.certify(alloc)),
+            Plain::How => ControlFlow::Break(self.how()),
             Plain::Budget(budget) => {
                 self.budget = budget;
-                Begun::Reply(Reply::Done)
+                ControlFlow::Break(Reply::Done)
             }
-            Plain::Wide => Begun::Reply(self.widen(alloc)),
+            Plain::Wide => ControlFlow::Break(self.widen(alloc)),
             Plain::Quit => {
                 drop(mem::replace(self, Holding::new()));
-                Begun::Reply(Reply::Bye)
+                ControlFlow::Break(Reply::Bye)
             }
-            Plain::Change(edit) => Begun::Reply(self.change(alloc, edit)),
+            Plain::Change(edit) => ControlFlow::Break(self.change(alloc, edit)),
         }
     }
 
@@ -121,51 +125,94 @@ impl Holding {
     }
 
     // The form of the model. A model without one is answered as the cold solve does.
-    fn begin_solve(&mut self, alloc: Global) -> Begun
+    fn begin_solve(&mut self, alloc: Global) -> ControlFlow<Reply, Form>
         ensures { BeginsSo self.old (asks.Plain commands.Solve) result self.new }
     {
         let Some(model) = &self.model else {
-            return Begun::Reply(Reply::Refused(Refusal::NoModel));
+            return ControlFlow::Break(Reply::Refused(Refusal::NoModel));
         };
         let model = model.model();
         match form(alloc, model) {
-            Ok(form) => Begun::Look(form),
+            Ok(form) => ControlFlow::Continue(form),
             Err(stop) => match solve_formless(model, stop) {
-                Ok(solved) => Begun::Reply(self.keep(solved.end, How::Cold, Publication::Nothing)),
-                Err(_) => Begun::Reply(Reply::Memory),
+                Ok(solved) => ControlFlow::Break(self.keep(
+                    solved.end,
+                    How::Cold,
+                    Publication::Nothing,
+                )),
+                Err(_) => ControlFlow::Break(Reply::Memory),
             },
         }
     }
 
-    /// Solves the model, whose form this is, with what was found of its shape. An answer is kept, unless its basis is
-    /// to be published first.
+    /// Solves the model, whose form this is, from the basis that was found, if one was.
+    pub(crate) fn solve(
+        &self,
+        alloc: Global,
+        form: &Form,
+        found: Option<Found<BasisWords>>,
+    ) -> Result<Solved, AllocError>
+        requires held { IsFormHeld self.now.model form.now }
+        requires fits { FitsForm form.now found }
+        ensures solved { IfOk result (IsSolvedBy self.now.model self.now.budget found) }
+        ensures basis { IfOk result (λ solved. LeavesBasis form.now solved.end) }
+    {
+        prove!(form.rows() <= 256);
+        let Some(model) = &self.model else {
+            unreachable!()
+        };
+        let model = model.model();
+        let budget = u64::from(self.budget);
+        match found {
+            Some(place) => {
+                let basis = unpack(alloc, &place.words)?;
+                solve_formed(alloc, model, budget, form, Some(&basis))
+            }
+            None => solve_formed(alloc, model, budget, form, None),
+        }
+    }
+
+    /// Keeps what such a solve ended with, and breaks off with the reply. It goes on with an answer whose basis is to be
+    /// published before it is kept.
+    pub(crate) fn conclude(
+        &mut self,
+        form: &Form,
+        found: Option<Found<BasisWords>>,
+        solved: Solved,
+    ) -> ControlFlow<Reply, Pending>
+        requires held { IsFormHeld self.old.model form.now }
+        requires solved { IsSolvedBy self.old.model self.old.budget found solved }
+        requires basis { LeavesBasis form.now solved.end }
+        ensures { WorksSo self.old found result self.new }
+    {
+        let how = how_by(found, solved.route);
+        match words_of_end(form, &solved.end) {
+            None => ControlFlow::Break(self.keep(solved.end, how, Publication::Nothing)),
+            Some(words) if is_found(found, &words) => {
+                ControlFlow::Break(self.keep(solved.end, how, Publication::Same))
+            }
+            Some(words) => ControlFlow::Continue(Pending {
+                end: solved.end,
+                how,
+                words,
+            }),
+        }
+    }
+
+    /// Both. If memory runs out the reply is `Memory`, and all is as it was.
     pub(crate) fn work(
         &mut self,
         alloc: Global,
         form: &Form,
         found: Option<Found<BasisWords>>,
-    ) -> Worked
+    ) -> ControlFlow<Reply, Pending>
         requires held { IsFormHeld self.old.model form.now }
         requires fits { FitsForm form.now found }
         ensures { WorksSo self.old found result self.new }
     {
-        let Some(model) = &self.model else {
-            unreachable!()
-        };
-        let Ok(solved) = solved_from(alloc, model.model(), self.budget, form, found) else {
-            return Worked::Reply(Reply::Memory);
-        };
-        let how = how_by(found, solved.route);
-        match words_of_end(form, &solved.end) {
-            None => Worked::Reply(self.keep(solved.end, how, Publication::Nothing)),
-            Some(words) if is_found(found, &words) => {
-                Worked::Reply(self.keep(solved.end, how, Publication::Same))
-            }
-            Some(words) => Worked::Publish(Pending {
-                end: solved.end,
-                how,
-                words,
-            }),
+        match self.solve(alloc, form, found) {
+            Ok(solved) => self.conclude(form, found, solved),
+            Err(_) => ControlFlow::Break(Reply::Memory),
         }
     }
 

@@ -6,7 +6,7 @@
 //! | `AddsStep`, `StepCalls` | what a step reads more by a pass of a board, and by which calls | specs/Boarding |
 //! | `Holding`, `LastAnswer` | what a session holds, and what it keeps of a solve | src/holding |
 //! | `Awaited`, `AwaitedFits` | what a session awaits in its ask, and what holds of that | src/awaited, specs/Parts |
-//! | `solved_from`, `words_of_end` | a solve with what was found, and the words of its basis | src/working |
+//! | `how_by`, `words_of_end` | how an answer was found, and the words of its basis | src/working |
 #![tactic(auto)]
 
 mod awaited;

@@ -6,7 +6,7 @@ ghost use Rattle.basis_board.specs.Id.{id_of};
 ghost use Rattle.basis_board.specs.Rule.{Consistent};
 ghost use Rattle.lp_session.specs.Boarding.{AddsStep, StepCalls, NotesOn};
 
-use crate::awaited::{Awaited, Begun, Worked};
+use crate::awaited::Awaited;
 use crate::boarding::found_by;
 use crate::holding::Holding;
 use basis_board::{Board, Pass};
@@ -17,6 +17,7 @@ use spec_server::{Next, Publication, Started};
 use std::alloc::Global;
 use std::marker::Model;
 use std::mem;
+use std::ops::ControlFlow;
 
 /// A session: what it holds, and what it awaits.
 pub struct Session {
@@ -67,8 +68,8 @@ impl Session {
         ensures { StartFits self.old.state ask result self.new }
     {
         match self.holding.begin(alloc, ask) {
-            Begun::Reply(reply) => Started::Reply(reply),
-            Begun::Look(form) => {
+            ControlFlow::Break(reply) => Started::Reply(reply),
+            ControlFlow::Continue(form) => {
                 let shape = shape(&form);
                 drop(mem::replace(&mut self.awaited, Awaited::WhatIsFound(form)));
                 Started::Look(shape)
@@ -87,8 +88,8 @@ impl Session {
         let worked = self.holding.work(alloc, form, found);
         drop(mem::replace(&mut self.awaited, Awaited::Nothing));
         match worked {
-            Worked::Reply(reply) => Next::Reply(reply),
-            Worked::Publish(pending) => {
+            ControlFlow::Break(reply) => Next::Reply(reply),
+            ControlFlow::Continue(pending) => {
                 let words = pending.words;
                 drop(mem::replace(&mut self.awaited, Awaited::WhatBecameOf(pending)));
                 Next::Publish(words)
@@ -121,16 +122,27 @@ impl Session {
         ensures share { (pass.new.view).share ≡ (pass.old.view).share }
         ensures notes { NotesOn pass.old pass.new }
     {
-        let shape = match self.start(alloc, ask) {
-            Started::Reply(reply) => return reply,
-            Started::Look(shape) => shape,
+        let form = match self.holding.begin(alloc, ask) {
+            ControlFlow::Break(reply) => return reply,
+            ControlFlow::Continue(form) => form,
         };
+        let shape = shape(&form);
         let found = found_by(board.look(pass, &shape));
-        let words = match self.found(alloc, found) {
-            Next::Reply(reply) => return reply,
-            Next::Publish(words) => words,
+        let solved = match self.holding.solve(alloc, &form, found) {
+            Ok(solved) => solved,
+            Err(_) => {
+                drop(form);
+                return Reply::Memory;
+            }
         };
-        let put = board.publish(pass, &words);
-        self.put(put)
+        let worked = self.holding.conclude(&form, found, solved);
+        drop(form);
+        let pending = match worked {
+            ControlFlow::Break(reply) => return reply,
+            ControlFlow::Continue(pending) => pending,
+        };
+        let put = board.publish(pass, &pending.words);
+        self.holding
+            .keep(pending.end, pending.how, Publication::Tried(put))
     }
 }
