@@ -137,10 +137,10 @@ def counts(solver, colds, warms):
     known = [solved.is_known() for solved in warms]
     refused = [warm for cold, warm in zip(colds, warms) if not cold.is_known()]
     won = [warm for warm in refused if warm.is_known()]
-    said = f"From the bases of `{solver}` `lpd basis` answers {sum(known)} of {len(warms)} models, and the cold solve"
-    said += f" {sum(cold.is_known() for cold in colds)}: so {len(won)} of the {len(refused)} that the latter refuses."
+    said = f"From the bases of `{solver}`, `lpd basis` answers {sum(known)} of {len(warms)} models. The cold solve answers"
+    said += f" {sum(cold.is_known() for cold in colds)}. Of the {len(refused)} that the cold solve refuses, `lpd basis` answers {len(won)}."
     others = sum(warm.is_known() and warm.start.endswith(REORDERED) for warm in won)
-    said += f" Of these {others} are answered with the rows and columns in another order." if others else ""
+    said += f" It answers {others} of these with the rows and columns in another order." if others else ""
     at_once = sum(warm.start.startswith("WARM") and warm.pivots == "0" for warm in warms)
     whys = [warm.start.split()[1].rstrip(",") for warm in warms if warm.start.startswith("FELL")]
     reasons = ", ".join(f"{whys.count(why)} {why}" for why in dict.fromkeys(whys))

@@ -274,7 +274,7 @@ def told_of(name, runs):
     times = {model: ran.seconds for model, ran in runs.items() if ran is not None}
     memories = [ran.memory for ran in runs.values() if ran is not None and ran.memory is not None]
     if times:
-        yield f"{name} takes {listed(times)}" + (f"; it has at most {max(memories):,.0f} MB." if memories else ".")
+        yield f"{name} takes {listed(times)}" + (f"; it uses at most {max(memories):,.0f} MB." if memories else ".")
 
 
 def beside_esolver(found):
@@ -296,8 +296,8 @@ def summed_up(options, found):
     certificates = [one.certified.certificate for one in judged_ones.values()]
     accepted = sum(one.check.said.startswith("YES ") for one in judged_ones.values())
     yield (
-        f"Of {len(found)} models {accepted} have a certificate that `lpd check --wide` accepts, of {sum(map(bytes_of, certificates)):,} bytes "
-        f"in all; the longest line has {max(map(longest_line, certificates), default=0):,}."
+        f"{accepted} of {len(found)} models have a certificate that `lpd check --wide` accepts. They have {sum(map(bytes_of, certificates)):,} bytes "
+        f"in all, and the longest line {max(map(longest_line, certificates), default=0):,}."
     )
     if not options.certificates:
         as_it_is = sum(one.certified.how == "WARM PIVOTS 0" for one in found.values())
@@ -309,8 +309,8 @@ def summed_up(options, found):
     if options.tampered:
         tried = [one.tampered for one in judged_ones.values() if one.tampered]
         words, right = [verdicts[-1] for verdicts in tried], sum(len(verdicts) - 1 for verdicts in tried)
-        more = f"; {right} other changes leave a certificate right" if right else ""
-        yield f"With one digit of one number changed {words.count('NO')} get `NO` and {words.count('ERR')} `ERR`{more}."
+        more = f" Before that, {right} changes of another digit left a certificate right." if right else ""
+        yield f"With one digit of one number changed {words.count('NO')} certificates get `NO` and {words.count('ERR')} `ERR`.{more}"
 
 
 def large_marks(options):

@@ -219,9 +219,9 @@ def grown(loaded):
         factor = max(it.text.entries for it in members) // min(it.text.entries for it in members)
         times = [it.spent / it.cards for it in members]
         counts = [it.instructions / it.cards for it in members if it.instructions]
-        timed = f"a card's time is at the most {max(times) / min(times):.2f} times the least"
-        counted = f", its instructions {max(counts) / min(counts):.2f} times" if counts else ""
-        yield f"- {kind}, {factor} times the entries: {timed}{counted}"
+        timed = f"the longest time of a card is {max(times) / min(times):.2f} times the shortest"
+        counted = f", the most instructions {max(counts) / min(counts):.2f} times the fewest" if counts else ""
+        yield f"- {kind}, up to {factor} times as many entries: {timed}{counted}"
 
 
 def main():

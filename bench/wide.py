@@ -143,7 +143,7 @@ def summed_up(found, seconds):
         yield f"Half of these take at most {milliseconds(statistics.median(times))} ms, and each at most {milliseconds(max(times))} ms."
     memories = [one.memory for one in found if one.memory is not None]
     if memories:
-        yield f"The solve has at most {max(memories):,.0f} MB."
+        yield f"The solve uses at most {max(memories):,.0f} MB."
     if Esolver.is_there():
         yield from beside(found)
 
