@@ -9,11 +9,33 @@ use Rattle.basis_board.specs.declared.seats.RawRead.{RawRead}
 use Rattle.basis_board.specs.declared.seats.RawRead.TheVariants.{Count, Open, See, Claim, Lost, Done}
 use Rattle.basis_board.specs.declared.board.Look.{Look}
 use Rattle.basis_board.specs.declared.board.Look.TheVariants.{Found, NoneReady}
-use Rattle.basis_board.specs.Board.{Has}
-use Rattle.basis_board.specs.Rule.{published_places, Neat, OwnsBelow}
+use Rattle.atomic_table.specs.Seated.{TableId}
+use Rattle.basis_board.specs.Board.{Has, first_view}
+use Rattle.basis_board.specs.Known.{Known}
+use Rattle.basis_board.specs.Rule.{published_places, Consistent, Neat, OwnsBelow}
 use Rattle.basis_board.specs.Calls.{Passed, IsDownTo, Looks}
 use Rattle.basis_board.proofs.Whole.{length_own}
-use Rattle.lp_script.specs.Only.{published_words, AreInOrder}
+use Rattle.lp_script.specs.Only.{published_words, AreInOrder, IsOnly}
+
+-- ---- the first pass of a board is the only one
+first_consistent : (places : ℕ) → Consistent (first_view places)
+first_consistent places = record {
+  neat = record { published = refl; stands = tt };
+  agree = tt;
+  reads_agree = tt;
+  formed = tt;
+  own = tt;
+  once = λ k. omega arith;
+}
+
+pub only_first : (board : TableId) (pass : Known) (places : ℕ) → pass.board ≡ board →
+    pass.view ≡ first_view places → IsOnly board pass
+only_first board pass places of_board first = record {
+  of_board = of_board;
+  whole = ap (λ (v : View). v.share) first;
+  consistent = subst Consistent (sym first) (first_consistent places);
+  in_order = subst (λ (v : View). AreInOrder v.reads) (sym first) tt;
+}
 
 -- ---- each place was published with the words that stand there
 abbrev Stands : List RawRead → ℕ → Type 0

@@ -1,14 +1,19 @@
 -- The sessions by their numbers, where one of them takes a step.
 use Rattle.std.proofs.Common.{◌≡◌, ℕ, zero, suc, ◌<◌, List, [], ◌∷◌, length, replicate, set, get_or}
-use Rattle.std.proofs.Common.{refl, ap, sym, ◌∙◌, subst}
+use Rattle.std.proofs.Common.{Option, Result, Ok, Err, OnOk, refl, ap, sym, ◌∙◌, subst}
+use Rattle.std.specs.Io.KnownBytes.{Appends}
 use Rattle.std.proofs.lemmas.List.{get_or-map, get_or-set_same, get_or-set_other, map-set, length-map, length-set}
 use Rattle.std.proofs.lemmas.List.{length-replicate}
 use Rattle.std.proofs.lemmas.List.Elements.{All-set, All-replicate, All-same}
+use Rattle.lp_base.specs.Beside.{Takes}
+use Rattle.spec_server.specs.declared.addressing.Addressing.TheVariants.{Numbered}
 use Rattle.spec_server.specs.declared.asks.Asked.{Asked}
 use Rattle.spec_server.specs.Halves.{Standing, Nothing, at_rest}
 use Rattle.spec_server.specs.Machine.{ExactAsk, ExactReply, State, opening}
+use Rattle.spec_server.specs.Output.{reply_lines}
 use Rattle.lp_script.specs.Sharing.{Sharing, SharesStep}
 use Rattle.lp_script.specs.Answer.{Together, states_of, AreAtRest, opening_with, state_at, Steps}
+use Rattle.lp_script.specs.Answer.{Answers, AnswersInPart}
 
 pub states-replicate : (n : ℕ) → states_of (replicate n (at_rest opening)) ≡ replicate n opening
 states-replicate zero = refl
@@ -72,3 +77,24 @@ module _ (all : List Standing) (asked : Asked ExactAsk) (within : asked.session 
             ap (λ (states : List State). state_at states session) changed_is
             ∙ get_or-set_other (states_of all) asked.session session new.state opening other;
       }
+
+-- ---- what is written of the reply
+
+pub answers_ok : {E : Type 0} (result : Result (Unit {0}) E) (before after : Option (List ℕ)) (old new : Together)
+    (asked : Asked ExactAsk) (reply : ExactReply) → Steps old new asked reply →
+    OnOk result (Appends before after (reply_lines Numbered asked.session reply)) →
+    OnOk result (Answers before after old new asked)
+answers_ok (Ok u) before after old new asked reply steps written =
+    record { reply = reply; steps = steps; written = written }
+answers_ok (Err why) before after old new asked reply steps written = tt
+
+pub answers_part : (before after : Option (List ℕ)) (old new : Together) (asked : Asked ExactAsk) (reply : ExactReply) →
+    Steps old new asked reply → Takes before after (reply_lines Numbered asked.session reply) →
+    AnswersInPart before after old asked
+answers_part before after old new asked reply steps written = record {
+  reply = reply;
+  state = state_at new.states asked.session;
+  sharing = new.sharing;
+  step = steps.step;
+  written = written;
+}

@@ -1,15 +1,13 @@
-// The answer to an ask of a script.
+// The reply of a session, written.
 ghost use Rattle.std.specs.Prelude.{◌≡◌, ◌⊎◌, ◌≤◌, OnOk, IfErr, IsErrOf};
 ghost use Rattle.std.specs.Io.KnownBytes.{Appends};
 ghost use Rattle.lp_base.specs.Beside.{Takes};
 ghost use Rattle.lp_base.specs.Causes.{Rose};
 ghost use Rattle.spec_server.specs.declared.addressing.Addressing.TheVariants.{Numbered};
 ghost use Rattle.spec_server.specs.Output.{reply_lines};
-ghost use Rattle.lp_script.specs.Answer.{Answers, AnswersInPart};
 
-use crate::sessions::Sessions;
 use lp_base::{Bytes, Sink, send};
-use lp_line::{Addressing, Asked, Halt, Reply, print};
+use lp_line::{Addressing, Halt, Reply, print};
 use std::alloc::Global;
 
 /// Writes the reply of a session.
@@ -29,25 +27,4 @@ pub(crate) fn write_reply<K: Sink>(
     print(alloc, Addressing::Numbered, session, reply, &mut line)?;
     send(out, line.as_slice())?;
     Ok(())
-}
-
-/// Asks a session, and writes its reply.
-pub(crate) fn answer<K: Sink>(
-    alloc: Global,
-    sessions: &mut Sessions,
-    asked: Asked,
-    out: &mut K,
-) -> Result<(), Halt>
-    requires { asked.session ≤ 64 }
-    ensures ok { OnOk result (Answers (K.taken out.old) (K.taken out.new) sessions.old sessions.new asked) }
-    ensures part { AnswersInPart (K.taken out.old) (K.taken out.new) sessions.old asked }
-    ensures halts { IfErr result (λ halt. (halt ≡ Halt.Write) ⊎ (halt ≡ Halt.NoMemory)) }
-    ensures later { K.write_faults out.old ≤ K.write_faults out.new }
-    ensures write { IsErrOf result Halt.Write → Rose (K.write_faults out.old) (K.write_faults out.new) }
-{
-    let session = asked.session;
-    let reply = sessions.step(alloc, asked);
-    let written = write_reply(alloc, session, &reply, out);
-    drop(reply);
-    written
 }

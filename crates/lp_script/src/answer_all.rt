@@ -12,7 +12,7 @@ use std::sync::Wait;
 use std::thread::Threads;
 
 /// Answers the asks on so many threads, which share so many places. The replies come in the order of the asks.
-pub fn answer_all<R: Threads + Wait + Sync, G: Gate + Sync>(
+pub(crate) fn answer_all<R: Threads + Wait + Sync, G: Gate + Sync>(
     rt: &R,
     alloc: Global,
     asks: Vec<Asked>,

@@ -3,17 +3,16 @@ ghost use Rattle.std.specs.Prelude.{◌≡◌, IsErrOf};
 ghost use Rattle.lp_base.specs.Causes.{Rose};
 ghost use Rattle.lp_base.specs.LinesState.{at_start};
 ghost use Rattle.lp_script.specs.Answer.{opening_with};
-ghost use Rattle.lp_script.specs.Run.{IsPlaces, Runs};
+ghost use Rattle.lp_script.specs.Run.{Runs};
 ghost use Rattle.spec_server.specs.Streams.{streams};
 
-use crate::answer::answer;
 use crate::sessions::Sessions;
 use lp_base::{Lines, Sink, Source};
 use lp_line::{Addressing, Halt, Taken, take};
 use std::alloc::Global;
 
-// Answers the asks of a script, from its start and with all sessions as they open.
-fn answer_asks<S: Source, K: Sink>(
+/// Answers each ask of a script before it reads the next one, from its start and with all sessions as they open.
+pub(crate) fn answer_asks<S: Source, K: Sink>(
     alloc: Global,
     lines: &mut Lines,
     sessions: &mut Sessions,
@@ -29,32 +28,10 @@ fn answer_asks<S: Source, K: Sink>(
 {
     loop {
         match take(alloc, Addressing::Numbered, lines, src)? {
-            Taken::Ask(asked) => answer(alloc, sessions, asked, out)?,
+            Taken::Ask(asked) => sessions.answer(alloc, asked, out)?,
             Taken::End => return Ok(()),
             Taken::Cut => return Err(Halt::Cut),
             Taken::Over => return Err(Halt::Over),
         }
     }
-}
-
-/// Answers each ask of the script that the source gives before it reads the next one.
-/// The sessions share so many places.
-pub(crate) fn run_in_order<S: Source, K: Sink>(
-    alloc: Global,
-    places: u32,
-    src: &mut S,
-    out: &mut K,
-) -> Result<(), Halt>
-    requires { IsPlaces places }
-    ensures output { Runs 1 places
-        (streams (S.left src.old) (S.left src.new) (K.taken out.old) (K.taken out.new)) result }
-    ensures read { IsErrOf result Halt.Read → Rose (S.read_faults src.old) (S.read_faults src.new) }
-    ensures write { IsErrOf result Halt.Write → Rose (K.write_faults out.old) (K.write_faults out.new) }
-{
-    let mut lines = Lines::new(alloc)?;
-    let mut sessions = Sessions::new(alloc, places)?;
-    let run = answer_asks(alloc, &mut lines, &mut sessions, src, out);
-    drop(sessions);
-    drop(lines);
-    run
 }

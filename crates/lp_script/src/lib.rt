@@ -6,8 +6,7 @@
 //! | `answer_all` | the replies to the asks, in their order, by many workers | src/answer_all |
 //! | `Gate`, `NeverHolds` | what is told before each solve of many workers | src/gate |
 //! | `Part` | what one worker has: its sessions and asks, and the replies | src/part |
-//! | `Sessions` | the sessions of a script by one worker, and the places that they share | src/sessions |
-//! | `Places` | such places: a board with the only pass of it | src/places |
+//! | `Sessions` | the sessions of a script by one worker, and the places that they share: a board with the only pass of it | src/sessions |
 //! | `Sharing`, `SharesStep` | how many there are, with the words in them, and a step with them | specs/Sharing |
 //! | `IsOnly` | that a pass is the only one of a board, and has published one place after the other | specs/Only |
 //! | `AnswersAll` | what replies many workers may give | specs/AnswersAll |
@@ -27,7 +26,6 @@ mod deal;
 mod gate;
 mod in_order;
 mod part;
-mod places;
 mod run;
 mod script;
 mod sessions;

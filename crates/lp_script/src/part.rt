@@ -1,13 +1,12 @@
 // What one worker has of a script, and its turn.
 ghost use Rattle.std.specs.Prelude.{◌≡◌, ◌≤◌, ◌+◌, ◌<◌, ◌++◌, [], ◌∷◌, List, IfOk, OnOk, vec_len, vec_capacity};
-ghost use Rattle.std.specs.Prelude.{◌⊎◌, ◌-◌, ◌^◌, replicate};
+ghost use Rattle.std.specs.Prelude.{◌⊎◌, ◌-◌, ◌^◌};
 ghost use Rattle.spec_server.specs.declared.asks.Asked.{Asked as exact_asked};
-ghost use Rattle.spec_server.specs.Halves.{at_rest};
-ghost use Rattle.spec_server.specs.Machine.{ExactAsk, ExactReply, opening};
+ghost use Rattle.spec_server.specs.Machine.{ExactAsk, ExactReply};
 ghost use Rattle.lp_script.specs.Parts.{IsHired, HasHad, IsOpen, Took};
 
 use crate::gate::Gate;
-use crate::sessions::SESSIONS;
+use crate::sessions::{SESSIONS, opening_sessions};
 use basis_board::{Board, Pass};
 use lp_line::{Ask, Asked, Reply};
 use lp_session::Session;
@@ -25,17 +24,6 @@ pub struct Part {
     pub(crate) asks: Vec<Asked>,
     /// In the order of the asks, with room for all of them.
     pub(crate) replies: Vec<Reply>,
-}
-
-// All sessions as they open.
-fn opening_sessions(alloc: Global) -> Result<Vec<Session>, AllocError>
-    ensures { IfOk result (λ all. all.items ≡ replicate 65 (at_rest opening)) }
-{
-    let mut all = Vec::with_capacity(alloc, SESSIONS)?;
-    for index in 0..SESSIONS {
-        all.push_reserved(Session::new());
-    }
-    Ok(all)
 }
 
 // Tells the gate of the ask, if it is a solve, and counts it.

@@ -5,9 +5,10 @@ ghost use Rattle.lp_script.specs.Run.{IsPlaces, IsWorkers, Runs};
 ghost use Rattle.spec_server.specs.Streams.{streams};
 
 use crate::gate::Gate;
-use crate::in_order::run_in_order;
+use crate::in_order::answer_asks;
+use crate::sessions::Sessions;
 use crate::side_by_side::run_side_by_side;
-use lp_base::{Sink, Source};
+use lp_base::{Lines, Sink, Source};
 use lp_line::Halt;
 use std::alloc::Global;
 use std::sync::Wait;
@@ -31,8 +32,13 @@ pub fn run_script<R: Threads + Wait + Sync, S: Source, K: Sink, G: Gate + Sync>(
     ensures read { IsErrOf result Halt.Read → Rose (S.read_faults src.old) (S.read_faults src.new) }
     ensures write { IsErrOf result Halt.Write → Rose (K.write_faults out.old) (K.write_faults out.new) }
 {
-    if workers == 1 {
-        return run_in_order(alloc, places, src, out);
+    if workers != 1 {
+        return run_side_by_side(rt, alloc, src, out, workers, places, gate);
     }
-    run_side_by_side(rt, alloc, src, out, workers, places, gate)
+    let mut lines = Lines::new(alloc)?;
+    let mut sessions = Sessions::new(alloc, places)?;
+    let run = answer_asks(alloc, &mut lines, &mut sessions, src, out);
+    drop(sessions);
+    drop(lines);
+    run
 }

@@ -3,7 +3,7 @@ use Rattle.std.proofs.Common.{◌++◌, [], ◌∷◌, replicate, ap, ◌∙◌,
 use Rattle.std.proofs.lemmas.List.{replicate_more}
 use Rattle.spec_server.specs.Halves.{at_rest}
 use Rattle.spec_server.specs.Machine.{opening}
-use Rattle.lp_script.proofs.part.opening_sessions.Goals as goal
+use Rattle.lp_script.proofs.sessions.opening_sessions.Goals as goal
 
 pub loop-index-preserved : goal.loop-index-preserved
 loop-index-preserved c =
