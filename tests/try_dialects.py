@@ -83,7 +83,7 @@ QUESTIONS = [
     ("`OBJSENSE`, and `MAX` under it", changed("ROWS", "OBJSENSE\n    MAX\nROWS", MOST), False, SENSES),
     ("`OBJSENSE`, and `max` under it", changed("ROWS", "OBJSENSE\n    max\nROWS", MOST), False, SENSES),
     ("`OBJSENSE`, and `MAXIMIZE` under it", changed("ROWS", "OBJSENSE\n    MAXIMIZE\nROWS", MOST), False, SENSES),
-    ("`OBJNAME`, and the second `N` row under it", changed("ROWS\n N cost\n", "OBJNAME\n    cost\nROWS\n N other\n N cost\n"), False, SECOND),
+    ("`OBJNAME`, and the name of the second `N` row on the card under it", changed("ROWS\n N cost\n", "OBJNAME\n    cost\nROWS\n N other\n N cost\n"), False, SECOND),
     ("the objective's right side 10", changed("RHS need 4", "RHS need 4 cost 10"), False, OFFSETS),
     ("`UP` -1 without a lower bound", changed("UP BND x 3", "UP BND x -1"), False, NEGATIVE),
     ("`UP` 0 without a lower bound", changed("UP BND x 3", "UP BND x 0\n LO BND y 5"), False, {"10": "lower bound 0", "9": "no lower bound"}),
