@@ -137,7 +137,7 @@ def summed_up(found, seconds):
     answered = [one for one in found if one.ended in ANSWERS]
     others = [("end `OPEN`", "OPEN"), (f"are not done within {seconds} s", "TIME"), ("fail", "FAILED")]
     counts = [f"{number} {words}" for words, end in others if (number := sum(one.ended == end for one in found))]
-    yield f"Of {len(found)} models {len(answered)} are answered" + "".join(f", {words}" for words in counts) + "."
+    yield f"{len(answered)} of {len(found)} models are answered" + "".join(f", {words}" for words in counts) + "."
     if answered:
         times = [one.solve for one in answered]
         yield f"Half of these take at most {milliseconds(statistics.median(times))} ms, and each at most {milliseconds(max(times))} ms."
