@@ -121,7 +121,7 @@ def total(runs):
     read = [run for run in runs if run.is_read]
     equal = [run for run in read if run.outcome() == "equal"]
     counts = {word: sum(run.outcome() == word for run in read) for word in ("equal", "won", "lost", "TIME", "neither")}
-    yield f"Of {len(read)} models that are read {', '.join(f'{number} {word}' for word, number in counts.items() if number)}. "
+    yield f"Outcomes of the {len(read)} models that are read: {', '.join(f'{number} {word}' for word, number in counts.items() if number)}. "
     yield f"{sum(run.is_smaller() for run in read)} have a smaller model that is answered. "
     before, after = (sum(spent) * 1e3 for spent in ([run.before for run in equal], [run.after for run in equal]))
     yield f"The {len(equal)} that both answer take {before:,.0f} ms by `solve` and {after:,.0f} ms by `presolve`, "
