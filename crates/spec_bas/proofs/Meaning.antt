@@ -41,7 +41,7 @@ upper_not_basic AtLower e = refl
 upper_not_basic AtUpper e = refl
 upper_not_basic AtZero e = refl
 
--- a bound, where a column can stand at its upper one
+-- a bound, where a column can be at its upper one
 bound_of : (s : Status) (l u : Option ℚ) → is_at_upper s ≡ true → CanStand s l u → (v : ℚ) × (u ≡ Some v)
 bound_of Basic l u e c = cc
 bound_of AtLower l u e c = cc

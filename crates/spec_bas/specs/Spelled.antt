@@ -63,7 +63,7 @@ pub record IsPair (m : Model) (f : Form) (basis : List Status) (column row : Nam
   pub basic : basis_at basis j ≡ Basic
   pub stands : basis_at basis (f.cols + i) ≡ status (f.cols + i)
 
--- a column of the model stands at its upper bound, which it has
+-- a column of the model is at its upper bound, which it has
 pub record IsUpper (m : Model) (f : Form) (basis : List Status) (column : Name) : Type 0 where
   pub j : ℕ
   pub is_column : column_place m column ≡ Some j
@@ -89,7 +89,7 @@ HasNoCard place names k = All (λ name. place name ≢ Some k) names
 
 -- ---- which basis they spell
 
--- each column and each row is named at most once; what they mean is so, columns that are not named stand at a bound or
+-- each column and each row is named at most once; what they mean is so, columns that are not named are at a bound or
 -- at 0, and rows that are not named are basic
 pub record AreCardsOf (m : Model) (f : Form) (cards : List ExactCard) (basis : List Status) : Type 0 where
   pub columns_once : AllPairs (λ x y. x ≢ y) (columns_on cards)

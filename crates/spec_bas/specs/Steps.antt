@@ -19,11 +19,11 @@ use Rattle.spec_bas.specs.Cards.{ExactCard, ExactReading, reading_of}
 
 -- ---- statuses
 
--- A column that is not basic and has no other place stands at its lower bound, else at its upper one, else at 0.
+-- A column that is not basic and has no other place is at its lower bound, else at its upper one, else at 0.
 abbrev pub lower_first : Form → ℕ → Status
 lower_first f k = first_status (form_lower f k) (form_upper f k)
 
--- and a row that is to stand at its upper limit: there, else at the lower one, else at 0
+-- and a row that is to be at its upper limit: there, else at the lower one, else at 0
 abbrev pub upper_status : Option ℚ → Option ℚ → Status
 upper_status lower (Some u) = AtUpper
 upper_status (Some l) None = AtLower
@@ -89,7 +89,7 @@ pair_step m f s column row status =
     must (not (is_marked s j || is_marked s (f.cols + i))) code.Repeated >>= λ _.
     Ok (mark (f.cols + i) (status (f.cols + i)) (mark j Basic s))
 
--- a column stands at its upper bound
+-- a column is at its upper bound
 unfoldable pub upper_step : Model → Form → State → Name → Check State
 upper_step m f s column =
     need (column_place m column) code.UnknownColumn >>= λ j.

@@ -4,11 +4,11 @@ use crate::fault::BasCode;
 /// A data card: the words of MPS basis files, with the names behind them.
 #[derive(Drop)]
 pub enum Card<N> {
-    /// `XU`: the column is basic, and the row stands at its upper limit.
+    /// `XU`: the column is basic, and the row is at its upper limit.
     Xu { column: N, row: N },
-    /// `XL`: the column is basic, and the row stands at its lower limit.
+    /// `XL`: the column is basic, and the row is at its lower limit.
     Xl { column: N, row: N },
-    /// `UL`: the column stands at its upper bound.
+    /// `UL`: the column is at its upper bound.
     Ul { column: N },
     /// `LL`: the column stands where it does without a card.
     Ll { column: N },

@@ -39,7 +39,7 @@ pub fn forms_have_the_size_of_models()
     ensures { (limit : Option ℕ) (m : Model) (f : Form) → form_of limit m ≡ Ok f → HasSizeOf m f }
 {}
 
-/// What the lines of a file lead to, one after the other, is what its cards spell, and nothing else.
+/// Reading the lines of a file one after the other gives what its cards spell, and nothing else.
 pub fn lines_give_what_cards_spell()
     ensures { (m : Model) (f : Form) (lines : List (Line (List ℕ))) (basis : List Status) → HasSizeOf m f →
         (Gives m f lines basis ↔ SpellsBasis m f lines basis) }

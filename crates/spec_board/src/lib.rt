@@ -1,5 +1,5 @@
-//! What sessions share: the words in which the shape of a form, and a basis of it, are passed on, and the places in
-//! which such words stand. And what is read and written of these.
+//! The words in which sessions pass on the shape of a form and a basis of it, and the slots of the board that hold such
+//! words. Also what is read and written of these.
 //!
 //! | Item | What it is | Where |
 //! |---|---|---|

@@ -42,8 +42,8 @@ pub fn written_certificates_are_read()
         IsFor m cert → IsNarrowCertificate cert → IsReadBack m cert }
 {}
 
-/// The same of a certificate whose numbers may have any width, where the text of none of them has more bytes than a power
-/// of ten may have zeros.
+/// Reading the written text of a certificate with numbers of any width gives the same certificate, where the text of
+/// none of them has more bytes than a power of ten may have zeros.
 pub fn written_wide_certificates_are_read()
     ensures { (m : Model) (cert : Certificate (List ℚ)) → IsModel m →
         IsFor m cert → AllNumbers IsShortNumber cert → IsWidelyReadBack m cert }

@@ -1,4 +1,4 @@
-//! What each command on the text of a model writes, and `gen` of the model that it makes.
+//! What each command on the text of a model writes, and what `gen` writes of the model that it makes.
 //!
 //! | Item | What it is | Where |
 //! |---|---|---|
@@ -69,9 +69,10 @@ mod basis;
 
 pub use basis::BasisFault;
 
-/// Whatever a session was asked before, with models and edits that may be kept, as those of scripts and of links are: its
-/// last answer stands up. What is known by it is true of the model that the session holds, and to the text of this model
-/// with the lines of the answer's certificate after it the command `check` says yes, and that the same is known.
+/// The last answer of a session stands up, whatever it was asked before with models and edits that may be kept, as
+/// those of scripts and of links are. What is known by it is true of the model that the session holds, and to the text
+/// of this model with the lines of the answer's certificate after it the command `check` says yes, and that the same is
+/// known.
 pub fn last_answers_stand_up()
     ensures { (places : ℕ) (xs : List Exchange) (state : State) (m : Model) (last : ExactLastAnswer)
         (known : Known ℚ) (cert : Certificate (List ℚ)) (basis : Option (List Status)) (pivots : ℕ) →

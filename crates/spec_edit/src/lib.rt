@@ -1,4 +1,4 @@
-//! Edits of a model: what each leaves, and why one is refused.
+//! Edits of a model: the model after each edit, and why an edit is refused.
 //!
 //! | Item | What it is | Where |
 //! |---|---|---|
@@ -34,7 +34,7 @@ pub fn edits_keep_models()
     ensures { (m n : Model) (e : ExactEdit) → IsUsualModel m → IsKeptEdit e → edited m e ≡ Ok n → IsUsualModel n }
 {}
 
-/// What changes of a model mean, by the numbers of rows and columns.
+/// Each change of a model has the meaning that edits give it, by the numbers of rows and columns.
 pub fn changes_have_their_meaning()
     ensures coefficient { (m : Model) (i j : ℕ) (v : ℚ) → j < width m → IsWithCoefficient m i j v }
     ensures without_row { (m : Model) (i : ℕ) → i < height m → IsWithoutRow m i }

@@ -1,4 +1,4 @@
-//! Linear programs as plain data, and what is true of them.
+//! Linear programs as plain data, and the truths about them.
 //!
 //! | Item | What it is | Where |
 //! |---|---|---|

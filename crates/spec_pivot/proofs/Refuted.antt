@@ -21,7 +21,7 @@ use Rattle.spec_pivot.proofs.Pivot.{by_eq, delta_same, delta_other, sum_below-de
 use Rattle.spec_pivot.proofs.Values.{combined}
 use Rattle.spec_pivot.specs.Dual.{Helps, IsPast, Leaves, row_of, IsCandidate, IsSolution, Refutes}
 
--- ---- a value that stands fixed stands at both bounds
+-- ---- a value that stands fixed is at both bounds
 pub fixed_lower : (l u : Option ℚ) (s : Status) (v x : ℚ) → l ≡ Some x → u ≡ Some x → ¬ (s ≡ Basic) → Stands s l u v →
     l ≡ Some v
 fixed_lower l u Basic v x p q n h = absurd (n refl)
@@ -81,7 +81,7 @@ module _ (m n : ℕ) (f : Matrix) (cost : ℕ → ℚ) (b : Bounds) (t : Table)
   own_below Down lo up v h k = h.0
 
   -- ---- the other columns
-  -- one in which the row is not 0 is fixed, or stands at a bound at which it does not help
+  -- one in which the row is not 0 is fixed, or is at a bound at which it does not help
   by_place : {P : Type 0} (k : ℕ) → k < n → k ≢ t.basic p → ¬ (row k ≡ 0ℚ) →
       (¬ (t.status k ≡ Basic) → IsFixed b k → P) → (t.status k ≡ AtLower → ¬ (Helps AtLower (row k)) → P)
       → (t.status k ≡ AtUpper → ¬ (Helps AtUpper (row k)) → P) → P

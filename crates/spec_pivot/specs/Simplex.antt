@@ -117,7 +117,7 @@ ray m t way j k = sign way *ℚ (delta j k -ℚ sum_below m (λ i. delta (t.basi
 abbrev pub moved : ℕ → Table → Way → ℕ → ℚ → ℕ → ℚ
 moved m t way j theta k = t.value k +ℚ theta *ℚ ray m t way j k
 
--- column k, at v, stands at the bound that a move by r would pass
+-- column k, at v, is at the bound that a move by r would pass
 abbrev pub IsBlocked : Bounds → ℕ → ℚ → ℚ → Type 0
 IsBlocked b k v r = ((0ℚ <ℚ r) × (b.upper k ≡ Some v)) ⊎ ((r <ℚ 0ℚ) × (b.lower k ≡ Some v))
 

@@ -122,7 +122,7 @@ pub fn no_repetition()
 {}
 
 /// There are fewer steps than ways to give each of n columns one of three statuses (Bland, New finite pivoting rules
-/// for the simplex method). A column that is not basic stands at one of its bounds, or at 0 where it has none.
+/// for the simplex method). A column that is not basic is at one of its bounds, or at 0 where it has none.
 pub fn few_steps()
     ensures { (m n : ℕ) (f : Matrix) (cost : ℕ → ℚ) (b : Bounds)
         (t : ℕ → Table) (l : ℕ → Label) (len : ℕ) →

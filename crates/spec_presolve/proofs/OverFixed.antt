@@ -99,7 +99,7 @@ falls t r (Some b) h = h
 moved_allows : (t r : ℚ) (l : Limits) → Allows (moved t l) r → Allows l r
 moved_allows t r l h = record { lower = rises t r l.lower h.lower; upper = falls t r l.upper h.upper }
 
--- m has column j more than n, which stands at v, and its rows are moved by what it adds to them
+-- m has column j more than n, which is at v, and its rows are moved by what it adds to them
 pub record FixedStep (m n : Model) (j : ℕ) (v : ℚ) : Type 0 where
   pub inside : j ≤ width n
   pub width_is : width m ≡ suc (width n)

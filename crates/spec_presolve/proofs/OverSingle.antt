@@ -132,7 +132,7 @@ module _ (m n : Model) (i j : ℕ) (a : ℚ) (lower upper : Option ℚ) (h : Sin
   priced_own : (y : List ℚ) (v : ℚ) → length y ≡ height n → priced m (insert y i v) j ≡ priced n y j +ℚ v *ℚ a
   priced_own y v e = priced_more m n i h.row y v j e ∙ ap (λ c. priced n y j +ℚ v *ℚ c) h.entry
 
-  -- Row i, with the multiplier v, and column j, of which the multipliers' part is g then, stand at limits of s and b.
+  -- Row i, with the multiplier v, and column j, of which the multipliers' part is g then, are at limits of s and b.
   pub record Moved (v g s b : ℚ) : Type 0 where
     pub row_at : IsTight (limits m i) v s
     pub column_at : IsTight (turned_limits old) g b

@@ -21,7 +21,7 @@ or_old (Some b) old = Some b
 abbrev pub tightened : Limits → Option ℚ → Option ℚ → Limits
 tightened l lower upper = record { lower = or_old lower l.lower; upper = or_old upper l.upper }
 
--- the right sides less what column j adds to the rows where it stands at v
+-- the right sides less what column j adds to the rows where it is at v
 abbrev pub shifted : Option ℕ → Model → ℕ → ℚ → Run Model
 shifted limit m j v =
     steps (height m) (λ i n. less_product limit (coefficient m i j) v (row m i).rhs >>= λ b. Ok (with_rhs n i b)) m

@@ -77,7 +77,7 @@ two_none None None e = (refl, refl)
 two_none None (Some u) e = let z : true ≡ false = e in cc
 two_none (Some l) u e = let z : true ≡ false = e in cc
 
--- a column that is not basic and has a bound stands at one, and goes along with it
+-- a column that is not basic and has a bound is at one, and goes along with it
 goes_along : (s : Status) (l u : Option ℚ) (v d : ℚ) → ¬ (s ≡ Basic) → is_there l || is_there u ≡ true →
     Stands s l u v → Stands s (shifted d l) (shifted d u) (v +ℚ d)
 goes_along Basic l u v d free e s = absurd (free refl)

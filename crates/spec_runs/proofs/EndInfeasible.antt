@@ -29,7 +29,7 @@ tight_turned l d p v e t = record {
   below = λ h. t.above (subst₂ ◌<ℚ◌ neg-zero (sym e) (neg_strict p 0ℚ h));
 }
 
--- numbers for the columns and the rows that stand at the limits of values, with sums above 0 together
+-- numbers for the columns and the rows that are at the limits of values, with sums above 0 together
 module _ (m : Model) (y : List ℚ) (d v : ℕ → ℚ) (y_at : (i : ℕ) → i < height m → part y i ≡ d (width m + i))
     (priced_at : (j : ℕ) → j < width m → d j ≡ neg_ℚ (priced m y j))
     (rows : (i : ℕ) → i < height m → IsTight (limits m i) (d (width m + i)) (v (width m + i)))

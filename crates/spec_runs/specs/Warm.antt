@@ -1,5 +1,5 @@
 -- The warm start of a model from a basis, at a limit and within a budget: the form, the tableau of the basis, the
--- method that it is fit for, and the check of what that ended with.
+-- method that suits it, and the check of what that ended with.
 use Rattle.std.specs.Prelude.{◌≡◌, ℕ, ◌+◌, List, Option, None, Result, Ok, Err, Bool}
 use Rattle.spec_exact.specs.Fraction.{ℚ}
 use Rattle.spec_model.specs.Model.{Model}

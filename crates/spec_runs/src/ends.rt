@@ -23,7 +23,7 @@ pub enum Warm<F: Debug, L, B> {
 pub enum Fall {
     /// The basis has no tableau.
     Singular,
-    /// Its tableau is fit for neither method.
+    /// Its tableau is neither primal nor dual feasible.
     Unfit,
     /// An operation was past the limit.
     Past,

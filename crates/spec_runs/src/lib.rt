@@ -1,4 +1,4 @@
-//! The cold solve of a model: its definition, and the law that what it ends with is true.
+//! The cold solve of a model: its definition, and the law that its end is true.
 //!
 //! | Item | What it is | Where |
 //! |---|---|---|

@@ -1,4 +1,4 @@
-//! The warm start of a model from a basis: its definition, and the law that what it ends with is true.
+//! The warm start of a model from a basis: its definition, and the law that its end is true.
 //!
 //! | Item | What it is | Where |
 //! |---|---|---|
@@ -60,7 +60,7 @@ pub fn singular_bases_depend()
         (j : ℕ) × (x : ℕ → ℚ) × IsDependent f basis j x }
 {}
 
-/// A tableau that is fit for the primal method has each value within its bounds. One that is fit for the dual method
+/// A primal feasible tableau has each value within its bounds. A dual feasible one
 /// has, after its flips, reduced costs of the signs that their statuses want.
 pub fn fits_mean_methods()
     ensures primal { (limit : Option ℕ) (m n : ℕ) (f : Matrix) (cost : ℕ → ℚ) (b : Bounds) (t : Tableau) →

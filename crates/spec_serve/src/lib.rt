@@ -1,5 +1,5 @@
-//! Many sessions: what workers may reply that share places, what a link asks and what is written to it, and what a
-//! server that shares one board says at its end.
+//! Many sessions: the replies of workers that share places, the asks of a connection (link), and the bytes written to it.
+//! Also what a server that shares one board says at its end.
 //!
 //! | Item | What it is | Where |
 //! |---|---|---|
@@ -98,9 +98,9 @@ pub fn one_worker_is_many()
     ensures { (places workers : ℕ) (xs : List Exchange) → RunFits places xs → RunsBy workers places xs }
 {}
 
-/// What workers had beside each other, each with its own asks, stands in the order of the asks. It is then what many
-/// workers may reply, if each answered its own asks alone and in order, and all that was read is backed and stands in
-/// one order.
+/// The exchanges that workers had beside each other, each with its own asks, can stand in the order of the asks. It is
+/// then what many workers may reply, if each answered its own asks alone and in order, and all that was read is backed
+/// and stands in one order.
 pub fn workers_are_many()
     ensures interleave { (workers : ℕ) (asks : List (Asked ExactAsk)) (had : ℕ → List Exchange) →
         ((worker : ℕ) → map asked_in (had worker) ≡ asks_of_worker workers worker asks) →

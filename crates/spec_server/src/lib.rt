@@ -1,4 +1,4 @@
-//! The server: what a script asks, what one session replies, and what is written of it.
+//! The server: the asks of a script, the replies of one session, and the lines that are written of them.
 //!
 //! | Item | What it is | Where |
 //! |---|---|---|
@@ -101,7 +101,8 @@ pub fn last_answers_fit()
         AloneStep places old asked reads replied new → LastFits old.model old.last → LastFits new.model new.last }
 {}
 
-/// A session whose asks have usual models and edits that may be kept holds no model but a usual one that may be kept.
+/// Where the models that a session is asked to load are usual and may be kept, and its edits may be kept, each model
+/// that it holds is usual and may be kept.
 pub fn sessions_keep_models()
     ensures opening { IfSome opening.model IsUsualModel }
     ensures steps { (places : ℕ) (old new : State) (asked : ExactAsk) (reads : List ExactRead) (replied : ExactReply) →
@@ -116,7 +117,8 @@ pub fn certificates_are_accepted_back()
         IsModel m → MayAnswer m budget (outcome.Ended known cert basis pivots) → IsAcceptedBack m known cert }
 {}
 
-/// Each list of asks, whose models may be kept, has exchanges in which each session runs alone, with memory enough.
+/// For each list of asks whose models may be kept there are exchanges in which each session runs as one that is alone,
+/// with memory enough.
 pub fn asks_have_a_run()
     ensures { (places : ℕ) (asks : List (asked_of ExactAsk)) → AreKept asks →
         (xs : List Exchange) × (map asked_in xs ≡ asks) × RunAlone places xs

@@ -1,4 +1,4 @@
--- Which method the tableau of a basis is fit for, at a limit.
+-- Whether the tableau of a basis is primal or dual feasible, at a limit.
 use Rattle.std.specs.Prelude.{ℕ, zero, suc, Option, Some, None, Ok, Bool, true}
 use Rattle.std.specs.Prelude.{false, not, ◌&&◌, ◌||◌, option_map, if◌then◌else◌}
 use Rattle.std.specs.Ordering.{is_lt, is_gt}

@@ -1,4 +1,4 @@
--- The tableau that a form begins with, at a limit: each structural column stands at a bound, and a row's logical is
+-- The tableau that a form begins with, at a limit: each structural column is at a bound, and a row's logical is
 -- basic where its sum is then within the row's limits; else its artificial is, with the missing amount as its value.
 use Rattle.std.specs.Prelude.{ℕ, ◌+◌, ◌-◌, List, ◌++◌, map, replicate, get_or, Option, Some}
 use Rattle.std.specs.Prelude.{None, Ok, Bool, true, false, nat_lt, nat_eq, if◌then◌else◌}

@@ -99,7 +99,7 @@ pub enum StartStop<F: Debug> {
     Past(Past<F>),
 }
 
-/// The method that a tableau is fit for.
+/// Whether a tableau is primal feasible, dual feasible or neither.
 #[derive(Clone, Copy)]
 pub enum Fit {
     /// Each value is within its bounds.
@@ -145,7 +145,7 @@ pub enum DualChoice {
 pub enum WarmStop<F: Debug> {
     /// The basis has no tableau.
     Singular,
-    /// Its tableau is fit for neither method.
+    /// Its tableau is neither primal nor dual feasible.
     Unfit,
     /// The operation that is past the limit.
     Past(Past<F>),

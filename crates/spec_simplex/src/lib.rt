@@ -9,7 +9,7 @@
 //! | `choice_run`, `flip_run`, `pivot_run` | one step | specs/Step |
 //! | `run_from`, `phase_two_run`, `phases_run` | steps up to an end, within a budget; both phases | specs/Phases |
 //! | `IsBasisOf`, `eliminate_run`, `start_from` | a basis of a form, and the tableau of one | specs/Eliminate |
-//! | `leaving_run`, `fit_run` | the method that a tableau is fit for | specs/Fit |
+//! | `leaving_run`, `fit_run` | whether a tableau is primal feasible, dual feasible or neither | specs/Fit |
 //! | `flips_run`, `dual_choice_run` | what comes before the dual method, and one of its steps | specs/Dual |
 //! | `dual_pivot_run`, `dual_from`, `dual_run` | dual steps up to an end; the flips and then the steps | specs/Dual |
 //! | `IsTableauOf`, `IsMeant`, `Begins` | what the steps mean, as steps over functions of an index, with laws | src/path, specs/Tables, specs/Begins |

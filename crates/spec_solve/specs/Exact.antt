@@ -42,7 +42,7 @@ FitsLines (Unbounded x r) = All FitsLine x × All FitsLine r
 abbrev pub IsShown : Model → Known ℚ → Certificate (List ℚ) → Type 0
 IsShown m known certificate = IsFor m certificate × (check_run None m certificate ≡ Ok known) × FitsLines certificate
 
--- The certificate stands at the basis, which is one of the model's form, if the model has one.
+-- The certificate is that of the basis, which is one of the model's form, if the model has one.
 pub record IsBasisOfAnswer (m : Model) (certificate : Certificate (List ℚ)) (basis : List Status) : Type 0 where
   pub stands : IsOfBasis m basis certificate
   pub of_form : (f : Form) → form_of (Some number_limit) m ≡ Ok f → IsBasisOf f basis

@@ -1,6 +1,6 @@
 -- Certificates of bases.
 --
--- At a basis each column that is not basic stands at a bound, and each basic one has the reduced cost 0; a row's column is
+-- At a basis each column that is not basic is at a bound, and each basic one has the reduced cost 0; a row's column is
 -- the row's sum, whose bounds are the row's limits and whose reduced cost is the row's multiplier. Where the columns of the
 -- basis do not depend on each other, one point and one list of multipliers are so (Chvátal, chapters 7 and 8).
 use Rattle.std.specs.Prelude.{◌≡◌, ◌<◌, ◌+◌, ℕ, List, Some, None, Ok}

@@ -60,7 +60,7 @@ pub fn cold_parts_end_as_without_a_limit()
         (end ≡ cold None budget m) ⊎ ((p : Past ℚ) × (end ≡ outcome.Past p)) }
 {}
 
-/// What it ends with is true, and the checker accepts its certificate.
+/// What a cold run over one engine ends with is true, and the checker accepts its certificate.
 pub fn cold_parts_end_true()
     ensures { (limit : Option ℕ) (budget : ℕ) (m : Model) (known : Known ℚ) (cert : Certificate (List ℚ))
         (basis : Option (List Status)) (pivots : ℕ) →
@@ -68,7 +68,7 @@ pub fn cold_parts_end_true()
         Holds m known × IsFor m cert × (check_run limit m cert ≡ Ok known) }
 {}
 
-/// It gives up only where the run over factors does, and then as the solve over whole tableaus.
+/// The cold part gives up only where the run over factors does, and then ends as the solve over whole tableaus.
 pub fn both_cold_runs_give_up()
     ensures factors { (limit : Option ℕ) (budget : ℕ) (m : Model) (end : ExactSolveEnd) (f : Form) →
         form_of limit m ≡ Ok f → MayEndCold limit budget m end → GivesUp end → GivesUp (over_factors limit budget m f) }
@@ -163,7 +163,7 @@ pub fn exact_answers_agree()
         a.known ≡ b.known }
 {}
 
-/// An answer with a basis is an optimum at the point of its certificate, which stands at the basis.
+/// An answer with a basis is an optimum at the point of its certificate, which is that of the basis.
 pub fn exact_answers_of_bases_are_optimal()
     ensures { (m : Model) (budget : ℕ) (starting : Option (List Status)) (a : RationalAnswer) (basis : List Status) →
         IsExactEnd m budget starting (exact.Answered a) → a.basis ≡ Some basis →
