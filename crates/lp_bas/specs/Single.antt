@@ -1,4 +1,4 @@
--- A card without a row: a column stands at its upper bound, or where it does without a card.
+-- A card without a row: a column is at its upper bound, or where it does without a card.
 use Rattle.std.specs.Prelude.{ℕ, not, is_some, Ok}
 use Rattle.spec_model.specs.Model.{Model, Name}
 use Rattle.spec_model.specs.Kept.{column_place}

@@ -103,7 +103,7 @@ impl Marks {
         Ok(())
     }
 
-    // A column is basic, and a row stands at a limit.
+    // A column is basic, and a row is at a limit.
     #[tactic(auto, unfolding(spec_bas::specs::Steps::pair_step))]
     fn pair(
         &mut self,
@@ -133,7 +133,7 @@ impl Marks {
         Ok(())
     }
 
-    // A column stands at its upper bound, or where it does without a card.
+    // A column is at its upper bound, or where it does without a card.
     fn single(
         &mut self,
         model: &Model,

@@ -1,5 +1,5 @@
-//! The outside: where bytes come from and go to, counting faults, links and listeners, and the lines of what is read; and the
-//! list that contracts see as a plain one.
+//! The outside: sources and sinks of bytes, which count their faults; links and listeners. Also the lines of what is read,
+//! and the list type that contracts see as a plain list.
 //!
 //! | Item | What it is | Where |
 //! |---|---|---|

@@ -1,4 +1,4 @@
-//! Certificates as texts, and put to a model by names.
+//! Certificates as texts, and how one is matched to a model by names.
 //!
 //! | Item | What it is | Where |
 //! |---|---|---|

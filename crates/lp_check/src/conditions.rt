@@ -59,8 +59,8 @@ fn accepted(model: &Model, cert: &Certificate) -> Result<Known, CheckStop>
 /// bits. It takes no memory.
 ///
 /// The conditions of a certificate `Optimal`, in their order: 1, each column's value is within its
-/// bounds; 2, each row's sum is within its limits; 3, a column whose reduced cost is not 0 stands at
-/// the bound that its sign asks for; 4, a row whose multiplier is not 0 stands at the limit that its
+/// bounds; 2, each row's sum is within its limits; 3, a column whose reduced cost is not 0 is at
+/// the bound that its sign asks for; 4, a row whose multiplier is not 0 is at the limit that its
 /// sign asks for. Of `Infeasible`: 1, a row whose multiplier is not 0 has the limit that its sign
 /// asks for; 2, a column in which the multipliers' part is not 0 has the bound that its sign asks
 /// for; 3, the columns give less than the rows ask for. Of `Clash`: 1, the lower bound is above the

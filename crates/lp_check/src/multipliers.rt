@@ -34,7 +34,7 @@ fn reduced(model: &Model, y: &Fracs, j: u32) -> Result<Frac, CheckStop>
     Ok(rest)
 }
 
-// `value` stands at the column's bound that a reduced cost of this sign asks for.
+// `value` is at the column's bound that a reduced cost of this sign asks for.
 fn is_tight(column: &Column, reduced: Frac, value: Frac) -> bool
     ensures { result ≡ run.is_tight (bounds_of column.now) reduced value }
 {
@@ -58,7 +58,7 @@ fn column_tight(model: &Model, x: &Fracs, y: &Fracs, j: u32) -> Result<(), Check
     need(3, is_tight(model.col(j), reduced, part(x, j)))
 }
 
-// Each column's value stands at the bound that its reduced cost asks for.
+// Each column's value is at the bound that its reduced cost asks for.
 pub(crate) fn columns_tight(model: &Model, x: &Fracs, y: &Fracs) -> Result<(), CheckStop>
     requires point { length x.now ≡ width model.now }
     requires multipliers { length y.now ≡ height model.now }
@@ -92,7 +92,7 @@ fn row_tight(model: &Model, x: &Fracs, y: &Fracs, i: u32) -> Result<(), CheckSto
     need(4, stands_at(limit?, sum))
 }
 
-// Each row's sum stands at the limit that its multiplier asks for.
+// Each row's sum is at the limit that its multiplier asks for.
 pub(crate) fn rows_tight(model: &Model, x: &Fracs, y: &Fracs) -> Result<(), CheckStop>
     requires point { length x.now ≡ width model.now }
     requires multipliers { length y.now ≡ height model.now }

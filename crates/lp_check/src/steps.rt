@@ -65,7 +65,7 @@ pub(crate) fn need(n: u32, holds: bool) -> Result<(), CheckStop>
     if holds { Ok(()) } else { Err(CheckStop::No(n)) }
 }
 
-// The limit is there, and `v` stands at it.
+// The limit is there, and `v` is at it.
 pub(crate) fn stands_at(limit: Option<Frac>, v: Frac) -> bool
     ensures { result ≡ run.stands_at limit v }
 {

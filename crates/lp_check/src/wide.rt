@@ -7,9 +7,9 @@
 //! | `Ratios` | a certificate's list of numbers | src/wide/certificate |
 //! | `Verdict`, `Known` | what a check says, and what a certificate shows | src/wide/certificate |
 //! | `evaluated`, `reduced_costs`, `part` | the sums of all rows, the reduced costs of all columns, and a number of a list | src/wide/sums, src/wide/prices, src/wide/steps |
-//! | `limit_of`, `lower_limit`, `upper_limit`, `stands_at` | limits, and whether a number stands at one | src/wide/limits, src/wide/steps |
+//! | `limit_of`, `lower_limit`, `upper_limit`, `stands_at` | limits, and whether a number is at one | src/wide/limits, src/wide/steps |
 //!
-//! The model's numbers are narrow. Nothing is refused but for want of memory, so a verdict is never `Past`. That an
+//! The model's numbers are narrow. Nothing is refused unless memory runs out, so a verdict is never `Past`. That an
 //! accepted certificate is true, and a true one accepted, are laws of `spec_check` about what the contract names. Each list is
 //! taken as many times as its common denominator, if it has a short one, and the entries are gone over once for the sums of all
 //! rows, and once for the reduced costs of all columns.

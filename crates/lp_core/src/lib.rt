@@ -1,4 +1,4 @@
-//! The pure server: sessions whose acts come in any order, each act at once, over one list of places.
+//! The pure server: sessions over one list of places. Their acts come in any order, and each act is done in one step.
 //!
 //! | Item | What it is | Where |
 //! |---|---|---|

@@ -86,7 +86,7 @@ impl Seat {
         }
     }
 
-    /// It does what the act says.
+    /// Performs the act on the sessions and the places.
     pub fn act(
         &mut self,
         alloc: Global,

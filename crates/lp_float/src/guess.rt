@@ -81,7 +81,7 @@ fn fitted_end(
 ///
 /// The effort is bounded: a run takes at most 1,000 steps and 20 more for each column and row, and fewer where these many
 /// steps times the columns and rows are past 30,000,000,000. As often at most, in each of its parts, a step is tried anew
-/// with new factors. Only want of memory is an error.
+/// with new factors. Its only error is to be out of memory.
 pub fn float_end(
     alloc: Global,
     model: &Model,

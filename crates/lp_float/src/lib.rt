@@ -1,4 +1,4 @@
-//! A guess of how a linear program is solved: the simplex method in floats, with sparse factors.
+//! The float run: the simplex method in floats, with sparse factors, of which nothing is claimed.
 //!
 //! | Item | What it is | Where |
 //! |---|---|---|

@@ -341,7 +341,7 @@ fn end_of(
 
 /// The end of a run of the simplex method in floats, if it has one. It begins at the basis of the given statuses, which is
 /// mended where it is none. Costs are moved apart at first, and reduced costs made right. A run takes at most `effort` steps,
-/// and as many tries in each part. Only want of memory is an error.
+/// and as many tries in each part. Its only error is to be out of memory.
 pub(crate) fn run(
     alloc: Global,
     program: &Program,

@@ -68,7 +68,7 @@ pub fn abs(v: Frac) -> Frac
     if v.top() < 0 { neg(v) } else { v }
 }
 
-/// How `v` stands to 0.
+/// Compares `v` with 0.
 pub fn sign(v: Frac) -> Ordering
     ensures { result ≡ sign_of v }
 {

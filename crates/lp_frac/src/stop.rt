@@ -7,7 +7,7 @@ use std::alloc::AllocError;
 use std::fmt::{Debug, Display};
 use thiserror::Error;
 
-/// Why something is not made: for a cause of its own, for an operation that is refused, or for want of memory.
+/// Why something is not made: for a cause of its own, for an operation that overflows, or since memory ran out.
 #[derive(Clone, Copy, Debug, Error)]
 #[error_bound(C: Debug + Display)]
 pub enum Stop<C> {

@@ -409,7 +409,7 @@ fn answer_from(
 /// The first step is tried at the column `witness`, if one is named by which there is likely no optimum: a basic one that
 /// nothing brings within its bounds, or another one that nothing stops.
 ///
-/// Nothing is claimed of what the certificate shows: that is for the checker. Only want of memory is an error.
+/// Nothing is claimed of what the certificate shows: that is for the checker. Its only error is to be out of memory.
 pub fn answer_of_basis(
     alloc: Global,
     model: &Model,

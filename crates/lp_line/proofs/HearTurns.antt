@@ -159,7 +159,7 @@ pub hears_as : {R : Type 0} (Say : List (Line (List ℕ)) → Option R →
 hears_as {R} Say before after old new result other same h =
     subst (λ (r : Result (Heard R) LineStop). HearsNext Say before after old new r) (sym same) h
 
--- want of memory, and what is heard, are no fault of the source
+-- that memory runs out, and what is heard, is no fault of the source
 pub memory_no_fault : {R P : Type 0} (result : Result R LineStop) → result ≡ Err stop.NoMemory →
     result ≡ Err stop.Read → P
 memory_no_fault {R} result e h = absurd (differ (sym e ∙ h))

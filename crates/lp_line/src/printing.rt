@@ -137,7 +137,7 @@ pub fn print(
     to.extend(lines.as_slice())
 }
 
-/// Writes the line of what the commands `check` and `solve` say after what is there, all of it or none.
+/// Appends the line that the commands `check` and `solve` end with. Where memory runs out, `to` stays as it was.
 #[tactic(auto, unfolding(spec_server::specs::Output::check_line))]
 pub fn print_said(alloc: Global, reply: &Reply, to: &mut Bytes) -> Result<(), AllocError>
     ensures ok { OnOk result (to.new ≡ to.old ++ output.check_line reply.now) }

@@ -11,7 +11,7 @@ use lp_model::{Column, Model};
 use lp_ratio::Ratio;
 use std::alloc::{AllocError, Global};
 
-// `value` stands at the column's bound that a reduced cost of this sign asks for.
+// `value` is at the column's bound that a reduced cost of this sign asks for.
 fn is_tight(
     alloc: Global,
     column: &Column,
@@ -47,7 +47,7 @@ fn column_tight(
     Ok(tight)
 }
 
-// Each column's value stands at the bound that its reduced cost asks for.
+// Each column's value is at the bound that its reduced cost asks for.
 pub(crate) fn columns_tight(
     alloc: Global,
     model: &Model,
@@ -92,7 +92,7 @@ fn row_tight(
     }
 }
 
-// Each row's sum stands at the limit that its multiplier asks for.
+// Each row's sum is at the limit that its multiplier asks for.
 pub(crate) fn rows_tight(
     alloc: Global,
     model: &Model,

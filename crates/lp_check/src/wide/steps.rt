@@ -59,7 +59,7 @@ pub(crate) fn is_at_most(alloc: Global, limit: Option<Ratio>, v: &Ratio) -> Resu
     }
 }
 
-/// The limit is there, and `v` stands at it.
+/// The limit is there, and `v` is at it.
 pub fn stands_at(alloc: Global, limit: Option<Ratio>, v: &Ratio) -> Result<bool, AllocError>
     ensures { IfOk result (λ b. b ≡ run.stands_at limit v.now) }
 {

@@ -98,7 +98,7 @@ fn all_divided(alloc: Global, list: &[Ratio], by: &Natural) -> Result<Ratios, Al
     Ok(Items::from_vec(out))
 }
 
-/// What a list of a number for each column comes to, by one walk over the entries of the model.
+/// The sums of the rows and the cost at a point, which has a number for each column, by one walk over the entries.
 pub fn evaluated(alloc: Global, model: &Model, z: &Ratios) -> Result<Evaluation, AllocError>
     requires { length z.now ≡ width model.now }
     ensures sums { IfOk result (λ e. AreSums model.now z.now e.sums) }
