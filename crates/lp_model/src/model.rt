@@ -137,7 +137,7 @@ impl Model {
         &self.objective
     }
 
-    /// What the objective has at the point 0.
+    /// The value of the objective at the point 0.
     pub fn offset(&self) -> Frac
         ensures { result ≡ self.now.offset }
     {

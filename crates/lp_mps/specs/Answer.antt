@@ -1,4 +1,4 @@
--- What steps answer. Want of memory says nothing.
+-- What steps answer. Where memory runs out nothing is said.
 use Rattle.std.specs.Prelude.{◌≡◌, Result, Ok, Err}
 use Rattle.std.specs.Bool.{⊤}
 use Rattle.lp_mps.specs.declared.card.fault.CardFault.{CardFault}

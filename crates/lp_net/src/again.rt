@@ -38,7 +38,7 @@ pub fn write_again<W: Write>(to: &mut W, piece: &[u8]) -> Result<usize, Failed>
     Err(Failed)
 }
 
-/// The same result, once its fault is counted.
+/// The same result, after its fault was counted.
 pub fn counted(did: Result<usize, Failed>, faults: &mut u64) -> Result<usize, Failed>
     ensures same { result ≡ did }
     ensures cause { HasCause faults.old faults.new result }

@@ -1,4 +1,4 @@
-//! Links over TCP.
+//! Connections (links) over TCP.
 //!
 //! | Item | What it is | Where |
 //! |---|---|---|

@@ -37,7 +37,7 @@ pub(crate) struct LinkLine {
 }
 
 impl LinkLine {
-    /// Of a link that ends now, by the number of its worker and its own with that worker.
+    /// The record of a link that ends now, by its worker's number and its own number with that worker.
     pub fn of<R: Clock>(
         rt: &R,
         worker: u32,

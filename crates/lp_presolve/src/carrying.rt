@@ -154,7 +154,7 @@ fn over_empty(row: u32, certificate: Certificate) -> Result<Certificate, AllocEr
     }
 }
 
-// Over a column that stands at `value`.
+// Over a column that is at `value`.
 fn over_fixed(column: u32, value: Frac, certificate: Certificate) -> Result<Certificate, AllocError>
     requires { clash_of certificate + 1 < 2 ^ 32 }
     ensures { IfOk result (λ c. c ≡ carry.over_fixed column value certificate) }

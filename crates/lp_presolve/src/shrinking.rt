@@ -40,7 +40,7 @@ fn without_single(model: &mut Model, i: u32, j: u32, lower: Option<Frac>, upper:
     model.remove_row(i);
 }
 
-// The right sides less what column `j` adds to the rows where it stands at `value`.
+// The right sides less what column `j` adds to the rows where it is at `value`.
 fn shift(model: &mut Model, j: u32, value: Frac) -> Result<(), Past>
     requires { j < width model.old }
     ensures ok { OnOk result (reduce.shifted (Some number_limit) model.old j value ≡ Ok model.new) }
@@ -53,7 +53,7 @@ fn shift(model: &mut Model, j: u32, value: Frac) -> Result<(), Past>
     Ok(())
 }
 
-// Column `j` goes, which stands at `value`.
+// Column `j` goes, which is at `value`.
 fn without_fixed(model: &mut Model, j: u32, value: Frac) -> Result<(), Past>
     requires { j < width model.old }
     ensures ok { OnOk result (reduce.after (Some number_limit) model.old (Fixed j value) ≡ Ok model.new) }

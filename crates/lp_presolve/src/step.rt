@@ -22,7 +22,7 @@ pub struct Step {
 /// Reductions in their order.
 pub type Steps = Items<Step>;
 
-/// What is kept of a reduction that leads to the model.
+/// The record of one reduction step, for carrying a certificate back.
 pub fn step_of(alloc: Global, model: &Model, reduction: Reduction) -> Result<Step, AllocError>
     requires { HasColumn reduction model.now }
     ensures { IfOk result (λ step. step ≡ kept reduction model.now) }

@@ -1,5 +1,5 @@
 -- The tableau of a basis that keeps a model has the model's size, and each basic column has a position; and what
--- stops its range but want of memory is a refusal.
+-- stops its range is a refusal, unless memory ran out.
 use Rattle.std.proofs.Common.{◌≡◌, ℕ, List, Option, None, Ok, arith}
 use Rattle.spec_model.specs.Model.{Model, width, height}
 use Rattle.spec_pivot.specs.declared.status.Status.{Status}

@@ -27,7 +27,7 @@ pub(crate) fn less_part(v: Frac, w: Frac, s: Frac) -> Result<Frac, Past>
     less_product(v, w, s)
 }
 
-/// The same of each fraction of a list as `narrow` of one.
+/// `narrow` for each fraction of a list.
 pub fn tell_narrow(v: &Fracs)
     ensures { All IsNarrow v.now }
 {

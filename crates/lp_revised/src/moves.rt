@@ -56,7 +56,7 @@ impl Revised {
         Ok(())
     }
 
-    // Column `col` stands at the bound `to`.
+    // Column `col` is at the bound `to`.
     fn put_at(&mut self, col: u32, to: Status)
         requires { col < all_columns self.old.bare }
         ensures { self.new ≡ record self.old { bare = flipped self.old.bare col to self.old.bare.value } }

@@ -1,4 +1,4 @@
--- The tableau of a basis whose values are within their bounds is fit for the primal method, and reached.
+-- The tableau of a basis whose values are within their bounds is primal feasible, and reached.
 use Rattle.std.proofs.Common.{◌≡◌, ℕ, ◌+◌, ◌*◌, ◌<◌, ◌⊎◌, ⊎_elim, List, get_or, ℤ, pos, ◌*ℤ◌, int_cmp, Option, Some, None, IfSome, Ok, Err}
 use Rattle.std.proofs.Common.{Ordering, Bool, true, false, refl, sym, ap, ap₂, subst, subst₂, ◌∙◌, arith}
 use Rattle.std.specs.declared.cmp.Ordering.TheVariants.{Less, Equal, Greater}

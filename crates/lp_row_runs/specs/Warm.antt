@@ -24,7 +24,7 @@ pub record EndsFromBasis (budget : ℕ) (f : Form) (from : List Status) (e : Row
   pub basis : e.basis ≡ warm_basis end
   pub pivots : e.pivots ≡ warm_pivots end
 
--- the run stands at the tableau of the basis, which is fit for the primal method
+-- the run begins with the tableau of the basis, which is primal feasible
 pub record StandsAtBasis {T : Type 0} (value : T → ℕ) (f : Form) (basis : List Status) (s : State T) : Type 0 where
   pub tableau : Tableau
   pub starts : start_from None f basis ≡ Ok tableau

@@ -1,4 +1,4 @@
-// Whether the tableau of a basis is fit for the primal method.
+// Whether the tableau of a basis is primal feasible.
 ghost use Rattle.std.specs.Prelude.{◌≡◌, ◌<◌, ◌*◌, ℕ, IfSome, IsTrue, Ok, None};
 ghost use Rattle.spec_exact.specs.Fraction.{over, ◌≤ℚ◌};
 ghost use Rattle.spec_pivot.specs.Simplex.{IsInside};

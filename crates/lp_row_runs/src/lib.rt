@@ -1,4 +1,4 @@
-//! Runs over rows of whole numbers, cold and from a basis, in words of 64 bits, and in wider ones where a number does
+//! Runs on the integer-row tableau, cold and from a basis, in words of 64 bits, and in wider ones where a number does
 //! not fit. These have 128 and 256 bits, and then up to 512, 1,024 and 2,048. The cold run goes on from where it
 //! stands. The run from a basis, which solves the form's equations for the columns of the basis, begins anew.
 //!

@@ -19,7 +19,7 @@ const WORK: u64 = 64_000_000_000;
 /// solved for the basic columns. Where each of these is within its bounds, phase two goes on from there.
 ///
 /// For the form of a model it ends as the stated run with no limit on numbers, or has no end: where the basis is
-/// singular or not fit for the primal method, where a number of a row is past 2,048 bits, or where the budget is spent,
+/// singular or not primal feasible, where a number of a row is past 2,048 bits, or where the budget is spent,
 /// or a bound on the work. Which of these it is, is not said, and nothing is promised of when the latter come. Only want
 /// of memory is an error.
 pub fn wide_warm(

@@ -59,7 +59,7 @@ pub record IsReached (t : Tableau) : Type 0 where
   pub within : IsWithinBounds t.rows t.cols bounds t
 
 -- The rows are those of the tableau, as far as they are kept: artificial columns have neither entries nor reduced
--- costs. A column that is not basic stands at its bound.
+-- costs. A column that is not basic is at its bound.
 pub record Shows {T : Type 0} (value : T → ℕ) (r : RowTableau T) (t : Tableau) : Type 0 where
   pub rows : height r ≡ t.rows
   pub cols : r.cols ≡ t.cols

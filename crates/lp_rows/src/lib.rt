@@ -1,4 +1,4 @@
-//! Rows of whole numbers on a common denominator.
+//! The integer-row tableau: rows of integers over one denominator each.
 //!
 //! | Item | What it is | Where |
 //! |---|---|---|

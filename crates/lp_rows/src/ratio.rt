@@ -131,9 +131,10 @@ fn gap_to<T: Words>(
     }
 }
 
-/// How far a basic column may go, which rises (`Less`), stands or falls, if a bound stops it. `value` is on the row's
-/// denominator times that of all bounds, `lower` and `upper` are on the latter. There is none where a number is past
-/// the width.
+/// The gap between the value of a basic column and the bound toward which it moves: its upper bound where it rises
+/// (`Less`), its lower bound where it falls (`Greater`). There is no gap where it stays, or has no such bound. `value` is
+/// over the row's denominator times that of all bounds; `lower` and `upper` are over the latter. There is no answer where
+/// a number is past the width.
 pub fn gap_for<T: Words>(
     goes: Ordering,
     lower: Option<Signed<T>>,

@@ -9,7 +9,7 @@
 //! | `RowTableau` | a tableau over rows of whole numbers | src/tableau/tableau |
 //! | `Step`, `next_step` | what a step of the primal method does; that of a tableau, by the ratio test of src/tableau/ratio | src/tableau/choice |
 //! | `make` | the flip or the pivot of a step, over src/tableau/moves: what it does to rows | src/tableau/pivot |
-//! | `is_roomy` | a guess whether a step will stay within the width | src/tableau/room |
+//! | `is_roomy` | an estimate whether a step will stay within the width | src/tableau/room |
 //! | `from_tableau` | the rows of a tableau of fractions | src/tableau/convert |
 //! | `widened` | the same rows in words of another width | src/tableau/widen |
 //! | `wants_phase_one`, `is_stuck`, `phase_two` | what the phases ask, and the reduced costs of the second | src/tableau/phases |

@@ -99,7 +99,7 @@ module _ {before after : Option (List ℕ)} {lines : List (Line (List ℕ))} whe
     refl,
   )
 
-  -- for want of memory
+  -- where memory runs out
   pub given_up_first : ReadsUntil before after at_start lines (Err NoMemory) →
       ReadsFirst before after (asks_of_lines lines)
   given_up_first u = (stopped_first NoMemory u u.gives.gives.live).0

@@ -1,4 +1,4 @@
-//! Sessions over links: one link after the other by each worker, and all over one board.
+//! Sessions over connections: each worker serves one after the other, and all share one board.
 //!
 //! | Item | What it is | Where |
 //! |---|---|---|

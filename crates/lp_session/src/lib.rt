@@ -1,4 +1,4 @@
-//! Sessions: each holds a model, solves it, and replies to what it is asked. They share bases.
+//! Sessions: each holds a model, solves it, and replies to commands. They share bases.
 //!
 //! | Item | What it is | Where |
 //! |---|---|---|

@@ -1,4 +1,4 @@
--- The tableau of a basis that is fit for the dual method may be run.
+-- The tableau of a dual feasible basis may be run.
 use Rattle.std.proofs.Common.{◌≡◌, ℕ, ◌<◌, Option, Ok, Bool, true, false, not, ◌&&◌, ◌||◌, sym, subst₂}
 use Rattle.spec_exact.specs.Fraction.{ℚ}
 use Rattle.spec_pivot.specs.declared.status.Status.TheVariants.{Basic}

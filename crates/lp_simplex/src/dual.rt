@@ -1,11 +1,11 @@
-//! The dual simplex method on a tableau of 127 bits, and which method a tableau is fit for.
+//! The dual simplex method on a tableau of 127 bits, and whether a tableau is primal or dual feasible.
 //!
 //! | Item | What it is | Where |
 //! |---|---|---|
-//! | `fit` | the method that a tableau is fit for | src/dual/needs |
+//! | `fit` | whether a tableau is primal or dual feasible | src/dual/needs |
 //! | `run` | flips that give each reduced cost its sign, and then dual steps up to an end | src/dual/steps |
 //! | `Fit`, `DualEnd` | what they answer | `spec_simplex`, `spec_simplex` |
-//! | `fit_tableaus_can_run` | that what is fit for the dual method may be run by it | here |
+//! | `fit_tableaus_can_run` | that a dual feasible tableau may be run | here |
 //!
 //! Each is exactly spec_simplex's `fit_run` or `dual_run`, up to the operation that is past 127 bits and
 //! the budget that is spent. They take no memory.
@@ -31,7 +31,7 @@ pub use needs::fit;
 pub use spec_simplex::{DualEnd, Fit};
 pub use steps::run;
 
-/// The tableau of a basis that is fit for the dual method is one that `run` takes.
+/// `run` takes the tableau of a dual feasible basis.
 pub fn fit_tableaus_can_run()
     ensures { (limit : Option ℕ) (m n : ℕ) (f : Matrix) (cost : ℕ → ℚ) (b : Bounds) (t : Tableau) →
         IsBased m n f cost b t → fit_run limit t ≡ Ok Dual → IsDualStart t }

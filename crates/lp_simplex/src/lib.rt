@@ -3,7 +3,7 @@
 //! | Item | What it is | Where |
 //! |---|---|---|
 //! | `primal` | the primal run, with the tests of one column and of one position that other methods use too | src/primal |
-//! | `dual` | which method a tableau is fit for, and the dual run | src/dual |
+//! | `dual` | whether a tableau is primal or dual feasible, and the dual run | src/dual |
 //!
 //! Each run takes steps up to an end, the first operation that is past 127 bits, or a spent budget. They take no memory.
 #![tactic(auto)]

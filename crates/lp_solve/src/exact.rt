@@ -169,7 +169,7 @@ fn by_runs(
     }
 }
 
-// The answer that is guessed: that of the starting basis or of one a few steps on, or that of a run in floats.
+// The answer of an unproved engine: that of the starting basis or of one a few steps on, or that of a float run.
 fn guessed(
     alloc: Global,
     model: &Model,

@@ -1,4 +1,4 @@
-// Answers by certificates that are guessed, or that runs without a limit end with: each is checked.
+// Answers by certificates of unproved engines, or of runs without a limit: each is checked.
 ghost use Rattle.std.specs.Prelude.{◌≡◌, IfOk, IfSome, IsTrue, Ok, Some};
 ghost use Rattle.spec_exact.specs.Narrow.{number_limit};
 ghost use Rattle.spec_check.specs.Certificate.{IsFor};
@@ -80,7 +80,7 @@ fn answered(
     }
 }
 
-// Whether the certificate stands at the basis.
+// Whether the certificate is that of the basis: nonbasic columns and rows at their bounds, basic ones with reduced cost 0.
 fn is_at_basis(
     alloc: Global,
     model: &Model,
@@ -97,7 +97,7 @@ fn is_at_basis(
     }
 }
 
-/// The basis of an end, if the certificate stands at it.
+/// The basis of an end, if the certificate is that of the basis.
 pub(crate) fn basis_of_answer(
     alloc: Global,
     model: &Model,
@@ -121,7 +121,7 @@ pub(crate) fn basis_of_answer(
     }
 }
 
-// The basis with these statuses, if it is one of the form, and the certificate stands at it.
+// The basis with these statuses, if it is one of the form, and the certificate is that of the basis.
 fn based_at(
     alloc: Global,
     model: &Model,

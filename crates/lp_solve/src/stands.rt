@@ -127,7 +127,7 @@ fn rows_stand(
     Ok(true)
 }
 
-/// Whether each column that is not basic stands at its bound, a basic one has the reduced cost 0, and the rows so, by one
+/// Whether each column that is not basic is at its bound, a basic one has the reduced cost 0, and the rows so, by one
 /// walk over the model's entries for all reduced costs and one for all sums.
 pub(crate) fn stand_at_basis(
     alloc: Global,

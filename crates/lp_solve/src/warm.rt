@@ -63,7 +63,7 @@ fn checked_warm(model: &Model, certificate: Certificate, basis: Option<Basis>, p
     }
 }
 
-// The primal method from a tableau that is fit for it.
+// The primal method from a primal feasible tableau.
 fn by_primal(
     alloc: Global,
     budget: u64,
@@ -89,7 +89,7 @@ fn by_primal(
     }
 }
 
-// The dual method from a tableau that is fit for it.
+// The dual method from a dual feasible tableau.
 fn by_dual(
     alloc: Global,
     budget: u64,
@@ -115,7 +115,7 @@ fn by_dual(
     }
 }
 
-// The method that the tableau of the basis is fit for, and the check of the certificate that this ended with.
+// The method that suits the tableau of the basis, and the check of the certificate that this ended with.
 fn from_tableau(
     alloc: Global,
     budget: u64,
@@ -138,7 +138,7 @@ fn from_tableau(
     }
 }
 
-/// The tableau of the basis, the method that it is fit for, and the check of the certificate that this ended with.
+/// The tableau of the basis, the method that suits it, and the check of the certificate that this ended with.
 pub(crate) fn from_basis(
     alloc: Global,
     budget: u64,

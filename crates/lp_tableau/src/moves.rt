@@ -94,7 +94,7 @@ impl Tableau {
         Ok(())
     }
 
-    // Column `col` stands at the bound `to`.
+    // Column `col` is at the bound `to`.
     pub(crate) fn put_at(&mut self, col: u32, to: Status)
         requires { col < all_columns self.old }
         ensures { self.new ≡ flipped self.old col to self.old.value }

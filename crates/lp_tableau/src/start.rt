@@ -408,7 +408,7 @@ fn priced(
     }
 }
 
-/// How all rows begin, in order, with each structural column at its first place.
+/// The start of each row, in order, where each structural column is at its first bound.
 pub fn starts(alloc: Global, form: &Form) -> Result<Vec<RowStart>, ColdStop>
     ensures ok { IfOk result (λ v. list_run form.now.rows (starting.row_start (Some number_limit) form.now) ≡ Ok
         v.items) }
@@ -420,7 +420,7 @@ pub fn starts(alloc: Global, form: &Form) -> Result<Vec<RowStart>, ColdStop>
 
 /// The tableau that the form begins with, with the reduced costs of phase one.
 ///
-/// Each structural column stands at its lower bound, else at its upper one, else at 0. Row by row,
+/// Each structural column is at its lower bound, else at its upper one, else at 0. Row by row,
 /// the logical is basic where its row's sum is then within the row's limits; else the logical stands
 /// at the limit that is missed, and the row's artificial is basic with the missing amount as its value.
 pub fn start_cold(alloc: Global, form: &Form) -> Result<Tableau, ColdStop>

@@ -1,5 +1,5 @@
-//! Tests of crates below, of what no program or case runs. Each stands here and not beside what it tests, since a crate
-//! with tests is proved a second time with them.
+//! Tests of the crates below, for behaviour that no program or case runs. Each stands here and not beside what it tests,
+//! since a crate with tests is proved a second time with them.
 //!
 //! | Item | What it tests | Where |
 //! |---|---|---|

@@ -138,7 +138,7 @@ fn bases_with_columns_too_many_or_too_few(rt: HostRuntime) -> Result<(), Fail> {
         Case::new(WIDE, "BBBB", 9, WIDE_VALUE),
         Case::new(WIDE, "BLLL", 9, WIDE_VALUE),
         Case::new(WIDE, "LLLL", 9, WIDE_VALUE),
-        // Statuses are missing, one is behind the last column, and columns stand at bounds that they do not have.
+        // Statuses are missing, one is behind the last column, and columns are at bounds that they do not have.
         Case::new(WIDE, "BB", 0, WIDE_VALUE),
         Case::new(WIDE, "BBLLB", 0, WIDE_VALUE),
         Case::new(WIDE, "UZBU", 9, WIDE_VALUE),

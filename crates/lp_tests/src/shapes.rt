@@ -12,7 +12,7 @@ fn other_words_and_shapes_are_told_apart(rt: HostRuntime) {
     words[48] = 1 << 63;
     assert!(rt; !well_formed(&words));
     words[48] = 0;
-    // No column is basic where one has to be, and then a column stands at a bound that it does not have.
+    // No column is basic where one has to be, and then a column is at a bound that it does not have.
     words[25] = 5;
     assert!(rt; !well_formed(&words));
     words[25] = 8;

@@ -86,7 +86,7 @@ impl Fields {
         self.items.as_slice()
     }
 
-    /// What stands in a field; no bytes where it is absent.
+    /// The bytes of a field; none where it is absent.
     pub fn text_at(&self, number: u32) -> &[u8]
         ensures { result.now ≡ card_field.text_at number self.now }
     {

@@ -1,4 +1,4 @@
-// Which method a tableau is fit for.
+// Whether a tableau is primal or dual feasible.
 ghost use Rattle.std.specs.Prelude.{◌≡◌, ◌<◌, Some};
 ghost use Rattle.spec_exact.specs.Fraction.{0ℚ, eq_ℚ};
 ghost use Rattle.spec_exact.specs.Narrow.{number_limit};

@@ -51,7 +51,7 @@ fn steps(tab: &mut Tableau, used: &mut u64, budget: u64) -> Result<DualEnd, RunS
 /// an operation is past 127 bits, and `Spent` where `budget` flips and pivots were made. `used` counts them. After
 /// `Past` the tableau is spent.
 ///
-/// `IsDualStart` holds of the tableau of a basis that is fit for the dual method.
+/// `IsDualStart` holds of the tableau of a dual feasible basis.
 #[tactic(auto, unfolding(spec_simplex::specs::Dual::dual_run))]
 pub fn run(tab: &mut Tableau, used: &mut u64, budget: u64) -> Result<DualEnd, RunStop>
     requires none_used { used.old ≡ 0 }

@@ -12,7 +12,7 @@ use spec_simplex::Entering;
 /// What a step does.
 pub type Choice = spec_simplex::Choice<Frac>;
 
-/// What is done with the column that enters, where this is the least ratio.
+/// The step that the entering column takes, where this is the least ratio.
 pub fn chosen(e: Entering, best: Option<Best>) -> Choice
     ensures { result ≡ choice_by e best }
 {

@@ -96,7 +96,7 @@ pub struct Position {
     pub value: Frac,
 }
 
-/// The best so far, with one position, where the entering column rises (`up`) or falls.
+/// The best ratio so far after one more position, where the entering column rises (`up`) or falls.
 #[inline(always)]
 pub fn best_at(up: bool, at: Position, best: Option<Best>) -> Result<Option<Best>, Past>
     ensures { result ≡ best_at_of up at.place at.col at.entry at.lower at.upper at.value best }
