@@ -29,7 +29,7 @@ pub const COMMANDS: [(&str, &str); 9] = [
     ),
     (
         "serve ADDRESS",
-        "Listen at this TCP address, and serve a session on each link",
+        "Listen at this TCP address, and serve a session on each connection",
     ),
 ];
 
@@ -75,7 +75,7 @@ const STATUSES: &str = "Statuses:
   4  standard output could not be written
   5  out of memory
   6  standard input ended inside a body
-  7  a server cannot listen, or a link could not be accepted
+  7  a server cannot listen, or could not accept a connection
   8  standard input is longer than 67,108,864 bytes
   9  the text was refused
 
