@@ -9,9 +9,9 @@ use Rattle.spec_exact.proofs.Stops.{made_more}
 use Rattle.spec_simplex.specs.Tableau.{is_basic}
 use Rattle.spec_simplex.specs.Eliminate.{basics_below}
 use Rattle.spec_board.specs.Words.{word_from, columns_of, rows_of, status_at, unpacked}
-use Rattle.spec_board.proofs.Bases.{unpacked_at}
+use Rattle.spec_board.proofs.PackedBases.{unpacked_at}
 use Rattle.spec_board.proofs.Digits.{word_fits}
-use Rattle.spec_board.proofs.Places.{form_small, basis_small}
+use Rattle.spec_board.proofs.PackedPlaces.{form_small, basis_small}
 use Rattle.lp_form.specs.Count.{basics}
 use Rattle.lp_form.proofs.Counted.{basics_made}
 use Rattle.lp_form.specs.Coded.{code_of}

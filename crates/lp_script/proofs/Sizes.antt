@@ -5,7 +5,7 @@ use Rattle.spec_check.specs.declared.certificate.Known.TheVariants as known
 use Rattle.spec_simplex.specs.Form.{Form}
 use Rattle.spec_check.specs.declared.solve_end.SolveEnd.TheVariants.{Ended, Past, Spent}
 use Rattle.spec_runs.specs.Cold.{ExactSolveEnd}
-use Rattle.spec_board.proofs.Places.{packed_length}
+use Rattle.spec_board.proofs.PackedPlaces.{packed_length}
 use Rattle.spec_board.specs.declared.read.Put.{Put}
 use Rattle.spec_board.specs.declared.read.Put.TheVariants.{Published, Full, Raced}
 use Rattle.spec_board.specs.declared.read.Read.TheVariants.{Count, NotDone, Seen, Claim, Lost, Done}

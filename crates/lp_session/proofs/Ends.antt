@@ -10,7 +10,7 @@ use Rattle.spec_runs.specs.Cold.{ExactSolveEnd}
 use Rattle.spec_runs.specs.Solve.{SolveEnd}
 use Rattle.spec_solve.specs.Answers.{MayAnswer, IsSolved}
 use Rattle.spec_board.specs.Words.{IsWellFormed, packed, unpacked}
-use Rattle.spec_board.proofs.Bases.{packed_fits, unpacked_fits}
+use Rattle.spec_board.proofs.PackedBases.{packed_fits, unpacked_fits}
 use Rattle.spec_board.specs.declared.read.Found.{Found}
 use Rattle.spec_board.specs.Reads.{Words, Looked}
 use Rattle.spec_server.specs.Step.{handed_by, words_of_end}

@@ -9,8 +9,8 @@ use Rattle.spec_simplex.specs.Form.{Form, IsForm}
 use Rattle.spec_board.specs.Words.{status_code, status_of, code_at, basis_code}
 use Rattle.spec_board.specs.Words.{shape_of, packed, unpacked, columns_of, IsWellFormed}
 use Rattle.spec_board.proofs.Digits.{next_power}
-use Rattle.spec_board.proofs.Places.{packed_length, front_word, basis_bits, basis_unused, packed_small}
-use Rattle.spec_board.proofs.Bases.{unpacked_length, unpacked_at, same_word}
+use Rattle.spec_board.proofs.PackedPlaces.{packed_length, front_word, basis_bits, basis_unused, packed_small}
+use Rattle.spec_board.proofs.PackedBases.{unpacked_length, unpacked_at, same_word}
 
 -- ---- words with the same bits are the same
 digit_after : (v k : ℕ) → v / 2 ^ (2 * suc k) % 4 ≡ v / 4 / 2 ^ (2 * k) % 4

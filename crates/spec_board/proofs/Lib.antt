@@ -1,5 +1,5 @@
 pub mod Digits
-pub mod Places
-pub mod Bases
+pub mod PackedPlaces
+pub mod PackedBases
 pub mod Back
 pub mod SharedPlaces

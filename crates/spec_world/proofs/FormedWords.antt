@@ -14,7 +14,7 @@ use Rattle.spec_check.specs.declared.solve_end.SolveEnd.TheVariants.{Ended, Past
 use Rattle.spec_runs.specs.Cold.{ExactSolveEnd}
 use Rattle.spec_solve.proofs.Left.{solved_left}
 use Rattle.spec_board.specs.Words.{shape_of, packed, IsWellFormed}
-use Rattle.spec_board.proofs.Bases.{packed_fits, unpacked_fits}
+use Rattle.spec_board.proofs.PackedBases.{packed_fits, unpacked_fits}
 use Rattle.spec_board.specs.declared.read.Read.TheVariants as read
 use Rattle.spec_board.specs.Reads.{Words, ExactRead, Looked, front, has_shape, SeenBy, SeesDown, LookReads}
 use Rattle.spec_server.specs.declared.asks.Reply.TheVariants as reply

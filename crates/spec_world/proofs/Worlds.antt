@@ -4,7 +4,7 @@ use Rattle.std.proofs.Common.{◌∙◌, subst, ◌⊎◌, inl, inr, nat_eq, eqb
 use Rattle.std.proofs.lemmas.Bool.{eqb-false, eq-eqb, ne_eqb}
 use Rattle.std.proofs.lemmas.List.{append-nil}
 use Rattle.std.proofs.lemmas.Grind.{flat_map-append}
-use Rattle.spec_board.proofs.Places.{packed_length}
+use Rattle.spec_board.proofs.PackedPlaces.{packed_length}
 use Rattle.spec_board.specs.declared.place.Place.TheVariants as place
 use Rattle.spec_board.specs.declared.read.Read.TheVariants as read
 use Rattle.spec_board.specs.Reads.{ExactRead, basis_words}

@@ -1,4 +1,4 @@
-use Rattle.spec_board.proofs.Bases.{front_is, packed_fits}
+use Rattle.spec_board.proofs.PackedBases.{front_is, packed_fits}
 use Rattle.spec_board.proofs.packed_words_are_well_formed.Goals as goal
 
 pub returns : goal.returns

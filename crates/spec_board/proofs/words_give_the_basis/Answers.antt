@@ -1,4 +1,4 @@
-use Rattle.spec_board.proofs.Bases.{unpacked_packed}
+use Rattle.spec_board.proofs.PackedBases.{unpacked_packed}
 use Rattle.spec_board.proofs.words_give_the_basis.Goals as goal
 
 pub returns : goal.returns

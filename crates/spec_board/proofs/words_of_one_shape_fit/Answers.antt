@@ -1,4 +1,4 @@
-use Rattle.spec_board.proofs.Bases.{unpacked_fits}
+use Rattle.spec_board.proofs.PackedBases.{unpacked_fits}
 use Rattle.spec_board.proofs.words_of_one_shape_fit.Goals as goal
 
 pub returns : goal.returns

@@ -11,8 +11,8 @@ use Rattle.spec_simplex.specs.Eliminate.{basis_at, basics_below, CanStand, IsBas
 use Rattle.spec_board.specs.Words.{bounds_code, status_code, status_of, suits, words_of, places}
 use Rattle.spec_board.specs.Words.{form_code, basis_code, shape_of, packed, unpacked, rows_of, cols_of}
 use Rattle.spec_board.specs.Words.{columns_of, bounds_at, status_at, IsWellFormed, SameShape}
-use Rattle.spec_board.proofs.Places.{form_unused, basis_unused, shape_length, packed_length, shape_bits, front_bits}
-use Rattle.spec_board.proofs.Places.{basis_bits, shape_rows, shape_cols, packed_rows, packed_cols, packed_columns}
+use Rattle.spec_board.proofs.PackedPlaces.{form_unused, basis_unused, shape_length, packed_length, shape_bits, front_bits}
+use Rattle.spec_board.proofs.PackedPlaces.{basis_bits, shape_rows, shape_cols, packed_rows, packed_cols, packed_columns}
 
 -- ---- statuses
 status_back : (s : Status) → status_of (status_code s) ≡ s
