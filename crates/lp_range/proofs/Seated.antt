@@ -6,7 +6,7 @@ use Rattle.spec_pivot.specs.declared.status.Status.{Status}
 use Rattle.spec_simplex.specs.Form.{Form, form_of}
 use Rattle.spec_simplex.specs.Tableau.{Tableau}
 use Rattle.spec_simplex.specs.Eliminate.{start_from}
-use Rattle.spec_runs.proofs.Chosen.{place_is}
+use Rattle.spec_runs.proofs.DualRatioTest.{place_is}
 use Rattle.spec_range.specs.Span.{Keeps}
 use Rattle.spec_range.proofs.Checked.{parts, tableau}
 use Rattle.spec_range.proofs.CostRange.{kept}

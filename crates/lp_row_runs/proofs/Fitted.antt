@@ -23,7 +23,7 @@ use Rattle.spec_simplex.proofs.Lists.{by_lt}
 use Rattle.spec_pivot.specs.Dual.{IsOrdered, IsPast}
 use Rattle.spec_runs.specs.Based.{equations, BeginsFrom}
 use Rattle.spec_runs.proofs.Fits.{IsLeaving, leaving_is}
-use Rattle.spec_runs.proofs.Fitted.{primal_fit}
+use Rattle.spec_runs.proofs.Feasibility.{primal_fit}
 use Rattle.spec_runs.proofs.LimitSteps.{fit_agrees}
 use Rattle.lp_natural.specs.Whole.{whole}
 use Rattle.lp_natural.specs.declared.words.signed.Signed.{Signed}

@@ -9,7 +9,7 @@ use Rattle.spec_simplex.specs.declared.ends.Leaving.{Leaving}
 use Rattle.spec_simplex.specs.declared.ends.Cheapest.{Cheapest}
 use Rattle.spec_simplex.specs.Dual.{place_of, passed_bound, cheapest_run}
 use Rattle.spec_simplex.specs.Fit.{leaving_run}
-use Rattle.spec_runs.proofs.Chosen.{place_is}
+use Rattle.spec_runs.proofs.DualRatioTest.{place_is}
 use Rattle.spec_runs.proofs.Fits.{IsLeaving, leaving_is}
 use Rattle.lp_simplex.specs.Starts.{HasPlace, IsSeated, CanEnter}
 use Rattle.lp_simplex.proofs.DualEntering.{MayEnter, best_enters}

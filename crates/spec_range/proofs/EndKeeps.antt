@@ -36,7 +36,7 @@ use Rattle.spec_simplex.proofs.Equations.{row_structural, row_logical, row_artif
 use Rattle.spec_simplex.proofs.Formed.{Limited, HasBounds, cost_other, formed_proper}
 use Rattle.spec_runs.specs.Cold as cold
 use Rattle.spec_runs.specs.Based.{equations, IsDependent}
-use Rattle.spec_runs.proofs.Bases.{basis_fits}
+use Rattle.spec_runs.proofs.EndBases.{basis_fits}
 use Rattle.spec_runs.proofs.LimitSteps.{from_agrees}
 use Rattle.spec_runs.proofs.Singular.{start_singular}
 use Rattle.spec_range.specs.Span.{Keeps}

@@ -38,7 +38,7 @@ use Rattle.spec_simplex.proofs.Runs.{then_ok, refused_ok}
 use Rattle.spec_simplex.proofs.Orders.{given}
 use Rattle.spec_runs.specs.Cold.{point, multipliers}
 use Rattle.spec_runs.specs.Based.{equations}
-use Rattle.spec_runs.proofs.Chosen.{place_is}
+use Rattle.spec_runs.proofs.DualRatioTest.{place_is}
 use Rattle.spec_runs.proofs.Counts.{basic_test}
 use Rattle.spec_pivot.specs.Dual.{Suits}
 use Rattle.spec_range.specs.declared.range.Ends.{Ends}

@@ -20,13 +20,13 @@ pub mod Started
 pub mod Bounded
 pub mod Fits
 pub mod Flipped
-pub mod Chosen
-pub mod Fitted
+pub mod DualRatioTest
+pub mod Feasibility
 pub mod Stepped
 pub mod DualWalk
 pub mod EndRefuted
 pub mod Members
-pub mod Bases
+pub mod EndBases
 pub mod Warmed
 pub mod TrueEnds
 pub mod LimitSteps

@@ -28,7 +28,7 @@ use Rattle.spec_simplex.specs.Dual.{place_of, cheapest_run, passed_bound, dual_c
 use Rattle.spec_simplex.specs.Dual.{dual_choice_of, dual_choice_run, dual_pivot_by, dual_pivot_run}
 use Rattle.spec_simplex.specs.Fit.{leaving_run}
 use Rattle.spec_runs.proofs.Bounded.{lower_same, upper_same, free_open}
-use Rattle.spec_runs.proofs.Chosen.{place_is, none_cheapest, a_cheapest}
+use Rattle.spec_runs.proofs.DualRatioTest.{place_is, none_cheapest, a_cheapest}
 use Rattle.spec_runs.proofs.Fits.{IsLeaving, LeavingIs, leaving_is}
 
 passed_is : (below : Bool) → passed_bound below ≡ bound_behind (way below)

@@ -31,7 +31,7 @@ use Rattle.spec_simplex.specs.declared.ends.WarmStop.TheVariants as fall
 use Rattle.spec_simplex.specs.Eliminate.{IsBasisOf}
 use Rattle.spec_runs.specs.Warm.{WarmEnd, WarmResult, warm_run, warm_certificate, warm_basis}
 use Rattle.spec_runs.specs.Warm.{warm_pivots, checked, answered, after_run, after_form, warm, IsBasisFor}
-use Rattle.spec_runs.proofs.Bases.{basis_fits}
+use Rattle.spec_runs.proofs.EndBases.{basis_fits}
 use Rattle.spec_runs.proofs.Warmed.{warm_shows, warm_left}
 
 pub run_accepted : (limit : Option ℕ) (budget : ℕ) (m : Model) (f : Form) (basis : List Status) (e : WarmEnd) →

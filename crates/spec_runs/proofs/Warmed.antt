@@ -46,7 +46,7 @@ use Rattle.spec_simplex.specs.Eliminate.{IsBasisOf, start_from}
 use Rattle.spec_simplex.specs.Fit.{meets_need_at, fit_run}
 use Rattle.spec_runs.specs.Warm.{stopped_as, start_stop, run_stop, WarmEnd, ByPrimal, ByDual, run_by, warm_run}
 use Rattle.spec_runs.specs.Warm.{row_multipliers, dual_certificate, warm_certificate, dual_basis, warm_basis}
-use Rattle.spec_runs.proofs.Bases.{basis_fits}
+use Rattle.spec_runs.proofs.EndBases.{basis_fits}
 use Rattle.spec_runs.proofs.DualWalk.{IsDualEnd, dual_ends}
 use Rattle.spec_runs.proofs.EndRefuted.{refuted_checks}
 use Rattle.spec_runs.proofs.Fits.{FitIs, fit_is}

@@ -1,4 +1,4 @@
-use Rattle.spec_runs.proofs.Fitted.{primal_fit, dual_fit}
+use Rattle.spec_runs.proofs.Feasibility.{primal_fit, dual_fit}
 use Rattle.spec_runs.proofs.warm.fits_mean_methods.Goals as goal
 
 pub returns : goal.returns
