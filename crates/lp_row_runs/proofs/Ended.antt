@@ -18,7 +18,7 @@ use Rattle.spec_simplex.specs.Tableau.{Tableau}
 use Rattle.spec_runs.specs.Cold.{certificate_at}
 use Rattle.spec_simplex.specs.Begins.{IsProper}
 use Rattle.spec_runs.specs.Based.{BeginsFrom}
-use Rattle.spec_runs.proofs.Started.{start_begins_from}
+use Rattle.spec_runs.proofs.BasisTableau.{start_begins_from}
 use Rattle.spec_runs.specs.Warm.{stopped_as, start_stop, run_stop, ByPrimal, run_by, warm_run}
 use Rattle.lp_rows.specs.declared.tableau.tableau.RowTableau.{RowTableau}
 use Rattle.lp_rows.specs.Shows.{Shows}

@@ -27,7 +27,7 @@ use Rattle.spec_simplex.proofs.Runs.{then_ok, refused_ok}
 use Rattle.spec_runs.proofs.PhaseSteps.{given}
 use Rattle.spec_runs.specs.Based.{BeginsFrom}
 use Rattle.spec_runs.proofs.LimitSteps.{from_agrees}
-use Rattle.spec_runs.proofs.Started.{start_begins_from}
+use Rattle.spec_runs.proofs.BasisTableau.{start_begins_from}
 use Rattle.spec_runs.proofs.Valued.{valued_other, valued_solves}
 use Rattle.lp_natural.specs.declared.words.signed.Signed.{Signed}
 use Rattle.lp_rows.specs.declared.fractions.Row.{Row}

@@ -14,7 +14,7 @@ use Rattle.spec_runs.specs.Based.{IsBased}
 use Rattle.spec_simplex.specs.Fit.{needs_flip, meets_need, needs_flip_at, fit_run}
 use Rattle.spec_runs.proofs.Bounded.{own_counts, lower_same, upper_same}
 use Rattle.spec_runs.proofs.Fits.{fit_is}
-use Rattle.spec_runs.proofs.Flipped.{wrong}
+use Rattle.spec_runs.proofs.FlippedStatuses.{wrong}
 use Rattle.lp_simplex.specs.Starts.{HasPlace, IsDualStart}
 
 module _ (limit : Option ℕ) (m n : ℕ) (f : Matrix) (cost : ℕ → ℚ) (b : Bounds)

@@ -14,7 +14,7 @@ use Rattle.spec_exact.proofs.Stops.{steps_more, steps_stop}
 use Rattle.spec_simplex.proofs.Runs.{then_ok, refused_ok}
 use Rattle.spec_simplex.specs.Dual.{Reached, one_more, flip_by, flip_next, flips_run}
 use Rattle.spec_simplex.specs.Fit.{needs_flip, needs_flip_at}
-use Rattle.spec_runs.proofs.Flipped.{IsFlip, flip_shape}
+use Rattle.spec_runs.proofs.FlippedStatuses.{IsFlip, flip_shape}
 use Rattle.lp_simplex.specs.Starts.{HasPlace, IsSeated}
 
 -- ---- one flip

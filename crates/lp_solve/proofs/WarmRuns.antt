@@ -38,7 +38,7 @@ use Rattle.spec_runs.specs.Warm.{WarmResult, ByPrimal, ByDual, stopped_as, start
 use Rattle.spec_runs.specs.Warm.{dual_certificate, dual_basis, after_form, warm as warm_start}
 use Rattle.spec_runs.specs.Solve.{HasBasis, fall_of}
 use Rattle.spec_solve.specs.Order.{MayEndCold, MayEndBy, MayEnd}
-use Rattle.spec_runs.proofs.Started.{start_begins_from}
+use Rattle.spec_runs.proofs.BasisTableau.{start_begins_from}
 use Rattle.spec_runs.proofs.TrueEnds.{run_accepted}
 use Rattle.lp_tableau.specs.Based.{StopsAt}
 use Rattle.lp_frac.specs.declared.stop.Stop.{Stop}

@@ -21,7 +21,7 @@ use Rattle.spec_simplex.proofs.Columns.{by_kind}
 use Rattle.spec_simplex.proofs.Formed.{Limited, formed_proper, cost_length, cost_other}
 use Rattle.spec_simplex.proofs.Formed.{lower_structural, upper_structural, lower_logical, upper_logical}
 use Rattle.spec_runs.specs.Cold.{point, multipliers}
-use Rattle.spec_runs.proofs.Formed.{cost_structural}
+use Rattle.spec_runs.proofs.FormCosts.{cost_structural}
 use Rattle.spec_runs.proofs.EndTight.{weight_at, column_at, logical_is_row}
 use Rattle.spec_runs.proofs.EndOptimal.{optimal_checks}
 use Rattle.spec_runs.proofs.Shown as shown

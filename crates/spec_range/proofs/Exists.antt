@@ -19,7 +19,7 @@ use Rattle.spec_simplex.specs.Eliminate.{eliminate_run, with_basis, filled_run, 
 use Rattle.spec_simplex.proofs.LimitStart.{form_agrees}
 use Rattle.spec_simplex.proofs.Runs.{then_ok}
 pub use Rattle.spec_simplex.proofs.LimitStart.{form_without}
-use Rattle.spec_runs.proofs.Formed.{clash_is}
+use Rattle.spec_runs.proofs.FormCosts.{clash_is}
 use Rattle.spec_runs.proofs.LimitSteps.{from_agrees}
 
 -- ---- the elimination

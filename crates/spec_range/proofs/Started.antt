@@ -21,7 +21,7 @@ use Rattle.spec_simplex.proofs.Lists.{by_lt}
 use Rattle.spec_simplex.proofs.Runs.{then_ok, refused_ok}
 use Rattle.spec_pivot.specs.Dual.{IsOrdered}
 use Rattle.spec_runs.specs.Based.{equations, BeginsFrom}
-use Rattle.spec_runs.proofs.Started.{start_begins_from}
+use Rattle.spec_runs.proofs.BasisTableau.{start_begins_from}
 
 -- what a tableau has of a form and a basis
 pub record IsOf (f : Form) (basis : List Status) (t : Tableau) : Type 0 where

@@ -27,7 +27,7 @@ use Rattle.spec_runs.specs.Cold.{ExactSolveEnd, certificate_of, basis_of, pivots
 use Rattle.spec_runs.specs.Cold.{checked, answered, after_phases, after_form, cold}
 use Rattle.spec_runs.specs.Accepted.{IsAccepted}
 use Rattle.spec_simplex.proofs.Formed.{form_is}
-use Rattle.spec_runs.proofs.Formed.{clash_is}
+use Rattle.spec_runs.proofs.FormCosts.{clash_is}
 use Rattle.spec_simplex.proofs.Phases.{phases_enough}
 use Rattle.spec_runs.proofs.Phases.{phases_show}
 use Rattle.spec_runs.proofs.Shown.{Shows}

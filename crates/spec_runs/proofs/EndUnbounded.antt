@@ -19,7 +19,7 @@ use Rattle.spec_simplex.specs.Start.{cost_at}
 use Rattle.spec_simplex.specs.Begins.{form_rows}
 use Rattle.spec_simplex.proofs.Columns.{sum_by_kind}
 use Rattle.spec_simplex.proofs.Formed.{Limited, cost_other}
-use Rattle.spec_runs.proofs.Formed.{cost_structural}
+use Rattle.spec_runs.proofs.FormCosts.{cost_structural}
 use Rattle.spec_simplex.proofs.Formed.{HasBounds}
 use Rattle.spec_runs.proofs.EndTight.{bounds_structural, bounds_logical, limits_at, logical_is_row}
 use Rattle.spec_runs.proofs.EndOptimal.{point_feasible}

@@ -14,7 +14,7 @@ use Rattle.spec_simplex.specs.Dual.{Reached, flips_run}
 use Rattle.spec_simplex.specs.Fit.{fit_run}
 use Rattle.spec_runs.proofs.Bounded.{own_counts, lower_same, upper_same}
 use Rattle.spec_runs.proofs.Fits.{fit_is}
-use Rattle.spec_runs.proofs.Flipped.{flips_ready}
+use Rattle.spec_runs.proofs.FlippedStatuses.{flips_ready}
 
 module _ (limit : Option ℕ) (m n : ℕ) (f : Matrix) (cost : ℕ → ℚ)
     (b : Bounds) (t : Tableau) (s : IsBased m n f cost b t) where

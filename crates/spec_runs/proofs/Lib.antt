@@ -1,4 +1,4 @@
-pub mod Formed
+pub mod FormCosts
 pub mod EndTight
 pub mod EndOptimal
 pub mod EndUnbounded
@@ -16,10 +16,10 @@ pub mod Unsolved
 pub mod Eliminated
 pub mod Singular
 pub mod Valued
-pub mod Started
+pub mod BasisTableau
 pub mod Bounded
 pub mod Fits
-pub mod Flipped
+pub mod FlippedStatuses
 pub mod DualRatioTest
 pub mod Feasibility
 pub mod Stepped

@@ -50,8 +50,8 @@ use Rattle.spec_runs.proofs.EndBases.{basis_fits}
 use Rattle.spec_runs.proofs.DualWalk.{IsDualEnd, dual_ends}
 use Rattle.spec_runs.proofs.EndRefuted.{refuted_checks}
 use Rattle.spec_runs.proofs.Fits.{FitIs, fit_is}
-use Rattle.spec_runs.proofs.Flipped.{flips_ready}
-use Rattle.spec_runs.proofs.Started.{start_begins_from}
+use Rattle.spec_runs.proofs.FlippedStatuses.{flips_ready}
+use Rattle.spec_runs.proofs.BasisTableau.{start_begins_from}
 
 by_fit : (P : Fit → Type 0) → P fit.Primal → P fit.Dual → P fit.Unfit → (kind : Fit) → P kind
 by_fit P a c d fit.Primal = a

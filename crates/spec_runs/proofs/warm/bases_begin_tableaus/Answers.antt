@@ -1,4 +1,4 @@
-use Rattle.spec_runs.proofs.Started.{start_begins_from}
+use Rattle.spec_runs.proofs.BasisTableau.{start_begins_from}
 use Rattle.spec_runs.proofs.warm.bases_begin_tableaus.Goals as goal
 
 pub returns : goal.returns
