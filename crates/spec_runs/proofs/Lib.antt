@@ -8,7 +8,7 @@ pub mod Shown
 pub mod Phases
 pub mod ColdSolves
 pub mod LimitCold
-pub mod Steps
+pub mod NoCycle
 pub mod PhaseSteps
 pub mod Instance
 pub mod Counts
