@@ -20,7 +20,7 @@ use Rattle.spec_world.specs.Sound.{going, reads_so_far}
 use Rattle.spec_world.proofs.Stages.{looks_begin, looks_past, looks_find, looks_over, IsSeeing, IsSolving}
 use Rattle.spec_world.proofs.Stages.{StageFits, looking_fits}
 use Rattle.spec_world.proofs.Asked.{only_solve_looks}
-use Rattle.spec_world.proofs.Moves.{Moved, goes_on, ends}
+use Rattle.spec_world.proofs.OneAct.{Moved, goes_on, ends}
 use Rattle.spec_world.proofs.PutActs.{put_counted, claimed_moved, done_moved}
 
 -- ---- looks

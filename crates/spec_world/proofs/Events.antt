@@ -11,7 +11,7 @@ use Rattle.spec_world.specs.declared.event.StepEnd.TheVariants.{Not}
 use Rattle.spec_world.specs.World.{Server, ExactEvent, ExactEnd, Session, World, opening_world, is_enabled, end_of}
 use Rattle.spec_world.specs.World.{Takes, StepBy, WorldStep, WorldRun}
 use Rattle.spec_world.specs.Sound.{reads_of, ReadsNow, EndFits}
-use Rattle.spec_world.proofs.Moves.{Grows}
+use Rattle.spec_world.proofs.OneAct.{Grows}
 use Rattle.spec_world.proofs.Worlds.{IsGood, opening_good, taken, step_good, run_good}
 
 -- ---- reads

@@ -22,7 +22,7 @@ use Rattle.spec_server.specs.Machine.{State, solve_due}
 use Rattle.spec_server.specs.Step.{Begun, Answers, Looks, solve_begun, BegunBy, Begins, Pending, Ends}
 use Rattle.spec_server.specs.Step.{Publishes, handed_by, how_by, is_found, words_of_end, worked_with, SolvesWith, Works}
 use Rattle.spec_world.specs.World.{solve}
-use Rattle.spec_world.proofs.Bases.{published_words}
+use Rattle.spec_world.proofs.PublishedBases.{published_words}
 use Rattle.spec_world.proofs.FormWords.{form_kept}
 
 -- ---- what a look finds has the shape

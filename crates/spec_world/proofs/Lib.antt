@@ -1,7 +1,7 @@
 -- Lemmas.
 pub mod Stages
-pub mod Moves
-pub mod Bases
+pub mod OneAct
+pub mod PublishedBases
 pub mod Asked
 pub mod PutActs
 pub mod Acts

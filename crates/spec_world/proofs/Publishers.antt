@@ -5,7 +5,7 @@ use Rattle.spec_server.specs.Machine.{ExactReply}
 use Rattle.spec_server.specs.Exchanges.{Exchange}
 use Rattle.spec_world.specs.World.{Session}
 use Rattle.spec_world.specs.Sound.{IsPublisher}
-use Rattle.spec_world.proofs.Moves.{Grows}
+use Rattle.spec_world.proofs.OneAct.{Grows}
 
 -- where more exchanges stand behind
 pub publisher_more : (places : ℕ) (s new : Session) (more : List Exchange) (k : ℕ) (words : List ℕ) →

@@ -21,8 +21,8 @@ use Rattle.spec_world.specs.World.{put_left, put_counted_left, claimed_left, don
 use Rattle.spec_world.specs.Sound.{IsPublisher}
 use Rattle.spec_world.proofs.Stages.{HasLooked}
 use Rattle.spec_world.proofs.Stages.{IsClaiming, IsWriting}
-use Rattle.spec_world.proofs.Moves.{Moved, goes_on, ends}
-use Rattle.spec_world.proofs.Bases.{puts_basis}
+use Rattle.spec_world.proofs.OneAct.{Moved, goes_on, ends}
+use Rattle.spec_world.proofs.PublishedBases.{puts_basis}
 
 module _ (server : Server) (me : ℕ) (now : List ExactPlace) (state : State) (finished : List Exchange)
     (run : AloneRun server.places opening finished state) (bounded : length now ≤ server.places) where

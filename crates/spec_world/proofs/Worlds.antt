@@ -16,7 +16,7 @@ use Rattle.spec_world.specs.World.{Server, ExactEvent, ExactEnd, Session, World,
 use Rattle.spec_world.specs.World.{StepBy, WorldStep, WorldRun}
 use Rattle.spec_world.specs.Sound.{asks_of, reads_of, asks_by, asks_in, reads_in, IsPublisher, IsSound}
 use Rattle.spec_world.proofs.Stages.{StageFits, stage_keeps}
-use Rattle.spec_world.proofs.Moves.{Moved}
+use Rattle.spec_world.proofs.OneAct.{Moved}
 use Rattle.spec_world.proofs.Acts.{act_moved}
 use Rattle.spec_world.proofs.Publishers.{publisher_stays}
 
