@@ -11,7 +11,7 @@ use Rattle.spec_factor.specs.Revised.{Revised, seen, exchange_run}
 use Rattle.std.specs.Prelude.{slice_set}
 use Rattle.spec_exact.specs.Narrow.{number_limit}
 use Rattle.lp_revised.specs.Moved.{moves_by, exchanged_by}
-use Rattle.lp_revised.proofs.Flipped.{moves_are}
+use Rattle.lp_revised.proofs.MovedBasics.{moves_are}
 
 module _ (starts : List (RowStart ℚ)) (s : Revised) (z : List ℚ) (p j : ℕ) (theta : ℚ) (to : Status) where
   abbrev new_state : List ℚ → Revised

@@ -2,7 +2,7 @@ pub mod Seen
 pub mod Signed
 pub mod Prices
 pub mod Entered
-pub mod Flipped
+pub mod MovedBasics
 pub mod Sights
 pub mod Exchanged
 pub mod Basics
@@ -10,7 +10,7 @@ pub mod Renewed
 pub mod Pivoted
 pub mod OneStep
 pub mod TwoPhases
-pub mod Begun
+pub mod BeforeFactors
 pub mod Whole
 pub mod Gaps
 pub mod EtaRuns
@@ -18,4 +18,4 @@ pub mod EtaLoops
 pub mod PairItems
 pub mod Solving
 pub mod Opens
-pub mod Columns
+pub mod ScatteredColumns

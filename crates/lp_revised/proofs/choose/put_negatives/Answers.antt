@@ -1,5 +1,5 @@
 -- The first entry, one more, and all of them.
-use Rattle.lp_revised.proofs.Columns.{negated_first, in_column, negated_next, negated_whole}
+use Rattle.lp_revised.proofs.ScatteredColumns.{negated_first, in_column, negated_next, negated_whole}
 use Rattle.lp_revised.proofs.choose.put_negatives.Goals as goal
 
 pub loop-row-init : goal.loop-row-init

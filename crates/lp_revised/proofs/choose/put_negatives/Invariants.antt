@@ -1,5 +1,5 @@
 -- The loop over the entries.
-use Rattle.lp_revised.proofs.Columns.{NegatedTo}
+use Rattle.lp_revised.proofs.ScatteredColumns.{NegatedTo}
 use Rattle.lp_revised.proofs.choose.put_negatives.Given as goal
 
 -- the rows before the next entry's have their items

@@ -1,6 +1,6 @@
 -- One row, or none.
 use Rattle.std.proofs.Common.{◌-◌, ap, arith}
-use Rattle.lp_revised.proofs.Columns.{no_row, one_row}
+use Rattle.lp_revised.proofs.ScatteredColumns.{no_row, one_row}
 use Rattle.lp_revised.proofs.choose.put_one.Goals as goal
 
 pub returns-then-row-rows : goal.returns-then-row-rows

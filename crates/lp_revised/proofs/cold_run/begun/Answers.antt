@@ -2,7 +2,7 @@
 use Rattle.std.proofs.Common.{ap, length, ◌∙◌}
 use Rattle.std.proofs.lemmas.List.{length-replicate}
 use Rattle.spec_factor.specs.Factors.{Factors}
-use Rattle.lp_revised.proofs.Begun.{begun_is, begun_state}
+use Rattle.lp_revised.proofs.BeforeFactors.{begun_is, begun_state}
 use Rattle.lp_revised.proofs.cold_run.begun.Goals as goal
 
 pub returns : goal.returns

@@ -3,7 +3,7 @@ use Rattle.std.proofs.Common.{sym, ap, ◌∙◌}
 use Rattle.std.proofs.lemmas.Result.{err_from_is_err_and}
 use Rattle.spec_simplex.specs.Step.{flip_way}
 use Rattle.spec_factor.specs.Revised.{Revised, bare_of}
-use Rattle.lp_revised.proofs.Flipped.{flip_refused, flip_moves_refused, flips}
+use Rattle.lp_revised.proofs.MovedBasics.{flip_refused, flip_moves_refused, flips}
 use Rattle.lp_revised.proofs.state.Revised.flip.Goals as goal
 
 pub returns-in_err-range-clause-run : goal.returns-in_err-range-clause-run

@@ -1,7 +1,7 @@
 -- A refusal at a position.
 use Rattle.std.proofs.Common.{sym, ◌∙◌, arith}
 use Rattle.std.proofs.lemmas.Result.{err_from_is_err_and}
-use Rattle.lp_revised.proofs.Flipped.{move_refused}
+use Rattle.lp_revised.proofs.MovedBasics.{move_refused}
 use Rattle.lp_revised.proofs.state.Revised.move_values.Goals as goal
 
 pub returns-in_err-move_at-clause-moved : goal.returns-in_err-move_at-clause-moved
