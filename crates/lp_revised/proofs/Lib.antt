@@ -11,11 +11,11 @@ pub mod Pivoted
 pub mod OneStep
 pub mod TwoPhases
 pub mod BeforeFactors
-pub mod Whole
+pub mod SameEnds
 pub mod Gaps
 pub mod EtaRuns
 pub mod EtaLoops
 pub mod PairItems
-pub mod Solving
+pub mod BothSolves
 pub mod Opens
 pub mod ScatteredColumns

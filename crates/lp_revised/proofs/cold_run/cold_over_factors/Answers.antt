@@ -5,7 +5,7 @@ use Rattle.spec_simplex.specs.Start.{begun}
 use Rattle.spec_exact.proofs.Stops.{length-list_run}
 use Rattle.spec_simplex.specs.Tableau.{Tableau}
 use Rattle.spec_factor.specs.Revised.{bare_of}
-use Rattle.lp_revised.proofs.Whole.{ends_whole}
+use Rattle.lp_revised.proofs.SameEnds.{ends_whole}
 use Rattle.lp_revised.proofs.TwoPhases.{rows_stop, runs_whole}
 use Rattle.lp_revised.proofs.cold_run.cold_over_factors.Goals as goal
 

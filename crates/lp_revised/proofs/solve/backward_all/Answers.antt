@@ -1,7 +1,7 @@
 -- A refused pair.
 use Rattle.std.proofs.Common.{length, refl}
 use Rattle.std.proofs.lemmas.Result.{err_from_is_err_and}
-use Rattle.lp_revised.proofs.Solving.{btran_stops}
+use Rattle.lp_revised.proofs.BothSolves.{btran_stops}
 use Rattle.lp_revised.proofs.solve.backward_all.Goals as goal
 
 pub returns-in_err-backward-clause-run : goal.returns-in_err-backward-clause-run

@@ -1,6 +1,6 @@
 -- The loop over the pairs, from the last.
 use Rattle.std.proofs.Common.{length}
-use Rattle.lp_revised.proofs.Solving.{BackwardDone}
+use Rattle.lp_revised.proofs.BothSolves.{BackwardDone}
 use Rattle.lp_revised.proofs.solve.backward_all.Given as goal
 
 -- the last pairs have acted

@@ -1,7 +1,7 @@
 -- One pair more, and a refused one.
 use Rattle.std.proofs.Common.{length, refl}
 use Rattle.std.proofs.lemmas.Result.{err_from_is_err_and}
-use Rattle.lp_revised.proofs.Solving.{ftran_next, ftran_stops}
+use Rattle.lp_revised.proofs.BothSolves.{ftran_next, ftran_stops}
 use Rattle.lp_revised.proofs.solve.forward_all.Goals as goal
 
 pub returns-in_err-forward-clause-run : goal.returns-in_err-forward-clause-run

@@ -1,6 +1,6 @@
 -- The loop over the pairs.
 use Rattle.std.proofs.Common.{length}
-use Rattle.lp_revised.proofs.Solving.{ForwardDone}
+use Rattle.lp_revised.proofs.BothSolves.{ForwardDone}
 use Rattle.lp_revised.proofs.solve.forward_all.Given as goal
 
 -- the pairs so far have acted
