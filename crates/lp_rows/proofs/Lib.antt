@@ -8,10 +8,10 @@ pub mod Done
 pub mod Kept
 pub mod Numbers
 pub mod Asks
-pub mod Begun
-pub mod Chosen
+pub mod SecondPhaseRows
+pub mod AfterChoice
 pub mod Converted
-pub mod Flipped
+pub mod FlippedRows
 pub mod Held
 pub mod TableauKept
 pub mod Lasts

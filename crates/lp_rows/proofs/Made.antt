@@ -15,8 +15,8 @@ use Rattle.lp_rows.specs.declared.tableau.tableau.RowTableau.{RowTableau}
 use Rattle.lp_rows.specs.Shows.{IsWhole, IsReached, Shows}
 use Rattle.lp_rows.specs.Steps.{step_of}
 use Rattle.lp_rows.specs.Changes.{IsFlipped, IsPivoted}
-use Rattle.lp_rows.proofs.Chosen.{left}
-use Rattle.lp_rows.proofs.Flipped.{flip_shows}
+use Rattle.lp_rows.proofs.AfterChoice.{left}
+use Rattle.lp_rows.proofs.FlippedRows.{flip_shows}
 use Rattle.lp_rows.proofs.Pivoted.{pivot_shows}
 
 module _ {T : Type 0} (value : T → ℕ) (r s : RowTableau T) (t u : Tableau) (reached : IsReached t)

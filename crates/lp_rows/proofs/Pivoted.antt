@@ -26,10 +26,10 @@ use Rattle.lp_rows.specs.declared.tableau.tableau.RowTableau.{RowTableau}
 use Rattle.lp_rows.specs.Shows.{IsWhole, Shows, row_at, height, width}
 use Rattle.lp_rows.specs.Moves.{number_at, number_in, step_to}
 use Rattle.lp_rows.specs.Changes.{lower_in, upper_in, status_in, basic_in, left_upper, IsPivoted}
-use Rattle.lp_rows.proofs.Chosen.{PivotsTo}
+use Rattle.lp_rows.proofs.AfterChoice.{PivotsTo}
 use Rattle.lp_rows.proofs.TableauKept.{stood, lower_same, upper_same, fixed_same}
 use Rattle.lp_rows.proofs.TableauNumbers.{row_at-one, row_at-on}
-use Rattle.lp_rows.proofs.Flipped.{along, less_on}
+use Rattle.lp_rows.proofs.FlippedRows.{along, less_on}
 
 -- how far the column moves: n c is the value of the column that leaves, and v c that where it lands
 moves_by : (n v a c x y theta : ℚ) → n *ℚ c ≡ x → v *ℚ c ≡ y → y ≡ x -ℚ a *ℚ theta → a ≢ 0ℚ →

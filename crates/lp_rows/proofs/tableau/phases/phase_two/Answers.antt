@@ -1,4 +1,4 @@
-use Rattle.lp_rows.proofs.Begun.{begun_shown}
+use Rattle.lp_rows.proofs.SecondPhaseRows.{begun_shown}
 use Rattle.lp_rows.proofs.tableau.phases.phase_two.Goals as goal
 use Rattle.lp_rows.proofs.SameNumbers.{of_some}
 

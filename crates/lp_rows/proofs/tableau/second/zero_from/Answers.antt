@@ -1,5 +1,5 @@
 use Rattle.std.proofs.Common.{◌<◌, ◌≤◌, length, arith}
-use Rattle.lp_rows.proofs.Begun.{zeroed_more}
+use Rattle.lp_rows.proofs.SecondPhaseRows.{zeroed_more}
 use Rattle.lp_rows.proofs.tableau.second.zero_from.Goals as goal
 
 pub loop-k-preserved : goal.loop-k-preserved

@@ -23,7 +23,7 @@ use Rattle.lp_rows.specs.declared.tableau.tableau.RowTableau.{RowTableau}
 use Rattle.lp_rows.specs.Shows.{IsWhole, Shows, row_at, width}
 use Rattle.lp_rows.specs.Moves.{number_at, number_in}
 use Rattle.lp_rows.specs.Changes.{lower_in, upper_in, status_in, IsFlipped}
-use Rattle.lp_rows.proofs.Chosen.{FlipsTo}
+use Rattle.lp_rows.proofs.AfterChoice.{FlipsTo}
 use Rattle.lp_rows.proofs.TableauKept.{stood, lower_same, upper_same, fixed_same}
 use Rattle.lp_rows.proofs.TableauNumbers.{row_at-one, row_at-on}
 
