@@ -23,7 +23,7 @@ use Rattle.lp_rows.specs.declared.fractions.Row.{Row}
 use Rattle.lp_rows.specs.Row.{fraction_at}
 use Rattle.lp_rows.proofs.Done.{item-at}
 use Rattle.lp_rows.proofs.Cleared.{fraction-at}
-use Rattle.lp_rows.proofs.Kept.{whole_none}
+use Rattle.lp_rows.proofs.TakenMultiples.{whole_none}
 use Rattle.lp_rows.specs.declared.tableau.tableau.RowTableau.{RowTableau}
 use Rattle.lp_rows.specs.Shows.{IsRow, IsWhole, Shows, row_at, width, height}
 

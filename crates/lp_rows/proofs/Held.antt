@@ -19,7 +19,7 @@ use Rattle.lp_rows.specs.Ratio.{bound_of}
 use Rattle.lp_rows.specs.declared.tableau.tableau.RowTableau.{RowTableau}
 use Rattle.lp_rows.specs.Shows.{IsRow, IsWhole, IsReached, Shows, width, all_width}
 use Rattle.lp_rows.specs.Held.{HoldsParts}
-use Rattle.lp_rows.proofs.Lists.{made_of}
+use Rattle.lp_rows.proofs.GrowingRows.{made_of}
 
 -- ---- where columns stand that are not basic
 stands_so : (s : Status) (l u : Option ℚ) (v : ℚ) → s ≢ Basic → Stands s l u v → v ≡ stand s l u

@@ -5,8 +5,8 @@ pub mod Enters
 pub mod Divided
 pub mod Cleared
 pub mod Done
-pub mod Kept
-pub mod Numbers
+pub mod TakenMultiples
+pub mod OverDenominator
 pub mod Asks
 pub mod SecondPhaseRows
 pub mod AfterChoice
@@ -15,7 +15,7 @@ pub mod FlippedRows
 pub mod Held
 pub mod TableauKept
 pub mod Lasts
-pub mod Lists
+pub mod GrowingRows
 pub mod Made
 pub mod TableauNumbers
 pub mod Pivoted

@@ -1,4 +1,4 @@
-use Rattle.lp_rows.proofs.Numbers.{negated_is}
+use Rattle.lp_rows.proofs.OverDenominator.{negated_is}
 use Rattle.lp_rows.proofs.number.negated.Goals as goal
 
 pub returns : goal.returns

@@ -1,4 +1,4 @@
-use Rattle.lp_rows.proofs.Numbers.{one_is}
+use Rattle.lp_rows.proofs.OverDenominator.{one_is}
 use Rattle.lp_rows.proofs.number.one.Goals as goal
 
 pub returns : goal.returns

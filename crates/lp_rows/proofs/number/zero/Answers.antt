@@ -1,4 +1,4 @@
-use Rattle.lp_rows.proofs.Numbers.{zero_is}
+use Rattle.lp_rows.proofs.OverDenominator.{zero_is}
 use Rattle.lp_rows.proofs.number.zero.Goals as goal
 
 pub returns : goal.returns

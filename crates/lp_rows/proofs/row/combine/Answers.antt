@@ -2,7 +2,7 @@
 use Rattle.std.proofs.Common.{◌≤◌, ◌<◌, length, sym, ap₂, ◌∙◌, arith, ◌*ℤ◌, ◌-ℤ◌, refl}
 use Rattle.lp_natural.specs.Whole.{whole}
 use Rattle.lp_rows.proofs.Done.{one_done, one_kept, item-at}
-use Rattle.lp_rows.proofs.Kept.{both_none}
+use Rattle.lp_rows.proofs.TakenMultiples.{both_none}
 use Rattle.lp_rows.proofs.row.combine.Goals as goal
 
 pub loop-k-preserved : goal.loop-k-preserved

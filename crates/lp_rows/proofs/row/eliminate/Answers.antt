@@ -1,6 +1,6 @@
 -- The other row once, where the row stays as it is.
 use Rattle.std.proofs.Common.{sym, ◌∙◌, refl}
-use Rattle.lp_rows.proofs.Kept.{once}
+use Rattle.lp_rows.proofs.TakenMultiples.{once}
 use Rattle.lp_rows.proofs.row.eliminate.Goals as goal
 
 pub returns-then-is_unit-clause-each : goal.returns-then-is_unit-clause-each

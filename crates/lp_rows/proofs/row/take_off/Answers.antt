@@ -3,7 +3,7 @@ use Rattle.std.proofs.Common.{◌≤◌, ◌<◌, length, pos, sym, ap, ap₂, �
 use Rattle.lp_natural.specs.Whole.{whole}
 use Rattle.lp_rows.specs.Row.{at}
 use Rattle.lp_rows.proofs.Done.{one_done, one_kept, item-at}
-use Rattle.lp_rows.proofs.Kept.{once, less_none}
+use Rattle.lp_rows.proofs.TakenMultiples.{once, less_none}
 use Rattle.lp_rows.proofs.row.take_off.Goals as goal
 
 pub loop-k-preserved : goal.loop-k-preserved

@@ -1,5 +1,5 @@
 use Rattle.std.proofs.Common.{◌<◌, sym, ◌∙◌, subst}
-use Rattle.lp_rows.proofs.Numbers.{ratio_is}
+use Rattle.lp_rows.proofs.OverDenominator.{ratio_is}
 use Rattle.lp_rows.proofs.wide.ratio.Goals as goal
 
 pub quotient-requires : goal.quotient-requires

@@ -1,4 +1,4 @@
-use Rattle.lp_rows.proofs.Numbers.{shared_is}
+use Rattle.lp_rows.proofs.OverDenominator.{shared_is}
 use Rattle.lp_rows.proofs.wide.shared.Goals as goal
 use Rattle.spec_exact.proofs.Coprime.{positive_left}
 
