@@ -34,7 +34,7 @@ use Rattle.lp_rows.specs.declared.tableau.tableau.RowTableau.{RowTableau}
 use Rattle.lp_rows.specs.Shows.{IsRow, IsWhole, IsReached, Shows, height, width, all_width, row_at}
 use Rattle.lp_rows.proofs.Asks.{row-at, row-is}
 use Rattle.lp_rows.proofs.Read.{read_at}
-use Rattle.lp_rows.proofs.Whole.{basic_read}
+use Rattle.lp_rows.proofs.SameCounts.{basic_read}
 
 -- ---- a value beside a bound
 -- the value v over d e, and the bound b over d, as v and b e are

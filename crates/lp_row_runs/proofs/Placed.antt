@@ -21,7 +21,7 @@ use Rattle.lp_rows.specs.declared.tableau.tableau.RowTableau.{RowTableau}
 use Rattle.lp_rows.specs.Shows.{IsWhole, width, all_width}
 use Rattle.lp_rows.specs.Moves.{number_at, number_in, AreMoved, AreTurned, step_to}
 use Rattle.lp_rows.proofs.TableauNumbers.{row_at-on}
-use Rattle.lp_rows.proofs.Whole.{whole_on, whole_flipped}
+use Rattle.lp_rows.proofs.SameCounts.{whole_on, whole_flipped}
 use Rattle.lp_row_runs.specs.Rows.{AreRowsAt, IsUnsolved}
 
 module _ {T : Type 0} (value : T → ℕ) (d h n : ℕ) (x : ℕ → ℚ) (equations : ℕ → ℕ → ℚ) (old : List (Row T))

@@ -21,6 +21,6 @@ pub mod TableauNumbers
 pub mod Pivoted
 pub mod Read
 pub mod SameNumbers
-pub mod Stops
+pub mod RatioAtPosition
 pub mod Taken
-pub mod Whole
+pub mod SameCounts

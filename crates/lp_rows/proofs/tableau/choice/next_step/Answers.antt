@@ -1,7 +1,7 @@
 use Rattle.std.proofs.Common.{◌∙◌, refl, Some, None}
 use Rattle.spec_simplex.specs.declared.ends.Choice.TheVariants.{End}
 use Rattle.spec_simplex.specs.declared.ends.PrimalEnd.TheVariants.{Optimal}
-use Rattle.lp_rows.proofs.Stops.{by_some, choice_is, priced_is}
+use Rattle.lp_rows.proofs.RatioAtPosition.{by_some, choice_is, priced_is}
 use Rattle.lp_rows.proofs.tableau.choice.next_step.Goals as goal
 
 pub returns-in-Some-clause-chosen : goal.returns-in-Some-clause-chosen

@@ -2,7 +2,7 @@ use Rattle.std.proofs.Common.{option_map}
 use Rattle.spec_simplex.specs.Step.{choice_by}
 use Rattle.lp_rows.specs.Ratio.{best_of}
 use Rattle.lp_rows.specs.Shows.{height, width}
-use Rattle.lp_rows.proofs.Stops.{chosen_by}
+use Rattle.lp_rows.proofs.RatioAtPosition.{chosen_by}
 use Rattle.lp_rows.proofs.tableau.choice.step_in.Goals as goal
 
 pub returns-in-Some-clause-chosen : goal.returns-in-Some-clause-chosen

@@ -1,7 +1,7 @@
 use Rattle.std.proofs.Common.{refl, ◌∙◌}
 use Rattle.lp_natural.specs.Whole.{whole}
 use Rattle.lp_rows.proofs.Cleared.{written}
-use Rattle.lp_rows.proofs.Whole.{flipped_is}
+use Rattle.lp_rows.proofs.SameCounts.{flipped_is}
 use Rattle.lp_rows.proofs.tableau.pivot.flip.Goals as goal
 
 pub returns : goal.returns

@@ -3,7 +3,7 @@ use Rattle.lp_natural.specs.Whole.{whole}
 use Rattle.lp_rows.specs.declared.fractions.Row.{Row}
 use Rattle.lp_rows.proofs.Cleared.{written}
 use Rattle.lp_rows.specs.Changes.{upper_in, basic_in, left_upper}
-use Rattle.lp_rows.proofs.Whole.{basic_read, pivoted_is}
+use Rattle.lp_rows.proofs.SameCounts.{basic_read, pivoted_is}
 use Rattle.lp_rows.proofs.tableau.pivot.pivot.Goals as goal
 
 pub returns : goal.returns

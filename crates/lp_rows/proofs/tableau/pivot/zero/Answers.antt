@@ -1,4 +1,4 @@
-use Rattle.lp_rows.proofs.Whole.{none_on}
+use Rattle.lp_rows.proofs.SameCounts.{none_on}
 use Rattle.lp_rows.proofs.tableau.pivot.zero.Goals as goal
 
 pub returns : goal.returns

@@ -1,7 +1,7 @@
 use Rattle.std.proofs.Common.{◌≡◌, option_map, refl, arith}
 use Rattle.lp_rows.specs.Ratio.{best_of}
 use Rattle.lp_rows.specs.Shows.{height}
-use Rattle.lp_rows.proofs.Stops.{stop_more, range_is, one_position, all_positions}
+use Rattle.lp_rows.proofs.RatioAtPosition.{stop_more, range_is, one_position, all_positions}
 use Rattle.lp_rows.proofs.tableau.ratio.first_stop.Goals as goal
 
 pub loop-i-init : goal.loop-i-init

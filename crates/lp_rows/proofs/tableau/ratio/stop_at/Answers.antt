@@ -1,5 +1,5 @@
 use Rattle.lp_rows.specs.Ratio.{bound_of}
-use Rattle.lp_rows.proofs.Stops.{stays}
+use Rattle.lp_rows.proofs.RatioAtPosition.{stays}
 use Rattle.lp_rows.proofs.tableau.ratio.stop_at.Goals as goal
 
 pub returns-then-is_zero-clause-value : goal.returns-then-is_zero-clause-value

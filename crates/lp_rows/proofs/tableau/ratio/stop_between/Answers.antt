@@ -1,5 +1,5 @@
 use Rattle.lp_natural.specs.Whole.{whole}
-use Rattle.lp_rows.proofs.Stops.{between}
+use Rattle.lp_rows.proofs.RatioAtPosition.{between}
 use Rattle.lp_rows.proofs.tableau.ratio.stop_between.Goals as goal
 
 pub returns-in-Some-clause-value : goal.returns-in-Some-clause-value

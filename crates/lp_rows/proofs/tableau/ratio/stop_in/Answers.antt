@@ -1,5 +1,5 @@
 use Rattle.std.proofs.Common.{◌∙◌, ap, get_or}
-use Rattle.lp_rows.proofs.Stops.{by_some, position_is}
+use Rattle.lp_rows.proofs.RatioAtPosition.{by_some, position_is}
 use Rattle.lp_rows.proofs.tableau.ratio.stop_in.Goals as goal
 
 pub returns-clause-value : goal.returns-clause-value
