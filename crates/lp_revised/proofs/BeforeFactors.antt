@@ -9,7 +9,7 @@ use Rattle.spec_simplex.specs.Start.{start_basic, start_value, start_status, art
 use Rattle.spec_simplex.specs.Tableau.{Tableau, IsTableauShape}
 use Rattle.spec_factor.specs.Factors.{Pair}
 use Rattle.spec_factor.specs.Revised.{bare_of}
-use Rattle.lp_tableau.proofs.Begun.{begun_shape}
+use Rattle.lp_tableau.proofs.TableauParts.{begun_shape}
 use Rattle.lp_revised.specs.State.{IsState, state_of}
 
 module _ (f : Form) (starts : List (RowStart ℚ)) where

@@ -1,8 +1,8 @@
-pub mod Begun
+pub mod TableauParts
 pub mod Budget
 pub mod Done
 pub mod Flips
-pub mod Lists
+pub mod GrowingLists
 pub mod Moved
 pub mod Pivots
 pub mod Priced
@@ -13,4 +13,4 @@ pub mod Turned
 pub mod TwinRows
 pub mod Based
 pub mod Solving
-pub mod Columns
+pub mod FormColumns

@@ -1,6 +1,6 @@
 -- The statuses of the basis, and one for each artificial.
 use Rattle.std.proofs.Common.{refl, arith}
-use Rattle.lp_tableau.proofs.Lists.{filled_up}
+use Rattle.lp_tableau.proofs.GrowingLists.{filled_up}
 use Rattle.lp_row_runs.proofs.equations.statuses.Goals as goal
 
 pub returns : goal.returns

@@ -1,6 +1,6 @@
 -- The bounds, and 0 for each artificial.
 use Rattle.std.proofs.Common.{ap, refl, Some, arith}
-use Rattle.lp_tableau.proofs.Lists.{filled_up}
+use Rattle.lp_tableau.proofs.GrowingLists.{filled_up}
 use Rattle.lp_row_runs.proofs.equations.with_artificials.Goals as goal
 
 pub returns : goal.returns

@@ -1,7 +1,7 @@
 -- One position more, and all.
 use Rattle.std.proofs.Common.{[], None, get_or, refl}
 use Rattle.spec_simplex.specs.Eliminate.{or_first}
-use Rattle.lp_tableau.proofs.Lists.{more_made, all_made}
+use Rattle.lp_tableau.proofs.GrowingLists.{more_made, all_made}
 use Rattle.lp_tableau.proofs.basis.columns.Goals as goal
 
 pub loop-i-preserved : goal.loop-i-preserved

@@ -2,7 +2,7 @@
 use Rattle.std.proofs.Common.{◌≡◌, ap₂, ◌∙◌, subst, replicate, rules}
 use Rattle.std.specs.Result.{IfOk}
 use Rattle.spec_simplex.specs.declared.ends.RowStart.TheVariants.{Within}
-use Rattle.lp_tableau.proofs.Begun.{equations_are}
+use Rattle.lp_tableau.proofs.TableauParts.{equations_are}
 use Rattle.lp_tableau.proofs.basis.equations.Goals as goal
 
 pub rows-requires-2-clause-starts : goal.rows-requires-2-clause-starts

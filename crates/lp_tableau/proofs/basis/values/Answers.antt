@@ -4,7 +4,7 @@ use Rattle.std.proofs.lemmas.List.{get_or_read}
 use Rattle.spec_pivot.specs.declared.status.Status.TheVariants.{Basic}
 use Rattle.spec_simplex.specs.Tableau.{stand}
 use Rattle.lp_tableau.specs.Based.{stand_in}
-use Rattle.lp_tableau.proofs.Lists.{more_made, all_made}
+use Rattle.lp_tableau.proofs.GrowingLists.{more_made, all_made}
 use Rattle.lp_tableau.proofs.basis.values.Goals as goal
 
 pub loop-k-preserved : goal.loop-k-preserved

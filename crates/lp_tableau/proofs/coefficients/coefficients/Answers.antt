@@ -4,7 +4,7 @@ use Rattle.std.proofs.lemmas.List.{length-replicate}
 use Rattle.spec_exact.specs.Fraction.{0ℚ}
 use Rattle.lp_tableau.specs.Begun.{HoldsColumns}
 use Rattle.lp_tableau.specs.Grid.{rows_of}
-use Rattle.lp_tableau.proofs.Columns.{zero_columns}
+use Rattle.lp_tableau.proofs.FormColumns.{zero_columns}
 use Rattle.lp_tableau.proofs.coefficients.coefficients.Goals as goal
 
 pub loop-j-init : goal.loop-j-init

@@ -1,5 +1,5 @@
 -- No entry is put, one entry more, and all.
-use Rattle.lp_tableau.proofs.Columns.{none_put, entry_inside, more_put, all_put}
+use Rattle.lp_tableau.proofs.FormColumns.{none_put, entry_inside, more_put, all_put}
 use Rattle.lp_tableau.proofs.Done.{row_inside, column_inside}
 use Rattle.lp_tableau.proofs.coefficients.put_column.Goals as goal
 

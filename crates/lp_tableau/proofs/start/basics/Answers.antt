@@ -1,7 +1,7 @@
 -- One position more, and all.
 use Rattle.std.proofs.Common.{[]}
 use Rattle.spec_simplex.specs.Start.{start_basic}
-use Rattle.lp_tableau.proofs.Lists.{more_made, all_made}
+use Rattle.lp_tableau.proofs.GrowingLists.{more_made, all_made}
 use Rattle.lp_tableau.proofs.start.basics.Goals as goal
 
 pub loop-i-preserved : goal.loop-i-preserved

@@ -1,7 +1,7 @@
 -- The parts are those of the tableau.
 use Rattle.std.proofs.Common.{sym, subst, ◌∙◌}
 use Rattle.spec_simplex.specs.Tableau.{IsTableauShape}
-use Rattle.lp_tableau.proofs.Begun.{begun_shape, begun_is}
+use Rattle.lp_tableau.proofs.TableauParts.{begun_shape, begun_is}
 use Rattle.lp_tableau.proofs.start.begun.Goals as goal
 
 pub from_parts-requires : goal.from_parts-requires

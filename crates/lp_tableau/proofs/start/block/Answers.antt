@@ -2,7 +2,7 @@
 use Rattle.std.proofs.Common.{refl, ap, ◌≡◌, ◌∙◌, arith}
 use Rattle.lp_tableau.specs.Begun.{start_front}
 use Rattle.lp_tableau.specs.Grid.{flat}
-use Rattle.lp_tableau.proofs.Lists.{more_flat}
+use Rattle.lp_tableau.proofs.GrowingLists.{more_flat}
 use Rattle.lp_tableau.proofs.start.block.Goals as goal
 
 pub loop-i-preserved : goal.loop-i-preserved

@@ -2,7 +2,7 @@
 use Rattle.std.proofs.Common.{◌+◌, replicate}
 use Rattle.spec_exact.specs.Fraction.{0ℚ}
 use Rattle.spec_simplex.specs.Start.{first_cost}
-use Rattle.lp_tableau.proofs.Lists.{more_mapped, all_mapped}
+use Rattle.lp_tableau.proofs.GrowingLists.{more_mapped, all_mapped}
 use Rattle.lp_tableau.proofs.start.first_costs.Goals as goal
 
 pub loop-start-preserved : goal.loop-start-preserved

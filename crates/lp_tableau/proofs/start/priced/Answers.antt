@@ -1,7 +1,7 @@
 -- A refusal in the reduced costs, and the tableau with them.
 use Rattle.std.proofs.Common.{◌∙◌, Some}
 use Rattle.spec_exact.specs.Narrow.{number_limit}
-use Rattle.lp_tableau.proofs.Begun.{price_stops, is_priced}
+use Rattle.lp_tableau.proofs.TableauParts.{price_stops, is_priced}
 use Rattle.lp_tableau.proofs.start.priced.Goals as goal
 
 pub returns-clause-err : goal.returns-clause-err

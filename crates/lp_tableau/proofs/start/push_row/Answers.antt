@@ -1,6 +1,6 @@
 -- One column more, and all.
 use Rattle.spec_simplex.specs.Start.{start_entry, start_at}
-use Rattle.lp_tableau.proofs.Lists.{more_made, all_made}
+use Rattle.lp_tableau.proofs.GrowingLists.{more_made, all_made}
 use Rattle.lp_tableau.proofs.start.push_row.Goals as goal
 
 pub loop-k-preserved : goal.loop-k-preserved

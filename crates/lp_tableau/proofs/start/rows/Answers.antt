@@ -1,6 +1,6 @@
 -- The parts, with their twins.
 use Rattle.std.proofs.Common.{◌∙◌}
-use Rattle.lp_tableau.proofs.Begun.{grid_block, grid_is, is_twinned, twins_are}
+use Rattle.lp_tableau.proofs.TableauParts.{grid_block, grid_is, is_twinned, twins_are}
 use Rattle.lp_tableau.proofs.start.rows.Goals as goal
 
 pub from_block-grid-requires : goal.from_block-grid-requires

@@ -4,7 +4,7 @@ use Rattle.std.specs.Result.{IfOk, IfErr}
 use Rattle.std.proofs.lemmas.Result.{err_from_is_err_and}
 use Rattle.spec_exact.proofs.Stops.{length-list_run}
 use Rattle.lp_tableau.specs.Answer.{Stops}
-use Rattle.lp_tableau.proofs.Begun.{rows_stop, start_is}
+use Rattle.lp_tableau.proofs.TableauParts.{rows_stop, start_is}
 use Rattle.lp_tableau.proofs.start.start_cold.Goals as goal
 
 pub returns-in_err-starts-clause-err : goal.returns-in_err-starts-clause-err

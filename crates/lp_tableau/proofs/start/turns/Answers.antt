@@ -1,7 +1,7 @@
 -- One row more, and all.
 use Rattle.std.proofs.Common.{[]}
 use Rattle.lp_tableau.specs.Begun.{is_below}
-use Rattle.lp_tableau.proofs.Lists.{more_mapped, all_mapped}
+use Rattle.lp_tableau.proofs.GrowingLists.{more_mapped, all_mapped}
 use Rattle.lp_tableau.proofs.start.turns.Goals as goal
 
 pub loop-start-preserved : goal.loop-start-preserved

@@ -1,6 +1,6 @@
 -- One artificial more, and all.
 use Rattle.spec_simplex.specs.Start.{artificial_upper}
-use Rattle.lp_tableau.proofs.Lists.{more_mapped, all_mapped}
+use Rattle.lp_tableau.proofs.GrowingLists.{more_mapped, all_mapped}
 use Rattle.lp_tableau.proofs.start.uppers.Goals as goal
 
 pub loop-start-preserved : goal.loop-start-preserved

@@ -1,7 +1,7 @@
 -- One column more, and all.
 use Rattle.std.proofs.Common.{[]}
 use Rattle.spec_simplex.specs.Start.{start_value}
-use Rattle.lp_tableau.proofs.Lists.{more_made, all_made}
+use Rattle.lp_tableau.proofs.GrowingLists.{more_made, all_made}
 use Rattle.lp_tableau.proofs.start.values.Goals as goal
 
 pub loop-k-preserved : goal.loop-k-preserved

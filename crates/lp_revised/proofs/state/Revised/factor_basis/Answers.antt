@@ -1,7 +1,7 @@
 -- The status of one column more, and all of them.
 use Rattle.std.proofs.Common.{[], ◌∙◌}
 use Rattle.spec_runs.specs.Cold.{basis_status}
-use Rattle.lp_tableau.proofs.Lists.{more_made, all_made}
+use Rattle.lp_tableau.proofs.GrowingLists.{more_made, all_made}
 use Rattle.lp_revised.proofs.state.Revised.factor_basis.Goals as goal
 
 pub loop-k-preserved : goal.loop-k-preserved

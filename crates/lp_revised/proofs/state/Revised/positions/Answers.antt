@@ -4,7 +4,7 @@ use Rattle.std.proofs.lemmas.List.{get_or_default}
 use Rattle.std.proofs.lemmas.List.Elements.{All-push}
 use Rattle.spec_simplex.specs.Tableau.{all_columns}
 use Rattle.spec_factor.specs.Revised.{standing}
-use Rattle.lp_tableau.proofs.Lists.{more_mapped, all_mapped}
+use Rattle.lp_tableau.proofs.GrowingLists.{more_mapped, all_mapped}
 use Rattle.lp_revised.proofs.state.Revised.positions.Goals as goal
 
 pub loop-place-preserved : goal.loop-place-preserved
