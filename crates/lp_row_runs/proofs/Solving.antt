@@ -25,7 +25,7 @@ use Rattle.spec_simplex.proofs.Turned.{turned_entry}
 use Rattle.spec_runs.proofs.PhaseSteps.{given}
 use Rattle.spec_runs.proofs.Counts.{basic_test}
 use Rattle.spec_runs.proofs.Eliminated.{Solving, eliminated_below}
-use Rattle.lp_tableau.proofs.Solving.{is_solved}
+use Rattle.lp_tableau.proofs.EliminatedColumns.{is_solved}
 use Rattle.lp_natural.specs.declared.words.signed.Signed.{Signed}
 use Rattle.lp_rows.specs.declared.fractions.Row.{Row}
 use Rattle.lp_rows.specs.Ratio.{bound_of}

@@ -15,7 +15,7 @@ use Rattle.spec_simplex.specs.Tableau.{at_place}
 use Rattle.lp_tableau.specs.Begun.{HoldsColumns}
 use Rattle.lp_tableau.specs.Grid.{rows_of, IsGrid}
 use Rattle.lp_tableau.proofs.Done.{with_item, grid_row, row_inside, grid_set}
-use Rattle.lp_tableau.proofs.Rows.{length-rows_of, at-rows_of, inside, row_width}
+use Rattle.lp_tableau.proofs.BlockRows.{length-rows_of, at-rows_of, inside, row_width}
 
 -- ---- one item of rows
 module _ (rows : List (List ℚ)) (p k : ℕ) (v : ℚ) (h : p < length rows) where

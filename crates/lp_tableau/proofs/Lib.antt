@@ -6,11 +6,11 @@ pub mod GrowingLists
 pub mod Moved
 pub mod Pivots
 pub mod Priced
-pub mod Rows
-pub mod Signs
+pub mod BlockRows
+pub mod NegatedOperands
 pub mod Spots
 pub mod Turned
 pub mod TwinRows
 pub mod Based
-pub mod Solving
+pub mod EliminatedColumns
 pub mod FormColumns

@@ -18,7 +18,7 @@ use Rattle.lp_tableau.specs.Answer.{GivesRun}
 use Rattle.lp_tableau.specs.Grid.{IsGrid}
 use Rattle.lp_tableau.specs.Twins.{IsTwinned, signed, twin, with_twins, twinned, scaled_by, cleared_by}
 use Rattle.lp_tableau.proofs.Done.{grid_row}
-use Rattle.lp_tableau.proofs.Signs.{quotient_signed, less_signed}
+use Rattle.lp_tableau.proofs.NegatedOperands.{quotient_signed, less_signed}
 
 -- ---- lists of runs
 list_same : (n : ℕ) (f g : ℕ → Run ℚ) → ((k : ℕ) → k < n → g k ≡ f k) → list_run n g ≡ list_run n f

@@ -1,6 +1,6 @@
 -- The place in the block.
 use Rattle.std.proofs.Common.{arith}
-use Rattle.lp_tableau.proofs.Rows.{place_in}
+use Rattle.lp_tableau.proofs.BlockRows.{place_in}
 use Rattle.lp_tableau.proofs.grid.spot.Goals as goal
 
 pub overflow_mul-result : goal.overflow_mul-result

@@ -2,8 +2,8 @@
 use Rattle.std.proofs.Common.{◌+◌, sym, subst₂, ◌∙◌, Some, arith}
 use Rattle.std.proofs.lemmas.Result.{err_from_is_err_and}
 use Rattle.spec_exact.specs.Narrow.{number_limit}
-use Rattle.lp_tableau.proofs.Solving.{Solving, solving_begins, solving_passes}
-use Rattle.lp_tableau.proofs.Solving.{solving_goes_on, solving_stops, solving_ends}
+use Rattle.lp_tableau.proofs.EliminatedColumns.{Solving, solving_begins, solving_passes}
+use Rattle.lp_tableau.proofs.EliminatedColumns.{solving_goes_on, solving_stops, solving_ends}
 use Rattle.lp_tableau.proofs.solve.eliminate.Goals as goal
 use Rattle.lp_tableau.proofs.solve.eliminate.Goals.{then-is_basic_at+in_ok-solve, else-is_basic_at}
 

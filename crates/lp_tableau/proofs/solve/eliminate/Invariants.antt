@@ -1,7 +1,7 @@
 -- The loop over the columns.
 use Rattle.std.proofs.Common.{Some}
 use Rattle.spec_exact.specs.Narrow.{number_limit}
-use Rattle.lp_tableau.proofs.Solving.{Solving}
+use Rattle.lp_tableau.proofs.EliminatedColumns.{Solving}
 use Rattle.lp_tableau.proofs.solve.eliminate.Given as goal
 
 -- the columns so far have their positions

@@ -1,6 +1,6 @@
 -- The least open position.
 use Rattle.std.proofs.Common.{sym, ◌∙◌, arith}
-use Rattle.lp_tableau.proofs.Solving.{open_at, open_entry}
+use Rattle.lp_tableau.proofs.EliminatedColumns.{open_at, open_entry}
 use Rattle.lp_tableau.proofs.solve.open.Goals as goal
 
 pub returns-then-is_open-clause-least : goal.returns-then-is_open-clause-least

@@ -3,7 +3,7 @@ use Rattle.std.proofs.Common.{Some, sym, ap₂, subst₂, ◌∙◌, arith}
 use Rattle.spec_exact.specs.Narrow.{number_limit}
 use Rattle.spec_simplex.specs.Step.{turned_run}
 use Rattle.lp_tableau.specs.Grid.{IsGrid}
-use Rattle.lp_tableau.proofs.Solving.{is_singular, is_solved, one_inside}
+use Rattle.lp_tableau.proofs.EliminatedColumns.{is_singular, is_solved, one_inside}
 use Rattle.lp_tableau.proofs.solve.solve.Goals as goal
 
 pub returns-in_default-clause-solved : goal.returns-in_default-clause-solved

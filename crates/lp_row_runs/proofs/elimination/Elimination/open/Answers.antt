@@ -1,6 +1,6 @@
 -- The least open position.
 use Rattle.std.proofs.Common.{sym, ◌∙◌, arith}
-use Rattle.lp_tableau.proofs.Solving.{none_more, open_at}
+use Rattle.lp_tableau.proofs.EliminatedColumns.{none_more, open_at}
 use Rattle.lp_row_runs.proofs.elimination.Elimination.open.Goals as goal
 
 pub loop-i-preserved : goal.loop-i-preserved

@@ -2,7 +2,7 @@
 use Rattle.std.proofs.Common.{◌<◌, length, get_or, subst, ap, ◌∙◌}
 use Rattle.std.proofs.lemmas.List.{get_or_default}
 use Rattle.spec_exact.specs.Fraction.{0ℚ}
-use Rattle.lp_tableau.proofs.Rows.{row_in, column_in, at_is}
+use Rattle.lp_tableau.proofs.BlockRows.{row_in, column_in, at_is}
 use Rattle.lp_tableau.proofs.grid.Grid.at.Goals as goal
 
 pub spot-requires-clause-row : goal.spot-requires-clause-row

@@ -1,5 +1,5 @@
 -- By the invariant.
-use Rattle.lp_tableau.proofs.Rows.{narrow_rows}
+use Rattle.lp_tableau.proofs.BlockRows.{narrow_rows}
 use Rattle.lp_tableau.proofs.grid.Grid.narrow.Goals as goal
 
 pub returns : goal.returns

@@ -1,5 +1,5 @@
 -- The place in the block.
-use Rattle.lp_tableau.proofs.Rows.{row_in, column_in, set_is}
+use Rattle.lp_tableau.proofs.BlockRows.{row_in, column_in, set_is}
 use Rattle.lp_tableau.proofs.grid.Grid.set.Goals as goal
 
 pub spot-place-requires-clause-row : goal.spot-place-requires-clause-row
