@@ -9,7 +9,7 @@ pub mod Priced
 pub mod BlockRows
 pub mod NegatedOperands
 pub mod Spots
-pub mod Turned
+pub mod PivotRows
 pub mod TwinRows
 pub mod Based
 pub mod EliminatedColumns

@@ -3,7 +3,7 @@ use Rattle.std.proofs.Common.{◌+◌, take, Ok, Err, refl, subst, sym, ◌∙�
 use Rattle.std.proofs.lemmas.Result.{err_from_is_err_and}
 use Rattle.lp_tableau.specs.Grid.{IsListed}
 use Rattle.lp_tableau.proofs.TwinRows.{scaled_twins}
-use Rattle.lp_tableau.proofs.Turned.{IsTurning, first_refused, row_refused, row_passed, row_turned, rows_turned}
+use Rattle.lp_tableau.proofs.PivotRows.{IsTurning, first_refused, row_refused, row_passed, row_turned, rows_turned}
 use Rattle.lp_tableau.proofs.elimination.turn.Goals as goal
 use Rattle.lp_tableau.proofs.elimination.turn.Goals.{then-i-p+in_ok-clear_twins, else-i-p}
 

@@ -1,5 +1,5 @@
 -- The loop over the rows.
-use Rattle.lp_tableau.proofs.Turned.{IsTurning}
+use Rattle.lp_tableau.proofs.PivotRows.{IsTurning}
 use Rattle.lp_tableau.proofs.elimination.turn.Given as goal
 
 -- the rows so far are done, and row p is as it was
