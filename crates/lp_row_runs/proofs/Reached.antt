@@ -14,7 +14,7 @@ use Rattle.spec_simplex.specs.Tableau.{Tableau}
 use Rattle.spec_simplex.specs.Phases.{done_run, is_stuck, phase_two_run}
 use Rattle.spec_simplex.specs.Tables.{IsTableauOf, IsWithinBounds, StepsTo}
 use Rattle.spec_simplex.specs.Begins.{IsProper, Begins}
-use Rattle.spec_simplex.proofs.Begun.{start_begins}
+use Rattle.spec_simplex.proofs.FirstTableau.{start_begins}
 use Rattle.spec_simplex.proofs.LimitPhases.{two_agrees}
 use Rattle.spec_simplex.proofs.LimitStart.{flip_agrees, pivot_agrees, start_agrees}
 use Rattle.spec_simplex.proofs.PhaseTwo.{second_phase}

@@ -30,7 +30,7 @@ use Rattle.spec_check.specs.declared.solve_end.SolveEnd.TheVariants as cold
 use Rattle.spec_runs.specs.Accepted.{IsAccepted}
 use Rattle.spec_runs.specs.Cold as colds
 use Rattle.spec_runs.proofs.NoCycle.{few_costs}
-use Rattle.spec_simplex.proofs.Formed.{form_proper}
+use Rattle.spec_simplex.proofs.FormOfModel.{form_proper}
 use Rattle.spec_runs.specs.declared.ends.Route.TheVariants as route
 use Rattle.spec_runs.specs.declared.ends.Warm.TheVariants as warm
 use Rattle.spec_runs.specs.Based.{BeginsFrom}

@@ -15,9 +15,9 @@ use Rattle.spec_check.specs.declared.solve_end.SolveEnd.TheVariants as outcome
 use Rattle.spec_runs.specs.Accepted.{IsAccepted}
 use Rattle.spec_runs.specs.Cold.{ExactSolveEnd, certificate_of, basis_of, pivots_of}
 use Rattle.spec_runs.specs.Cold.{checked, answered, after_phases, after_form, cold}
-use Rattle.spec_simplex.proofs.Formed.{form_is, cost_length, cost_other}
+use Rattle.spec_simplex.proofs.FormOfModel.{form_is, cost_length, cost_other}
 use Rattle.spec_simplex.proofs.LimitStart.{form_without}
-use Rattle.spec_simplex.proofs.Formed.{form_proper}
+use Rattle.spec_simplex.proofs.FormOfModel.{form_proper}
 use Rattle.spec_runs.proofs.ColdSolves.{same_or_refused, end_accepted}
 use Rattle.spec_factor.specs.Over.{over_run, answer_in, after_over, over_factors}
 use Rattle.spec_factor.specs.Same.{HasCosts}

@@ -32,7 +32,7 @@ use Rattle.spec_simplex.proofs.LimitStart.{row_start_agrees, priced_agrees}
 use Rattle.spec_simplex.proofs.LimitPhases.{two_agrees}
 use Rattle.spec_simplex.proofs.RowStarts.{RowBegins, first_sum, start_is}
 use Rattle.spec_simplex.proofs.FirstPhase.{cost_before}
-use Rattle.spec_simplex.proofs.Begun.{first_few, begun_is, begun_within}
+use Rattle.spec_simplex.proofs.FirstTableau.{first_few, begun_is, begun_within}
 use Rattle.spec_simplex.proofs.PhaseTwo.{some_of, second_phase}
 use Rattle.spec_factor.specs.Factors.{Pair, column_entry}
 use Rattle.spec_factor.specs.Basis.{IsPair, StandsFor, basis_of}

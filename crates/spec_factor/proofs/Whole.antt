@@ -20,10 +20,10 @@ use Rattle.spec_simplex.specs.Tableau.{Tableau, form_columns, all_columns, is_ar
 use Rattle.spec_exact.proofs.Stops.{length-made, get_or-made}
 use Rattle.spec_simplex.specs.Tables.{IsTableauOf}
 use Rattle.spec_simplex.specs.Begins.{form_rows, signs_of}
-use Rattle.spec_simplex.proofs.Columns.{by_kind}
+use Rattle.spec_simplex.proofs.ColumnKinds.{by_kind}
 use Rattle.spec_simplex.proofs.Equations.{row_structural, row_logical, row_artificial, row_past}
 use Rattle.spec_simplex.proofs.Lists.{by_lt, past_row}
-use Rattle.spec_simplex.proofs.Begun.{sign_square, twice}
+use Rattle.spec_simplex.proofs.FirstTableau.{sign_square, twice}
 use Rattle.spec_factor.specs.Factors.{Pair, column_entry}
 use Rattle.spec_factor.specs.Basis.{forward, basis_of}
 use Rattle.spec_factor.specs.Revised.{sign_of, factor_column}

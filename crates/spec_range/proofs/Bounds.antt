@@ -6,9 +6,9 @@ use Rattle.spec_pivot.specs.declared.status.Status.{Status}
 use Rattle.spec_pivot.specs.Simplex.{Bounds}
 use Rattle.spec_simplex.specs.Form.{Form, form_lower, form_upper, formed}
 use Rattle.spec_simplex.specs.Eliminate.{CanStand, IsBasisOf, basics_below, basis_at}
-use Rattle.spec_simplex.proofs.Columns.{by_kind}
-use Rattle.spec_simplex.proofs.Formed.{Limited, formed_proper}
-use Rattle.spec_simplex.proofs.Formed.{lower_structural, upper_structural, lower_logical, upper_logical}
+use Rattle.spec_simplex.proofs.ColumnKinds.{by_kind}
+use Rattle.spec_simplex.proofs.FormOfModel.{Limited, formed_proper}
+use Rattle.spec_simplex.proofs.FormOfModel.{lower_structural, upper_structural, lower_logical, upper_logical}
 use Rattle.spec_range.proofs.Started.{form_bounds, bounded, fixed_after}
 use Rattle.spec_range.proofs.Compared.{SameBounds}
 

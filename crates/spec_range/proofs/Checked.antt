@@ -17,9 +17,9 @@ use Rattle.spec_simplex.specs.Start.{cost_at}
 use Rattle.spec_simplex.specs.Tableau.{Tableau, value_at, reduced_at, status_at}
 use Rattle.spec_simplex.specs.Eliminate.{IsBasisOf, start_from}
 use Rattle.spec_simplex.specs.Tables.{table_of}
-use Rattle.spec_simplex.proofs.Columns.{by_kind}
-use Rattle.spec_simplex.proofs.Formed.{Limited, formed_proper, cost_length, cost_other}
-use Rattle.spec_simplex.proofs.Formed.{lower_structural, upper_structural, lower_logical, upper_logical}
+use Rattle.spec_simplex.proofs.ColumnKinds.{by_kind}
+use Rattle.spec_simplex.proofs.FormOfModel.{Limited, formed_proper, cost_length, cost_other}
+use Rattle.spec_simplex.proofs.FormOfModel.{lower_structural, upper_structural, lower_logical, upper_logical}
 use Rattle.spec_runs.specs.Cold.{point, multipliers}
 use Rattle.spec_runs.proofs.FormCosts.{cost_structural}
 use Rattle.spec_runs.proofs.EndTight.{weight_at, column_at, logical_is_row}

@@ -18,7 +18,7 @@ use Rattle.spec_simplex.specs.Start.{cost_at}
 use Rattle.spec_simplex.specs.Tableau.{Tableau}
 use Rattle.spec_simplex.specs.Eliminate.{IsBasisOf, start_from}
 use Rattle.spec_simplex.specs.Tables.{table_of}
-use Rattle.spec_simplex.proofs.Formed.{Limited, form_is}
+use Rattle.spec_simplex.proofs.FormOfModel.{Limited, form_is}
 use Rattle.spec_runs.specs.Cold.{point, multipliers}
 use Rattle.spec_pivot.specs.Dual.{Suits}
 use Rattle.spec_runs.specs.Based.{equations}

@@ -14,8 +14,8 @@ use Rattle.spec_simplex.specs.Phases.{PrimalEnded, PhasesEnd, Finished, phases_r
 use Rattle.std.proofs.Common.{false}
 use Rattle.spec_simplex.specs.Begins.{form_rows, signs_of}
 use Rattle.spec_simplex.specs.Tables.{bounds_of}
-use Rattle.spec_simplex.proofs.Begun.{Started, sign_square}
-use Rattle.spec_simplex.proofs.Formed.{Limited, form_is}
+use Rattle.spec_simplex.proofs.FirstTableau.{Started, sign_square}
+use Rattle.spec_simplex.proofs.FormOfModel.{Limited, form_is}
 use Rattle.spec_simplex.proofs.Phases.{IsFirst, by_phases, second_bounds, second_fixed}
 use Rattle.spec_simplex.proofs.Walks.{IsEnd}
 use Rattle.spec_simplex.proofs.LimitStart.{form_without}

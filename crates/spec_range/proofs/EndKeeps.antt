@@ -31,9 +31,9 @@ use Rattle.spec_simplex.proofs.Statuses.{basic_if}
 use Rattle.spec_exact.proofs.Stops.{get_or-made, made_same}
 use Rattle.spec_simplex.specs.Begins.{form_rows}
 use Rattle.spec_simplex.specs.Tables.{table_of}
-use Rattle.spec_simplex.proofs.Columns.{by_kind, sum_by_kind, structural_at, logical_at, artificial_at}
+use Rattle.spec_simplex.proofs.ColumnKinds.{by_kind, sum_by_kind, structural_at, logical_at, artificial_at}
 use Rattle.spec_simplex.proofs.Equations.{row_structural, row_logical, row_artificial}
-use Rattle.spec_simplex.proofs.Formed.{Limited, HasBounds, cost_other, formed_proper}
+use Rattle.spec_simplex.proofs.FormOfModel.{Limited, HasBounds, cost_other, formed_proper}
 use Rattle.spec_runs.specs.Cold as cold
 use Rattle.spec_runs.specs.Based.{equations, IsDependent}
 use Rattle.spec_runs.proofs.EndBases.{basis_fits}

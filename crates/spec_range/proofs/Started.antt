@@ -16,7 +16,7 @@ use Rattle.spec_simplex.specs.Eliminate.{IsBasisOf, basis_at, basis_status, basi
 use Rattle.spec_simplex.specs.Eliminate.{eliminate_run, valued_run, with_values, filled_run, start_from}
 use Rattle.spec_simplex.specs.Tables.{table_of, bounds_of}
 use Rattle.spec_simplex.specs.Begins.{IsProper}
-use Rattle.spec_simplex.proofs.Formed.{HasBounds}
+use Rattle.spec_simplex.proofs.FormOfModel.{HasBounds}
 use Rattle.spec_simplex.proofs.Lists.{by_lt}
 use Rattle.spec_simplex.proofs.Runs.{then_ok, refused_ok}
 use Rattle.spec_pivot.specs.Dual.{IsOrdered}

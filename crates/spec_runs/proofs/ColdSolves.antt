@@ -26,7 +26,7 @@ use Rattle.spec_check.specs.declared.solve_end.SolveEnd.TheVariants as outcome
 use Rattle.spec_runs.specs.Cold.{ExactSolveEnd, certificate_of, basis_of, pivots_of}
 use Rattle.spec_runs.specs.Cold.{checked, answered, after_phases, after_form, cold}
 use Rattle.spec_runs.specs.Accepted.{IsAccepted}
-use Rattle.spec_simplex.proofs.Formed.{form_is}
+use Rattle.spec_simplex.proofs.FormOfModel.{form_is}
 use Rattle.spec_runs.proofs.FormCosts.{clash_is}
 use Rattle.spec_simplex.proofs.Phases.{phases_enough}
 use Rattle.spec_runs.proofs.Phases.{phases_show}

@@ -23,7 +23,7 @@ use Rattle.spec_simplex.specs.Begins.{form_rows}
 use Rattle.spec_simplex.specs.Tableau.{is_basic}
 use Rattle.spec_runs.specs.Cold as cold
 use Rattle.spec_simplex.specs.Tables.{table_of}
-use Rattle.spec_simplex.proofs.Formed.{HasBounds}
+use Rattle.spec_simplex.proofs.FormOfModel.{HasBounds}
 use Rattle.spec_simplex.proofs.Equations.{row_logical, row_artificial}
 use Rattle.spec_simplex.proofs.Runs.{get_or-made}
 use Rattle.spec_simplex.specs.Eliminate.{basis_at, basics_below, CanStand, IsBasisOf}

@@ -17,8 +17,8 @@ use Rattle.spec_simplex.specs.declared.ends.RowStart.{RowStart}
 use Rattle.spec_simplex.specs.Form.{formed}
 use Rattle.spec_simplex.specs.Start.{start_at, cost_at, first_costs, artificial_upper}
 use Rattle.spec_simplex.specs.Begins.{form_rows, signs_of}
-use Rattle.spec_simplex.proofs.Formed.{Limited}
-use Rattle.spec_simplex.proofs.Formed.{HasBounds}
+use Rattle.spec_simplex.proofs.FormOfModel.{Limited}
+use Rattle.spec_simplex.proofs.FormOfModel.{HasBounds}
 use Rattle.spec_runs.proofs.EndTight.{tight_structural, tight_logical, weight_at, column_at}
 use Rattle.spec_simplex.proofs.FirstPhase.{cost_before, balance_positive}
 

@@ -12,9 +12,9 @@ use Rattle.spec_pivot.specs.Simplex.{Bounds, Table, IsInside, IsWithin, IsEligib
 use Rattle.spec_simplex.specs.Form.{formed}
 use Rattle.spec_simplex.specs.Start.{cost_at}
 use Rattle.spec_simplex.specs.Begins.{form_rows}
-use Rattle.spec_simplex.proofs.Formed.{Limited, cost_other}
+use Rattle.spec_simplex.proofs.FormOfModel.{Limited, cost_other}
 use Rattle.spec_runs.proofs.FormCosts.{cost_structural}
-use Rattle.spec_simplex.proofs.Formed.{HasBounds}
+use Rattle.spec_simplex.proofs.FormOfModel.{HasBounds}
 use Rattle.spec_runs.proofs.EndTight.{within_structural, within_logical, tight_structural}
 use Rattle.spec_runs.proofs.EndTight.{tight_logical, weight_at, column_at, logical_is_row}
 

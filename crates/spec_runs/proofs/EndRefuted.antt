@@ -10,10 +10,10 @@ use Rattle.spec_model.specs.Model.{Model, width, height, coefficient, part}
 use Rattle.spec_check.specs.Checks.{priced, IsTight, ChecksInfeasible}
 use Rattle.spec_pivot.specs.Simplex.{Bounds}
 use Rattle.spec_simplex.specs.Form.{formed}
-use Rattle.spec_simplex.proofs.Columns.{sum_by_kind}
-use Rattle.spec_simplex.proofs.Formed.{Limited}
+use Rattle.spec_simplex.proofs.ColumnKinds.{sum_by_kind}
+use Rattle.spec_simplex.proofs.FormOfModel.{Limited}
 use Rattle.spec_runs.proofs.EndInfeasible.{checks_by_values}
-use Rattle.spec_simplex.proofs.Formed.{HasBounds}
+use Rattle.spec_simplex.proofs.FormOfModel.{HasBounds}
 use Rattle.spec_runs.proofs.EndTight.{limits_at, bounds_structural, bounds_logical, weight_at, column_at}
 use Rattle.spec_pivot.specs.Dual.{Refutes}
 use Rattle.spec_runs.specs.Based.{equations}

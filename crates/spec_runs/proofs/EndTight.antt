@@ -23,10 +23,10 @@ use Rattle.spec_pivot.proofs.Values.{zero_at_basic}
 use Rattle.spec_pivot.proofs.Ray.{delta_sym}
 use Rattle.spec_simplex.specs.Form.{Form, formed}
 use Rattle.spec_simplex.specs.Begins.{form_rows}
-use Rattle.spec_simplex.proofs.Columns.{sum_by_kind}
+use Rattle.spec_simplex.proofs.ColumnKinds.{sum_by_kind}
 use Rattle.spec_simplex.proofs.Equations.{row_structural, row_logical}
-use Rattle.spec_simplex.proofs.Formed.{Limited, entry_is, lower_structural, upper_structural, lower_logical, upper_logical}
-use Rattle.spec_simplex.proofs.Formed.{HasBounds}
+use Rattle.spec_simplex.proofs.FormOfModel.{Limited, entry_is, lower_structural, upper_structural, lower_logical, upper_logical}
+use Rattle.spec_simplex.proofs.FormOfModel.{HasBounds}
 
 abbrev pub limits_at : Bounds → ℕ → Limits
 limits_at b k = record { lower = b.lower k; upper = b.upper k }

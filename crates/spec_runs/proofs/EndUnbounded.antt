@@ -17,10 +17,10 @@ use Rattle.spec_pivot.proofs.Ray.{form_ray}
 use Rattle.spec_simplex.specs.Form.{formed}
 use Rattle.spec_simplex.specs.Start.{cost_at}
 use Rattle.spec_simplex.specs.Begins.{form_rows}
-use Rattle.spec_simplex.proofs.Columns.{sum_by_kind}
-use Rattle.spec_simplex.proofs.Formed.{Limited, cost_other}
+use Rattle.spec_simplex.proofs.ColumnKinds.{sum_by_kind}
+use Rattle.spec_simplex.proofs.FormOfModel.{Limited, cost_other}
 use Rattle.spec_runs.proofs.FormCosts.{cost_structural}
-use Rattle.spec_simplex.proofs.Formed.{HasBounds}
+use Rattle.spec_simplex.proofs.FormOfModel.{HasBounds}
 use Rattle.spec_runs.proofs.EndTight.{bounds_structural, bounds_logical, limits_at, logical_is_row}
 use Rattle.spec_runs.proofs.EndOptimal.{point_feasible}
 use Rattle.spec_simplex.proofs.Rays.{allowed, falls}

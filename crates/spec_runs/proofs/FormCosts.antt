@@ -17,7 +17,7 @@ use Rattle.spec_exact.specs.Run.{Run, ◌>>=◌, refused_as, order_run, steps, l
 use Rattle.spec_simplex.specs.Form.{Form, form_cost, limits_run}
 use Rattle.spec_simplex.specs.Form.{clash_by, bounds_clash, column_clash, least_cost, formed, form_of}
 use Rattle.spec_simplex.proofs.Runs.{refused_ok, order_ok}
-use Rattle.spec_simplex.proofs.Formed.{Limited, least_structural}
+use Rattle.spec_simplex.proofs.FormOfModel.{Limited, least_structural}
 
 abbrev Pair : Type 0
 Pair = Option ℚ × Option ℚ

@@ -21,9 +21,9 @@ use Rattle.spec_simplex.specs.Tables.{table_of, bounds_of, IsTableauOf, IsWithin
 use Rattle.spec_simplex.specs.Begins.{form_rows, signs_of}
 use Rattle.spec_simplex.proofs.Steps.{choice_is_meant}
 use Rattle.spec_simplex.proofs.Walks.{run_ends, before}
-use Rattle.spec_simplex.proofs.Begun.{Started, start_is_tableau}
+use Rattle.spec_simplex.proofs.FirstTableau.{Started, start_is_tableau}
 use Rattle.spec_simplex.proofs.PhaseTwo.{IsSecond, second_phase}
-use Rattle.spec_simplex.proofs.Formed.{cost_length, form_is, form_proper}
+use Rattle.spec_simplex.proofs.FormOfModel.{cost_length, form_is, form_proper}
 use Rattle.spec_simplex.proofs.Phases.{some_label}
 use Rattle.spec_runs.specs.Steps.{IsChange, IsNext, IsAfter, BeginsPhaseTwo}
 

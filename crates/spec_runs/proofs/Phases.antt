@@ -14,9 +14,9 @@ use Rattle.spec_simplex.specs.Tables.{table_of, bounds_of}
 use Rattle.spec_simplex.specs.Begins.{form_rows, signs_of}
 use Rattle.spec_runs.specs.Cold.{multipliers, certificate_at, certificate_of}
 use Rattle.spec_simplex.proofs.Walks.{IsEnd}
-use Rattle.spec_simplex.proofs.Begun.{Started}
+use Rattle.spec_simplex.proofs.FirstTableau.{Started}
 use Rattle.spec_simplex.proofs.PhaseTwo.{some_of}
-use Rattle.spec_simplex.proofs.Formed.{Limited}
+use Rattle.spec_simplex.proofs.FormOfModel.{Limited}
 use Rattle.spec_runs.proofs.EndInfeasible.{infeasible_checks}
 use Rattle.spec_runs.proofs.Shown.{Shows, multipliers_length, multiplier_at, primal_shows}
 use Rattle.spec_check.specs.declared.certificate.Certificate.TheVariants as certificate

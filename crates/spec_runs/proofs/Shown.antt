@@ -18,8 +18,8 @@ use Rattle.spec_simplex.specs.Tables.{way, table_of, IsTableauOf, IsWithinBounds
 use Rattle.spec_simplex.specs.Begins.{form_rows}
 use Rattle.spec_runs.specs.Cold.{point, multipliers, moves_by, moves_below, direction, certificate_at}
 use Rattle.spec_simplex.proofs.Runs.{get_or-made}
-use Rattle.spec_simplex.proofs.Formed.{Limited}
-use Rattle.spec_simplex.proofs.Formed.{HasBounds}
+use Rattle.spec_simplex.proofs.FormOfModel.{Limited}
+use Rattle.spec_simplex.proofs.FormOfModel.{HasBounds}
 use Rattle.spec_runs.proofs.EndOptimal.{optimal_checks}
 use Rattle.spec_runs.proofs.EndUnbounded.{unbounded_checks}
 use Rattle.spec_runs.proofs.Directions.{moves_are}

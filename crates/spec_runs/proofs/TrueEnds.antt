@@ -21,8 +21,8 @@ use Rattle.spec_simplex.specs.Tableau.{form_columns}
 use Rattle.spec_runs.specs.Cold as cold
 use Rattle.spec_runs.specs.Accepted.{IsAccepted}
 use Rattle.spec_simplex.specs.Begins.{signs_of}
-use Rattle.spec_simplex.proofs.Begun.{sign_square}
-use Rattle.spec_simplex.proofs.Formed.{form_is}
+use Rattle.spec_simplex.proofs.FirstTableau.{sign_square}
+use Rattle.spec_simplex.proofs.FormOfModel.{form_is}
 use Rattle.spec_simplex.proofs.Phases.{phases_finish}
 use Rattle.spec_runs.proofs.ColdSolves.{IsTrueEnd, by_accepted, end_is_true, accepted, clash_accepted}
 use Rattle.spec_runs.specs.declared.ends.Warm.TheVariants as outcome

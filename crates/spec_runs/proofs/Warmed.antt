@@ -25,8 +25,8 @@ use Rattle.spec_runs.specs.Cold as cold
 use Rattle.spec_simplex.proofs.Runs.{then_ok, refused_ok, get_or-made}
 use Rattle.spec_simplex.proofs.Lists.{by_lt}
 use Rattle.spec_simplex.proofs.Flips.{directed_is}
-use Rattle.spec_simplex.proofs.Formed.{Limited, cost_length, formed_proper}
-use Rattle.spec_simplex.proofs.Formed.{HasBounds}
+use Rattle.spec_simplex.proofs.FormOfModel.{Limited, cost_length, formed_proper}
+use Rattle.spec_simplex.proofs.FormOfModel.{HasBounds}
 use Rattle.spec_runs.proofs.Shown.{Shows, primal_shows}
 use Rattle.spec_simplex.proofs.Walks.{run_ends}
 use Rattle.spec_simplex.proofs.Phases.{some_label}

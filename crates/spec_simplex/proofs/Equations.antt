@@ -6,7 +6,7 @@ use Rattle.spec_pivot.specs.Tableau.{delta}
 use Rattle.spec_pivot.proofs.Pivot.{delta_other}
 use Rattle.spec_simplex.specs.Form.{Form, form_entry}
 use Rattle.spec_simplex.specs.Begins.{form_rows}
-use Rattle.spec_simplex.proofs.Columns.{structural_at, logical_at, artificial_at}
+use Rattle.spec_simplex.proofs.ColumnKinds.{structural_at, logical_at, artificial_at}
 
 module _ (f : Form) (signs : ℕ → ℚ) where
   pub row_structural : (i k : ℕ) → k < f.cols → form_rows f signs i k ≡ neg_ℚ (form_entry f i k)

@@ -22,7 +22,7 @@ use Rattle.spec_simplex.specs.declared.ends.RowStart.{RowStart}
 use Rattle.spec_simplex.specs.declared.ends.RowStart.TheVariants.{Within, Below, Above}
 use Rattle.spec_simplex.specs.Start.{start_at, cost_at, first_cost, first_costs, artificial_upper}
 use Rattle.spec_simplex.specs.Begins.{form_rows, signs_of}
-use Rattle.spec_simplex.proofs.Columns.{sum_by_kind}
+use Rattle.spec_simplex.proofs.ColumnKinds.{sum_by_kind}
 use Rattle.spec_simplex.proofs.PhaseTwo.{stands_zero}
 use Rattle.spec_simplex.specs.Form.{Form}
 use Rattle.spec_simplex.proofs.Rays.{allowed, falls}

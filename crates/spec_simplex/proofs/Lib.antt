@@ -12,14 +12,14 @@ pub mod Enters
 pub mod Tests
 pub mod Steps
 pub mod Walks
-pub mod Columns
+pub mod ColumnKinds
 pub mod Priced
 pub mod RowStarts
 pub mod Equations
-pub mod Begun
+pub mod FirstTableau
 pub mod PhaseTwo
 pub mod RowLimits
-pub mod Formed
+pub mod FormOfModel
 pub mod Refusals
 pub mod LimitStart
 pub mod LimitPhases

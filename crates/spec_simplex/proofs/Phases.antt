@@ -27,10 +27,10 @@ use Rattle.spec_simplex.specs.Begins.{form_rows, signs_of}
 use Rattle.spec_simplex.proofs.Runs.{then_ok, refused_ok}
 use Rattle.spec_simplex.proofs.Walks.{IsEnd, run_ends, run_spent, few, stand_still}
 use Rattle.spec_simplex.proofs.Walks.{never_spent, ThenErr, first, second, then_err}
-use Rattle.spec_simplex.proofs.Begun.{Started, start_is_tableau}
+use Rattle.spec_simplex.proofs.FirstTableau.{Started, start_is_tableau}
 use Rattle.spec_simplex.proofs.PhaseTwo.{IsSecond, second_phase, some_of}
-use Rattle.spec_simplex.proofs.Formed.{Limited, cost_length, formed_proper}
-use Rattle.spec_simplex.proofs.Formed.{HasBounds}
+use Rattle.spec_simplex.proofs.FormOfModel.{Limited, cost_length, formed_proper}
+use Rattle.spec_simplex.proofs.FormOfModel.{HasBounds}
 use Rattle.spec_simplex.proofs.FirstPhase.{never_goes_on}
 
 pub some_label : Label

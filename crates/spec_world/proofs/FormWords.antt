@@ -7,7 +7,7 @@ use Rattle.spec_exact.specs.Fraction.{ℚ, 0ℚ}
 use Rattle.spec_model.specs.Model.{Model, ExactColumn, height}
 use Rattle.spec_model.specs.Kept.{AreEntries, IsKeptColumn, IsUsualModel}
 use Rattle.spec_simplex.specs.Form.{Form, IsForm, least_cost, formed, form_of}
-use Rattle.spec_simplex.proofs.Formed.{form_is}
+use Rattle.spec_simplex.proofs.FormOfModel.{form_is}
 
 formed_kept : (m : Model) (ls : List (Option ℚ × Option ℚ)) → IsUsualModel m → length ls ≡ height m →
     IsForm (formed m ls)

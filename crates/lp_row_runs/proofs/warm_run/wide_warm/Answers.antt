@@ -1,7 +1,7 @@
 -- The form of a model has its costs, and no bounds that clash.
 use Rattle.std.proofs.Common.{Some, subst}
 use Rattle.spec_exact.specs.Narrow.{number_limit}
-use Rattle.spec_simplex.proofs.Formed.{form_is, form_proper, cost_length}
+use Rattle.spec_simplex.proofs.FormOfModel.{form_is, form_proper, cost_length}
 use Rattle.lp_row_runs.specs.Phases.{HasCosts}
 use Rattle.lp_row_runs.proofs.warm_run.wide_warm.Goals as goal
 

@@ -1,5 +1,5 @@
-use Rattle.spec_simplex.proofs.Begun.{start_begins}
-use Rattle.spec_simplex.proofs.Formed.{form_proper}
+use Rattle.spec_simplex.proofs.FirstTableau.{start_begins}
+use Rattle.spec_simplex.proofs.FormOfModel.{form_proper}
 use Rattle.spec_simplex.proofs.path.starts_are_tableaus.Goals as goal
 
 pub returns : goal.returns

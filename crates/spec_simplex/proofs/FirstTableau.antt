@@ -34,7 +34,7 @@ use Rattle.spec_simplex.specs.Tables.{bounds_of, IsWhole, KeepsBounds, IsTableau
 use Rattle.spec_simplex.specs.Begins.{form_rows, signs_of, IsProper, Begins}
 use Rattle.spec_simplex.proofs.Runs.{then_ok, IsListOf, list_ok, get_or-made}
 use Rattle.spec_simplex.proofs.Lists.{by_lt, past_row}
-use Rattle.spec_simplex.proofs.Columns.{structural_at, logical_at, artificial_at, by_kind, sum_by_kind}
+use Rattle.spec_simplex.proofs.ColumnKinds.{structural_at, logical_at, artificial_at, by_kind, sum_by_kind}
 use Rattle.spec_simplex.proofs.Equations.{row_structural, row_logical, row_artificial, row_past}
 use Rattle.spec_simplex.proofs.Priced.{priced_length, priced_agrees}
 use Rattle.spec_simplex.proofs.RowStarts.{first_sum, RowBegins, within, below, above, start_is}
