@@ -10,7 +10,7 @@ use Rattle.spec_simplex.specs.Form.{Form}
 use Rattle.spec_exact.specs.Run.{refused_as}
 use Rattle.spec_simplex.specs.Eliminate.{basis_at}
 use Rattle.spec_simplex.specs.Tableau.{is_basic}
-use Rattle.spec_simplex.proofs.Runs.{then_ok, steps_ok}
+use Rattle.spec_simplex.proofs.RunParts.{then_ok, steps_ok}
 use Rattle.spec_factor.specs.declared.stop.NoFactors.TheVariants as stop
 use Rattle.spec_factor.specs.Factors.{Factors, Chosen, column_of, ftran_run, open_place, with_pair, chosen_at}
 use Rattle.spec_factor.specs.Factors.{choose_run, none_chosen, choose_all, factors_of, factor_run}

@@ -19,7 +19,7 @@ use Rattle.spec_simplex.specs.Start.{cost_at}
 use Rattle.spec_simplex.specs.Tableau.{Tableau, all_columns, form_columns, basic_at, value_at, status_at, lower_at, upper_at}
 use Rattle.spec_simplex.specs.Begins.{IsProper}
 use Rattle.spec_simplex.specs.Tables.{way, bounds_of, IsTableauOf, IsWithinBounds}
-use Rattle.spec_simplex.proofs.Lists.{by_lt}
+use Rattle.spec_simplex.proofs.ListIndices.{by_lt}
 use Rattle.spec_pivot.specs.Dual.{IsOrdered, IsPast}
 use Rattle.spec_runs.specs.Based.{equations, BeginsFrom}
 use Rattle.spec_runs.proofs.Fits.{IsLeaving, leaving_is}

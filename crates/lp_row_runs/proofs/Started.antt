@@ -23,7 +23,7 @@ use Rattle.spec_simplex.specs.Tableau.{status_at, lower_at, upper_at, is_fixed, 
 use Rattle.spec_simplex.specs.Eliminate.{IsBasisOf, basis_value, basis_lower, with_basis, valued_run}
 use Rattle.spec_simplex.specs.Eliminate.{with_values, filled_run, eliminate_run, start_from}
 use Rattle.spec_simplex.specs.Begins.{IsProper}
-use Rattle.spec_simplex.proofs.Runs.{then_ok, refused_ok}
+use Rattle.spec_simplex.proofs.RunParts.{then_ok, refused_ok}
 use Rattle.spec_runs.proofs.PhaseSteps.{given}
 use Rattle.spec_runs.specs.Based.{BeginsFrom}
 use Rattle.spec_runs.proofs.LimitSteps.{from_agrees}

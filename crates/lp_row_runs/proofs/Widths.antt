@@ -17,7 +17,7 @@ use Rattle.spec_simplex.specs.Start.{row_start, begun, first_costs, priced_run, 
 use Rattle.spec_simplex.specs.Tableau.{Tableau}
 use Rattle.spec_simplex.specs.Phases.{PhasesEnd, Infeasible, Finished, phases_run}
 use Rattle.spec_simplex.proofs.FormOfModel.{form_is, form_proper, cost_length}
-use Rattle.spec_simplex.proofs.Runs.{then_ok}
+use Rattle.spec_simplex.proofs.RunParts.{then_ok}
 use Rattle.spec_factor.specs.Over.{answer_of, answer_in}
 use Rattle.lp_rows.specs.Shows.{IsReached}
 use Rattle.lp_rows.specs.Ends.{AllFit}

@@ -20,7 +20,7 @@ use Rattle.spec_simplex.specs.Step.{entering, directed, other_bound, best_run, c
 use Rattle.spec_simplex.specs.Step.{choice_of, choice_run, flip_way, flip_run, pivot_run}
 use Rattle.spec_simplex.specs.Phases.{done_run}
 use Rattle.spec_simplex.specs.Tables.{way, table_of, IsWhole, KeepsBounds}
-use Rattle.spec_simplex.proofs.Runs.{then_ok}
+use Rattle.spec_simplex.proofs.RunParts.{then_ok}
 use Rattle.spec_simplex.proofs.Enters.{an_entering}
 use Rattle.spec_simplex.proofs.Pivots.{Leaves, enters_before, pivot_leaves}
 use Rattle.spec_simplex.proofs.Flips.{directed_is, flip_leaves}

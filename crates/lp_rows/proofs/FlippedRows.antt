@@ -15,7 +15,7 @@ use Rattle.spec_simplex.specs.Tableau.{Tableau, form_columns, all_columns, basic
 use Rattle.spec_simplex.specs.Tableau.{status_at, lower_at, upper_at, or_zero}
 use Rattle.spec_simplex.specs.Step.{directed, other_bound, flip_way}
 use Rattle.spec_simplex.specs.Tables.{way, table_of, IsTableauOf, KeepsBounds}
-use Rattle.spec_simplex.proofs.Lists.{by_lt, set_reads}
+use Rattle.spec_simplex.proofs.ListIndices.{by_lt, set_reads}
 use Rattle.spec_simplex.proofs.Flips.{directed_is}
 use Rattle.lp_rows.specs.declared.fractions.Row.{Row}
 use Rattle.lp_rows.specs.Ratio.{bound_of}

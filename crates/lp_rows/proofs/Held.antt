@@ -12,7 +12,7 @@ use Rattle.spec_pivot.specs.declared.status.Status.TheVariants.{Basic, AtLower, 
 use Rattle.spec_pivot.specs.Simplex.{Stands}
 use Rattle.spec_simplex.specs.Tableau.{Tableau, IsTableauShape, form_columns, all_columns, status_at, value_at}
 use Rattle.spec_simplex.specs.Tableau.{lower_at, upper_at, reduced_at, is_fixed, or_zero, stand}
-use Rattle.spec_simplex.proofs.Lists.{by_lt}
+use Rattle.spec_simplex.proofs.ListIndices.{by_lt}
 use Rattle.spec_simplex.proofs.PhaseTwo.{stands_zero}
 use Rattle.lp_natural.specs.declared.words.signed.Signed.{Signed}
 use Rattle.lp_rows.specs.Ratio.{bound_of}

@@ -19,7 +19,7 @@ use Rattle.spec_simplex.specs.Tableau.{Tableau, form_columns, all_columns, basic
 use Rattle.spec_simplex.specs.Tableau.{status_at, lower_at, upper_at, stand}
 use Rattle.spec_simplex.specs.Tables.{table_of, IsTableauOf, KeepsBounds}
 use Rattle.spec_simplex.specs.Tables as tables
-use Rattle.spec_simplex.proofs.Lists.{by_lt, set_reads}
+use Rattle.spec_simplex.proofs.ListIndices.{by_lt, set_reads}
 use Rattle.spec_simplex.proofs.Tables.{stand_is}
 use Rattle.lp_rows.specs.Ratio.{bound_of}
 use Rattle.lp_rows.specs.declared.tableau.tableau.RowTableau.{RowTableau}

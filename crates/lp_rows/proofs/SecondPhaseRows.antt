@@ -14,8 +14,8 @@ use Rattle.spec_simplex.specs.Phases.{fixed_at_zero, without_artificials, phase_
 use Rattle.spec_simplex.specs.Start.{priced_run, with_reduced}
 use Rattle.spec_simplex.specs.Tableau.{Tableau, form_columns, all_columns, lower_at, upper_at, status_at}
 use Rattle.spec_simplex.specs.Tableau.{is_fixed, stand}
-use Rattle.spec_simplex.proofs.Lists.{by_lt}
-use Rattle.spec_simplex.proofs.Runs.{then_ok}
+use Rattle.spec_simplex.proofs.ListIndices.{by_lt}
+use Rattle.spec_simplex.proofs.RunParts.{then_ok}
 use Rattle.spec_simplex.proofs.PhaseTwo.{zeroed_before, zeroed_after}
 use Rattle.lp_natural.specs.declared.words.signed.Signed.{Signed}
 use Rattle.lp_rows.specs.declared.fractions.Row.{Row}

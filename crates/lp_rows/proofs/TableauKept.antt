@@ -9,7 +9,7 @@ use Rattle.spec_pivot.specs.Simplex.{Bounds, Stands}
 use Rattle.spec_simplex.specs.Tableau.{Tableau, form_columns, all_columns, value_at, status_at, lower_at, upper_at}
 use Rattle.spec_simplex.specs.Tableau.{is_fixed, or_zero, stand}
 use Rattle.spec_simplex.specs.Tables.{IsTableauOf, KeepsBounds}
-use Rattle.spec_simplex.proofs.Lists.{by_lt}
+use Rattle.spec_simplex.proofs.ListIndices.{by_lt}
 
 -- where an upper bound may be none or v, it is v if it is anything
 one_upper : (u : Option ℚ) (v x : ℚ) → (u ≡ None) ⊎ (u ≡ Some v) → u ≡ Some x → v ≡ x

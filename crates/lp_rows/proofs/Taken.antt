@@ -11,8 +11,8 @@ use Rattle.spec_exact.proofs.Sums.{sum_below_none}
 use Rattle.spec_pivot.specs.Tableau.{IsUnit}
 use Rattle.spec_simplex.specs.Start.{cost_at, reduced_run, priced_run}
 use Rattle.spec_simplex.specs.Tableau.{Tableau, all_columns, entry_at, basic_at}
-use Rattle.spec_simplex.proofs.Lists.{by_lt}
-use Rattle.spec_simplex.proofs.Runs.{less_ok, steps_ok, IsListOf, list_ok}
+use Rattle.spec_simplex.proofs.ListIndices.{by_lt}
+use Rattle.spec_simplex.proofs.RunParts.{less_ok, steps_ok, IsListOf, list_ok}
 use Rattle.lp_rows.specs.declared.fractions.Row.{Row}
 use Rattle.lp_rows.specs.Row.{fraction_at, AreNow}
 use Rattle.lp_rows.specs.declared.tableau.tableau.RowTableau.{RowTableau}

@@ -9,7 +9,7 @@ use Rattle.spec_simplex.specs.declared.ends.Choice.TheVariants.{End}
 use Rattle.spec_exact.specs.Run.{Run, ◌>>=◌}
 use Rattle.spec_simplex.specs.Tableau.{Tableau, all_columns, reduced_at, lower_at, upper_at, is_fixed}
 use Rattle.spec_simplex.specs.Step.{entering, best_run, choice_at, choice_by, choice_of, choice_run, CanMake}
-use Rattle.spec_simplex.proofs.Runs.{then_ok}
+use Rattle.spec_simplex.proofs.RunParts.{then_ok}
 use Rattle.lp_simplex.proofs.Entering.{MayEnter, may_enter, not_basic}
 use Rattle.lp_simplex.proofs.Ratios.{StopsBy, IsBest, best_is}
 

@@ -10,7 +10,7 @@ use Rattle.spec_exact.specs.Run.{quotient_run, order_run}
 use Rattle.spec_simplex.specs.Step.{directed, way_by}
 use Rattle.spec_simplex.specs.Tableau.{Tableau, all_columns, entry_at, reduced_at}
 use Rattle.spec_simplex.specs.Tableau.{status_at, lower_at, upper_at, is_fixed}
-use Rattle.spec_simplex.proofs.Runs.{then_ok, steps_ok}
+use Rattle.spec_simplex.proofs.RunParts.{then_ok, steps_ok}
 use Rattle.spec_simplex.specs.declared.ends.Cheapest.{Cheapest}
 use Rattle.spec_simplex.specs.Dual.{dual_way_at, cheaper_by, cheaper_run, cheapest_by, cheapest_with, cheapest_run}
 use Rattle.lp_simplex.proofs.Entering.{not_basic}

@@ -12,7 +12,7 @@ use Rattle.spec_simplex.specs.Step.{moved_run, shifted_run, turned_run, repriced
 use Rattle.spec_simplex.specs.Step.{exchanged, turned, pivot_run, NamesBound, CanPivot}
 use Rattle.spec_simplex.specs.Tableau.{Tableau, all_columns, entry_at, basic_at, value_at}
 use Rattle.spec_simplex.specs.Tableau.{status_at, lower_at, upper_at, or_zero, stand}
-use Rattle.spec_simplex.proofs.Runs.{then_ok, difference_ok}
+use Rattle.spec_simplex.proofs.RunParts.{then_ok, difference_ok}
 use Rattle.spec_simplex.specs.Dual.{dual_pivot_run}
 use Rattle.lp_simplex.proofs.Ratios.{quotient_ok}
 use Rattle.lp_simplex.specs.Starts.{HasPlace, IsSeated, CanEnter}

@@ -12,7 +12,7 @@ use Rattle.spec_simplex.specs.Tableau.{Tableau}
 use Rattle.spec_simplex.specs.Start.{row_start, begun, first_costs, priced_run, with_reduced, start_of}
 use Rattle.spec_simplex.specs.Phases.{PrimalEnded, PhasesEnd, Infeasible, Finished, wants_phase_one, is_stuck}
 use Rattle.spec_simplex.specs.Phases.{phase_one, phase_two, phase_two_run, run_from, phases_run}
-use Rattle.spec_simplex.proofs.Runs.{then_ok}
+use Rattle.spec_simplex.proofs.RunParts.{then_ok}
 use Rattle.lp_solve.proofs.Runs.{IsAsLarge, IsEnd, run_ends}
 
 module _ (limit : Option ℕ) (budget : ℕ) (f : Form) where

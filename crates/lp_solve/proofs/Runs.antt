@@ -16,7 +16,7 @@ use Rattle.spec_simplex.specs.Step.{directed, other_bound, entering, best_run, c
 use Rattle.spec_simplex.specs.Step.{choice_run, moved_run, flip_way, flipped, flip_run, shifted_run, turned_run}
 use Rattle.spec_simplex.specs.Step.{repriced_run, turned, exchanged, pivot_run}
 use Rattle.spec_simplex.specs.Phases.{PrimalEnded, end_or_spent, end_or_next, run_from}
-use Rattle.spec_simplex.proofs.Runs.{then_ok, refused_ok}
+use Rattle.spec_simplex.proofs.RunParts.{then_ok, refused_ok}
 use Rattle.lp_simplex.proofs.Entering.{MayEnter, may_enter}
 use Rattle.lp_solve.specs.Ends.{IsInside}
 

@@ -24,7 +24,7 @@ use Rattle.spec_simplex.specs.Eliminate.{Elimination, basis_lower, basis_upper, 
 use Rattle.spec_simplex.specs.Eliminate.{position_run, valued_run, with_values, filled_run, eliminate_run, start_from}
 use Rattle.spec_simplex.specs.Fit.{is_there}
 use Rattle.spec_simplex.specs.Dual.{place_of}
-use Rattle.spec_simplex.proofs.Runs.{then_ok, refused_ok, steps_ok}
+use Rattle.spec_simplex.proofs.RunParts.{then_ok, refused_ok, steps_ok}
 use Rattle.spec_solve.proofs.NarrowRuns.{sum_narrow, difference_narrow, less_narrow}
 use Rattle.spec_solve.proofs.NarrowSteps.{NarrowBound, number_at, bound_at, stand_narrow}
 use Rattle.spec_solve.proofs.NarrowStart.{IsNarrowModel, IsNarrowForm, form_narrow, priced_narrow, least_narrow}

@@ -21,8 +21,8 @@ use Rattle.spec_exact.specs.Run.{refused_as}
 use Rattle.spec_simplex.specs.Form.{Form}
 use Rattle.spec_exact.proofs.Stops.{length-made, get_or-made}
 use Rattle.spec_simplex.specs.Tableau.{is_basic}
-use Rattle.spec_simplex.proofs.Runs.{then_ok, refused_ok, steps_ok}
-use Rattle.spec_simplex.proofs.Lists.{by_lt}
+use Rattle.spec_simplex.proofs.RunParts.{then_ok, refused_ok, steps_ok}
+use Rattle.spec_simplex.proofs.ListIndices.{by_lt}
 use Rattle.spec_simplex.specs.Eliminate.{basis_at, basics_below}
 use Rattle.spec_factor.specs.declared.stop.NoFactors.{NoFactors}
 use Rattle.spec_factor.specs.declared.stop.NoFactors.TheVariants as stop

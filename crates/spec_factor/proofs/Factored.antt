@@ -17,7 +17,7 @@ use Rattle.spec_pivot.proofs.Pivot.{delta_same, delta_other}
 use Rattle.spec_exact.specs.Run.{Run, refused_as, steps}
 use Rattle.spec_simplex.specs.Form.{Form}
 use Rattle.spec_simplex.specs.Tableau.{is_basic}
-use Rattle.spec_simplex.proofs.Runs.{then_ok, refused_ok, steps_ok}
+use Rattle.spec_simplex.proofs.RunParts.{then_ok, refused_ok, steps_ok}
 use Rattle.spec_simplex.proofs.Walks.{ThenErr, first, second, then_err}
 use Rattle.spec_simplex.specs.Eliminate.{basis_at, basics_below}
 use Rattle.spec_factor.specs.declared.stop.NoFactors.{NoFactors}

@@ -14,7 +14,7 @@ use Rattle.spec_simplex.specs.Step.{directed, other_bound, moved_run, flip_way, 
 use Rattle.spec_simplex.specs.Step.{shifted_run, turned_run, repriced_run, exchanged, turned, pivot_run}
 use Rattle.spec_simplex.specs.Phases.{done_run}
 use Rattle.spec_simplex.specs.Tables.{table_of, IsTableauOf}
-use Rattle.spec_simplex.proofs.Runs.{then_ok}
+use Rattle.spec_simplex.proofs.RunParts.{then_ok}
 use Rattle.spec_factor.specs.Same.{SameChoice, bare_with}
 use Rattle.spec_factor.proofs.SameChoices.{both, same_lower, same_upper, columns_are}
 

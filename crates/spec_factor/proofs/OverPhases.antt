@@ -26,7 +26,7 @@ use Rattle.spec_simplex.specs.Phases.{is_stuck, phase_one, phase_two, PhasesEnd,
 use Rattle.spec_simplex.specs.Tables.{bounds_of, IsTableauOf, IsWithinBounds}
 use Rattle.spec_simplex.specs.Begins.{form_rows, signs_of, IsProper}
 use Rattle.spec_runs.specs.Cold.{multipliers, basis_at, certificate_at}
-use Rattle.spec_simplex.proofs.Runs.{then_ok, IsListOf, list_ok, get_or-made}
+use Rattle.spec_simplex.proofs.RunParts.{then_ok, IsListOf, list_ok, get_or-made}
 use Rattle.spec_simplex.proofs.Refusals.{agrees_list}
 use Rattle.spec_simplex.proofs.LimitStart.{row_start_agrees, priced_agrees}
 use Rattle.spec_simplex.proofs.LimitPhases.{two_agrees}

@@ -29,7 +29,7 @@ use Rattle.spec_simplex.specs.Phases.{done_run}
 use Rattle.spec_exact.proofs.Stops.{length-made, get_or-made}
 use Rattle.spec_simplex.specs.Tables.{way, table_of, IsTableauOf, IsWithinBounds}
 use Rattle.spec_simplex.specs.Begins.{form_rows, signs_of}
-use Rattle.spec_simplex.proofs.Runs.{then_ok}
+use Rattle.spec_simplex.proofs.RunParts.{then_ok}
 use Rattle.spec_simplex.proofs.Enters.{an_entering}
 use Rattle.spec_simplex.proofs.Refusals.{Agrees, as_it_is}
 use Rattle.spec_simplex.proofs.LimitStart.{flip_agrees, pivot_agrees}

@@ -17,7 +17,7 @@ use Rattle.spec_simplex.specs.Tableau.{Tableau, form_columns, all_columns, statu
 use Rattle.spec_exact.proofs.Stops.{get_or-made}
 use Rattle.spec_runs.specs.Cold.{basis_status}
 use Rattle.spec_simplex.specs.Tableau.{is_basic}
-use Rattle.spec_simplex.proofs.Lists.{by_lt}
+use Rattle.spec_simplex.proofs.ListIndices.{by_lt}
 use Rattle.spec_simplex.specs.Eliminate.{basis_at}
 use Rattle.spec_factor.specs.declared.stop.NoFactors.{NoFactors}
 use Rattle.spec_factor.specs.declared.stop.NoFactors.TheVariants as factor

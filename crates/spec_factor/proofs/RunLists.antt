@@ -9,8 +9,8 @@ use Rattle.spec_exact.specs.Sums.{sum_below}
 use Rattle.spec_exact.proofs.Results.{ok_same}
 use Rattle.spec_exact.proofs.Ruleset.{ring}
 use Rattle.spec_exact.specs.Run.{quotient_run, less_product, steps}
-use Rattle.spec_simplex.proofs.Runs.{then_ok, quotient_ok, less_ok, steps_ok, IsListOf, list_ok}
-use Rattle.spec_simplex.proofs.Lists.{set_reads}
+use Rattle.spec_simplex.proofs.RunParts.{then_ok, quotient_ok, less_ok, steps_ok, IsListOf, list_ok}
+use Rattle.spec_simplex.proofs.ListIndices.{set_reads}
 use Rattle.spec_factor.specs.Factors.{Pair, pair_at, forward_run, ftran_run, backward_run, btran_run}
 use Rattle.spec_factor.specs.Basis.{forward_one, forward, IsPair}
 use Rattle.spec_factor.proofs.Forward.{forward_same}

@@ -21,8 +21,8 @@ use Rattle.spec_simplex.specs.Tableau.{reduced_at, status_at, lower_at, upper_at
 use Rattle.spec_simplex.specs.Step.{way_by, way_at, or_enters, entering_below, entering, directed}
 use Rattle.spec_simplex.specs.Step.{best_run, choice_at, choice_by, choice_of, choice_run}
 use Rattle.spec_simplex.specs.Tables.{way, table_of, IsTableauOf}
-use Rattle.spec_simplex.proofs.Runs.{then_ok}
-use Rattle.spec_simplex.proofs.Lists.{by_lt}
+use Rattle.spec_simplex.proofs.RunParts.{then_ok}
+use Rattle.spec_simplex.proofs.ListIndices.{by_lt}
 use Rattle.spec_simplex.proofs.Enters.{an_entering}
 use Rattle.spec_simplex.proofs.Tests.{plain, no_best, a_best, best_ahead}
 use Rattle.spec_factor.specs.Same.{SameChoice}

@@ -27,8 +27,8 @@ use Rattle.spec_exact.proofs.Stops.{length-made, get_or-made}
 use Rattle.spec_simplex.specs.Tableau.{is_basic}
 use Rattle.spec_simplex.specs.Tables.{IsTableauOf}
 use Rattle.spec_simplex.specs.Begins.{form_rows, signs_of}
-use Rattle.spec_simplex.proofs.Runs.{then_ok, less_ok, steps_ok}
-use Rattle.spec_simplex.proofs.Lists.{by_lt}
+use Rattle.spec_simplex.proofs.RunParts.{then_ok, less_ok, steps_ok}
+use Rattle.spec_simplex.proofs.ListIndices.{by_lt}
 use Rattle.spec_simplex.proofs.Enters.{an_entering, fixed_test}
 use Rattle.spec_simplex.proofs.Pivots.{enters_before}
 use Rattle.spec_factor.specs.Factors.{Pair, column_entry, column_of, ftran_run, btran_run}

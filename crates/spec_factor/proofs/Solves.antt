@@ -11,7 +11,7 @@ use Rattle.spec_exact.proofs.Sums.{sum_below_same, exchange}
 use Rattle.spec_pivot.specs.Tableau.{Matrix, delta}
 use Rattle.spec_pivot.proofs.Pivot.{by_eq, delta_same, delta_other, sum_below-delta}
 use Rattle.spec_pivot.proofs.Ray.{delta_sym}
-use Rattle.spec_simplex.proofs.Runs.{then_ok}
+use Rattle.spec_simplex.proofs.RunParts.{then_ok}
 use Rattle.spec_factor.specs.Factors.{Pair, pair_at, Factors, ftran_run, btran_run, with_pair, replace_run}
 use Rattle.spec_factor.specs.Basis.{forward_one, forward, IsPair, StandsFor, SolvesColumns, SolvesRows, with_column}
 use Rattle.spec_factor.proofs.Forward.{one_at_place, one_off_place, forward-append}

@@ -22,7 +22,7 @@ use Rattle.spec_simplex.specs.Tables.{IsTableauOf}
 use Rattle.spec_simplex.specs.Begins.{form_rows, signs_of}
 use Rattle.spec_simplex.proofs.ColumnKinds.{by_kind}
 use Rattle.spec_simplex.proofs.Equations.{row_structural, row_logical, row_artificial, row_past}
-use Rattle.spec_simplex.proofs.Lists.{by_lt, past_row}
+use Rattle.spec_simplex.proofs.ListIndices.{by_lt, past_row}
 use Rattle.spec_simplex.proofs.FirstTableau.{sign_square, twice}
 use Rattle.spec_factor.specs.Factors.{Pair, column_entry}
 use Rattle.spec_factor.specs.Basis.{forward, basis_of}

@@ -9,8 +9,8 @@ use Rattle.std.specs.List.{remove}
 use Rattle.spec_exact.specs.Fraction.{ℚ, ◌+ℚ◌, ◌-ℚ◌, ◌*ℚ◌}
 use Rattle.spec_exact.specs.Run.{◌>>=◌, plus_product, less_product}
 use Rattle.spec_exact.proofs.Results.{ok_same}
-use Rattle.spec_simplex.proofs.Runs.{then_ok, plus_ok, less_ok, steps_ok}
-use Rattle.spec_simplex.proofs.RowLimits.{limits_ordered}
+use Rattle.spec_simplex.proofs.RunParts.{then_ok, plus_ok, less_ok, steps_ok}
+use Rattle.spec_simplex.proofs.FormRowLimits.{limits_ordered}
 use Rattle.spec_model.specs.Model.{Model, Limits, ExactRow, ExactColumn, no_row, no_column, limits_of, bounds_of}
 use Rattle.spec_model.specs.Model.{width, height, bounds, row, column, cost, coefficient, entry_of}
 use Rattle.spec_edit.specs.Changes.{without_row, without_column, with_bounds, with_rhs, with_offset}

@@ -11,8 +11,8 @@ use Rattle.spec_exact.proofs.Order.{≤ℚ_refl, le_if_not, lt_if, <ℚ-le}
 use Rattle.spec_exact.proofs.Same.{eq_if}
 use Rattle.spec_exact.proofs.Results.{ok_same}
 use Rattle.spec_check.proofs.StepsSound.{least_from, most_from, less_from, greater_from}
-use Rattle.spec_simplex.proofs.Runs.{then_ok, quotient_ok, order_ok, steps_ok}
-use Rattle.spec_simplex.proofs.RowLimits.{AreLimits, limits_ok}
+use Rattle.spec_simplex.proofs.RunParts.{then_ok, quotient_ok, order_ok, steps_ok}
+use Rattle.spec_simplex.proofs.FormRowLimits.{AreLimits, limits_ok}
 use Rattle.spec_model.specs.Model.{Model, Limits, width, height, bounds, limits, row, coefficient}
 use Rattle.spec_model.specs.Truth.{IsBetween}
 use Rattle.spec_simplex.specs.Form.{limits_run}

@@ -3,7 +3,7 @@ use Rattle.std.proofs.Common.{◌≡◌, ℕ, zero, suc, ◌+◌, Option, Ok, []
 use Rattle.std.proofs.Common.{subst, arith}
 use Rattle.spec_exact.specs.Run.{Run, ◌>>=◌}
 use Rattle.spec_exact.proofs.Results.{ok_same}
-use Rattle.spec_simplex.proofs.Runs.{then_ok}
+use Rattle.spec_simplex.proofs.RunParts.{then_ok}
 use Rattle.spec_model.specs.Model.{Model, width, height, bounds}
 use Rattle.spec_edit.specs.Changes.{without_row, with_bounds}
 use Rattle.spec_presolve.specs.declared.reduction.Reduction.TheVariants.{Empty, Single, Fixed}

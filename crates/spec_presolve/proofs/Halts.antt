@@ -13,7 +13,7 @@ use Rattle.spec_exact.proofs.Strict.{neg_strict}
 use Rattle.spec_exact.proofs.Ruleset.{zero-*ℚ, neg-zero, one-*ℚ}
 use Rattle.spec_exact.proofs.Results.{ok_same}
 use Rattle.spec_exact.proofs.Sums.{sum_below_none}
-use Rattle.spec_simplex.proofs.Runs.{then_ok, order_ok}
+use Rattle.spec_simplex.proofs.RunParts.{then_ok, order_ok}
 use Rattle.spec_model.specs.Model.{Model, Limits, width, height, bounds, limits, row, coefficient, part}
 use Rattle.spec_model.proofs.ListParts.{part_zeros}
 use Rattle.spec_check.proofs.StepsSound.{greater_from}
@@ -39,7 +39,7 @@ use Rattle.spec_presolve.proofs.Tightened.{tight_zero}
 use Rattle.spec_presolve.proofs.OverSingleRun.{one_tight, minus_tight, minus_times}
 use Rattle.spec_presolve.proofs.InRows.{row_empty}
 use Rattle.spec_presolve.proofs.Chosen.{Origin, of_clash, of_empty, of_single, of_fixed, of_none, chosen_ok, none_not}
-use Rattle.spec_simplex.proofs.RowLimits.{limits_ok}
+use Rattle.spec_simplex.proofs.FormRowLimits.{limits_ok}
 
 -- ---- a row without entries whose limits leave out 0
 

@@ -7,7 +7,7 @@ use Rattle.spec_exact.specs.Fraction.{ℚ, abs_ℚ, ◌<ℚ◌, whole}
 use Rattle.spec_exact.specs.Narrow.{IsNarrow, number_limit}
 use Rattle.spec_exact.specs.Run.{Run, ◌>>=◌, less_product}
 use Rattle.spec_exact.proofs.Results.{ok_same}
-use Rattle.spec_simplex.proofs.Runs.{then_ok, steps_ok}
+use Rattle.spec_simplex.proofs.RunParts.{then_ok, steps_ok}
 use Rattle.spec_model.specs.declared.parts.SizeLimits.{SizeLimits}
 use Rattle.spec_model.specs.Model.{Model, width, height, bounds, row, cost, coefficient, no_column}
 use Rattle.spec_model.specs.Kept.{IsModelWithin, IsBound}

@@ -11,7 +11,7 @@ use Rattle.spec_exact.proofs.Order.{clash_ℚ, <ℚ-le}
 use Rattle.spec_exact.proofs.Strict.{zero-lt-one, neg_strict, neg-one-lt-zero}
 use Rattle.spec_exact.proofs.Results.{ok_same}
 use Rattle.spec_exact.proofs.Ruleset.{ring, neg-zero, one-*ℚ}
-use Rattle.spec_simplex.proofs.Runs.{then_ok, quotient_ok, plus_ok, less_ok, steps_ok}
+use Rattle.spec_simplex.proofs.RunParts.{then_ok, quotient_ok, plus_ok, less_ok, steps_ok}
 use Rattle.spec_model.specs.Model.{Model, Limits, width, height, bounds, limits, cost, coefficient, part}
 use Rattle.spec_check.specs.declared.certificate.Certificate.TheVariants.{Optimal, Infeasible, Clash, Unbounded}
 use Rattle.spec_check.specs.Certificate.{IsFor}

@@ -21,7 +21,7 @@ use Rattle.spec_simplex.specs.Tableau.{lower_at, upper_at, is_basic, is_fixed}
 use Rattle.spec_simplex.proofs.Statuses.{basic_if}
 use Rattle.spec_simplex.specs.Tables.{table_of}
 use Rattle.spec_simplex.proofs.Enters.{fixed_means, fixed_test}
-use Rattle.spec_simplex.proofs.Runs.{then_ok, steps_ok, sum_ok, difference_ok, quotient_ok}
+use Rattle.spec_simplex.proofs.RunParts.{then_ok, steps_ok, sum_ok, difference_ok, quotient_ok}
 use Rattle.spec_runs.proofs.Counts.{basic_test}
 use Rattle.spec_pivot.specs.Dual.{Suits}
 use Rattle.spec_range.specs.declared.range.Ends.{Ends}

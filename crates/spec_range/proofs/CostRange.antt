@@ -27,7 +27,7 @@ use Rattle.spec_simplex.specs.Dual.{place_of}
 use Rattle.spec_simplex.proofs.Statuses.{basic_if}
 use Rattle.spec_simplex.specs.Tables.{table_of}
 use Rattle.spec_simplex.proofs.FormOfModel.{Limited, form_is}
-use Rattle.spec_simplex.proofs.Runs.{then_ok, refused_ok}
+use Rattle.spec_simplex.proofs.RunParts.{then_ok, refused_ok}
 use Rattle.spec_simplex.proofs.Orders.{given}
 use Rattle.spec_simplex.proofs.LimitStart.{form_without}
 use Rattle.spec_runs.specs.Cold.{point, multipliers}

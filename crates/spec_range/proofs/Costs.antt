@@ -23,7 +23,7 @@ use Rattle.spec_simplex.specs.Tableau.{Tableau, entry_at, basic_at, status_at}
 use Rattle.spec_simplex.specs.Eliminate.{CanStand, IsBasisOf, basis_at, start_from}
 use Rattle.spec_simplex.specs.Tables.{table_of}
 use Rattle.spec_simplex.proofs.FormOfModel.{Limited, formed_proper, least_structural, cost_other}
-use Rattle.spec_simplex.proofs.Lists.{by_lt}
+use Rattle.spec_simplex.proofs.ListIndices.{by_lt}
 use Rattle.spec_runs.specs.Based.{equations}
 use Rattle.spec_range.proofs.Bounds.{structural_low, structural_high, logical_low, logical_high}
 use Rattle.spec_range.proofs.Bounds.{artificial_low, artificial_high, bounds_by, fits_other}

@@ -17,7 +17,7 @@ use Rattle.spec_simplex.specs.Tableau.{Tableau, is_basic}
 use Rattle.spec_simplex.specs.Eliminate.{Elimination, basis_at, unsolved, open_below, solved_by, solved_run}
 use Rattle.spec_simplex.specs.Eliminate.{eliminate_run, with_basis, filled_run, start_from}
 use Rattle.spec_simplex.proofs.LimitStart.{form_agrees}
-use Rattle.spec_simplex.proofs.Runs.{then_ok}
+use Rattle.spec_simplex.proofs.RunParts.{then_ok}
 pub use Rattle.spec_simplex.proofs.LimitStart.{form_without}
 use Rattle.spec_runs.proofs.FormCosts.{clash_is}
 use Rattle.spec_runs.proofs.LimitSteps.{from_agrees}

@@ -3,7 +3,7 @@ use Rattle.std.proofs.Common.{◌≡◌, ◌↔◌, ℕ, Option, Some, None, IfS
 use Rattle.spec_exact.specs.Fraction.{ℚ, ◌≤ℚ◌}
 use Rattle.spec_exact.proofs.Order.{≤ℚ_refl, ≤ℚ_trans, <ℚ-le}
 use Rattle.spec_exact.specs.Run.{Run}
-use Rattle.spec_simplex.proofs.Runs.{then_ok}
+use Rattle.spec_simplex.proofs.RunParts.{then_ok}
 use Rattle.spec_simplex.proofs.Orders.{by_order, given}
 use Rattle.spec_range.specs.declared.range.Ends.{Ends}
 use Rattle.spec_range.specs.Span.{IsIn}

@@ -8,7 +8,7 @@ use Rattle.spec_exact.proofs.Strict.{*ℚ_mono_back, neg_mono, neg_mono_back, ne
 use Rattle.spec_pivot.specs.declared.status.Status.{Status}
 use Rattle.spec_pivot.specs.declared.status.Status.TheVariants.{Basic, AtLower, AtUpper, AtZero}
 use Rattle.spec_pivot.specs.Dual.{Suits}
-use Rattle.spec_simplex.proofs.Runs.{then_ok}
+use Rattle.spec_simplex.proofs.RunParts.{then_ok}
 use Rattle.spec_range.specs.declared.range.Ends.{Ends}
 use Rattle.spec_range.specs.Rule.{at_least, at_most, ends_by}
 use Rattle.spec_range.proofs.Kept.{Cuts, Meets, at_least_ok, at_most_ok, at_side_ok, cuts_as, cuts_none, cuts_both}

@@ -16,7 +16,7 @@ use Rattle.spec_simplex.specs.Tableau.{Tableau, all_columns, entry_at, value_at,
 use Rattle.spec_simplex.specs.Tableau.{lower_at, upper_at, is_basic}
 use Rattle.spec_simplex.specs.Dual.{place_of}
 use Rattle.spec_simplex.proofs.Statuses.{basic_if}
-use Rattle.spec_simplex.proofs.Runs.{then_ok, steps_ok, sum_ok, difference_ok, quotient_ok}
+use Rattle.spec_simplex.proofs.RunParts.{then_ok, steps_ok, sum_ok, difference_ok, quotient_ok}
 use Rattle.spec_simplex.proofs.Orders.{given}
 use Rattle.spec_runs.proofs.Counts.{basic_test}
 use Rattle.spec_range.specs.declared.range.Ends.{Ends}

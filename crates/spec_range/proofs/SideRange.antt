@@ -34,7 +34,7 @@ use Rattle.spec_simplex.proofs.Statuses.{basic_if}
 use Rattle.spec_simplex.specs.Tables.{table_of}
 use Rattle.spec_simplex.proofs.ColumnKinds.{sum_by_kind}
 use Rattle.spec_simplex.proofs.FormOfModel.{Limited, least_structural, cost_other}
-use Rattle.spec_simplex.proofs.Runs.{then_ok, refused_ok}
+use Rattle.spec_simplex.proofs.RunParts.{then_ok, refused_ok}
 use Rattle.spec_simplex.proofs.Orders.{given}
 use Rattle.spec_runs.specs.Cold.{point, multipliers}
 use Rattle.spec_runs.specs.Based.{equations}

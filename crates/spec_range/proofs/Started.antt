@@ -17,8 +17,8 @@ use Rattle.spec_simplex.specs.Eliminate.{eliminate_run, valued_run, with_values,
 use Rattle.spec_simplex.specs.Tables.{table_of, bounds_of}
 use Rattle.spec_simplex.specs.Begins.{IsProper}
 use Rattle.spec_simplex.proofs.FormOfModel.{HasBounds}
-use Rattle.spec_simplex.proofs.Lists.{by_lt}
-use Rattle.spec_simplex.proofs.Runs.{then_ok, refused_ok}
+use Rattle.spec_simplex.proofs.ListIndices.{by_lt}
+use Rattle.spec_simplex.proofs.RunParts.{then_ok, refused_ok}
 use Rattle.spec_pivot.specs.Dual.{IsOrdered}
 use Rattle.spec_runs.specs.Based.{equations, BeginsFrom}
 use Rattle.spec_runs.proofs.BasisTableau.{start_begins_from}

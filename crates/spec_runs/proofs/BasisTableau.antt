@@ -17,8 +17,8 @@ use Rattle.spec_simplex.specs.Tableau.{status_at, lower_at, upper_at, or_zero, s
 use Rattle.spec_exact.proofs.Stops.{length-made}
 use Rattle.spec_simplex.specs.Tables.{bounds_of, IsWhole, KeepsBounds}
 use Rattle.spec_simplex.specs.Begins.{IsProper}
-use Rattle.spec_simplex.proofs.Runs.{then_ok, refused_ok, get_or-made}
-use Rattle.spec_simplex.proofs.Lists.{by_lt, past_row}
+use Rattle.spec_simplex.proofs.RunParts.{then_ok, refused_ok, get_or-made}
+use Rattle.spec_simplex.proofs.ListIndices.{by_lt, past_row}
 use Rattle.spec_simplex.proofs.Priced.{priced_length, priced_agrees}
 use Rattle.spec_simplex.specs.declared.ends.StartStop.TheVariants as stop
 use Rattle.spec_runs.specs.Based.{equations, IsBased, BeginsFrom}

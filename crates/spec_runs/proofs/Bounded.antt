@@ -6,7 +6,7 @@ use Rattle.spec_pivot.specs.Simplex.{Bounds, IsFixed}
 use Rattle.spec_pivot.proofs.Values.{by_basic}
 use Rattle.spec_simplex.specs.Tableau.{Tableau, form_columns, all_columns, status_at, lower_at, upper_at, is_fixed}
 use Rattle.spec_simplex.proofs.Enters.{fixed_means, fixed_test}
-use Rattle.spec_simplex.proofs.Lists.{by_lt}
+use Rattle.spec_simplex.proofs.ListIndices.{by_lt}
 use Rattle.spec_runs.specs.Based.{IsBased}
 
 -- with the counts of the tableau itself

@@ -19,7 +19,7 @@ use Rattle.spec_simplex.specs.Step.{directed, way_by}
 use Rattle.spec_simplex.specs.Tableau.{Tableau, all_columns, basic_at, entry_at}
 use Rattle.spec_simplex.specs.Tableau.{reduced_at, status_at, lower_at, upper_at, is_fixed}
 use Rattle.spec_simplex.specs.Tables.{way, table_of}
-use Rattle.spec_simplex.proofs.Runs.{then_ok, quotient_ok, order_ok, steps_ok}
+use Rattle.spec_simplex.proofs.RunParts.{then_ok, quotient_ok, order_ok, steps_ok}
 use Rattle.spec_simplex.proofs.Flips.{directed_is}
 use Rattle.spec_pivot.specs.Dual.{Helps, row_of, ratio, IsCandidate, IsCheapest}
 use Rattle.spec_simplex.specs.declared.ends.Cheapest.{Cheapest}

@@ -8,7 +8,7 @@ use Rattle.spec_simplex.specs.declared.ends.RunStop.TheVariants as stop
 use Rattle.spec_exact.specs.Run.{refused_as}
 use Rattle.spec_simplex.specs.Tableau.{Tableau}
 use Rattle.spec_simplex.specs.Tables.{way, table_of}
-use Rattle.spec_simplex.proofs.Runs.{then_ok, refused_ok}
+use Rattle.spec_simplex.proofs.RunParts.{then_ok, refused_ok}
 use Rattle.spec_pivot.specs.Dual.{Leaves, IsCheapest, after_dual}
 use Rattle.spec_simplex.specs.declared.ends.DualChoice.{DualChoice}
 use Rattle.spec_simplex.specs.declared.ends.DualChoice.TheVariants.{End, Pivot}

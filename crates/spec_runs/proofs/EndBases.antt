@@ -25,7 +25,7 @@ use Rattle.spec_runs.specs.Cold as cold
 use Rattle.spec_simplex.specs.Tables.{table_of}
 use Rattle.spec_simplex.proofs.FormOfModel.{HasBounds}
 use Rattle.spec_simplex.proofs.Equations.{row_logical, row_artificial}
-use Rattle.spec_simplex.proofs.Runs.{get_or-made}
+use Rattle.spec_simplex.proofs.RunParts.{get_or-made}
 use Rattle.spec_simplex.specs.Eliminate.{basis_at, basics_below, CanStand, IsBasisOf}
 use Rattle.spec_simplex.proofs.Statuses.{basic_if}
 use Rattle.spec_runs.proofs.Counts.{basic_test, nonbasic_test}

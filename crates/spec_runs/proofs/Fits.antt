@@ -13,7 +13,7 @@ use Rattle.spec_simplex.specs.Tableau.{Tableau, all_columns, value_at, status_at
 use Rattle.spec_simplex.specs.Tableau.{is_basic}
 use Rattle.spec_simplex.specs.Tables.{way}
 use Rattle.spec_simplex.proofs.Orders.{by_order, given}
-use Rattle.spec_simplex.proofs.Runs.{then_ok, steps_ok}
+use Rattle.spec_simplex.proofs.RunParts.{then_ok, steps_ok}
 use Rattle.spec_pivot.specs.Dual.{Suits, IsPast}
 use Rattle.spec_simplex.specs.declared.ends.Fit.{Fit}
 use Rattle.spec_simplex.specs.declared.ends.Fit.TheVariants.{Primal, Dual, Unfit}

@@ -21,7 +21,7 @@ use Rattle.spec_simplex.specs.Step.{directed, other_bound, moved_run, flip_way, 
 use Rattle.spec_simplex.specs.Tableau.{Tableau, all_columns, value_at, reduced_at}
 use Rattle.spec_simplex.specs.Tableau.{status_at, lower_at, upper_at, or_zero, is_fixed}
 use Rattle.spec_simplex.specs.Tables.{way, table_of}
-use Rattle.spec_simplex.proofs.Runs.{then_ok, refused_ok, steps_ok}
+use Rattle.spec_simplex.proofs.RunParts.{then_ok, refused_ok, steps_ok}
 use Rattle.spec_simplex.proofs.Pivots.{Leaves}
 use Rattle.spec_simplex.proofs.Flips.{flip_leaves}
 use Rattle.spec_simplex.proofs.Steps.{ahead_is}

@@ -16,7 +16,7 @@ use Rattle.spec_simplex.specs.declared.ends.FormFault.TheVariants as fault
 use Rattle.spec_exact.specs.Run.{Run, ◌>>=◌, refused_as, order_run, steps, list_run}
 use Rattle.spec_simplex.specs.Form.{Form, form_cost, limits_run}
 use Rattle.spec_simplex.specs.Form.{clash_by, bounds_clash, column_clash, least_cost, formed, form_of}
-use Rattle.spec_simplex.proofs.Runs.{refused_ok, order_ok}
+use Rattle.spec_simplex.proofs.RunParts.{refused_ok, order_ok}
 use Rattle.spec_simplex.proofs.FormOfModel.{Limited, least_structural}
 
 abbrev Pair : Type 0

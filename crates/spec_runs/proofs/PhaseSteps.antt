@@ -18,7 +18,7 @@ use Rattle.spec_simplex.specs.Step.{choice_run, flip_run, pivot_run}
 use Rattle.spec_simplex.specs.Phases.{PrimalEnded, done_run, end_or_spent, end_or_next, run_from}
 use Rattle.spec_simplex.specs.Phases.{wants_phase_one, is_stuck, phase_one, phase_two}
 use Rattle.spec_simplex.specs.Phases.{phase_two_run, PhasesEnd, Infeasible, Finished, phases_run}
-use Rattle.spec_simplex.proofs.Runs.{then_ok, refused_ok}
+use Rattle.spec_simplex.proofs.RunParts.{then_ok, refused_ok}
 use Rattle.spec_simplex.proofs.Walks.{ThenErr, first, second, then_err, never_spent}
 use Rattle.spec_simplex.proofs.LimitStart.{choice_agrees, flip_agrees, pivot_agrees}
 use Rattle.spec_runs.specs.Steps.{IsChange, IsNext, IsAfter, BeginsPhaseTwo}

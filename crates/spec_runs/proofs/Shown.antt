@@ -17,7 +17,7 @@ use Rattle.spec_exact.proofs.Stops.{length-made}
 use Rattle.spec_simplex.specs.Tables.{way, table_of, IsTableauOf, IsWithinBounds, IsMeant}
 use Rattle.spec_simplex.specs.Begins.{form_rows}
 use Rattle.spec_runs.specs.Cold.{point, multipliers, moves_by, moves_below, direction, certificate_at}
-use Rattle.spec_simplex.proofs.Runs.{get_or-made}
+use Rattle.spec_simplex.proofs.RunParts.{get_or-made}
 use Rattle.spec_simplex.proofs.FormOfModel.{Limited}
 use Rattle.spec_simplex.proofs.FormOfModel.{HasBounds}
 use Rattle.spec_runs.proofs.EndOptimal.{optimal_checks}

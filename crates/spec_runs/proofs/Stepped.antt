@@ -11,7 +11,7 @@ use Rattle.spec_exact.specs.Run.{difference_run, quotient_run}
 use Rattle.spec_simplex.specs.Step.{pivot_run}
 use Rattle.spec_simplex.specs.Tableau.{Tableau, all_columns, basic_at, entry_at, value_at, lower_at, upper_at, stand}
 use Rattle.spec_simplex.specs.Tables.{way, table_of}
-use Rattle.spec_simplex.proofs.Runs.{then_ok, difference_ok, quotient_ok}
+use Rattle.spec_simplex.proofs.RunParts.{then_ok, difference_ok, quotient_ok}
 use Rattle.spec_simplex.proofs.Pivots.{pivot_leaves}
 use Rattle.spec_simplex.proofs.Pivots as step
 use Rattle.spec_simplex.proofs.Tables.{stand_is}

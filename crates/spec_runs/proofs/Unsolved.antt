@@ -9,8 +9,8 @@ use Rattle.spec_simplex.specs.Form.{Form, form_entry}
 use Rattle.spec_simplex.specs.Start.{one_at, start_entry}
 use Rattle.spec_simplex.specs.Tableau.{at_place}
 use Rattle.spec_exact.proofs.Stops.{length-made}
-use Rattle.spec_simplex.proofs.Runs.{get_or-made}
-use Rattle.spec_simplex.proofs.Lists.{by_lt, past_row}
+use Rattle.spec_simplex.proofs.RunParts.{get_or-made}
+use Rattle.spec_simplex.proofs.ListIndices.{by_lt, past_row}
 use Rattle.spec_simplex.proofs.ColumnKinds.{structural_at, logical_at, artificial_at, by_kind}
 use Rattle.spec_simplex.proofs.Equations.{row_structural, row_logical, row_artificial, row_past}
 use Rattle.spec_runs.specs.Based.{equations}

@@ -15,7 +15,7 @@ use Rattle.spec_pivot.proofs.Unique.{apart}
 use Rattle.spec_exact.specs.Run.{◌>>=◌, less_product}
 use Rattle.spec_simplex.specs.Tableau.{Tableau, all_columns, basic_at, entry_at, value_at, status_at}
 use Rattle.spec_simplex.specs.Tableau.{is_basic}
-use Rattle.spec_simplex.proofs.Runs.{then_ok, less_ok, steps_ok}
+use Rattle.spec_simplex.proofs.RunParts.{then_ok, less_ok, steps_ok}
 use Rattle.spec_simplex.specs.Eliminate.{position_run, valued_run}
 use Rattle.spec_simplex.proofs.Statuses.{basic_if}
 

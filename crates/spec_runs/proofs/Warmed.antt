@@ -22,8 +22,8 @@ use Rattle.spec_simplex.specs.Phases.{PrimalEnded, run_from}
 use Rattle.spec_exact.proofs.Stops.{length-made}
 use Rattle.spec_simplex.specs.Tables.{way, table_of, bounds_of, IsWithinBounds}
 use Rattle.spec_runs.specs.Cold as cold
-use Rattle.spec_simplex.proofs.Runs.{then_ok, refused_ok, get_or-made}
-use Rattle.spec_simplex.proofs.Lists.{by_lt}
+use Rattle.spec_simplex.proofs.RunParts.{then_ok, refused_ok, get_or-made}
+use Rattle.spec_simplex.proofs.ListIndices.{by_lt}
 use Rattle.spec_simplex.proofs.Flips.{directed_is}
 use Rattle.spec_simplex.proofs.FormOfModel.{Limited, cost_length, formed_proper}
 use Rattle.spec_simplex.proofs.FormOfModel.{HasBounds}

@@ -5,7 +5,7 @@ use Rattle.spec_exact.specs.Sums.{sum_below}
 use Rattle.spec_exact.proofs.Field.{+ℚ_zero, +ℚ_assoc}
 use Rattle.spec_simplex.specs.Form.{Form}
 use Rattle.spec_simplex.specs.Start.{by_column}
-use Rattle.spec_simplex.proofs.Lists.{by_lt}
+use Rattle.spec_simplex.proofs.ListIndices.{by_lt}
 
 module _ {A : Type 0} (f : Form) (s : A) (l a : ℕ → A) where
   pub structural_at : (k : ℕ) → k < f.cols → by_column f k s l a ≡ s

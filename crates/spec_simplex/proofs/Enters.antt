@@ -16,7 +16,7 @@ use Rattle.spec_simplex.specs.Tableau.{Tableau, form_columns, all_columns, reduc
 use Rattle.spec_simplex.specs.Tableau.{status_at, lower_at, upper_at, is_fixed}
 use Rattle.spec_simplex.specs.Step.{way_by, way_at, or_enters, entering_below, entering}
 use Rattle.spec_simplex.specs.Tables.{way, table_of, KeepsBounds}
-use Rattle.spec_simplex.proofs.Lists.{by_lt}
+use Rattle.spec_simplex.proofs.ListIndices.{by_lt}
 use Rattle.spec_simplex.proofs.Pivots.{enters_before}
 
 -- ---- fixed columns

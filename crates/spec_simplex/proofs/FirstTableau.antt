@@ -32,8 +32,8 @@ use Rattle.spec_simplex.specs.Tableau.{status_at, lower_at, upper_at, or_zero, s
 use Rattle.spec_exact.proofs.Stops.{length-made}
 use Rattle.spec_simplex.specs.Tables.{bounds_of, IsWhole, KeepsBounds, IsTableauOf, IsWithinBounds}
 use Rattle.spec_simplex.specs.Begins.{form_rows, signs_of, IsProper, Begins}
-use Rattle.spec_simplex.proofs.Runs.{then_ok, IsListOf, list_ok, get_or-made}
-use Rattle.spec_simplex.proofs.Lists.{by_lt, past_row}
+use Rattle.spec_simplex.proofs.RunParts.{then_ok, IsListOf, list_ok, get_or-made}
+use Rattle.spec_simplex.proofs.ListIndices.{by_lt, past_row}
 use Rattle.spec_simplex.proofs.ColumnKinds.{structural_at, logical_at, artificial_at, by_kind, sum_by_kind}
 use Rattle.spec_simplex.proofs.Equations.{row_structural, row_logical, row_artificial, row_past}
 use Rattle.spec_simplex.proofs.Priced.{priced_length, priced_agrees}

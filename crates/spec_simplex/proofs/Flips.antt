@@ -15,8 +15,8 @@ use Rattle.spec_simplex.specs.Tableau.{Tableau, form_columns, all_columns, value
 use Rattle.spec_simplex.specs.Tableau.{status_at, lower_at, upper_at, or_zero, stand}
 use Rattle.spec_simplex.specs.Step.{directed, other_bound, moved_run, flip_way, flipped, flip_run}
 use Rattle.spec_simplex.specs.Tables.{way, table_of, IsWhole, KeepsBounds}
-use Rattle.spec_simplex.proofs.Runs.{then_ok, difference_ok}
-use Rattle.spec_simplex.proofs.Lists.{set_reads}
+use Rattle.spec_simplex.proofs.RunParts.{then_ok, difference_ok}
+use Rattle.spec_simplex.proofs.ListIndices.{set_reads}
 use Rattle.spec_simplex.proofs.Moved.{moved_length, moved_ray}
 use Rattle.spec_simplex.proofs.Tables.{same_table, stand_is}
 use Rattle.spec_simplex.proofs.Pivots.{Leaves, enters_before}

@@ -22,9 +22,9 @@ use Rattle.spec_exact.specs.Run.{◌>>=◌, refused_as, order_run, steps, list_r
 use Rattle.spec_simplex.specs.Form.{Form, form_entry, form_lower, form_upper, form_cost, limits_run}
 use Rattle.spec_simplex.specs.Form.{clash_by, bounds_clash, column_clash, least_cost, formed, form_of}
 use Rattle.spec_simplex.specs.Begins.{IsProper}
-use Rattle.spec_simplex.proofs.Runs.{then_ok, refused_ok, order_ok, steps_ok, IsListOf, list_ok}
-use Rattle.spec_simplex.proofs.Lists.{by_lt}
-use Rattle.spec_simplex.proofs.RowLimits.{AreLimits, limits_ok, limits_ordered}
+use Rattle.spec_simplex.proofs.RunParts.{then_ok, refused_ok, order_ok, steps_ok, IsListOf, list_ok}
+use Rattle.spec_simplex.proofs.ListIndices.{by_lt}
+use Rattle.spec_simplex.proofs.FormRowLimits.{AreLimits, limits_ok, limits_ordered}
 
 abbrev Pair : Type 0
 Pair = Option ℚ × Option ℚ

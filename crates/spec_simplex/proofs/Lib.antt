@@ -1,8 +1,8 @@
 pub mod EnteringColumns
 pub mod Statuses
-pub mod Runs
+pub mod RunParts
 pub mod Orders
-pub mod Lists
+pub mod ListIndices
 pub mod Turned
 pub mod Moved
 pub mod Tables
@@ -18,7 +18,7 @@ pub mod RowStarts
 pub mod Equations
 pub mod FirstTableau
 pub mod PhaseTwo
-pub mod RowLimits
+pub mod FormRowLimits
 pub mod FormOfModel
 pub mod Refusals
 pub mod LimitStart

@@ -16,8 +16,8 @@ use Rattle.spec_exact.specs.Run.{less_product}
 use Rattle.spec_simplex.specs.Tableau.{Tableau, all_columns, basic_at, entry_at, value_at}
 use Rattle.spec_simplex.specs.Step.{is_place, moved_at, moved_run}
 use Rattle.spec_simplex.specs.Tables.{table_of, IsWhole}
-use Rattle.spec_simplex.proofs.Runs.{then_ok, less_ok, steps_ok}
-use Rattle.spec_simplex.proofs.Lists.{by_lt}
+use Rattle.spec_simplex.proofs.RunParts.{then_ok, less_ok, steps_ok}
+use Rattle.spec_simplex.proofs.ListIndices.{by_lt}
 
 -- a column is basic at a position, or at none
 pub at_position : (m n : ℕ) (f : Matrix) (cost : ℕ → ℚ) (b : Bounds) (t : Table) → IsTableau m n f cost b t → (k : ℕ) →

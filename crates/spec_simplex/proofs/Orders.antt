@@ -6,7 +6,7 @@ use Rattle.spec_exact.specs.Fraction.{ℚ, ◌<ℚ◌}
 use Rattle.spec_exact.specs.Limit.{order}
 use Rattle.spec_exact.proofs.Compare.{order_less, order_equal, order_greater}
 use Rattle.spec_exact.specs.Run.{Run, ◌>>=◌, order_run}
-use Rattle.spec_simplex.proofs.Runs.{then_ok, order_ok}
+use Rattle.spec_simplex.proofs.RunParts.{then_ok, order_ok}
 
 pub by_order : {B : Type 0} (limit : Option ℕ) (v w : ℚ) (k : Ordering → Run B) (b : B) (P : Type 0) →
     (order_run limit v w >>= k) ≡ Ok b → (v <ℚ w → k Less ≡ Ok b → P) → (v ≡ w → k Equal ≡ Ok b → P) →

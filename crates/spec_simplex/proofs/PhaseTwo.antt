@@ -21,8 +21,8 @@ use Rattle.spec_simplex.specs.Tableau.{Tableau, form_columns, all_columns, is_ar
 use Rattle.spec_simplex.specs.Tableau.{entry_at, value_at, reduced_at, status_at, lower_at, upper_at}
 use Rattle.spec_simplex.specs.Phases.{fixed_at_zero, without_artificials, phase_two_run, is_stuck}
 use Rattle.spec_simplex.specs.Tables.{bounds_of, IsTableauOf, IsWithinBounds}
-use Rattle.spec_simplex.proofs.Runs.{then_ok}
-use Rattle.spec_simplex.proofs.Lists.{by_lt, past_row}
+use Rattle.spec_simplex.proofs.RunParts.{then_ok}
+use Rattle.spec_simplex.proofs.ListIndices.{by_lt, past_row}
 use Rattle.spec_simplex.proofs.Priced.{priced_length, priced_agrees}
 
 -- ---- where nothing is stuck, each artificial is 0

@@ -24,7 +24,7 @@ use Rattle.spec_simplex.specs.Phases.{PrimalEnded, wants_phase_one, is_stuck, ph
 use Rattle.spec_simplex.specs.Phases.{phase_two_run, run_from, PhasesEnd, Infeasible, Finished, phases_run}
 use Rattle.spec_simplex.specs.Tables.{way, table_of, bounds_of, IsTableauOf, IsWithinBounds, IsMeant}
 use Rattle.spec_simplex.specs.Begins.{form_rows, signs_of}
-use Rattle.spec_simplex.proofs.Runs.{then_ok, refused_ok}
+use Rattle.spec_simplex.proofs.RunParts.{then_ok, refused_ok}
 use Rattle.spec_simplex.proofs.Walks.{IsEnd, run_ends, run_spent, few, stand_still}
 use Rattle.spec_simplex.proofs.Walks.{never_spent, ThenErr, first, second, then_err}
 use Rattle.spec_simplex.proofs.FirstTableau.{Started, start_is_tableau}

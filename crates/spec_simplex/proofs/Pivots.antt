@@ -19,8 +19,8 @@ use Rattle.spec_simplex.specs.Tableau.{entry_at, value_at, reduced_at, status_at
 use Rattle.spec_simplex.specs.Step.{moved_run, shifted_run, turned_run, repriced_run}
 use Rattle.spec_simplex.specs.Step.{leave_bound, exchanged, turned, pivot_run}
 use Rattle.spec_simplex.specs.Tables.{table_of, IsWhole, KeepsBounds}
-use Rattle.spec_simplex.proofs.Runs.{then_ok, sum_ok, less_ok, IsListOf, list_ok}
-use Rattle.spec_simplex.proofs.Lists.{by_lt, set_reads, past_row}
+use Rattle.spec_simplex.proofs.RunParts.{then_ok, sum_ok, less_ok, IsListOf, list_ok}
+use Rattle.spec_simplex.proofs.ListIndices.{by_lt, set_reads, past_row}
 use Rattle.spec_simplex.proofs.Moved.{moved_length, moved_own, moved_ray}
 use Rattle.spec_simplex.proofs.Turned.{turned_rows, turned_whole, turned_own, turned_entry}
 use Rattle.spec_simplex.proofs.Tables.{same_table, stand_is}

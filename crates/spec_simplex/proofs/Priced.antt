@@ -12,8 +12,8 @@ use Rattle.spec_pivot.proofs.Unique.{weight}
 use Rattle.spec_exact.specs.Run.{less_product}
 use Rattle.spec_simplex.specs.Start.{cost_at, reduced_run, priced_run}
 use Rattle.spec_simplex.specs.Tableau.{Tableau, all_columns, basic_at, entry_at}
-use Rattle.spec_simplex.proofs.Runs.{less_ok, steps_ok, IsListOf, list_ok}
-use Rattle.spec_simplex.proofs.Lists.{by_lt}
+use Rattle.spec_simplex.proofs.RunParts.{less_ok, steps_ok, IsListOf, list_ok}
+use Rattle.spec_simplex.proofs.ListIndices.{by_lt}
 
 module _ (limit : Option ℕ) (t : Tableau) (costs reduced : List ℚ) (ok : priced_run limit t costs ≡ Ok reduced) where
   list : IsListOf (all_columns t) (reduced_run limit t costs) 0ℚ reduced

@@ -10,7 +10,7 @@ use Rattle.spec_exact.specs.Run.{Run, ◌>>=◌, difference_run, plus_product}
 use Rattle.spec_simplex.specs.Start.{first_value, row_sum, below_by, below_run, above_by}
 use Rattle.spec_simplex.specs.Start.{above_run, within_or_above, row_start_by, row_start}
 use Rattle.spec_simplex.proofs.Orders.{by_order, given}
-use Rattle.spec_simplex.proofs.Runs.{then_ok, difference_ok, plus_ok, steps_ok}
+use Rattle.spec_simplex.proofs.RunParts.{then_ok, difference_ok, plus_ok, steps_ok}
 
 abbrev pub first_sum : Form → ℕ → ℚ
 first_sum f i = sum_below f.cols (λ j. form_entry f i j *ℚ first_value f j)

@@ -22,7 +22,7 @@ use Rattle.spec_simplex.specs.Tableau.{Tableau, all_columns, status_at}
 use Rattle.spec_simplex.specs.Step.{entering, directed, other_bound, best_run, choice_at, choice_by}
 use Rattle.spec_simplex.specs.Step.{choice_of, choice_run, flip_way, flip_run, pivot_run}
 use Rattle.spec_simplex.specs.Tables.{way, table_of, IsWhole, KeepsBounds, IsTableauOf, IsWithinBounds, StepsTo, IsMeant}
-use Rattle.spec_simplex.proofs.Runs.{then_ok}
+use Rattle.spec_simplex.proofs.RunParts.{then_ok}
 use Rattle.spec_simplex.proofs.Enters.{no_entering, an_entering}
 use Rattle.spec_simplex.proofs.Pivots.{Leaves, pivot_leaves}
 use Rattle.spec_simplex.proofs.Flips.{directed_is, flip_leaves}

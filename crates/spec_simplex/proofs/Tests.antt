@@ -25,7 +25,7 @@ use Rattle.spec_simplex.specs.Tableau.{entry_at, value_at, lower_at, upper_at, o
 use Rattle.spec_simplex.specs.Step.{directed, other_bound, range_run, rise_run, fall_run, gap_run}
 use Rattle.spec_simplex.specs.Step.{better_by, better_run, with_gap, best_with, best_run}
 use Rattle.spec_simplex.specs.Tables.{way, table_of, IsWhole, KeepsBounds}
-use Rattle.spec_simplex.proofs.Runs.{then_ok, difference_ok, quotient_ok, order_ok, steps_ok}
+use Rattle.spec_simplex.proofs.RunParts.{then_ok, difference_ok, quotient_ok, order_ok, steps_ok}
 use Rattle.spec_simplex.proofs.Pivots.{enters_before}
 use Rattle.spec_simplex.proofs.Flips.{directed_is}
 

@@ -10,8 +10,8 @@ use Rattle.spec_pivot.proofs.Pivot.{by_eq, pivoted_at, pivoted_off, kept}
 use Rattle.spec_exact.specs.Run.{◌>>=◌, less_product, quotient_run, steps, list_run}
 use Rattle.spec_simplex.specs.Tableau.{at_place}
 use Rattle.spec_simplex.specs.Step.{scaled_run, cleared_run, turned_run}
-use Rattle.spec_simplex.proofs.Runs.{then_ok, quotient_ok, less_ok, steps_ok, IsListOf, list_ok}
-use Rattle.spec_simplex.proofs.Lists.{by_lt, past_row, past_rows}
+use Rattle.spec_simplex.proofs.RunParts.{then_ok, quotient_ok, less_ok, steps_ok, IsListOf, list_ok}
+use Rattle.spec_simplex.proofs.ListIndices.{by_lt, past_row, past_rows}
 
 module _ (limit : Option ℕ) (m n : ℕ) (rows : List (List ℚ)) (all : length rows ≡ m)
     (whole : (i : ℕ) → i < m → length (get_or rows i []) ≡ n) (p j : ℕ) (p_in : p < m) where

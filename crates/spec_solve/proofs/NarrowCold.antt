@@ -38,7 +38,7 @@ use Rattle.spec_check.specs.declared.solve_end.SolveEnd.TheVariants as outcome
 use Rattle.spec_runs.specs.Cold.{ExactSolveEnd, point, multipliers, moves_below, moves_by, certificate_at}
 use Rattle.spec_runs.specs.Cold.{certificate_of}
 use Rattle.spec_runs.specs.Cold.{basis_of, pivots_of, checked, after_phases, after_form, cold}
-use Rattle.spec_simplex.proofs.Runs.{then_ok, refused_ok}
+use Rattle.spec_simplex.proofs.RunParts.{then_ok, refused_ok}
 use Rattle.spec_solve.proofs.NarrowSteps.{NarrowBound, AreNarrow, number_at, place_narrow, flip_narrow, pivot_narrow}
 use Rattle.spec_solve.proofs.NarrowStart.{IsNarrowForm, one_narrow, form_narrow, start_narrow, priced_narrow}
 

@@ -33,7 +33,7 @@ use Rattle.spec_exact.proofs.Stops.{All-made}
 use Rattle.spec_exact.proofs.Narrow.{neg_narrow, zero_narrow}
 use Rattle.spec_check.specs.declared.solve_end.SolveEnd.TheVariants as outcome
 use Rattle.spec_runs.specs.Cold.{ExactSolveEnd, moves_by}
-use Rattle.spec_simplex.proofs.Runs.{then_ok, refused_ok}
+use Rattle.spec_simplex.proofs.RunParts.{then_ok, refused_ok}
 use Rattle.spec_factor.specs.Factors.{Pair, pair_at, column_entry, column_of, forward_run, ftran_run}
 use Rattle.spec_factor.specs.Factors.{backward_run, btran_run, factor_run, replace_run}
 use Rattle.spec_factor.specs.Revised.{Revised, bare_of, sign_of, factor_basis, factor_stop, refactored, refactor_run}

@@ -13,7 +13,7 @@ use Rattle.spec_exact.specs.Run.{Run, sum_run, difference_run, product_run, quot
 use Rattle.spec_exact.specs.Run.{list_run}
 use Rattle.spec_exact.proofs.Narrow.{divided, over_narrow}
 use Rattle.spec_exact.proofs.Results.{told_ok}
-use Rattle.spec_simplex.proofs.Runs.{then_ok, list_ok}
+use Rattle.spec_simplex.proofs.RunParts.{then_ok, list_ok}
 
 -- ---- one operation
 

@@ -33,7 +33,7 @@ use Rattle.spec_simplex.specs.Start.{with_reduced, first_cost, first_costs, star
 use Rattle.spec_exact.proofs.Results.{ok_same}
 use Rattle.spec_exact.proofs.Stops.{All-made}
 use Rattle.spec_exact.proofs.Narrow.{neg_narrow, zero_narrow}
-use Rattle.spec_simplex.proofs.Runs.{then_ok, refused_ok, steps_ok}
+use Rattle.spec_simplex.proofs.RunParts.{then_ok, refused_ok, steps_ok}
 use Rattle.spec_solve.proofs.NarrowRuns.{sum_narrow, difference_narrow, plus_narrow, less_narrow}
 use Rattle.spec_solve.proofs.NarrowRuns.{all_given}
 use Rattle.spec_solve.proofs.NarrowSteps.{NarrowBound, AreNarrow, at, number_at, bound_at, or_zero_narrow}

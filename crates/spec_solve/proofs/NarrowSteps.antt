@@ -16,7 +16,7 @@ use Rattle.spec_simplex.specs.Tableau.{upper_at, is_artificial, or_zero, stand}
 use Rattle.spec_simplex.specs.Step.{directed, other_bound, is_place, moved_at, moved_run, flip_way, flipped, flip_run}
 use Rattle.spec_simplex.specs.Step.{scaled_run, cleared_run, turned_run, repriced_run, leave_bound, exchanged, turned}
 use Rattle.spec_simplex.specs.Step.{shifted_run, pivot_run}
-use Rattle.spec_simplex.proofs.Runs.{then_ok, steps_ok}
+use Rattle.spec_simplex.proofs.RunParts.{then_ok, steps_ok}
 use Rattle.spec_solve.proofs.NarrowRuns.{sum_narrow, quotient_narrow, less_narrow, all_given}
 
 abbrev pub NarrowBound : Option ℚ → Type 0

@@ -13,7 +13,7 @@ use Rattle.spec_exact.proofs.Results.{ok_same}
 use Rattle.spec_exact.specs.Run.{◌>>=◌}
 use Rattle.spec_exact.proofs.Sizes.{abs_least}
 use Rattle.spec_simplex.specs.Form.{limits_run}
-use Rattle.spec_simplex.proofs.Runs.{then_ok}
+use Rattle.spec_simplex.proofs.RunParts.{then_ok}
 
 -- a pair that has these limits
 pub record AreLimits (l : Limits) (p : Option ℚ × Option ℚ) : Type 0 where
