@@ -18,7 +18,7 @@ use Rattle.spec_simplex.proofs.FirstTableau.{start_begins}
 use Rattle.spec_simplex.proofs.LimitPhases.{two_agrees}
 use Rattle.spec_simplex.proofs.LimitStart.{flip_agrees, pivot_agrees, start_agrees}
 use Rattle.spec_simplex.proofs.PhaseTwo.{second_phase}
-use Rattle.spec_simplex.proofs.Steps.{choice_is_meant}
+use Rattle.spec_simplex.proofs.LeastIndexSteps.{choice_is_meant}
 use Rattle.spec_runs.proofs.PhaseSteps.{given}
 use Rattle.lp_rows.specs.Shows.{IsReached}
 

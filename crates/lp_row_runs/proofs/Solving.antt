@@ -21,7 +21,7 @@ use Rattle.spec_simplex.specs.Eliminate as stated
 use Rattle.spec_simplex.specs.Eliminate.{basis_at, basis_value, has_none, or_first, is_open, open_below, solved_run}
 use Rattle.spec_simplex.specs.Eliminate.{unsolved}
 use Rattle.spec_simplex.proofs.LimitStart.{turned_agrees}
-use Rattle.spec_simplex.proofs.Turned.{turned_entry}
+use Rattle.spec_simplex.proofs.PivotedRows.{turned_entry}
 use Rattle.spec_runs.proofs.PhaseSteps.{given}
 use Rattle.spec_runs.proofs.Counts.{basic_test}
 use Rattle.spec_runs.proofs.Eliminated.{Solving, eliminated_below}

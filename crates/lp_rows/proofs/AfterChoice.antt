@@ -24,7 +24,7 @@ use Rattle.spec_simplex.proofs.RunParts.{then_ok}
 use Rattle.spec_simplex.proofs.Enters.{an_entering}
 use Rattle.spec_simplex.proofs.Pivots.{Leaves, enters_before, pivot_leaves}
 use Rattle.spec_simplex.proofs.Flips.{directed_is, flip_leaves}
-use Rattle.spec_simplex.proofs.Steps.{ahead_is, way_is}
+use Rattle.spec_simplex.proofs.LeastIndexSteps.{ahead_is, way_is}
 use Rattle.spec_simplex.proofs.Tests.{plain, IsRange, a_best, best_range, best_ahead}
 
 pub record PivotsTo (b : Bounds) (t u : Tableau) (p j : ℕ) (theta : ℚ) (to : Status) : Type 0 where

@@ -8,7 +8,7 @@ use Rattle.spec_simplex.specs.Tableau.{Tableau}
 use Rattle.spec_simplex.specs.Step.{choice_run}
 use Rattle.spec_simplex.specs.Phases.{done_run}
 use Rattle.spec_simplex.specs.Tables.{StepsTo}
-use Rattle.spec_simplex.proofs.Steps.{choice_is_meant}
+use Rattle.spec_simplex.proofs.LeastIndexSteps.{choice_is_meant}
 use Rattle.lp_rows.specs.declared.tableau.choice.Step.{Step}
 use Rattle.lp_rows.specs.declared.tableau.choice.Step.TheVariants.{End, Flip, Pivot}
 use Rattle.lp_rows.specs.declared.tableau.tableau.RowTableau.{RowTableau}

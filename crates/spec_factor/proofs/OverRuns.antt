@@ -19,7 +19,7 @@ use Rattle.spec_simplex.specs.Tables.{IsTableauOf, IsWithinBounds}
 use Rattle.spec_simplex.specs.Begins.{form_rows, signs_of}
 use Rattle.spec_runs.specs.Cold.{multipliers, certificate_at}
 use Rattle.spec_simplex.proofs.LimitStart.{choice_agrees, flip_agrees, pivot_agrees}
-use Rattle.spec_simplex.proofs.Steps.{choice_is_meant}
+use Rattle.spec_simplex.proofs.LeastIndexSteps.{choice_is_meant}
 use Rattle.spec_factor.specs.Factors.{Pair}
 use Rattle.spec_factor.specs.Revised.{Revised, replacements, refreshed_run, refactor_run, Selection, selection_run}
 use Rattle.spec_factor.specs.Over.{RevisedEnded, over_or_spent, over_or_next, over_from, negatives, over_certificate}

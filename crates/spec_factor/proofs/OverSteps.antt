@@ -33,7 +33,7 @@ use Rattle.spec_simplex.proofs.RunParts.{then_ok}
 use Rattle.spec_simplex.proofs.Enters.{an_entering}
 use Rattle.spec_simplex.proofs.Refusals.{Agrees, as_it_is}
 use Rattle.spec_simplex.proofs.LimitStart.{flip_agrees, pivot_agrees}
-use Rattle.spec_simplex.proofs.Steps.{choice_is_meant}
+use Rattle.spec_simplex.proofs.LeastIndexSteps.{choice_is_meant}
 use Rattle.spec_simplex.proofs.Tests.{plain, a_best}
 use Rattle.spec_factor.specs.Factors.{Pair, column_entry, column_of, with_pair, replace_run}
 use Rattle.spec_factor.specs.Basis.{StandsFor, SolvesColumns, with_column, basis_of}

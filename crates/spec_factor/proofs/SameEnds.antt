@@ -29,7 +29,7 @@ use Rattle.spec_simplex.specs.Begins.{form_rows, signs_of}
 use Rattle.spec_simplex.proofs.Moved.{at_position}
 use Rattle.spec_runs.proofs.Directions.{moves_are}
 use Rattle.spec_simplex.proofs.Equations.{row_logical}
-use Rattle.spec_simplex.proofs.Steps.{choice_is_meant}
+use Rattle.spec_simplex.proofs.LeastIndexSteps.{choice_is_meant}
 use Rattle.spec_factor.specs.Factors.{Pair}
 use Rattle.spec_factor.specs.Revised.{Selection}
 use Rattle.spec_factor.specs.Over.{negatives, over_certificate}

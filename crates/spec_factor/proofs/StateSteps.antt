@@ -14,7 +14,7 @@ use Rattle.spec_simplex.specs.Tableau.{Tableau}
 use Rattle.spec_simplex.specs.Phases.{done_run}
 use Rattle.spec_simplex.specs.Tables.{IsTableauOf, IsWithinBounds}
 use Rattle.spec_simplex.specs.Begins.{form_rows, signs_of}
-use Rattle.spec_simplex.proofs.Steps.{choice_is_meant}
+use Rattle.spec_simplex.proofs.LeastIndexSteps.{choice_is_meant}
 use Rattle.spec_factor.specs.Revised.{Revised, Selection, selection_run, flip_over_run}
 use Rattle.spec_factor.specs.Revised.{replacements, refactor_run, refreshed_run, exchange_run}
 use Rattle.spec_factor.specs.Same.{SameChoice, bare_with, GoesWith}

@@ -18,7 +18,7 @@ use Rattle.spec_simplex.specs.Tableau.{at_place}
 use Rattle.spec_exact.proofs.Stops.{length-made}
 use Rattle.spec_simplex.specs.Tableau.{is_basic}
 use Rattle.spec_simplex.proofs.RunParts.{then_ok, refused_ok, steps_ok}
-use Rattle.spec_simplex.proofs.Turned.{turned_rows, turned_whole, turned_entry}
+use Rattle.spec_simplex.proofs.PivotedRows.{turned_rows, turned_whole, turned_entry}
 use Rattle.spec_simplex.specs.declared.ends.StartStop.{StartStop}
 use Rattle.spec_simplex.specs.declared.ends.StartStop.TheVariants as stop
 use Rattle.spec_runs.specs.Based.{equations}

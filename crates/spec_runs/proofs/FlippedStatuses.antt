@@ -24,7 +24,7 @@ use Rattle.spec_simplex.specs.Tables.{way, table_of}
 use Rattle.spec_simplex.proofs.RunParts.{then_ok, refused_ok, steps_ok}
 use Rattle.spec_simplex.proofs.Pivots.{Leaves}
 use Rattle.spec_simplex.proofs.Flips.{flip_leaves}
-use Rattle.spec_simplex.proofs.Steps.{ahead_is}
+use Rattle.spec_simplex.proofs.LeastIndexSteps.{ahead_is}
 use Rattle.spec_pivot.specs.Dual.{Suits}
 use Rattle.spec_runs.specs.Based.{IsBased, IsReady}
 use Rattle.spec_simplex.specs.Dual.{Reached, one_more, flip_by, flip_next, flips_run}

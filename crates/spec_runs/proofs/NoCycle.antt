@@ -19,7 +19,7 @@ use Rattle.spec_simplex.specs.Phases.{PrimalEnded, done_run, run_from}
 use Rattle.spec_simplex.specs.Phases.{wants_phase_one, phase_one}
 use Rattle.spec_simplex.specs.Tables.{table_of, bounds_of, IsTableauOf, IsWithinBounds, StepsTo, IsMeant}
 use Rattle.spec_simplex.specs.Begins.{form_rows, signs_of}
-use Rattle.spec_simplex.proofs.Steps.{choice_is_meant}
+use Rattle.spec_simplex.proofs.LeastIndexSteps.{choice_is_meant}
 use Rattle.spec_simplex.proofs.Walks.{run_ends, before}
 use Rattle.spec_simplex.proofs.FirstTableau.{Started, start_is_tableau}
 use Rattle.spec_simplex.proofs.PhaseTwo.{IsSecond, second_phase}

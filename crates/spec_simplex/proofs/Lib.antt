@@ -3,14 +3,14 @@ pub mod Statuses
 pub mod RunParts
 pub mod Orders
 pub mod ListIndices
-pub mod Turned
+pub mod PivotedRows
 pub mod Moved
 pub mod Tables
 pub mod Pivots
 pub mod Flips
 pub mod Enters
 pub mod Tests
-pub mod Steps
+pub mod LeastIndexSteps
 pub mod Walks
 pub mod ColumnKinds
 pub mod Priced

@@ -22,7 +22,7 @@ use Rattle.spec_simplex.specs.Tables.{table_of, IsWhole, KeepsBounds}
 use Rattle.spec_simplex.proofs.RunParts.{then_ok, sum_ok, less_ok, IsListOf, list_ok}
 use Rattle.spec_simplex.proofs.ListIndices.{by_lt, set_reads, past_row}
 use Rattle.spec_simplex.proofs.Moved.{moved_length, moved_own, moved_ray}
-use Rattle.spec_simplex.proofs.Turned.{turned_rows, turned_whole, turned_own, turned_entry}
+use Rattle.spec_simplex.proofs.PivotedRows.{turned_rows, turned_whole, turned_own, turned_entry}
 use Rattle.spec_simplex.proofs.Tables.{same_table, stand_is}
 
 -- what a step leaves

@@ -16,7 +16,7 @@ use Rattle.spec_simplex.specs.Step.{choice_run, flip_run, pivot_run}
 use Rattle.spec_simplex.specs.Phases.{PrimalEnded, end_or_spent, end_or_next, run_from}
 use Rattle.spec_simplex.specs.Tables.{table_of, IsTableauOf, IsWithinBounds, StepsTo, IsMeant}
 use Rattle.spec_simplex.proofs.RunParts.{then_ok, refused_ok}
-use Rattle.spec_simplex.proofs.Steps.{choice_is_meant}
+use Rattle.spec_simplex.proofs.LeastIndexSteps.{choice_is_meant}
 
 -- ---- what ends in a certain error
 pub data ThenErr {A B E : Type 0} (o : Result A E) (f : A → Result B E) (e : E) : Type 0 where

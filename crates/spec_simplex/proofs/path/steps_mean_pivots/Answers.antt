@@ -1,4 +1,4 @@
-use Rattle.spec_simplex.proofs.Steps.{choice_is_meant}
+use Rattle.spec_simplex.proofs.LeastIndexSteps.{choice_is_meant}
 use Rattle.spec_simplex.proofs.path.steps_mean_pivots.Goals as goal
 
 pub returns : goal.returns
