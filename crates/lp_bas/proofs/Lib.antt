@@ -1,4 +1,4 @@
-pub mod Chosen
+pub mod ChosenNumbers
 pub mod Marked
 pub mod Readings
 pub mod Added

@@ -1,7 +1,7 @@
 use Rattle.std.proofs.Common.{◌≡◌, ℕ, Bool, Vec, Global, ap, sym, ◌∙◌}
 use Rattle.spec_simplex.specs.Eliminate.{basis_at}
 use Rattle.lp_bas.specs.Listed.{is_listed}
-use Rattle.lp_bas.proofs.Chosen.{chosen_yes, chosen_no}
+use Rattle.lp_bas.proofs.ChosenNumbers.{chosen_yes, chosen_no}
 use Rattle.lp_bas.proofs.writing.columns.Goals as goal
 use Rattle.lp_bas.proofs.writing.columns.Goals.{then-is_listed+in_ok-push, else-is_listed}
 

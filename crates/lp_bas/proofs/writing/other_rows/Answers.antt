@@ -1,7 +1,7 @@
 use Rattle.std.proofs.Common.{◌≡◌, ℕ, ◌+◌, Bool, not, Vec, Global, ap, sym, ◌∙◌}
 use Rattle.spec_simplex.specs.Tableau.{is_basic}
 use Rattle.spec_simplex.specs.Eliminate.{basis_at}
-use Rattle.lp_bas.proofs.Chosen.{chosen_yes, chosen_no}
+use Rattle.lp_bas.proofs.ChosenNumbers.{chosen_yes, chosen_no}
 use Rattle.lp_bas.proofs.writing.other_rows.Goals as goal
 use Rattle.lp_bas.proofs.writing.other_rows.Goals.{then-not-is_basic+in_ok-push, else-not-is_basic}
 

@@ -1,6 +1,6 @@
 use Rattle.std.proofs.Common.{◌<◌, All, sym, subst, ◌∙◌, arith}
 use Rattle.spec_model.specs.Model.{width, height}
-use Rattle.lp_bas.proofs.Chosen.{chosen_inside}
+use Rattle.lp_bas.proofs.ChosenNumbers.{chosen_inside}
 use Rattle.lp_bas.proofs.Added.{all_cards}
 use Rattle.lp_bas.proofs.writing.push_cards.Goals as goal
 
