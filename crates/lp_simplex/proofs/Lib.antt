@@ -2,11 +2,11 @@ pub mod Choices
 pub mod Entering
 pub mod Positions
 pub mod Ratios
-pub mod Runs
+pub mod StepRuns
 pub mod Signs
-pub mod Chosen
+pub mod ChosenPivots
 pub mod DualEntering
-pub mod Fitted
+pub mod DualFeasibleRuns
 pub mod Seats
 pub mod Turned
 pub mod Walk

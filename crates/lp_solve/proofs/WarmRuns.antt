@@ -45,7 +45,7 @@ use Rattle.lp_frac.specs.declared.stop.Stop.{Stop}
 use Rattle.lp_form.specs.declared.stop.Singular.{Singular}
 use Rattle.lp_frac.specs.declared.stop.Stop.TheVariants as stop
 use Rattle.lp_simplex.specs.Starts.{IsDualStart}
-use Rattle.lp_simplex.proofs.Fitted.{can_start}
+use Rattle.lp_simplex.proofs.DualFeasibleRuns.{can_start}
 use Rattle.lp_solve.specs.Begun.{IsBegun}
 use Rattle.lp_solve.proofs.Accepted.{never_no}
 use Rattle.lp_solve.proofs.Left.{warm_leaves}

@@ -3,7 +3,7 @@ use Rattle.std.proofs.Common.{◌<◌, sym, ap, ◌∙◌, subst, subst₂, Some
 use Rattle.spec_exact.specs.Narrow.{number_limit}
 use Rattle.spec_simplex.specs.Dual.{cheapest_run}
 use Rattle.lp_simplex.specs.Starts.{CanEnter}
-use Rattle.lp_simplex.proofs.Chosen.{place_inside, can_enter}
+use Rattle.lp_simplex.proofs.ChosenPivots.{place_inside, can_enter}
 use Rattle.lp_simplex.proofs.dual.choice.choice.Goals as goal
 
 pub cheapest-requires : goal.cheapest-requires

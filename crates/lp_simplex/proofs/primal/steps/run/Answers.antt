@@ -3,8 +3,8 @@ use Rattle.std.proofs.Common.{refl, sym, ap, ◌∙◌, Some, Ok, arith}
 use Rattle.std.proofs.lemmas.Result.{err_from_is_err_and}
 use Rattle.spec_exact.specs.Narrow.{number_limit}
 use Rattle.lp_tableau.proofs.Budget.{run_refused, run_ends, run_spent, step_refused, step_done}
-use Rattle.lp_simplex.proofs.Runs.{is_run, spent_at, next_at}
-use Rattle.lp_simplex.proofs.Runs.{sets_out, one_made, choice_stops, step_stops, budget_stops}
+use Rattle.lp_simplex.proofs.StepRuns.{is_run, spent_at, next_at}
+use Rattle.lp_simplex.proofs.StepRuns.{sets_out, one_made, choice_stops, step_stops, budget_stops}
 use Rattle.lp_simplex.proofs.primal.steps.run.Goals as goal
 
 pub loop-next-init : goal.loop-next-init

@@ -2,7 +2,7 @@
 use Rattle.std.proofs.Common.{◌≡◌, ◌-◌, Some}
 use Rattle.spec_exact.specs.Narrow.{number_limit}
 use Rattle.spec_simplex.specs.Phases.{run_from}
-use Rattle.lp_simplex.proofs.Runs.{IsUnderWay}
+use Rattle.lp_simplex.proofs.StepRuns.{IsUnderWay}
 use Rattle.lp_simplex.proofs.primal.steps.run.Given as goal
 
 -- what is left of the run is the same run, and the steps so far are counted
