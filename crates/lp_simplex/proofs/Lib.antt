@@ -3,10 +3,10 @@ pub mod Entering
 pub mod Positions
 pub mod Ratios
 pub mod StepRuns
-pub mod Signs
+pub mod SignCases
 pub mod ChosenPivots
 pub mod DualEntering
 pub mod DualFeasibleRuns
 pub mod Seats
-pub mod Turned
+pub mod ColumnFlips
 pub mod Walk

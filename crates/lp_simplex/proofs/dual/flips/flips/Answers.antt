@@ -2,7 +2,7 @@
 use Rattle.std.proofs.Common.{◌+◌, sym, subst₂, ◌∙◌, Some, arith}
 use Rattle.std.proofs.lemmas.Result.{err_from_is_err_and}
 use Rattle.spec_exact.specs.Narrow.{number_limit}
-use Rattle.lp_simplex.proofs.Turned.{Flipping, flips_pass, flips_stop, flips_end, flips_go_on}
+use Rattle.lp_simplex.proofs.ColumnFlips.{Flipping, flips_pass, flips_stop, flips_end, flips_go_on}
 use Rattle.lp_simplex.proofs.dual.flips.flips.Goals as goal
 use Rattle.lp_simplex.proofs.dual.flips.flips.Goals.{then-needs_flip_at+in_ok-flip_next, else-needs_flip_at}
 

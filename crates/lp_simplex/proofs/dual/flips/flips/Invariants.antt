@@ -1,7 +1,7 @@
 -- The loop over the columns.
 use Rattle.std.proofs.Common.{Some}
 use Rattle.spec_exact.specs.Narrow.{number_limit}
-use Rattle.lp_simplex.proofs.Turned.{Flipping}
+use Rattle.lp_simplex.proofs.ColumnFlips.{Flipping}
 use Rattle.lp_simplex.proofs.dual.flips.flips.Given as goal
 
 -- the flips so far

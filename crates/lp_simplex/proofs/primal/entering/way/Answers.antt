@@ -1,6 +1,6 @@
 -- By the signs, and by the statuses.
 use Rattle.std.proofs.Common.{sym, ap, ◌∙◌, ⊎_elim, Less, Equal, Greater}
-use Rattle.lp_simplex.proofs.Signs.{way_is, way_of, still}
+use Rattle.lp_simplex.proofs.SignCases.{way_is, way_of, still}
 use Rattle.lp_simplex.proofs.primal.entering.way.Goals as goal
 
 pub returns-in-AtLower : goal.returns-in-AtLower

@@ -1,6 +1,6 @@
 -- By the three signs.
 use Rattle.std.proofs.Common.{sym, ◌∙◌}
-use Rattle.lp_simplex.proofs.Signs.{gap_by}
+use Rattle.lp_simplex.proofs.SignCases.{gap_by}
 use Rattle.lp_simplex.proofs.primal.ratio.gap.Goals as goal
 
 pub returns-in-Less : goal.returns-in-Less
