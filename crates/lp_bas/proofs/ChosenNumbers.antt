@@ -4,7 +4,7 @@ use Rattle.std.proofs.Common.{sym, ap, subst, ◌∙◌, arith}
 use Rattle.std.proofs.Common.{append-nil, add-one}
 use Rattle.std.proofs.lemmas.List.Elements.{All-nil, All-push}
 use Rattle.spec_bas.specs.Written.{chosen}
-use Rattle.spec_bas.proofs.Chosen.{chosen_more}
+use Rattle.spec_bas.proofs.NumbersBelow.{chosen_more}
 
 pub chosen_yes : (test : ℕ → Bool) (k : ℕ) (xs : List ℕ) → xs ≡ chosen k test → test k ≡ true →
     xs ++ k ∷ [] ≡ chosen (k + 1) test

@@ -4,8 +4,8 @@ pub mod Sizes
 pub mod Parts
 pub mod Spelling
 pub mod Files
-pub mod Fitting
-pub mod Chosen
+pub mod FileBasis
+pub mod NumbersBelow
 pub mod Places
 pub mod Meaning
-pub mod Lines
+pub mod WrittenCards

@@ -24,8 +24,8 @@ use Rattle.spec_bas.specs.Fits.{HasSizeOf}
 use Rattle.spec_bas.specs.Spelled.{AreCardsOf, Means, HasNoCard, column_on, row_on, columns_on, rows_on}
 use Rattle.spec_bas.specs.Written.{is_at_upper, basic_columns, other_rows, upper_columns, paired, pair_card, upper_card}
 use Rattle.spec_bas.specs.Written.{cards_of}
-use Rattle.spec_bas.proofs.Chosen.{all_front, all_back, all_named, all_zip, chosen_all}
-use Rattle.spec_bas.proofs.Chosen.{chosen_missing, chosen_once, basics_chosen, others_chosen}
+use Rattle.spec_bas.proofs.NumbersBelow.{all_front, all_back, all_named, all_zip, chosen_all}
+use Rattle.spec_bas.proofs.NumbersBelow.{chosen_missing, chosen_once, basics_chosen, others_chosen}
 use Rattle.spec_bas.proofs.Places.{named_once, unnamed}
 
 -- ---- statuses

@@ -1,4 +1,4 @@
-use Rattle.spec_bas.proofs.Fitting.{judged, one_basis, not_both}
+use Rattle.spec_bas.proofs.FileBasis.{judged, one_basis, not_both}
 use Rattle.spec_bas.proofs.files_are_judged.Goals as goal
 
 pub returns-clause-some : goal.returns-clause-some

@@ -1,4 +1,4 @@
-use Rattle.spec_bas.proofs.Fitting.{spelled_fits}
+use Rattle.spec_bas.proofs.FileBasis.{spelled_fits}
 use Rattle.spec_bas.proofs.spelled_bases_fit.Goals as goal
 
 pub returns : goal.returns

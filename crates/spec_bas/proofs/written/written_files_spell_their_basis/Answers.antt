@@ -1,4 +1,4 @@
-use Rattle.spec_bas.proofs.Lines.{written_spells}
+use Rattle.spec_bas.proofs.WrittenCards.{written_spells}
 use Rattle.spec_bas.proofs.written.written_files_spell_their_basis.Goals as goal
 
 pub returns : goal.returns
