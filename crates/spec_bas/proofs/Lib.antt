@@ -1,11 +1,11 @@
 pub mod Marks
 pub mod MarkSteps
-pub mod Sizes
+pub mod FormSizes
 pub mod Parts
 pub mod Spelling
 pub mod Files
 pub mod FileBasis
 pub mod NumbersBelow
-pub mod Places
+pub mod NamePlaces
 pub mod Meaning
 pub mod WrittenCards

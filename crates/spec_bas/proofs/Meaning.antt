@@ -26,7 +26,7 @@ use Rattle.spec_bas.specs.Written.{is_at_upper, basic_columns, other_rows, upper
 use Rattle.spec_bas.specs.Written.{cards_of}
 use Rattle.spec_bas.proofs.NumbersBelow.{all_front, all_back, all_named, all_zip, chosen_all}
 use Rattle.spec_bas.proofs.NumbersBelow.{chosen_missing, chosen_once, basics_chosen, others_chosen}
-use Rattle.spec_bas.proofs.Places.{named_once, unnamed}
+use Rattle.spec_bas.proofs.NamePlaces.{named_once, unnamed}
 
 -- ---- statuses
 upper_is : (s : Status) → is_at_upper s ≡ true → s ≡ AtUpper

@@ -35,7 +35,7 @@ use Rattle.spec_bas.specs.Fits.{HasSizeOf}
 use Rattle.spec_bas.specs.Spelled.{HasCards, SpellsBasis, readings_of, unless_skipped}
 use Rattle.spec_bas.specs.Written.{fields_on, written_card, written_cards, cards_of, bas_text, paired, pair_card}
 use Rattle.spec_bas.specs.Written.{upper_card, basic_columns, other_rows, upper_columns}
-use Rattle.spec_bas.proofs.Sizes.{sized}
+use Rattle.spec_bas.proofs.FormSizes.{sized}
 use Rattle.spec_bas.proofs.FileBasis.{one_basis}
 use Rattle.spec_bas.proofs.NumbersBelow.{all_zip, chosen_all}
 use Rattle.spec_bas.proofs.Meaning.{cards_mean}

@@ -19,7 +19,7 @@ use Rattle.spec_bas.specs.declared.fault.BasFault.{BasFault}
 use Rattle.spec_bas.specs.Steps as file
 use Rattle.spec_bas.specs.Fits.{HasSizeOf}
 use Rattle.spec_bas.proofs.Files.{gives_spells, spells_gives}
-use Rattle.spec_bas.proofs.Sizes.{sized}
+use Rattle.spec_bas.proofs.FormSizes.{sized}
 use Rattle.spec_commands.specs.declared.basis.BasisFault.TheVariants as fault
 use Rattle.spec_server.specs.Said.{follow, said_by}
 use Rattle.spec_server.specs.TextSaid.{TextSaid, behind_line, text_step}
