@@ -12,7 +12,7 @@ use Rattle.spec_solve.specs.Answers.{MayAnswer}
 use Rattle.spec_presolve.specs.Reduce.{Reductions, reduced}
 use Rattle.spec_presolve.specs.Carry.{ExactCertificate, halted}
 use Rattle.spec_presolve.specs.Presolved.{last_end, IsLast}
-use Rattle.spec_presolve.proofs.Ends.{ends_well}
+use Rattle.spec_presolve.proofs.LastModel.{ends_well}
 use Rattle.spec_presolve.proofs.Halts.{halt_shows}
 
 -- its certificate is one for it, with its conditions

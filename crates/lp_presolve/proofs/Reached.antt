@@ -16,9 +16,9 @@ use Rattle.spec_presolve.specs.declared.reduction.Choice.TheVariants.{Reduce}
 use Rattle.spec_presolve.specs.declared.reduction.Choice.TheVariants as choice
 use Rattle.spec_presolve.specs.Choose.{ExactReduction, chosen}
 use Rattle.spec_presolve.specs.Reduce.{Reductions, after, reduced_within}
-use Rattle.spec_presolve.proofs.Chosen.{what_goes}
+use Rattle.spec_presolve.proofs.NextReduction.{what_goes}
 use Rattle.spec_presolve.proofs.After.{single_step}
-use Rattle.spec_presolve.proofs.Kept.{after_kept}
+use Rattle.spec_presolve.proofs.KeptReductions.{after_kept}
 use Rattle.lp_frac.specs.declared.stop.Stop.{Stop}
 use Rattle.lp_frac.specs.declared.stop.Stop.TheVariants.{Cause, Past, NoMemory}
 use Rattle.lp_presolve.specs.declared.step.Step.{Step}

@@ -8,7 +8,7 @@ use Rattle.spec_presolve.specs.declared.reduction.Reduction.TheVariants.{Empty, 
 use Rattle.spec_presolve.specs.declared.reduction.Choice.TheVariants.{Reduce}
 use Rattle.spec_presolve.specs.Choose.{ExactReduction, chosen}
 use Rattle.spec_presolve.specs.Reduce.{after, tightened}
-use Rattle.spec_presolve.proofs.Chosen.{Goes, what_goes}
+use Rattle.spec_presolve.proofs.NextReduction.{Goes, what_goes}
 
 pub goes_as : (m : Model) (r s : ExactReduction) → r ≡ s → chosen (Some number_limit) m ≡ Ok (Reduce r) →
     Goes (Some number_limit) m s

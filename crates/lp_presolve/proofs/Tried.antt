@@ -26,7 +26,7 @@ use Rattle.spec_presolve.specs.Carry.{ExactCertificate, halted, carried, IsCarri
 use Rattle.spec_presolve.specs.Presolved.{ExactWhy, ExactPresolved, IsLast, IsPlain, ByCheck, ByCarried, ByReductions}
 use Rattle.spec_presolve.specs.Presolved.{IsPresolved}
 use Rattle.spec_presolve.proofs.Carried.{carries}
-use Rattle.spec_presolve.proofs.Ends.{ends_well}
+use Rattle.spec_presolve.proofs.LastModel.{ends_well}
 use Rattle.lp_frac.specs.declared.stop.Stop.{Stop}
 use Rattle.lp_frac.specs.declared.stop.Stop.TheVariants as stop
 use Rattle.lp_presolve.specs.declared.step.Step.{Step}

@@ -19,7 +19,7 @@ use Rattle.spec_edit.proofs.Keeping.{lowered}
 use Rattle.spec_edit.proofs.Meanings.{without_row-means, column-lowered}
 use Rattle.spec_presolve.specs.declared.reduction.Reduction.TheVariants.{Fixed}
 use Rattle.spec_presolve.specs.Reduce.{tightened, shifted, after}
-use Rattle.spec_presolve.proofs.Chosen.{EmptyFound, SingleFound, FixedFound}
+use Rattle.spec_presolve.proofs.NextReduction.{EmptyFound, SingleFound, FixedFound}
 use Rattle.spec_presolve.proofs.RowMore.{HasRow}
 use Rattle.spec_presolve.proofs.OverEmpty.{EmptyStep}
 use Rattle.spec_presolve.proofs.OverSingle.{SingleStep}

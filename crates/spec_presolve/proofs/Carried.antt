@@ -15,7 +15,7 @@ use Rattle.spec_presolve.specs.declared.reduction.Choice.TheVariants as choice
 use Rattle.spec_presolve.specs.Choose.{ExactReduction, ExactChoice, chosen}
 use Rattle.spec_presolve.specs.Reduce.{Reductions, tightened, after, proceed, reduced_within, reduced}
 use Rattle.spec_presolve.specs.Carry.{ExactCertificate, IsCarried, over_empty, over_fixed, carried_over, carried}
-use Rattle.spec_presolve.proofs.Chosen.{Goes, what_goes}
+use Rattle.spec_presolve.proofs.NextReduction.{Goes, what_goes}
 use Rattle.spec_presolve.proofs.After.{empty_step, single_step, fixed_step}
 use Rattle.spec_presolve.proofs.OverEmpty.{EmptyStep, over_empty_row}
 use Rattle.spec_presolve.proofs.OverSingle.{SingleStep}

@@ -38,7 +38,7 @@ use Rattle.spec_presolve.proofs.Skips.{by_skip, part_at, part_skipping, sum_of_o
 use Rattle.spec_presolve.proofs.Tightened.{tight_zero}
 use Rattle.spec_presolve.proofs.OverSingleRun.{one_tight, minus_tight, minus_times}
 use Rattle.spec_presolve.proofs.InRows.{row_empty}
-use Rattle.spec_presolve.proofs.Chosen.{Origin, of_clash, of_empty, of_single, of_fixed, of_none, chosen_ok, none_not}
+use Rattle.spec_presolve.proofs.NextReduction.{Origin, of_clash, of_empty, of_single, of_fixed, of_none, chosen_ok, none_not}
 use Rattle.spec_simplex.proofs.FormRowLimits.{limits_ok}
 
 -- ---- a row without entries whose limits leave out 0

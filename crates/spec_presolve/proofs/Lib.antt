@@ -7,11 +7,11 @@ pub mod OverSingle
 pub mod OverSingleRun
 pub mod OverFixed
 pub mod InRows
-pub mod Chosen
+pub mod NextReduction
 pub mod After
 pub mod Carried
 pub mod Halts
-pub mod Ends
-pub mod Kept
+pub mod LastModel
+pub mod KeptReductions
 pub mod FreeRow
 pub mod FreeRows

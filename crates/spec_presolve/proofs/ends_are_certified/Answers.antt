@@ -1,5 +1,5 @@
 use Rattle.spec_presolve.proofs.Halts.{halt_shows}
-use Rattle.spec_presolve.proofs.Ends.{ends_well}
+use Rattle.spec_presolve.proofs.LastModel.{ends_well}
 use Rattle.spec_presolve.proofs.ends_are_certified.Goals as goal
 
 pub returns : goal.returns

@@ -1,4 +1,4 @@
-use Rattle.spec_presolve.proofs.Ends.{ends_well}
+use Rattle.spec_presolve.proofs.LastModel.{ends_well}
 use Rattle.spec_presolve.proofs.reductions_end.Goals as goal
 
 pub returns-clause-none_applies : goal.returns-clause-none_applies

@@ -22,7 +22,7 @@ use Rattle.spec_presolve.specs.declared.reduction.Choice.TheVariants.{Reduce}
 use Rattle.spec_presolve.specs.declared.reduction.Choice.TheVariants as choice
 use Rattle.spec_presolve.specs.Choose.{ExactReduction, ExactChoice, chosen}
 use Rattle.spec_presolve.specs.Reduce.{Reductions, or_old, tightened, shifted, after, proceed, reduced_within, reduced}
-use Rattle.spec_presolve.proofs.Chosen.{Goes, what_goes}
+use Rattle.spec_presolve.proofs.NextReduction.{Goes, what_goes}
 use Rattle.spec_presolve.proofs.After.{fixed_parts}
 
 bound_or_old : (o old : Option ℚ) → IfSome o (λ q. abs_ℚ q <ℚ whole (pos (10 ^ 20))) → IfSome o IsNarrow → IsBound old →

@@ -14,7 +14,7 @@ use Rattle.spec_presolve.specs.declared.reduction.Choice.TheVariants as choice
 use Rattle.spec_presolve.specs.Choose.{ExactReduction, ExactChoice, unless, first, clash_at, empty_at, single_at, fixed_at}
 use Rattle.spec_presolve.specs.Choose.{or_done, chosen}
 use Rattle.spec_presolve.specs.Reduce.{Reductions, tightened, after, proceed, reduced_within, reduced}
-use Rattle.spec_presolve.proofs.Chosen.{Goes, what_goes}
+use Rattle.spec_presolve.proofs.NextReduction.{Goes, what_goes}
 use Rattle.spec_presolve.proofs.After.{empty_step, single_step, fixed_step}
 use Rattle.spec_presolve.proofs.OverEmpty.{EmptyStep}
 use Rattle.spec_presolve.proofs.OverSingle.{SingleStep}
