@@ -1,10 +1,10 @@
 pub mod NamePlaces
 pub mod Halved
 pub mod Splits
-pub mod Places
+pub mod EntryPlaces
 pub mod Lowered
-pub mod Columns
-pub mod Kept
+pub mod EmptyColumns
+pub mod ChangedFields
 pub mod NewColumn
 pub mod PairSteps
 pub mod Sizes

@@ -1,4 +1,4 @@
-use Rattle.lp_model.proofs.Columns.{ascending_here, lowered-more}
+use Rattle.lp_model.proofs.EmptyColumns.{ascending_here, lowered-more}
 use Rattle.lp_model.proofs.changes.take_row_out_of.Goals as goal
 
 pub take_row_out-requires : goal.take_row_out-requires

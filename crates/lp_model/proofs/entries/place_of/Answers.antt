@@ -1,6 +1,6 @@
 use Rattle.std.proofs.Common.{rules}
 use Rattle.std.proofs.lemmas.List.Sorted.{answers_always}
-use Rattle.lp_model.proofs.Places.{searched}
+use Rattle.lp_model.proofs.EntryPlaces.{searched}
 use Rattle.lp_model.proofs.entries.place_of.Goals as goal
 
 -- the closure gives an entry's row

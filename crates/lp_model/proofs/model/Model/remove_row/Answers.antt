@@ -2,7 +2,7 @@ use Rattle.std.proofs.Common.{◌<◌, ◌∙◌, map, refl, ap, subst, sym}
 use Rattle.spec_model.specs.Model.{ExactColumn, height}
 use Rattle.spec_edit.proofs.ListLemmas.{map-map_unseen}
 use Rattle.spec_edit.proofs.Keeping.{lowered, without_row-kept}
-use Rattle.lp_model.proofs.Columns.{mapped_back}
+use Rattle.lp_model.proofs.EmptyColumns.{mapped_back}
 use Rattle.lp_model.proofs.NamePlaces.{names_stay}
 use Rattle.lp_model.proofs.model.Model.remove_row.Goals as goal
 

@@ -1,7 +1,7 @@
 use Rattle.std.proofs.Common.{◌<◌, refl, subst, sym}
 use Rattle.spec_model.specs.Model.{ExactColumn, width}
 use Rattle.lp_model.proofs.NamePlaces.{names_set}
-use Rattle.lp_model.proofs.Kept.{cost_here}
+use Rattle.lp_model.proofs.ChangedFields.{cost_here}
 use Rattle.lp_model.proofs.model.Model.set_cost.Goals as goal
 
 pub invariant_of-self : goal.invariant_of-self

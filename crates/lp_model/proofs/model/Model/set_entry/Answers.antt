@@ -1,7 +1,7 @@
 use Rattle.std.proofs.Common.{◌<◌, refl, subst, sym}
 use Rattle.spec_model.specs.Model.{ExactColumn, width, height}
 use Rattle.lp_model.proofs.NamePlaces.{names_set}
-use Rattle.lp_model.proofs.Kept.{entries_here}
+use Rattle.lp_model.proofs.ChangedFields.{entries_here}
 use Rattle.lp_model.proofs.model.Model.set_entry.Goals as goal
 
 pub invariant_of-self : goal.invariant_of-self

@@ -1,7 +1,7 @@
 use Rattle.std.proofs.Common.{◌<◌, subst, sym}
 use Rattle.spec_model.specs.Model.{height, row}
 use Rattle.spec_model.specs.Kept.{FitsKind}
-use Rattle.lp_model.proofs.Kept.{range_here}
+use Rattle.lp_model.proofs.ChangedFields.{range_here}
 use Rattle.lp_model.proofs.model.Model.set_range.Goals as goal
 
 pub invariant_of-self : goal.invariant_of-self

@@ -1,6 +1,6 @@
 use Rattle.std.proofs.Common.{◌<◌, subst, sym}
 use Rattle.spec_model.specs.Model.{height}
-use Rattle.lp_model.proofs.Kept.{rhs_here}
+use Rattle.lp_model.proofs.ChangedFields.{rhs_here}
 use Rattle.lp_model.proofs.model.Model.set_rhs.Goals as goal
 
 pub invariant_of-self : goal.invariant_of-self
