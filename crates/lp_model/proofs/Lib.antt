@@ -7,4 +7,4 @@ pub mod EmptyColumns
 pub mod ChangedFields
 pub mod NewColumn
 pub mod PairSteps
-pub mod Sizes
+pub mod UsualEdits

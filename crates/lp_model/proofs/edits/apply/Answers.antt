@@ -1,4 +1,4 @@
-use Rattle.lp_model.proofs.Sizes.{still_usual}
+use Rattle.lp_model.proofs.UsualEdits.{still_usual}
 use Rattle.lp_model.proofs.edits.apply.Goals as goal
 
 pub invariant_of-model : goal.invariant_of-model
