@@ -12,7 +12,7 @@ use Rattle.lp_mps.specs.Answer.{Fails}
 use Rattle.lp_mps.specs.Feeds.{Feeds}
 use Rattle.lp_mps.specs.Leads.{IsReached}
 use Rattle.lp_mps.specs.TextRead.{TextRead, ReadWithin}
-use Rattle.lp_mps.proofs.Runs.{done_within}
+use Rattle.lp_mps.proofs.LineRuns.{done_within}
 
 abbrev step_of : ReadWithin → Line (List ℕ) → Outcome
 step_of r line = step r.limits r.text.style r.text.state line

@@ -1,4 +1,4 @@
-pub mod Ends
+pub mod TextEnds
 pub mod Numbered
 pub mod AddSteps
 pub mod FieldSteps
@@ -6,10 +6,10 @@ pub mod Adding
 pub mod ColumnPlaces
 pub mod EntryOrder
 pub mod Feeding
-pub mod Lists
+pub mod ListItems
 pub mod MarkLists
 pub mod NewNames
 pub mod Opening
-pub mod Runs
+pub mod LineRuns
 pub mod SameNumbers
 pub mod TextLists

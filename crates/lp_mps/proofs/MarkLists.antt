@@ -8,7 +8,7 @@ use Rattle.spec_mps.specs.declared.target.Target.{Target}
 use Rattle.spec_mps.specs.declared.target.Target.TheVariants.{Objective, Row}
 use Rattle.spec_mps.specs.Reader.{is_among, same_target}
 use Rattle.lp_mps.specs.Marks.{mark_of, target_of}
-use Rattle.lp_mps.proofs.Lists.{list_any-reverse}
+use Rattle.lp_mps.proofs.ListItems.{list_any-reverse}
 
 same_mark : (t : Target) (k : Option ℕ) → option_eq nat_eq (mark_of t) k ≡ same_target t (target_of k)
 same_mark Objective None = refl

@@ -1,5 +1,5 @@
 use Rattle.spec_mps.specs.Reader.{start}
-use Rattle.lp_mps.proofs.Runs.{one_more, ends, refuses, cut_off}
+use Rattle.lp_mps.proofs.LineRuns.{one_more, ends, refuses, cut_off}
 use Rattle.lp_mps.proofs.read.answers_are_the_verdict.Goals as goal
 
 pub returns : goal.returns

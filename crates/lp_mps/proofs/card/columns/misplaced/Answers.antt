@@ -1,5 +1,5 @@
 use Rattle.std.proofs.Common.{◌∙◌, sym, drop, arith}
-use Rattle.lp_mps.proofs.Ends.{past_columns, misplaced_here, misplaced_later}
+use Rattle.lp_mps.proofs.TextEnds.{past_columns, misplaced_here, misplaced_later}
 use Rattle.lp_mps.proofs.card.columns.misplaced.Goals as goal
 
 pub returns-then-column-gt-LAST_COLUMN : goal.returns-then-column-gt-LAST_COLUMN

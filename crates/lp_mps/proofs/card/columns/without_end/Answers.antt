@@ -1,5 +1,5 @@
 use Rattle.std.proofs.Common.{◌∙◌, sym, ◌-◌, arith}
-use Rattle.lp_mps.proofs.Ends.{spaces_stop, spaces_go}
+use Rattle.lp_mps.proofs.TextEnds.{spaces_stop, spaces_go}
 use Rattle.lp_mps.proofs.card.columns.without_end.Goals as goal
 
 pub returns-then-text-len-ne32 : goal.returns-then-text-len-ne32

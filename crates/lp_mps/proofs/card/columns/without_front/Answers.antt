@@ -1,5 +1,5 @@
 use Rattle.std.proofs.Common.{◌∙◌}
-use Rattle.lp_mps.proofs.Ends.{front_stop, front_go}
+use Rattle.lp_mps.proofs.TextEnds.{front_stop, front_go}
 use Rattle.lp_mps.proofs.card.columns.without_front.Goals as goal
 
 pub returns-then-byte-ne32 : goal.returns-then-byte-ne32

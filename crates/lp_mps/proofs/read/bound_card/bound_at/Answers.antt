@@ -1,7 +1,7 @@
 use Rattle.std.proofs.Common.{◌∙◌, ap, slice_set}
 use Rattle.spec_mps.specs.Bounds.{bounded}
 use Rattle.lp_mps.specs.BoundSeen.{bound_seen}
-use Rattle.lp_mps.proofs.Lists.{changed_at-set, changed_at-past}
+use Rattle.lp_mps.proofs.ListItems.{changed_at-set, changed_at-past}
 use Rattle.lp_mps.proofs.read.bound_card.bound_at.Goals as goal
 
 pub returns-then-place-columns : goal.returns-then-place-columns

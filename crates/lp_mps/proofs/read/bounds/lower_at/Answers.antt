@@ -1,5 +1,5 @@
 use Rattle.std.proofs.Common.{false, ◌||◌}
-use Rattle.lp_mps.proofs.Lists.{changed_at-set, changed_at-past}
+use Rattle.lp_mps.proofs.ListItems.{changed_at-set, changed_at-past}
 use Rattle.lp_mps.proofs.read.bounds.lower_at.Goals as goal
 
 pub returns-then-place-lowered : goal.returns-then-place-lowered

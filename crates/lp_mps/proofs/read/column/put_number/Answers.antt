@@ -1,5 +1,5 @@
 use Rattle.lp_mps.specs.InOrder.{ordered}
-use Rattle.lp_mps.proofs.Lists.{number_put, number_zero}
+use Rattle.lp_mps.proofs.ListItems.{number_put, number_zero}
 use Rattle.lp_mps.proofs.read.column.put_number.Goals as goal
 
 pub returns-then-is_zero-clause-ok : goal.returns-then-is_zero-clause-ok

@@ -1,4 +1,4 @@
-use Rattle.lp_mps.proofs.Lists.{changed_at-set, changed_at-past}
+use Rattle.lp_mps.proofs.ListItems.{changed_at-set, changed_at-past}
 use Rattle.lp_mps.proofs.read.row_list.set_rhs_in.Goals as goal
 
 pub returns-then-at-rows : goal.returns-then-at-rows

@@ -1,5 +1,5 @@
 use Rattle.lp_mps.specs.Draft.{state_of}
-use Rattle.lp_mps.proofs.Runs.{end_kept}
+use Rattle.lp_mps.proofs.LineRuns.{end_kept}
 use Rattle.lp_mps.proofs.read.draft.Draft.advance.Goals as goal
 
 pub finish-requires : goal.finish-requires

@@ -1,7 +1,7 @@
 use Rattle.lp_mps.specs.Draft.{state_of}
 use Rattle.lp_mps.specs.TextRead.{ReadWithin}
 use Rattle.lp_mps.proofs.Feeding.{refusal, ended_within}
-use Rattle.lp_mps.proofs.Runs.{more_reached}
+use Rattle.lp_mps.proofs.LineRuns.{more_reached}
 use Rattle.lp_mps.proofs.read.reader.ReaderWithin.feed.Goals as goal
 
 pub invariant_of-self : goal.invariant_of-self

@@ -1,6 +1,6 @@
 use Rattle.std.proofs.Common.{sym, subst}
 use Rattle.lp_mps.specs.Leads.{IsReached}
-use Rattle.lp_mps.proofs.Runs.{start_reached}
+use Rattle.lp_mps.proofs.LineRuns.{start_reached}
 use Rattle.lp_mps.proofs.read.reader.ReaderWithin.new.Goals as goal
 
 pub invariant_of-result : goal.invariant_of-result
