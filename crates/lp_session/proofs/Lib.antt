@@ -1,5 +1,5 @@
 -- Lemmas.
-pub mod Ends
+pub mod SolveStarts
 pub mod Works
 pub mod Boards
 pub mod Formless

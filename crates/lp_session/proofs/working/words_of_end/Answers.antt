@@ -1,7 +1,7 @@
 -- The words of a basis of the form are well formed.
 use Rattle.std.proofs.Common.{◌≡◌, Some, rules}
 use Rattle.spec_server.specs.Step.{words_of_end}
-use Rattle.lp_session.proofs.Ends.{left_formed}
+use Rattle.lp_session.proofs.SolveStarts.{left_formed}
 use Rattle.lp_session.proofs.working.words_of_end.Goals as goal
 
 pub returns-in-Ended-Optimal-default-Some-default-clause-formed :

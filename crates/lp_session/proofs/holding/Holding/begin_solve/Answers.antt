@@ -2,7 +2,7 @@
 use Rattle.std.proofs.Common.{◌≡◌, Some, sym, ap, ◌∙◌, subst}
 use Rattle.spec_server.specs.Machine.{State}
 use Rattle.lp_session.specs.Parts.{IsEndOf}
-use Rattle.lp_session.proofs.Ends.{end_of}
+use Rattle.lp_session.proofs.SolveStarts.{end_of}
 use Rattle.lp_session.proofs.Formless.{formless_begins}
 use Rattle.lp_session.proofs.holding.Holding.begin_solve.Goals as goal
 

@@ -1,7 +1,7 @@
 -- With the basis that was found, or with nothing.
 use Rattle.std.proofs.Common.{◌≡◌, Some, sym, ap, ◌∙◌}
 use Rattle.spec_server.specs.Machine.{State}
-use Rattle.lp_session.proofs.Ends.{found_fits, solved_found, solved_nothing}
+use Rattle.lp_session.proofs.SolveStarts.{found_fits, solved_found, solved_nothing}
 use Rattle.lp_session.proofs.holding.Holding.solve.Goals as goal
 
 pub solve_formed-requires-clause-fits : goal.solve_formed-requires-clause-fits
