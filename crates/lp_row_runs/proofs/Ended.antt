@@ -35,7 +35,7 @@ use Rattle.lp_row_runs.specs.declared.start.Begun.{Begun}
 use Rattle.lp_row_runs.specs.declared.start.Begun.TheVariants as begun
 use Rattle.lp_row_runs.specs.Rows.{IfRows, ShowsStart}
 use Rattle.lp_row_runs.specs.Warm.{EndsFromBasis, StandsAtBasis, BeginsAtBasis, BeginsReady}
-use Rattle.lp_row_runs.proofs.Fitted.{basis_reached}
+use Rattle.lp_row_runs.proofs.PrimalFeasibleStarts.{basis_reached}
 
 pub same_at : (t : Tableau) (end : PrimalEnd) → certificate_as (λ q. q) t (Some end) ≡ certificate_at t end
 same_at t primal.Optimal = refl

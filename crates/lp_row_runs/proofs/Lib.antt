@@ -4,7 +4,7 @@ pub mod BothPhases
 pub mod Widths
 pub mod Unsolved
 pub mod Placed
-pub mod Solving
-pub mod Started
-pub mod Fitted
+pub mod SolvedRows
+pub mod BasisRows
+pub mod PrimalFeasibleStarts
 pub mod Ended

@@ -2,7 +2,7 @@
 use Rattle.std.proofs.Common.{length, false, sym, ap, ◌∙◌}
 use Rattle.std.proofs.lemmas.List.{length-replicate}
 use Rattle.lp_rows.proofs.SameNumbers.{of_some}
-use Rattle.lp_row_runs.proofs.Solving.{solving_begins}
+use Rattle.lp_row_runs.proofs.SolvedRows.{solving_begins}
 use Rattle.lp_row_runs.proofs.based.begun.Goals as goal
 
 pub place_values-requires : goal.place_values-requires

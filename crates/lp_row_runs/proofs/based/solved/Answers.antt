@@ -2,8 +2,8 @@
 use Rattle.std.proofs.Common.{subst, arith}
 use Rattle.lp_rows.proofs.SameNumbers.{of_some}
 use Rattle.lp_row_runs.specs.Rows.{IsSolvedBelow}
-use Rattle.lp_row_runs.proofs.Solving.{done_of}
-use Rattle.lp_row_runs.proofs.Started.{shows_basis}
+use Rattle.lp_row_runs.proofs.SolvedRows.{done_of}
+use Rattle.lp_row_runs.proofs.BasisRows.{shows_basis}
 use Rattle.lp_row_runs.proofs.based.solved.Goals as goal
 
 pub returns-in-Done-clause-shown : goal.returns-in-Done-clause-shown

@@ -1,7 +1,7 @@
 -- The same rows with these costs.
 use Rattle.std.proofs.Common.{arith}
 use Rattle.lp_rows.proofs.SameNumbers.{of_some}
-use Rattle.lp_row_runs.proofs.Started.{priced_size, priced_shows}
+use Rattle.lp_row_runs.proofs.BasisRows.{priced_size, priced_shows}
 use Rattle.lp_row_runs.proofs.based.with_costs.Goals as goal
 
 pub priced-requires-clause-whole : goal.priced-requires-clause-whole

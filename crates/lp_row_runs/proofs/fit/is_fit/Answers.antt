@@ -3,7 +3,7 @@ use Rattle.std.proofs.Common.{sym, subst, arith}
 use Rattle.spec_pivot.specs.Simplex.{IsInside}
 use Rattle.spec_pivot.proofs.Pivot.{by_eq}
 use Rattle.spec_simplex.specs.Tableau.{basic_at, value_at, lower_at, upper_at}
-use Rattle.lp_row_runs.proofs.Fitted.{basis_fits}
+use Rattle.lp_row_runs.proofs.PrimalFeasibleStarts.{basis_fits}
 use Rattle.lp_row_runs.proofs.fit.is_fit.Goals as goal
 
 pub loop-i-preserved : goal.loop-i-preserved

@@ -1,6 +1,6 @@
 -- The value is not below the bound.
 use Rattle.lp_natural.specs.Whole.{whole}
-use Rattle.lp_row_runs.proofs.Fitted.{from_bound}
+use Rattle.lp_row_runs.proofs.PrimalFeasibleStarts.{from_bound}
 use Rattle.lp_row_runs.proofs.fit.is_from.Goals as goal
 
 pub returns-in-Equal : goal.returns-in-Equal

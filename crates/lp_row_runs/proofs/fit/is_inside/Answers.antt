@@ -1,5 +1,5 @@
 -- The position's row and the bounds of its basic column.
-use Rattle.lp_row_runs.proofs.Fitted.{inside_read}
+use Rattle.lp_row_runs.proofs.PrimalFeasibleStarts.{inside_read}
 use Rattle.lp_row_runs.proofs.fit.is_inside.Goals as goal
 
 pub returns : goal.returns

@@ -1,6 +1,6 @@
 -- The value is not above the bound.
 use Rattle.lp_natural.specs.Whole.{whole}
-use Rattle.lp_row_runs.proofs.Fitted.{up_to_bound}
+use Rattle.lp_row_runs.proofs.PrimalFeasibleStarts.{up_to_bound}
 use Rattle.lp_row_runs.proofs.fit.is_up_to.Goals as goal
 
 pub returns-in-Less : goal.returns-in-Less

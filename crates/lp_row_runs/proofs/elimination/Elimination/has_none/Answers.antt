@@ -1,6 +1,6 @@
 -- The number of the row in this column.
 use Rattle.lp_rows.specs.Shows.{width}
-use Rattle.lp_row_runs.proofs.Solving.{entry_none}
+use Rattle.lp_row_runs.proofs.SolvedRows.{entry_none}
 use Rattle.lp_row_runs.proofs.elimination.Elimination.has_none.Goals as goal
 
 pub returns : goal.returns

@@ -1,5 +1,5 @@
 -- By the position's column and its entry.
-use Rattle.lp_row_runs.proofs.Solving.{taken_read, free_read}
+use Rattle.lp_row_runs.proofs.SolvedRows.{taken_read, free_read}
 use Rattle.lp_row_runs.proofs.elimination.Elimination.is_open.Goals as goal
 
 pub returns-then-index : goal.returns-then-index

@@ -1,7 +1,7 @@
 -- One column after the other.
 use Rattle.std.proofs.Common.{◌≡◌, ◌∙◌, length, subst, arith}
 use Rattle.lp_row_runs.specs.Rows.{IsSolvedBelow}
-use Rattle.lp_row_runs.proofs.Solving.{done_of}
+use Rattle.lp_row_runs.proofs.SolvedRows.{done_of}
 use Rattle.lp_row_runs.proofs.elimination.Elimination.run.Goals as goal
 
 pub loop-j-preserved : goal.loop-j-preserved

@@ -3,7 +3,7 @@ use Rattle.std.proofs.Common.{ap, ◌∙◌, arith}
 use Rattle.spec_exact.specs.Fraction.{over}
 use Rattle.lp_natural.specs.Whole.{whole}
 use Rattle.lp_rows.proofs.Cleared.{written}
-use Rattle.lp_row_runs.proofs.Solving.{column_solved, none_over, turned_here}
+use Rattle.lp_row_runs.proofs.SolvedRows.{column_solved, none_over, turned_here}
 use Rattle.lp_row_runs.proofs.elimination.Elimination.solve_at.Goals as goal
 
 pub returns-clause-solved : goal.returns-clause-solved

@@ -2,7 +2,7 @@
 use Rattle.std.proofs.Common.{sym, ◌∙◌}
 use Rattle.spec_simplex.specs.Eliminate.{basis_at}
 use Rattle.spec_simplex.proofs.Statuses.{basic_if}
-use Rattle.lp_row_runs.proofs.Solving.{column_passed, if_done}
+use Rattle.lp_row_runs.proofs.SolvedRows.{column_passed, if_done}
 use Rattle.lp_row_runs.proofs.elimination.Elimination.take.Goals as goal
 
 pub returns-then-is_basic-clause-solved : goal.returns-then-is_basic-clause-solved
