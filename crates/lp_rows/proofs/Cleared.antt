@@ -12,7 +12,7 @@ use Rattle.spec_exact.proofs.Coprime.{positive_left, positive_right}
 use Rattle.lp_natural.specs.Below.{below}
 use Rattle.lp_natural.specs.Whole.{whole}
 use Rattle.lp_natural.specs.declared.words.signed.Signed.{Signed}
-use Rattle.lp_natural.proofs.Rows.{eliminated}
+use Rattle.lp_natural.proofs.EliminatedRows.{eliminated}
 use Rattle.lp_rows.specs.Row.{at, fractions, fraction_at, AreNow}
 
 pub fraction-at : {T : Type 0} (value : T → ℕ) (xs : List (Signed T)) (d k : ℕ) → k < length xs →

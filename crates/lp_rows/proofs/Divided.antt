@@ -13,7 +13,7 @@ use Rattle.spec_exact.proofs.Field.{by_ring_ℚ, over-*, *ℚ_inverse, *ℚ_one,
 use Rattle.spec_exact.proofs.Coprime.{positive_left, positive_right}
 use Rattle.lp_natural.specs.Whole.{whole}
 use Rattle.lp_natural.specs.declared.words.signed.Signed.{Signed}
-use Rattle.lp_natural.proofs.Rows.{without_divisor}
+use Rattle.lp_natural.proofs.EliminatedRows.{without_divisor}
 use Rattle.lp_rows.specs.Row.{at, fraction_at, turned_if, AreNow}
 use Rattle.lp_rows.proofs.Cleared.{fraction-at, written, whole-times}
 

@@ -8,7 +8,7 @@ use Rattle.spec_exact.proofs.Field.{by_ring_ℚ, whole_over}
 use Rattle.spec_exact.proofs.Coprime.{positive_left, positive_right}
 use Rattle.lp_ratio.specs.Parts.{with_sign}
 use Rattle.lp_natural.specs.Whole.{whole}
-use Rattle.lp_natural.proofs.Rows.{without_divisor}
+use Rattle.lp_natural.proofs.EliminatedRows.{without_divisor}
 use Rattle.lp_rows.proofs.Cleared.{over_neg, whole-times}
 
 pub zero_is : (n d : ℕ) → n ≡ 0 → d ≡ 1 → over (pos n) d ≡ 0ℚ
