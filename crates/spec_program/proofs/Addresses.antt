@@ -11,7 +11,7 @@ use Rattle.spec_program.specs.CommandLine.{generate_with, generate_row, serve_ro
 use Rattle.spec_program.specs.CommandLine.{served_at, address_of, range_row, by_width, wide_row}
 use Rattle.spec_program.specs.declared.command_line.CommandLine.TheVariants.{Run, Read, Generate, Serve}
 use Rattle.spec_program.specs.declared.command_line.TextCommand.TheVariants.{Solve, SolveWide, Check, CheckWide, Basis, BasisWide, Presolve, Iis}
-use Rattle.spec_program.proofs.Fitting.{none_is_not, row_of}
+use Rattle.spec_program.proofs.NumberLimits.{none_is_not, row_of}
 
 -- ---- a word alone asks for no server
 

@@ -1,3 +1,3 @@
 -- Lemmas.
-pub mod Fitting
+pub mod NumberLimits
 pub mod Addresses

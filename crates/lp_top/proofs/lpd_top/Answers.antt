@@ -1,7 +1,7 @@
 -- The numbers that a command line gives, and that what it writes is true.
 use Rattle.std.proofs.Common.{sym, ap, ◌∙◌, Some}
 use Rattle.spec_program.specs.Spelled.{spelled, told}
-use Rattle.spec_program.proofs.Fitting.{command-fits}
+use Rattle.spec_program.proofs.NumberLimits.{command-fits}
 use Rattle.lp_top.proofs.Truth.{output_true, links_true}
 use Rattle.lp_top.proofs.lpd_top.Goals as goal
 
