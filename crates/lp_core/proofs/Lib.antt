@@ -1,8 +1,8 @@
 -- Lemmas.
 pub mod Acts
-pub mod Steps
+pub mod StageSteps
 pub mod Words
-pub mod Whole
+pub mod WorldActs
 pub mod Opening
 pub mod Following
-pub mod Formed
+pub mod FormedWords

@@ -6,7 +6,7 @@ use Rattle.spec_board.specs.declared.place.Place.TheVariants as place
 use Rattle.spec_board.specs.Places.{ExactPlace, place_at}
 use Rattle.spec_world.specs.World.{opening_world}
 use Rattle.lp_core.specs.Core.{Kept, opening_kept, IsBelow, AreFormed, Shows}
-use Rattle.lp_core.proofs.Whole.{first_part, last_part}
+use Rattle.lp_core.proofs.WorldActs.{first_part, last_part}
 
 -- no place is done
 pub none_formed : (ps : List ExactPlace) → ps ≡ [] → AreFormed ps

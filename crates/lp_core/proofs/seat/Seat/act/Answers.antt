@@ -1,4 +1,4 @@
-use Rattle.lp_core.proofs.Whole.{reads_fit}
+use Rattle.lp_core.proofs.WorldActs.{reads_fit}
 use Rattle.lp_core.proofs.seat.Seat.act.Goals as goal
 
 pub returns-in-Ask-clause-fits : goal.returns-in-Ask-clause-fits

@@ -1,5 +1,5 @@
 use Rattle.std.proofs.Common.{rules}
-use Rattle.lp_core.proofs.Steps.{ask_replies, ask_looks}
+use Rattle.lp_core.proofs.StageSteps.{ask_replies, ask_looks}
 use Rattle.lp_core.proofs.seat.Seat.ask.Goals as goal
 
 pub returns-in-Reply-clause-fits : goal.returns-in-Reply-clause-fits

@@ -1,6 +1,6 @@
 use Rattle.std.proofs.Common.{rules}
-use Rattle.lp_core.proofs.Formed.{claim_formed}
-use Rattle.lp_core.proofs.Steps.{puts_raced, claims_win}
+use Rattle.lp_core.proofs.FormedWords.{claim_formed}
+use Rattle.lp_core.proofs.StageSteps.{puts_raced, claims_win}
 use Rattle.lp_core.proofs.seat.Seat.claim.Goals as goal
 
 pub returns-then-claimed-count-clause-fits : goal.returns-then-claimed-count-clause-fits

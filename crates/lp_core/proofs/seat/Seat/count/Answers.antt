@@ -1,5 +1,5 @@
 use Rattle.std.proofs.Common.{rules}
-use Rattle.lp_core.proofs.Steps.{counts_on, puts_full, puts_claim}
+use Rattle.lp_core.proofs.StageSteps.{counts_on, puts_full, puts_claim}
 use Rattle.lp_core.proofs.seat.Seat.count.Goals as goal
 
 pub returns-in-Counts-clause-fits : goal.returns-in-Counts-clause-fits

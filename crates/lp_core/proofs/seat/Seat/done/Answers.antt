@@ -1,6 +1,6 @@
 use Rattle.std.proofs.Common.{rules}
-use Rattle.lp_core.proofs.Formed.{done_formed}
-use Rattle.lp_core.proofs.Steps.{puts_done, writes_agree, pending_formed}
+use Rattle.lp_core.proofs.FormedWords.{done_formed}
+use Rattle.lp_core.proofs.StageSteps.{puts_done, writes_agree, pending_formed}
 use Rattle.lp_core.proofs.seat.Seat.done.Goals as goal
 
 pub returns-clause-fits : goal.returns-clause-fits

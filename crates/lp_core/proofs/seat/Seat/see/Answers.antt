@@ -1,4 +1,4 @@
-use Rattle.lp_core.proofs.Steps.{sees_on, sees_agree, seen_agrees}
+use Rattle.lp_core.proofs.StageSteps.{sees_on, sees_agree, seen_agrees}
 use Rattle.lp_core.proofs.seat.Seat.see.Goals as goal
 
 pub returns-clause-fits : goal.returns-clause-fits

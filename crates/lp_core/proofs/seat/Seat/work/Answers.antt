@@ -1,5 +1,5 @@
 use Rattle.std.proofs.Common.{rules}
-use Rattle.lp_core.proofs.Steps.{works_reply, works_publish}
+use Rattle.lp_core.proofs.StageSteps.{works_reply, works_publish}
 use Rattle.lp_core.proofs.seat.Seat.work.Goals as goal
 
 pub returns-in-Reply-clause-fits : goal.returns-in-Reply-clause-fits

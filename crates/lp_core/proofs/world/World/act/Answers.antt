@@ -1,5 +1,5 @@
 use Rattle.std.proofs.Common.{refl, rules}
-use Rattle.lp_core.proofs.Whole.{act_steps}
+use Rattle.lp_core.proofs.WorldActs.{act_steps}
 use Rattle.lp_core.proofs.world.World.act.Goals as goal
 
 pub returns-clause-fits : goal.returns-clause-fits
