@@ -19,7 +19,7 @@ use Rattle.spec_server.specs.Output.{check_line}
 use Rattle.spec_program.specs.declared.command_line.Moved.{Moved}
 use Rattle.spec_commands.specs.RangeOut.{range_of, ranged_text, based_text, range_text, range_lines}
 use Rattle.spec_commands.specs.RangesOut.{number_words, name_by, number_line, number_lines, ranges_from, ranges_text, ranges_lines}
-use Rattle.spec_commands.proofs.Kept.{solved_keeps}
+use Rattle.spec_commands.proofs.OptimalBasis.{solved_keeps}
 use Rattle.lp_range.specs.Answer.{Start, IsFrom}
 use Rattle.lp_text_commands.specs.RangeEnds.{KeepsAtEnd, IsRangingFrom, IsRangingOf}
 

@@ -11,7 +11,7 @@ pub mod EndedText
 pub mod WideLengths
 pub mod WideWritten
 pub mod LastAnswers
-pub mod Kept
+pub mod OptimalBasis
 pub mod NarrowRanges
 pub mod GeneratedNames
 pub mod GeneratedNumbers

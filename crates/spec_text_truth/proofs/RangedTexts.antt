@@ -40,7 +40,7 @@ use Rattle.spec_program.specs.declared.command_line.Moved.{Moved}
 use Rattle.spec_program.specs.declared.command_line.Moved.TheVariants.{Cost, RightSide}
 use Rattle.spec_commands.specs.RangeOut.{place_by, range_of, end_text, range_line, ranged_text, based_text, range_text}
 use Rattle.spec_commands.specs.RangeOut.{range_lines, RangedOut, PlaceOut, RangeOut}
-use Rattle.spec_commands.proofs.Kept.{solved_keeps}
+use Rattle.spec_commands.proofs.OptimalBasis.{solved_keeps}
 use Rattle.spec_commands.proofs.NarrowRanges.{NarrowRange, cost_range_narrow, side_range_narrow}
 use Rattle.spec_server.specs.declared.answer.Answer.{Answer}
 use Rattle.spec_server.specs.declared.answer.Answer.TheVariants as answer

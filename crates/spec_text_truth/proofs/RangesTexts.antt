@@ -42,7 +42,7 @@ use Rattle.spec_program.specs.declared.command_line.Moved.TheVariants.{Cost, Rig
 use Rattle.spec_commands.specs.RangeOut.{place_by, range_of, end_text, range_line, ranged_text}
 use Rattle.spec_commands.specs.RangesOut.{number_words, name_by, number_line, number_lines, ranges_from, ranges_text}
 use Rattle.spec_commands.specs.RangesOut.{ranges_lines, RangesOut}
-use Rattle.spec_commands.proofs.Kept.{solved_keeps}
+use Rattle.spec_commands.proofs.OptimalBasis.{solved_keeps}
 use Rattle.spec_server.specs.declared.answer.Answer.{Answer}
 use Rattle.spec_server.specs.declared.asks.Reply.TheVariants as reply
 use Rattle.spec_server.specs.Machine.{opening_budget, answer_of}
