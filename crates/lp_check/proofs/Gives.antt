@@ -20,7 +20,7 @@ use Rattle.spec_exact.proofs.Compare.{order_equal}
 use Rattle.spec_exact.proofs.Same.{eq_if, eq_test}
 use Rattle.spec_model.specs.declared.parts.RowLimit.{RowLimit}
 use Rattle.spec_model.specs.Model.{Model, ExactColumn, width, height, column, row, cost, cost_of, part, limit_of, limit_run}
-use Rattle.spec_model.proofs.RowLimits.{limit_all}
+use Rattle.spec_model.proofs.LimitsAtLimit.{limit_all}
 use Rattle.spec_check.specs.declared.certificate.Certificate.TheVariants.{Optimal, Infeasible, Unbounded, Clash}
 use Rattle.spec_check.specs.declared.certificate.CheckStop.TheVariants as stop
 use Rattle.spec_check.specs.declared.certificate.Known.TheVariants as known

@@ -5,7 +5,7 @@ use Rattle.spec_text.specs.declared.line.Line.{Line}
 use Rattle.spec_model.specs.declared.parts.SizeLimits.{SizeLimits}
 use Rattle.spec_model.specs.Model.{Model}
 use Rattle.spec_model.specs.Kept.{AreAtMost, IsModelWithin, large_limits}
-use Rattle.spec_model.proofs.Kept.{kept_within_more}
+use Rattle.spec_model.proofs.KeptModels.{kept_within_more}
 use Rattle.spec_mps.specs.declared.fault.Code.{Code}
 use Rattle.spec_mps.specs.declared.fault.Code.TheVariants as code
 use Rattle.spec_mps.specs.declared.style.Style.{Style}

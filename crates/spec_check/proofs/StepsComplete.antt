@@ -18,7 +18,7 @@ use Rattle.spec_exact.specs.Run.{◌>>=◌, refused_as, steps}
 use Rattle.spec_model.specs.Model.{Model, ExactRow, Limits, lower_of, upper_of, limits_of, width}
 use Rattle.spec_model.specs.Model.{height, bounds, limits, row, coefficient, activity, part}
 use Rattle.spec_model.specs.Truth.{IsBetween, IsFeasible}
-use Rattle.spec_model.proofs.RowLimits.{limit_all}
+use Rattle.spec_model.proofs.LimitsAtLimit.{limit_all}
 use Rattle.spec_check.specs.declared.certificate.CheckStop.TheVariants as stop
 use Rattle.spec_check.specs.Checks.{IsTight}
 use Rattle.spec_check.specs.Run.{Run, step, need, each, plus_product, less_product}

@@ -10,7 +10,7 @@ use Rattle.spec_model.specs.Model.{Name, ExactRow, ExactColumn}
 use Rattle.spec_model.specs.Kept.{IsUsualModel, IsKeptColumn, IsNarrowRow, IsNarrowColumn, FitsKind}
 use Rattle.spec_model.specs.Kept.{is_name}
 use Rattle.spec_model.specs.Kept.{is_row_name, is_model_name, row_limit, column_limit}
-use Rattle.spec_model.proofs.Kept.{zero_bound}
+use Rattle.spec_model.proofs.KeptModels.{zero_bound}
 use Rattle.spec_commands.specs.Draws.{next, after}
 use Rattle.spec_commands.specs.Generated.{at_column, generated_column, generated_columns}
 use Rattle.spec_commands.specs.Generated.{generated_row, generated_rows, generated}

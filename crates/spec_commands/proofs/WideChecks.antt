@@ -7,7 +7,7 @@ use Rattle.spec_exact.specs.declared.past.Past.{Past}
 use Rattle.spec_exact.specs.Narrow.{number_limit}
 use Rattle.spec_model.specs.Model.{Model}
 use Rattle.spec_model.specs.Kept.{usual_limits, large_limits}
-use Rattle.spec_model.proofs.Kept.{usual_below_large}
+use Rattle.spec_model.proofs.KeptModels.{usual_below_large}
 use Rattle.spec_mps.specs.declared.style.Style.{Style}
 use Rattle.spec_mps.specs.Reader.{State, start}
 use Rattle.spec_mps.specs.Steps as text

@@ -14,7 +14,7 @@ use Rattle.spec_model.specs.Model.{Model, Name, Limits, ExactRow, ExactColumn}
 use Rattle.spec_model.specs.Model.{no_row, no_column, width, height, row, column}
 use Rattle.spec_model.specs.Kept.{IsModelWithin, IsKeptColumn, IsNarrowRow, IsNarrowColumn, FitsKind}
 use Rattle.spec_model.specs.Kept.{is_row_name, row_names, column_names}
-use Rattle.spec_model.proofs.Kept.{kept_higher}
+use Rattle.spec_model.proofs.KeptModels.{kept_higher}
 use Rattle.spec_edit.specs.Changes.{with_row, with_column, changed_row, changed_column, without_entry}
 use Rattle.spec_edit.specs.Changes.{with_entry, without_row, without_column, with_cost, with_coefficient}
 use Rattle.spec_edit.specs.Changes.{with_bounds, with_rhs, with_range, with_offset, with_sense}

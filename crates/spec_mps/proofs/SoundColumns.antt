@@ -11,7 +11,7 @@ use Rattle.spec_exact.proofs.Same.{eq_test}
 use Rattle.spec_model.specs.declared.parts.SizeLimits.{SizeLimits}
 use Rattle.spec_model.specs.Model.{Name, ExactColumn}
 use Rattle.spec_model.specs.Kept.{IsKeptColumn, IsBound, is_name}
-use Rattle.spec_model.proofs.Kept.{zero_bound, kept_higher}
+use Rattle.spec_model.proofs.KeptModels.{zero_bound, kept_higher}
 use Rattle.spec_mps.specs.declared.target.Target.{Target}
 use Rattle.spec_mps.specs.declared.target.Target.TheVariants.{Objective, Row}
 use Rattle.spec_mps.specs.Reader.{is_among, new_column, columns_with, put_entry, with_number}

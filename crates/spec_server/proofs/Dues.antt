@@ -5,7 +5,7 @@ use Rattle.spec_exact.specs.Fraction.{ℚ}
 use Rattle.spec_exact.specs.Narrow.{number_limit}
 use Rattle.spec_model.specs.Model.{Model, Name}
 use Rattle.spec_model.specs.Kept.{IsUsualModel}
-use Rattle.spec_model.proofs.Kept.{usual_from_within, within_from_usual}
+use Rattle.spec_model.proofs.KeptModels.{usual_from_within, within_from_usual}
 use Rattle.spec_mps.specs.declared.style.Style.{Style}
 use Rattle.spec_mps.specs.declared.style.Style.TheVariants as style
 use Rattle.spec_mps.specs.Written.{too_wide}

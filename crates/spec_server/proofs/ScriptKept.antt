@@ -6,7 +6,7 @@ use Rattle.std.proofs.lemmas.List.Elements.{All-nil, All-cons, All-append}
 use Rattle.spec_text.specs.declared.line.Line.{Line}
 use Rattle.spec_text.specs.Lines.{lines_of, ended_lines_of, input_limit}
 use Rattle.spec_model.specs.Kept.{usual_limits}
-use Rattle.spec_model.proofs.Kept.{usual_from_within}
+use Rattle.spec_model.proofs.KeptModels.{usual_from_within}
 use Rattle.spec_mps.specs.declared.style.Style.{Style}
 use Rattle.spec_mps.specs.Reader.{start}
 use Rattle.spec_mps.specs.Steps.{Verdict, Spelled, Refused, judge}

@@ -8,7 +8,7 @@ use Rattle.spec_model.specs.declared.parts.Kind.{Kind}
 use Rattle.spec_model.specs.declared.parts.Kind.TheVariants.{L, G, E, N}
 use Rattle.spec_model.specs.declared.parts.RowLimit.TheVariants.{Given, Sum}
 use Rattle.spec_model.specs.Model.{ExactRow, Limits, lower_of, upper_of, limit_of, limits_by, limits_of, lower_run, upper_run}
-use Rattle.spec_model.proofs.RowLimits.{limit_ok}
+use Rattle.spec_model.proofs.LimitsAtLimit.{limit_ok}
 use Rattle.spec_exact.proofs.Results.{ok_same}
 use Rattle.spec_exact.specs.Run.{◌>>=◌}
 use Rattle.spec_exact.proofs.Sizes.{abs_least}

@@ -8,7 +8,7 @@ use Rattle.spec_text.specs.Lines.{ended_lines_of}
 use Rattle.spec_exact.specs.Fraction.{ℚ}
 use Rattle.spec_model.specs.Model.{Model}
 use Rattle.spec_model.specs.Kept.{IsModel, usual_limits}
-use Rattle.spec_model.proofs.Kept.{usual_from_within}
+use Rattle.spec_model.proofs.KeptModels.{usual_from_within}
 use Rattle.spec_mps.specs.declared.style.Style.{Style}
 use Rattle.spec_mps.specs.Reader.{State, start}
 use Rattle.spec_mps.specs.Steps as text

@@ -16,7 +16,7 @@ use Rattle.spec_model.specs.Model.{Model, Name, no_row, no_column, width, height
 use Rattle.spec_model.specs.Truth.{IsOptimal, IsInfeasible, IsUnbounded}
 use Rattle.spec_model.specs.Kept.{IsModel, is_printable, usual_limits}
 use Rattle.spec_model.proofs.NamePlaces.{row_at, column_at}
-use Rattle.spec_model.proofs.Kept.{usual_from_within}
+use Rattle.spec_model.proofs.KeptModels.{usual_from_within}
 use Rattle.spec_mps.specs.declared.style.Style.{Style}
 use Rattle.spec_mps.specs.NumberText.{Is, number_of}
 use Rattle.spec_mps.specs.NumberWritten.{number_text}

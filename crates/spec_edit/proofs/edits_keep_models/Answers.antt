@@ -1,4 +1,4 @@
-use Rattle.spec_model.proofs.Kept.{usual_from_within, within_from_usual}
+use Rattle.spec_model.proofs.KeptModels.{usual_from_within, within_from_usual}
 use Rattle.spec_edit.proofs.EditsKeep.{edited-kept}
 use Rattle.spec_edit.proofs.edits_keep_models.Goals as goal
 

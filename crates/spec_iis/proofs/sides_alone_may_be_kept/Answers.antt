@@ -1,5 +1,5 @@
 use Rattle.spec_iis.specs.Only.{only}
-use Rattle.spec_model.proofs.Kept.{usual_from_within, within_from_usual}
+use Rattle.spec_model.proofs.KeptModels.{usual_from_within, within_from_usual}
 use Rattle.spec_iis.proofs.Keeping.{only_kept}
 use Rattle.spec_iis.proofs.sides_alone_may_be_kept.Goals as goal
 

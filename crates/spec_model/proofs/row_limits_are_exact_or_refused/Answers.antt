@@ -1,4 +1,4 @@
-use Rattle.spec_model.proofs.RowLimits.{limit_ok, limit_all}
+use Rattle.spec_model.proofs.LimitsAtLimit.{limit_ok, limit_all}
 use Rattle.spec_model.proofs.row_limits_are_exact_or_refused.Goals as goal
 
 pub returns-clause-exact : goal.returns-clause-exact

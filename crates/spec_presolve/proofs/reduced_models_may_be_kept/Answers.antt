@@ -1,7 +1,7 @@
 use Rattle.std.proofs.lemmas.List.Elements.{All-weaker}
 use Rattle.spec_model.specs.Model.{Model}
 use Rattle.spec_model.specs.Kept.{IsModelWithin, IsUsualModel, usual_limits}
-use Rattle.spec_model.proofs.Kept.{usual_from_within, within_from_usual}
+use Rattle.spec_model.proofs.KeptModels.{usual_from_within, within_from_usual}
 use Rattle.spec_presolve.specs.Choose.{ExactReduction}
 use Rattle.spec_presolve.proofs.KeptReductions.{kept_all}
 use Rattle.spec_presolve.proofs.reduced_models_may_be_kept.Goals as goal

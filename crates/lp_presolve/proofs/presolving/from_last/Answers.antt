@@ -1,6 +1,6 @@
 -- What is found by the last model, and why nothing is.
 use Rattle.std.proofs.lemmas.Result.{err_from_is_err_and}
-use Rattle.spec_model.proofs.Kept.{within_from_usual}
+use Rattle.spec_model.proofs.KeptModels.{within_from_usual}
 use Rattle.spec_presolve.proofs.KeptReductions.{kept_all}
 use Rattle.lp_presolve.proofs.Tried.{few_steps, not_carried, back_fits, never_no, not_accepted, found}
 use Rattle.lp_presolve.proofs.presolving.from_last.Goals as goal
