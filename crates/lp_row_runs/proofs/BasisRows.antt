@@ -13,7 +13,7 @@ use Rattle.spec_exact.proofs.Sums.{sum_below_same, sum_below-sub}
 use Rattle.spec_pivot.specs.declared.status.Status.{Status}
 use Rattle.spec_pivot.specs.declared.status.Status.TheVariants.{Basic, AtLower}
 use Rattle.spec_pivot.specs.Tableau.{IsUnit}
-use Rattle.spec_pivot.proofs.Rows.{row_at as at_row}
+use Rattle.spec_pivot.proofs.BasicPositions.{row_at as at_row}
 use Rattle.spec_pivot.proofs.Values.{by_basic}
 use Rattle.spec_simplex.specs.declared.ends.StartStop.TheVariants as start
 use Rattle.spec_simplex.specs.Form.{Form, form_lower, form_upper}

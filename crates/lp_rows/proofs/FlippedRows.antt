@@ -9,7 +9,7 @@ use Rattle.spec_pivot.specs.declared.status.Status.TheVariants.{Basic}
 use Rattle.spec_pivot.specs.Tableau.{Matrix}
 use Rattle.spec_pivot.specs.Simplex.{Bounds, Table, IsTableau, sign, status_set, after_flip}
 use Rattle.spec_pivot.proofs.Values.{by_basic}
-use Rattle.spec_pivot.proofs.Kept.{outside}
+use Rattle.spec_pivot.proofs.SameEquations.{outside}
 use Rattle.spec_pivot.proofs.Ray.{ray_basic}
 use Rattle.spec_simplex.specs.Tableau.{Tableau, form_columns, all_columns, basic_at, entry_at, value_at, reduced_at}
 use Rattle.spec_simplex.specs.Tableau.{status_at, lower_at, upper_at, or_zero}

@@ -13,7 +13,7 @@ use Rattle.spec_pivot.specs.Tableau.{Matrix, pivot_row, pivoted, entered}
 use Rattle.spec_pivot.specs.Simplex.{Bounds, Table, IsTableau, sign, moved, status_set, after_pivot}
 use Rattle.spec_pivot.proofs.Pivot.{by_eq, pivoted_at, pivoted_off}
 use Rattle.spec_pivot.proofs.Values.{by_basic}
-use Rattle.spec_pivot.proofs.Kept.{outside}
+use Rattle.spec_pivot.proofs.SameEquations.{outside}
 use Rattle.spec_pivot.proofs.Ray.{ray_at, ray_basic}
 use Rattle.spec_simplex.specs.Tableau.{Tableau, form_columns, all_columns, basic_at, entry_at, value_at, reduced_at}
 use Rattle.spec_simplex.specs.Tableau.{status_at, lower_at, upper_at, stand}

@@ -4,7 +4,7 @@ use Rattle.spec_exact.specs.Fraction.{ℚ}
 use Rattle.spec_pivot.specs.declared.status.Status.TheVariants.{Basic}
 use Rattle.spec_pivot.specs.Tableau.{Matrix}
 use Rattle.spec_pivot.specs.Simplex.{Bounds, Stands}
-use Rattle.spec_pivot.proofs.Kept.{not_basic}
+use Rattle.spec_pivot.proofs.SameEquations.{not_basic}
 use Rattle.spec_simplex.specs.Step.{CanFlip}
 use Rattle.spec_simplex.specs.Tableau.{Tableau, all_columns, value_at, reduced_at}
 use Rattle.spec_simplex.specs.Tableau.{status_at, lower_at, upper_at, is_fixed}

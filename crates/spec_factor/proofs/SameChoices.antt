@@ -7,7 +7,7 @@ use Rattle.spec_pivot.specs.Tableau.{Matrix}
 use Rattle.spec_pivot.specs.Simplex.{Bounds, IsTableau, Enters, ray, sign, SameStatuses, SameTableau}
 use Rattle.spec_pivot.specs.Ratio.{room, room_at, scan, range_of, best_of, way_of, bound_ahead}
 use Rattle.spec_pivot.specs.Ratio as test
-use Rattle.spec_pivot.proofs.Kept.{j_outside}
+use Rattle.spec_pivot.proofs.SameEquations.{j_outside}
 use Rattle.spec_pivot.proofs.Ray.{ray_basic}
 use Rattle.spec_pivot.proofs.Same.{one_tableau}
 use Rattle.spec_pivot.proofs.Values.{by_basic}

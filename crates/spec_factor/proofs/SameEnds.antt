@@ -10,7 +10,7 @@ use Rattle.spec_pivot.specs.declared.status.Way.{Way}
 use Rattle.spec_pivot.specs.declared.status.Status.TheVariants.{Basic}
 use Rattle.spec_pivot.specs.Tableau.{Matrix, delta}
 use Rattle.spec_pivot.specs.Simplex.{Bounds, Enters, ray, sign, SameStatuses}
-use Rattle.spec_pivot.proofs.Kept.{j_outside}
+use Rattle.spec_pivot.proofs.SameEquations.{j_outside}
 use Rattle.spec_pivot.proofs.Pivot.{by_eq, sum_below-delta}
 use Rattle.spec_pivot.proofs.Ray.{ray_at, ray_basic, ray_still, delta_sym}
 use Rattle.spec_simplex.specs.declared.ends.RowStart.{RowStart}

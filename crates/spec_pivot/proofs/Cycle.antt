@@ -18,7 +18,7 @@ use Rattle.spec_pivot.specs.Simplex.{ray, IsBlocked, IsTableau, moved, after_piv
 use Rattle.spec_pivot.specs.Simplex.{Pivot, Flip, Label, StepOf, IsStep, IsRun, SameStatuses}
 use Rattle.spec_pivot.proofs.Pivot.{by_eq}
 use Rattle.spec_pivot.proofs.Ray.{ray_at, ray_still, cost_ray}
-use Rattle.spec_pivot.proofs.Kept.{outside, j_outside, flip_kept, pivot_kept, status_j, status_left, status_other}
+use Rattle.spec_pivot.proofs.SameEquations.{outside, j_outside, flip_kept, pivot_kept, status_j, status_left, status_other}
 use Rattle.spec_pivot.proofs.Values.{by_basic, zero_at_basic, same_values, better, cost_along}
 use Rattle.spec_pivot.proofs.Bland.{Goes, Leaving, Entering, no_pair}
 

@@ -9,7 +9,7 @@ use Rattle.spec_pivot.specs.declared.status.Way.{Way}
 use Rattle.spec_pivot.specs.declared.status.Way.TheVariants.{Up, Down}
 use Rattle.spec_pivot.specs.Tableau.{Matrix}
 use Rattle.spec_pivot.specs.Simplex.{Bounds, IsFixed, Table, sign, IsTableau, after_flip, Exchanges}
-use Rattle.spec_pivot.proofs.Moves.{set_at, set_off, status_j, status_left, status_other}
+use Rattle.spec_pivot.proofs.AnyMove.{set_at, set_off, status_j, status_left, status_other}
 use Rattle.spec_pivot.proofs.Pivot.{by_eq, delta_same}
 use Rattle.spec_pivot.specs.Dual.{Suits, IsDualFeasible, bound_behind, Leaves}
 use Rattle.spec_pivot.specs.Dual.{row_of, ratio, IsCheapest, shift, after_dual}

@@ -4,13 +4,13 @@ pub mod Count
 pub mod Cycle
 pub mod Fixed
 pub mod Instance
-pub mod Moves
-pub mod Kept
+pub mod AnyMove
+pub mod SameEquations
 pub mod OneRow
 pub mod Pivot
 pub mod Ratio
 pub mod Ray
-pub mod Rows
+pub mod BasicPositions
 pub mod Same
 pub mod Stays
 pub mod Steps

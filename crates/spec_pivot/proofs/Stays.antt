@@ -16,7 +16,7 @@ use Rattle.spec_pivot.specs.Simplex.{IsInside, IsWithin, sign, Bounds, CanMove}
 use Rattle.spec_pivot.specs.Simplex.{Stands, Table, ray, IsTableau, Enters, moved}
 use Rattle.spec_pivot.specs.Ratio.{room, HasRoom}
 use Rattle.spec_pivot.proofs.Pivot.{by_eq}
-use Rattle.spec_pivot.proofs.Kept.{outside, j_outside}
+use Rattle.spec_pivot.proofs.SameEquations.{outside, j_outside}
 use Rattle.spec_pivot.proofs.Ray.{ray_at, ray_still}
 use Rattle.spec_pivot.proofs.Ratio.{reaches}
 use Rattle.spec_pivot.proofs.Values.{by_basic}

@@ -7,7 +7,7 @@ use Rattle.spec_pivot.specs.declared.status.Way.{Way}
 use Rattle.spec_pivot.specs.declared.status.Way.TheVariants.{Up, Down}
 use Rattle.spec_pivot.specs.Tableau.{Matrix}
 use Rattle.spec_pivot.specs.Simplex.{Bounds, Stands, Table, sign, moved, IsTableau, Exchanges}
-use Rattle.spec_pivot.proofs.Moves.{outside, pivot_kept}
+use Rattle.spec_pivot.proofs.AnyMove.{outside, pivot_kept}
 use Rattle.spec_pivot.proofs.Ratio.{reaches_down}
 use Rattle.spec_pivot.proofs.Ray.{ray_basic}
 use Rattle.spec_pivot.specs.Dual.{IsPast, bound_behind, Leaves, IsCandidate, shift, after_dual}

@@ -13,7 +13,7 @@ use Rattle.spec_pivot.specs.declared.status.Way.TheVariants.{Up, Down}
 use Rattle.spec_pivot.specs.Simplex.{Bounds, IsFixed, IsInside, IsWithin, Stands, Table, IsTableau, CanMove}
 use Rattle.spec_pivot.specs.Simplex.{Enters, sign, ray, moved, IsBlocked, IsBlockedAt, Pivots, Flips}
 use Rattle.spec_pivot.specs.Ratio.{room_at, Best, NoWorse, range_of, best_of, way_of, bound_ahead}
-use Rattle.spec_pivot.proofs.Kept.{j_outside}
+use Rattle.spec_pivot.proofs.SameEquations.{j_outside}
 use Rattle.spec_pivot.proofs.Ray.{ray_at}
 use Rattle.spec_pivot.proofs.Ratio.{no_later, IsFoundAt, found, scan_least, blocked_room, room_blocked}
 use Rattle.spec_pivot.proofs.Best.{best_has_room}

@@ -14,9 +14,9 @@ use Rattle.spec_pivot.specs.declared.status.Way.{Way}
 use Rattle.spec_pivot.specs.declared.status.Way.TheVariants.{Up, Down}
 use Rattle.spec_pivot.specs.Simplex.{sign, Bounds, Improves, Stands, Table, ray, IsTableau, moved, Enters, SameStatuses}
 use Rattle.spec_pivot.proofs.Pivot.{by_eq, delta_same, delta_other, sum_below-delta}
-use Rattle.spec_pivot.proofs.Rows as rows
+use Rattle.spec_pivot.proofs.BasicPositions as rows
 use Rattle.spec_pivot.proofs.Ray.{ray_at, ray_still, cost_ray}
-use Rattle.spec_pivot.proofs.Kept.{outside, j_outside, cost_moved}
+use Rattle.spec_pivot.proofs.SameEquations.{outside, j_outside, cost_moved}
 
 -- what solves the rows solves their combinations
 pub combined : (m n : ℕ) (s t : Matrix) → Spans m s t → (x : ℕ → ℚ) →

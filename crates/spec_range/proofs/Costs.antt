@@ -14,7 +14,7 @@ use Rattle.spec_pivot.specs.declared.status.Status.{Status}
 use Rattle.spec_pivot.specs.declared.status.Status.TheVariants.{Basic}
 use Rattle.spec_pivot.specs.Tableau.{delta}
 use Rattle.spec_pivot.specs.Simplex.{Bounds, Table, IsTableau}
-use Rattle.spec_pivot.proofs.Kept.{outside}
+use Rattle.spec_pivot.proofs.SameEquations.{outside}
 use Rattle.spec_pivot.proofs.Pivot.{by_eq, delta_same, delta_other}
 use Rattle.spec_pivot.proofs.Unique.{apart}
 use Rattle.spec_simplex.specs.Form.{least_cost, formed}

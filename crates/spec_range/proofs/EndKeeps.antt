@@ -18,7 +18,7 @@ use Rattle.spec_pivot.specs.Tableau.{Matrix, delta}
 use Rattle.spec_pivot.specs.Simplex.{Bounds, Stands, IsTableau}
 use Rattle.spec_pivot.proofs.Pivot.{sum_below-delta}
 use Rattle.spec_pivot.proofs.Unique.{same_reduced_costs}
-use Rattle.spec_pivot.proofs.Rows.{row_at}
+use Rattle.spec_pivot.proofs.BasicPositions.{row_at}
 use Rattle.spec_pivot.proofs.Values.{by_basic, combined, zero_at_basic, same_stand}
 use Rattle.spec_pivot.proofs.Ray.{delta_sym}
 use Rattle.spec_simplex.specs.declared.ends.StartStop.{StartStop}

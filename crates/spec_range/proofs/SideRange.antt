@@ -18,7 +18,7 @@ use Rattle.spec_pivot.specs.declared.status.Status.TheVariants.{Basic, AtLower, 
 use Rattle.spec_pivot.specs.declared.status.Way.TheVariants.{Up}
 use Rattle.spec_pivot.specs.Tableau.{delta}
 use Rattle.spec_pivot.specs.Simplex.{IsFixed, IsInside, Stands, ray}
-use Rattle.spec_pivot.proofs.Kept.{outside}
+use Rattle.spec_pivot.proofs.SameEquations.{outside}
 use Rattle.spec_pivot.proofs.Pivot.{by_eq, delta_same, delta_other, sum_below-delta}
 use Rattle.spec_pivot.proofs.Ray.{ray_at, ray_basic, ray_still, cost_ray}
 use Rattle.spec_pivot.proofs.Values.{by_basic, zero_at_basic}

@@ -6,7 +6,7 @@ use Rattle.spec_pivot.specs.Tableau.{Matrix}
 use Rattle.spec_pivot.specs.Simplex.{Bounds, IsTableau, Enters, sign, ray}
 use Rattle.spec_pivot.proofs.Pivot.{by_eq}
 use Rattle.spec_pivot.proofs.Unique.{apart}
-use Rattle.spec_pivot.proofs.Kept.{j_outside}
+use Rattle.spec_pivot.proofs.SameEquations.{j_outside}
 use Rattle.spec_pivot.proofs.Ray.{ray_at, ray_basic, ray_still}
 use Rattle.spec_simplex.specs.Tableau.{Tableau, basic_at, entry_at}
 use Rattle.spec_simplex.specs.Step.{directed}

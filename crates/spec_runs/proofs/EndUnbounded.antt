@@ -12,7 +12,7 @@ use Rattle.spec_check.proofs.Sound.{signed-sum_below}
 use Rattle.spec_pivot.specs.declared.status.Way.{Way}
 use Rattle.spec_pivot.specs.Simplex.{Bounds, Table, IsWithin, IsTableau, ray}
 use Rattle.spec_pivot.specs.Ratio.{GoesOn}
-use Rattle.spec_pivot.proofs.Kept.{j_outside}
+use Rattle.spec_pivot.proofs.SameEquations.{j_outside}
 use Rattle.spec_pivot.proofs.Ray.{form_ray}
 use Rattle.spec_simplex.specs.Form.{formed}
 use Rattle.spec_simplex.specs.Start.{cost_at}

@@ -9,8 +9,8 @@ use Rattle.spec_pivot.specs.declared.status.Status.{Status}
 use Rattle.spec_pivot.specs.declared.status.Status.TheVariants.{Basic, AtLower, AtUpper, AtZero}
 use Rattle.spec_pivot.specs.Tableau.{Matrix}
 use Rattle.spec_pivot.specs.Simplex.{Bounds, IsFixed, CanMove, Stands, IsTableau, Crosses, after_flip}
-use Rattle.spec_pivot.proofs.Kept.{not_basic}
-use Rattle.spec_pivot.proofs.Moves.{outside, flip_kept}
+use Rattle.spec_pivot.proofs.SameEquations.{not_basic}
+use Rattle.spec_pivot.proofs.AnyMove.{outside, flip_kept}
 use Rattle.spec_pivot.proofs.Pivot.{by_eq}
 use Rattle.spec_pivot.proofs.Ray.{ray_at}
 use Rattle.spec_pivot.proofs.Steps.{whole_range}

@@ -10,7 +10,7 @@ use Rattle.spec_exact.proofs.Sums.{sum_below_same, sum_below-+ℚ}
 use Rattle.spec_pivot.specs.declared.status.Status.TheVariants.{Basic}
 use Rattle.spec_pivot.specs.Tableau.{IsUnit}
 use Rattle.spec_pivot.proofs.Pivot.{by_eq}
-use Rattle.spec_pivot.proofs.Rows.{row_at}
+use Rattle.spec_pivot.proofs.BasicPositions.{row_at}
 use Rattle.spec_pivot.proofs.Unique.{apart}
 use Rattle.spec_exact.specs.Run.{◌>>=◌, less_product}
 use Rattle.spec_simplex.specs.Tableau.{Tableau, all_columns, basic_at, entry_at, value_at, status_at}

@@ -9,7 +9,7 @@ use Rattle.spec_pivot.specs.declared.status.Status.TheVariants.{Basic}
 use Rattle.spec_pivot.specs.Tableau.{Matrix}
 use Rattle.spec_pivot.specs.Simplex.{Bounds, IsTableau, sign, moved, status_set, after_flip, Crosses}
 use Rattle.spec_pivot.proofs.Pivot.{by_eq}
-use Rattle.spec_pivot.proofs.Kept.{outside}
+use Rattle.spec_pivot.proofs.SameEquations.{outside}
 use Rattle.spec_exact.specs.Run.{Run, ◌>>=◌, difference_run}
 use Rattle.spec_simplex.specs.Tableau.{Tableau, form_columns, all_columns, value_at}
 use Rattle.spec_simplex.specs.Tableau.{status_at, lower_at, upper_at, or_zero, stand}

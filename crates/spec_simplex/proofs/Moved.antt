@@ -9,7 +9,7 @@ use Rattle.spec_pivot.specs.Tableau.{Matrix}
 use Rattle.spec_pivot.specs.Simplex.{Bounds, Table, IsTableau, sign, moved}
 use Rattle.spec_pivot.proofs.Pivot.{by_eq}
 use Rattle.spec_pivot.proofs.Unique.{apart}
-use Rattle.spec_pivot.proofs.Kept.{outside}
+use Rattle.spec_pivot.proofs.SameEquations.{outside}
 use Rattle.spec_pivot.proofs.Ray.{ray_basic, ray_still}
 use Rattle.spec_pivot.proofs.Values.{by_basic}
 use Rattle.spec_exact.specs.Run.{less_product}

@@ -11,7 +11,7 @@ use Rattle.spec_pivot.specs.declared.status.Way.{Way}
 use Rattle.spec_pivot.specs.Tableau.{Matrix, pivot_row}
 use Rattle.spec_pivot.specs.Simplex.{Bounds, Table, IsTableau, sign, moved, status_set, after_pivot, Exchanges}
 use Rattle.spec_pivot.proofs.Pivot.{by_eq, pivot_row_zero}
-use Rattle.spec_pivot.proofs.Kept.{outside}
+use Rattle.spec_pivot.proofs.SameEquations.{outside}
 use Rattle.spec_pivot.proofs.Ray.{ray_at}
 use Rattle.spec_exact.specs.Run.{sum_run, less_product}
 use Rattle.spec_simplex.specs.Tableau.{Tableau, form_columns, all_columns, is_artificial, at_place, basic_at}

@@ -13,7 +13,7 @@ use Rattle.spec_pivot.specs.Tableau.{Matrix}
 use Rattle.spec_pivot.specs.Simplex.{Bounds, Table, IsTableau, CanMove, Stands, sign, ray}
 use Rattle.spec_pivot.specs.Ratio.{room, GoesOn}
 use Rattle.spec_pivot.proofs.Pivot.{by_eq}
-use Rattle.spec_pivot.proofs.Kept.{outside, j_outside}
+use Rattle.spec_pivot.proofs.SameEquations.{outside, j_outside}
 use Rattle.spec_pivot.proofs.Ray.{ray_at, ray_still, cost_ray}
 use Rattle.spec_pivot.proofs.Values.{by_basic, ray_cost, better}
 

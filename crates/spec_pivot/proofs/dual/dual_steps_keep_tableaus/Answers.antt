@@ -1,4 +1,4 @@
-use Rattle.spec_pivot.proofs.Moves.{flip_kept}
+use Rattle.spec_pivot.proofs.AnyMove.{flip_kept}
 use Rattle.spec_pivot.proofs.Step.{dual_kept, lands_at}
 use Rattle.spec_pivot.proofs.dual.dual_steps_keep_tableaus.Goals as goal
 

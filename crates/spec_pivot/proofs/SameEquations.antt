@@ -13,8 +13,8 @@ use Rattle.spec_pivot.specs.declared.status.Way.TheVariants.{Up, Down}
 use Rattle.spec_pivot.specs.Simplex.{sign, Bounds, CanMove, Stands, Table, ray, IsBlocked, IsTableau, moved}
 use Rattle.spec_pivot.specs.Simplex.{after_pivot, after_flip, Enters, Pivots, Flips, Exchanges, Crosses}
 use Rattle.spec_pivot.proofs.Ray.{ray_basic}
-use Rattle.spec_pivot.proofs.Moves as any
-pub use Rattle.spec_pivot.proofs.Moves.{outside}
+use Rattle.spec_pivot.proofs.AnyMove as any
+pub use Rattle.spec_pivot.proofs.AnyMove.{outside}
 
 pub not_basic : (way : Way) (s : Status) → CanMove way s → ¬ (s ≡ Basic)
 not_basic Up s c e = subst (CanMove Up) e c
