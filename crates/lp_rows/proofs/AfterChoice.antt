@@ -9,7 +9,7 @@ use Rattle.spec_pivot.specs.Simplex.{after_flip}
 use Rattle.spec_pivot.specs.Simplex.{Exchanges, Crosses, Pivots, Flips}
 use Rattle.spec_pivot.specs.Ratio.{best_of}
 use Rattle.spec_pivot.proofs.SameEquations.{flip_crosses, pivot_exchanges}
-use Rattle.spec_pivot.proofs.Steps.{best_pivots, best_flips}
+use Rattle.spec_pivot.proofs.RatioTest.{best_pivots, best_flips}
 use Rattle.spec_simplex.specs.declared.ends.Entering.{Entering}
 use Rattle.spec_simplex.specs.declared.ends.Best.{Best}
 use Rattle.spec_simplex.specs.declared.ends.PrimalEnd.TheVariants.{Optimal}

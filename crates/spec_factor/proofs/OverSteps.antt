@@ -11,7 +11,7 @@ use Rattle.spec_pivot.specs.Ratio.{way_of, bound_ahead}
 use Rattle.spec_pivot.specs.Simplex.{ray}
 use Rattle.spec_pivot.proofs.Pivot.{by_eq}
 use Rattle.spec_pivot.proofs.SameEquations.{entry_not_zero}
-use Rattle.spec_pivot.proofs.Steps.{best_pivots}
+use Rattle.spec_pivot.proofs.RatioTest.{best_pivots}
 use Rattle.spec_simplex.specs.declared.ends.RowStart.{RowStart}
 use Rattle.spec_simplex.specs.declared.ends.Entering.{Entering}
 use Rattle.spec_simplex.specs.declared.ends.Best.{Best}

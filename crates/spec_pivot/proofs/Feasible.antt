@@ -13,7 +13,7 @@ use Rattle.spec_pivot.proofs.AnyMove.{set_at, set_off, status_j, status_left, st
 use Rattle.spec_pivot.proofs.Pivot.{by_eq, delta_same}
 use Rattle.spec_pivot.specs.Dual.{Suits, IsDualFeasible, bound_behind, Leaves}
 use Rattle.spec_pivot.specs.Dual.{row_of, ratio, IsCheapest, shift, after_dual}
-use Rattle.spec_pivot.proofs.Signs.{ratio_is, ratio_least, by_ratio, suits_after}
+use Rattle.spec_pivot.proofs.EntrySigns.{ratio_is, ratio_least, by_ratio, suits_after}
 use Rattle.spec_pivot.proofs.Step.{entry_nonzero, dual_exchanges}
 
 module _ (m n : ℕ) (f : Matrix) (cost : ℕ → ℚ) (b : Bounds) (t : Table)

@@ -13,10 +13,10 @@ pub mod Ray
 pub mod BasicPositions
 pub mod Same
 pub mod Stays
-pub mod Steps
+pub mod RatioTest
 pub mod Unique
 pub mod Values
-pub mod Signs
+pub mod EntrySigns
 pub mod Step
 pub mod Feasible
 pub mod Refuted

@@ -11,7 +11,7 @@ use Rattle.spec_pivot.proofs.AnyMove.{outside, pivot_kept}
 use Rattle.spec_pivot.proofs.Ratio.{reaches_down}
 use Rattle.spec_pivot.proofs.Ray.{ray_basic}
 use Rattle.spec_pivot.specs.Dual.{IsPast, bound_behind, Leaves, IsCandidate, shift, after_dual}
-use Rattle.spec_pivot.proofs.Signs.{helps_nonzero, helps_nonbasic}
+use Rattle.spec_pivot.proofs.EntrySigns.{helps_nonzero, helps_nonbasic}
 
 pub behind_nonbasic : (way : Way) → ¬ (bound_behind way ≡ Basic)
 behind_nonbasic Up e = let z : AtLower ≡ Basic = e in cc

@@ -13,7 +13,7 @@ use Rattle.spec_pivot.proofs.SameEquations.{not_basic}
 use Rattle.spec_pivot.proofs.AnyMove.{outside, flip_kept}
 use Rattle.spec_pivot.proofs.Pivot.{by_eq}
 use Rattle.spec_pivot.proofs.Ray.{ray_at}
-use Rattle.spec_pivot.proofs.Steps.{whole_range}
+use Rattle.spec_pivot.proofs.RatioTest.{whole_range}
 use Rattle.spec_simplex.specs.declared.ends.RunStop.{RunStop}
 use Rattle.spec_simplex.specs.declared.ends.RunStop.TheVariants as stop
 use Rattle.spec_exact.specs.Run.{refused_as, difference_run, steps}

@@ -12,7 +12,7 @@ use Rattle.spec_pivot.proofs.Best.{best_has_room, none_goes_on}
 use Rattle.spec_pivot.proofs.Cycle.{step_kept}
 use Rattle.spec_pivot.proofs.SameEquations.{flip_crosses, pivot_exchanges}
 use Rattle.spec_pivot.proofs.Stays.{stays_within}
-use Rattle.spec_pivot.proofs.Steps.{best_pivots, best_flips}
+use Rattle.spec_pivot.proofs.RatioTest.{best_pivots, best_flips}
 use Rattle.spec_simplex.specs.declared.ends.Entering.{Entering}
 use Rattle.spec_simplex.specs.declared.ends.Best.{Best}
 use Rattle.spec_simplex.specs.declared.ends.PrimalEnd.TheVariants.{Optimal}

@@ -1,4 +1,4 @@
-use Rattle.spec_pivot.proofs.Steps.{best_pivots, best_flips}
+use Rattle.spec_pivot.proofs.RatioTest.{best_pivots, best_flips}
 use Rattle.spec_pivot.proofs.best_is_a_step.Goals as goal
 
 pub returns : goal.returns
