@@ -27,7 +27,7 @@ use Rattle.spec_pivot.specs.Dual.{Suits}
 use Rattle.spec_range.specs.declared.range.Ends.{Ends}
 use Rattle.spec_range.specs.Span.{IsIn}
 use Rattle.spec_range.specs.Rule.{no_ends, ends_by, falls_by, own_number, own_ends, is_moved, moved_ends, basic_ends}
-use Rattle.spec_range.proofs.Numbers.{ends_ok}
+use Rattle.spec_range.proofs.SignsAlong.{ends_ok}
 use Rattle.spec_range.proofs.Checked.{IsGood}
 
 -- ---- signs of the sense

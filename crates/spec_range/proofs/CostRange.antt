@@ -45,7 +45,7 @@ use Rattle.spec_range.proofs.Costs.{other_width, cost_there, cost_elsewhere, gro
 use Rattle.spec_range.proofs.Costs.{IsRowOf, basic_row, no_row, is_moved}
 use Rattle.spec_range.proofs.CostEnds.{basic_ok, own_ok}
 use Rattle.spec_range.proofs.Exists.{start_unlimited}
-use Rattle.spec_range.proofs.Moves.{repriced}
+use Rattle.spec_range.proofs.MovedNumbers.{repriced}
 
 -- what is known of the tableau of a basis that keeps the model
 pub record IsKept (limit : Option ℕ) (m : Model) (basis : List Status) (f : Form) (t : Tableau) : Type 0 where

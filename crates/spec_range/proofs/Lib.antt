@@ -1,10 +1,10 @@
-pub mod Kept
-pub mod Numbers
+pub mod TightestEnds
+pub mod SignsAlong
 pub mod Started
 pub mod Checked
 pub mod Exists
 pub mod Compared
-pub mod Moves
+pub mod MovedNumbers
 pub mod Bounds
 pub mod Costs
 pub mod CostEnds

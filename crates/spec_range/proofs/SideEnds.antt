@@ -23,8 +23,8 @@ use Rattle.spec_range.specs.declared.range.Ends.{Ends}
 use Rattle.spec_range.specs.Span.{IsIn}
 use Rattle.spec_range.specs.Rule.{no_ends, at_side, shifted_run, still_ends, bound_ends, carried_ends, is_carried}
 use Rattle.spec_range.specs.Rule.{nonbasic_ends}
-use Rattle.spec_range.proofs.Kept.{Cuts, Meets, at_side_ok, cuts_as, cuts_none, cuts_both}
-use Rattle.spec_range.proofs.Numbers.{up_from, down_from, meets_above, meets_below}
+use Rattle.spec_range.proofs.TightestEnds.{Cuts, Meets, at_side_ok, cuts_as, cuts_none, cuts_both}
+use Rattle.spec_range.proofs.SignsAlong.{up_from, down_from, meets_above, meets_below}
 use Rattle.spec_range.proofs.Sides.{shifted}
 
 -- ---- a bound that moves along

@@ -49,7 +49,7 @@ use Rattle.spec_range.proofs.Started.{form_bounds}
 use Rattle.spec_range.proofs.Checked.{IsGood, parts}
 use Rattle.spec_range.proofs.Compared.{IsMoved, good_keeps, good_optimal, keeps_good}
 use Rattle.spec_range.proofs.CostRange.{kept, good, columns_are, low, high, v_is}
-use Rattle.spec_range.proofs.Moves.{carried}
+use Rattle.spec_range.proofs.MovedNumbers.{carried}
 use Rattle.spec_range.proofs.SideEnds.{still_ok, nonbasic_ok}
 use Rattle.spec_range.proofs.Sides.{shifted, g, bounds_with, low_there, high_there, low_elsewhere, high_elsewhere}
 use Rattle.spec_range.proofs.Sides.{still_moved, carried_moved, fixed_still}

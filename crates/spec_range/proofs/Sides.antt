@@ -26,7 +26,7 @@ use Rattle.spec_range.proofs.Bounds.{artificial_low, artificial_high, bounds_by,
 use Rattle.spec_range.proofs.Checked.{tableau}
 use Rattle.spec_range.proofs.Compared.{SameBounds, IsMoved}
 use Rattle.spec_range.proofs.Exists.{skeleton}
-use Rattle.spec_range.proofs.Moves.{rebounded_is, carried, carried_is}
+use Rattle.spec_range.proofs.MovedNumbers.{rebounded_is, carried, carried_is}
 use Rattle.spec_range.proofs.Started.{form_bounds, bounded}
 
 -- ---- limits

@@ -11,7 +11,7 @@ use Rattle.spec_pivot.specs.Dual.{Suits}
 use Rattle.spec_simplex.proofs.RunParts.{then_ok}
 use Rattle.spec_range.specs.declared.range.Ends.{Ends}
 use Rattle.spec_range.specs.Rule.{at_least, at_most, ends_by}
-use Rattle.spec_range.proofs.Kept.{Cuts, Meets, at_least_ok, at_most_ok, at_side_ok, cuts_as, cuts_none, cuts_both}
+use Rattle.spec_range.proofs.TightestEnds.{Cuts, Meets, at_least_ok, at_most_ok, at_side_ok, cuts_as, cuts_none, cuts_both}
 
 -- ---- differences
 pub up_from : (v t : ℚ) → t ≤ℚ v ↔ 0ℚ ≤ℚ (v -ℚ t)
