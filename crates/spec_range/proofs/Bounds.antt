@@ -9,7 +9,7 @@ use Rattle.spec_simplex.specs.Eliminate.{CanStand, IsBasisOf, basics_below, basi
 use Rattle.spec_simplex.proofs.ColumnKinds.{by_kind}
 use Rattle.spec_simplex.proofs.FormOfModel.{Limited, formed_proper}
 use Rattle.spec_simplex.proofs.FormOfModel.{lower_structural, upper_structural, lower_logical, upper_logical}
-use Rattle.spec_range.proofs.Started.{form_bounds, bounded, fixed_after}
+use Rattle.spec_range.proofs.RangedTableau.{form_bounds, bounded, fixed_after}
 use Rattle.spec_range.proofs.Compared.{SameBounds}
 
 module _ (m : Model) (ls : List (Option ℚ × Option ℚ)) (h : Limited m ls) where

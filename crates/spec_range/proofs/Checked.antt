@@ -28,8 +28,8 @@ use Rattle.spec_runs.proofs.Shown as shown
 use Rattle.spec_pivot.specs.Dual.{Suits, IsDualFeasible}
 use Rattle.spec_pivot.proofs.Optimal.{none_eligible, within_where_basic}
 use Rattle.spec_runs.specs.Based.{equations, BeginsFrom}
-use Rattle.spec_range.proofs.Started.{IsOf, form_bounds, IsFor, begun, of, is_for, bounded, fixed_after, ordered}
-use Rattle.spec_range.proofs.Started.{status_after}
+use Rattle.spec_range.proofs.RangedTableau.{IsOf, form_bounds, IsFor, begun, of, is_for, bounded, fixed_after, ordered}
+use Rattle.spec_range.proofs.RangedTableau.{status_after}
 
 -- basic values within their bounds, and reduced costs of the signs of their statuses
 pub record IsGood (n : ℕ) (b : Bounds) (t : Table) : Type 0 where

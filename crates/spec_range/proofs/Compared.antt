@@ -23,7 +23,7 @@ use Rattle.spec_runs.specs.Cold.{point, multipliers}
 use Rattle.spec_pivot.specs.Dual.{Suits}
 use Rattle.spec_runs.specs.Based.{equations}
 use Rattle.spec_range.specs.Span.{Keeps}
-use Rattle.spec_range.proofs.Started.{form_bounds}
+use Rattle.spec_range.proofs.RangedTableau.{form_bounds}
 use Rattle.spec_range.proofs.Checked.{IsGood, parts, tableau, x_at, checks_good}
 use Rattle.spec_range.proofs.Exists.{skeleton, start_exists, form_exists}
 

@@ -38,7 +38,7 @@ use Rattle.spec_range.specs.declared.range.Ends.{Ends}
 use Rattle.spec_range.specs.declared.range.Range.{Range}
 use Rattle.spec_range.specs.Span.{Keeps, IsIn, IsRange}
 use Rattle.spec_range.specs.Rule.{basic_ends, own_ends, cost_ends, cost_run, cost_range}
-use Rattle.spec_range.proofs.Started.{form_bounds}
+use Rattle.spec_range.proofs.RangedTableau.{form_bounds}
 use Rattle.spec_range.proofs.Checked.{IsGood, parts, tableau, x_at, checks_good}
 use Rattle.spec_range.proofs.Compared.{IsMoved, good_keeps, good_optimal, keeps_good}
 use Rattle.spec_range.proofs.Costs.{other_width, cost_there, cost_elsewhere, growth, costs_with}

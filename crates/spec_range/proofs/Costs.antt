@@ -31,7 +31,7 @@ use Rattle.spec_range.proofs.Checked.{tableau}
 use Rattle.spec_range.proofs.Compared.{SameBounds, IsMoved}
 use Rattle.spec_range.proofs.Exists.{skeleton}
 use Rattle.spec_range.proofs.MovedNumbers.{repriced, repriced_is}
-use Rattle.spec_range.proofs.Started.{form_bounds, bounded}
+use Rattle.spec_range.proofs.RangedTableau.{form_bounds, bounded}
 
 -- ---- the other model
 module _ (m : Model) (j : ℕ) (j_in : j < width m) (v : ℚ) where

@@ -40,7 +40,7 @@ use Rattle.spec_runs.proofs.EndBases.{basis_fits}
 use Rattle.spec_runs.proofs.LimitSteps.{from_agrees}
 use Rattle.spec_runs.proofs.Singular.{start_singular}
 use Rattle.spec_range.specs.Span.{Keeps}
-use Rattle.spec_range.proofs.Started.{form_bounds, bounded, fixed_after, status_before, status_after}
+use Rattle.spec_range.proofs.RangedTableau.{form_bounds, bounded, fixed_after, status_before, status_after}
 use Rattle.spec_range.proofs.Checked.{parts, tableau}
 
 module _ (m : Model) (ls : List (Option ℚ × Option ℚ)) (h : Limited m ls)

@@ -1,6 +1,6 @@
 pub mod TightestEnds
 pub mod SignsAlong
-pub mod Started
+pub mod RangedTableau
 pub mod Checked
 pub mod Exists
 pub mod Compared

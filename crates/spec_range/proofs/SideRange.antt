@@ -45,7 +45,7 @@ use Rattle.spec_range.specs.declared.range.Ends.{Ends}
 use Rattle.spec_range.specs.declared.range.Range.{Range}
 use Rattle.spec_range.specs.Span.{Keeps, IsIn, IsRange}
 use Rattle.spec_range.specs.Rule.{no_ends, still_ends, nonbasic_ends, side_ends, side_run, side_range}
-use Rattle.spec_range.proofs.Started.{form_bounds}
+use Rattle.spec_range.proofs.RangedTableau.{form_bounds}
 use Rattle.spec_range.proofs.Checked.{IsGood, parts}
 use Rattle.spec_range.proofs.Compared.{IsMoved, good_keeps, good_optimal, keeps_good}
 use Rattle.spec_range.proofs.CostRange.{kept, good, columns_are, low, high, v_is}

@@ -27,7 +27,7 @@ use Rattle.spec_range.proofs.Checked.{tableau}
 use Rattle.spec_range.proofs.Compared.{SameBounds, IsMoved}
 use Rattle.spec_range.proofs.Exists.{skeleton}
 use Rattle.spec_range.proofs.MovedNumbers.{rebounded_is, carried, carried_is}
-use Rattle.spec_range.proofs.Started.{form_bounds, bounded}
+use Rattle.spec_range.proofs.RangedTableau.{form_bounds, bounded}
 
 -- ---- limits
 -- a bound that goes along by v
