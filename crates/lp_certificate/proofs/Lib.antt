@@ -1,6 +1,6 @@
 pub mod Blanks
 pub mod Inside
-pub mod Lines
-pub mod Numbers
-pub mod Places
+pub mod PartLines
+pub mod ReadNumbers
+pub mod PartPlaces
 mod Marking

@@ -42,7 +42,7 @@ impl Number for Frac {
 }
 
 // The number that a text is, within 127 bits.
-#[tactic(auto, using(crate::proofs::Numbers::narrow_ok, crate::proofs::Numbers::narrow_err))]
+#[tactic(auto, using(crate::proofs::ReadNumbers::narrow_ok, crate::proofs::ReadNumbers::narrow_err))]
 fn number_of(text: &[u8]) -> Option<Frac>
     ensures { result ≡ narrow_text.narrow text.now }
 {

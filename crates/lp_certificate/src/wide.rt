@@ -44,7 +44,7 @@ impl Number for Ratio {
 }
 
 // The number that a text is, of any width.
-#[tactic(auto, using(crate::proofs::Numbers::wide_ok, crate::proofs::Numbers::wide_shape, crate::proofs::Numbers::wide_far))]
+#[tactic(auto, using(crate::proofs::ReadNumbers::wide_ok, crate::proofs::ReadNumbers::wide_shape, crate::proofs::ReadNumbers::wide_far))]
 fn number_of(alloc: Global, text: &[u8]) -> Result<Option<Ratio>, AllocError>
     ensures { IfOk result (λ value. value ≡ wide_reading.wide text.now) }
 {

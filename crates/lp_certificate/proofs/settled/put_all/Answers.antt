@@ -3,7 +3,7 @@ use Rattle.std.proofs.Common.{sym, subst, take, refl}
 use Rattle.spec_model.specs.Model.{width, height}
 use Rattle.lp_certificate.specs.Marks.{AreMarks}
 use Rattle.lp_certificate.proofs.Marking.{nothing_has, none_marked}
-use Rattle.lp_certificate.proofs.Places.{front_of, one_more, stopped, all_put}
+use Rattle.lp_certificate.proofs.PartPlaces.{front_of, one_more, stopped, all_put}
 use Rattle.lp_certificate.proofs.settled.put_all.Goals as goal
 
 pub loop-i-init : goal.loop-i-init

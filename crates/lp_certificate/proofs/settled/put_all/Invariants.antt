@@ -2,7 +2,7 @@
 use Rattle.std.proofs.Common.{take}
 use Rattle.spec_check.specs.Certificate.{IsFor}
 use Rattle.lp_certificate.specs.Marks.{HasMarks, AreMarks}
-use Rattle.lp_certificate.proofs.Places.{IsOnTheWay}
+use Rattle.lp_certificate.proofs.PartPlaces.{IsOnTheWay}
 use Rattle.lp_certificate.proofs.settled.put_all.Given as goal
 
 -- the parts so far are marked, and those that are left give what all of them give

@@ -3,7 +3,7 @@ use Rattle.std.proofs.Common.{[], sym, ap, ◌∙◌, subst}
 use Rattle.std.proofs.lemmas.Result.{err_from_is_err_and}
 use Rattle.spec_check.specs.Settle.{put_all}
 use Rattle.lp_certificate.specs.Answer.{IsErrorOf}
-use Rattle.lp_certificate.proofs.Places.{blank_stopped, whole, unfit}
+use Rattle.lp_certificate.proofs.PartPlaces.{blank_stopped, whole, unfit}
 use Rattle.lp_certificate.proofs.settled.settle.Goals as goal
 
 pub returns-in_err-cert-clause-answer : goal.returns-in_err-cert-clause-answer

@@ -2,7 +2,7 @@
 use Rattle.std.proofs.Common.{◌++◌, ap, ◌∙◌}
 use Rattle.std.proofs.lemmas.Result.{on_ok_weaker}
 use Rattle.spec_certificate.specs.TextWritten.{part_text_by}
-use Rattle.lp_certificate.proofs.Lines.{no_line, one_line}
+use Rattle.lp_certificate.proofs.PartLines.{no_line, one_line}
 use Rattle.lp_certificate.proofs.text.add_part.Goals as goal
 
 pub returns-then-is_none : goal.returns-then-is_none

@@ -1,5 +1,5 @@
 use Rattle.std.proofs.Common.{sym, ◌∙◌}
-use Rattle.lp_certificate.proofs.Numbers.{above_is, not_above_is}
+use Rattle.lp_certificate.proofs.ReadNumbers.{above_is, not_above_is}
 use Rattle.lp_certificate.proofs.wide.is_none.Goals as goal
 
 pub returns-then-is_positive : goal.returns-then-is_positive
