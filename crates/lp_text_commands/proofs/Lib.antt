@@ -2,7 +2,7 @@
 pub mod BasisPrints
 pub mod ExactPrints
 pub mod Generating
-pub mod Lines
+pub mod SideLines
 pub mod Finding
 pub mod Ranging
 pub mod Heard

@@ -3,7 +3,7 @@ use Rattle.std.proofs.Common.{[], ◌∷◌, ◌++◌, ap, sym, ◌∙◌}
 use Rattle.std.specs.Prelude.{codes, decimal}
 use Rattle.std.proofs.lemmas.Result.{on_ok_weaker}
 use Rattle.spec_server.specs.Machine.{opening_budget}
-use Rattle.lp_text_commands.proofs.Lines.{five_on, heading_text, whole}
+use Rattle.lp_text_commands.proofs.SideLines.{five_on, heading_text, whole}
 use Rattle.lp_text_commands.proofs.Finding.{found_read, points_fit}
 use Rattle.lp_text_commands.proofs.iis.lines.print_found.Goals as goal
 

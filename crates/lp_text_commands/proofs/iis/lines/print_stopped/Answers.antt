@@ -4,7 +4,7 @@ use Rattle.std.specs.Prelude.{codes}
 use Rattle.std.proofs.lemmas.Result.{on_ok_weaker}
 use Rattle.spec_server.specs.Output.{ended_lines}
 use Rattle.spec_commands.specs.IisOut.{end_words}
-use Rattle.lp_text_commands.proofs.Lines.{one_on, stopped_text}
+use Rattle.lp_text_commands.proofs.SideLines.{one_on, stopped_text}
 use Rattle.lp_text_commands.proofs.iis.lines.print_stopped.Goals as goal
 
 pub returns : goal.returns

@@ -3,7 +3,7 @@ use Rattle.std.proofs.Common.{◌++◌, ap, ◌∙◌}
 use Rattle.std.proofs.lemmas.Result.{on_ok_weaker}
 use Rattle.spec_exact.specs.Fraction.{0ℚ}
 use Rattle.spec_exact.proofs.Same.{same_is}
-use Rattle.lp_text_commands.proofs.Lines.{no_part, some_part}
+use Rattle.lp_text_commands.proofs.SideLines.{no_part, some_part}
 use Rattle.lp_text_commands.proofs.iis.points.print_part.Goals as goal
 
 pub returns-then-is_zero : goal.returns-then-is_zero

@@ -1,6 +1,6 @@
 -- One column more.
 use Rattle.spec_model.specs.Model.{column}
-use Rattle.lp_text_commands.proofs.Lines.{ended_none, part_on}
+use Rattle.lp_text_commands.proofs.SideLines.{ended_none, part_on}
 use Rattle.lp_text_commands.proofs.iis.points.print_parts.Goals as goal
 
 pub loop-j-init : goal.loop-j-init

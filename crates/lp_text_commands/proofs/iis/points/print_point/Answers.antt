@@ -1,6 +1,6 @@
 -- The parts behind the number.
 use Rattle.std.proofs.lemmas.Result.{on_ok_weaker}
-use Rattle.lp_text_commands.proofs.Lines.{one_on, ended_first}
+use Rattle.lp_text_commands.proofs.SideLines.{one_on, ended_first}
 use Rattle.lp_text_commands.proofs.iis.points.print_point.Goals as goal
 
 pub returns : goal.returns

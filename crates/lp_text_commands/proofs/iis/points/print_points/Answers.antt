@@ -1,7 +1,7 @@
 -- One point more.
 use Rattle.std.proofs.Common.{◌≡◌, length}
 use Rattle.spec_model.specs.Model.{width}
-use Rattle.lp_text_commands.proofs.Lines.{ended_none, item_holds, one_on, points_more}
+use Rattle.lp_text_commands.proofs.SideLines.{ended_none, item_holds, one_on, points_more}
 use Rattle.lp_text_commands.proofs.iis.points.print_points.Goals as goal
 
 pub loop-k-init : goal.loop-k-init

@@ -1,6 +1,6 @@
 -- One side more.
 use Rattle.spec_iis.specs.Sides.{IsSide}
-use Rattle.lp_text_commands.proofs.Lines.{ended_none, item_holds, one_on, sides_more}
+use Rattle.lp_text_commands.proofs.SideLines.{ended_none, item_holds, one_on, sides_more}
 use Rattle.lp_text_commands.proofs.iis.sides.print_sides.Goals as goal
 
 pub loop-i-init : goal.loop-i-init

@@ -3,7 +3,7 @@ use Rattle.std.proofs.Common.{◌++◌, [], append-nil, ap, sym, subst, ◌∙�
 use Rattle.std.proofs.lemmas.Result.{on_ok_weaker}
 use Rattle.spec_commands.specs.RangeOut.{ranged_text}
 use Rattle.lp_text_commands.specs.RangeEnds.{IsRangingOf}
-use Rattle.lp_text_commands.proofs.Lines.{one_on}
+use Rattle.lp_text_commands.proofs.SideLines.{one_on}
 use Rattle.lp_text_commands.proofs.Ranging.{answered, behind, none_behind, with_range}
 use Rattle.lp_text_commands.proofs.range.RangeAtCommand.write.Goals as goal
 

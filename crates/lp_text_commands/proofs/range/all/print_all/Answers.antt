@@ -3,7 +3,7 @@ use Rattle.std.proofs.Common.{refl, ap, ◌∙◌, ◌++◌}
 use Rattle.std.proofs.lemmas.Result.{on_ok_weaker}
 use Rattle.spec_program.specs.declared.command_line.Moved.TheVariants.{Cost, RightSide}
 use Rattle.spec_commands.specs.RangesOut.{number_lines}
-use Rattle.lp_text_commands.proofs.Lines.{one_on}
+use Rattle.lp_text_commands.proofs.SideLines.{one_on}
 use Rattle.lp_text_commands.proofs.range.all.print_all.Goals as goal
 
 pub returns : goal.returns

@@ -2,7 +2,7 @@
 use Rattle.std.proofs.Common.{◌++◌, ap, sym, ◌∙◌}
 use Rattle.std.proofs.lemmas.Result.{on_ok_weaker}
 use Rattle.spec_commands.specs.RangeOut.{ranged_text}
-use Rattle.lp_text_commands.proofs.Lines.{one_on}
+use Rattle.lp_text_commands.proofs.SideLines.{one_on}
 use Rattle.lp_text_commands.proofs.Ranging.{line_of}
 use Rattle.lp_text_commands.proofs.range.all.print_number.Goals as goal
 

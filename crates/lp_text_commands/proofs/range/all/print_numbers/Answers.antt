@@ -1,6 +1,6 @@
 -- One line more.
 use Rattle.std.proofs.Common.{append-nil, sym, arith}
-use Rattle.lp_text_commands.proofs.Lines.{one_on}
+use Rattle.lp_text_commands.proofs.SideLines.{one_on}
 use Rattle.lp_text_commands.proofs.Ranging.{lines_more}
 use Rattle.lp_text_commands.proofs.range.all.print_numbers.Goals as goal
 

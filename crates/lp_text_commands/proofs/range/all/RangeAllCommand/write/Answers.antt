@@ -2,7 +2,7 @@
 use Rattle.std.proofs.Common.{◌++◌, [], append-nil, ap, sym, subst, ◌∙◌}
 use Rattle.std.proofs.lemmas.Result.{on_ok_weaker}
 use Rattle.lp_text_commands.specs.RangeEnds.{IsRangingOf}
-use Rattle.lp_text_commands.proofs.Lines.{one_on}
+use Rattle.lp_text_commands.proofs.SideLines.{one_on}
 use Rattle.lp_text_commands.proofs.Ranging.{answered, behind, none_behind, with_ranges}
 use Rattle.lp_text_commands.proofs.range.all.RangeAllCommand.write.Goals as goal
 
