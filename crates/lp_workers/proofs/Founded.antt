@@ -15,7 +15,7 @@ use Rattle.spec_server.specs.Exchanges.{Exchange, AloneRun, of_session, log_of}
 use Rattle.spec_serve.specs.Workers.{exchanges_of_worker}
 use Rattle.spec_serve.proofs.AllDone.{after_one}
 use Rattle.spec_serve.proofs.OwnPart.{own_part}
-use Rattle.spec_serve.proofs.Places.{logged-append}
+use Rattle.spec_serve.proofs.LeftPlaces.{logged-append}
 use Rattle.basis_board.specs.Played.{of_read, Supposes, AreFounded, IsOfWorker}
 
 abbrev AreAmong : List Logged → List Logged → Type 0

@@ -13,9 +13,9 @@ use Rattle.spec_server.specs.Machine.{ExactReply, State}
 use Rattle.spec_server.specs.Step.{Begun, Looks, Worked, Ends, Publishes, Concludes, GoesOn}
 use Rattle.spec_server.specs.Step as step
 use Rattle.spec_server.specs.Exchanges.{Exchange, AloneRun, of_session, log_of}
-use Rattle.spec_serve.proofs.Places.{logged-append}
+use Rattle.spec_serve.proofs.LeftPlaces.{logged-append}
 use Rattle.spec_serve.proofs.Stays.{look_stays}
-use Rattle.spec_serve.proofs.Places.{Plays-split}
+use Rattle.spec_serve.proofs.LeftPlaces.{Plays-split}
 use Rattle.spec_serve.proofs.OwnPart.{own_part, other_part}
 
 abbrev pub NoneClaimed : List ExactPlace → Type 0

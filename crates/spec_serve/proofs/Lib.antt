@@ -1,5 +1,5 @@
 -- Lemmas.
-pub mod Places
+pub mod LeftPlaces
 pub mod Stays
 pub mod InOrder
 pub mod OwnPart

@@ -11,7 +11,7 @@ use Rattle.spec_server.specs.Machine.{ExactAsk, State, opening}
 use Rattle.spec_server.specs.Step.{Begun, Looks, Begins, Worked, Ends, Publishes, Works}
 use Rattle.spec_server.specs.Step as step
 use Rattle.spec_server.specs.Exchanges.{Exchange, AloneRun}
-use Rattle.spec_serve.proofs.Places.{place_some}
+use Rattle.spec_serve.proofs.LeftPlaces.{place_some}
 use Rattle.spec_world.specs.declared.event.Act.TheVariants as act
 use Rattle.spec_world.specs.World.{Server, ExactAct, Stage, Idle, Counts, Sees, Solving, Puts, Claims, Writes}
 use Rattle.spec_world.specs.World.{Session, Left, solve, begun_left, looking, counted_left, read_of, seen_left}

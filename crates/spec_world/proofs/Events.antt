@@ -6,7 +6,7 @@ use Rattle.std.proofs.lemmas.List.{append-nil}
 use Rattle.spec_board.specs.declared.place.Place.TheVariants as place
 use Rattle.spec_board.specs.Places.{place_at, Plays, logged}
 use Rattle.spec_server.specs.Machine.{ExactReply}
-use Rattle.spec_serve.proofs.Places.{plays_keep_done}
+use Rattle.spec_serve.proofs.LeftPlaces.{plays_keep_done}
 use Rattle.spec_world.specs.declared.event.StepEnd.TheVariants.{Not}
 use Rattle.spec_world.specs.World.{Server, ExactEvent, ExactEnd, Session, World, opening_world, is_enabled, end_of}
 use Rattle.spec_world.specs.World.{Takes, StepBy, WorldStep, WorldRun}

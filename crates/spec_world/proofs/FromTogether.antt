@@ -9,7 +9,7 @@ use Rattle.spec_board.specs.Reads.{ExactRead}
 use Rattle.spec_board.specs.Places.{Plays, logged}
 use Rattle.spec_server.specs.Machine.{opening}
 use Rattle.spec_server.specs.Exchanges.{Exchange, AloneRun, of_session, log_of, RunFits}
-use Rattle.spec_serve.proofs.Places.{logged-append, Plays-append}
+use Rattle.spec_serve.proofs.LeftPlaces.{logged-append, Plays-append}
 use Rattle.spec_world.specs.declared.event.Act.TheVariants as act
 use Rattle.spec_world.specs.World.{Server, ExactAct, Idle, Session, World, opening_world, WorldRun}
 use Rattle.spec_world.specs.Sound.{reads_so_far, reads_of}

@@ -14,7 +14,7 @@ use Rattle.spec_board.specs.Places.{ExactPlace, place_at, with_place, IsShown, L
 use Rattle.spec_server.specs.Machine.{ExactReply, State}
 use Rattle.spec_server.specs.Step.{Pending, answered, after_put, Worked, Ends, Publishes, Works, Concludes}
 use Rattle.spec_server.specs.Exchanges.{Exchange}
-use Rattle.spec_serve.proofs.Places.{logged-append, Plays-split}
+use Rattle.spec_serve.proofs.LeftPlaces.{logged-append, Plays-split}
 use Rattle.spec_serve.proofs.Stays.{sees_stay}
 use Rattle.spec_world.specs.declared.event.Act.TheVariants as act
 use Rattle.spec_world.specs.World.{Server, ExactAct, Stage, Idle, Counts, Sees, Solving, Puts, Claims, Writes}

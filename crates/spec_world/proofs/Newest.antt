@@ -8,7 +8,7 @@ use Rattle.spec_board.specs.Reads.{Words, ExactRead, Looked, front, has_shape, S
 use Rattle.spec_board.specs.Places.{ExactPlace, place_at, IsShown, Answers, Logged, Plays}
 use Rattle.spec_board.proofs.SharedPlaces.{some_same}
 use Rattle.spec_text.specs.Words.{same}
-use Rattle.spec_serve.proofs.Places.{place_below, answers_keep}
+use Rattle.spec_serve.proofs.LeftPlaces.{place_below, answers_keep}
 use Rattle.spec_world.specs.Sound.{reads_in}
 use Rattle.spec_world.specs.Newest.{FindsFrom}
 

@@ -5,7 +5,7 @@ use Rattle.std.proofs.lemmas.Bool.{eqb-false}
 use Rattle.spec_board.specs.Places.{ExactPlace, Plays, logged}
 use Rattle.spec_server.specs.Machine.{State}
 use Rattle.spec_server.specs.Exchanges.{Exchange, AloneRun, of_session, log_of, RunFits}
-use Rattle.spec_serve.proofs.Places.{Plays-split}
+use Rattle.spec_serve.proofs.LeftPlaces.{Plays-split}
 use Rattle.spec_serve.proofs.OwnPart.{own_part, other_part}
 use Rattle.spec_world.specs.declared.event.Act.TheVariants as act
 use Rattle.spec_world.specs.World.{Server, Idle, Session, World, opening_world, ended}

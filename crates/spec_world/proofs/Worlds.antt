@@ -11,7 +11,7 @@ use Rattle.spec_board.specs.Reads.{ExactRead, basis_words}
 use Rattle.spec_board.specs.Places.{ExactPlace, place_at, Logged, Plays, logged}
 use Rattle.spec_server.specs.Machine.{opening}
 use Rattle.spec_server.specs.Exchanges.{AloneRun}
-use Rattle.spec_serve.proofs.Places.{answers_keep, answers_grow, answers_bounded, answers_before, Plays-append}
+use Rattle.spec_serve.proofs.LeftPlaces.{answers_keep, answers_grow, answers_bounded, answers_before, Plays-append}
 use Rattle.spec_world.specs.World.{Server, ExactEvent, ExactEnd, Session, World, opening_world, is_enabled, Takes}
 use Rattle.spec_world.specs.World.{StepBy, WorldStep, WorldRun}
 use Rattle.spec_world.specs.Sound.{asks_of, reads_of, asks_by, asks_in, reads_in, IsPublisher, IsSound}
