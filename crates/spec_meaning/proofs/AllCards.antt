@@ -13,10 +13,10 @@ use Rattle.spec_mps.specs.Reader.{start}
 use Rattle.spec_mps.specs.Steps.{has_begun, with_section}
 use Rattle.spec_meaning.specs.TextCards.{Lines, bytes_of, is_heading, begins, lines_up_to_end}
 use Rattle.spec_meaning.specs.TextCards.{lines_in, fields_in, cards_in, title_of}
-use Rattle.spec_meaning.proofs.SoFar.{before, behind, before_is, behind_is, is_section, same_section, SoFar}
-use Rattle.spec_meaning.proofs.SoFar.{nothing}
-use Rattle.spec_meaning.proofs.SoFar.{with_card, or_else, with_title, cards_to_come, title_to_come, cards_of}
-use Rattle.spec_meaning.proofs.SoFar.{whole, skipped_plain, data_plain, title_plain, cards_skip, cards_data}
+use Rattle.spec_meaning.proofs.CardsSoFar.{before, behind, before_is, behind_is, is_section, same_section, SoFar}
+use Rattle.spec_meaning.proofs.CardsSoFar.{nothing}
+use Rattle.spec_meaning.proofs.CardsSoFar.{with_card, or_else, with_title, cards_to_come, title_to_come, cards_of}
+use Rattle.spec_meaning.proofs.CardsSoFar.{whole, skipped_plain, data_plain, title_plain, cards_skip, cards_data}
 use Rattle.spec_meaning.proofs.Headings.{IsHeading, cards_begin, title_begin, cards_end, title_end}
 use Rattle.spec_meaning.proofs.Order.{IsOrdered, one_more}
 

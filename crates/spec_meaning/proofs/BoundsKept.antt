@@ -24,7 +24,7 @@ use Rattle.spec_mps.proofs.CardsDid.{BoundDid, UsedBound, SkippedBound, BoundsDi
 use Rattle.spec_mps.proofs.SoundColumns.{bounded_name}
 use Rattle.spec_mps.proofs.NarrowSoFar.{changed_length}
 use Rattle.spec_meaning.proofs.Frames.{changed_unseen}
-use Rattle.spec_meaning.proofs.SoFar.{is_section}
+use Rattle.spec_meaning.proofs.CardsSoFar.{is_section}
 use Rattle.spec_meaning.proofs.Order.{not_both}
 use Rattle.spec_meaning.proofs.SetsKept.{same_set_itself, same_set_true, same_as}
 use Rattle.spec_meaning.proofs.BoundTextsRead.{kind_is, texts_are}

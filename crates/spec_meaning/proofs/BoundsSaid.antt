@@ -30,9 +30,9 @@ use Rattle.spec_meaning.specs.TextCards.{Lines, cards_in}
 use Rattle.spec_meaning.specs.BoundCards.{bounds_of_column, upper_of, lower_of}
 use Rattle.spec_mps.proofs.CardsDid.{pairs_keep, column_puts, Opens, Same, New, columns_did}
 use Rattle.spec_meaning.proofs.Frames.{Leads, card_leads}
-use Rattle.spec_meaning.proofs.SoFar.{is_section, SoFar, with_card}
+use Rattle.spec_meaning.proofs.CardsSoFar.{is_section, SoFar, with_card}
 use Rattle.spec_meaning.proofs.Order.{IsOrdered, not_both}
-use Rattle.spec_meaning.proofs.Runs.{IsKept, spelled_by, stays, headed_leads}
+use Rattle.spec_meaning.proofs.CardRuns.{IsKept, spelled_by, stays, headed_leads}
 use Rattle.spec_meaning.proofs.ColumnsKept.{ColumnsSay}
 use Rattle.spec_meaning.proofs.ColumnsSaid.{columns_kept}
 use Rattle.spec_meaning.proofs.BoundsKept.{first_bound, column_names, column_place, AreBounded}

@@ -26,7 +26,7 @@ use Rattle.spec_meaning.specs.NumberCards.{Pairs, IsTheNumber, texts_for}
 use Rattle.spec_meaning.specs.ColumnCards.{column_on, numbers_on, named_columns, pairs_of_column}
 use Rattle.spec_mps.proofs.CardsDid.{PairDid, pairs_keep, column_puts, Opens, Same, New, columns_did}
 use Rattle.spec_mps.proofs.SoundColumns.{number_name}
-use Rattle.spec_meaning.proofs.SoFar.{is_section}
+use Rattle.spec_meaning.proofs.CardsSoFar.{is_section}
 use Rattle.spec_meaning.proofs.Order.{not_both}
 use Rattle.spec_meaning.proofs.RowViews.{RowView, row_view, place_in, place_by_view, every_kind, all_count, StandsFor}
 use Rattle.spec_meaning.proofs.PairsKept.{Put, PutAt, Tells, tells_push, number_is, texts_none}

@@ -16,9 +16,9 @@ use Rattle.spec_meaning.specs.NumberCards.{IsTheNumber, texts_for}
 use Rattle.spec_meaning.specs.ColumnCards.{named_columns, pairs_of_column}
 use Rattle.spec_meaning.specs.TextCards.{Lines, cards_in}
 use Rattle.spec_meaning.proofs.Frames.{Leads, card_leads, without_bounds}
-use Rattle.spec_meaning.proofs.SoFar.{is_section, SoFar, with_card}
+use Rattle.spec_meaning.proofs.CardsSoFar.{is_section, SoFar, with_card}
 use Rattle.spec_meaning.proofs.Order.{IsOrdered}
-use Rattle.spec_meaning.proofs.Runs.{IsKept, both_kept, spelled_by, stays, headed_leads}
+use Rattle.spec_meaning.proofs.CardRuns.{IsKept, both_kept, spelled_by, stays, headed_leads}
 use Rattle.spec_meaning.proofs.RowViews.{RowView, row_view, rows_stay, rows_stay_headed, objective_place}
 use Rattle.spec_meaning.proofs.RowsKept.{RowsSay, rows_kept, row_place}
 use Rattle.spec_meaning.proofs.ColumnLemmas.{none_named}

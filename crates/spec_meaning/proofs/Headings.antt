@@ -13,8 +13,8 @@ use Rattle.spec_mps.specs.Cards.{is_skipped, begins_with_blank}
 use Rattle.spec_mps.specs.Fields.{Fields, word_fields, text_at}
 use Rattle.spec_mps.specs.Shapes.{look_up, section_words, section_of}
 use Rattle.spec_meaning.specs.TextCards.{Lines, bytes_of, section_word, is_heading, begins}
-use Rattle.spec_meaning.proofs.SoFar.{before, behind, is_section, or_else, titled, lines_by}
-use Rattle.spec_meaning.proofs.SoFar.{cards_of, cards_to_come, title_by, title_to_come}
+use Rattle.spec_meaning.proofs.CardsSoFar.{before, behind, is_section, or_else, titled, lines_by}
+use Rattle.spec_meaning.proofs.CardsSoFar.{cards_of, cards_to_come, title_by, title_to_come}
 
 -- ---- the words of sections
 

@@ -1,9 +1,9 @@
 pub mod Frames
-pub mod SoFar
+pub mod CardsSoFar
 pub mod Headings
 pub mod Order
 pub mod AllCards
-pub mod Runs
+pub mod CardRuns
 pub mod RowViews
 pub mod RowsKept
 pub mod TitlesKept
@@ -22,6 +22,6 @@ pub mod BoundTextsRead
 pub mod BoundEffects
 pub mod BoundsKept
 pub mod BoundsSaid
-pub mod RowLimits
+pub mod LimitsByKind
 pub mod OneMeaning
 pub mod LaterFree

@@ -24,9 +24,9 @@ use Rattle.spec_mps.proofs.Sets.{Sets, part_of, pair_of}
 use Rattle.spec_meaning.specs.NumberCards.{Pairs, texts_for, side_of, set_on, pairs_on, used_pairs}
 use Rattle.spec_meaning.specs.TextCards.{Lines, cards_in}
 use Rattle.spec_meaning.proofs.Frames.{Leads, card_leads, changed_unseen}
-use Rattle.spec_meaning.proofs.SoFar.{is_section, same_section, begun_elsewhere, pushed}
+use Rattle.spec_meaning.proofs.CardsSoFar.{is_section, same_section, begun_elsewhere, pushed}
 use Rattle.spec_meaning.proofs.Order.{IsOrdered}
-use Rattle.spec_meaning.proofs.Runs.{IsKept, both_kept, spelled_by, stays, headed_leads}
+use Rattle.spec_meaning.proofs.CardRuns.{IsKept, both_kept, spelled_by, stays, headed_leads}
 use Rattle.spec_meaning.proofs.RowsKept.{RowsSay, rows_kept, row_place}
 use Rattle.spec_meaning.proofs.RowViews.{RowView, labels, many_labels, row_view, rows_stay, rows_stay_headed}
 use Rattle.spec_meaning.proofs.RowViews.{place_in, place_by_view, place_name, objective_place, counts}

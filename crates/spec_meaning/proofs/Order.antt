@@ -18,7 +18,7 @@ use Rattle.spec_mps.specs.Steps.{has_begun, with_section, may_follow, Progress, 
 use Rattle.spec_mps.specs.Steps.{section_card, data_card, on_reading, reading_of, step}
 use Rattle.spec_mps.proofs.CheckSteps.{step_ok, same_ok}
 use Rattle.spec_meaning.specs.TextCards.{bytes_of, fields_in}
-use Rattle.spec_meaning.proofs.SoFar.{is_section}
+use Rattle.spec_meaning.proofs.CardsSoFar.{is_section}
 
 -- ---- the order of sections
 

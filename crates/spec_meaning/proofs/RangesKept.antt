@@ -22,7 +22,7 @@ use Rattle.spec_mps.proofs.SpelledKept.{spelled_kept}
 use Rattle.spec_meaning.specs.NumberCards.{IsTheRange, IsRangeIf, IsTheRangeOf, texts_for, used_pairs}
 use Rattle.spec_meaning.specs.TextCards.{Lines, cards_in}
 use Rattle.spec_meaning.proofs.Frames.{Leads, without_side}
-use Rattle.spec_meaning.proofs.SoFar.{is_section}
+use Rattle.spec_meaning.proofs.CardsSoFar.{is_section}
 use Rattle.spec_meaning.proofs.PairsKept.{Put, PutNowhere}
 use Rattle.spec_meaning.proofs.NumbersKept.{number_at, row_put, row_counts, viewed_row, GivesNumbers, row_said, objective_said}
 use Rattle.spec_meaning.proofs.Order.{not_both}

@@ -18,8 +18,8 @@ use Rattle.spec_mps.specs.declared.target.Target.TheVariants.{Objective, Row}
 use Rattle.spec_mps.specs.Reader.{State, is_objective, row_at, place_of}
 use Rattle.spec_mps.specs.Steps.{begun, headed}
 use Rattle.spec_meaning.proofs.Frames.{without_side, without_range, Leads}
-use Rattle.spec_meaning.proofs.SoFar.{is_section}
-use Rattle.spec_meaning.proofs.Runs.{headed_leads}
+use Rattle.spec_meaning.proofs.CardsSoFar.{is_section}
+use Rattle.spec_meaning.proofs.CardRuns.{headed_leads}
 
 -- ---- kinds and names
 

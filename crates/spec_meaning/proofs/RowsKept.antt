@@ -25,8 +25,8 @@ use Rattle.spec_meaning.specs.RowCards.{Labels, typed, typed_rows, first_free, b
 use Rattle.spec_meaning.specs.TextCards.{Lines, cards_in}
 use Rattle.spec_mps.proofs.CardsDid.{rows_did}
 use Rattle.spec_meaning.proofs.Frames.{card_leads}
-use Rattle.spec_meaning.proofs.SoFar.{SoFar, with_card}
-use Rattle.spec_meaning.proofs.Runs.{IsKept, spelled_by}
+use Rattle.spec_meaning.proofs.CardsSoFar.{SoFar, with_card}
+use Rattle.spec_meaning.proofs.CardRuns.{IsKept, spelled_by}
 use Rattle.spec_meaning.proofs.RowViews.{RowView, labels, many_labels, row_view, rows_stay}
 use Rattle.spec_meaning.proofs.RowViews.{rows_stay_headed, place_in, place_by_view, no_label, IsPlaced}
 use Rattle.spec_meaning.proofs.RowViews.{placed_objective, placed_row, placed_new}

@@ -14,7 +14,7 @@ use Rattle.spec_mps.proofs.Sets.{Sets, Sides, Ranges, part_of, pair_of, card_is}
 use Rattle.spec_mps.proofs.CardsDid.{SetDid, card_did}
 use Rattle.spec_meaning.specs.NumberCards.{side_of}
 use Rattle.spec_meaning.specs.TextCards.{Lines, cards_in}
-use Rattle.spec_meaning.proofs.SoFar.{is_section, SoFar, nothing, pushed, with_card, with_title}
+use Rattle.spec_meaning.proofs.CardsSoFar.{is_section, SoFar, nothing, pushed, with_card, with_title}
 use Rattle.spec_meaning.proofs.AllCards.{all_of}
 use Rattle.spec_meaning.proofs.Order.{IsOrdered}
 use Rattle.spec_meaning.proofs.SetsKept.{side_is}

@@ -19,7 +19,7 @@ use Rattle.spec_mps.specs.Reader.{State, is_among}
 use Rattle.spec_mps.specs.Sides.{set_and_pairs, same_set, is_used}
 use Rattle.spec_mps.proofs.Sets.{Sets, part_of, shapes_are}
 use Rattle.spec_meaning.specs.NumberCards.{is_same_set, texts_for, side_of, set_on, pairs_on, used_pairs}
-use Rattle.spec_meaning.proofs.SoFar.{is_section}
+use Rattle.spec_meaning.proofs.CardsSoFar.{is_section}
 use Rattle.spec_meaning.proofs.Order.{not_both}
 use Rattle.spec_meaning.proofs.RowViews.{row_view, StandsFor}
 use Rattle.spec_meaning.proofs.PairsKept.{texts_none, Tells}

@@ -19,7 +19,7 @@ use Rattle.spec_mps.proofs.Sets.{Sides}
 use Rattle.spec_meaning.specs.NumberCards.{IsTheNumber, texts_for, used_pairs}
 use Rattle.spec_meaning.specs.TextCards.{Lines, cards_in}
 use Rattle.spec_meaning.proofs.Frames.{Leads, without_range}
-use Rattle.spec_meaning.proofs.SoFar.{is_section}
+use Rattle.spec_meaning.proofs.CardsSoFar.{is_section}
 use Rattle.spec_meaning.proofs.RowViews.{every_kind}
 use Rattle.spec_meaning.proofs.PairsKept.{Put, PutAt}
 use Rattle.spec_meaning.proofs.NumbersKept.{number_at, row_put, viewed_row, GivesNumbers, row_said, objective_said}

@@ -27,9 +27,9 @@ use Rattle.spec_mps.proofs.CheckSteps.{step_ok, must_ok, same_ok}
 use Rattle.spec_meaning.specs.RowCards.{second_word, sense_words, IsSenseWord, IsSenseOf}
 use Rattle.spec_meaning.specs.TextCards.{Lines, cards_in, title_of}
 use Rattle.spec_meaning.proofs.Frames.{Leads, card_leads}
-use Rattle.spec_meaning.proofs.SoFar.{is_section, SoFar, with_card, or_else, with_title}
+use Rattle.spec_meaning.proofs.CardsSoFar.{is_section, SoFar, with_card, or_else, with_title}
 use Rattle.spec_meaning.proofs.Order.{IsOrdered, not_both}
-use Rattle.spec_meaning.proofs.Runs.{IsKept, spelled_by, stays, headed_leads}
+use Rattle.spec_meaning.proofs.CardRuns.{IsKept, spelled_by, stays, headed_leads}
 
 seen_stays : (s : State) (part : Section) (word : List ℕ) (t : State) → headed (begun s part) part word ≡ Ok t →
     t.seen ≡ with_section s.seen part

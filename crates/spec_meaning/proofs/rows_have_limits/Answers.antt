@@ -1,4 +1,4 @@
-use Rattle.spec_meaning.proofs.RowLimits as limits
+use Rattle.spec_meaning.proofs.LimitsByKind as limits
 use Rattle.spec_meaning.proofs.rows_have_limits.Goals as goal
 
 pub returns-clause-at_most : goal.returns-clause-at_most

@@ -22,10 +22,10 @@ use Rattle.spec_mps.proofs.SpelledKept.{same_spelled}
 use Rattle.spec_meaning.specs.TextCards.{Lines, bytes_of}
 use Rattle.spec_meaning.specs.TextCards.{fields_in}
 use Rattle.spec_meaning.proofs.Frames.{Leads, card_leads}
-use Rattle.spec_meaning.proofs.SoFar.{is_section, SoFar}
-use Rattle.spec_meaning.proofs.SoFar.{nothing}
-use Rattle.spec_meaning.proofs.SoFar.{with_card, with_title}
-use Rattle.spec_meaning.proofs.SoFar.{whole}
+use Rattle.spec_meaning.proofs.CardsSoFar.{is_section, SoFar}
+use Rattle.spec_meaning.proofs.CardsSoFar.{nothing}
+use Rattle.spec_meaning.proofs.CardsSoFar.{with_card, with_title}
+use Rattle.spec_meaning.proofs.CardsSoFar.{whole}
 use Rattle.spec_meaning.proofs.Headings.{heading_is}
 use Rattle.spec_meaning.proofs.Order.{IsOrdered, start_ordered, begun_ordered}
 use Rattle.spec_meaning.proofs.Order.{LineDid, Skipped, Data, Heading, step_did}
