@@ -13,7 +13,7 @@ use Rattle.spec_simplex.specs.Start.{row_start, begun, first_costs, priced_run, 
 use Rattle.spec_simplex.specs.Phases.{PrimalEnded, PhasesEnd, Infeasible, Finished, wants_phase_one, is_stuck}
 use Rattle.spec_simplex.specs.Phases.{phase_one, phase_two, phase_two_run, run_from, phases_run}
 use Rattle.spec_simplex.proofs.RunParts.{then_ok}
-use Rattle.lp_solve.proofs.Runs.{IsAsLarge, IsEnd, run_ends}
+use Rattle.lp_solve.proofs.RunEnds.{IsAsLarge, IsEnd, run_ends}
 
 module _ (limit : Option ℕ) (budget : ℕ) (f : Form) where
   pub start_refused : (p : Past ℚ) → start_of limit f ≡ Err p → phases_run limit budget f ≡ Err (stop.Past p)

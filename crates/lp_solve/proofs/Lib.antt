@@ -6,7 +6,7 @@ pub mod Left
 pub mod Pushed
 pub mod ExactLemmas
 pub mod LineLemmas
-pub mod Runs
+pub mod RunEnds
 pub mod Solved
 pub mod Standing
 pub mod Unlimited

@@ -2,7 +2,7 @@
 -- and its end.
 use Rattle.std.proofs.Common.{sym, ◌∙◌}
 use Rattle.std.proofs.lemmas.Result.{err_from_is_err_and}
-use Rattle.lp_solve.proofs.Runs.{run_inside}
+use Rattle.lp_solve.proofs.RunEnds.{run_inside}
 use Rattle.lp_solve.proofs.BothPhases.{same_rows, same_cols, first_stops, is_infeasible, second_refused, second_stops}
 use Rattle.lp_solve.proofs.BothPhases.{is_finished}
 use Rattle.lp_solve.proofs.phases.both_phases.Goals as goal

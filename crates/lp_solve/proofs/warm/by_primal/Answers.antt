@@ -8,7 +8,7 @@ use Rattle.spec_simplex.specs.Eliminate.{IsBasisOf}
 use Rattle.spec_runs.specs.Warm.{after_run}
 use native.Mathlib.Numerals.{unary_clauses}
 use Rattle.spec_exact.specs.Narrow.{number_limit}
-use Rattle.lp_solve.proofs.Runs.{run_inside}
+use Rattle.lp_solve.proofs.RunEnds.{run_inside}
 use Rattle.lp_solve.proofs.WarmRuns.{primal_ends, primal_stops, primal_fits, primal_never_no, primal_leaves}
 use Rattle.lp_solve.proofs.warm.by_primal.Goals as goal
 
