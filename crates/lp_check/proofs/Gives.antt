@@ -4,7 +4,7 @@ use Rattle.std.proofs.Common.{refl, sym, ap, ap₂, ◌∙◌, pos}
 use Rattle.std.specs.Prelude.{⊤, ok_or, int_lt, neg_ℤ, ℤ}
 use Rattle.std.proofs.Common.{arith}
 use Rattle.std.proofs.lemmas.Int.{ints}
-use Rattle.spec_exact.proofs.Signs.{negative_test, positive_test}
+use Rattle.spec_exact.proofs.FractionSigns.{negative_test, positive_test}
 use Rattle.spec_check.specs.Run.{rows_ask_run, columns_give_run, crossed_run, column_allows_run, row_allows_run, better_run}
 use Rattle.spec_model.specs.Model.{bounds}
 use Rattle.std.specs.Ordering.{is_lt, is_gt, is_eq}

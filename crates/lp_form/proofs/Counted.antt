@@ -5,7 +5,7 @@ use Rattle.spec_simplex.specs.Form.{Form}
 use Rattle.spec_simplex.specs.Tableau.{is_basic}
 use Rattle.spec_exact.specs.Run.{made}
 use Rattle.spec_simplex.specs.Eliminate.{basis_at, basics_below, IsBasisOf}
-use Rattle.spec_exact.proofs.Stops.{length-made}
+use Rattle.spec_exact.proofs.RunsInOrder.{length-made}
 use Rattle.lp_form.specs.Count.{basics}
 
 pub basics_within : (statuses : List Status) (n : ℕ) → basics_below statuses n ≤ n

@@ -12,7 +12,7 @@ use Rattle.spec_exact.specs.Run.{◌>>=◌, refused_as, list_run, steps}
 use Rattle.spec_simplex.specs.Form.{Form, IsForm, IsFormWithin, limits_run, column_clash, least_cost, formed, form_of}
 use Rattle.spec_simplex.proofs.FormOfModel.{form_is as form_of_is}
 use Rattle.lp_form.specs.Answer.{IsFaultOf, IsStopOf}
-use Rattle.spec_exact.proofs.Stops.{list_more}
+use Rattle.spec_exact.proofs.RunsInOrder.{list_more}
 use Rattle.spec_exact.specs.Narrow.{number_limit}
 use Rattle.lp_form.specs.Bounds.{AreBounds}
 use Rattle.lp_form.specs.Fault.{stop_of}

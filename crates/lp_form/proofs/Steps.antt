@@ -5,7 +5,7 @@ use Rattle.std.proofs.lemmas.List.{append_assoc, take_more_set, take_more, take_
 use Rattle.std.proofs.Math.Nat.{pow-le-pow_right}
 use Rattle.spec_pivot.specs.declared.status.Status.{Status}
 use Rattle.spec_exact.specs.Run.{made}
-use Rattle.spec_exact.proofs.Stops.{made_more}
+use Rattle.spec_exact.proofs.RunsInOrder.{made_more}
 use Rattle.spec_simplex.specs.Tableau.{is_basic}
 use Rattle.spec_simplex.specs.Eliminate.{basics_below}
 use Rattle.spec_board.specs.Words.{word_from, columns_of, rows_of, status_at, unpacked}

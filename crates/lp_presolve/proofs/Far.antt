@@ -6,7 +6,7 @@ use Rattle.std.proofs.lemmas.Bool.{le-leb, lt-leb}
 use Rattle.std.proofs.Math.Nat.{le-div_iff_mul-le, div-lt_iff_lt-mul}
 use borrow.Author.Differences.{at_most_in, below_in, lt-true, lt-false}
 use Rattle.spec_exact.specs.Fraction.{ℚ, neg_ℚ, whole, lt_ℚ}
-use Rattle.spec_exact.proofs.Signs.{above_size}
+use Rattle.spec_exact.proofs.FractionSigns.{above_size}
 use Rattle.spec_presolve.specs.Choose.{is_far}
 
 -- k, over d, against the whole number n

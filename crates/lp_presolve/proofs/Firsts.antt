@@ -5,7 +5,7 @@ use Rattle.std.proofs.lemmas.Bool.{cases_eq}
 use Rattle.spec_exact.specs.Fraction.{ℚ, 0ℚ, eq_ℚ}
 use Rattle.spec_exact.specs.declared.past.Past.{Past}
 use Rattle.spec_exact.specs.Run.{Run, ◌>>=◌}
-use Rattle.spec_exact.proofs.Stops.{steps_stop}
+use Rattle.spec_exact.proofs.RunsInOrder.{steps_stop}
 use Rattle.spec_model.specs.Model.{Model, coefficient}
 use Rattle.spec_presolve.specs.declared.reduction.InRow.TheVariants.{More}
 use Rattle.spec_presolve.specs.Choose.{unless, first, in_row_below, one_more}

@@ -3,7 +3,7 @@ use Rattle.std.proofs.Common.{◌≡◌, ℕ, ◌<◌, ◌≤◌, List, length, 
 use Rattle.spec_exact.specs.Fraction.{ℚ}
 use Rattle.spec_exact.specs.declared.past.Past.{Past}
 use Rattle.spec_exact.specs.Run.{Run, ◌>>=◌, less_product, plus_product, steps}
-use Rattle.spec_exact.proofs.Stops.{steps_stop}
+use Rattle.spec_exact.proofs.RunsInOrder.{steps_stop}
 use Rattle.spec_exact.specs.Narrow.{number_limit}
 use Rattle.spec_model.specs.Model.{Model, ExactRow, ExactColumn, no_column, height, row, column, cost, coefficient, entry_of}
 use Rattle.spec_edit.specs.Changes.{with_rhs, with_offset, without_column}

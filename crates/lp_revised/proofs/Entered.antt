@@ -8,7 +8,7 @@ use Rattle.spec_simplex.specs.Form.{Form}
 use Rattle.spec_exact.specs.Run.{Run, ◌>>=◌, steps}
 use Rattle.spec_simplex.specs.Tableau.{Tableau, all_columns}
 use Rattle.spec_simplex.specs.Step.{or_enters}
-use Rattle.spec_exact.proofs.Stops.{steps_more, steps_stop}
+use Rattle.spec_exact.proofs.RunsInOrder.{steps_more, steps_stop}
 use Rattle.spec_exact.specs.Narrow.{number_limit}
 use Rattle.spec_factor.specs.Revised.{way_run, or_priced, entering_run}
 

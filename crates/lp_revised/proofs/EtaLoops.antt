@@ -8,7 +8,7 @@ use Rattle.spec_exact.specs.Fraction.{ℚ, 0ℚ}
 use Rattle.spec_exact.specs.Narrow.{IsNarrow, number_limit}
 use Rattle.spec_exact.specs.declared.past.Past.{Past}
 use Rattle.spec_exact.specs.Run.{Run, quotient_run, less_product}
-use Rattle.spec_exact.proofs.Stops.{length-made}
+use Rattle.spec_exact.proofs.RunsInOrder.{length-made}
 use Rattle.spec_model.specs.Model.{entry_of}
 use Rattle.spec_factor.specs.Factors.{Pair, forward_run, backward_run}
 use Rattle.lp_revised.specs.Eta.{IsEta, pair_of}

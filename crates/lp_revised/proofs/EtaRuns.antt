@@ -9,7 +9,7 @@ use Rattle.spec_exact.specs.declared.past.Past.{Past}
 use Rattle.spec_model.specs.Model.{entry_of}
 use Rattle.spec_pivot.proofs.Pivot.{by_eq}
 use Rattle.spec_exact.specs.Run.{Run, ◌>>=◌, quotient_run, less_product, steps, list_run}
-use Rattle.spec_exact.proofs.Stops.{get_or-made, list_stops, steps_more, steps_stop}
+use Rattle.spec_exact.proofs.RunsInOrder.{get_or-made, list_stops, steps_more, steps_stop}
 use Rattle.spec_factor.specs.Factors.{Pair, pair_at, forward_run, backward_run}
 use Rattle.lp_revised.specs.Eta.{IsEta, pair_of}
 use Rattle.lp_revised.proofs.Gaps.{Entries, row_at, value_at, bound, less_zero_left, less_zero_right, entry_there}

@@ -19,7 +19,7 @@ use Rattle.spec_model.specs.Model.{entry_of}
 use Rattle.spec_model.specs.Kept.{AreEntries}
 use Rattle.spec_pivot.proofs.Pivot.{by_eq}
 use Rattle.spec_exact.specs.Run.{Run, ◌>>=◌, difference_run, less_product, steps, list_run}
-use Rattle.spec_exact.proofs.Stops.{list_more, steps_more}
+use Rattle.spec_exact.proofs.RunsInOrder.{list_more, steps_more}
 use Rattle.spec_exact.proofs.Narrow.{zero_narrow}
 use Rattle.spec_simplex.proofs.ListIndices.{by_lt}
 

@@ -8,7 +8,7 @@ use Rattle.spec_exact.specs.Fraction.{ℚ, 0ℚ, eq_ℚ}
 use Rattle.spec_exact.proofs.Same.{eq_test, eq_if}
 use Rattle.spec_pivot.specs.declared.status.Status.{Status}
 use Rattle.spec_exact.specs.Run.{◌>>=◌, steps}
-use Rattle.spec_exact.proofs.Stops.{steps_more, steps_stop}
+use Rattle.spec_exact.proofs.RunsInOrder.{steps_more, steps_stop}
 use Rattle.spec_exact.specs.Narrow.{number_limit}
 use Rattle.spec_simplex.specs.Tableau.{is_basic}
 use Rattle.spec_simplex.specs.Form.{Form}

@@ -10,7 +10,7 @@ use Rattle.spec_exact.specs.Narrow.{IsNarrow}
 use Rattle.spec_model.specs.Model.{entry_of}
 use Rattle.spec_pivot.proofs.Pivot.{by_eq}
 use Rattle.spec_exact.specs.Run.{made}
-use Rattle.spec_exact.proofs.Stops.{length-made, get_or-made}
+use Rattle.spec_exact.proofs.RunsInOrder.{length-made, get_or-made}
 use Rattle.spec_edit.proofs.Coefficients.{none_at}
 use Rattle.lp_revised.specs.Eta.{AreItems, pair_of}
 use Rattle.lp_revised.proofs.Gaps.{Entries}

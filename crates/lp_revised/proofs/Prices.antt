@@ -12,7 +12,7 @@ use Rattle.spec_model.specs.Kept.{AreEntries}
 use Rattle.spec_simplex.specs.Form.{Form}
 use Rattle.spec_exact.specs.Run.{Run, less_product, steps}
 use Rattle.spec_simplex.specs.Start.{cost_at}
-use Rattle.spec_exact.proofs.Stops.{steps_more, steps_stop}
+use Rattle.spec_exact.proofs.RunsInOrder.{steps_more, steps_stop}
 use Rattle.spec_factor.specs.Factors.{column_entry}
 use Rattle.spec_factor.specs.Revised.{price_run}
 use Rattle.lp_revised.proofs.Gaps.{Entries, row_at, value_at, bound, less_zero_right, entry_there, row_inside, bound_at}

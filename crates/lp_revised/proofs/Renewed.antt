@@ -7,7 +7,7 @@ use Rattle.spec_simplex.specs.declared.ends.RunStop.TheVariants as cause
 use Rattle.spec_simplex.specs.Form.{Form}
 use Rattle.spec_exact.specs.Run.{◌>>=◌}
 use Rattle.spec_simplex.specs.Tableau.{Tableau, form_columns}
-use Rattle.spec_exact.proofs.Stops.{length-made}
+use Rattle.spec_exact.proofs.RunsInOrder.{length-made}
 use Rattle.spec_exact.specs.Narrow.{number_limit}
 use Rattle.spec_runs.specs.Cold.{basis_status}
 use Rattle.spec_factor.specs.Factors.{Factors, factor_run}

@@ -4,7 +4,7 @@ use Rattle.spec_exact.specs.Fraction.{ℚ, 0ℚ}
 use Rattle.spec_simplex.specs.declared.ends.RowStart.{RowStart}
 use Rattle.spec_exact.specs.Run.{made}
 use Rattle.spec_simplex.specs.Tableau.{Tableau, entry_at}
-use Rattle.spec_exact.proofs.Stops.{get_or-made}
+use Rattle.spec_exact.proofs.RunsInOrder.{get_or-made}
 use Rattle.spec_factor.specs.Revised.{seen_entry, seen}
 
 pub seen_at : (starts : List (RowStart ℚ)) (t : Tableau) (j : ℕ) (z : List ℚ) (p : ℕ) → p < t.rows →

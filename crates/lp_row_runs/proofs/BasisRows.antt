@@ -8,7 +8,7 @@ use Rattle.spec_exact.specs.Sums.{sum_below}
 use Rattle.spec_exact.specs.Run.{Run, ◌>>=◌, refused_as}
 use Rattle.spec_exact.proofs.Field.{*ℚ_zero, +ℚ_zero}
 use Rattle.spec_exact.proofs.Ruleset.{ring}
-use Rattle.spec_exact.proofs.Stops.{length-made, get_or-made}
+use Rattle.spec_exact.proofs.RunsInOrder.{length-made, get_or-made}
 use Rattle.spec_exact.proofs.Sums.{sum_below_same, sum_below-sub}
 use Rattle.spec_pivot.specs.declared.status.Status.{Status}
 use Rattle.spec_pivot.specs.declared.status.Status.TheVariants.{Basic, AtLower}

@@ -8,7 +8,7 @@ use Rattle.std.proofs.lemmas.List.{ext_get_or, get_or_default}
 use Rattle.spec_exact.specs.Fraction.{ℚ, 0ℚ, eq_ℚ, over, ◌-ℚ◌, ◌*ℚ◌}
 use Rattle.spec_exact.proofs.Ruleset.{ring}
 use Rattle.spec_exact.specs.Run.{made}
-use Rattle.spec_exact.proofs.Stops.{length-made, get_or-made, steps_more}
+use Rattle.spec_exact.proofs.RunsInOrder.{length-made, get_or-made, steps_more}
 use Rattle.spec_pivot.specs.declared.status.Status.{Status}
 use Rattle.spec_pivot.specs.declared.status.Status.TheVariants.{Basic}
 use Rattle.spec_pivot.specs.Tableau.{pivot_row, pivoted}

@@ -11,7 +11,7 @@ use Rattle.spec_exact.specs.Run.{made}
 use Rattle.spec_exact.proofs.Ring.{◌⊗◌, v0, v1, v2}
 use Rattle.spec_exact.proofs.Whole.{by_ring}
 use Rattle.spec_exact.proofs.Fraction.{over-same, over-parts}
-use Rattle.spec_exact.proofs.Stops.{length-made, get_or-made}
+use Rattle.spec_exact.proofs.RunsInOrder.{length-made, get_or-made}
 use Rattle.spec_pivot.proofs.Pivot.{by_eq}
 use Rattle.spec_simplex.specs.Tableau.{Tableau, form_columns, entry_at, basic_at, value_at}
 use Rattle.lp_natural.specs.Below.{below}

@@ -7,7 +7,7 @@ use Rattle.std.proofs.lemmas.List.{get_or_default}
 use Rattle.std.specs.Ordering.{is_lt, is_gt}
 use Rattle.spec_exact.specs.Fraction.{ℚ, over}
 use Rattle.spec_exact.specs.Limit.{sign}
-use Rattle.spec_exact.proofs.Signs.{below_zero, above_zero}
+use Rattle.spec_exact.proofs.FractionSigns.{below_zero, above_zero}
 use Rattle.spec_pivot.specs.declared.status.Status.{Status}
 use Rattle.spec_pivot.specs.declared.status.Status.TheVariants.{Basic, AtLower, AtUpper, AtZero}
 use Rattle.spec_simplex.specs.Tableau.{Tableau, form_columns}

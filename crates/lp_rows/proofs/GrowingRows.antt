@@ -3,7 +3,7 @@ use Rattle.std.proofs.Common.{◌≡◌, ℕ, List, length, get_or, sym, ◌∙�
 use Rattle.std.proofs.Common.{arith}
 use Rattle.std.proofs.lemmas.List.{ext_get_or}
 use Rattle.spec_exact.specs.Run.{made}
-use Rattle.spec_exact.proofs.Stops.{length-made, get_or-made}
+use Rattle.spec_exact.proofs.RunsInOrder.{length-made, get_or-made}
 
 -- a list, item by item
 pub made_of : {A : Type 0} (n : ℕ) (xs : List A) (d : A) → length xs ≡ n → made n (λ i. get_or xs i d) ≡ xs

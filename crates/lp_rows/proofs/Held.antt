@@ -6,7 +6,7 @@ use Rattle.std.proofs.lemmas.List.{length-map}
 use Rattle.std.proofs.Math.ListN.{get_or-map}
 use Rattle.spec_exact.specs.Fraction.{ℚ, 0ℚ}
 use Rattle.spec_exact.specs.Run.{made}
-use Rattle.spec_exact.proofs.Stops.{length-made, get_or-made}
+use Rattle.spec_exact.proofs.RunsInOrder.{length-made, get_or-made}
 use Rattle.spec_pivot.specs.declared.status.Status.{Status}
 use Rattle.spec_pivot.specs.declared.status.Status.TheVariants.{Basic, AtLower, AtUpper, AtZero}
 use Rattle.spec_pivot.specs.Simplex.{Stands}

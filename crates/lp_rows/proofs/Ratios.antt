@@ -18,10 +18,10 @@ use Rattle.spec_exact.proofs.Fraction.{over-same}
 use Rattle.spec_exact.proofs.Field.{by_ring_ℚ, over-*, whole_over}
 use Rattle.spec_exact.proofs.Order.{≤ℚ-over}
 use Rattle.spec_exact.proofs.Strict.{neg_mono}
-use Rattle.spec_exact.proofs.Sizes.{abs_above, abs_at_most}
+use Rattle.spec_exact.proofs.Magnitudes.{abs_above, abs_at_most}
 use Rattle.lp_natural.specs.Whole.{whole}
 use Rattle.spec_exact.specs.Limit.{sign}
-use Rattle.spec_exact.proofs.Signs.{below_zero, above_zero}
+use Rattle.spec_exact.proofs.FractionSigns.{below_zero, above_zero}
 use Rattle.std.specs.Ordering.{is_lt, is_gt}
 use Rattle.lp_ratio.proofs.Fractions.{sign_over}
 use Rattle.lp_rows.specs.Row.{turned_if}

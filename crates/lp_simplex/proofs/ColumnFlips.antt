@@ -10,7 +10,7 @@ use Rattle.spec_simplex.specs.declared.ends.RunStop.TheVariants as stop
 use Rattle.spec_exact.specs.Run.{refused_as, steps}
 use Rattle.spec_simplex.specs.Step.{other_bound, flip_way, flip_run, flipped, CanFlip}
 use Rattle.spec_simplex.specs.Tableau.{Tableau, all_columns, reduced_at, status_at, lower_at, upper_at, is_fixed}
-use Rattle.spec_exact.proofs.Stops.{steps_more, steps_stop}
+use Rattle.spec_exact.proofs.RunsInOrder.{steps_more, steps_stop}
 use Rattle.spec_simplex.proofs.RunParts.{then_ok, refused_ok}
 use Rattle.spec_simplex.specs.Dual.{Reached, one_more, flip_by, flip_next, flips_run}
 use Rattle.spec_simplex.specs.Fit.{needs_flip, needs_flip_at}

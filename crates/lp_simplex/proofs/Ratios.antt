@@ -19,7 +19,7 @@ use Rattle.spec_exact.specs.Run.{Run, ◌>>=◌, difference_run, quotient_run, o
 use Rattle.spec_simplex.specs.Tableau.{Tableau, entry_at, basic_at, value_at, lower_at, upper_at}
 use Rattle.spec_simplex.specs.Step.{directed, other_bound, range_run, rise_run, fall_run, gap_run}
 use Rattle.spec_simplex.specs.Step.{better_by, better_run, with_gap, best_with, best_run, NamesBound}
-use Rattle.spec_exact.proofs.Stops.{steps_stop}
+use Rattle.spec_exact.proofs.RunsInOrder.{steps_stop}
 use Rattle.spec_exact.proofs.Results.{told_ok}
 use Rattle.spec_simplex.proofs.RunParts.{then_ok, difference_ok}
 use Rattle.spec_simplex.proofs.Tests.{abs_falling, abs_rising}

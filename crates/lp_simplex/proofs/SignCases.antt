@@ -4,7 +4,7 @@ use Rattle.std.proofs.Common.{None, Ok, Bool, true, false, cond, refl, ap, ap₂
 use Rattle.std.specs.Ordering.{is_lt, is_gt}
 use Rattle.spec_exact.specs.Fraction.{ℚ, 0ℚ, lt_ℚ}
 use Rattle.spec_exact.specs.Limit.{sign}
-use Rattle.spec_exact.proofs.Signs.{below_zero, above_zero}
+use Rattle.spec_exact.proofs.FractionSigns.{below_zero, above_zero}
 use Rattle.spec_pivot.specs.declared.status.Status.{Status}
 use Rattle.spec_pivot.specs.declared.status.Status.TheVariants.{Basic, AtLower, AtUpper, AtZero}
 use Rattle.spec_simplex.specs.Step.{directed, rise_run, fall_run, gap_run, way_by}

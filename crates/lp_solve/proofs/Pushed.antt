@@ -4,7 +4,7 @@ use Rattle.std.proofs.lemmas.List.Elements.{All-push}
 use Rattle.spec_exact.specs.Fraction.{ℚ}
 use Rattle.spec_exact.specs.Narrow.{IsNarrow}
 use Rattle.spec_exact.specs.Run.{made}
-use Rattle.spec_exact.proofs.Stops.{made_more}
+use Rattle.spec_exact.proofs.RunsInOrder.{made_more}
 
 -- one number more
 pub pushed : (f : ℕ → ℚ) (n : ℕ) (before after : List ℚ) (v : ℚ) → after ≡ before ++ v ∷ [] → IsNarrow v → v ≡ f n →

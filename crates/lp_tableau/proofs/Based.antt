@@ -14,7 +14,7 @@ use Rattle.spec_exact.specs.Run.{Run, ◌>>=◌, refused_as, less_product, steps
 use Rattle.spec_simplex.specs.Start.{priced_run, with_reduced}
 use Rattle.spec_simplex.specs.Tableau.{Tableau, IsTableauShape, all_columns, entry_at, basic_at, value_at, status_at}
 use Rattle.spec_exact.proofs.Results.{ok_not_err, err_same}
-use Rattle.spec_exact.proofs.Stops.{steps_stop, length-made, All-made}
+use Rattle.spec_exact.proofs.RunsInOrder.{steps_stop, length-made, All-made}
 use Rattle.spec_simplex.specs.Tableau.{is_basic}
 use Rattle.spec_simplex.specs.declared.ends.StartStop.{StartStop}
 use Rattle.spec_simplex.specs.declared.ends.StartStop.TheVariants as start

@@ -10,7 +10,7 @@ use Rattle.spec_exact.specs.Fraction.{ℚ, 0ℚ}
 use Rattle.spec_exact.specs.declared.past.Past.{Past}
 use Rattle.spec_exact.specs.Run.{Run, ◌>>=◌, list_run}
 use Rattle.spec_simplex.specs.Tableau.{at_place}
-use Rattle.spec_exact.proofs.Stops.{list_more, list_stops}
+use Rattle.spec_exact.proofs.RunsInOrder.{list_more, list_stops}
 use Rattle.lp_tableau.specs.Grid.{IsGrid}
 
 -- the first k items are those of the run, and the others are as they were

@@ -14,7 +14,7 @@ use Rattle.spec_exact.specs.Run.{Run, ◌>>=◌, refused_as, steps, made}
 use Rattle.spec_simplex.specs.Start.{start_entry}
 use Rattle.spec_simplex.specs.Step.{turned_run}
 use Rattle.spec_simplex.specs.Tableau.{at_place}
-use Rattle.spec_exact.proofs.Stops.{steps_more, steps_stop, length-made, All-made}
+use Rattle.spec_exact.proofs.RunsInOrder.{steps_more, steps_stop, length-made, All-made}
 use Rattle.spec_simplex.specs.Tableau.{is_basic}
 use Rattle.spec_simplex.specs.declared.ends.StartStop.{StartStop}
 use Rattle.spec_simplex.specs.declared.ends.StartStop.TheVariants as start

@@ -5,7 +5,7 @@ use Rattle.spec_exact.specs.Fraction.{ℚ, 0ℚ}
 use Rattle.spec_exact.specs.Laws.{IsWithin}
 use Rattle.spec_exact.specs.declared.past.Past.{Past}
 use Rattle.spec_exact.specs.Run.{Run, ◌>>=◌, steps, less_product}
-use Rattle.spec_exact.proofs.Stops.{steps_more}
+use Rattle.spec_exact.proofs.RunsInOrder.{steps_more}
 use Rattle.spec_exact.specs.Narrow.{number_limit}
 use Rattle.spec_simplex.specs.Form.{Form}
 use Rattle.spec_simplex.specs.Tableau.{Tableau, basic_at, entry_at}

@@ -21,7 +21,7 @@ use Rattle.spec_simplex.specs.Start.{row_start, first_costs, priced_run, with_re
 use Rattle.spec_simplex.specs.Start.{start_row, start_basic, start_entry, start_value, start_status, start_at}
 use Rattle.spec_simplex.specs.Eliminate.{equation}
 use Rattle.spec_simplex.specs.Start.{is_wanting, artificial_upper, one_at, logical_sign, structural_entry}
-use Rattle.spec_exact.proofs.Stops.{length-made, All-made, get_or-made, made_same}
+use Rattle.spec_exact.proofs.RunsInOrder.{length-made, All-made, get_or-made, made_same}
 use Rattle.lp_tableau.specs.Grid.{rows_of, flat, IsBlock}
 use Rattle.lp_tableau.specs.Parts.{tableau_of}
 use Rattle.lp_tableau.specs.Begun.{is_below, priced_start, start_front}

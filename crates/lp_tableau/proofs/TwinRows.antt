@@ -13,7 +13,7 @@ use Rattle.spec_exact.specs.declared.past.Past.{Past}
 use Rattle.spec_exact.specs.Run.{Run, ◌>>=◌, list_run, made, quotient_run, less_product}
 use Rattle.spec_simplex.specs.Tableau.{at_place}
 use Rattle.spec_simplex.specs.Step.{scaled_run, cleared_run, turned_run}
-use Rattle.spec_exact.proofs.Stops.{list_more, length-list_run, length-made, get_or-made}
+use Rattle.spec_exact.proofs.RunsInOrder.{list_more, length-list_run, length-made, get_or-made}
 use Rattle.lp_tableau.specs.Answer.{GivesRun}
 use Rattle.lp_tableau.specs.Grid.{IsGrid}
 use Rattle.lp_tableau.specs.Twins.{IsTwinned, signed, twin, with_twins, twinned, scaled_by, cleared_by}

@@ -14,7 +14,7 @@ use Rattle.spec_simplex.specs.Form.{Form, form_lower, form_upper}
 use Rattle.spec_simplex.specs.Start.{first_status}
 use Rattle.spec_simplex.specs.Tableau.{is_basic}
 use Rattle.spec_simplex.specs.Eliminate.{basis_at, basics_below, CanStand}
-use Rattle.spec_exact.proofs.Stops.{length-made, get_or-made}
+use Rattle.spec_exact.proofs.RunsInOrder.{length-made, get_or-made}
 use Rattle.spec_bas.specs.Steps.{State, start, mark, is_marked, marked_status, marked_basis, usual_status, lower_first}
 use Rattle.spec_bas.specs.Steps.{upper_status}
 use Rattle.spec_bas.specs.Fits.{IsMarking}

@@ -10,7 +10,7 @@ use Rattle.spec_pivot.specs.declared.status.Status.{Status}
 use Rattle.spec_exact.specs.Run.{made}
 use Rattle.spec_simplex.specs.Tableau.{is_basic}
 use Rattle.spec_simplex.specs.Eliminate.{basis_at, basics_below}
-use Rattle.spec_exact.proofs.Stops.{length-made, get_or-made}
+use Rattle.spec_exact.proofs.RunsInOrder.{length-made, get_or-made}
 use Rattle.spec_bas.specs.Written.{chosen}
 
 -- ---- lists

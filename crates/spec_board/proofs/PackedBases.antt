@@ -6,7 +6,7 @@ use Rattle.spec_exact.specs.Fraction.{ℚ}
 use Rattle.spec_pivot.specs.declared.status.Status.{Status}
 use Rattle.spec_pivot.specs.declared.status.Status.TheVariants.{Basic, AtLower, AtUpper, AtZero}
 use Rattle.spec_simplex.specs.Form.{Form, IsForm, form_lower, form_upper}
-use Rattle.spec_exact.proofs.Stops.{length-made, get_or-made}
+use Rattle.spec_exact.proofs.RunsInOrder.{length-made, get_or-made}
 use Rattle.spec_simplex.specs.Eliminate.{basis_at, basics_below, CanStand, IsBasisOf}
 use Rattle.spec_board.specs.Words.{bounds_code, status_code, status_of, suits, words_of, places}
 use Rattle.spec_board.specs.Words.{form_code, basis_code, shape_of, packed, unpacked, rows_of, cols_of}

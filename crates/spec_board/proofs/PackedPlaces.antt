@@ -8,7 +8,7 @@ use Rattle.spec_exact.specs.Fraction.{ℚ}
 use Rattle.spec_pivot.specs.declared.status.Status.{Status}
 use Rattle.spec_pivot.specs.declared.status.Status.TheVariants.{Basic, AtLower, AtUpper, AtZero}
 use Rattle.spec_simplex.specs.Form.{Form, IsForm, form_lower, form_upper}
-use Rattle.spec_exact.proofs.Stops.{length-made, get_or-made, All-made}
+use Rattle.spec_exact.proofs.RunsInOrder.{length-made, get_or-made, All-made}
 use Rattle.spec_board.specs.Words.{bounds_code, status_code, word_from, words_of, places, code_at, form_code}
 use Rattle.spec_board.specs.Words.{basis_code, shape_of, packed, rows_of, cols_of, columns_of, bounds_at}
 use Rattle.spec_board.proofs.Digits.{word_fits, digit_is}

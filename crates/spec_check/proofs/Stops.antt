@@ -5,7 +5,7 @@ use Rattle.spec_exact.specs.Fraction.{ℚ}
 use Rattle.spec_exact.specs.Limit.{add, sub, mul}
 use Rattle.spec_exact.specs.declared.past.Op.TheVariants.{Add, Sub, Mul}
 use Rattle.spec_exact.specs.Run.{◌>>=◌, product_run, sum_run, difference_run}
-use Rattle.spec_exact.proofs.Stops.{refused_then, steps_stop}
+use Rattle.spec_exact.proofs.RunsInOrder.{refused_then, steps_stop}
 use Rattle.spec_check.specs.declared.certificate.CheckStop.{CheckStop}
 use Rattle.spec_check.specs.declared.certificate.CheckStop.TheVariants as stop
 use Rattle.spec_check.specs.Run.{Run, step, each, plus_product, less_product}

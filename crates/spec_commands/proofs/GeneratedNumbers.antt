@@ -3,7 +3,7 @@ use Rattle.std.proofs.Common.{◌≡◌, ◌≢◌, ℕ, ◌+◌, ◌%◌, ◌^�
 use Rattle.std.specs.Prelude.{unsigned_abs}
 use Rattle.std.proofs.lemmas.Int.{ints}
 use Rattle.spec_exact.specs.Fraction.{ℚ, 0ℚ, ◌≤ℚ◌, ◌<ℚ◌, whole}
-use Rattle.spec_exact.proofs.Sizes.{abs_above}
+use Rattle.spec_exact.proofs.Magnitudes.{abs_above}
 use Rattle.spec_exact.specs.Narrow.{IsNarrow}
 use Rattle.spec_model.specs.Kept.{IsBound}
 use Rattle.spec_commands.specs.Draws.{draw}

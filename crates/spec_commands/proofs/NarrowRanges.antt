@@ -10,7 +10,7 @@ use Rattle.spec_exact.specs.Narrow.{IsNarrow, number_limit}
 use Rattle.spec_exact.specs.Run.{Run, ◌>>=◌, refused_as, sum_run, difference_run, quotient_run, order_run}
 use Rattle.spec_exact.specs.Run.{less_product}
 use Rattle.spec_exact.proofs.Narrow.{zero_narrow}
-use Rattle.spec_exact.proofs.Stops.{All-made}
+use Rattle.spec_exact.proofs.RunsInOrder.{All-made}
 use Rattle.spec_model.specs.declared.parts.Sense.{Sense}
 use Rattle.spec_model.specs.Model.{Model, width, row, cost, no_column}
 use Rattle.spec_pivot.specs.declared.status.Status.{Status}

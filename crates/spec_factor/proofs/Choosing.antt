@@ -19,7 +19,7 @@ use Rattle.spec_pivot.proofs.Values.{by_basic}
 use Rattle.spec_pivot.proofs.Ray.{delta_sym}
 use Rattle.spec_exact.specs.Run.{refused_as}
 use Rattle.spec_simplex.specs.Form.{Form}
-use Rattle.spec_exact.proofs.Stops.{length-made, get_or-made}
+use Rattle.spec_exact.proofs.RunsInOrder.{length-made, get_or-made}
 use Rattle.spec_simplex.specs.Tableau.{is_basic}
 use Rattle.spec_simplex.proofs.RunParts.{then_ok, refused_ok, steps_ok}
 use Rattle.spec_simplex.proofs.ListIndices.{by_lt}

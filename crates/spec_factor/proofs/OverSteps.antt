@@ -26,7 +26,7 @@ use Rattle.spec_simplex.specs.Step.{entering, directed, other_bound, best_run, c
 use Rattle.spec_simplex.specs.Step.{choice_of, choice_run, is_place, moved_at, moved_run, flip_way}
 use Rattle.spec_simplex.specs.Step.{flipped, flip_run, shifted_run, exchanged, turned, pivot_run}
 use Rattle.spec_simplex.specs.Phases.{done_run}
-use Rattle.spec_exact.proofs.Stops.{length-made, get_or-made}
+use Rattle.spec_exact.proofs.RunsInOrder.{length-made, get_or-made}
 use Rattle.spec_simplex.specs.Tables.{way, table_of, IsTableauOf, IsWithinBounds}
 use Rattle.spec_simplex.specs.Begins.{form_rows, signs_of}
 use Rattle.spec_simplex.proofs.RunParts.{then_ok}

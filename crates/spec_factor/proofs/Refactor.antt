@@ -14,7 +14,7 @@ use Rattle.spec_pivot.proofs.Pivot.{delta_same, delta_other}
 use Rattle.spec_simplex.specs.Form.{Form}
 use Rattle.spec_exact.specs.Run.{◌>>=◌}
 use Rattle.spec_simplex.specs.Tableau.{Tableau, form_columns, all_columns, status_at}
-use Rattle.spec_exact.proofs.Stops.{get_or-made}
+use Rattle.spec_exact.proofs.RunsInOrder.{get_or-made}
 use Rattle.spec_runs.specs.Cold.{basis_status}
 use Rattle.spec_simplex.specs.Tableau.{is_basic}
 use Rattle.spec_simplex.proofs.ListIndices.{by_lt}

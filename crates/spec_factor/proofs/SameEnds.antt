@@ -19,7 +19,7 @@ use Rattle.spec_simplex.specs.declared.ends.PrimalEnd.TheVariants.{Optimal, Unbo
 use Rattle.spec_simplex.specs.declared.ends.Choice.TheVariants.{End}
 use Rattle.spec_simplex.specs.Form.{Form}
 use Rattle.spec_exact.specs.Run.{made}
-use Rattle.spec_exact.proofs.Stops.{made_same}
+use Rattle.spec_exact.proofs.RunsInOrder.{made_same}
 use Rattle.spec_simplex.specs.Start.{cost_at}
 use Rattle.spec_simplex.specs.Step.{directed, choice_run}
 use Rattle.spec_simplex.specs.Tableau.{Tableau, basic_at, entry_at, reduced_at, status_at}

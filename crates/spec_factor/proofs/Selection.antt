@@ -23,7 +23,7 @@ use Rattle.spec_simplex.specs.Tableau.{Tableau, form_columns, all_columns, basic
 use Rattle.spec_simplex.specs.Tableau.{value_at, reduced_at, status_at, lower_at, upper_at, is_fixed}
 use Rattle.spec_simplex.specs.Step.{way_by, way_at, or_enters, entering_below, entering, range_run, gap_run}
 use Rattle.spec_simplex.specs.Step.{with_gap, best_with, best_run, choice_at, choice_by, choice_of, choice_run}
-use Rattle.spec_exact.proofs.Stops.{length-made, get_or-made}
+use Rattle.spec_exact.proofs.RunsInOrder.{length-made, get_or-made}
 use Rattle.spec_simplex.specs.Tableau.{is_basic}
 use Rattle.spec_simplex.specs.Tables.{IsTableauOf}
 use Rattle.spec_simplex.specs.Begins.{form_rows, signs_of}

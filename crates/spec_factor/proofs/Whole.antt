@@ -17,7 +17,7 @@ use Rattle.spec_simplex.specs.Form.{Form}
 use Rattle.spec_exact.specs.Run.{made}
 use Rattle.spec_simplex.specs.Start.{logical_sign, start_at, cost_at}
 use Rattle.spec_simplex.specs.Tableau.{Tableau, form_columns, all_columns, is_artificial, entry_at, reduced_at}
-use Rattle.spec_exact.proofs.Stops.{length-made, get_or-made}
+use Rattle.spec_exact.proofs.RunsInOrder.{length-made, get_or-made}
 use Rattle.spec_simplex.specs.Tables.{IsTableauOf}
 use Rattle.spec_simplex.specs.Begins.{form_rows, signs_of}
 use Rattle.spec_simplex.proofs.ColumnKinds.{by_kind}

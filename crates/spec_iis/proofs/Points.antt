@@ -4,7 +4,7 @@ use Rattle.std.proofs.Common.{get_or, Option, Some, None, IfSome, refl, sym, ap,
 use Rattle.std.proofs.lemmas.Bool.{or_right}
 use Rattle.spec_exact.specs.Fraction.{ℚ, ◌*ℚ◌, ◌≤ℚ◌}
 use Rattle.spec_exact.specs.Sums.{sum_below}
-use Rattle.spec_exact.proofs.Stops.{length-made, get_or-made}
+use Rattle.spec_exact.proofs.RunsInOrder.{length-made, get_or-made}
 use Rattle.spec_exact.proofs.Sums.{sum_below_same}
 use Rattle.spec_model.specs.Model.{Model, Limits, ExactRow, ExactColumn, no_row, no_column, limits_of, bounds_of}
 use Rattle.spec_model.specs.Model.{width, height, column, row, bounds, limits, entry_of, coefficient, activity, part}

@@ -6,7 +6,7 @@ use Rattle.spec_exact.specs.Fraction.{ℚ, 0ℚ, neg_ℚ, abs_ℚ, lt_ℚ, ◌�
 use Rattle.spec_exact.proofs.Order.{lt_if, lt_test, by_le, <ℚ-le, ≤ℚ_trans}
 use Rattle.spec_exact.proofs.Strict.{≤ℚ-<ℚ_trans, <ℚ-≤ℚ_trans, neg_mono, neg_strict}
 use Rattle.spec_exact.proofs.Ruleset.{neg-neg, neg-zero}
-use Rattle.spec_exact.proofs.Sizes.{abs_above, abs_below}
+use Rattle.spec_exact.proofs.Magnitudes.{abs_above, abs_below}
 use Rattle.spec_mps.specs.NumberText.{NumberParts, NumberReading, Is, Wide, parts_of, value_of}
 use Rattle.spec_mps.specs.NumberText.{is_narrow, number_by, number_of, is_negative, without_sign}
 use Rattle.spec_mps.specs.NumberText as number

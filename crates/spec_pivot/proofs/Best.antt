@@ -4,7 +4,7 @@ use Rattle.std.proofs.Common.{option_map, IfSome, refl, ap, ◌∙◌, subst, in
 use Rattle.spec_exact.specs.Fraction.{ℚ, ◌-ℚ◌, ◌*ℚ◌, neg_ℚ, inverse, 0ℚ, ◌≤ℚ◌, ◌<ℚ◌, lt_ℚ}
 use Rattle.spec_exact.proofs.Order.{≤ℚ_trans, <ℚ-le, lt_if, ≤ℚ-difference, *ℚ-nonneg}
 use Rattle.spec_exact.proofs.Strict.{inv_pos}
-use Rattle.spec_exact.proofs.Sizes.{below_turned}
+use Rattle.spec_exact.proofs.Magnitudes.{below_turned}
 use Rattle.spec_pivot.specs.Tableau.{Matrix}
 use Rattle.spec_pivot.specs.declared.status.Way.{Way}
 use Rattle.spec_pivot.specs.Simplex.{Bounds, IsInside, IsWithin, Table, ray, IsTableau, Enters}

@@ -4,8 +4,8 @@ use Rattle.spec_exact.specs.Fraction.{ℚ, ◌+ℚ◌, ◌*ℚ◌, neg_ℚ, 0ℚ
 use Rattle.spec_exact.proofs.Field.{+ℚ_zero, *ℚ_assoc, *ℚ_comm, *ℚ_one, *ℚ_zero, *ℚ_inverse}
 use Rattle.spec_exact.proofs.Order.{≤ℚ_refl, ≤ℚ_antisym, <ℚ-le, *ℚ_mono, *ℚ-nonneg}
 use Rattle.spec_exact.proofs.Ruleset.{ring, zero-*ℚ, neg-neg, neg-zero}
-use Rattle.spec_exact.proofs.Sizes.{abs_above, abs_below, abs_at_most, abs_least}
-use Rattle.spec_exact.proofs.Sizes.{abs_positive, below_turned, turned_down, turned_back}
+use Rattle.spec_exact.proofs.Magnitudes.{abs_above, abs_below, abs_at_most, abs_least}
+use Rattle.spec_exact.proofs.Magnitudes.{abs_positive, below_turned, turned_down, turned_back}
 use Rattle.spec_exact.proofs.Strict.{<ℚ_irrefl, by_sign, inv_pos, +ℚ_mono₂, not-zero_from_lt, not-zero_from_below}
 use Rattle.spec_pivot.specs.declared.status.Status.{Status}
 use Rattle.spec_pivot.specs.declared.status.Status.TheVariants.{Basic, AtLower, AtUpper, AtZero}

@@ -7,7 +7,7 @@ use Rattle.spec_exact.proofs.Field.{*ℚ_assoc, *ℚ_comm, *ℚ_one, *ℚ_invers
 use Rattle.spec_exact.proofs.Order.{≤ℚ_refl, ≤ℚ_trans, lt_if, le_if_not, lt_test, not_lt_test, ≤ℚ_antisym, <ℚ-le}
 use Rattle.spec_exact.proofs.Ruleset.{ring}
 use Rattle.spec_exact.proofs.Strict.{<ℚ_irrefl, <ℚ-≤ℚ_trans, not-zero_from_lt}
-use Rattle.spec_exact.proofs.Sizes.{below_turned}
+use Rattle.spec_exact.proofs.Magnitudes.{below_turned}
 use Rattle.spec_pivot.specs.Simplex.{Bounds, IsBlocked}
 use Rattle.spec_pivot.specs.Ratio.{room, Best, NoWorse, is_better, take_room, scan}
 use Rattle.spec_pivot.proofs.Pivot.{by_eq}

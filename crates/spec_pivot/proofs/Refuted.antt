@@ -6,7 +6,7 @@ use Rattle.spec_exact.specs.Sums.{sum_below}
 use Rattle.spec_exact.proofs.Field.{*ℚ_assoc, *ℚ_zero, *ℚ_one}
 use Rattle.spec_exact.proofs.Order.{≤ℚ_refl, *ℚ_mono, <ℚ-le, clash_ℚ}
 use Rattle.spec_exact.proofs.Ruleset.{ring, zero-*ℚ, zero-+ℚ}
-use Rattle.spec_exact.proofs.Sizes.{turned_down}
+use Rattle.spec_exact.proofs.Magnitudes.{turned_down}
 use Rattle.spec_exact.proofs.Strict.{<ℚ_irrefl, ≤ℚ-<ℚ_trans, by_sign, zero-lt-one, +ℚ_strict, *ℚ_mono_neg}
 use Rattle.spec_exact.proofs.Sums.{sum_below_same, sum_below_mono, sum_below-+ℚ, sum_below-*ℚ}
 use Rattle.spec_exact.proofs.Sums.{*ℚ-sum_below, sum_below_swap, sum_below_none}

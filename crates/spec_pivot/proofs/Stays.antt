@@ -6,7 +6,7 @@ use Rattle.spec_exact.proofs.Field.{+ℚ_zero, *ℚ_comm, *ℚ_zero}
 use Rattle.spec_exact.proofs.Order.{≤ℚ_refl, ≤ℚ_trans, +ℚ_mono, *ℚ_mono, <ℚ-le, lt_if, le_if_not}
 use Rattle.spec_exact.proofs.Ruleset.{ring, neg-zero}
 use Rattle.spec_exact.proofs.Strict.{zero-lt-one, neg_mono, +ℚ_mono₂, not-zero_from_lt}
-use Rattle.spec_exact.proofs.Sizes.{below_turned}
+use Rattle.spec_exact.proofs.Magnitudes.{below_turned}
 use Rattle.spec_pivot.specs.Tableau.{Matrix}
 use Rattle.spec_pivot.specs.declared.status.Status.{Status}
 use Rattle.spec_pivot.specs.declared.status.Status.TheVariants.{Basic, AtLower, AtUpper, AtZero}

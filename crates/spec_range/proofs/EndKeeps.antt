@@ -28,7 +28,7 @@ use Rattle.spec_simplex.specs.Start.{by_column, cost_at}
 use Rattle.spec_simplex.specs.Tableau.{Tableau, form_columns, is_basic, basic_at, entry_at, value_at, reduced_at, status_at}
 use Rattle.spec_simplex.specs.Eliminate.{basis_at, IsBasisOf, start_from}
 use Rattle.spec_simplex.proofs.Statuses.{basic_if}
-use Rattle.spec_exact.proofs.Stops.{get_or-made, made_same}
+use Rattle.spec_exact.proofs.RunsInOrder.{get_or-made, made_same}
 use Rattle.spec_simplex.specs.Begins.{form_rows}
 use Rattle.spec_simplex.specs.Tables.{table_of}
 use Rattle.spec_simplex.proofs.ColumnKinds.{by_kind, sum_by_kind, structural_at, logical_at, artificial_at}

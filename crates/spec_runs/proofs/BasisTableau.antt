@@ -14,7 +14,7 @@ use Rattle.spec_simplex.specs.Form.{Form, form_lower, form_upper}
 use Rattle.spec_simplex.specs.Start.{cost_at, priced_run, with_reduced}
 use Rattle.spec_simplex.specs.Tableau.{Tableau, basic_at, entry_at, value_at}
 use Rattle.spec_simplex.specs.Tableau.{status_at, lower_at, upper_at, or_zero, stand}
-use Rattle.spec_exact.proofs.Stops.{length-made}
+use Rattle.spec_exact.proofs.RunsInOrder.{length-made}
 use Rattle.spec_simplex.specs.Tables.{bounds_of, IsWhole, KeepsBounds}
 use Rattle.spec_simplex.specs.Begins.{IsProper}
 use Rattle.spec_simplex.proofs.RunParts.{then_ok, refused_ok, get_or-made}

@@ -15,7 +15,7 @@ use Rattle.spec_simplex.specs.Form.{Form}
 use Rattle.spec_exact.specs.Run.{refused_as, steps}
 use Rattle.spec_simplex.specs.Step.{turned_run}
 use Rattle.spec_simplex.specs.Tableau.{at_place}
-use Rattle.spec_exact.proofs.Stops.{length-made}
+use Rattle.spec_exact.proofs.RunsInOrder.{length-made}
 use Rattle.spec_simplex.specs.Tableau.{is_basic}
 use Rattle.spec_simplex.proofs.RunParts.{then_ok, refused_ok, steps_ok}
 use Rattle.spec_simplex.proofs.PivotedRows.{turned_rows, turned_whole, turned_entry}

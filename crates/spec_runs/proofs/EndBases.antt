@@ -18,7 +18,7 @@ use Rattle.spec_pivot.proofs.Ray.{delta_sym}
 use Rattle.spec_simplex.specs.Form.{Form, form_lower, form_upper}
 use Rattle.spec_exact.specs.Run.{made}
 use Rattle.spec_simplex.specs.Tableau.{Tableau, form_columns, basic_at, entry_at, value_at, status_at}
-use Rattle.spec_exact.proofs.Stops.{length-made}
+use Rattle.spec_exact.proofs.RunsInOrder.{length-made}
 use Rattle.spec_simplex.specs.Begins.{form_rows}
 use Rattle.spec_simplex.specs.Tableau.{is_basic}
 use Rattle.spec_runs.specs.Cold as cold

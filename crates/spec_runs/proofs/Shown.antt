@@ -13,7 +13,7 @@ use Rattle.spec_simplex.specs.Form.{formed}
 use Rattle.spec_simplex.specs.Start.{cost_at}
 use Rattle.spec_simplex.specs.Tableau.{Tableau, value_at, reduced_at}
 use Rattle.spec_simplex.specs.Phases.{PrimalEnded}
-use Rattle.spec_exact.proofs.Stops.{length-made}
+use Rattle.spec_exact.proofs.RunsInOrder.{length-made}
 use Rattle.spec_simplex.specs.Tables.{way, table_of, IsTableauOf, IsWithinBounds, IsMeant}
 use Rattle.spec_simplex.specs.Begins.{form_rows}
 use Rattle.spec_runs.specs.Cold.{point, multipliers, moves_by, moves_below, direction, certificate_at}

@@ -8,7 +8,7 @@ use Rattle.spec_simplex.specs.declared.ends.RowStart.TheVariants.{Within}
 use Rattle.spec_simplex.specs.Form.{Form, form_entry}
 use Rattle.spec_simplex.specs.Start.{one_at, start_entry}
 use Rattle.spec_simplex.specs.Tableau.{at_place}
-use Rattle.spec_exact.proofs.Stops.{length-made}
+use Rattle.spec_exact.proofs.RunsInOrder.{length-made}
 use Rattle.spec_simplex.proofs.RunParts.{get_or-made}
 use Rattle.spec_simplex.proofs.ListIndices.{by_lt, past_row}
 use Rattle.spec_simplex.proofs.ColumnKinds.{structural_at, logical_at, artificial_at, by_kind}

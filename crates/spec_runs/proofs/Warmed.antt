@@ -19,7 +19,7 @@ use Rattle.spec_simplex.specs.Step.{directed}
 use Rattle.spec_simplex.specs.Tableau.{Tableau, form_columns, all_columns, entry_at}
 use Rattle.spec_simplex.specs.Tableau.{value_at, status_at, lower_at, upper_at}
 use Rattle.spec_simplex.specs.Phases.{PrimalEnded, run_from}
-use Rattle.spec_exact.proofs.Stops.{length-made}
+use Rattle.spec_exact.proofs.RunsInOrder.{length-made}
 use Rattle.spec_simplex.specs.Tables.{way, table_of, bounds_of, IsWithinBounds}
 use Rattle.spec_runs.specs.Cold as cold
 use Rattle.spec_simplex.proofs.RunParts.{then_ok, refused_ok, get_or-made}

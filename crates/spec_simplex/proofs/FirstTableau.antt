@@ -29,7 +29,7 @@ use Rattle.spec_simplex.specs.Start.{start_basic, start_value, start_status, sta
 use Rattle.spec_simplex.specs.Start.{with_reduced, cost_at, first_cost, first_costs, priced_run, start_of}
 use Rattle.spec_simplex.specs.Tableau.{Tableau, basic_at, entry_at, value_at, reduced_at}
 use Rattle.spec_simplex.specs.Tableau.{status_at, lower_at, upper_at, or_zero, stand}
-use Rattle.spec_exact.proofs.Stops.{length-made}
+use Rattle.spec_exact.proofs.RunsInOrder.{length-made}
 use Rattle.spec_simplex.specs.Tables.{bounds_of, IsWhole, KeepsBounds, IsTableauOf, IsWithinBounds}
 use Rattle.spec_simplex.specs.Begins.{form_rows, signs_of, IsProper, Begins}
 use Rattle.spec_simplex.proofs.RunParts.{then_ok, IsListOf, list_ok, get_or-made}

@@ -11,7 +11,7 @@ use Rattle.spec_model.specs.Model.{ExactRow, Limits, lower_of, upper_of, limit_o
 use Rattle.spec_model.proofs.LimitsAtLimit.{limit_ok}
 use Rattle.spec_exact.proofs.Results.{ok_same}
 use Rattle.spec_exact.specs.Run.{◌>>=◌}
-use Rattle.spec_exact.proofs.Sizes.{abs_least}
+use Rattle.spec_exact.proofs.Magnitudes.{abs_least}
 use Rattle.spec_simplex.specs.Form.{limits_run}
 use Rattle.spec_simplex.proofs.RunParts.{then_ok}
 

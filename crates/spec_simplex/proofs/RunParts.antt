@@ -15,7 +15,7 @@ use Rattle.spec_exact.proofs.Compare.{compare_gives}
 use Rattle.spec_pivot.proofs.Pivot.{by_eq}
 use Rattle.spec_exact.specs.Run.{Run, ◌>>=◌, refused_as, sum_run, difference_run, product_run, quotient_run}
 use Rattle.spec_exact.specs.Run.{order_run, plus_product, less_product, steps, list_run, made}
-use Rattle.spec_exact.proofs.Stops.{length-made}
+use Rattle.spec_exact.proofs.RunsInOrder.{length-made}
 use Rattle.spec_exact.proofs.Results.{told_ok}
 
 -- ---- one after the other

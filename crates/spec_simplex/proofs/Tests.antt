@@ -8,7 +8,7 @@ use Rattle.spec_exact.specs.Limit.{order}
 use Rattle.spec_exact.proofs.Compare.{order_less, order_equal, order_greater}
 use Rattle.spec_exact.proofs.Order.{≤ℚ_antisym, ≤ℚ_refl, <ℚ-le, lt_if, le_if_not, lt_test, not_lt_test}
 use Rattle.spec_exact.proofs.Ruleset.{neg-neg, neg-zero}
-use Rattle.spec_exact.proofs.Sizes.{abs_above, abs_below, below_turned, above_turned, turned_back, turned_down}
+use Rattle.spec_exact.proofs.Magnitudes.{abs_above, abs_below, below_turned, above_turned, turned_back, turned_down}
 use Rattle.spec_pivot.specs.declared.status.Status.{Status}
 use Rattle.spec_pivot.specs.declared.status.Status.TheVariants.{AtLower, AtUpper}
 use Rattle.spec_pivot.specs.Tableau.{Matrix}

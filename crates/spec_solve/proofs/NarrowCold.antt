@@ -32,7 +32,7 @@ use Rattle.spec_simplex.specs.Step.{directed, choice_run, flip_run, pivot_run}
 use Rattle.spec_simplex.specs.Phases.{PrimalEnded, end_or_spent, end_or_next, run_from, fixed_at_zero}
 use Rattle.spec_simplex.specs.Phases.{without_artificials, phase_two_run, wants_phase_one, is_stuck, phase_one}
 use Rattle.spec_simplex.specs.Phases.{phase_two, PhasesEnd, Infeasible, Finished, phases_run}
-use Rattle.spec_exact.proofs.Stops.{All-made}
+use Rattle.spec_exact.proofs.RunsInOrder.{All-made}
 use Rattle.spec_exact.proofs.Narrow.{neg_narrow, zero_narrow}
 use Rattle.spec_check.specs.declared.solve_end.SolveEnd.TheVariants as outcome
 use Rattle.spec_runs.specs.Cold.{ExactSolveEnd, point, multipliers, moves_below, moves_by, certificate_at}

@@ -29,7 +29,7 @@ use Rattle.spec_simplex.specs.Start.{row_start, begun, cost_at, first_costs, log
 use Rattle.spec_simplex.specs.Step.{moved_run, shifted_run, flip_run, best_run, choice_by, exchanged, turned}
 use Rattle.spec_simplex.specs.Phases.{wants_phase_one, is_stuck}
 use Rattle.spec_simplex.specs.Tableau.{Tableau, form_columns, is_artificial, basic_at}
-use Rattle.spec_exact.proofs.Stops.{All-made}
+use Rattle.spec_exact.proofs.RunsInOrder.{All-made}
 use Rattle.spec_exact.proofs.Narrow.{neg_narrow, zero_narrow}
 use Rattle.spec_check.specs.declared.solve_end.SolveEnd.TheVariants as outcome
 use Rattle.spec_runs.specs.Cold.{ExactSolveEnd, moves_by}

@@ -31,7 +31,7 @@ use Rattle.spec_simplex.specs.Start.{structural_entry, artificial_value, artific
 use Rattle.spec_simplex.specs.Start.{start_entry, start_value, start_row, begun, cost_at, reduced_run, priced_run}
 use Rattle.spec_simplex.specs.Start.{with_reduced, first_cost, first_costs, start_of}
 use Rattle.spec_exact.proofs.Results.{ok_same}
-use Rattle.spec_exact.proofs.Stops.{All-made}
+use Rattle.spec_exact.proofs.RunsInOrder.{All-made}
 use Rattle.spec_exact.proofs.Narrow.{neg_narrow, zero_narrow}
 use Rattle.spec_simplex.proofs.RunParts.{then_ok, refused_ok, steps_ok}
 use Rattle.spec_solve.proofs.NarrowRuns.{sum_narrow, difference_narrow, plus_narrow, less_narrow}

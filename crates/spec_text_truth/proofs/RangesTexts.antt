@@ -11,7 +11,7 @@ use Rattle.spec_exact.specs.declared.past.Past.{Past}
 use Rattle.spec_exact.specs.Narrow.{number_limit}
 use Rattle.spec_exact.specs.Run.{made}
 use Rattle.spec_exact.proofs.Results.{ok_not_err}
-use Rattle.spec_exact.proofs.Stops.{All-made}
+use Rattle.spec_exact.proofs.RunsInOrder.{All-made}
 use Rattle.spec_model.specs.Model.{Model, Name, no_row, no_column, width, height, row, column}
 use Rattle.spec_model.specs.Truth.{IsOptimal, IsInfeasible, IsUnbounded}
 use Rattle.spec_model.specs.Kept.{IsModel, is_printable, usual_limits}

@@ -1,7 +1,7 @@
 -- One column more, one row more, and a refused row, which stops the run.
 use Rattle.std.proofs.Common.{◌<◌, length, sym, ap, arith}
 use Rattle.std.proofs.lemmas.Result.{err_from_is_err_and}
-use Rattle.spec_exact.proofs.Stops.{list_stops}
+use Rattle.spec_exact.proofs.RunsInOrder.{list_stops}
 use Rattle.lp_form.proofs.MadeForms.{column_more, row_more}
 use Rattle.lp_form.proofs.standard.fill_bounds.Goals as goal
 

@@ -1,7 +1,7 @@
 -- A clash in a column stops the run.
 use Rattle.std.proofs.Common.{sym}
 use Rattle.std.proofs.lemmas.Result.{err_from_is_err_and}
-use Rattle.spec_exact.proofs.Stops.{steps_stop}
+use Rattle.spec_exact.proofs.RunsInOrder.{steps_stop}
 use Rattle.lp_form.proofs.standard.first_clash.Goals as goal
 
 pub returns-in_err-clash : goal.returns-in_err-clash

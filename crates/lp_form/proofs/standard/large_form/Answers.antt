@@ -1,7 +1,7 @@
 -- A refusal in the limits, a clash, and the form.
 use Rattle.std.proofs.Common.{sym, ◌∙◌, arith}
 use Rattle.std.proofs.lemmas.Result.{err_from_is_err_and}
-use Rattle.spec_exact.proofs.Stops.{length-list_run}
+use Rattle.spec_exact.proofs.RunsInOrder.{length-list_run}
 use Rattle.lp_form.proofs.MadeForms.{parts_are, is_form, limits_stop, clash_is, form_is}
 use Rattle.lp_form.proofs.standard.large_form.Goals as goal
 

@@ -2,7 +2,7 @@
 use Rattle.std.proofs.Common.{pos, int_lt, ap, ◌∙◌, rules}
 use Rattle.std.specs.Int.{w128}
 use Rattle.std.proofs.lemmas.Int.{to_z-of_z}
-use Rattle.spec_exact.proofs.Signs.{negative_test}
+use Rattle.spec_exact.proofs.FractionSigns.{negative_test}
 use Rattle.lp_frac.proofs.readers.is_negative.Goals as goal
 
 pub returns : goal.returns

@@ -1,7 +1,7 @@
 -- A refusal in a row stops the run.
 use Rattle.std.proofs.Common.{sym, ◌∙◌}
 use Rattle.std.proofs.lemmas.Result.{err_from_is_err_and}
-use Rattle.spec_exact.proofs.Stops.{steps_stop}
+use Rattle.spec_exact.proofs.RunsInOrder.{steps_stop}
 use Rattle.lp_presolve.proofs.carrying.priced.Goals as goal
 
 pub returns-in_err-sum : goal.returns-in_err-sum

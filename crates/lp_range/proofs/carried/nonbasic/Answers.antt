@@ -2,7 +2,7 @@
 use Rattle.std.proofs.Common.{sym, Some, arith}
 use Rattle.std.proofs.lemmas.Result.{err_from_is_err_and}
 use Rattle.spec_simplex.specs.Tableau.{all_columns}
-use Rattle.spec_exact.proofs.Stops.{steps_more, steps_stop}
+use Rattle.spec_exact.proofs.RunsInOrder.{steps_more, steps_stop}
 use Rattle.spec_exact.specs.Narrow.{number_limit}
 use Rattle.spec_range.specs.Rule.{no_ends, carried_if}
 use Rattle.lp_range.proofs.carried.nonbasic.Goals as goal

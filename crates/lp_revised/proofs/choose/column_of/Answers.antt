@@ -1,6 +1,6 @@
 -- A column has an item for each row.
 use Rattle.std.proofs.Common.{ap, length, ◌∙◌}
-use Rattle.spec_exact.proofs.Stops.{length-made}
+use Rattle.spec_exact.proofs.RunsInOrder.{length-made}
 use Rattle.spec_factor.specs.Factors.{column_entry}
 use Rattle.lp_revised.proofs.choose.column_of.Goals.{then-k-cols, else-k-cols}
 use Rattle.lp_revised.proofs.choose.column_of.Goals as goal

@@ -2,7 +2,7 @@
 use Rattle.std.proofs.Common.{sym, ap, length, ◌∙◌, Ok}
 use Rattle.std.proofs.lemmas.Result.{err_from_is_err_and}
 use Rattle.spec_simplex.specs.Start.{begun}
-use Rattle.spec_exact.proofs.Stops.{length-list_run}
+use Rattle.spec_exact.proofs.RunsInOrder.{length-list_run}
 use Rattle.spec_simplex.specs.Tableau.{Tableau}
 use Rattle.spec_factor.specs.Revised.{bare_of}
 use Rattle.lp_revised.proofs.SameEnds.{ends_whole}

@@ -3,7 +3,7 @@ use Rattle.std.proofs.Common.{length, refl, sym, ◌∙◌, subst, arith}
 use Rattle.std.proofs.lemmas.Result.{err_from_is_err_and}
 use Rattle.spec_exact.specs.Laws.{IsWithin}
 use Rattle.spec_simplex.specs.Step.{repriced_run}
-use Rattle.spec_exact.proofs.Stops.{list_stops}
+use Rattle.spec_exact.proofs.RunsInOrder.{list_stops}
 use Rattle.spec_exact.specs.Narrow.{number_limit}
 use Rattle.lp_tableau.proofs.Done.{one_done, list_finished, as_before, item_is}
 use Rattle.lp_tableau.proofs.Spots.{one_kept, less_times_no}

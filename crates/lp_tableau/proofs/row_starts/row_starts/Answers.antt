@@ -1,7 +1,7 @@
 -- A refused row stops the start.
 use Rattle.std.proofs.Common.{sym}
 use Rattle.std.proofs.lemmas.Result.{err_from_is_err_and}
-use Rattle.spec_exact.proofs.Stops.{list_stops}
+use Rattle.spec_exact.proofs.RunsInOrder.{list_stops}
 use Rattle.lp_tableau.proofs.row_starts.row_starts.Goals as goal
 
 pub returns-in_err-row_start-clause-err : goal.returns-in_err-row_start-clause-err

@@ -1,7 +1,7 @@
 -- A refused step stops the sum.
 use Rattle.std.proofs.Common.{◌<◌, sym, ◌∙◌, arith}
 use Rattle.std.proofs.lemmas.Result.{err_from_is_err_and}
-use Rattle.spec_exact.proofs.Stops.{steps_stop}
+use Rattle.spec_exact.proofs.RunsInOrder.{steps_stop}
 use Rattle.lp_tableau.proofs.row_starts.row_sum.Goals as goal
 
 pub returns-in_err-sum : goal.returns-in_err-sum

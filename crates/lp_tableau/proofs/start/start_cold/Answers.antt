@@ -2,7 +2,7 @@
 use Rattle.std.proofs.Common.{◌≡◌, ap, sym, subst, ◌∙◌, length, Ok}
 use Rattle.std.specs.Result.{IfOk, IfErr}
 use Rattle.std.proofs.lemmas.Result.{err_from_is_err_and}
-use Rattle.spec_exact.proofs.Stops.{length-list_run}
+use Rattle.spec_exact.proofs.RunsInOrder.{length-list_run}
 use Rattle.lp_tableau.specs.Answer.{Stops}
 use Rattle.lp_tableau.proofs.TableauParts.{rows_stop, start_is}
 use Rattle.lp_tableau.proofs.start.start_cold.Goals as goal

@@ -1,4 +1,4 @@
-use Rattle.spec_exact.proofs.Stops.{steps_stop}
+use Rattle.spec_exact.proofs.RunsInOrder.{steps_stop}
 use Rattle.lp_check.proofs.Gives.{missing}
 use Rattle.lp_check.proofs.wide.farkas.columns_give.Goals as goal
 

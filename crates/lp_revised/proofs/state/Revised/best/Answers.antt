@@ -2,7 +2,7 @@
 use Rattle.std.proofs.Common.{sym, Some, arith}
 use Rattle.std.proofs.lemmas.Result.{err_from_is_err_and}
 use Rattle.spec_simplex.specs.Step.{best_with}
-use Rattle.spec_exact.proofs.Stops.{steps_more}
+use Rattle.spec_exact.proofs.RunsInOrder.{steps_more}
 use Rattle.spec_exact.specs.Narrow.{number_limit}
 use Rattle.spec_factor.specs.Revised.{seen}
 use Rattle.lp_simplex.proofs.Ratios.{best_refused}

@@ -3,7 +3,7 @@ use Rattle.std.proofs.Common.{sym, Some, None, arith}
 use Rattle.std.proofs.lemmas.Result.{err_from_is_err_and}
 use Rattle.spec_simplex.specs.Tableau.{all_columns}
 use Rattle.spec_simplex.specs.Dual.{cheapest_with}
-use Rattle.spec_exact.proofs.Stops.{steps_stop}
+use Rattle.spec_exact.proofs.RunsInOrder.{steps_stop}
 use Rattle.spec_exact.specs.Narrow.{number_limit}
 use Rattle.lp_simplex.proofs.dual.candidates.cheapest.Goals as goal
 

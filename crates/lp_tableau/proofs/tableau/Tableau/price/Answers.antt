@@ -3,7 +3,7 @@ use Rattle.std.proofs.Common.{◌<◌, length, sym, subst, ap, ◌∙◌, arith}
 use Rattle.std.proofs.lemmas.Result.{err_from_is_err_and}
 use Rattle.spec_simplex.specs.Tableau.{all_columns}
 use Rattle.spec_simplex.specs.Start.{priced_run}
-use Rattle.spec_exact.proofs.Stops.{list_stops}
+use Rattle.spec_exact.proofs.RunsInOrder.{list_stops}
 use Rattle.lp_tableau.proofs.Done.{IsDone, one_done, list_finished}
 use Rattle.lp_tableau.proofs.Priced.{reduced_same, repriced_again}
 use Rattle.lp_tableau.proofs.tableau.Tableau.price.Goals as goal

@@ -1,7 +1,7 @@
 -- A column of no cost is passed over, and a refused step stops the reduced cost.
 use Rattle.std.proofs.Common.{refl, sym}
 use Rattle.std.proofs.lemmas.Result.{err_from_is_err_and}
-use Rattle.spec_exact.proofs.Stops.{steps_stop}
+use Rattle.spec_exact.proofs.RunsInOrder.{steps_stop}
 use Rattle.lp_tableau.proofs.Priced.{free_passed}
 use Rattle.lp_tableau.proofs.tableau.Tableau.reduced_cost.Goals as goal
 
