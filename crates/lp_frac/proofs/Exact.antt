@@ -15,7 +15,7 @@ use Rattle.spec_exact.specs.Answer.{told}
 use Rattle.spec_exact.specs.Run.{◌>>=◌, difference_run, less_product}
 use Rattle.spec_exact.specs.declared.past.Op.TheVariants.{Mul, Sub}
 use Rattle.spec_exact.proofs.Ring.{◌⊕◌, ◌⊖◌, ◌⊗◌, minus, v0, v1, v2, v3, v4, v5}
-use Rattle.spec_exact.proofs.Whole.{by_ring}
+use Rattle.spec_exact.proofs.WholeRing.{by_ring}
 use Rattle.spec_exact.proofs.Fraction.{over-same, over_cross, exact_quotient}
 use Rattle.spec_exact.proofs.Limit.{product_exact, sum_exact}
 use Rattle.spec_exact.specs.Narrow.{number_limit}

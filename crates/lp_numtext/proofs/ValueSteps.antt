@@ -8,7 +8,7 @@ use Rattle.std.proofs.Math.Nat.{one-le-pow, mul-pos}
 use borrow.Author.Differences.{ints}
 use Rattle.spec_exact.specs.Fraction.{ℚ, over, whole, neg_ℚ, ◌≤ℚ◌, ◌<ℚ◌}
 use Rattle.spec_exact.proofs.Ring.{◌⊗◌, v0, v1, v2, v3}
-use Rattle.spec_exact.proofs.Whole.{by_ring}
+use Rattle.spec_exact.proofs.WholeRing.{by_ring}
 use Rattle.spec_exact.proofs.Fraction.{over_cross, over-parts}
 use Rattle.spec_exact.proofs.Order.{≤ℚ-over, ≤ℤ-times, ≤ℤ_cancel, lt_test, not_lt_test, ≤ℤ_same}
 use Rattle.spec_exact.proofs.Strict.{lt_from_not, ≤ℚ-<ℚ_trans}

@@ -12,7 +12,7 @@ use Rattle.std.proofs.lemmas.List.{take_all}
 use Rattle.std.proofs.lemmas.List.Elements.{All-get_or}
 use Rattle.spec_exact.specs.Fraction.{ℚ, 0ℚ, eq_ℚ, over, whole as whole_ℚ}
 use Rattle.spec_exact.proofs.Ring.{◌⊗◌, lit, v0}
-use Rattle.spec_exact.proofs.Whole.{by_ring}
+use Rattle.spec_exact.proofs.WholeRing.{by_ring}
 use Rattle.spec_exact.proofs.Fraction.{over_cross, over-same}
 use Rattle.spec_exact.proofs.Field.{whole_over}
 use Rattle.spec_exact.proofs.Same.{same_is}

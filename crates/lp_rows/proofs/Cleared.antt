@@ -6,7 +6,7 @@ use Rattle.std.proofs.Math.ListN.{take, drop}
 use Rattle.std.proofs.Math.Seq.{take-append_seam}
 use Rattle.spec_exact.specs.Fraction.{over, neg_ℚ, ◌+ℚ◌, ◌-ℚ◌, ◌*ℚ◌}
 use Rattle.spec_exact.proofs.Ring.{◌⊕◌, ◌⊗◌, minus, lit, v0, v1, v2, v3}
-use Rattle.spec_exact.proofs.Whole.{by_ring}
+use Rattle.spec_exact.proofs.WholeRing.{by_ring}
 use Rattle.spec_exact.proofs.Field.{by_ring_ℚ, over-*, whole_over}
 use Rattle.spec_exact.proofs.Coprime.{positive_left, positive_right}
 use Rattle.lp_natural.specs.Below.{below}

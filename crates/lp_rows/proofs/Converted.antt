@@ -9,7 +9,7 @@ use Rattle.std.proofs.lemmas.List.Elements.{All-push}
 use Rattle.spec_exact.specs.Fraction.{ℚ, 0ℚ, over}
 use Rattle.spec_exact.specs.Run.{made}
 use Rattle.spec_exact.proofs.Ring.{◌⊗◌, v0, v1, v2}
-use Rattle.spec_exact.proofs.Whole.{by_ring}
+use Rattle.spec_exact.proofs.WholeRing.{by_ring}
 use Rattle.spec_exact.proofs.Fraction.{over-same, over-parts}
 use Rattle.spec_exact.proofs.RunsInOrder.{length-made, get_or-made}
 use Rattle.spec_pivot.proofs.Pivot.{by_eq}

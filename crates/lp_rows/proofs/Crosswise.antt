@@ -8,7 +8,7 @@ use Rattle.spec_exact.specs.Answer.{told}
 use Rattle.spec_exact.specs.Run.{Run, ◌>>=◌, order_run}
 use Rattle.spec_exact.specs.declared.past.Op.TheVariants.{Cmp}
 use Rattle.spec_exact.proofs.Ring.{◌⊗◌, v0, v1, v2}
-use Rattle.spec_exact.proofs.Whole.{by_ring}
+use Rattle.spec_exact.proofs.WholeRing.{by_ring}
 use Rattle.spec_exact.proofs.Compare.{int_cmp-times, compare_unlimited}
 use Rattle.spec_simplex.specs.declared.ends.Best.{Best}
 use Rattle.spec_simplex.specs.Step.{better_by}

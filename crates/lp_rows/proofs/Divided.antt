@@ -7,7 +7,7 @@ use mathlib.Core.Bool.{beq}
 use Rattle.std.proofs.Math.Nat.{mul-pos}
 use Rattle.spec_exact.specs.Fraction.{ℚ, 0ℚ, 1ℚ, whole as whole_ℚ, over, inverse, ◌*ℚ◌}
 use Rattle.spec_exact.proofs.Ring.{◌⊗◌, minus, lit, v0, v1, v2, v3}
-use Rattle.spec_exact.proofs.Whole.{by_ring}
+use Rattle.spec_exact.proofs.WholeRing.{by_ring}
 use Rattle.spec_exact.proofs.Fraction.{over-same}
 use Rattle.spec_exact.proofs.Field.{by_ring_ℚ, over-*, *ℚ_inverse, *ℚ_one, *ℚ_zero, *ℚ_comm, whole_over}
 use Rattle.spec_exact.proofs.Coprime.{positive_left, positive_right}

@@ -8,7 +8,7 @@ use Rattle.spec_exact.specs.Answer.{told}
 use Rattle.spec_exact.specs.Run.{Run, ◌>>=◌, difference_run}
 use Rattle.spec_exact.specs.declared.past.Op.TheVariants.{Sub}
 use Rattle.spec_exact.proofs.Ring.{◌⊕◌, ◌⊗◌, minus, v0, v1, v2}
-use Rattle.spec_exact.proofs.Whole.{by_ring}
+use Rattle.spec_exact.proofs.WholeRing.{by_ring}
 use Rattle.spec_exact.proofs.Fraction.{over-same}
 use Rattle.spec_exact.proofs.Field.{over-+}
 use Rattle.spec_exact.proofs.Limit.{sub_unlimited}

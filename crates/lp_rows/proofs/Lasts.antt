@@ -7,7 +7,7 @@ use Rattle.std.proofs.lemmas.List.{length-set, get_or-set_same, set-set}
 use Rattle.std.proofs.lemmas.List.Elements.{All-set}
 use Rattle.spec_exact.specs.Fraction.{ℚ, 0ℚ, over, ◌+ℚ◌, ◌-ℚ◌, ◌*ℚ◌, neg_ℚ, inverse}
 use Rattle.spec_exact.proofs.Ring.{◌⊕◌, ◌⊗◌, minus, lit, v0, v1, v2}
-use Rattle.spec_exact.proofs.Whole.{by_ring}
+use Rattle.spec_exact.proofs.WholeRing.{by_ring}
 use Rattle.spec_exact.proofs.Fraction.{over-same}
 use Rattle.spec_exact.proofs.Field.{over-*, whole_over}
 use Rattle.spec_exact.proofs.Ruleset.{ring}

@@ -3,7 +3,7 @@ use Rattle.std.proofs.Common.{◌≡◌, ℕ, zero, suc, ◌*◌, ◌<◌, pos, 
 use Rattle.std.proofs.Common.{refl, sym, ap, ap₂, ◌∙◌, arith}
 use Rattle.spec_exact.specs.Fraction.{over, neg_ℚ, 0ℚ, 1ℚ}
 use Rattle.spec_exact.proofs.Ring.{minus, lit, v0}
-use Rattle.spec_exact.proofs.Whole.{by_ring}
+use Rattle.spec_exact.proofs.WholeRing.{by_ring}
 use Rattle.spec_exact.proofs.Field.{by_ring_ℚ, whole_over}
 use Rattle.spec_exact.proofs.Coprime.{positive_left, positive_right}
 use Rattle.lp_ratio.specs.Parts.{with_sign}

@@ -13,7 +13,7 @@ use Rattle.std.proofs.lemmas.Int.{ints}
 use Rattle.std.proofs.Math.Nat.{mul-pos}
 use Rattle.spec_exact.specs.Fraction.{ℚ, 0ℚ, over, neg_ℚ, inverse, abs_ℚ, lt_ℚ, ◌*ℚ◌, ◌≤ℚ◌}
 use Rattle.spec_exact.proofs.Ring.{◌⊗◌, minus, lit, v0, v1, v2, v3}
-use Rattle.spec_exact.proofs.Whole.{by_ring}
+use Rattle.spec_exact.proofs.WholeRing.{by_ring}
 use Rattle.spec_exact.proofs.Fraction.{over-same}
 use Rattle.spec_exact.proofs.Field.{by_ring_ℚ, over-*, whole_over}
 use Rattle.spec_exact.proofs.Order.{≤ℚ-over}

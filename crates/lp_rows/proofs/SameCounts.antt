@@ -6,7 +6,7 @@ use Rattle.std.proofs.lemmas.List.{length-set, get_or_default}
 use Rattle.std.proofs.lemmas.List.Elements.{All-set}
 use Rattle.spec_exact.specs.Fraction.{ℚ, 0ℚ, over, ◌-ℚ◌, ◌*ℚ◌}
 use Rattle.spec_exact.proofs.Ring.{◌⊗◌, lit, v0}
-use Rattle.spec_exact.proofs.Whole.{by_ring}
+use Rattle.spec_exact.proofs.WholeRing.{by_ring}
 use Rattle.spec_exact.proofs.Field.{over-*}
 use Rattle.spec_pivot.specs.declared.status.Status.{Status}
 use Rattle.spec_pivot.specs.declared.status.Status.TheVariants.{Basic}

@@ -4,7 +4,7 @@ use Rattle.std.proofs.Common.{Some, None, Ok, false, refl, sym, ap, ap₂, subst
 use Rattle.std.proofs.lemmas.List.{length-set, get_or-set_same, get_or-set_other}
 use Rattle.spec_exact.specs.Fraction.{ℚ, 0ℚ, over}
 use Rattle.spec_exact.proofs.Ring.{◌⊗◌, lit, v0}
-use Rattle.spec_exact.proofs.Whole.{by_ring}
+use Rattle.spec_exact.proofs.WholeRing.{by_ring}
 use Rattle.spec_exact.proofs.Fraction.{over-same}
 use Rattle.spec_exact.proofs.Field.{whole_over}
 use Rattle.spec_pivot.specs.declared.status.Status.TheVariants.{Basic}

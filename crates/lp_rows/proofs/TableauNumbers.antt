@@ -4,7 +4,7 @@ use Rattle.std.proofs.Common.{ap, ap₂, ◌∙◌, arith, pos}
 use Rattle.std.proofs.Common.{All}
 use Rattle.spec_exact.specs.Fraction.{over, ◌*ℚ◌}
 use Rattle.spec_exact.proofs.Ring.{◌⊗◌, lit, v0}
-use Rattle.spec_exact.proofs.Whole.{by_ring}
+use Rattle.spec_exact.proofs.WholeRing.{by_ring}
 use Rattle.spec_exact.proofs.Field.{over-*}
 use Rattle.lp_natural.specs.declared.words.signed.Signed.{Signed}
 use Rattle.lp_rows.specs.declared.fractions.Row.{Row}

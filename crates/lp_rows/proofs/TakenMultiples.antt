@@ -1,7 +1,7 @@
 -- A number of which nothing is taken, and one that is taken once.
 use Rattle.std.proofs.Common.{◌≡◌, ℕ, ℤ, pos, ◌*ℤ◌, ◌-ℤ◌, [], ◌∷◌, Bool, true, false, refl, sym, ap, ◌∙◌}
 use Rattle.spec_exact.proofs.Ring.{◌⊕◌, ◌⊗◌, minus, lit, v0, v1}
-use Rattle.spec_exact.proofs.Whole.{by_ring}
+use Rattle.spec_exact.proofs.WholeRing.{by_ring}
 use Rattle.lp_natural.specs.Whole.{whole}
 
 pub whole_none : (negative : Bool) (n : ℕ) → n ≡ 0 → whole negative n ≡ pos 0

@@ -11,7 +11,7 @@ use Rattle.spec_exact.specs.Answer.{told}
 use Rattle.spec_exact.specs.declared.past.Op.{Op}
 use Rattle.spec_exact.specs.declared.past.Op.TheVariants.{Mul, Sub, Div}
 use Rattle.spec_exact.proofs.Ring.{◌⊕◌, ◌⊗◌, minus, v0, v1, v2, v3}
-use Rattle.spec_exact.proofs.Whole.{by_ring}
+use Rattle.spec_exact.proofs.WholeRing.{by_ring}
 use Rattle.spec_exact.proofs.Limit.{product_exact, sum_exact}
 use Rattle.spec_exact.proofs.Ruleset.{neg-+ℚ, *ℚ-neg, neg-*ℚ}
 use Rattle.lp_tableau.specs.Twins.{signed}
