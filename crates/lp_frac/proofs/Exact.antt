@@ -21,7 +21,7 @@ use Rattle.spec_exact.proofs.Limit.{product_exact, sum_exact}
 use Rattle.spec_exact.specs.Narrow.{number_limit}
 use Rattle.spec_exact.proofs.Zero.{four_pass, two_pass}
 use Rattle.lp_frac.specs.Less.{IsSmall, IsShort, IsShortProduct, IsDenominator, less_num, less_den}
-use Rattle.lp_frac.proofs.Sizes.{fitted_size}
+use Rattle.lp_frac.proofs.ProductSizes.{fitted_size}
 
 test : (n k : ℕ) → n ≤ k → k ≤ number_limit → fits (Some number_limit) n ≡ true
 test n k h g = le-leb n number_limit (le_trans h g)

@@ -1,7 +1,7 @@
 use Rattle.std.proofs.Common.{Some, ℤ, rules, SFits, to_z-of_z, ap, ◌∙◌}
 use mir.Syntax.{w128}
 use Rattle.lp_frac.specs.Steps.{narrow}
-use Rattle.lp_frac.proofs.Sizes.{narrow_least, narrow_other, narrow_unfit}
+use Rattle.lp_frac.proofs.ProductSizes.{narrow_least, narrow_other, narrow_unfit}
 use Rattle.lp_frac.proofs.limited.long_product.Goals as goal
 
 pub returns-then-p : goal.returns-then-p

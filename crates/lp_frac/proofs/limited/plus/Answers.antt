@@ -1,7 +1,7 @@
 use Rattle.std.proofs.Common.{◌≡◌, Some, ℤ, ◌+ℤ◌, SFits, to_z, of_z, to_z-of_z, subst, sym, ap, ap₂, ◌∙◌}
 use mir.Syntax.{w128}
 use Rattle.lp_frac.specs.Steps.{narrow}
-use Rattle.lp_frac.proofs.Sizes.{narrow_least, narrow_other, narrow_unfit}
+use Rattle.lp_frac.proofs.ProductSizes.{narrow_least, narrow_other, narrow_unfit}
 use Rattle.lp_frac.proofs.limited.plus.Goals as goal
 
 same_sum : (a b : ℤ) → SFits w128 a → SFits w128 b →

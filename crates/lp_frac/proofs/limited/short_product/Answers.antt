@@ -1,7 +1,7 @@
 use Rattle.std.proofs.Common.{Some, ℤ, ap, ◌∙◌, arith}
 use Rattle.std.proofs.Math.Nat.{le_trans}
 use mir.Syntax.{w64, w128}
-use Rattle.lp_frac.proofs.Sizes.{cast_fits, cast_product, narrow_fits}
+use Rattle.lp_frac.proofs.ProductSizes.{cast_fits, cast_product, narrow_fits}
 use Rattle.lp_frac.proofs.limited.short_product.Goals as goal
 
 pub overflow_cast-result : goal.overflow_cast-result

@@ -4,7 +4,7 @@ use mir.Syntax.{w64, w128}
 use Rattle.spec_exact.specs.Gcd.{gcd}
 use Rattle.spec_exact.specs.Fraction.{over}
 use Rattle.spec_exact.specs.Narrow.{number_limit}
-use Rattle.lp_frac.proofs.Sizes.{cast_is}
+use Rattle.lp_frac.proofs.ProductSizes.{cast_is}
 use Rattle.lp_frac.proofs.Exact.{IsLowest, in_lowest}
 use Rattle.lp_frac.proofs.lowest.divided.Goals as goal
 

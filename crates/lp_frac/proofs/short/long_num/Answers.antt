@@ -1,7 +1,7 @@
 use Rattle.std.proofs.Common.{◌-ℤ◌, SFits, to_z-of_z, ap₂, ◌∙◌, arith}
 use Rattle.std.proofs.Math.Nat.{le_trans}
 use mir.Syntax.{w64, w128}
-use Rattle.lp_frac.proofs.Sizes.{difference}
+use Rattle.lp_frac.proofs.ProductSizes.{difference}
 use Rattle.lp_frac.proofs.short.long_num.Goals as goal
 
 pub long_scaled-requires : goal.long_scaled-requires

@@ -1,6 +1,6 @@
 use Rattle.std.proofs.Common.{arith}
 use mir.Syntax.{w64, w128}
-use Rattle.lp_frac.proofs.Sizes.{cast_fits, cast_scaled}
+use Rattle.lp_frac.proofs.ProductSizes.{cast_fits, cast_scaled}
 use Rattle.lp_frac.proofs.short.long_scaled.Goals as goal
 
 pub overflow_cast-result : goal.overflow_cast-result

@@ -2,7 +2,7 @@ use Rattle.std.proofs.Common.{◌≡◌, ◌≤◌, ℕ, ℤ, pos, ◌*ℤ◌, u
 use Rattle.std.proofs.Math.Nat.{le_trans}
 use Rattle.std.proofs.lemmas.Int.{ints}
 use mir.Syntax.{w64}
-use Rattle.lp_frac.proofs.Sizes.{scaled}
+use Rattle.lp_frac.proofs.ProductSizes.{scaled}
 use Rattle.lp_frac.proofs.small.small_on.Goals as goal
 
 once : (n : ℤ) (q : ℕ) → q ≡ 1 → n ≡ n *ℤ pos q
