@@ -1,7 +1,7 @@
 pub mod SomeAnswers
 pub mod Answering
 pub mod Together
-pub mod SoFar
+pub mod ExchangesSoFar
 pub mod Moving
 pub mod Turns
 pub mod Reading
@@ -13,5 +13,5 @@ pub mod Plays
 pub mod Only
 pub mod Sights
 pub mod Puts
-pub mod Sizes
-pub mod Steps
+pub mod PublishedWords
+pub mod PassReads

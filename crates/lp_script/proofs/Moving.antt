@@ -24,7 +24,7 @@ use Rattle.lp_line.specs.declared.halt.Halt.{Halt}
 use Rattle.lp_line.specs.declared.halt.Halt.TheVariants as halts
 use Rattle.lp_script.specs.Run.{Moves, EndsWith, EndsInput, BreaksOff, EndsSo}
 use Rattle.spec_server.specs.Streams.{Streams, streams}
-use Rattle.lp_script.proofs.SoFar.{IsSoFar, goes_on}
+use Rattle.lp_script.proofs.ExchangesSoFar.{IsSoFar, goes_on}
 
 -- ---- scripts by their length
 

@@ -22,7 +22,7 @@ use Rattle.lp_line.specs.Takes.{TakesAsk, TakesNone, TakesEnd, TakesNext}
 use Rattle.lp_line.specs.declared.halt.Halt.TheVariants as halts
 use Rattle.lp_script.specs.declared.script.Script.{Script}
 use Rattle.lp_script.specs.Script.{IsRead, ReadsSome, ReadsScript, ReadsToEnd}
-use Rattle.lp_script.proofs.SoFar.{asks_more, pending_more}
+use Rattle.lp_script.proofs.ExchangesSoFar.{asks_more, pending_more}
 
 -- The lines that were read so far end between two commands, and these are their asks.
 pub record Reading (before now : Option (List ℕ)) (reading : LinesState) (asks : List (Asked ExactAsk)) : Type 0 where

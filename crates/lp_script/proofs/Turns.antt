@@ -31,7 +31,7 @@ use Rattle.lp_line.specs.Halt.{halt_of}
 use Rattle.spec_server.specs.Streams.{streams}
 use Rattle.lp_script.proofs.OneMore.{exchange_of, one_run}
 use Rattle.lp_script.proofs.Answering.{one_run_to, one_log, one_line}
-use Rattle.lp_script.proofs.SoFar.{IsSoFar, runs_by_one, pending_more, so_far_more, so_far_none}
+use Rattle.lp_script.proofs.ExchangesSoFar.{IsSoFar, runs_by_one, pending_more, so_far_more, so_far_none}
 use Rattle.lp_script.proofs.Moving.{whole_front, moves_in_part, moves_broken_off, moves_all, moves_past}
 
 -- The lines that were read so far were answered, and the sessions share as many places as at the start.

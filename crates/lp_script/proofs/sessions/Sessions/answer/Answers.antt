@@ -3,7 +3,7 @@
 use Rattle.std.proofs.Common.{◌∙◌, arith, set, subst}
 use Rattle.lp_script.specs.Answer.{Together, states_of, Steps}
 use Rattle.lp_script.specs.Only.{sharing_of}
-use Rattle.lp_script.proofs.Steps.{shares_so, step_goes}
+use Rattle.lp_script.proofs.PassReads.{shares_so, step_goes}
 use Rattle.lp_script.proofs.Together.{rests, rests_more, steps, answers_ok, answers_part}
 use Rattle.lp_script.proofs.sessions.Sessions.answer.Goals as goal
 

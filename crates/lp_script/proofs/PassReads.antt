@@ -21,7 +21,7 @@ use Rattle.lp_script.proofs.Plays.{reads_since, has_newest, Played, played_on, p
 use Rattle.lp_script.proofs.Only.{OwnsAll, owns_all, look_rests, rests_own}
 use Rattle.lp_script.proofs.Sights.{look_sees}
 use Rattle.lp_script.proofs.Puts.{tried, put_reads, put_places, put_played, put_order}
-use Rattle.lp_script.proofs.Sizes.{IsSized, step_sized}
+use Rattle.lp_script.proofs.PublishedWords.{IsSized, step_sized}
 
 -- the places answer what a pass reads more, and it is still the only one
 pub record Goes (v u : View) : Type 0 where
