@@ -5,7 +5,7 @@ mod KeptLemmas
 pub mod LastBytes
 mod PieceLemmas
 mod RunSteps
-mod SoFar
+mod LineSoFar
 pub mod TakingLemmas
 pub mod Logs
 pub mod Remembered

@@ -26,7 +26,7 @@ use Rattle.lp_base.specs.Taking.{ReadsUntil, ReadsAll, ReadsLittleMore, ReadsPar
 use Rattle.lp_base.specs.declared.lines.LineStop.{LineStop}
 use Rattle.lp_base.specs.declared.lines.LineStop.TheVariants.{Read, NoMemory}
 use Rattle.lp_base.proofs.KeptLemmas.{take-append}
-use Rattle.lp_base.proofs.SoFar.{state_is}
+use Rattle.lp_base.proofs.LineSoFar.{state_is}
 
 -- ---- what a text begins with
 begins_with_none : BeginsWith [] []

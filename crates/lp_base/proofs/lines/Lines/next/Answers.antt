@@ -3,8 +3,8 @@ use Rattle.std.proofs.Common.{◌∙◌, sym, refl, true, false, arith}
 use Rattle.std.proofs.lemmas.Result.{err_from_is_err_and}
 use Rattle.std.proofs.Math.Nat.{le_trans}
 use Rattle.std.proofs.lemmas.Bool.{both_ways}
-use Rattle.lp_base.proofs.SoFar.{SoFar-read, SoFar-run, gives_ended, gives_over, gives_last, gives_no_memory}
-use Rattle.lp_base.proofs.SoFar.{gives_err, breaks_off, still_ahead, stays, has_some, has_none, run_with}
+use Rattle.lp_base.proofs.LineSoFar.{SoFar-read, SoFar-run, gives_ended, gives_over, gives_last, gives_no_memory}
+use Rattle.lp_base.proofs.LineSoFar.{gives_err, breaks_off, still_ahead, stays, has_some, has_none, run_with}
 use Rattle.lp_base.proofs.lines.Lines.next.Goals as goal
 
 pub returns-in_err-has_more-clause-held : goal.returns-in_err-has_more-clause-held

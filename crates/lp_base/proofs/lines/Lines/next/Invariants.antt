@@ -1,7 +1,7 @@
 -- The line so far is what was read, and nothing is read while a line feed is ahead.
 use Rattle.std.proofs.Common.{◌≡◌, ◌-◌, ◌^◌, ◌≤◌, true}
 use Rattle.std.specs.List.{Contains}
-use Rattle.lp_base.proofs.SoFar.{SoFar}
+use Rattle.lp_base.proofs.LineSoFar.{SoFar}
 use Rattle.lp_base.proofs.lines.Lines.next.Given as goal
 
 abbrev pub invariant-loop-line : goal.invariant-loop-line
