@@ -1,3 +1,3 @@
 pub mod Counted
 pub mod MadeForms
-mod Steps
+mod WordLists

@@ -1,6 +1,6 @@
 use Rattle.std.proofs.Common.{ap, ◌∙◌, arith}
 use Rattle.spec_simplex.specs.Tableau.{is_basic}
-use Rattle.lp_form.proofs.Steps.{count_step}
+use Rattle.lp_form.proofs.WordLists.{count_step}
 use Rattle.lp_form.proofs.formed.count_basic.Goals as goal
 use Rattle.lp_form.proofs.formed.count_basic.Goals.{then-is_basic, else-is_basic}
 

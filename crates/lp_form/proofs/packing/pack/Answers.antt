@@ -4,7 +4,7 @@ use Rattle.std.proofs.lemmas.List.{take_all, length-set, append-nil}
 use Rattle.spec_exact.specs.Run.{made}
 use Rattle.spec_board.specs.Words.{basis_code, word_from, shape_of, packed}
 use Rattle.spec_board.proofs.PackedPlaces.{shape_length}
-use Rattle.lp_form.proofs.Steps.{word_more, copied_more, all_put}
+use Rattle.lp_form.proofs.WordLists.{word_more, copied_more, all_put}
 use Rattle.lp_form.proofs.packing.pack.Goals as goal
 
 pub loop-i-preserved : goal.loop-i-preserved

@@ -3,7 +3,7 @@ use Rattle.std.proofs.Common.{◌≡◌, ◌+◌, ◌*◌, [], ◌∷◌, ◌++�
 use Rattle.std.proofs.lemmas.List.{length-set}
 use Rattle.spec_exact.specs.Run.{made}
 use Rattle.spec_board.specs.Words.{form_code, word_from, shape_of}
-use Rattle.lp_form.proofs.Steps.{word_more, all_put}
+use Rattle.lp_form.proofs.WordLists.{word_more, all_put}
 use Rattle.lp_form.proofs.packing.shape.Goals as goal
 
 pub loop-w-preserved : goal.loop-w-preserved

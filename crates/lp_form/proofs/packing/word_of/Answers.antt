@@ -1,7 +1,7 @@
 -- A word has room for one more column, and is whole in the end.
 use Rattle.std.proofs.Common.{◌+◌, ◌*◌, ap, ◌∙◌, arith}
 use Rattle.lp_form.specs.Coded.{code_of}
-use Rattle.lp_form.proofs.Steps.{column_more, has_room, whole_word, code_small}
+use Rattle.lp_form.proofs.WordLists.{column_more, has_room, whole_word, code_small}
 use Rattle.lp_form.proofs.packing.word_of.Goals as goal
 
 pub overflow_mul-word : goal.overflow_mul-word

@@ -1,6 +1,6 @@
 -- As many columns are basic as there are rows.
 use Rattle.std.proofs.Common.{sym, ◌∙◌, arith}
-use Rattle.lp_form.proofs.Steps.{basics_unpacked}
+use Rattle.lp_form.proofs.WordLists.{basics_unpacked}
 use Rattle.lp_form.proofs.unpacking.unpack.Goals as goal
 
 pub from_vec-requires : goal.from_vec-requires
