@@ -1,4 +1,4 @@
 pub mod OneMore
 pub mod Tried
 pub mod Placed
-pub mod Steps
+pub mod SearchSteps

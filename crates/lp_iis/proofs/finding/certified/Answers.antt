@@ -1,7 +1,7 @@
 use Rattle.std.proofs.Common.{subst}
 use Rattle.spec_iis.specs.Only.{only}
 use Rattle.lp_iis.specs.Trials.{IsTried}
-use Rattle.lp_iis.proofs.Steps.{certified_all}
+use Rattle.lp_iis.proofs.SearchSteps.{certified_all}
 use Rattle.lp_iis.proofs.finding.certified.Goals as goal
 
 pub returns-in-Infeasible : goal.returns-in-Infeasible

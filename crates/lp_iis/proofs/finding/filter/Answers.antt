@@ -5,8 +5,8 @@ use Rattle.spec_exact.specs.Narrow.{number_limit}
 use Rattle.spec_iis.specs.Sides.{IsSide}
 use Rattle.spec_iis.specs.Rule.{IsRead, IsClash}
 use Rattle.lp_iis.specs.Ways.{IsSeen}
-use Rattle.lp_iis.proofs.Steps.{ahead_first, ahead_at, others_present, others_read, others_reached}
-use Rattle.lp_iis.proofs.Steps.{ahead_without, ahead_kept, ahead_same}
+use Rattle.lp_iis.proofs.SearchSteps.{ahead_first, ahead_at, others_present, others_read, others_reached}
+use Rattle.lp_iis.proofs.SearchSteps.{ahead_without, ahead_kept, ahead_same}
 use Rattle.lp_iis.proofs.finding.filter.Goals as goal
 use Rattle.lp_iis.proofs.finding.filter.Goals.{in-Clash, in-Point+in_ok-keep-in-Point}
 

@@ -1,5 +1,5 @@
 use Rattle.std.proofs.Common.{drop}
-use Rattle.lp_iis.proofs.Steps.{IsAhead}
+use Rattle.lp_iis.proofs.SearchSteps.{IsAhead}
 use Rattle.lp_iis.proofs.finding.filter.Given as goal
 
 -- those from this one on are still to be looked at

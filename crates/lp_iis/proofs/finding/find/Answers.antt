@@ -1,6 +1,6 @@
 use Rattle.std.proofs.Common.{sym, ◌∙◌}
 use Rattle.lp_iis.proofs.Tried.{ends_cold}
-use Rattle.lp_iis.proofs.Steps.{begun, begun_else}
+use Rattle.lp_iis.proofs.SearchSteps.{begun, begun_else}
 use Rattle.lp_iis.proofs.finding.find.Goals as goal
 
 pub reduced-found-requires-clause-begun : goal.reduced-found-requires-clause-begun

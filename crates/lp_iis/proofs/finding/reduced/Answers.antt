@@ -8,7 +8,7 @@ use Rattle.spec_iis.specs.Only.{only}
 use Rattle.spec_iis.specs.Rule.{IsRead}
 use Rattle.spec_iis.specs.Found.{MayFind}
 use Rattle.lp_iis.specs.Ways.{IsLeft, MayEnd}
-use Rattle.lp_iis.proofs.Steps.{begun_fits, begun_accepted, begun_clash, begun_read, stopped_at, may_find}
+use Rattle.lp_iis.proofs.SearchSteps.{begun_fits, begun_accepted, begun_clash, begun_read, stopped_at, may_find}
 use Rattle.lp_iis.proofs.finding.reduced.Goals as goal
 
 pub used-requires-clause-fits : goal.used-requires-clause-fits
