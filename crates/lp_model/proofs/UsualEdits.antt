@@ -18,7 +18,7 @@ use Rattle.spec_edit.specs.Changes.{with_sense}
 use Rattle.spec_edit.specs.Edited.{ExactEdit, Pairs, is_row_taken, is_ranged_free, column_of, new_row, new_column}
 use Rattle.spec_edit.specs.Edited.{with_right_side, edited}
 use Rattle.spec_edit.proofs.Keeping.{lowered}
-use Rattle.spec_edit.proofs.Steps.{test_ok, same_ok, at_row, at_column, at_entry, right_side-ok, range-ok}
+use Rattle.spec_edit.proofs.Searches.{test_ok, same_ok, at_row, at_column, at_entry, right_side-ok, range-ok}
 use Rattle.spec_edit.proofs.NewColumns.{new_column-ok}
 use Rattle.lp_model.specs.declared.edit.EditError.{EditError}
 use Rattle.lp_model.specs.declared.edit.EditError.TheVariants.{Fault, NoMemory}

@@ -9,7 +9,7 @@ use Rattle.spec_edit.specs.Changes.{with_coefficient, with_bounds, with_sense}
 use Rattle.spec_edit.specs.Edited.{ExactEdit, with_right_side, edited}
 use Rattle.spec_edit.specs.Meaning.{adds_or_removes, KeepsNames}
 use Rattle.spec_edit.proofs.NameLemmas.{row_names-changed, column_names-changed}
-use Rattle.spec_edit.proofs.Steps.{same_ok, at_column, at_entry, right_side-ok, range-ok}
+use Rattle.spec_edit.proofs.Searches.{same_ok, at_column, at_entry, right_side-ok, range-ok}
 
 at_a_row : (m : Model) (i : ℕ) (change : ExactRow → ExactRow) → i < height m →
     (change (row m i)).name ≡ (row m i).name → KeepsNames m (changed_row change m i)

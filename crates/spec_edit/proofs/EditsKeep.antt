@@ -13,7 +13,7 @@ use Rattle.spec_edit.specs.declared.edit.EditFault.TheVariants.{FreeRow}
 use Rattle.spec_edit.specs.Changes.{with_row, without_row, without_column, with_cost}
 use Rattle.spec_edit.specs.Changes.{with_coefficient, with_bounds, with_sense}
 use Rattle.spec_edit.specs.Edited.{ExactEdit, IsKeptEdit, is_row_taken, is_ranged_free, new_row, with_right_side, edited}
-use Rattle.spec_edit.proofs.Steps.{test_ok, same_ok, at_row, at_column, at_entry, right_side-ok, range-ok, fits}
+use Rattle.spec_edit.proofs.Searches.{test_ok, same_ok, at_row, at_column, at_entry, right_side-ok, range-ok, fits}
 use Rattle.spec_edit.proofs.Keeping.{with_row-kept, without_row-kept, without_column-kept}
 use Rattle.spec_edit.proofs.Keeping.{with_cost-kept, with_coefficient-kept, with_bounds-kept, with_rhs-kept}
 use Rattle.spec_edit.proofs.Keeping.{with_range-kept, with_offset-kept, with_sense-kept}

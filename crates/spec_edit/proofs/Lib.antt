@@ -2,7 +2,7 @@ pub mod ListLemmas
 pub mod EntryLemmas
 pub mod NameLemmas
 pub mod Keeping
-pub mod Steps
+pub mod Searches
 pub mod NewColumns
 pub mod EditsKeep
 pub mod EditNames

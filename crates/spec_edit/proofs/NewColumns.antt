@@ -14,7 +14,7 @@ use Rattle.spec_edit.specs.Changes.{with_entry, with_column}
 use Rattle.spec_edit.specs.Edited.{Pairs, row_named, is_given, entries_of, column_of, is_column_taken, new_column}
 use Rattle.spec_model.proofs.NamePlaces.{row_inside}
 use Rattle.spec_model.proofs.KeptModels.{zero_bound}
-use Rattle.spec_edit.proofs.Steps.{step_ok, test_ok, known_ok, same_ok}
+use Rattle.spec_edit.proofs.Searches.{step_ok, test_ok, known_ok, same_ok}
 use Rattle.spec_edit.proofs.Keeping.{with_column-kept, with_entry-kept, with_entry-narrow}
 
 -- ---- a pair after the other

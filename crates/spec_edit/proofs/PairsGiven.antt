@@ -14,7 +14,7 @@ use Rattle.spec_edit.specs.Edited.{Pairs, is_given, entries_of, column_of, new_c
 use Rattle.spec_edit.specs.Meaning.{given_to, IsWithPairs}
 use Rattle.spec_model.proofs.NamePlaces.{row_known}
 use Rattle.spec_edit.proofs.NameLemmas.{one_row}
-use Rattle.spec_edit.proofs.Steps.{same_ok}
+use Rattle.spec_edit.proofs.Searches.{same_ok}
 use Rattle.spec_edit.proofs.NewColumns.{puts_pair, new_column-ok}
 use Rattle.spec_edit.proofs.Coefficients.{entry_of-with_entry}
 
