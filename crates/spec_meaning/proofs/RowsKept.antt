@@ -20,7 +20,7 @@ use Rattle.spec_mps.specs.Fields.{Fields, text_at}
 use Rattle.spec_mps.specs.Shapes.{row_type_of}
 use Rattle.spec_mps.specs.Reader.{State, new_row, is_first, with_row}
 use Rattle.spec_mps.specs.Steps.{data_card, SpellsWithin, model_by}
-use Rattle.spec_mps.proofs.Steps.{none_if}
+use Rattle.spec_mps.proofs.TwoPartTests.{none_if}
 use Rattle.spec_meaning.specs.RowCards.{Labels, typed, typed_rows, first_free, but_first_free}
 use Rattle.spec_meaning.specs.TextCards.{Lines, cards_in}
 use Rattle.spec_mps.proofs.CardsDid.{rows_did}

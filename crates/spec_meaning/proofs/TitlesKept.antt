@@ -21,7 +21,7 @@ use Rattle.spec_mps.specs.Shapes.{look_up, sense_of, shaped}
 use Rattle.spec_mps.specs.Reader.{State}
 use Rattle.spec_mps.specs.Steps.{take_sense, sense_card, has_begun, with_section, begun}
 use Rattle.spec_mps.specs.Steps.{sense_beside, headed, data_card, sense_or_min, model_by, SpellsWithin}
-use Rattle.spec_mps.proofs.Steps.{none_if}
+use Rattle.spec_mps.proofs.TwoPartTests.{none_if}
 use Rattle.spec_mps.proofs.CardsDid.{sense_did}
 use Rattle.spec_mps.proofs.CheckSteps.{step_ok, must_ok, same_ok}
 use Rattle.spec_meaning.specs.RowCards.{second_word, sense_words, IsSenseWord, IsSenseOf}

@@ -1,4 +1,4 @@
-pub mod Steps
+pub mod TwoPartTests
 pub mod Names
 pub mod Entries
 pub mod SplitLemmas

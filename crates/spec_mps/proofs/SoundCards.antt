@@ -32,7 +32,7 @@ use Rattle.spec_mps.specs.Reader.{rows_card, whole_columns, enter, columns_card,
 use Rattle.spec_mps.specs.Sides.{changed_at, put_side, rhs_card, new_range, ranges_card}
 use Rattle.spec_mps.specs.Bounds.{BoundCard, BoundTexts, with_bound, bounds_card}
 use Rattle.spec_mps.proofs.BoundLemmas.{bound_is_within, abs_from_within}
-use Rattle.spec_mps.proofs.Steps.{none_if}
+use Rattle.spec_mps.proofs.TwoPartTests.{none_if}
 use Rattle.spec_mps.proofs.Names.{none_pass, nowhere, others}
 use Rattle.spec_mps.proofs.CheckSteps.{must_ok, same_ok}
 use Rattle.spec_mps.proofs.CardsDid.{rows_did, PairDid, pairs_keep, column_puts, side_puts, put_ranged, range_puts}
