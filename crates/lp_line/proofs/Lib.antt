@@ -4,7 +4,7 @@ pub mod StageLines
 pub mod ScriptTurns
 pub mod AskTurns
 pub mod SmallBounds
-pub mod Stops
+pub mod EditStops
 pub mod PairsLeft
 pub mod NewColumn
 pub mod NumberLemmas

@@ -1,6 +1,6 @@
 use Rattle.std.proofs.Common.{ap, sym, ◌∙◌, Err}
 use Rattle.std.proofs.lemmas.Result.{err_from_is_err_and}
-use Rattle.lp_line.proofs.Stops.{gives_fault}
+use Rattle.lp_line.proofs.EditStops.{gives_fault}
 use Rattle.lp_line.proofs.NewColumn.{odd_column, cost_fault, pairs_fault, column_read}
 use Rattle.lp_line.proofs.edits.column_in.Goals as goal
 

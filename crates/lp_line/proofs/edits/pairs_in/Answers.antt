@@ -2,7 +2,7 @@ use Rattle.std.proofs.Common.{sym}
 use Rattle.std.proofs.lemmas.Result.{err_from_is_err_and}
 use Rattle.std.proofs.lemmas.Option.{IfSome_then}
 use Rattle.spec_server.specs.EditCommand.{numbers_in}
-use Rattle.lp_line.proofs.Stops.{gives_fault}
+use Rattle.lp_line.proofs.EditStops.{gives_fault}
 use Rattle.lp_line.proofs.PairsLeft.{one_read, first_fault, none_left}
 use Rattle.lp_line.proofs.edits.pairs_in.Goals as goal
 
