@@ -24,7 +24,7 @@ use Rattle.spec_check.specs.Run.{at_most, column_within_run, activity_run, row_w
 use Rattle.spec_check.specs.Run.{column_tight_run, row_tight_run, value_run, optimal_run, check_run}
 use Rattle.spec_check.specs.Run.{weighed_at, weighed, row_asks_run, priced_run, column_gives_run, infeasible_run}
 use Rattle.spec_check.specs.Run.{crossed_run, clash_run, row_allows_run, better_run, unbounded_run}
-use Rattle.spec_check.proofs.Stops.{plus_is, less_is}
+use Rattle.spec_check.proofs.StoppedRuns.{plus_is, less_is}
 
 same : {A : Type 0} (o : Run A) → Agrees o o
 unfolding Agrees

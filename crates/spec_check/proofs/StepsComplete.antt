@@ -25,7 +25,7 @@ use Rattle.spec_check.specs.Run.{Run, step, need, each, plus_product, less_produ
 use Rattle.spec_check.specs.Run.{sum_run, lower_run, upper_run}
 use Rattle.spec_check.specs.Run.{at_least, at_most, stands_at, is_tight}
 use Rattle.spec_check.specs.Run.{column_within_run, columns_run, activity_run, row_within_run, rows_run}
-use Rattle.spec_check.proofs.Stops.{plus_is, less_is}
+use Rattle.spec_check.proofs.StoppedRuns.{plus_is, less_is}
 
 pub then_ok : {A B : Type 0} (o : Run A) (a : A) (next : A → Run B) (b : B) → o ≡ Ok a → next a ≡ Ok b →
     (o >>= next) ≡ Ok b

@@ -1,7 +1,7 @@
 -- A column outside its bounds stops the run.
 use Rattle.std.proofs.Common.{sym}
 use Rattle.std.proofs.lemmas.Result.{err_from_is_err_and}
-use Rattle.spec_check.proofs.Stops.{each_stops}
+use Rattle.spec_check.proofs.StoppedRuns.{each_stops}
 use Rattle.lp_check.proofs.point.columns_within.Goals as goal
 
 pub returns-in_err-column_within : goal.returns-in_err-column_within

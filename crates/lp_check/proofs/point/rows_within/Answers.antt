@@ -1,7 +1,7 @@
 -- A row outside its limits stops the run.
 use Rattle.std.proofs.Common.{sym}
 use Rattle.std.proofs.lemmas.Result.{err_from_is_err_and}
-use Rattle.spec_check.proofs.Stops.{each_stops}
+use Rattle.spec_check.proofs.StoppedRuns.{each_stops}
 use Rattle.lp_check.proofs.point.rows_within.Goals as goal
 
 pub returns-in_err-row_within : goal.returns-in_err-row_within

@@ -1,7 +1,7 @@
 -- A row that does not allow the ray stops the run.
 use Rattle.std.proofs.Common.{sym}
 use Rattle.std.proofs.lemmas.Result.{err_from_is_err_and}
-use Rattle.spec_check.proofs.Stops.{each_stops}
+use Rattle.spec_check.proofs.StoppedRuns.{each_stops}
 use Rattle.lp_check.proofs.ray.rows_allow.Goals as goal
 
 pub returns-in_err-row_allows : goal.returns-in_err-row_allows

@@ -1,4 +1,4 @@
-use Rattle.spec_check.proofs.Stops.{each_stops}
+use Rattle.spec_check.proofs.StoppedRuns.{each_stops}
 use Rattle.lp_check.proofs.Gives.{fails}
 use Rattle.lp_check.proofs.wide.point.columns_within.Goals as goal
 

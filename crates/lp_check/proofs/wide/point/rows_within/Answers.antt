@@ -1,5 +1,5 @@
 use Rattle.std.proofs.Common.{sym, ap, ◌∙◌}
-use Rattle.spec_check.proofs.Stops.{each_stops}
+use Rattle.spec_check.proofs.StoppedRuns.{each_stops}
 use Rattle.lp_check.specs.Sums as given
 use Rattle.lp_check.proofs.Gives.{fails}
 use Rattle.lp_check.proofs.wide.point.rows_within.Goals as goal
