@@ -14,7 +14,7 @@ use Rattle.basis_board.specs.Board.{Has, first_view}
 use Rattle.basis_board.specs.Known.{Known}
 use Rattle.basis_board.specs.Rule.{published_places, Consistent, Neat, OwnsBelow}
 use Rattle.basis_board.specs.Calls.{Passed, IsDownTo, Looks}
-use Rattle.basis_board.proofs.Whole.{length_own}
+use Rattle.basis_board.proofs.OnceBelow.{length_own}
 use Rattle.lp_script.specs.Only.{published_words, AreInOrder, IsOnly}
 
 -- ---- the first pass of a board is the only one

@@ -1,4 +1,4 @@
-use Rattle.basis_board.proofs.Whole.{length_own}
+use Rattle.basis_board.proofs.OnceBelow.{length_own}
 use Rattle.basis_board.proofs.laws.whole_passes_own_all.Goals as goal
 
 pub returns : goal.returns
