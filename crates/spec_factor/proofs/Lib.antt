@@ -7,7 +7,7 @@ pub mod Factored
 pub mod FactorLimits
 pub mod SameScan
 pub mod SameChoices
-pub mod Whole
+pub mod FactoredTableau
 pub mod Selection
 pub mod Next
 pub mod Refactor

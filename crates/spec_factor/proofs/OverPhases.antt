@@ -40,7 +40,7 @@ use Rattle.spec_factor.specs.Revised.{Revised, bare_of, factor_column, refactor_
 use Rattle.spec_factor.specs.Over.{RevisedEnded, over_from, nothing_seen, second_state, OverEnd, negatives}
 use Rattle.spec_factor.specs.Over.{stuck_answer, end_answer, over_two, over_phases, over_run, answer_of, answer_in}
 use Rattle.spec_factor.specs.Same.{Places, bare_with, state, GoesWith, HasCosts}
-use Rattle.spec_factor.proofs.Whole.{plain_column, column_logical}
+use Rattle.spec_factor.proofs.FactoredTableau.{plain_column, column_logical}
 use Rattle.spec_factor.proofs.OverSteps.{there_is, places_of}
 use Rattle.spec_factor.proofs.Refactor.{by_factor, refactored_goes}
 use Rattle.spec_factor.proofs.SameEnds.{basis_same}

@@ -43,7 +43,7 @@ use Rattle.spec_factor.proofs.RunLists.{read}
 use Rattle.spec_factor.proofs.Solves.{ftran_solves, replaced}
 use Rattle.spec_factor.specs.Same.{SameChoice, Places, bare_with, state, GoesWith}
 use Rattle.spec_factor.proofs.SameChoices.{own_table, columns_are}
-use Rattle.spec_factor.proofs.Whole.{plain_column}
+use Rattle.spec_factor.proofs.FactoredTableau.{plain_column}
 use Rattle.spec_factor.proofs.Selection.{steps_same, SameColumn, W, W_is, Sees, seen_at}
 use Rattle.spec_factor.proofs.Next.{Flipped, flip_out, Pivoted, pivot_out, next_statuses, bare_same}
 use Rattle.spec_factor.proofs.Refactor.{stands_as}

@@ -36,7 +36,7 @@ use Rattle.spec_factor.specs.Over.{negatives, over_certificate}
 use Rattle.spec_factor.proofs.RunLists.{Reads}
 use Rattle.spec_factor.specs.Same.{Places, bare_with}
 use Rattle.spec_factor.proofs.SameChoices.{both}
-use Rattle.spec_factor.proofs.Whole.{multiplier, price, price_is}
+use Rattle.spec_factor.proofs.FactoredTableau.{multiplier, price, price_is}
 use Rattle.spec_factor.proofs.Selection.{SameColumn, W, W_is, Sees, SeesFor, SelectionRuns}
 
 -- ---- two tableaus of one basis have the same ray

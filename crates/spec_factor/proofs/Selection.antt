@@ -39,7 +39,7 @@ use Rattle.spec_factor.proofs.Backward.{backward_same}
 use Rattle.spec_factor.proofs.RunLists.{Reads, read, btran_ok}
 use Rattle.spec_factor.proofs.Choosing.{solved, basic_if}
 use Rattle.spec_factor.specs.Same.{Places, bare_with}
-use Rattle.spec_factor.proofs.Whole.{plain_is, whole, row, multiplier, price, whole_is, entry_is, price_is}
+use Rattle.spec_factor.proofs.FactoredTableau.{plain_is, whole, row, multiplier, price, whole_is, entry_is, price_is}
 
 -- steps that are the same one by one
 pub steps_same : {A E : Type 0} (n : ℕ) (f g : ℕ → A → Result A E) (a : A) → ((i : ℕ) (x : A) → i < n → f i x ≡ g i x) →
