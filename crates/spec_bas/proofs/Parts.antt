@@ -16,7 +16,7 @@ use Rattle.spec_bas.proofs.Marks.{mark_same, mark_other}
 
 -- ---- marks
 
-pub marked_same : (s : State) (k : ℕ) (status : Status) → k < length s.marks → is_marked (mark k status s) k ≡ true
+marked_same : (s : State) (k : ℕ) (status : Status) → k < length s.marks → is_marked (mark k status s) k ≡ true
 marked_same s k status h = ap is_some (get_or-set_same s.marks k (Some status) None h)
 
 pub marked_other : (s : State) (k i : ℕ) (status : Status) → i ≢ k → is_marked (mark k status s) i ≡ is_marked s i

@@ -56,11 +56,11 @@ packed_length f basis =
       length-made 24 (λ w. word_from (basis_code basis) (32 * w) 32),
     )
 
-pub first_word : (f : Form) → get_or (shape_of f) 0 0 ≡ 65536 * f.rows + f.cols
+first_word : (f : Form) → get_or (shape_of f) 0 0 ≡ 65536 * f.rows + f.cols
 unfolding shape_of
 first_word f = refl
 
-pub shape_word : (f : Form) (w : ℕ) → w < 24 → get_or (shape_of f) (1 + w) 0 ≡ word_from (form_code f) (32 * w) 32
+shape_word : (f : Form) (w : ℕ) → w < 24 → get_or (shape_of f) (1 + w) 0 ≡ word_from (form_code f) (32 * w) 32
 unfolding shape_of
 shape_word f w h =
     (let z : 1 + w ≡ suc w = omega arith in ap (λ k. get_or (shape_of f) k 0) z)
@@ -72,7 +72,7 @@ unfolding packed
 front_word f basis w h =
     get_or_append_left (shape_of f) (words_of (basis_code basis)) 0 w (omega (arith, h, shape_length f))
 
-pub basis_word : (f : Form) (basis : List Status) (w : ℕ) → w < 24 →
+basis_word : (f : Form) (basis : List Status) (w : ℕ) → w < 24 →
     get_or (packed f basis) (25 + w) 0 ≡ word_from (basis_code basis) (32 * w) 32
 unfolding packed
 basis_word f basis w h =

@@ -23,7 +23,7 @@ pub length-made : (n : ℕ) (f : ℕ → ℚ) → length (made n f) ≡ n
 length-made zero f = refl
 length-made (suc n) f = ap suc (length-made n (λ i. f (suc i)))
 
-pub part-made : (n : ℕ) (f : ℕ → ℚ) (j : ℕ) → j < n → part (made n f) j ≡ f j
+part-made : (n : ℕ) (f : ℕ → ℚ) (j : ℕ) → j < n → part (made n f) j ≡ f j
 part-made zero f j h = absurd (let k : ⊥ = omega arith in k)
 part-made (suc n) f zero h = refl
 part-made (suc n) f (suc j) h = part-made n (λ i. f (suc i)) j (omega arith)

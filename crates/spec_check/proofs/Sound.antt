@@ -106,7 +106,7 @@ asked_weighs l d v t = by (lt_ℚ 0ℚ d) (lt_ℚ d 0ℚ) refl refl
         let e : d ≡ 0ℚ = ≤ℚ_antisym d 0ℚ (le_if_not 0ℚ d p) (le_if_not d 0ℚ q) in
         ap (λ z. z *ℚ 0ℚ) e ∙ zero-*ℚ 0ℚ ∙ sym (ap (λ z. z *ℚ v) e ∙ zero-*ℚ v)
 
-pub infeasible_holds : (m : Model) (y : List ℚ) → ChecksInfeasible m y → IsInfeasible m
+infeasible_holds : (m : Model) (y : List ℚ) → ChecksInfeasible m y → IsInfeasible m
 infeasible_holds m y h z f =
     infeasible (width m) (height m) (coefficient m) (below_of m)
     (above_of m) (λ i. (limits m i).lower) (λ i. (limits m i).upper)
@@ -122,7 +122,7 @@ infeasible_holds m y h z f =
     h.less
     (feasible_for m z f)
 
-pub clash_holds : (m : Model) (j : ℕ) → ChecksClash m j → IsInfeasible m
+clash_holds : (m : Model) (j : ℕ) → ChecksClash m j → IsInfeasible m
 clash_holds m j h z f =
     let b : IsBetween (bounds m j) (part z j) = f.columns j h.inside in
     clash_ℚ h.high h.low h.crossed

@@ -157,7 +157,7 @@ tight_from l d v e = record {
 }
 
 -- ---- a feasible point
-pub column_within_ok : (limit : Option ℕ) (m : Model) (x : List ℚ) (j : ℕ) → column_within_run limit m x j ≡ Ok tt →
+column_within_ok : (limit : Option ℕ) (m : Model) (x : List ℚ) (j : ℕ) → column_within_run limit m x j ≡ Ok tt →
     IsBetween (bounds m j) (part x j)
 column_within_ok limit m x j e =
     let a =
@@ -172,7 +172,7 @@ pub activity_ok : (limit : Option ℕ) (m : Model) (z : List ℚ) (i : ℕ) (v :
     v ≡ activity m z i
 activity_ok limit m z i v e = products_ok limit (width m) (λ j. coefficient m i j) (λ j. part z j) v e
 
-pub row_within_ok : (limit : Option ℕ) (m : Model) (x : List ℚ) (i : ℕ) → row_within_run limit m x i ≡ Ok tt →
+row_within_ok : (limit : Option ℕ) (m : Model) (x : List ℚ) (i : ℕ) → row_within_run limit m x i ≡ Ok tt →
     IsBetween (limits m i) (activity m x i)
 row_within_ok limit m x i e =
     let a = after_ok (activity_run limit m x i) _ tt e in

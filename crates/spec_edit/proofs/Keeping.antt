@@ -166,7 +166,7 @@ without_column-kept m j k l =
 
 -- ---- a row or a column that is changed
 
-pub changed_row-kept : {limits : SizeLimits} (m : Model) (i : ℕ) (change : ExactRow → ExactRow) →
+changed_row-kept : {limits : SizeLimits} (m : Model) (i : ℕ) (change : ExactRow → ExactRow) →
     IsModelWithin limits m → i < height m →
     (change (row m i)).name ≡ (row m i).name → HasFitRange (change (row m i)) → IsNarrowRow (change (row m i)) →
     IsModelWithin limits (changed_row change m i)
@@ -180,7 +180,7 @@ changed_row-kept m i change k l named fit narrow =
     (subst (λ names. Distinct (m.objective ∷ names)) (sym (row_names-changed m i change l named)) k.rows_distinct)
     (All-set IsNarrowRow m.rows i (change (row m i)) narrow k.narrow_rows)
 
-pub changed_column-kept : {limits : SizeLimits} (m : Model) (j : ℕ) (change : ExactColumn → ExactColumn) →
+changed_column-kept : {limits : SizeLimits} (m : Model) (j : ℕ) (change : ExactColumn → ExactColumn) →
     IsModelWithin limits m → j < width m →
     (change (column m j)).name ≡ (column m j).name → IsKeptColumn (height m) (change (column m j)) →
     IsNarrowColumn (change (column m j)) → IsModelWithin limits (changed_column change m j)

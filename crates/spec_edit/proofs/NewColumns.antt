@@ -33,7 +33,7 @@ puts_pair m before p pairs es out h =
     let b = test_ok (is_given p.0 before) _ _ out a.2 in
     record { place = a.0; names = known_ok (row_place m p.0) p.0 a.0 a.1; first = b.0; rest = b.1 }
 
-pub entries_of-kept : (m : Model) (before pairs : Pairs) (es out : List (ℕ × ℚ)) →
+entries_of-kept : (m : Model) (before pairs : Pairs) (es out : List (ℕ × ℚ)) →
     entries_of m before pairs es ≡ Ok out → AreEntries (height m) es → AreEntries (height m) out
 entries_of-kept m before [] es out h k = subst (AreEntries (height m)) (same_ok es out h) k
 entries_of-kept m before (p ∷ pairs) es out h k =
@@ -41,7 +41,7 @@ entries_of-kept m before (p ∷ pairs) es out h k =
     entries_of-kept m (before ++ p ∷ []) pairs (with_entry s.place p.1 es) out s.rest
     (with_entry-kept (height m) s.place p.1 es k (row_inside m p.0 s.place s.names))
 
-pub entries_of-narrow : (m : Model) (before pairs : Pairs) (es out : List (ℕ × ℚ)) →
+entries_of-narrow : (m : Model) (before pairs : Pairs) (es out : List (ℕ × ℚ)) →
     entries_of m before pairs es ≡ Ok out → All (λ e. IsNarrow e.1) es → All (λ p. IsNarrow p.1) pairs →
     All (λ e. IsNarrow e.1) out
 entries_of-narrow m before [] es out h k narrow = subst (All (λ (e : ℕ × ℚ). IsNarrow e.1)) (same_ok es out h) k
@@ -65,7 +65,7 @@ pub column_of-kept : (n : ℕ) (name : Name) (cost : ℚ) (es : List (ℕ × ℚ
     IsKeptColumn n (column_of name cost es)
 column_of-kept n name cost es named k = record { name = named; lower = zero_bound; upper = tt; entries = k }
 
-pub column_of-narrow : (name : Name) (cost : ℚ) (es : List (ℕ × ℚ)) → IsNarrow cost → All (λ e. IsNarrow e.1) es →
+column_of-narrow : (name : Name) (cost : ℚ) (es : List (ℕ × ℚ)) → IsNarrow cost → All (λ e. IsNarrow e.1) es →
     IsNarrowColumn (column_of name cost es)
 column_of-narrow name cost es c k = record { cost = c; lower = zero_narrow; upper = tt; entries = k }
 

@@ -143,7 +143,7 @@ one_forth m e u g i =
     again : (a b : ℚ) → a +ℚ b -ℚ b ≡ a
     again a b = simp ring
 
-pub undone_forward : (m : ℕ) (pairs : List Pair) (v : ℕ → ℚ) → All (IsPair m) pairs → (i : ℕ) → i < m →
+undone_forward : (m : ℕ) (pairs : List Pair) (v : ℕ → ℚ) → All (IsPair m) pairs → (i : ℕ) → i < m →
     undone pairs (forward pairs v) i ≡ v i
 unfolding undone
 undone_forward m [] v s i l = refl

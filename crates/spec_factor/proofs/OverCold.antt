@@ -25,7 +25,7 @@ use Rattle.spec_factor.proofs.OverLimits.{over_agrees}
 use Rattle.spec_factor.proofs.OverPhases.{over_is}
 
 -- the form of a model has its costs
-pub form_costs : (limit : Option ℕ) (m : Model) (f : Form) → form_of limit m ≡ Ok f → HasCosts f
+form_costs : (limit : Option ℕ) (m : Model) (f : Form) → form_of limit m ≡ Ok f → HasCosts f
 form_costs limit m f e =
     let o = form_is limit m f e in
     subst HasCosts o.2 (record { all = cost_length m o.0 o.1; free = λ i _. cost_other m o.0 o.1 i })

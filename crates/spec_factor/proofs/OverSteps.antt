@@ -53,7 +53,7 @@ pub there_is : {A : Type 0} (o : Run A) → Agrees as_it_is o o → (a : A) × (
 there_is (Ok a) h = (a, refl)
 there_is (Err p) h = absurd (h.exact p refl)
 
-pub moved_same : (limit : Option ℕ) (t u : Tableau) (j : ℕ) (theta : ℚ) (but : Option ℕ) → SameColumn t u j →
+moved_same : (limit : Option ℕ) (t u : Tableau) (j : ℕ) (theta : ℚ) (but : Option ℕ) → SameColumn t u j →
     moved_run limit t j theta but ≡ moved_run limit u j theta but
 unfolding moved_run
 moved_same limit t u j theta but s =
@@ -141,7 +141,7 @@ from_bare : (f : Form) (t : Tableau) (basic : List ℕ) (pairs : List Pair) → 
 from_bare f t basic pairs h =
     record { all = h.all; in_range = h.in_range; marked = h.marked; placed = h.placed; stands = h.stands }
 
-pub places_as : (f : Form) (t u : Tableau) (basic : List ℕ) (pairs : List Pair) →
+places_as : (f : Form) (t u : Tableau) (basic : List ℕ) (pairs : List Pair) →
     bare_with t basic ≡ bare_with u basic → Places f t basic pairs → Places f u basic pairs
 places_as f t u basic pairs e h =
     from_bare f u basic pairs (subst (λ t. Places f t basic pairs) e (to_bare f t basic pairs h))

@@ -61,7 +61,7 @@ pub record SameColumn (t u : Tableau) (j : ℕ) : Type 0 where
   pub lower : t.lower ≡ u.lower
   pub upper : t.upper ≡ u.upper
 
-pub best_same : (limit : Option ℕ) (t u : Tableau) (e : Entering) → SameColumn t u e.col →
+best_same : (limit : Option ℕ) (t u : Tableau) (e : Entering) → SameColumn t u e.col →
     best_run limit t e ≡ best_run limit u e
 best_same limit t u e s =
     ap₂ (λ l h. range_run limit e (get_or l e.col None) (get_or h e.col None) >>=

@@ -75,7 +75,7 @@ module _ (m : ℕ) (pairs : List Pair) (basis : Matrix) (stands : StandsFor m pa
 
 -- ---- one more pair
 -- it makes its own column the unit vector of its place
-pub pair_unit : (e : Pair) (v : ℕ → ℚ) (i : ℕ) → v e.place ≢ 0ℚ → pair_at e e.place ≡ v e.place → pair_at e i ≡ v i →
+pair_unit : (e : Pair) (v : ℕ → ℚ) (i : ℕ) → v e.place ≢ 0ℚ → pair_at e e.place ≡ v e.place → pair_at e i ≡ v i →
     forward_one e v i ≡ delta e.place i
 pair_unit e v i n own here =
     by_eq i e.place

@@ -21,7 +21,7 @@ same_way_refl false = refl
 abbrev side : Bool → ℕ → Bool → Side
 side r i u = record { row = r; at = i; upper = u }
 
-pub same_side_is : (s t : Side) → same_side s t ≡ true → s ≡ t
+same_side_is : (s t : Side) → same_side s t ≡ true → s ≡ t
 same_side_is s t h =
     let a : s.row ≡ t.row = same_way_is s.row t.row (and_parts _ _ h).0 in
     let rest : eqb s.at t.at && same_way s.upper t.upper ≡ true = (and_parts (same_way s.row t.row) _ h).1 in
@@ -32,7 +32,7 @@ same_side_is s t h =
     joined : (r q : Bool) (i j : ℕ) (u v : Bool) → r ≡ q → i ≡ j → u ≡ v → side r i u ≡ side q j v
     joined r q i j u v e f g = cc
 
-pub same_side_refl : (s : Side) → same_side s s ≡ true
+same_side_refl : (s : Side) → same_side s s ≡ true
 same_side_refl s = rw (same_way_refl s.row, eq-eqb s.at s.at refl, same_way_refl s.upper) refl
 
 -- ---- listed
@@ -50,7 +50,7 @@ pub listed_first : (s : Side) (sides : List Side) → is_listed (s ∷ sides) s 
 unfolding is_listed
 listed_first s sides = rw (same_side_refl s) refl
 
-pub listed_more : (t : Side) (sides : List Side) (s : Side) → is_listed sides s ≡ true → is_listed (t ∷ sides) s ≡ true
+listed_more : (t : Side) (sides : List Side) (s : Side) → is_listed sides s ≡ true → is_listed (t ∷ sides) s ≡ true
 unfolding is_listed
 listed_more t sides s h = or_right (same_side s t) (list_any (same_side s) sides) h
 
@@ -76,7 +76,7 @@ pub listed_right : (xs ys : List Side) (s : Side) → is_listed ys s ≡ true �
 listed_right [] ys s h = h
 listed_right (x ∷ xs) ys s h = listed_more x (xs ++ ys) s (listed_right xs ys s h)
 
-pub among_left : (xs ys : List Side) → Among xs (xs ++ ys)
+among_left : (xs ys : List Side) → Among xs (xs ++ ys)
 among_left xs ys =
     All-weaker (λ s. is_listed xs s ≡ true) (λ s. is_listed (xs ++ ys) s ≡ true) (listed_left xs ys) xs (all_listed xs)
 

@@ -81,7 +81,7 @@ cards_push style name cards card =
     by true = refl
     by false = refl
 
-pub no_cards : (style : Style) (name : Name) → bounds_of_column style name [] ≡ []
+no_cards : (style : Style) (name : Name) → bounds_of_column style name [] ≡ []
 unfolding bounds_of_column used_bounds
 no_cards style name = refl
 

@@ -96,7 +96,7 @@ opens_leads : {limits : SizeLimits} (s : State) (name : Name) (t : State) → Op
 opens_leads s name t (Same known same) = subst (Leads section.Columns s) same refl
 opens_leads s name t (New other free few new) = subst (Leads section.Columns s) new refl
 
-pub columns_leads : (limits : SizeLimits) (style : Style) (s : State) (fields : Fields) (t : State) →
+columns_leads : (limits : SizeLimits) (style : Style) (s : State) (fields : Fields) (t : State) →
     columns_card limits style s fields ≡ Ok t →
     Leads section.Columns s t
 columns_leads limits style s fields t h =

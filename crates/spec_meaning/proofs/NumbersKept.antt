@@ -102,7 +102,7 @@ viewed_row f view n same xs ys h i =
     ∙ ap f (sym (get_or-map view xs i no_row) ∙ (λ j. get_or (h j) i (view no_row)) ∙ get_or-map view ys i no_row)
     ∙ same (get_or ys i no_row)
 
-pub pushed_row : {A : Type 0} (f : ExactRow → A) (P : A → Type 0) (rows : List ExactRow) (new : ExactRow) (i : ℕ) →
+pushed_row : {A : Type 0} (f : ExactRow → A) (P : A → Type 0) (rows : List ExactRow) (new : ExactRow) (i : ℕ) →
     P (f new) → ((j : ℕ) → P (f (get_or rows j no_row))) → P (f (get_or (rows ++ new ∷ []) i no_row))
 pushed_row f P [] new zero p h = p
 pushed_row f P [] new (suc i) p h = h zero

@@ -38,7 +38,7 @@ one_or_none : (b : Bool) (pair : List ℕ × List ℕ) →
 one_or_none true pair = refl
 one_or_none false pair = refl
 
-pub texts_push : (name : Name) (pairs : Pairs) (pair : List ℕ × List ℕ) →
+texts_push : (name : Name) (pairs : Pairs) (pair : List ℕ × List ℕ) →
     texts_for name (pairs ++ pair ∷ []) ≡ texts_for name pairs ++ cond (same pair.0 name) (pair.1 ∷ []) []
 unfolding texts_for
 texts_push name pairs pair =

@@ -197,7 +197,7 @@ first_last p (x ∷ xs) y h e = go (p x) (λ k. first_last p xs y k e) h
     go true f k = absurd (omega arith)
     go false f k = omega (arith, f (omega arith))
 
-pub position_more : {X : Type 0} (p : X → Bool) (xs : List X) (y : X) (i : ℕ) → position p xs ≡ Some i →
+position_more : {X : Type 0} (p : X → Bool) (xs : List X) (y : X) (i : ℕ) → position p xs ≡ Some i →
     position p (xs ++ y ∷ []) ≡ Some i
 position_more p xs y i h = go (ltb (position_or_len p xs) (length xs)) refl h
   where
@@ -211,7 +211,7 @@ position_more p xs y i h = go (ltb (position_or_len p xs) (length xs)) refl h
         ) k
     go false e k = absurd (cc)
 
-pub position_last : {X : Type 0} (p : X → Bool) (xs : List X) (y : X) → position p xs ≡ None → p y ≡ true →
+position_last : {X : Type 0} (p : X → Bool) (xs : List X) (y : X) → position p xs ≡ None → p y ≡ true →
     position p (xs ++ y ∷ []) ≡ Some (length xs)
 position_last p xs y h e = go (ltb (position_or_len p xs) (length xs)) refl h
   where

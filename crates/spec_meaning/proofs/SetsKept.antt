@@ -154,7 +154,7 @@ first_skipped : (cards : List Fields) (card : Fields) → is_used (first_set car
 first_skipped [] card h = absurd (cc)
 first_skipped (first ∷ cards) card h = refl
 
-pub used_none : used_pairs [] ≡ []
+used_none : used_pairs [] ≡ []
 unfolding used_pairs
 used_none = refl
 

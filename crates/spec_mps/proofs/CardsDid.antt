@@ -29,7 +29,7 @@ use Rattle.spec_mps.proofs.CheckSteps.{step_ok, must_ok, need_ok, same_ok}
 use Rattle.spec_mps.proofs.Sets.{Sets, Sides, Ranges, part_of, pair_of, card_is}
 
 -- the texts of a card that has a shape of its section
-pub shaped_texts : (style : Style) (part : Section) (fields : Fields) (texts : List (List ℕ)) →
+shaped_texts : (style : Style) (part : Section) (fields : Fields) (texts : List (List ℕ)) →
     shaped style part fields ≡ Ok texts → texts_of fields ≡ texts
 unfolding shaped
 shaped_texts style part fields texts h = go (has_shape (shapes_of style part) fields) h

@@ -21,7 +21,7 @@ pub record IsSplit (test : ℕ → Bool) (text front back : List ℕ) : Type 0 w
   pub behind : behind test text ≡ Some back
 
 -- the place of the first that passes is after all that do not
-pub position_past : (test : ℕ → Bool) (front rest : List ℕ) → list_any test front ≡ false →
+position_past : (test : ℕ → Bool) (front rest : List ℕ) → list_any test front ≡ false →
     position_or_len test (front ++ rest) ≡ length front + position_or_len test rest
 position_past test [] rest h = omega arith
 position_past test (b ∷ front) rest h =

@@ -28,7 +28,7 @@ unfolding in_columns
 within first last line more h = rw (take-append-le last line more h) refl
 
 -- a text with blanks after it, in its columns
-pub cell_read : (front w : List ℕ) (n first last size : ℕ) → IsPrinted w →
+cell_read : (front w : List ℕ) (n first last size : ℕ) → IsPrinted w →
     length front + 1 ≡ first → length front + size ≡ last → length w ≤ size → size ≤ length w + n
     → in_columns first last ((front ++ w) ++ blanks n) ≡ w
 cell_read front w n first last size h a b fits far =
@@ -100,13 +100,13 @@ plain_blanks zero = refl
 plain_blanks (suc n) = plain_blanks n
 
 -- a line without misplaced bytes is read by its columns
-pub by_columns : (line : List ℕ) (fs : Fields) → begins_with_star line ≡ false → begins_with_blank line ≡ true →
+by_columns : (line : List ℕ) (fs : Fields) → begins_with_star line ≡ false → begins_with_blank line ≡ true →
     list_all is_plain line ≡ true → list_all is_blank line ≡ false → misplaced_from 1 line ≡ None
     → column_fields line ≡ fs → fixed_fields line ≡ Is (Given fs)
 unfolding fixed_fields is_skipped
 by_columns line fs star blank plain word none here = rw (star, stripped_plain line plain, word, blank, none, here) refl
 
-pub a_field : (n : ℕ) (w : List ℕ) → IsWord w → field_of n w ≡ field_at n w ∷ []
+a_field : (n : ℕ) (w : List ℕ) → IsWord w → field_of n w ≡ field_at n w ∷ []
 a_field n [] h = cc
 a_field n (b ∷ w) h = refl
 
@@ -127,7 +127,7 @@ pub record IsCell (column size : ℕ) (w : List ℕ) : Type 0 where
   pub fits : length w ≤ size
   pub none : HasNoneBeside column size
 
-pub cell_front : (line w : List ℕ) (at column size next : ℕ) → IsFront line at → at + 1 ≡ column →
+cell_front : (line w : List ℕ) (at column size next : ℕ) → IsFront line at → at + 1 ≡ column →
     IsCell column size w → at + size ≤ next → IsFront (cell next line w) next
 cell_front line w at column size next h e c room =
     let a : length (line ++ w) ≡ length line + length w = length-append line w in
@@ -147,7 +147,7 @@ cell_front line w at column size next h e c room =
     }
 
 -- what stands in the cell, and all that stood before it
-pub cell_is : (line w : List ℕ) (at column last size next : ℕ) → IsFront line at → at + 1 ≡ column → at + size ≡ last →
+cell_is : (line w : List ℕ) (at column last size next : ℕ) → IsFront line at → at + 1 ≡ column → at + size ≡ last →
     IsCell column size w → at + size ≤ next → in_columns column last (cell next line w) ≡ w
 cell_is line w at column last size next h e f c room =
     let a : length (line ++ w) ≡ length line + length w = length-append line w in
@@ -156,7 +156,7 @@ cell_is line w at column last size next h e f c room =
     cell_read line w (next - length (line ++ w)) column last size c.word.printable
     (omega arith) (omega arith) c.fits (omega arith)
 
-pub cell_keeps : (line w : List ℕ) (first last next : ℕ) → last ≤ length line →
+cell_keeps : (line w : List ℕ) (first last next : ℕ) → last ≤ length line →
     in_columns first last (cell next line w) ≡ in_columns first last line
 cell_keeps line w first last next h =
     let a : length (line ++ w) ≡ length line + length w = length-append line w in
@@ -190,10 +190,10 @@ last_is line w at column last size h e f c =
     let l = h.long in
     column_last line w column last size c.word.printable (omega arith) (omega arith) c.fits
 
-pub one_blank : IsFront (32 ∷ []) 1
+one_blank : IsFront (32 ∷ []) 1
 one_blank = record { long = refl; plain = refl; placed = blanks_placed [] 1 none_placed }
 
-pub four_blanks : IsFront (32 ∷ 32 ∷ 32 ∷ 32 ∷ []) 4
+four_blanks : IsFront (32 ∷ 32 ∷ 32 ∷ 32 ∷ []) 4
 four_blanks = record { long = refl; plain = refl; placed = blanks_placed [] 4 none_placed }
 
 -- ---- the four kinds of cards

@@ -38,7 +38,7 @@ row_name_word name h = name_word name (and_parts _ _ h).0
 
 -- ---- distinct names
 
-pub absent_next : (name : Name) (seen : List Name) (last : Name) → IsAbsent name seen → last ≢ name →
+absent_next : (name : Name) (seen : List Name) (last : Name) → IsAbsent name seen → last ≢ name →
     IsAbsent name (seen ++ last ∷ [])
 absent_next name seen last h k = list_any-append (λ n. same n name) seen (last ∷ []) ∙ rw (h, not_same last name k) refl
 

@@ -130,7 +130,7 @@ AreFresh seen (name ∷ names) = IsAbsent name seen × AreFresh (seen ++ name �
 abbrev pub names_of : List ExactRow → List Name
 names_of rows = map (λ r. r.name) rows
 
-pub all_past : (rows : List ExactRow) (name : Name) → IsAbsent name (names_of rows) →
+all_past : (rows : List ExactRow) (name : Name) → IsAbsent name (names_of rows) →
     position_or_len (λ r. same r.name name) rows ≡ length rows
 all_past [] name h = refl
 all_past (r ∷ rows) name h =

@@ -134,7 +134,7 @@ row_name_short : (name : Name) → is_row_name name ≡ true → IsShort name
 unfolding is_row_name
 row_name_short name h = name_short name (and_parts _ _ h).0
 
-pub model_name_short : (name : Name) → is_model_name name ≡ true → IsShort name
+model_name_short : (name : Name) → is_model_name name ≡ true → IsShort name
 unfolding is_model_name
 model_name_short name h =
     let p = and_parts (nat_le (length name) 64) (list_all is_printable name) h in

@@ -28,7 +28,7 @@ size_below Down e h =
     abs_above e (<ℚ-le 0ℚ e (turned_back e (subst (λ a. a <ℚ 0ℚ) (down_is e) h)))
     ∙ sym (ap neg_ℚ (down_is e) ∙ neg-neg e)
 
-pub size_above : (way : Way) (e : ℚ) → 0ℚ <ℚ (sign way *ℚ e) → abs_ℚ e ≡ sign way *ℚ e
+size_above : (way : Way) (e : ℚ) → 0ℚ <ℚ (sign way *ℚ e) → abs_ℚ e ≡ sign way *ℚ e
 size_above Up e h = abs_above e (<ℚ-le 0ℚ e (subst (λ a. 0ℚ <ℚ a) (up_is e) h)) ∙ sym (up_is e)
 size_above Down e h = abs_below e (turned_down e (subst (λ a. 0ℚ <ℚ a) (down_is e) h)) ∙ sym (down_is e)
 

@@ -195,7 +195,7 @@ term_least l u a w x up down low high =
     (λ e. subst₂ ◌≤ℚ◌ (sym (ap (λ a. a *ℚ w) e ∙ zero-*ℚ w)) (sym (ap (λ a. a *ℚ x) e ∙ zero-*ℚ x)) (≤ℚ_refl 0ℚ))
 
 -- a combination of the rows makes 0 with values that solve them
-pub solved_row : (m n : ℕ) (f : Matrix) (a w x : ℕ → ℚ) → ((k : ℕ) → a k ≡ sum_below m (λ r. w r *ℚ f r k)) →
+solved_row : (m n : ℕ) (f : Matrix) (a w x : ℕ → ℚ) → ((k : ℕ) → a k ≡ sum_below m (λ r. w r *ℚ f r k)) →
     ((i : ℕ) → i < m → sum_below n (λ k. f i k *ℚ x k) ≡ 0ℚ)
     → sum_below n (λ k. a k *ℚ x k) ≡ 0ℚ
 solved_row m n f a w x is solves =

@@ -36,7 +36,7 @@ over_one limit m n (Fixed j v) c back g a o f k =
     subst (λ b. IsCarried m n c b) (ok_same (over_fixed j v c) back o)
     (over_fixed_column m n j v (fixed_step limit m n j v g a) c f k)
 
-pub over_reduction : (limit : Option ℕ) (m n : Model) (r : ExactReduction) (c back : ExactCertificate) →
+over_reduction : (limit : Option ℕ) (m n : Model) (r : ExactReduction) (c back : ExactCertificate) →
     chosen limit m ≡ Ok (Reduce r) → after limit m r ≡ Ok n → carried_over limit (r, n) c ≡ Ok back → IsFor n c →
     Checks n c → IsCarried m n c back
 over_reduction limit m n r c back h = over_one limit m n r c back (what_goes limit m r h)

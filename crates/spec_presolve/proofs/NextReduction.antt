@@ -52,7 +52,7 @@ first_step i f (Some b) y h e a p =
 pub none_not : {A P : Type 0} (a : A) → ◌≡◌ {A = Option A} None (Some a) → P
 none_not {A} a e = let z : ◌≡◌ {A = Option A} None (Some a) = e in cc
 
-pub first_ok : {A : Type 0} (n : ℕ) (f : ℕ → Run (Option A)) (o : Option A) → first n f ≡ Ok o → (a : A) → o ≡ Some a →
+first_ok : {A : Type 0} (n : ℕ) (f : ℕ → Run (Option A)) (o : Option A) → first n f ≡ Ok o → (a : A) → o ≡ Some a →
     Found n f a
 first_ok {A} n f o h =
     steps_ok (λ k x. (a : A) → x ≡ Some a → Found k f a) n (λ k found. unless found (f k)) None o h

@@ -40,7 +40,7 @@ less_zero s = sym (ap (λ z. s +ℚ z) neg-zero ∙ plus_zero s)
 less_more : (s t u : ℚ) → (s -ℚ t) -ℚ u ≡ s -ℚ (t +ℚ u)
 less_more s t u = simp ring
 
-pub reduced_run_ok : (limit : Option ℕ) (m : Model) (y : List ℚ) (j : ℕ) (d : ℚ) → reduced_run limit m y j ≡ Ok d →
+reduced_run_ok : (limit : Option ℕ) (m : Model) (y : List ℚ) (j : ℕ) (d : ℚ) → reduced_run limit m y j ≡ Ok d →
     d ≡ reduced m y j
 reduced_run_ok limit m y j d h =
     steps_ok (λ k s. s ≡ signed m.sense (cost m j) -ℚ sum_below k (λ i. part y i *ℚ coefficient m i j)) (height m)
@@ -51,7 +51,7 @@ reduced_run_ok limit m y j d h =
     ∙ less_more (signed m.sense (cost m j)) (sum_below i (λ i. part y i *ℚ coefficient m i j))
     (part y i *ℚ coefficient m i j))
 
-pub priced_run_ok : (limit : Option ℕ) (m : Model) (y : List ℚ) (j : ℕ) (g : ℚ) → priced_run limit m y j ≡ Ok g →
+priced_run_ok : (limit : Option ℕ) (m : Model) (y : List ℚ) (j : ℕ) (g : ℚ) → priced_run limit m y j ≡ Ok g →
     g ≡ priced m y j
 priced_run_ok limit m y j g h =
     steps_ok (λ k s. s ≡ sum_below k (λ i. part y i *ℚ coefficient m i j)) (height m)

@@ -21,7 +21,7 @@ scaled a l =
     (record { lower = divided a l.lower; upper = divided a l.upper })
 
 -- ---- a quotient
-pub times_quotient : (a b : ℚ) → ¬ (a ≡ 0ℚ) → a *ℚ (b *ℚ inverse a) ≡ b
+times_quotient : (a b : ℚ) → ¬ (a ≡ 0ℚ) → a *ℚ (b *ℚ inverse a) ≡ b
 times_quotient a b n = *ℚ_left_comm a b (inverse a) ∙ ap (λ q. b *ℚ q) (*ℚ_inverse a n) ∙ *ℚ_one b
 
 shuffle₂ : (a b q : ℚ) → (b *ℚ q) *ℚ a ≡ b *ℚ (a *ℚ q)

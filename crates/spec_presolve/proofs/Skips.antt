@@ -29,7 +29,7 @@ skipping_inside n i k l =
     ⊎_elim (λ p. subst (λ a. a < n + 1) (sym (skipping_below i k p)) (omega arith))
     (λ p. subst (λ a. a < n + 1) (sym (skipping_from i k p)) (omega arith)) (cases_lt k i)
 
-pub skipping_other : (i k : ℕ) → ¬ (skipping i k ≡ i)
+skipping_other : (i k : ℕ) → ¬ (skipping i k ≡ i)
 skipping_other i k e =
     ⊎_elim (λ p. let f = skipping_below i k p in absurd (omega arith))
     (λ p. let f = skipping_from i k p in absurd (omega arith)) (cases_lt k i)

@@ -35,11 +35,11 @@ pub record SameBounds (n : ℕ) (b c : Bounds) : Type 0 where
 pub swapped : (n : ℕ) (b c : Bounds) → SameBounds n b c → SameBounds n c b
 swapped n b c s = record { lower = λ k h. sym (s.lower k h); upper = λ k h. sym (s.upper k h) }
 
-pub same_fixed : (n : ℕ) (b c : Bounds) → SameBounds n b c → (k : ℕ) → k < n → IsFixed b k → IsFixed c k
+same_fixed : (n : ℕ) (b c : Bounds) → SameBounds n b c → (k : ℕ) → k < n → IsFixed b k → IsFixed c k
 same_fixed n b c s k h f = (f.0, sym (s.lower k h) ∙ f.1, sym (s.upper k h) ∙ f.2)
 
 -- a tableau of the same costs and bounds in other words
-pub renamed : (m n : ℕ) (f : Matrix) (c d : ℕ → ℚ) (b e : Bounds) (t : Table) → IsTableau m n f c b t →
+renamed : (m n : ℕ) (f : Matrix) (c d : ℕ → ℚ) (b e : Bounds) (t : Table) → IsTableau m n f c b t →
     ((k : ℕ) → c k ≡ d k) → SameBounds n b e → IsTableau m n f d e t
 renamed m n f c d b e t g same bounds =
     record {

@@ -57,7 +57,7 @@ eliminate_is limit f basis =
     (λ j e. cond (is_basic (basis_at basis j)) (solved_run limit (skeleton f) e j) (Ok e)) (unsolved f)
     (λ j e. step_same limit f e j (is_basic (basis_at basis j)))
 
-pub eliminate_same : (limit : Option ℕ) (f g : Form) (basis : List Status) → skeleton f ≡ skeleton g →
+eliminate_same : (limit : Option ℕ) (f g : Form) (basis : List Status) → skeleton f ≡ skeleton g →
     eliminate_run limit f basis ≡ eliminate_run limit g basis
 eliminate_same limit f g basis e =
     eliminate_is limit f basis ∙ ap (λ s. eliminate_run limit s basis) e ∙ sym (eliminate_is limit g basis)

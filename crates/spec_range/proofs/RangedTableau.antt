@@ -31,7 +31,7 @@ pub record IsOf (f : Form) (basis : List Status) (t : Tableau) : Type 0 where
   pub lower : t.lower ≡ basis_lower f
   pub upper : t.upper ≡ basis_upper f
 
-pub start_is_of : (limit : Option ℕ) (f : Form) (basis : List Status) (t : Tableau) → start_from limit f basis ≡ Ok t →
+start_is_of : (limit : Option ℕ) (f : Form) (basis : List Status) (t : Tableau) → start_from limit f basis ≡ Ok t →
     IsOf f basis t
 unfolding start_from
 start_is_of limit f basis t h =

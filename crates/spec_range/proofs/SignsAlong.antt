@@ -76,10 +76,10 @@ module _ (a : ℚ) (below : a <ℚ 0ℚ) where
   )
 
 -- a number that is not 0 is above 0 or below
-pub above_if : (a : ℚ) → lt_ℚ 0ℚ a ≡ true → 0ℚ <ℚ a
+above_if : (a : ℚ) → lt_ℚ 0ℚ a ≡ true → 0ℚ <ℚ a
 above_if a e = lt_if 0ℚ a e
 
-pub below_if : (a : ℚ) → ¬ (a ≡ 0ℚ) → lt_ℚ 0ℚ a ≡ false → a <ℚ 0ℚ
+below_if : (a : ℚ) → ¬ (a ≡ 0ℚ) → lt_ℚ 0ℚ a ≡ false → a <ℚ 0ℚ
 below_if a n e = by_le 0ℚ a (λ h. absurd (n (≤ℚ_antisym a 0ℚ (le_if_not 0ℚ a e) h))) (λ h. h)
 
 -- ---- the sign of a * (v - t), by the side of t
@@ -104,7 +104,7 @@ both_zero w = (
   λ e. (subst (λ z. z ≤ℚ 0ℚ) (sym e) (≤ℚ_refl 0ℚ), subst (λ z. 0ℚ ≤ℚ z) (sym e) (≤ℚ_refl 0ℚ)),
 )
 
-pub meets_zero : (a v : ℚ) → ¬ (a ≡ 0ℚ) → (t : ℚ) → ((v ≤ℚ t) × (t ≤ℚ v)) ↔ (a *ℚ (v -ℚ t) ≡ 0ℚ)
+meets_zero : (a v : ℚ) → ¬ (a ≡ 0ℚ) → (t : ℚ) → ((v ≤ℚ t) × (t ≤ℚ v)) ↔ (a *ℚ (v -ℚ t) ≡ 0ℚ)
 meets_zero a v n t = go (lt_ℚ 0ℚ a) refl
   where
     go : (c : Bool) → lt_ℚ 0ℚ a ≡ c → ((v ≤ℚ t) × (t ≤ℚ v)) ↔ (a *ℚ (v -ℚ t) ≡ 0ℚ)

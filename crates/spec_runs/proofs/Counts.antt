@@ -24,7 +24,7 @@ abbrev pub filled : List (Option ℕ) → ℕ → ℕ
 filled basic zero = 0
 filled basic (suc n) = filled basic n + cond (has_none (get_or basic n None)) 0 1
 
-pub filled_most : (basic : List (Option ℕ)) (n : ℕ) → filled basic n ≤ n
+filled_most : (basic : List (Option ℕ)) (n : ℕ) → filled basic n ≤ n
 filled_most basic zero = omega arith
 filled_most basic (suc n) = by (has_none (get_or basic n None)) (filled_most basic n)
   where

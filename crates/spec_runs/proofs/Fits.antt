@@ -133,7 +133,7 @@ module _ (limit : Option ℕ) (t : Tableau) where
       (λ k l. absurd (let z : ⊥ = omega (arith, l) in z)) leaving_step
 
 -- ---- needs of reduced costs
-pub all_met : (t : Tableau) (n : ℕ) → all_meet t n ≡ true → (k : ℕ) → k < n → meets_need_at t k ≡ true
+all_met : (t : Tableau) (n : ℕ) → all_meet t n ≡ true → (k : ℕ) → k < n → meets_need_at t k ≡ true
 all_met t zero h k l = absurd (let z : ⊥ = omega (arith, l) in z)
 all_met t (suc n) h k l =
     let o = and_parts (all_meet t n) (meets_need_at t n) h in

@@ -174,7 +174,7 @@ no_place : (limit : Option ℕ) (f : Form) (e : Elimination) (j : ℕ) (o : Opti
 no_place limit f e j None h = refl
 no_place limit f e j (Some p) h = absurd (never_singular (solved_at limit f e j p) h)
 
-pub eliminate_singular : (limit : Option ℕ) (f : Form) (basis : List Status) →
+eliminate_singular : (limit : Option ℕ) (f : Form) (basis : List Status) →
     eliminate_run limit f basis ≡ Err stop.Singular → (j : ℕ) × (x : ℕ → ℚ) × IsDependent f basis j x
 unfolding eliminate_run
 eliminate_singular limit f basis h =

@@ -58,7 +58,7 @@ by_fit P a c d fit.Primal = a
 by_fit P a c d fit.Dual = c
 by_fit P a c d fit.Unfit = d
 
-pub stopped_ok : {A D E : Type 0} (kind : D → E) (o : Result A D) (a : A) → stopped_as kind o ≡ Ok a → o ≡ Ok a
+stopped_ok : {A D E : Type 0} (kind : D → E) (o : Result A D) (a : A) → stopped_as kind o ≡ Ok a → o ≡ Ok a
 stopped_ok kind (Ok b) a h = cc
 stopped_ok kind (Err e) a h = cc
 

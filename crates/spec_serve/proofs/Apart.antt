@@ -13,7 +13,7 @@ use Rattle.spec_serve.specs.Links.{session_of_link, as_session, exchanges_of_lin
 
 -- ---- exchanges as those of a session
 
-pub as_session_reads : (session : ℕ) (xs : List Exchange) → reads_in_all (as_session session xs) ≡ reads_in_all xs
+as_session_reads : (session : ℕ) (xs : List Exchange) → reads_in_all (as_session session xs) ≡ reads_in_all xs
 as_session_reads session [] = refl
 as_session_reads session (x ∷ xs) = ap (λ rs. x.reads ++ rs) (as_session_reads session xs)
 

@@ -43,7 +43,7 @@ of_read : (after : Option (List ℕ)) (read : List ℕ) (P : List ℕ → Type 0
 of_read after read P (inl h) = h.1
 of_read after read P (inr h) = subst P (append-nil read) (h [])
 
-pub served_first : (places : ℕ) (s : Streams) (exchanges : List Exchange) (moves : LinkMoves places s exchanges) →
+served_first : (places : ℕ) (s : Streams) (exchanges : List Exchange) (moves : LinkMoves places s exchanges) →
     AreFirstOf (map asked_in exchanges) (link_asks_of moves.read).asks
 served_first places s exchanges moves =
     of_read s.left_after moves.read (λ bytes. AreFirstOf (map asked_in exchanges) (link_asks_of bytes).asks) moves.asks

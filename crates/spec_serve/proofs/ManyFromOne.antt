@@ -199,7 +199,7 @@ each_published places last log k p none l = let there = place_some last k l in b
 
 -- ---- all of it
 
-pub one_is_many : (places : ℕ) (workers : ℕ) (xs : List Exchange) → RunFits places xs → ManyFits places workers xs
+one_is_many : (places : ℕ) (workers : ℕ) (xs : List Exchange) → RunFits places xs → ManyFits places workers xs
 one_is_many places workers xs f =
     let log : List Logged = log_of xs in
     let none : NoneClaimed f.last =

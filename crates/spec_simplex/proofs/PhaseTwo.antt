@@ -55,7 +55,7 @@ stands_zero AtUpper l u v a b n s =
 stands_zero AtZero l u v a b n s = s.2
 
 -- ---- bounds that are set to 0
-pub zeroed_length : (n m : ℕ) (bounds : List (Option ℚ)) → length (fixed_at_zero n m bounds) ≡ length bounds
+zeroed_length : (n m : ℕ) (bounds : List (Option ℚ)) → length (fixed_at_zero n m bounds) ≡ length bounds
 zeroed_length n zero bounds = refl
 zeroed_length n (suc m) bounds = length-set (fixed_at_zero n m bounds) (n + m) (Some 0ℚ) ∙ zeroed_length n m bounds
 

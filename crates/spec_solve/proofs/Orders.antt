@@ -40,7 +40,7 @@ Same o u = (o ≡ u) ⊎ ((p : Refused ℚ) × (o ≡ Past p))
 abbrev ChecksOut : Option ℕ → Model → ExactSolveEnd → Type 0
 ChecksOut limit m end = GivesUp end ⊎ IsChecked limit m end
 
-pub checks_out : (limit : Option ℕ) (m : Model) (c : Certificate (List ℚ)) (basis : Option (List Status)) (pivots : ℕ) →
+checks_out : (limit : Option ℕ) (m : Model) (c : Certificate (List ℚ)) (basis : Option (List Status)) (pivots : ℕ) →
     ChecksOut limit m (answered limit m c basis pivots)
 checks_out limit m c basis pivots = by (check_run limit m c) refl
   where

@@ -34,7 +34,7 @@ use Rattle.spec_solve.specs.Answers.{enough_pivots, MayAnswer, ColdFits, WarmFit
 -- ---- the cold solve
 
 -- a budget that is spent is below the number that is enough
-pub spent_is_below : (m : Model) (budget : ℕ) → cold (Some number_limit) budget m ≡ Spent → budget < enough_pivots m
+spent_is_below : (m : Model) (budget : ℕ) → cold (Some number_limit) budget m ≡ Spent → budget < enough_pivots m
 spent_is_below m budget e = by (leb (enough_pivots m) budget) refl
   where
     by : (t : Bool) → leb (enough_pivots m) budget ≡ t → budget < enough_pivots m
@@ -42,7 +42,7 @@ spent_is_below m budget e = by (leb (enough_pivots m) budget) refl
     by false is = leb-false (enough_pivots m) budget is
 
 -- its certificate is one for the model
-pub cold_fits : (limit : Option ℕ) (budget : ℕ) (m : Model) (known : Known ℚ) (c : Certificate (List ℚ))
+cold_fits : (limit : Option ℕ) (budget : ℕ) (m : Model) (known : Known ℚ) (c : Certificate (List ℚ))
     (basis : Option (List Status)) (pivots : ℕ) →
     cold limit budget m ≡ Ended known c basis pivots → IsFor m c
 cold_fits limit budget m known c basis pivots =

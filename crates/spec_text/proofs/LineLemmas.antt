@@ -28,7 +28,7 @@ split_some p (b ∷ bs) =
     [ true ↦ ([], slice_split p bs, refl) | false ↦ onto_some b (slice_split p bs) ]
 
 -- a line that ends is the first one, less its carriage return
-pub lines_first : (line more : List ℕ) → All (λ b. eqb b 10 ≡ false) line →
+lines_first : (line more : List ℕ) → All (λ b. eqb b 10 ≡ false) line →
     lines (line ++ 10 ∷ more) ≡ strip_carriage_return line ∷ lines more
 lines_first line more h =
     let s = split_some (λ b. eqb b 10) more in

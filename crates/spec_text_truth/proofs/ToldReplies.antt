@@ -75,7 +75,7 @@ lines_in_line (b ∷ line) more h =
     ap (λ t. cond t ([] ∷ rest) (onto_first b rest)) (not_feed b (All-head (λ b. b ≢ 10) b line h))
     ∙ ap (onto_first b) (lines_in_line line more (All-tail (λ b. b ≢ 10) b line h))
 
-pub lines_in_ended : (lines : List (List ℕ)) → All HasNoFeed lines → lines_in (ended_lines lines) ≡ lines
+lines_in_ended : (lines : List (List ℕ)) → All HasNoFeed lines → lines_in (ended_lines lines) ≡ lines
 unfolding ended_lines
 lines_in_ended [] h = refl
 lines_in_ended (line ∷ lines) h =

@@ -80,7 +80,7 @@ step_then places old new asked reads replied s = by (step_simply places old read
 
 -- ---- runs
 
-pub run_then : (places : ℕ) (old new : State) (xs : List Exchange) (held : Option Model) → old.model ≡ held →
+run_then : (places : ℕ) (old new : State) (xs : List Exchange) (held : Option Model) → old.model ≡ held →
     AloneRun places old xs new → new.model ≡ after_exchanges held xs
 run_then places old new [] held is run = ap (λ s. s.model) run ∙ is
 run_then places old new (x ∷ xs) held is run =

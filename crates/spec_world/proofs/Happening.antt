@@ -51,7 +51,7 @@ begins state asked (SolvesWide m) is =
     (Answers reply.Memory state, inr (ap takes_memory (wide_due_held state m asked is).0, refl))
 
 -- each act that fits the stage may leave something
-pub may_leave : (server : Server) (me : ℕ) (now : List ExactPlace) (s : Session) (stage : Stage) (a : ExactAct) →
+may_leave : (server : Server) (me : ℕ) (now : List ExactPlace) (s : Session) (stage : Stage) (a : ExactAct) →
     fits_stage stage a ≡ true → (left : Left) × Leaves server me now s stage a left
 may_leave server me now s Idle (act.Ask asked) h =
     let b = begins s.state asked (due s.state asked) refl in (begun_left me now s asked b.0, (b.0, b.1, refl))

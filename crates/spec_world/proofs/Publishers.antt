@@ -8,7 +8,7 @@ use Rattle.spec_world.specs.Sound.{IsPublisher}
 use Rattle.spec_world.proofs.OneAct.{Grows}
 
 -- where more exchanges stand behind
-pub publisher_more : (places : ℕ) (s new : Session) (more : List Exchange) (k : ℕ) (words : List ℕ) →
+publisher_more : (places : ℕ) (s new : Session) (more : List Exchange) (k : ℕ) (words : List ℕ) →
     new.finished ≡ s.finished ++ more → IsPublisher places s k words → IsPublisher places new k words
 publisher_more places s new more k words e p = record {
   before = p.before;

@@ -31,7 +31,7 @@ looks_past shape k reads made h step = record {
 }
 
 -- it was the last place
-pub looks_end : (shape : List ℕ) (reads : List ExactRead) → LooksTo shape zero reads → LookReads shape reads None
+looks_end : (shape : List ℕ) (reads : List ExactRead) → LooksTo shape zero reads → LookReads shape reads None
 looks_end shape reads h = subst (λ all. LookReads shape all None) (append-nil reads) (h.more [] None (refl, refl))
 
 -- the next place is what is looked for

@@ -111,7 +111,7 @@ opening_good server = record {
 }
 
 -- each place that is done has the words of a basis
-pub good_sized : (server : Server) (world : World) → IsGood server world → (k : ℕ) (words : List ℕ) →
+good_sized : (server : Server) (world : World) → IsGood server world → (k : ℕ) (words : List ℕ) →
     place_at world.places k ≡ Some (place.Done words) → length words ≡ basis_words
 good_sized server world good k words at = let p = good.published k words at in let b = p.1.puts in
     ap length b.is_packed ∙ packed_length b.form b.basis
@@ -239,7 +239,7 @@ run_good server old [] new good run = subst (IsGood server) (sym run) good
 run_good server old (event ∷ events) new good run =
     run_good server run.1 events new (step_good server old event run.0 run.1 good run.2) run.3
 
-pub good_sound : (server : Server) (world : World) → IsGood server world → IsSound server world
+good_sound : (server : Server) (world : World) → IsGood server world → IsSound server world
 good_sound server world good = record {
   alone = good.run;
   log = good.log;
