@@ -47,7 +47,7 @@ with_head k p ps (Some ys) is same has =
     )
 
 -- what words_of gives stands in the list
-pub words_has : (k : ℕ) (seen : List (ℕ × List ℕ)) (xs : List ℕ) → words_of k seen ≡ Some xs → Has seen (k, xs)
+words_has : (k : ℕ) (seen : List (ℕ × List ℕ)) (xs : List ℕ) → words_of k seen ≡ Some xs → Has seen (k, xs)
 words_has k [] xs e = absurd (cc)
 words_has k (p ∷ ps) xs e = ⊎_elim
     (λ (same : p.0 ≡ k). let h = with_head k p ps (words_of k ps) refl same (words_has k ps) in

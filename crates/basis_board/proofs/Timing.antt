@@ -20,7 +20,7 @@ use Rattle.basis_board.proofs.Totals.{has_right}
 pub grows_same : (ws : List ℕ) → Grows ws ws
 grows_same ws = record { counted = omega arith; dones = λ k. omega arith }
 
-pub grows_on : (ws us vs : List ℕ) → Grows ws us → Grows us vs → Grows ws vs
+grows_on : (ws us vs : List ℕ) → Grows ws us → Grows us vs → Grows ws vs
 grows_on ws us vs a b =
     let x = a.counted in let y = b.counted in
     record { counted = omega arith; dones = λ k. (let p = a.dones k in let q = b.dones k in omega arith) }
@@ -151,7 +151,7 @@ note_set vs id w n h =
     (λ (t : (h.0 ≢ id) × (get_elem? vs h.0 ≡ some h.1)). inr (h.0, h.1, t.1, h.3))
     (at_set vs id h.0 w h.1 h.2)
 
-pub sights_stay : (P : Sight → Type 0) (vs : List Sight) (id : ℕ) (w : Sight) → P w →
+sights_stay : (P : Sight → Type 0) (vs : List Sight) (id : ℕ) (w : Sight) → P w →
     ((j : ℕ) (u : Sight) → get_elem? vs j ≡ some u → P u) → (j : ℕ) (u : Sight) →
     get_elem? (set vs id w) j ≡ some u → P u
 sights_stay P vs id w mine others j u e =
@@ -180,7 +180,7 @@ noted_before ws vs r m n =
 -- ---- steps
 
 -- the same notes, however they are shared out
-pub timed_same : (ws us : List ℕ) (vs vs' : List Sight) → Timed ws vs → Grows ws us → Grows us ws →
+timed_same : (ws us : List ℕ) (vs vs' : List Sight) → Timed ws vs → Grows ws us → Grows us ws →
     ((t : ℕ) → total (stamped t) vs' ≡ total (stamped t) vs) → ((m : Moment) → IsNoted vs' m → IsNoted vs m) →
     ((n : Note) → HasNote vs' n → WasNote vs n) →
     ((j : ℕ) (v : Sight) → get_elem? vs' j ≡ some v → WereTrue v.moments v.view.reads) → Timed us vs'
@@ -212,7 +212,7 @@ was_quiet vs id v w at had n h =
     (λ (b : HasNote vs n). (n.read, b, λ ws us t. t)) (note_set vs id w n h)
 
 -- a step that notes nothing
-pub timed_quiet : (ws us : List ℕ) (vs : List Sight) (id : ℕ) (v w : Sight) → Timed ws vs → get_elem? vs id ≡ some v →
+timed_quiet : (ws us : List ℕ) (vs : List Sight) (id : ℕ) (v w : Sight) → Timed ws vs → get_elem? vs id ≡ some v →
     Grows ws us → Grows us ws → w.moments ≡ v.moments → ((n : Note) → Has (notes_in w) n → HadAlike (notes_in v) n) →
     WereTrue w.moments w.view.reads → Timed us (set vs id w)
 timed_quiet ws us vs id v w r at more less same had true_then =
@@ -223,7 +223,7 @@ timed_quiet ws us vs id v w r at more less same had true_then =
     (sights_stay (λ u. WereTrue u.moments u.view.reads) vs id w true_then r.were_true)
 
 -- a step that notes one read
-pub timed_note : (ws us : List ℕ) (vs : List Sight) (id : ℕ) (v w : Sight) (read : RawRead) (r : Timed ws vs) →
+timed_note : (ws us : List ℕ) (vs : List Sight) (id : ℕ) (v w : Sight) (read : RawRead) (r : Timed ws vs) →
     get_elem? vs id ≡ some v → Turns read ws us → w.moments ≡ (r.now, us) ∷ v.moments →
     w.view.reads ≡ read ∷ v.view.reads → WereTrue w.moments w.view.reads → Timed us (set vs id w)
 timed_note ws us vs id v w read r at turns new is_read true_then =
@@ -496,7 +496,7 @@ numbered_is t [] rs h = refl
 numbered_is t (m ∷ ms) [] h = absurd h
 numbered_is t (m ∷ ms) (r ∷ rs) h = ap (λ x. one_if (eqb m.0 t) + x) (numbered_is t ms rs h.1)
 
-pub note_true : (ms : List Moment) (rs : List RawRead) → WereTrue ms rs → (n : Note) → Has (notes ms rs) n →
+note_true : (ms : List Moment) (rs : List RawRead) → WereTrue ms rs → (n : Note) → Has (notes ms rs) n →
     IsTrueOf n.words n.read
 note_true [] rs h n x = absurd x
 note_true (m ∷ ms) [] h n x = absurd x

@@ -19,7 +19,7 @@ use Rattle.basis_board.proofs.Frames.{St, shows_set, done_set, reads_move}
 use Rattle.basis_board.proofs.Frames.{same_total, seats_stay, held_stays, fits_move}
 
 -- one more word of the payload
-pub shows_push : (ws : List ℕ) (k i b : ℕ) (xs : List ℕ) → length xs < 49 → i ≡ 50 * k + 1 + length xs → i < length ws →
+shows_push : (ws : List ℕ) (k i b : ℕ) (xs : List ℕ) → length xs < 49 → i ≡ 50 * k + 1 + length xs → i < length ws →
     Shows ws k xs → Shows (set ws i b) k (xs ++ b ∷ [])
 shows_push ws k i b xs room is inside h =
     let n : ℕ = length xs in

@@ -103,7 +103,7 @@ begun : {after : Option (List ℕ)} {old new : LinesState} {bytes : List ℕ} {l
 begun {after} {old} {new} {bytes} {lines} t live = tells_begun new.ended after t.raw new.ahead lines live t.told
 
 -- none, where the input has not ended
-pub takes_none : (after : Option (List ℕ)) (state : LinesState) → state.ended ≡ false →
+takes_none : (after : Option (List ℕ)) (state : LinesState) → state.ended ≡ false →
     TakesLines after state [] state []
 takes_none after state live = record {
   live = live;
@@ -116,7 +116,7 @@ takes_none after state live = record {
 }
 
 -- one line
-pub takes_line : {after : Option (List ℕ)} {old : LinesState}
+takes_line : {after : Option (List ℕ)} {old : LinesState}
     {bytes : List ℕ} {new : LinesState} {line : Line (List ℕ)} →
     GivesLine after old bytes new line → TakesLines after old bytes new (line ∷ [])
 takes_line {after} {old} {bytes} {new} {line} g =
@@ -161,7 +161,7 @@ Tells-append true after raw more ahead lines others b t =
 Tells-append false after raw more ahead lines others b t = BeginsWith-append b t
 
 -- more lines
-pub TakesLines-append : {mid after : Option (List ℕ)} {first old new : LinesState}
+TakesLines-append : {mid after : Option (List ℕ)} {first old new : LinesState}
     {bytes more : List ℕ} {lines others : List (Line (List ℕ))} →
     TakesLines mid first bytes old lines → TakesLines after old more new others →
     TakesLines after first (bytes ++ more) new (lines ++ others)
@@ -317,7 +317,7 @@ more_now {new = new} t live =
     }
 
 -- wherever else it stops, the lines that were taken come first
-pub told_in_part : {mid : Option (List ℕ)} {old : LinesState} {read : List ℕ} {lines : List (Line (List ℕ))} →
+told_in_part : {mid : Option (List ℕ)} {old : LinesState} {read : List ℕ} {lines : List (Line (List ℕ))} →
     TakesLines mid at_start read old lines → old.ended ≡ false → (bytes : List ℕ) →
     (more : List (Line (List ℕ))) × (ended_lines_of (take input_limit (read ++ bytes)) ≡ lines ++ more)
 told_in_part {mid} {old} {read} {lines} t live bytes = (
@@ -327,7 +327,7 @@ told_in_part {mid} {old} {read} {lines} t live bytes = (
 )
 
 -- after a call, the lines that were taken come first, or are all
-pub told_now : {after : Option (List ℕ)} {new : LinesState} {read : List ℕ} {lines : List (Line (List ℕ))} →
+told_now : {after : Option (List ℕ)} {new : LinesState} {read : List ℕ} {lines : List (Line (List ℕ))} →
     TakesLines after at_start read new lines →
     ((more : List (Line (List ℕ))) × (ended_lines_of (take input_limit read) ≡ lines ++ more)
     × ReadsLittleMore read lines) ⊎ ((lines_of read ≡ lines) × (length read ≤ 2 ^ 26) × IsAtEnd after)

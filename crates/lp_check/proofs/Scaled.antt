@@ -54,14 +54,14 @@ less_times t a b h = by (lt_ℚ a b) refl
 none_times : (t : ℕ) → multiple t 0ℚ ≡ 0ℚ
 none_times t = *ℚ_zero (whole (pos t))
 
-pub above_times : (t : ℕ) (a : ℚ) → 0 < t → lt_ℚ 0ℚ (multiple t a) ≡ lt_ℚ 0ℚ a
+above_times : (t : ℕ) (a : ℚ) → 0 < t → lt_ℚ 0ℚ (multiple t a) ≡ lt_ℚ 0ℚ a
 above_times t a h = ap (λ z. lt_ℚ z (multiple t a)) (sym (none_times t)) ∙ less_times t 0ℚ a h
 
-pub below_times : (t : ℕ) (a : ℚ) → 0 < t → lt_ℚ (multiple t a) 0ℚ ≡ lt_ℚ a 0ℚ
+below_times : (t : ℕ) (a : ℚ) → 0 < t → lt_ℚ (multiple t a) 0ℚ ≡ lt_ℚ a 0ℚ
 below_times t a h = ap (λ z. lt_ℚ (multiple t a) z) (sym (none_times t)) ∙ less_times t a 0ℚ h
 
 -- ---- lists and sums
-pub part_map : (t : ℕ) (z : List ℚ) (j : ℕ) → part (map (multiple t) z) j ≡ multiple t (part z j)
+part_map : (t : ℕ) (z : List ℚ) (j : ℕ) → part (map (multiple t) z) j ≡ multiple t (part z j)
 part_map t [] zero = sym (none_times t)
 part_map t [] (suc j) = sym (none_times t)
 part_map t (v ∷ z) zero = refl
@@ -74,10 +74,10 @@ times_weighed t n f z =
     (λ j _. ap (λ a. f j *ℚ a) (part_map t z j) ∙ *ℚ_left_comm (f j) (whole (pos t)) (part z j))
     ∙ sym (*ℚ-sum_below (whole (pos t)) n (λ j. f j *ℚ part z j))
 
-pub cost_times : (m : Model) (z : List ℚ) (t : ℕ) → cost_of m (map (multiple t) z) ≡ multiple t (cost_of m z)
+cost_times : (m : Model) (z : List ℚ) (t : ℕ) → cost_of m (map (multiple t) z) ≡ multiple t (cost_of m z)
 cost_times m z t = times_weighed t (width m) (cost m) z
 
-pub priced_times : (m : Model) (y : List ℚ) (j t : ℕ) → priced m (map (multiple t) y) j ≡ multiple t (priced m y j)
+priced_times : (m : Model) (y : List ℚ) (j t : ℕ) → priced m (map (multiple t) y) j ≡ multiple t (priced m y j)
 priced_times m y j t =
     sum_below_same (height m) _ (λ i. multiple t (part y i *ℚ coefficient m i j))
     (λ i _. ap (λ a. a *ℚ coefficient m i j) (part_map t y i) ∙ *ℚ_assoc (whole (pos t)) (part y i) (coefficient m i j))
@@ -171,7 +171,7 @@ row_asks_times m y t i s h =
         ap (λ z. z >>= λ l. weighed_at 1 None (multiple t (part y i)) l (multiple t s)) e
         ∙ weighed_at_times t 1 (part y i) l s ∙ sym (ap (λ z. scaled t (z >>= λ l. weighed_at 1 None (part y i) l s)) e)
 
-pub priced_all : (m : Model) (y : List ℚ) (j : ℕ) → priced_run None m y j ≡ Ok (priced m y j)
+priced_all : (m : Model) (y : List ℚ) (j : ℕ) → priced_run None m y j ≡ Ok (priced m y j)
 priced_all m y j = sum_all (height m) (λ i. part y i) (λ i. coefficient m i j)
 
 pub priced_is : (m : Model) (y : List ℚ) (j : ℕ) (p : ℚ) → p ≡ priced m y j → priced_run None m y j ≡ Ok p
@@ -196,7 +196,7 @@ judged_by v w = by (order v w) refl
     by Greater e = sym (not_lt_test v w (<ℚ-le w v ((order_greater v w).0 e)))
 
 -- numbers that are taken so many times show what they show
-pub infeasible_times : (m : Model) (y numbers : List ℚ) (t : ℕ) → 0 < t → numbers ≡ map (multiple t) y →
+infeasible_times : (m : Model) (y numbers : List ℚ) (t : ℕ) → 0 < t → numbers ≡ map (multiple t) y →
     check_run None m (Infeasible numbers) ≡ check_run None m (Infeasible y)
 unfolding check_run
 infeasible_times m y numbers t h e =

@@ -321,14 +321,14 @@ fault_of command.Range = range_fault
 fault_of command.Generate = generate_fault
 fault_of command.Serve = serve_fault
 
-pub by-command : (word : Word) (words : List Word) (found : Option Command) → look_up word command_words ≡ found →
+by-command : (word : Word) (words : List Word) (found : Option Command) → look_up word command_words ≡ found →
     word_fault (word ∷ words) ≡ fault_by word words (option_map fault_of found)
 unfolding word_fault
 by-command word words found is =
     ap (fault_by word words) (look_up-map fault_of word command_words)
     ∙ ap (λ found. fault_by word words (option_map fault_of found)) is
 
-pub no-word_fault : (words : List Word) → is_none (word_fault words) ≡ is_some (command_line_of words)
+no-word_fault : (words : List Word) → is_none (word_fault words) ≡ is_some (command_line_of words)
 unfolding word_fault command_line_of
 no-word_fault [] = refl
 no-word_fault (word ∷ words) =

@@ -50,7 +50,7 @@ usage_behind word =
     by (Some command.Generate) = generates_nothing
     by (Some command.Serve) = no-address (codes "--help") [] (codes "--help" ∷ []) refl refl
 
-pub no-command : (words : List Word) (notice : Notice) → notice_of words ≡ Some notice → command_line_of words ≡ None
+no-command : (words : List Word) (notice : Notice) → notice_of words ≡ Some notice → command_line_of words ≡ None
 unfolding notice_of
 no-command [] notice e = absurd (none-some notice e)
 no-command (word ∷ []) notice e = by (same word (codes "--help")) (same word (codes "--version")) refl refl e

@@ -15,11 +15,11 @@ use Rattle.lp_command_line.specs.WordFaults.{Fault, told, lone_fault, behind_opt
 use Rattle.lp_command_line.proofs.OptionLemmas.{any-bytes, first-lone, first-more, no-more, lone-none}
 
 -- a fault or another, as they are told
-pub told-or : (a b : Option (WordFault (Bor (List ℕ)))) → told (option_or a b) ≡ option_or (told a) (told b)
+told-or : (a b : Option (WordFault (Bor (List ℕ)))) → told (option_or a b) ≡ option_or (told a) (told b)
 told-or None b = refl
 told-or (Some fault) b = refl
 
-pub told-either : (a b : Option (WordFault (Bor (List ℕ)))) (x y : Option Fault) → told a ≡ x → told b ≡ y →
+told-either : (a b : Option (WordFault (Bor (List ℕ)))) (x y : Option Fault) → told a ≡ x → told b ≡ y →
     told (option_or a b) ≡ option_or x y
 told-either a b x y is_x is_y = told-or a b ∙ ap (λ t. option_or t (told b)) is_x ∙ ap (option_or x) is_y
 

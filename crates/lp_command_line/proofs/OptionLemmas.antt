@@ -231,7 +231,7 @@ module _ (names switches : OptionNames) (option value : List ℕ) (words : List 
           ∙ swap_and (is_one_of option names) (is_one_of option (map (λ o. o.0) pairs))
           (list_all (λ o. is_one_of o.0 names) pairs) (are_distinct (map (λ o. o.0) pairs))
 
-pub are-pairs : (names switches : OptionNames) (words : List (List ℕ)) →
+are-pairs : (names switches : OptionNames) (words : List (List ℕ)) →
     are_in names switches words ≡ pairs_are names (in_pairs switches words)
 unfolding pairs_are
 are-pairs names switches [] = refl

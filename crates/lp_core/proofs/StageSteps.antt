@@ -207,7 +207,7 @@ pub sees_agree : (st : Stage) (aw : Awaits) (shape : Words) (k : ℕ) → st ≡
     aw ≡ WhatIsFound shape
 sees_agree st aw shape k e a = subst (λ t. Agrees t aw) e a
 
-pub looking_agrees : (shape : Words) (n : ℕ) (st : Stage) (aw : Awaits) → aw ≡ WhatIsFound shape →
+looking_agrees : (shape : Words) (n : ℕ) (st : Stage) (aw : Awaits) → aw ≡ WhatIsFound shape →
     st ≡ looking_at shape n → Agrees st aw
 looking_agrees shape n st aw e is = subst (λ t. Agrees t aw) (sym is) (by (nat_eq n 0))
   where

@@ -21,7 +21,7 @@ pub words_there : (ps : List ExactPlace) (k : ℕ) (d p : ExactPlace) → k < le
     words_in (Some p) ≡ words_at ps k
 words_there ps k d p h e = sym (ap words_in (place_get ps k d h ∙ ap Some e))
 
-pub set_is_with : (ps : List ExactPlace) (k : ℕ) (new : ExactPlace) → set ps k new ≡ with_place ps k new
+set_is_with : (ps : List ExactPlace) (k : ℕ) (new : ExactPlace) → set ps k new ≡ with_place ps k new
 set_is_with [] k new = refl
 set_is_with (p ∷ ps) zero new = refl
 set_is_with (p ∷ ps) (suc k) new = ap (λ qs. p ∷ qs) (set_is_with ps k new)

@@ -67,7 +67,7 @@ pub all_put : (words ys : List ℕ) (n i m : ℕ) → length words ≡ m → n +
 all_put words ys n i m h e t = sym (take_all (n + i) words (omega (arith, h, e))) ∙ t
 
 -- one more column is counted
-pub count_more : (words : List ℕ) (c : ℕ) → c < columns_of words →
+count_more : (words : List ℕ) (c : ℕ) → c < columns_of words →
     basics_below (unpacked words) (c + 1) ≡ basics_below (unpacked words) c + cond (is_basic (status_at words c)) 1 0
 count_more words c h =
     (let z : c + 1 ≡ suc c = omega arith in ap (basics_below (unpacked words)) z)

@@ -30,7 +30,7 @@ test n k h g = le-leb n number_limit (le_trans h g)
 part_le : (a : ℤ) (g : ℕ) → unsigned_abs (int_div a (pos g)) ≤ unsigned_abs a
 part_le a g = subst (λ k. k ≤ unsigned_abs a) (sym (abs-int_div a g)) (div-le_self (unsigned_abs a) g)
 
-pub mul_fits : (v w : ℚ) → unsigned_abs v.num * unsigned_abs w.num ≤ number_limit → v.den * w.den ≤ number_limit →
+mul_fits : (v w : ℚ) → unsigned_abs v.num * unsigned_abs w.num ≤ number_limit → v.den * w.den ≤ number_limit →
     mul (Some number_limit) v w ≡ Some (v *ℚ w)
 unfolding mul
 mul_fits v w h k =
@@ -51,7 +51,7 @@ times_le a d g =
     subst (λ n. n ≤ unsigned_abs a * d) (sym (unsigned_abs-mul a (pos (d / g))))
     (mul-le-mul (omega arith) (div-le_self d g))
 
-pub add_fits : (v w : ℚ) → unsigned_abs v.num * w.den + unsigned_abs w.num * v.den ≤ number_limit →
+add_fits : (v w : ℚ) → unsigned_abs v.num * w.den + unsigned_abs w.num * v.den ≤ number_limit →
     v.den * w.den ≤ number_limit →
     add (Some number_limit) v w ≡ Some (v +ℚ w)
 unfolding add
@@ -66,7 +66,7 @@ add_fits v w h k =
     (test _ _ (mul-le-mul (div-le_self v.den _) (div-le_self w.den _)) k)
     ∙ ap (λ (x : ℚ). Some x) (sum_exact v w)
 
-pub sub_fits : (v w : ℚ) → unsigned_abs v.num * w.den + unsigned_abs w.num * v.den ≤ number_limit →
+sub_fits : (v w : ℚ) → unsigned_abs v.num * w.den + unsigned_abs w.num * v.den ≤ number_limit →
     v.den * w.den ≤ number_limit →
     sub (Some number_limit) v w ≡ Some (v -ℚ w)
 unfolding sub neg_ℚ
@@ -113,7 +113,7 @@ less_exact v w s =
         ∙ by_ring (e ∷ pos f ∷ n ∷ pos q ∷ pos d ∷ [])
         (v0 ⊗ v3 ⊗ v4 ⊗ v1 ⊖ v2 ⊗ v3 ⊗ (v1 ⊗ v1)) ((v0 ⊗ v4 ⊖ v2 ⊗ v1) ⊗ (v1 ⊗ v3)) refl
 
-pub less_fits : (v w s : ℚ) → unsigned_abs v.num * unsigned_abs w.num ≤ number_limit → v.den * w.den ≤ number_limit →
+less_fits : (v w s : ℚ) → unsigned_abs v.num * unsigned_abs w.num ≤ number_limit → v.den * w.den ≤ number_limit →
     unsigned_abs s.num * (v.den * w.den) + unsigned_abs v.num * unsigned_abs w.num * s.den ≤ number_limit →
     s.den * (v.den * w.den) ≤ number_limit →
     less_product (Some number_limit) v w s

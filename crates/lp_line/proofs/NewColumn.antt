@@ -15,7 +15,7 @@ use Rattle.lp_line.specs.GivesWords.{GivesWords}
 use Rattle.lp_line.proofs.PairsLeft.{Words}
 
 -- of an odd number of words one is left over
-pub two_by_two-odd : (words : List (List ℕ)) → length words % 2 ≢ 0 → two_by_two words ≡ None
+two_by_two-odd : (words : List (List ℕ)) → length words % 2 ≢ 0 → two_by_two words ≡ None
 unfolding two_by_two
 two_by_two-odd [] odd = absurd (odd refl)
 two_by_two-odd (word ∷ []) odd = refl

@@ -52,7 +52,7 @@ module _ {X : Type 0} (p : X → Bool) (q : Name → Bool) (f : X → Name) (e :
 -- ---- one name more
 
 -- a name that no name of a list is
-pub other_names : (name : Name) (xs : List Name) → All (λ x. x ≢ name) xs → list_any (same name) xs ≡ false
+other_names : (name : Name) (xs : List Name) → All (λ x. x ≢ name) xs → list_any (same name) xs ≡ false
 other_names name xs h =
     list_any_none (same name) xs
     (All-weaker (λ x. x ≢ name) (λ x. same name x ≡ false) (λ x n. by x n (same name x) refl) xs h)

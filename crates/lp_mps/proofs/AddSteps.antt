@@ -50,7 +50,7 @@ wide_first Fixed cs ds item h =
     ap (option_map (λ f. f.text)) (find_both cs ds)
     ∙ first_some (find is_wide (flat_map data_fields cs)) (find is_wide (flat_map data_fields ds)) item h
 
-pub cards_text-append : (style : Style) (cs ds : WrittenCards) →
+cards_text-append : (style : Style) (cs ds : WrittenCards) →
     cards_text style (cs ++ ds) ≡ cards_text style cs ++ cards_text style ds
 cards_text-append style cs ds = flat_map-append (λ card. line_text style card ++ 10 ∷ []) cs ds
 

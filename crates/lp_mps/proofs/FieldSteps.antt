@@ -83,7 +83,7 @@ free_narrow : (fs : Fields) → wide_field Free fs ≡ None
 free_narrow [] = refl
 free_narrow (f ∷ fs) = free_narrow fs
 
-pub wide_card : (style : Style) (fs : Fields) → wide_in style (Data fs ∷ []) ≡ wide_field style fs
+wide_card : (style : Style) (fs : Fields) → wide_in style (Data fs ∷ []) ≡ wide_field style fs
 wide_card Free fs = sym (free_narrow fs)
 wide_card Fixed fs = ap (λ gs. wide_field Fixed gs) (append-nil fs)
 

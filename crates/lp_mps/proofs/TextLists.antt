@@ -61,7 +61,7 @@ few_pairs (f ∷ []) h = refl
 few_pairs (f ∷ g ∷ fs) h = absurd (omega arith)
 
 -- texts by their places
-pub texts_places : (b : Bool) (ts : List (List ℕ)) →
+texts_places : (b : Bool) (ts : List (List ℕ)) →
     texts_by b (slice_get ts 0) (slice_get ts 1) (slice_get ts 2) (slice_get ts 3) ≡ bound_texts_by b ts
 texts_places true [] = refl
 texts_places false [] = refl
