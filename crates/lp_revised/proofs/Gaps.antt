@@ -182,7 +182,7 @@ pub whole_done : (f : ℕ → Run ℚ) (m : ℕ) (start w : List ℚ) → DoneTo
 whole_done f m start w d e = d.done ∙ ap Ok (ap (λ k. take k w) (sym (d.all ∙ e)) ∙ take-length w)
 
 -- ---- steps, of which some do nothing
-pub steps_still : {A : Type 0} (f : ℕ → A → Run A) (a s : A) (b n : ℕ) → steps b f a ≡ Ok s →
+steps_still : {A : Type 0} (f : ℕ → A → Run A) (a s : A) (b n : ℕ) → steps b f a ≡ Ok s →
     ((i : ℕ) → b ≤ i → i < b + n → f i s ≡ Ok s) → steps (b + n) f a ≡ Ok s
 steps_still f a s b zero h k = ap (λ i. steps i f a) (let z : b + 0 ≡ b = omega arith in z) ∙ h
 steps_still f a s b (suc n) h k =

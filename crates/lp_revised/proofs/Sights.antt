@@ -28,7 +28,7 @@ use Rattle.lp_revised.specs.Selecting.{choice_seen, MayDo}
 use Rattle.lp_revised.proofs.Seen.{seen_at}
 
 -- a run that stops stops what goes on from it
-pub stops_on : {A B : Type 0} (run : Run A) (next : A → Run B) (e : Stop Spent) →
+stops_on : {A B : Type 0} (run : Run A) (next : A → Run B) (e : Stop Spent) →
     StopsRevised (refused_as cause.Past run) e → StopsRevised (refused_as cause.Past (run >>= next)) e
 stops_on (Ok a) next (stop.Past p) h = cc
 stops_on (Ok a) next (stop.Cause why) h = cc

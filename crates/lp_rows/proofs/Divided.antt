@@ -25,7 +25,7 @@ turned-whole false true n = refl
 turned-whole false false n = refl
 
 -- of a list that was lent and written
-pub now_written : {T : Type 0} (value : T → ℕ) (f : ℕ → ℚ) (old new row : List (Signed T)) (m size : ℕ) → row ≡ old →
+now_written : {T : Type 0} (value : T → ℕ) (f : ℕ → ℚ) (old new row : List (Signed T)) (m size : ℕ) → row ≡ old →
     length row ≡ size → AreNow value f (length old) new m →
     AreNow value f (length old) (take size (new ++ drop (length new) old)) m
 now_written value f old new row m size r l n =

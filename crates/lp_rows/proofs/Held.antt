@@ -34,7 +34,7 @@ stand_none AtLower = refl
 stand_none AtUpper = refl
 stand_none AtZero = refl
 
-pub reached_stands : (t : Tableau) → IsReached t → (k : ℕ) → k < all_columns t → status_at t k ≢ Basic →
+reached_stands : (t : Tableau) → IsReached t → (k : ℕ) → k < all_columns t → status_at t k ≢ Basic →
     value_at t k ≡ stand (status_at t k) (lower_at t k) (upper_at t k)
 reached_stands t r k l n =
     let b = r.bounds in

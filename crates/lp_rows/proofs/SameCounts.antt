@@ -36,12 +36,12 @@ whole_on n d p =
     once : (d : ℕ) → 1 * d ≡ d
     once d = omega arith
 
-pub directed_on : (up : Bool) (n : ℤ) (d : ℕ) → 0 < d → over (turned_if (not up) n) d ≡ directed up (over n d)
+directed_on : (up : Bool) (n : ℤ) (d : ℕ) → 0 < d → over (turned_if (not up) n) d ≡ directed up (over n d)
 directed_on true n d p = refl
 directed_on false n d p = over_neg n d p
 
 -- how far a column goes that flips
-pub range_on : (up : Bool) (d : ℕ) (by range u l : ℤ) (upper lower : Option ℚ) → 0 < d → by ≡ turned_if (not up) range →
+range_on : (up : Bool) (d : ℕ) (by range u l : ℤ) (upper lower : Option ℚ) → 0 < d → by ≡ turned_if (not up) range →
     range ≡ u -ℤ l → over u d ≡ or_zero upper → over l d ≡ or_zero lower →
     over by 1 *ℚ over (pos 1) d ≡ directed up (or_zero upper -ℚ or_zero lower)
 range_on up d by range u l upper lower p e f h k =

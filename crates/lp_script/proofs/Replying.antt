@@ -33,7 +33,7 @@ use Rattle.lp_script.proofs.Moving.{moves_in_part, moves_broken_off, moves_all, 
 abbrev pub out_of : List (ℕ × ExactReply) → List ℕ
 out_of pairs = flat_map lines_of_reply pairs
 
-pub out_more : (pairs : List (ℕ × ExactReply)) (n : ℕ) (pair : ℕ × ExactReply) → n < length pairs →
+out_more : (pairs : List (ℕ × ExactReply)) (n : ℕ) (pair : ℕ × ExactReply) → n < length pairs →
     get_or pairs n pair ≡ pair → out_of (take (n + 1) pairs) ≡ out_of (take n pairs) ++ lines_of_reply pair
 out_more pairs n pair within is =
     ap out_of (take_more pairs n pair within)

@@ -16,7 +16,7 @@ use Rattle.lp_serve.specs.Desks.{LinkSteps}
 
 -- ---- the steps of one link
 
-pub steps_places : (v : View) (old : State) (xs : List Exchange) (w : View) (new : State) → Steps v old xs w new →
+steps_places : (v : View) (old : State) (xs : List Exchange) (w : View) (new : State) → Steps v old xs w new →
     w.places ≡ v.places
 steps_places v old [] w new s = ap (λ (x : View). x.places) s.0
 steps_places v old (x ∷ xs) w new s = steps_places s.0 s.1 xs w new s.3 ∙ calls_places v s.0 s.2.calls

@@ -25,7 +25,7 @@ next_at : (n i : ℕ) → n + i * n ≡ suc i * n
 next_at n i = omega (arith, suc-mul i n)
 
 -- row i begins after i rows
-pub row-rows_of : (n m i : ℕ) (xs : List ℚ) → i < m → get_or (rows_of n m xs) i [] ≡ take n (drop (i * n) xs)
+row-rows_of : (n m i : ℕ) (xs : List ℚ) → i < m → get_or (rows_of n m xs) i [] ≡ take n (drop (i * n) xs)
 row-rows_of n zero i xs h = absurd (omega arith)
 row-rows_of n (suc m) zero xs h = ap (λ k. take n (drop k xs)) (sym (zero-mul n))
 row-rows_of n (suc m) (suc i) xs h =
@@ -46,7 +46,7 @@ inside n m i k h l =
     omega (arith, e, g)
 
 -- a write into the block is a write into its row
-pub set-rows_of : (n m i k : ℕ) (xs : List ℚ) (v : ℚ) → i < m → k < n →
+set-rows_of : (n m i k : ℕ) (xs : List ℚ) (v : ℚ) → i < m → k < n →
     rows_of n m (set xs (i * n + k) v) ≡ set (rows_of n m xs) i (set (get_or (rows_of n m xs) i []) k v)
 set-rows_of n zero i k xs v h l = absurd (omega arith)
 set-rows_of n (suc m) zero k xs v h l =
@@ -106,7 +106,7 @@ zero_within : IsWithin number_limit 0ℚ
 unfolding whole
 zero_within = record { num_fits = omega arith; den_fits = omega arith }
 
-pub within_item : (xs : List ℚ) (k : ℕ) → All (IsWithin number_limit) xs → IsWithin number_limit (get_or xs k 0ℚ)
+within_item : (xs : List ℚ) (k : ℕ) → All (IsWithin number_limit) xs → IsWithin number_limit (get_or xs k 0ℚ)
 within_item xs k h =
     ⊎_elim (λ l. All-get_or (IsWithin number_limit) xs k 0ℚ l h)
     (λ g. subst (IsWithin number_limit) (sym (get_or_past xs k 0ℚ g)) zero_within) (cases_lt k (length xs))

@@ -53,7 +53,7 @@ module _ (f : ℕ → Run ℚ) (old new : List ℚ) where
       subst (λ i. IsDone i f old new) z (kept a (b - a) d (omega (arith, z, h)) (λ k g m. e k g (omega (arith, m, z))))
 
 -- in a row among rows
-pub row_kept : (p a b : ℕ) (f : ℕ → Run ℚ) (old new : List (List ℚ)) → IsRowDone p a f old new → a ≤ b →
+row_kept : (p a b : ℕ) (f : ℕ → Run ℚ) (old new : List (List ℚ)) → IsRowDone p a f old new → a ≤ b →
     b ≤ length (get_or new p []) → ((k : ℕ) → a ≤ k → k < b → f k ≡ Ok (at_place old p k)) → IsRowDone p b f old new
 row_kept p a b f old new d l h e =
     record { row = all_kept f (get_or old p []) (get_or new p []) a b d.row l h e; frame = d.frame }

@@ -33,7 +33,7 @@ use Rattle.lp_frac.specs.declared.stop.Stop.TheVariants as cold
 use Rattle.lp_tableau.proofs.Pivots.{RepricedFrom}
 
 -- ---- a block of rows
-pub length-flat : (n m : ℕ) (f : ℕ → List ℚ) → ((i : ℕ) → length (f i) ≡ n) → length (flat m f) ≡ m * n
+length-flat : (n m : ℕ) (f : ℕ → List ℚ) → ((i : ℕ) → length (f i) ≡ n) → length (flat m f) ≡ m * n
 length-flat n zero f h = omega arith
 length-flat n (suc m) f h = omega (arith, length-append (flat m f) (f m), length-flat n m f h, h m, suc-mul m n)
 
@@ -48,7 +48,7 @@ rows_of-append n (suc m) xs ys h g =
     ∙ ap (λ rows. take n xs ∷ rows)
     (rows_of-append n m (drop n xs) ys (omega (arith, length-drop n xs, h, suc-mul m n)) g)
 
-pub rows_of-flat : (n m : ℕ) (f : ℕ → List ℚ) → ((i : ℕ) → length (f i) ≡ n) → rows_of n m (flat m f) ≡ made m f
+rows_of-flat : (n m : ℕ) (f : ℕ → List ℚ) → ((i : ℕ) → length (f i) ≡ n) → rows_of n m (flat m f) ≡ made m f
 rows_of-flat n zero f h = refl
 rows_of-flat n (suc m) f h =
     rows_of-append n m (flat m f) (f m) (length-flat n m f h) (h m)
@@ -58,7 +58,7 @@ rows_of-flat n (suc m) f h =
 abbrev pub width_of : Form → ℕ
 width_of f = f.cols + f.rows + f.rows
 
-pub length-start_row : (f : Form) (starts : List (RowStart ℚ)) (i : ℕ) → length (start_row f starts i) ≡ width_of f
+length-start_row : (f : Form) (starts : List (RowStart ℚ)) (i : ℕ) → length (start_row f starts i) ≡ width_of f
 length-start_row f starts i = length-made (width_of f) (start_entry f (start_at starts i) i)
 
 basic_inside : (f : Form) (i : ℕ) (b : Bool) → i < f.rows → cond b (f.cols + f.rows + i) (f.cols + i) < width_of f

@@ -64,13 +64,13 @@ list_onto n (suc m) f g row e h =
     ∙ ap Ok (append_assoc row (made m g) (g m ∷ []))
 
 -- ---- what is read of rows with twins
-pub twinned_row : (c : ℕ) (turned : List Bool) (rows : List (List ℚ)) (i : ℕ) → i < length rows →
+twinned_row : (c : ℕ) (turned : List Bool) (rows : List (List ℚ)) (i : ℕ) → i < length rows →
     get_or (twinned c turned rows) i [] ≡ with_twins c turned (get_or rows i [])
 twinned_row c turned [] i h = absurd (omega (arith, h))
 twinned_row c turned (row ∷ rows) zero h = refl
 twinned_row c turned (row ∷ rows) (suc i) h = twinned_row c turned rows i (omega (arith, h))
 
-pub length-twinned : (c : ℕ) (turned : List Bool) (rows : List (List ℚ)) → length (twinned c turned rows) ≡ length rows
+length-twinned : (c : ℕ) (turned : List Bool) (rows : List (List ℚ)) → length (twinned c turned rows) ≡ length rows
 length-twinned c turned [] = refl
 length-twinned c turned (row ∷ rows) = ap suc (length-twinned c turned rows)
 
@@ -80,7 +80,7 @@ twinned_set c turned [] i row = refl
 twinned_set c turned (x ∷ rows) zero row = refl
 twinned_set c turned (x ∷ rows) (suc i) row = ap (λ zs. with_twins c turned x ∷ zs) (twinned_set c turned rows i row)
 
-pub length-with_twins : (c : ℕ) (turned : List Bool) (row : List ℚ) →
+length-with_twins : (c : ℕ) (turned : List Bool) (row : List ℚ) →
     length (with_twins c turned row) ≡ length row + length turned
 length-with_twins c turned row =
     omega (
@@ -192,7 +192,7 @@ all_wide c m turned (row ∷ rows) t h =
     omega (arith, length-with_twins c turned row, w, t))
     (all_wide c m turned rows t (All-tail (λ row. length row ≡ c + m) row rows h))
 
-pub grid_twinned : (c m : ℕ) (turned : List Bool) (rows : List (List ℚ)) → length turned ≡ m → IsGrid m (c + m) rows →
+grid_twinned : (c m : ℕ) (turned : List Bool) (rows : List (List ℚ)) → length turned ≡ m → IsGrid m (c + m) rows →
     IsGrid m (c + m + m) (twinned c turned rows)
 grid_twinned c m turned rows t g =
     record { height = length-twinned c turned rows ∙ g.height; width = all_wide c m turned rows t g.width }

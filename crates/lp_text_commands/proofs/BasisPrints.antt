@@ -30,7 +30,7 @@ unfolding basis_lines
 whole_lines m form solved formed = ap (λ o. end_lines m solved ++ final_text m o solved.end) (sym formed)
 
 -- nothing is written of a basis where there is no form
-pub formless_lines : (m : Model) (why : FormFault ℚ) (solved : SolveEnd) → form_of (Some number_limit) m ≡ Err why →
+formless_lines : (m : Model) (why : FormFault ℚ) (solved : SolveEnd) → form_of (Some number_limit) m ≡ Err why →
     end_lines m solved ≡ basis_lines m solved
 formless_lines m why solved formless =
     sym (append-nil (end_lines m solved)) ∙ whole_lines m (Err why) solved formless

@@ -72,7 +72,7 @@ whole_is m (Answered a) = refl
 whole_is m Open = refl
 
 -- by the form that the model has
-pub whole_based : (m : Model) (form : Result Form (FormFault ℚ)) (end : RationalEnd) →
+whole_based : (m : Model) (form : Result Form (FormFault ℚ)) (end : RationalEnd) →
     form_of (Some number_limit) m ≡ form → whole_lines m form end ≡ based_lines m end
 whole_based m form end formed = ap (λ o. whole_lines m o end) (sym formed) ∙ whole_is m end
 

@@ -22,7 +22,7 @@ use Rattle.spec_commands.specs.IisOut.{side_line, point_lines, found_lines, end_
 
 -- ---- lines in a row
 
-pub ended_one : (line : List ℕ) → ended_lines (line ∷ []) ≡ line ++ 10 ∷ []
+ended_one : (line : List ℕ) → ended_lines (line ∷ []) ≡ line ++ 10 ∷ []
 unfolding ended_lines
 ended_one line = append-nil (line ++ 10 ∷ [])
 

@@ -34,7 +34,7 @@ cut_is_fresh board pass v of_board view places consistent unnoted = record {
 
 -- ---- one more pass is met
 
-pub met_reads : (v w : View) → reads_of (met v w) ≡ reads_of v ++ reads_of w
+met_reads : (v w : View) → reads_of (met v w) ≡ reads_of v ++ reads_of w
 met_reads v w = reads_more w.reads v.reads
 
 module _ (all : List ExactRead) (first next : View) (rest : List Known) (pass : Known)
@@ -62,7 +62,7 @@ module _ (all : List ExactRead) (first next : View) (rest : List Known) (pass : 
       (reads_of pass.view ++ reads_of_all rest)
       (IsPermutation-append_comm (reads_of_all rest) (reads_of pass.view))))
 
-pub met_notes : (first next pass : Known) → next.view ≡ met first.view pass.view →
+met_notes : (first next pass : Known) → next.view ≡ met first.view pass.view →
     next.moments ≡ pass.moments ++ first.moments → WereTrue pass.moments pass.view.reads →
     notes_of next ≡ notes_of pass ++ notes_of first
 met_notes first next pass view moments so =
