@@ -1,4 +1,13 @@
 -- The lines of a text, taken from its start one by one.
+--
+-- `lines_of_line`: a line that a line feed ends comes before the lines of the bytes after it.
+-- `lines_of_last`: bytes without a line feed are one line, where there is a byte.
+-- `lines_of_none`: no bytes have no lines.
+-- `line_short`: a line of at most 16,384 bytes is kept with its bytes.
+-- `line_long`: of a longer line only its length is kept.
+-- `ended_lines_of_line`: a line that a line feed ends comes before the ended lines of the bytes after it.
+-- `ended_lines_of_last`: bytes without a line feed have no ended line.
+-- `line_of_cases`: a line is kept with its bytes or with its length.
 use Rattle.std.proofs.Common.{◌≡◌, ℕ, Bool, true, false, List, [], ◌∷◌, ◌++◌, All, ◌≢◌, eqb, refl, ap, ◌∙◌}
 use Rattle.std.proofs.Common.{cond, rules, tests, arith, map, length, ◌<◌, ◌≤◌, ◌⊎◌, inl, inr, ⊎_elim}
 use Rattle.std.specs.List.{slice_split, onto_first}

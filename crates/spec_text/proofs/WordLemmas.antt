@@ -1,4 +1,9 @@
--- Texts that are the same.
+-- The test that two texts are the same.
+--
+-- `same-refl`: a text passes the test with itself.
+-- `same_true`: texts that pass the test are equal.
+-- `same_false`: texts that fail the test are not equal.
+-- `same_is_equal`: two texts pass the test exactly where they are equal.
 use Rattle.std.proofs.Common.{◌≡◌, ◌≢◌, ◌↔◌, ℕ, true, false, eqb, eqb→eq, eq-eqb}
 use Rattle.std.proofs.Common.{IsTrue, T, List, [], ◌∷◌, refl, sym, ap, ◌∙◌, subst}
 use Rattle.std.proofs.lemmas.Bool.{and_parts}

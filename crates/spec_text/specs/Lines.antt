@@ -13,7 +13,7 @@ line_limit = 16384
 abbrev pub input_limit : ℕ
 input_limit = 67108864
 
--- the line with these bytes
+-- the line with these bytes: the bytes, or only their number where the line is too long to be kept
 unfoldable pub line_of : List ℕ → Line (List ℕ)
 line_of bytes = if nat_lt line_limit (length bytes) then Long (length bytes) else Text bytes
 
@@ -22,16 +22,17 @@ line_of bytes = if nat_lt line_limit (length bytes) then Long (length bytes) els
 unfoldable pub lines_of : List ℕ → List (Line (List ℕ))
 lines_of input = map line_of (lines input)
 
+-- the items of a list before its last one
 abbrev pub all_but_last : List (List ℕ) → List (List ℕ)
 all_but_last [] = []
 all_but_last (x ∷ []) = []
 all_but_last (x ∷ y ∷ more) = x ∷ all_but_last (y ∷ more)
 
--- the lines that a line feed ends
+-- the lines that a line feed ends, each without one carriage return before it
 unfoldable pub ended_lines_of : List ℕ → List (Line (List ℕ))
 ended_lines_of input =
     map (λ line. line_of (strip_carriage_return line)) (all_but_last (slice_split (λ b. b == 10) input))
 
--- some bytes come after a list
+-- the second list begins with the first one
 abbrev pub IsPrefixOf : List ℕ → List ℕ → Type 0
 IsPrefixOf xs ys = (rest : List ℕ) × (xs ++ rest ≡ ys)
