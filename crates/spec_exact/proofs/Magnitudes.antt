@@ -1,4 +1,14 @@
--- Magnitudes, and signs that are turned.
+-- Magnitudes, and the signs of negatives.
+--
+-- `abs_above`: the magnitude of a fraction of at least 0 is the fraction.
+-- `abs_below`: the magnitude of a fraction below 0 is its negative.
+-- `below_turned`: the negative of a fraction below 0 is above 0.
+-- `above_turned`: the negative of a fraction above 0 is below 0.
+-- `turned_back`: a fraction whose negative is below 0 is above 0.
+-- `turned_down`: a fraction whose negative is above 0 is below 0.
+-- `abs_at_most`: the magnitude of a fraction of at most 0 is its negative.
+-- `abs_least`: a magnitude is at least 0.
+-- `abs_positive`: the magnitude of a fraction other than 0 is above 0.
 use Rattle.std.proofs.Common.{◌≡◌, ℕ, ℤ, pos, ◌*ℤ◌, ◌<ℤ◌, ◌≤ℤ◌, int_lt, Bool}
 use Rattle.std.proofs.Common.{true, false, cond, refl, sym, ap, ◌∙◌, subst, arith}
 use Rattle.std.proofs.lemmas.Int.{ints}

@@ -1,4 +1,9 @@
 -- Fractions of 127 bits.
+--
+-- `zero_narrow`: 0 is a fraction of 127 bits.
+-- `neg_narrow`: the negative of a fraction of 127 bits has 127 bits.
+-- `divided`: a whole number of 127 bits, divided by a natural number, has 127 bits.
+-- `over_narrow`: n / d in lowest terms has 127 bits where n and d have.
 use Rattle.std.proofs.Common.{◌≤◌, sym, subst, arith, ◌≡◌, ◌/◌, ℕ, ℤ, pos, int_div, unsigned_abs, zero, suc}
 use Rattle.std.proofs.Math.Nat.{div-le_self}
 use Rattle.spec_exact.specs.Fraction.{ℚ, neg_ℚ, 0ℚ, whole, over}

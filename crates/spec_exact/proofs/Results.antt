@@ -1,5 +1,11 @@
--- What equal results have in common, over plain variables: `cc` reads all that is in scope, which is slow beside a
--- tableau.
+-- What equal results have in common. The lemmas are over plain variables: `cc` reads all that is in scope, which is
+-- slow beside a tableau.
+--
+-- `ok_same`: two successes that are equal hold equal values.
+-- `err_not_ok`: an error does not equal a success, so anything follows.
+-- `ok_not_err`: a success does not equal an error, so anything follows.
+-- `err_same`: two errors that are equal hold equal values.
+-- `told_ok`: where an operation that tells its operands when it is refused succeeds, its result was there.
 use Rattle.std.proofs.Common.{◌≡◌, Result, Ok, Err, Option, Some, None}
 use Rattle.spec_exact.specs.Fraction.{ℚ}
 use Rattle.spec_exact.specs.Answer.{told}

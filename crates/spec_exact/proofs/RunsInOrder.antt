@@ -1,5 +1,16 @@
--- Runs over places in order, step by step: one more place, and a refusal at a place,
--- which stays so at the places after it.
+-- Runs of operations in order, step by step: one more step, and a refusal, which ends the run.
+--
+-- `refused_then`: a refusal becomes another kind of error alike for a whole run and for its two parts.
+-- `steps_more`: a run of k steps that succeeds and a step k that succeeds are a run of k + 1 steps.
+-- `steps_stop`: where step k fails after k steps that succeed, all n steps fail with its error.
+-- `list_more`: a list of k items and an item k that succeeds are a list of k + 1 items.
+-- `list_stops`: where item k fails after k items that succeed, the list of n items fails with its error.
+-- `length-made`: the list of f 0 to f (n - 1) has n items.
+-- `made_more`: the list of k items with f k at its end is the list of k + 1 items.
+-- `made_same`: two functions that agree below n make the same list of n items.
+-- `length-list_run`: a run that gives a list of n items gives one of that length.
+-- `get_or-made`: item i of the list of f 0 to f (n - 1) is f i, where i is below n.
+-- `All-made`: where f i has a property for each i below n, each item of the list has it.
 use Rattle.std.proofs.Common.{◌≡◌, ℕ, zero, suc, ◌+◌, ◌-◌, ◌<◌, List, [], ◌∷◌, ◌++◌, length}
 use Rattle.std.proofs.Common.{get_or, Result, Ok, Err, ⊎_elim, refl, sym, subst, ap, ◌∙◌, arith, add-one, ap₂}
 use Rattle.std.proofs.lemmas.Bool.{cases_eq}

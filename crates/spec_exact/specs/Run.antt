@@ -11,18 +11,19 @@ use Rattle.spec_exact.specs.declared.past.Past.{Past}
 abbrev pub Run : Type 0 → Type 0
 Run A = Result A (Past ℚ)
 
--- go on with a result
+-- the next part of a run goes on with a result; an error ends the run
 infixl 1 ◌>>=◌
 abbrev pub ◌>>=◌ : {A B E : Type 0} → Result A E → (A → Result B E) → Result B E
 (Ok a) >>= next = next a
 (Err e) >>= next = Err e
 
--- a refusal, as another kind of error
+-- a run whose refusal is another kind of error
 abbrev pub refused_as : {A E : Type 0} → (Past ℚ → E) → Run A → Result A E
 refused_as kind (Ok a) = Ok a
 refused_as kind (Err p) = Err (kind p)
 
 -- ---- one operation
+-- each gives its result, or the refusal with its two operands
 abbrev pub sum_run : Option ℕ → ℚ → ℚ → Run ℚ
 sum_run limit v w = told Add v w (add limit v w)
 
@@ -39,14 +40,16 @@ abbrev pub order_run : Option ℕ → ℚ → ℚ → Run Ordering
 order_run limit v w = told Cmp v w (compare limit v w)
 
 -- ---- two operations: v * w onto s, and off s
+-- s + v * w
 abbrev pub plus_product : Option ℕ → ℚ → ℚ → ℚ → Run ℚ
 plus_product limit v w s = product_run limit v w >>= λ p. sum_run limit s p
 
+-- s - v * w
 abbrev pub less_product : Option ℕ → ℚ → ℚ → ℚ → Run ℚ
 less_product limit v w s = product_run limit v w >>= λ p. difference_run limit s p
 
 -- ---- many
--- f 0, f 1 .. f (n - 1) in order, each on what the one before it left
+-- f 0, f 1 .. f (n - 1) in order, each applied to the result of the one before it
 abbrev pub steps : {A E : Type 0} → ℕ → (ℕ → A → Result A E) → A → Result A E
 steps zero f a = Ok a
 steps (suc n) f a = steps n f a >>= λ b. f n b
@@ -56,7 +59,7 @@ abbrev pub list_run : {A : Type 0} → ℕ → (ℕ → Run A) → Run (List A)
 list_run zero f = Ok []
 list_run (suc n) f = list_run n f >>= λ xs. f n >>= λ x. Ok (xs ++ x ∷ [])
 
--- the list of f 0 .. f (n - 1), which takes no operation
+-- the list of f 0 .. f (n - 1), where no operation can be refused
 abbrev pub made : {A : Type 0} → ℕ → (ℕ → A) → List A
 made zero f = []
 made (suc n) f = made n f ++ f n ∷ []
