@@ -1,4 +1,7 @@
 -- A pivot or a flip of a column that is not basic, by any rule, leaves a tableau of the same rows, costs and bounds.
+--
+-- `set_at`: after column k gets a status, column k has that status.
+-- `set_off`: after column k gets a status, each other column has the status that it had.
 use Rattle.std.proofs.Common.{◌≡◌, ℕ, ◌<◌, ◌≢◌, refl, sym, ap, ap₂, ◌∙◌, subst, eq-eqb, ne_eqb}
 use Rattle.spec_exact.specs.Fraction.{ℚ, ◌+ℚ◌, ◌-ℚ◌, ◌*ℚ◌, 0ℚ, 1ℚ, inverse}
 use Rattle.spec_exact.specs.Sums.{sum_below}

@@ -1,6 +1,12 @@
--- A dual step that is there. There are two columns x and s, of which x is at least 0 and s at least 1, and one row s -
--- x = 0, and x is to be least. At first s is basic and 0, so it leaves to its bound, and x enters.
--- Where the row is s + x = 0 none can.
+-- A dual step exists. There are two columns x and s, of which x is at least 0 and s at least 1, and one row s - x = 0,
+-- and x is to be least. At first s is basic and 0, so it leaves to its bound, and x enters. Where the row is s + x = 0
+-- no column can enter.
+--
+-- `is_tableau`: the first tableau is one of the row s - x = 0, its costs and its bounds.
+-- `feasible`: the reduced costs of the first tableau have the signs that suit the statuses.
+-- `leaves`: in the first tableau s, at position 0, has to rise to come back to its bound 1.
+-- `cheapest`: in the first tableau x is the candidate with the least ratio.
+-- `refutes`: the row s + x = 0 shows that no values solve it within the bounds.
 use Rattle.std.proofs.Common.{◌≡◌, ℕ, zero, suc, ◌<◌, Some, None, refl, sym, subst, arith}
 use Rattle.spec_exact.specs.Fraction.{ℚ, ◌+ℚ◌, ◌-ℚ◌, ◌*ℚ◌, neg_ℚ, 0ℚ, 1ℚ, ◌≤ℚ◌, ◌<ℚ◌}
 use Rattle.spec_exact.proofs.Order.{≤ℚ_refl, <ℚ-le, clash_ℚ}

@@ -1,4 +1,7 @@
 -- Columns with equal bounds; and costs at a point that solves the rows.
+--
+-- `fixed_or_not`: a column has two equal bounds, or it has not.
+-- `costs_agree`: costs and reduced costs have one sum at a point that solves the rows.
 use Rattle.std.proofs.Common.{◌≡◌, ℕ, ◌<◌, ◌⊎◌, Option, Some, None, refl, sym, ap, ◌∙◌, subst, inl, inr}
 use Rattle.spec_exact.specs.Fraction.{ℚ, ◌-ℚ◌, ◌*ℚ◌, 0ℚ, ◌<ℚ◌}
 use Rattle.spec_exact.specs.Sums.{sum_below}

@@ -1,6 +1,9 @@
 -- A tableau with one row and two columns x and s, of which s is basic with the entry 1 and costs nothing. The entry of
 -- x and its cost are given, and so is the lower bound of s; that of x is 0, and there are no upper bounds. Both values
 -- are 0, so that of s may be below its bound.
+--
+-- `only_zero`: an index below 1 is 0.
+-- `is_tableau`: the tableau with this row is one of the row, the costs and the bounds.
 use Rattle.std.proofs.Common.{◌≡◌, ℕ, zero, suc, ◌<◌, Option, Some, None, false, refl, sym, subst₂, arith}
 use Rattle.spec_exact.specs.Fraction.{ℚ, ◌-ℚ◌, ◌*ℚ◌, 0ℚ, 1ℚ}
 use Rattle.spec_exact.specs.Sums.{sum_below}

@@ -1,4 +1,8 @@
--- Where no value is outside its bounds and each reduced cost has its sign, the values cost least.
+-- Where no value is outside its bounds and each reduced cost has the sign that suits its status, the values cost least.
+--
+-- `none_eligible`: in a tableau that is dual feasible no column is eligible for the primal method.
+-- `if_some`: what holds of each value that an option may have holds of the option.
+-- `within_where_basic`: where each basic value is within its bounds, each value is, if no bounds clash.
 use Rattle.std.proofs.Common.{◌≡◌, ℕ, ◌<◌, Option, Some, None, IfSome, refl, sym, subst, subst₂, ⊎_elim}
 use Rattle.spec_exact.specs.Fraction.{ℚ, ◌*ℚ◌, 0ℚ, ◌≤ℚ◌, ◌<ℚ◌}
 use Rattle.spec_exact.specs.Sums.{sum_below}

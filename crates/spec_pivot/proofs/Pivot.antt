@@ -1,4 +1,21 @@
--- What a pivot keeps.
+-- What a pivot keeps: the span of the rows, and the unit columns.
+--
+-- `by_eq`: what follows where two numbers are equal, and where they are not, holds.
+-- `delta_same`: the weight of an index at itself is 1.
+-- `delta_other`: the weight of an index at any other is 0.
+-- `sum_below-delta`: a sum with the weight 1 at one index, and 0 elsewhere, is the term at that index.
+-- `Spans_refl`: each row is a combination of the rows themselves.
+-- `Spans_trans`: combinations of rows that are combinations of third rows are combinations of the third rows.
+-- `pivoted_at`: after a pivot the row of the pivot is the old one divided by the pivot entry.
+-- `pivoted_off`: after a pivot another row is the old one less its entry times the row of the pivot.
+-- `forth`: each row after a pivot is a combination of the rows before it.
+-- `back`: each row before a pivot is a combination of the rows after it, where the pivot entry is not 0.
+-- `pivot_row_zero`: where the row of the pivot has 0 in a column, it still has after the pivot.
+-- `kept`: where the row of the pivot has 0 in a column, the pivot changes no row in that column.
+-- `new_unit`: after a pivot its column is 1 in the row of the pivot and 0 in the others.
+-- `entered_at`: after a pivot the entering column is basic at the position of the pivot.
+-- `entered_off`: after a pivot each other position has the basic column that it had.
+-- `units`: where the basic columns are unit columns, they are so after a pivot on an entry other than 0.
 use Rattle.std.proofs.Common.{◌≡◌, ℕ, zero, suc, ◌+◌, ◌<◌, ◌≢◌, cond, nat_eq, refl}
 use Rattle.std.proofs.Common.{sym, ap, ap₂, ◌∙◌, subst, arith, eq-eqb, ne_eqb, ⊎_elim}
 use Rattle.std.proofs.lemmas.Bool.{cases_eq}

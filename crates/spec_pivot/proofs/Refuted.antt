@@ -1,4 +1,12 @@
--- Where no column can bring the leaving one back, its row shows that no values solve the rows within the bounds.
+-- Where no column can bring the leaving one back to its bound, its row shows that no values solve the rows within the
+-- bounds.
+--
+-- `fixed_lower`: a nonbasic value whose two bounds are equal is the lower bound.
+-- `fixed_upper`: a nonbasic value whose two bounds are equal is the upper bound.
+-- `at_own`: values that are v at index q, and x elsewhere, are v at q.
+-- `at_other`: values that are v at index q, and x elsewhere, are x at any other index.
+-- `term_least`: a coefficient times a value within bounds is least at the bound that the coefficient's sign asks for.
+-- `refuted`: a combination of rows that makes more than 0 within the bounds leaves no solution.
 use Rattle.std.proofs.Common.{◌≡◌, ◌≢◌, ℕ, ◌<◌, Option, Some, None, IfSome, cond, nat_eq}
 use Rattle.std.proofs.Common.{refl, sym, ap, ap₂, ◌∙◌, subst, subst₂, eq-eqb, ne_eqb, ⊎_elim}
 use Rattle.spec_exact.specs.Fraction.{ℚ, ◌+ℚ◌, ◌-ℚ◌, ◌*ℚ◌, neg_ℚ, 0ℚ, 1ℚ, ◌≤ℚ◌, ◌<ℚ◌}

@@ -1,4 +1,7 @@
 -- A dual step leaves a tableau of the same rows, costs and bounds, in which the column that left is at its bound.
+--
+-- `behind_nonbasic`: the status that the leaving column gets is not that of a basic column.
+-- `behind_stands`: the bound that the leaving column had passed is where its new status says.
 use Rattle.std.proofs.Common.{◌≡◌, ℕ, ◌<◌, Option, sym, ap, ◌∙◌, subst}
 use Rattle.spec_exact.specs.Fraction.{ℚ, ◌+ℚ◌, ◌-ℚ◌, ◌*ℚ◌, neg_ℚ, 0ℚ}
 use Rattle.spec_exact.proofs.Ruleset.{ring}

@@ -1,4 +1,9 @@
--- A tableau is fixed by its basic columns.
+-- The basic columns fix the rows and the reduced costs of a tableau.
+--
+-- `weight`: a combination of rows with unit columns has its weights in the basic columns.
+-- `apart`: positions with one basic column are one position.
+-- `same_row`: two tableaus of one span with the same basic columns have the same row for each basic column.
+-- `same_reduced_costs`: costs less combinations of the same rows, both 0 in the basic columns, are equal.
 use Rattle.std.proofs.Common.{◌≡◌, ℕ, ◌<◌, sym, ap, ap₂, ◌∙◌, subst}
 use Rattle.spec_exact.specs.Fraction.{ℚ, ◌+ℚ◌, ◌-ℚ◌, ◌*ℚ◌, 0ℚ}
 use Rattle.spec_exact.specs.Sums.{sum_below}

@@ -1,4 +1,8 @@
 -- The statuses fix the values; the cost along a step.
+--
+-- `combined`: values that solve rows solve each combination of those rows.
+-- `by_basic`: what follows for a basic status, and for any other, holds.
+-- `same_stand`: a nonbasic status and the bounds fix the value.
 use Rattle.std.proofs.Common.{◌≡◌, ℕ, ◌<◌, refl, sym, ap, ap₂, ◌∙◌, subst, subst₂, Option, Some}
 use Rattle.spec_exact.specs.Fraction.{ℚ, ◌+ℚ◌, ◌-ℚ◌, ◌*ℚ◌, neg_ℚ, 0ℚ, 1ℚ, ◌<ℚ◌}
 use Rattle.spec_exact.specs.Sums.{sum_below}

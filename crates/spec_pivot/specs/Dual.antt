@@ -10,14 +10,14 @@ use Rattle.spec_pivot.specs.Tableau.{Matrix}
 use Rattle.spec_pivot.specs.Simplex.{Bounds, IsFixed, IsInside, Table, sign, after_pivot}
 
 -- ---- reduced costs
--- the sign of a reduced cost that belongs to a status: no move of the column may lower the cost
+-- the reduced cost has the sign that suits the status: no move of the column may lower the cost
 abbrev pub Suits : Status → ℚ → Type 0
 Suits Basic d = Unit {0}
 Suits AtLower d = 0ℚ ≤ℚ d
 Suits AtUpper d = d ≤ℚ 0ℚ
 Suits AtZero d = d ≡ 0ℚ
 
--- each of the n columns that is not fixed has it
+-- dual feasible: each of the n columns that is not fixed has a reduced cost that suits its status
 abbrev pub IsDualFeasible : ℕ → Bounds → Table → Type 0
 IsDualFeasible n b t = (k : ℕ) → k < n → ¬ (IsFixed b k) → Suits (t.status k) (t.reduced k)
 
@@ -26,12 +26,12 @@ abbrev pub IsOrdered : ℕ → Bounds → Type 0
 IsOrdered n b = (k : ℕ) (l u : ℚ) → k < n → b.lower k ≡ Some l → b.upper k ≡ Some u → l ≤ℚ u
 
 -- ---- the column that leaves
--- a value v has to go this way to come back to the bound c
+-- the value v is past the bound c, and has to go this way to come back to it
 abbrev pub IsPast : Way → Option ℚ → Option ℚ → ℚ → ℚ → Type 0
 IsPast Up lower upper v c = (lower ≡ Some c) × (v <ℚ c)
 IsPast Down lower upper v c = (upper ≡ Some c) × (c <ℚ v)
 
--- the bound that it comes back to
+-- the status at the bound that a value comes back to, when it goes this way
 abbrev pub bound_behind : Way → Status
 bound_behind Up = AtLower
 bound_behind Down = AtUpper
@@ -46,7 +46,7 @@ pub record Leaves (m : ℕ) (b : Bounds) (t : Table) (way : Way) (p : ℕ) (c : 
 abbrev pub row_of : Table → Way → ℕ → ℕ → ℚ
 row_of t way p k = sign way *ℚ t.entry p k
 
--- with the entry a in that row a column of this status can move so that the leaving one goes its way
+-- a column of this status, with the entry a in that row, can move so that the leaving column goes its way
 abbrev pub Helps : Status → ℚ → Type 0
 Helps Basic a = ⊥
 Helps AtLower a = a <ℚ 0ℚ
@@ -58,7 +58,7 @@ pub record IsCandidate (b : Bounds) (t : Table) (way : Way) (p k : ℕ) : Type 0
   pub not_fixed : ¬ (IsFixed b k)
   pub helps : Helps (t.status k) (row_of t way p k)
 
--- by how much each unit of the leaving column's way raises the cost, if column k enters
+-- the ratio of column k: by how much the cost rises for each unit that the leaving column moves, if column k enters
 abbrev pub ratio : Table → ℕ → ℕ → ℚ
 ratio t p k = abs_ℚ (t.reduced k) *ℚ inverse (abs_ℚ (t.entry p k))
 
@@ -83,8 +83,8 @@ pub record IsSolution (m n : ℕ) (f : Matrix) (b : Bounds) (x : ℕ → ℚ) : 
   pub solves : (i : ℕ) → i < m → sum_below n (λ k. f i k *ℚ x k) ≡ 0ℚ
   pub within : (k : ℕ) → k < n → IsInside (b.lower k) (b.upper k) (x k)
 
--- A combination a of the m rows of f, and for each column the bound w that keeps a_k x_k at least at a_k w_k: these
--- make more than 0 (Farkas).
+-- a combination a of the m rows of f, and for each column the bound w that keeps a_k x_k at least at a_k w_k, for which
+-- the sum of all a_k w_k is more than 0: so no values solve the rows within the bounds (Farkas)
 pub record Refutes (m n : ℕ) (f : Matrix) (b : Bounds) (a w : ℕ → ℚ) : Type 0 where
   pub weights : ℕ → ℚ
   pub combined : (k : ℕ) → a k ≡ sum_below m (λ r. weights r *ℚ f r k)
@@ -92,7 +92,7 @@ pub record Refutes (m n : ℕ) (f : Matrix) (b : Bounds) (a w : ℕ → ℚ) : T
   pub below : (k : ℕ) → k < n → a k <ℚ 0ℚ → b.upper k ≡ Some (w k)
   pub positive : 0ℚ <ℚ sum_below n (λ k. a k *ℚ w k)
 
--- with a reduced cost above 0 the value is the lower bound, with one below 0 the upper (complementary slackness)
+-- complementary slackness: with a reduced cost above 0 the value is the lower bound, with one below 0 the upper bound
 pub record IsComplementary (b : Bounds) (t : Table) (k : ℕ) : Type 0 where
   pub above : 0ℚ <ℚ t.reduced k → b.lower k ≡ Some (t.value k)
   pub below : t.reduced k <ℚ 0ℚ → b.upper k ≡ Some (t.value k)

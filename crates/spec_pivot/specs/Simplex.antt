@@ -15,20 +15,20 @@ pub record Bounds : Type 0 where
   pub upper : ℕ → Option ℚ
   pub barred : ℕ → Bool
 
--- both bounds are there, and equal
+-- column k is fixed: both bounds are there, and equal
 abbrev pub IsFixed : Bounds → ℕ → Type 0
 IsFixed b k = (v : ℚ) × (b.lower k ≡ Some v) × (b.upper k ≡ Some v)
 
--- a column that may enter
+-- column k may enter: it is not barred, and not fixed
 abbrev pub MayEnter : Bounds → ℕ → Type 0
 MayEnter b k = (b.barred k ≡ false) × ¬ (IsFixed b k)
 
--- at least the lower bound and at most the upper one, as far as they are there
+-- v is at least the lower bound and at most the upper one, as far as they are there
 pub record IsInside (l u : Option ℚ) (v : ℚ) : Type 0 where
   pub lower : IfSome l (λ k. k ≤ℚ v)
   pub upper : IfSome u (λ k. v ≤ℚ k)
 
--- a value stands where its status says
+-- the value v is where its status says: at this bound, or at 0 where there is none
 abbrev pub Stands : Status → Option ℚ → Option ℚ → ℚ → Type 0
 Stands Basic l u v = Unit {0}
 Stands AtLower l u v = l ≡ Some v
@@ -45,7 +45,7 @@ pub record Table : Type 0 where
   pub reduced : ℕ → ℚ
   pub status : ℕ → Status
 
--- costs less a combination of the rows of f, and 0 in the basic columns
+-- d are reduced costs: the costs less a combination of the rows of f, and 0 in the basic columns
 pub record AgreesWith (m : ℕ) (f : Matrix) (basic : ℕ → ℕ) (cost d : ℕ → ℚ) : Type 0 where
   pub weights : ℕ → ℚ
   pub less : (k : ℕ) → d k ≡ cost k -ℚ sum_below m (λ r. weights r *ℚ f r k)
@@ -87,12 +87,12 @@ CanMove Down AtUpper = Unit {0}
 CanMove Down AtZero = Unit {0}
 CanMove _ _ = ⊥
 
--- with the reduced cost d a move that way lowers the cost
+-- a column with the reduced cost d lowers the cost when it moves that way
 abbrev pub Improves : Way → ℚ → Type 0
 Improves Up d = d <ℚ 0ℚ
 Improves Down d = 0ℚ <ℚ d
 
--- a column that may enter, can move that way and lowers the cost by it
+-- column k may enter, can move that way, and lowers the cost when it does
 pub record IsEligible (b : Bounds) (t : Table) (way : Way) (k : ℕ) : Type 0 where
   pub may_enter : MayEnter b k
   pub status : CanMove way (t.status k)
@@ -113,7 +113,7 @@ sign Down = neg_ℚ 1ℚ
 abbrev pub ray : ℕ → Table → Way → ℕ → ℕ → ℚ
 ray m t way j k = sign way *ℚ (delta j k -ℚ sum_below m (λ i. delta (t.basic i) k *ℚ t.entry i j))
 
--- the values after a move by theta
+-- the values after column j moves by theta
 abbrev pub moved : ℕ → Table → Way → ℕ → ℚ → ℕ → ℚ
 moved m t way j theta k = t.value k +ℚ theta *ℚ ray m t way j k
 
@@ -121,7 +121,7 @@ moved m t way j theta k = t.value k +ℚ theta *ℚ ray m t way j k
 abbrev pub IsBlocked : Bounds → ℕ → ℚ → ℚ → Type 0
 IsBlocked b k v r = ((0ℚ <ℚ r) × (b.upper k ≡ Some v)) ⊎ ((r <ℚ 0ℚ) × (b.lower k ≡ Some v))
 
--- the same of the column at position i, after a move by theta
+-- the basic column at position i is at the bound that it would pass, after column j moves by theta
 abbrev pub IsBlockedAt : ℕ → Bounds → Table → Way → ℕ → ℚ → ℕ → Type 0
 IsBlockedAt m b t way j theta i =
     IsBlocked b (t.basic i) (moved m t way j theta (t.basic i)) (ray m t way j (t.basic i))
@@ -187,6 +187,7 @@ pub record Flips (m n : ℕ) (b : Bounds) (t : Table) (way : Way) (j : ℕ) (the
   pub to_nonbasic : ¬ (to ≡ Basic)
   pub lands : Stands to (b.lower j) (b.upper j) (moved m t way j theta j)
 
+-- whether a step exchanges two columns, or takes one column to its other bound
 pub data StepKind : Type 0 where
   Pivot : StepKind
   Flip : StepKind
@@ -200,6 +201,7 @@ pub record Label : Type 0 where
   pub theta : ℚ
   pub to : Status
 
+-- a step of this kind and with this label leads from t to u
 abbrev pub StepOf : StepKind → ℕ → ℕ → Bounds → Label → Table → Table → Type 0
 StepOf Pivot m n b l t u =
     Pivots m n b t l.way l.column l.position l.theta l.to × (u ≡ after_pivot m t l.way l.column l.position l.theta l.to)
@@ -209,7 +211,7 @@ StepOf Flip m n b l t u = Flips m n b t l.way l.column l.theta l.to × (u ≡ af
 abbrev pub IsStep : ℕ → ℕ → Bounds → Label → Table → Table → Type 0
 IsStep m n b l t u = StepOf l.kind m n b l t u
 
--- len steps from the first tableau
+-- t and l are the tableaus and the labels of a run of len steps from a first tableau
 pub record IsRun (m n : ℕ) (f : Matrix) (cost : ℕ → ℚ) (b : Bounds)
     (t : ℕ → Table) (l : ℕ → Label) (len : ℕ) : Type 0 where
   pub first : IsTableau m n f cost b (t 0)

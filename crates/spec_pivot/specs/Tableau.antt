@@ -11,11 +11,12 @@ Matrix = ℕ → ℕ → ℚ
 abbrev pub pivot_row : Matrix → ℕ → ℕ → ℕ → ℚ
 pivot_row t p j k = t p k *ℚ inverse (t p j)
 
--- the rows after a pivot in row p and column j: each other row loses as much of row p as makes its entry in column j 0
+-- the rows after a pivot in row p and column j: each other row loses the multiple of row p that makes its entry in
+-- column j 0
 abbrev pub pivoted : Matrix → ℕ → ℕ → Matrix
 pivoted t p j i k = cond (nat_eq i p) (pivot_row t p j k) (t i k -ℚ t i j *ℚ pivot_row t p j k)
 
--- the basic columns after it
+-- the basic columns after a pivot: column j is basic at position p
 abbrev pub entered : (ℕ → ℕ) → ℕ → ℕ → ℕ → ℕ
 entered basic p j i = cond (nat_eq i p) j (basic i)
 
