@@ -1,4 +1,7 @@
 -- No two of the truths hold together.
+--
+-- `one_optimum`: a model has one optimal value at most.
+-- `not_both`: no model has an optimal value and is unbounded.
 use Rattle.std.proofs.Common.{◌≡◌, suc, ℤ, pos, neg_ℤ, subst, subst₂}
 use Rattle.spec_exact.specs.Fraction.{ℚ, neg_ℚ, ◌≤ℚ◌, whole, floor}
 use Rattle.spec_exact.proofs.Order.{≤ℚ_antisym, by_le, <ℚ-le}

@@ -1,4 +1,11 @@
--- What may be kept: a bound 0, and a column over more rows.
+-- What may be kept: the bound 0, a column over more rows, and a model within greater limits.
+--
+-- `zero_bound`: a bound may be 0.
+-- `kept_higher`: a column that may be kept over some rows may be kept over more.
+-- `kept_within_more`: a model that is kept within limits is kept within limits that are no less.
+-- `usual_below_large`: the limits of usual models are at most those of large ones.
+-- `usual_from_within`: a model that is kept within the usual limits is one that sessions may hold.
+-- `within_from_usual`: a model that sessions may hold is kept within the usual limits.
 use Rattle.std.proofs.Common.{Some, arith, ℕ, ◌<◌, ◌≤◌}
 use Rattle.std.proofs.lemmas.Int.{ints}
 use Rattle.std.proofs.lemmas.List.Elements.{All-weaker}

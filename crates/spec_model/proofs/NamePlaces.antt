@@ -1,4 +1,15 @@
--- The names of a kept model's rows and columns stand for them, and none is there twice.
+-- In a kept model the name of each row and column leads back to its number, and no name is there twice.
+--
+-- `not_same`: names that are not equal fail the test of equality.
+-- `columns_differ`: two columns of a kept model have different names.
+-- `rows_differ`: two rows of a kept model have different names.
+-- `column_at`: in a kept model the name of column j leads to j.
+-- `row_at`: in a kept model the name of row i leads to i.
+-- `row_known`: a name that leads to row i is the name of row i, and i is the number of a row.
+-- `row_inside`: what the name of a row leads to is the number of a row.
+-- `column_inside`: what the name of a column leads to is the number of a column.
+-- `row_one`: two names that lead to one row are equal.
+-- `column_one`: two names that lead to one column are equal.
 use Rattle.std.proofs.Common.{◌≡◌, ◌≢◌, ℕ, suc, ◌<◌, Bool, true, false, cond, ltb, Some, None, List, []}
 use Rattle.std.proofs.Common.{length, map, get_or, refl, sym, ap, ◌∙◌, subst₂, arith}
 use Rattle.std.specs.List.{AllPairs, position}

@@ -1,4 +1,10 @@
--- What holds of each two items of a list: of the first one and the others, and where lists are mapped or put together.
+-- What holds of each two items of a list: of its head and tail, and where lists are mapped or joined.
+--
+-- `AllPairs-head`: what holds of each two items holds of the first one with each later one.
+-- `AllPairs-tail`: what holds of each two items holds of each two behind the first one.
+-- `AllPairs-weaker`: what follows from a relation of each two items, and a property of each, holds of each two.
+-- `AllPairs-map`: what holds of the images of each two items holds of each two items of the mapped list.
+-- `AllPairs-append`: what holds of each two items in two lists, and across them, holds in the joined list.
 use Rattle.std.proofs.Common.{suc, List, ◌∷◌, All, arith, [], map, ◌++◌}
 use Rattle.std.specs.List.{AllPairs}
 use Rattle.std.proofs.lemmas.List.Elements.{All-map, All-append, All-head, All-tail}

@@ -9,13 +9,15 @@ use Rattle.spec_model.specs.declared.parts.Kind.{Kind}
 use Rattle.spec_model.specs.declared.parts.SizeLimits.{SizeLimits}
 use Rattle.spec_model.specs.Model.{Model, Name, ExactRow, ExactColumn, is_free}
 
--- the most rows and columns of a model in a session, and of the forms and tableaus that are made of models
+-- the most rows of a model in a session
 abbrev pub row_limit : ℕ
 row_limit = 256
 
+-- the most columns of a model in a session
 abbrev pub column_limit : ℕ
 column_limit = 512
 
+-- the limits of a model in a session, and of the forms and tableaus that are made of it
 abbrev pub usual_limits : SizeLimits
 usual_limits = record { rows = row_limit; columns = column_limit }
 
@@ -23,16 +25,17 @@ usual_limits = record { rows = row_limit; columns = column_limit }
 abbrev pub large_limits : SizeLimits
 large_limits = record { rows = 65536; columns = 131072 }
 
--- no limit is greater than that of the others
+-- each limit of the first is at most that of the second
 pub record AreAtMost (few many : SizeLimits) : Type 0 where
   pub rows : few.rows ≤ many.rows
   pub columns : few.columns ≤ many.columns
 
--- a model has no more rows and columns
+-- a model has no more rows and columns than the limits say
 pub record IsWithin (limits : SizeLimits) (m : Model) : Type 0 where
   pub few_rows : length m.rows ≤ limits.rows
   pub few_columns : length m.columns ≤ limits.columns
 
+-- a model has no more rows and columns than a session may hold
 abbrev pub IsUsual : Model → Type 0
 IsUsual m = IsWithin usual_limits m
 
@@ -40,32 +43,35 @@ IsUsual m = IsWithin usual_limits m
 abbrev pub is_printable : ℕ → Bool
 is_printable b = nat_le 33 b && nat_le b 126
 
--- 1 to 64 such bytes
+-- a name of a column: 1 to 64 printable bytes
 unfoldable pub is_name : Name → Bool
 is_name bytes = nat_lt 0 (length bytes) && nat_le (length bytes) 64 && list_all is_printable bytes
 
--- what marks whole columns in texts of models names no row
+-- a name of a row or of the objective: the word that marks integer columns in texts of models is none
 unfoldable pub is_row_name : Name → Bool
 is_row_name bytes = is_name bytes && not (same bytes (codes "'MARKER'"))
 
--- a model may have no name
+-- a name of a model: at most 64 printable bytes, or none
 unfoldable pub is_model_name : Name → Bool
 is_model_name bytes = nat_le (length bytes) 64 && list_all is_printable bytes
 
+-- the names of the rows, in order
 abbrev pub row_names : Model → List Name
 row_names m = map (λ r. r.name) m.rows
 
+-- the names of the columns, in order
 abbrev pub column_names : Model → List Name
 column_names m = map (λ c. c.name) m.columns
 
--- the place of the first row or column with a name
+-- the number of the first row with a name
 unfoldable pub row_place : Model → Name → Option ℕ
 row_place m name = position (λ r. same r.name name) m.rows
 
+-- the number of the first column with a name
 unfoldable pub column_place : Model → Name → Option ℕ
 column_place m name = position (λ c. same c.name name) m.columns
 
--- entries stand in the order of their rows, of which there are n, and none is 0
+-- the entries are of the first n rows, in the order of their rows, and none is 0
 pub record AreEntries (n : ℕ) (entries : List (ℕ × ℚ)) : Type 0 where
   pub inside : All (λ e. e.0 < n) entries
   pub ascending : AllPairs (λ d e. d.0 < e.0) entries
@@ -75,6 +81,7 @@ pub record AreEntries (n : ℕ) (entries : List (ℕ × ℚ)) : Type 0 where
 abbrev pub IsBound : Option ℚ → Type 0
 IsBound bound = IfSome bound (λ b. abs_ℚ b <ℚ whole (pos (10 ^ 20)))
 
+-- a column of a kept model of this height: a valid name, bounds in range and entries in order
 pub record IsKeptColumn (height : ℕ) (c : ExactColumn) : Type 0 where
   pub name : IsTrue (is_name c.name)
   pub lower : IsBound c.lower
@@ -85,11 +92,12 @@ pub record IsKeptColumn (height : ℕ) (c : ExactColumn) : Type 0 where
 abbrev pub FitsKind : Kind → Option ℚ → Type 0
 FitsKind kind range = IfSome range (λ r. is_free kind ≡ false)
 
--- numbers of at most 127 bits
+-- the right side and the range have at most 127 bits
 pub record IsNarrowRow (r : ExactRow) : Type 0 where
   pub rhs : IsNarrow r.rhs
   pub range : IfSome r.range IsNarrow
 
+-- the cost, the bounds and the entries have at most 127 bits
 pub record IsNarrowColumn (c : ExactColumn) : Type 0 where
   pub cost : IsNarrow c.cost
   pub lower : IfSome c.lower IsNarrow
@@ -110,9 +118,10 @@ pub record IsModelWithin (limits : SizeLimits) (m : Model) : Type 0 where
   pub narrow_rows : All IsNarrowRow m.rows
   pub narrow_columns : All IsNarrowColumn m.columns
 
+-- a model that is kept
 abbrev pub IsModel : Model → Type 0
 IsModel m = IsModelWithin large_limits m
 
--- a model that sessions may hold
+-- a model that sessions may hold: it is kept, and usual
 abbrev pub IsUsualModel : Model → Type 0
 IsUsualModel m = IsModel m × IsUsual m

@@ -15,14 +15,15 @@ use Rattle.spec_model.specs.declared.parts.Column.{Column}
 abbrev pub Name : Type 0
 Name = List ℕ
 
--- the rows and columns of a model: names are bytes, numbers are fractions,
--- entries are pairs of a row's number and a coefficient
+-- a row of a model: its name is bytes, and its numbers are fractions
 abbrev pub ExactRow : Type 0
 ExactRow = Row Name ℚ
 
+-- a column of a model: its entries are pairs of a row's number and a coefficient
 abbrev pub ExactColumn : Type 0
 ExactColumn = Column Name ℚ (List (ℕ × ℚ))
 
+-- a linear program. The objective has a name, and an offset that is added to the sum of the costs
 pub record Model : Type 0 where
   pub name : Name
   pub sense : Sense
@@ -38,13 +39,13 @@ is_free G = false
 is_free E = false
 is_free N = true
 
--- from the lower one to the upper one, as far as they are there
+-- a lower and an upper limit, each of which may be absent
 pub record Limits : Type 0 where
   pub lower : Option ℚ
   pub upper : Option ℚ
 
--- The lower and the upper limit of a row of this kind, right side and range, each by the operation that gives it. No
--- other definition tells kinds of rows apart by their limits.
+-- The lower limit of a row of this kind, right side and range, as the operation that gives it. No definition but this
+-- one and the next tells kinds of rows apart by their limits.
 abbrev pub lower_by : Kind → ℚ → Option ℚ → RowLimit ℚ
 lower_by L b None = Absent
 lower_by L b (Some r) = Difference b (abs_ℚ r)
@@ -53,6 +54,7 @@ lower_by E b None = Given b
 lower_by E b (Some r) = cond (lt_ℚ r 0ℚ) (Sum b r) (Given b)
 lower_by N b range = Absent
 
+-- the upper limit of a row of this kind, right side and range, as the operation that gives it
 abbrev pub upper_by : Kind → ℚ → Option ℚ → RowLimit ℚ
 upper_by L b range = Given b
 upper_by G b None = Absent
@@ -61,38 +63,45 @@ upper_by E b None = Given b
 upper_by E b (Some r) = cond (lt_ℚ r 0ℚ) (Given b) (Sum b r)
 upper_by N b range = Absent
 
+-- the lower limit of a row, as the operation that gives it
 abbrev pub lower_of : ExactRow → RowLimit ℚ
 lower_of r = lower_by r.kind r.rhs r.range
 
+-- the upper limit of a row, as the operation that gives it
 abbrev pub upper_of : ExactRow → RowLimit ℚ
 upper_of r = upper_by r.kind r.rhs r.range
 
--- the limit itself
+-- the result of the operation that gives a limit
 abbrev pub limit_of : RowLimit ℚ → Option ℚ
 limit_of Absent = None
 limit_of (Given v) = Some v
 limit_of (Sum v w) = Some (v +ℚ w)
 limit_of (Difference v w) = Some (v -ℚ w)
 
+-- the limits of a row of this kind, right side and range
 abbrev pub limits_by : Kind → ℚ → Option ℚ → Limits
 limits_by k b range = record { lower = limit_of (lower_by k b range); upper = limit_of (upper_by k b range) }
 
+-- the limits of a row
 abbrev pub limits_of : ExactRow → Limits
 limits_of r = limits_by r.kind r.rhs r.range
 
--- the limit, where its operation may be refused
+-- the result of the operation that gives a limit, or its refusal
 abbrev pub limit_run : Option ℕ → RowLimit ℚ → Run (Option ℚ)
 limit_run limit Absent = Ok None
 limit_run limit (Given v) = Ok (Some v)
 limit_run limit (Sum v w) = sum_run limit v w >>= λ s. Ok (Some s)
 limit_run limit (Difference v w) = difference_run limit v w >>= λ d. Ok (Some d)
 
+-- the lower limit of a row, or the refusal of its operation
 abbrev pub lower_run : Option ℕ → ExactRow → Run (Option ℚ)
 lower_run limit r = limit_run limit (lower_of r)
 
+-- the upper limit of a row, or the refusal of its operation
 abbrev pub upper_run : Option ℕ → ExactRow → Run (Option ℚ)
 upper_run limit r = limit_run limit (upper_of r)
 
+-- the bounds of a column
 abbrev pub bounds_of : ExactColumn → Limits
 bounds_of c = record { lower = c.lower; upper = c.upper }
 
@@ -100,51 +109,60 @@ bounds_of c = record { lower = c.lower; upper = c.upper }
 abbrev pub no_row : ExactRow
 no_row = record { name = []; kind = L; rhs = 0ℚ; range = None }
 
+-- `no_row` and `no_column` are read where a number is too great
 abbrev pub no_column : ExactColumn
 no_column = record { name = []; cost = 0ℚ; lower = None; upper = None; entries = [] }
 
+-- the number of columns
 abbrev pub width : Model → ℕ
 width m = length m.columns
 
+-- the number of rows
 abbrev pub height : Model → ℕ
 height m = length m.rows
 
+-- column j
 abbrev pub column : Model → ℕ → ExactColumn
 column m j = get_or m.columns j no_column
 
+-- row i
 abbrev pub row : Model → ℕ → ExactRow
 row m i = get_or m.rows i no_row
 
+-- the bounds of column j
 abbrev pub bounds : Model → ℕ → Limits
 bounds m j = bounds_of (column m j)
 
+-- the limits of row i
 abbrev pub limits : Model → ℕ → Limits
 limits m i = limits_of (row m i)
 
+-- the cost of column j
 abbrev pub cost : Model → ℕ → ℚ
 cost m j = (column m j).cost
 
--- what stands at a row, 0 where nothing does
+-- the coefficient that a column's entries give row i, 0 where they give none
 abbrev pub entry_of : List (ℕ × ℚ) → ℕ → ℚ
 entry_of [] i = 0ℚ
 entry_of (e ∷ es) i = cond (nat_eq e.0 i) e.1 (entry_of es i)
 
--- a_ij
+-- a_ij, the coefficient of column j in row i
 abbrev pub coefficient : Model → ℕ → ℕ → ℚ
 coefficient m i j = entry_of (column m j).entries i
 
 -- ---- points
--- z_j
+-- z_j, the value of column j at the point z
 abbrev pub part : List ℚ → ℕ → ℚ
 part z j = get_or z j 0ℚ
 
--- the sum of a row
+-- the activity of row i at the point z: its coefficients times the values of the columns
 abbrev pub activity : Model → List ℚ → ℕ → ℚ
 activity m z i = sum_below (width m) (λ j. coefficient m i j *ℚ part z j)
 
--- the sum of the costs
+-- the costs times the values of the columns, summed
 abbrev pub cost_of : Model → List ℚ → ℚ
 cost_of m z = sum_below (width m) (λ j. cost m j *ℚ part z j)
 
+-- the value of the objective at the point z
 abbrev pub value_of : Model → List ℚ → ℚ
 value_of m z = cost_of m z +ℚ m.offset

@@ -5,17 +5,18 @@ use Rattle.spec_model.specs.declared.parts.Sense.{Sense}
 use Rattle.spec_model.specs.declared.parts.Sense.TheVariants.{Min, Max}
 use Rattle.spec_model.specs.Model.{Model, Limits, width, height, bounds, limits, activity, value_of, part}
 
--- at least the lower limit and at most the upper one, as far as they are there
+-- v is at least the lower limit and at most the upper one, as far as they are there
 pub record IsBetween (l : Limits) (v : ℚ) : Type 0 where
   pub lower : IfSome l.lower (λ k. k ≤ℚ v)
   pub upper : IfSome l.upper (λ k. v ≤ℚ k)
 
--- a part for each column, within all bounds and limits
+-- z has a value for each column, and is within all bounds and limits
 pub record IsFeasible (m : Model) (z : List ℚ) : Type 0 where
   pub one_each : length z ≡ width m
   pub columns : (j : ℕ) → j < width m → IsBetween (bounds m j) (part z j)
   pub rows : (i : ℕ) → i < height m → IsBetween (limits m i) (activity m z i)
 
+-- v is a better value than w, as the sense has it
 abbrev pub IsBetter : Sense → ℚ → ℚ → Type 0
 IsBetter Min v w = v <ℚ w
 IsBetter Max v w = w <ℚ v
@@ -25,9 +26,10 @@ pub record IsOptimal (m : Model) (v : ℚ) : Type 0 where
   pub point : (z : List ℚ) × IsFeasible m z × (value_of m z ≡ v)
   pub best : (z : List ℚ) → IsFeasible m z → ¬ (IsBetter m.sense (value_of m z) v)
 
+-- no point is feasible
 abbrev pub IsInfeasible : Model → Type 0
 IsInfeasible m = (z : List ℚ) → ¬ (IsFeasible m z)
 
--- feasible points are better than every whole number
+-- for every whole number there is a feasible point with a better value
 abbrev pub IsUnbounded : Model → Type 0
 IsUnbounded m = (k : ℤ) → (z : List ℚ) × IsFeasible m z × IsBetter m.sense (value_of m z) (whole k)
