@@ -1,4 +1,8 @@
--- What stands at a row, after a change of a column's entries.
+-- The coefficient in a row, after a change of a column's entries.
+--
+-- `none_at`: where no entry is of row k, the coefficient in row k is 0.
+-- `entry_of-with_entry`: after v is put in row i, the coefficient in row i is v, and all others stay.
+-- `entry_of-without_entry`: after row i is removed, row k has the coefficient of the row that was there before.
 use Rattle.std.proofs.Common.{◌≡◌, ◌≢◌, ℕ, ◌+◌, ◌-◌, ◌<◌, ◌≤◌, Bool, true, false, not, cond, eqb, ltb, List, []}
 use Rattle.std.proofs.Common.{◌∷◌, ◌++◌, map, All, refl, sym, ap, ◌∙◌, subst, arith, ⊎_elim, eq-eqb, ne_eqb}
 use borrow.Author.Tests.{ltb-true, ltb-false, lt-ltb, eqb-true, eqb-false}

@@ -1,4 +1,12 @@
--- The entries of a column, after a change: they stand in the order of their rows, and are of 127 bits.
+-- The entries of a column, after a change: they are in the order of their rows, and their numbers have 127 bits.
+--
+-- `filtered_below`: the entries that pass the test of being before row i are before it.
+-- `filtered_above`: the entries that pass the test of being after row i are after it.
+-- `entry_if-row`: the entry for row i, where there is one, is of row i.
+-- `with_entry-kept`: entries in order stay so when a number is put in one of the rows.
+-- `with_entry-narrow`: entries of 127 bits stay so when a number of 127 bits is put in a row.
+-- `without_entry-kept`: entries in order are in the order of one row less when a row is removed.
+-- `without_entry-narrow`: entries of 127 bits stay so when a row is removed.
 use Rattle.std.proofs.Common.{◌≡◌, ◌≢◌, ℕ, suc, ◌-◌, ◌<◌, ◌≤◌, Bool, true, false, not, cond}
 use Rattle.std.proofs.Common.{eqb, ltb, List, [], ◌∷◌, ◌++◌, All, refl, sym, subst, arith}
 use borrow.Author.Tests.{ltb-true, ltb-false, eqb-false}

@@ -1,4 +1,7 @@
 -- A range of a free row: a new one is refused, and to take it away changes nothing.
+--
+-- `range_refused`: a range for a free row is refused.
+-- `none_unchanged`: taking away the range of a free row leaves a kept model as it was.
 use Rattle.std.proofs.Common.{◌≡◌, ℕ, true, cond, List, Option, Some, None, Ok, Err, set, refl, sym, ap, ◌∙◌}
 use Rattle.std.proofs.lemmas.List.{set-get_or}
 use Rattle.spec_exact.specs.Fraction.{ℚ}

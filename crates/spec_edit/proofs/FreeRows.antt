@@ -1,4 +1,7 @@
--- What is true of a model, without one of its free rows.
+-- A model without one of its free rows has the same truths.
+--
+-- `skipping_below`: once row i is gone, the rows before it have their old numbers.
+-- `skipping_from`: once row i is gone, the row at a, from i on, is the one that was at a + 1.
 use Rattle.std.proofs.Common.{◌≡◌, ◌↔◌, ℕ, ◌+◌, ◌-◌, ◌<◌, ◌≤◌, List, Option, true, refl, sym, ap, ◌∙◌, subst, arith, ⊎_elim}
 use Rattle.std.proofs.lemmas.Bool.{cases_lt}
 use Rattle.std.proofs.lemmas.List.{length-map}

@@ -1,4 +1,18 @@
--- Changes of a model that is kept leave one that may be kept.
+-- A model that is kept within limits of size is so after each change.
+--
+-- `with_row-kept`: a kept model stays so after a new row, whose name is free and whose parts may be kept, if there is
+--   room.
+-- `with_column-kept`: a kept model stays so after a new column, whose name is free and whose parts may be kept, if
+--   there is room.
+-- `without_row-kept`: a kept model stays so after a row is removed.
+-- `without_column-kept`: a kept model stays so after a column is removed.
+-- `with_cost-kept`: a kept model stays so after a column gets a cost of 127 bits.
+-- `with_coefficient-kept`: a kept model stays so after a coefficient becomes a number of 127 bits.
+-- `with_bounds-kept`: a kept model stays so after a column gets bounds that may be kept.
+-- `with_rhs-kept`: a kept model stays so after a row gets a right side of 127 bits.
+-- `with_range-kept`: a kept model stays so after a row gets a range of 127 bits, or none, that its kind may have.
+-- `with_offset-kept`: a kept model stays so after the objective gets an offset of 127 bits.
+-- `with_sense-kept`: a kept model stays so after the objective gets another sense.
 use Rattle.std.proofs.Common.{◌≡◌, ◌≢◌, ℕ, suc, ◌+◌, ◌-◌, ◌<◌, ◌≤◌, false, Option, List, [], ◌∷◌, ◌++◌, length}
 use Rattle.std.proofs.Common.{map, set, All, IfSome, IsTrue, refl, sym, ap, subst, arith, length-append}
 use Rattle.std.specs.List.{AllPairs, remove}

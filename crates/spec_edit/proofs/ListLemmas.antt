@@ -1,4 +1,9 @@
--- What holds of each element and of each pair, after a change of a list.
+-- What holds of the items of a list, and what is read of them, after a change of the list.
+--
+-- `All-remove`: what holds of each item holds of each that is left when one is removed.
+-- `map-remove`: removing an item and then mapping gives the same as mapping and then removing.
+-- `map-map_unseen`: what is read of each item, and no change of items alters, is the same after the change.
+-- `map-set_unseen`: what is read of each item is the same after one is replaced by one that reads alike.
 use Rattle.std.proofs.Common.{◌≡◌, ℕ, suc, ◌<◌, List, [], ◌∷◌, length, map, take}
 use Rattle.std.proofs.Common.{drop, set, get_or, All, refl, sym, ap, ap₂, ◌∙◌}
 use Rattle.std.specs.List.{remove}

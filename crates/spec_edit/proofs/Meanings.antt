@@ -1,4 +1,9 @@
 -- What changes of a model mean, row by row, column by column and coefficient by coefficient.
+--
+-- `with_coefficient-means`: after a coefficient of a column becomes v, it is v, and all others are as they were.
+-- `column-lowered`: after row i is removed, column j has its entries without that row.
+-- `without_row-means`: after row i is removed, the later rows fall by one and each keeps its coefficients.
+-- `new_coefficient`: a new row of a kept model has the coefficient 0 in each column.
 use Rattle.std.proofs.Common.{◌≡◌, ◌≢◌, ℕ, ◌+◌, ◌<◌, ◌≤◌, Bool, true, false, ◌&&◌, cond}
 use Rattle.std.proofs.Common.{eqb, ltb, set, get_or, refl, sym, ap, ap₂, ◌∙◌, arith, ⊎_elim}
 use borrow.Author.Tests.{ltb-true, ltb-false, eqb-true, eqb-false}

@@ -1,4 +1,10 @@
 -- Names that stand for a row or a column, and names that stand for none.
+--
+-- `row_names-changed`: a change of a row that leaves its name leaves the names of all rows.
+-- `column_names-changed`: a change of a column that leaves its name leaves the names of all columns.
+-- `row_new`: a name that is not taken for a row differs from those of the objective and all rows.
+-- `column_new`: a name that is not taken for a column differs from those of all columns.
+-- `one_row`: in a kept model two rows with one name are one row.
 use Rattle.std.proofs.Common.{◌≡◌, ◌≢◌, ℕ, ◌<◌, ◌≤◌, Bool, true, false, cond, ltb, Some, None}
 use Rattle.std.proofs.Common.{List, ◌∷◌, length, All, refl, sym, arith, ⊎_elim}
 use borrow.Author.Tests.{ltb-false}

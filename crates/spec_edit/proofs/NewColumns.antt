@@ -1,4 +1,9 @@
--- The entries of a new column stand in the order of their rows, and the column may be kept.
+-- The entries of a new column are in the order of their rows, and the column may be kept.
+--
+-- `puts_pair`: where pairs give entries, the first one names a row, is no repetition, and the others follow it.
+-- `column_of-kept`: a new column with a valid name and entries in order may be kept.
+-- `new_column-ok`: where a new column is no fault, its name is free, there is room, and its pairs give entries.
+-- `new_column-kept`: a model that sessions may hold is so after a new column of numbers of 127 bits.
 use Rattle.std.proofs.Common.{◌≡◌, ℕ, ◌<◌, true, false, not, leb, Some, Ok}
 use Rattle.std.proofs.Common.{List, [], ◌∷◌, ◌++◌, All, IsTrue, subst, arith}
 use borrow.Author.Tests.{leb-false}

@@ -1,4 +1,15 @@
--- What was found on the way to what is no fault.
+-- What is known of an edit that is no fault: each of its steps had a result.
+--
+-- `step_ok`: where a step and the next one succeed together, each of them succeeds.
+-- `test_ok`: where a test for a fault lets the edit succeed, the test fails.
+-- `known_ok`: where a name that has to be known succeeds, it leads to that number.
+-- `same_ok`: two results that are equal hold equal values.
+-- `at_row`: where a change of a named row succeeds, it is the change of one of the rows by its number.
+-- `at_column`: where a change of a named column succeeds, it is the change of one of the columns by its number.
+-- `at_entry`: where a change of a named row and column succeeds, it is the change at their numbers.
+-- `right_side-ok`: where a new right side succeeds, it is that of the objective or of one of the rows.
+-- `fits`: a range that fails the test for a free row with a range is one that the kind may have.
+-- `range-ok`: where a new range succeeds, it is that of a row by its number, and its kind may have it.
 use Rattle.std.proofs.Common.{◌≡◌, ℕ, ◌<◌, Bool, true, false, cond, Option, Some, None, Ok, Err, refl}
 use Rattle.std.proofs.Common.{◌⊎◌, inl, inr}
 use Rattle.spec_text.specs.Words.{same}

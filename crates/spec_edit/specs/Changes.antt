@@ -7,27 +7,29 @@ use Rattle.spec_model.specs.Model.{Model, Limits, ExactRow, ExactColumn, row, co
 
 -- ---- rows and columns
 
--- one more goes last
+-- the model with one more row, which goes last
 abbrev pub with_row : Model → ExactRow → Model
 with_row m r = record m { rows = m.rows ++ r ∷ [] }
 
+-- the model with one more column, which goes last
 abbrev pub with_column : Model → ExactColumn → Model
 with_column m c = record m { columns = m.columns ++ c ∷ [] }
 
--- the one with a number is changed so
+-- the model in which row i is changed by a function
 abbrev pub changed_row : (ExactRow → ExactRow) → Model → ℕ → Model
 changed_row change m i = record m { rows = slice_set m.rows i (change (row m i)) }
 
+-- the model in which column j is changed by a function
 abbrev pub changed_column : (ExactColumn → ExactColumn) → Model → ℕ → Model
 changed_column change m j = record m { columns = slice_set m.columns j (change (column m j)) }
 
 -- ---- entries of a column, which stand in the order of their rows
 
--- an entry, unless it is 0
+-- the entry v in row i, or none where v is 0
 abbrev pub entry_if : ℕ → ℚ → List (ℕ × ℚ)
 entry_if i v = if eq_ℚ v 0ℚ then [] else (i, v) ∷ []
 
--- v stands in row i from then on
+-- the entries with v in row i, whatever was there before
 unfoldable pub with_entry : ℕ → ℚ → List (ℕ × ℚ) → List (ℕ × ℚ)
 with_entry i v entries = filter (λ e. nat_lt e.0 i) entries ++ entry_if i v ++ filter (λ e. nat_lt i e.0) entries
 
@@ -35,12 +37,13 @@ with_entry i v entries = filter (λ e. nat_lt e.0 i) entries ++ entry_if i v ++ 
 abbrev pub renumbered : ℕ → ℕ → ℕ
 renumbered i k = if nat_lt i k then k - 1 else k
 
--- row i is gone
+-- the entries without that of row i, over rows of which row i is removed
 unfoldable pub without_entry : ℕ → List (ℕ × ℚ) → List (ℕ × ℚ)
 without_entry i entries = map (λ e. (renumbered i e.0, e.1)) (filter (λ e. not (e.0 == i)) entries)
 
 -- ---- changes
 
+-- the model without row i
 abbrev pub without_row : Model → ℕ → Model
 without_row m i =
     record m {
@@ -48,26 +51,34 @@ without_row m i =
       columns = map (λ (c : ExactColumn). record c { entries = without_entry i c.entries }) m.columns;
     }
 
+-- the model without column j
 abbrev pub without_column : Model → ℕ → Model
 without_column m j = record m { columns = remove m.columns j }
 
+-- the model in which column j has the cost v
 abbrev pub with_cost : Model → ℕ → ℚ → Model
 with_cost m j v = changed_column (λ (c : ExactColumn). record c { cost = v }) m j
 
+-- the model in which column j has the coefficient v in row i
 abbrev pub with_coefficient : Model → ℕ → ℕ → ℚ → Model
 with_coefficient m i j v = changed_column (λ (c : ExactColumn). record c { entries = with_entry i v c.entries }) m j
 
+-- the model in which column j has these bounds
 abbrev pub with_bounds : Model → ℕ → Limits → Model
 with_bounds m j l = changed_column (λ (c : ExactColumn). record c { lower = l.lower; upper = l.upper }) m j
 
+-- the model in which row i has the right side v
 abbrev pub with_rhs : Model → ℕ → ℚ → Model
 with_rhs m i v = changed_row (λ (r : ExactRow). record r { rhs = v }) m i
 
+-- the model in which row i has this range, or none
 abbrev pub with_range : Model → ℕ → Option ℚ → Model
 with_range m i range = changed_row (λ (r : ExactRow). record r { range = range }) m i
 
+-- the model whose objective has the offset v
 abbrev pub with_offset : Model → ℚ → Model
 with_offset m v = record m { offset = v }
 
+-- the model whose objective has this sense
 abbrev pub with_sense : Model → Sense → Model
 with_sense m sense = record m { sense = sense }

@@ -21,35 +21,40 @@ use Rattle.spec_edit.specs.Changes.{with_coefficient, with_bounds, with_rhs, wit
 abbrev pub Pairs : Type 0
 Pairs = List (Name × ℚ)
 
+-- an edit: names are bytes, and numbers are fractions
 abbrev pub ExactEdit : Type 0
 ExactEdit = Edit Name ℚ Pairs Limits
 
+-- a result, or why an edit is refused
 abbrev pub OrFault : Type 0 → Type 0
 OrFault A = Result A (EditFault Name)
 
+-- the next step goes on with a result; a fault ends the edit
 infixl 1 ◌>>=◌
 abbrev pub ◌>>=◌ : {A B : Type 0} → OrFault A → (A → OrFault B) → OrFault B
 (Ok a) >>= next = next a
 (Err fault) >>= next = Err fault
 
--- the number that a name stands for, or the name that stands for none
+-- the number that was found for a name, or the fault that the name is unknown
 abbrev pub known : Option ℕ → Name → OrFault ℕ
 known None name = Err (UnknownName name)
 known (Some k) name = Ok k
 
--- the objective is no row
+-- the number of the row with a name. The objective is no row
 abbrev pub row_named : Model → Name → OrFault ℕ
 row_named m name = known (row_place m name) name
 
+-- the number of the column with a name
 abbrev pub column_named : Model → Name → OrFault ℕ
 column_named m name = known (column_place m name) name
 
 -- ---- new rows and columns
 
--- the objective has a name of a row, too
+-- a new row may not have this name: the objective or a row has it
 abbrev pub is_row_taken : Model → Name → Bool
 is_row_taken m name = same m.objective name || is_some (row_place m name)
 
+-- a new column may not have this name: a column has it
 abbrev pub is_column_taken : Model → Name → Bool
 is_column_taken m name = is_some (column_place m name)
 
@@ -57,6 +62,7 @@ is_column_taken m name = is_some (column_place m name)
 abbrev pub is_ranged_free : Kind → Option ℚ → Bool
 is_ranged_free kind range = is_some range && is_free kind
 
+-- the model with this new row, or why it is refused
 unfoldable pub new_row : Model → ExactRow → OrFault Model
 new_row m r =
     if not (is_row_name r.name) then Err BadName
@@ -69,17 +75,18 @@ new_row m r =
 abbrev pub is_given : Name → Pairs → Bool
 is_given name pairs = list_any (λ p. same p.0 name) pairs
 
--- the entries of pairs, put to those of the pairs before; or the first name that is no row or was given before
+-- the entries with those of more pairs; or the first name that is no row's, or that a pair before has already
 abbrev pub entries_of : Model → Pairs → Pairs → List (ℕ × ℚ) → OrFault (List (ℕ × ℚ))
 entries_of m before [] entries = Ok entries
 entries_of m before (p ∷ pairs) entries =
     row_named m p.0 >>= λ i.
     if is_given p.0 before then Err (Repeated p.0) else entries_of m (before ++ p ∷ []) pairs (with_entry i p.1 entries)
 
--- at least 0, and without an upper bound
+-- the new column: at least 0, and without an upper bound
 abbrev pub column_of : Name → ℚ → List (ℕ × ℚ) → ExactColumn
 column_of name cost entries = record { name = name; cost = cost; lower = Some 0ℚ; upper = None; entries = entries }
 
+-- the model with a new column of these pairs, or why it is refused
 unfoldable pub new_column : Model → Name → ℚ → Pairs → OrFault Model
 new_column m name cost pairs =
     if not (is_name name) then Err BadName
@@ -89,17 +96,19 @@ new_column m name cost pairs =
 
 -- ---- edits
 
--- the objective's right side is the negative of the offset
+-- the model with v as the right side of a row, or of the objective, whose right side is the negative of its offset
 unfoldable pub with_right_side : Model → Name → ℚ → OrFault Model
 with_right_side m name v =
     if same m.objective name then Ok (with_offset m (neg_ℚ v))
     else (row_named m name >>= λ i. Ok (with_rhs m i v))
 
+-- the model in which a named row has this range, or why it is refused
 unfoldable pub with_new_range : Model → Name → Option ℚ → OrFault Model
 with_new_range m name range =
     row_named m name >>= λ i.
     if is_ranged_free (row m i).kind range then Err (FreeRow name) else Ok (with_range m i range)
 
+-- the model after an edit, or why the edit is refused
 unfoldable pub edited : Model → ExactEdit → OrFault Model
 edited m (AddRow name kind rhs range) = new_row m (record { name = name; kind = kind; rhs = rhs; range = range })
 edited m (DelRow name) = row_named m name >>= λ i. Ok (without_row m i)
@@ -114,10 +123,11 @@ edited m (SetSense sense) = Ok (with_sense m sense)
 
 -- ---- what an edit may hold, and what it takes
 
+-- a bound is absent, or has at most 127 bits and is less than 10 ^ 20 from 0
 abbrev pub IsKeptBound : Option ℚ → Type 0
 IsKeptBound bound = IsBound bound × IfSome bound IsNarrow
 
--- numbers of at most 127 bits, and bounds that are less than 10 ^ 20 from 0
+-- an edit whose numbers have at most 127 bits, and whose bounds are less than 10 ^ 20 from 0
 abbrev pub IsKeptEdit : ExactEdit → Type 0
 IsKeptEdit (AddRow name kind rhs range) = IsNarrow rhs × IfSome range IsNarrow
 IsKeptEdit (DelRow name) = Unit {0}

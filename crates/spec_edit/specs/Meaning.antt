@@ -8,22 +8,23 @@ use Rattle.spec_edit.specs.declared.edit.Edit.TheVariants.{AddRow, DelRow, AddCo
 use Rattle.spec_edit.specs.Changes.{with_coefficient, without_row, without_column}
 use Rattle.spec_edit.specs.Edited.{Pairs, ExactEdit}
 
--- which of those before stands at k, once the one at i is gone
+-- the old number of what has the number k, once number i is removed
 abbrev pub skipping : ℕ → ℕ → ℕ
 skipping i k = if nat_lt k i then k else k + 1
 
--- the coefficient is v, and all others stay
+-- once coefficient i, j is v, it is v, and all others are as they were
 abbrev pub IsWithCoefficient : Model → ℕ → ℕ → ℚ → Type 0
 IsWithCoefficient m i j v =
     (a b : ℕ) → coefficient (with_coefficient m i j v) a b ≡ (if (a == i) && (b == j) then v else coefficient m a b)
 
--- the rows before row i keep their numbers, those after it fall by one, and each keeps its coefficients
+-- once row i is removed, the rows before it keep their numbers, those after it fall by one, and each keeps its
+-- coefficients
 pub record IsWithoutRow (m : Model) (i : ℕ) : Type 0 where
   pub height : height m ≡ height (without_row m i) + 1
   pub rows : (a : ℕ) → row (without_row m i) a ≡ row m (skipping i a)
   pub coefficients : (a j : ℕ) → coefficient (without_row m i) a j ≡ coefficient m (skipping i a) j
 
--- the columns before column j keep their numbers, and those after it fall by one
+-- once column j is removed, the columns before it keep their numbers, and those after it fall by one
 pub record IsWithoutColumn (m : Model) (j : ℕ) : Type 0 where
   pub width : width m ≡ width (without_column m j) + 1
   pub columns : (b : ℕ) → column (without_column m j) b ≡ column m (skipping j b)
