@@ -1,4 +1,10 @@
--- Columns without a row, one after the other.
+-- Taking a row out of a list of columns, one column after the other.
+--
+-- `ascending_here`: where the first k columns are without row i and the rest as before, column k still has ascending
+--   rows.
+-- `lowered-more`: where the first k columns are without row i and column k is set to its entries without it, the first
+--   k + 1 columns are without it.
+-- `mapped_back`: where f was mapped over a slice of the whole list and the slice written back, the list is mapped by f.
 use Rattle.std.proofs.Common.{◌≡◌, ℕ, ◌+◌, ◌<◌, List, ◌++◌, map, length, get_or, set}
 use Rattle.std.proofs.Common.{take, drop, All, sym, ap, ◌∙◌, subst, arith, get_or-drop}
 use Rattle.std.specs.List.{AllPairs}

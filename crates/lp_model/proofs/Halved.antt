@@ -1,4 +1,7 @@
--- The entry of a row, where a search has found its place.
+-- The coefficient of a row, read at the place that a search has found.
+--
+-- `entry_there`: where the entry of row i stands at place k, its number is the coefficient of row i.
+-- `entry_none`: where row i has no entry, its coefficient is 0.
 use Rattle.std.proofs.Common.{◌≡◌, ℕ, ◌+◌, ◌<◌, [], ◌∷◌, ◌++◌, get_or, take, drop}
 use Rattle.std.proofs.Common.{All, cond, refl, sym, ap, ◌∙◌, arith, eq-eqb, ne_eqb}
 use Rattle.std.proofs.lemmas.List.{take-append-drop}

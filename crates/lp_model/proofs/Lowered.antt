@@ -1,4 +1,7 @@
--- What lowering the rows from a place on leaves.
+-- Lowering by one the rows of the entries from a place on takes a row out.
+--
+-- `lowered-own`: removing the entry of row i and lowering the rows behind it gives the entries without row i.
+-- `lowered-none`: where row i has no entry, lowering the rows behind its place gives the entries without row i.
 use Rattle.std.proofs.Common.{◌≡◌, ℕ, suc, ◌+◌, ◌-◌, ◌<◌, ◌≤◌, Some, [], ◌∷◌, ◌++◌, map, length}
 use Rattle.std.proofs.Common.{get_or, set, take, drop, All, refl, sym, ap, ap₂, ◌∙◌, subst}
 use Rattle.std.proofs.Common.{arith, add-one, append_assoc, length-take, length-drop, get_or-drop}

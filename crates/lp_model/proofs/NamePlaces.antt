@@ -1,4 +1,12 @@
--- Names among what has them: a row or a column.
+-- Names kept in a list beside the rows or columns that have them.
+--
+-- `pointwise_is`: std's comparison of two names byte by byte is the definition's `same`.
+-- `same_turned`: `same` of two names does not depend on their order.
+-- `pointwise_turned`: std's comparison of two names is `same` of them in the other order.
+-- `name_pushed`: adding a key whose name is not among those of the keys adds its name at the end of the list of names.
+-- `names_before`: where names are distinct, none of those before place k is the name at place k.
+-- `names_stay`: names kept for one list of names are kept for an equal list.
+-- `names_new`: a name that none of the rows or columns has is none of the kept names.
 use Rattle.std.proofs.Common.{◌≡◌, ◌≢◌, ℕ, ◌+◌, ◌<◌, Bool, true, false, ◌&&◌, ◌||◌, not, cond}
 use Rattle.std.proofs.Common.{nat_eq, ltb, Option, Some, None, List, [], ◌∷◌, ◌++◌, length, map, take}
 use Rattle.std.proofs.Common.{get_or, set, All, refl, sym, ap, ap₂, ◌∙◌, subst, arith, get_or-take}

@@ -1,4 +1,7 @@
--- A new column whose name is good and free, where there is room for it.
+-- An edit that adds a column whose name is good and free to a model that has room for it.
+--
+-- `is_good`: where the check of the name that was read says yes, the name may be that of a column.
+-- `is_free`: where the search for the name that was read finds no column, no column has the name.
 use Rattle.std.proofs.Common.{◌≡◌, ℕ, ◌<◌, Bool, true, false, Option, Some, None, Ok, Err, List, [], refl, sym, ap, ◌∙◌}
 use Rattle.std.specs.Prelude.{is_some}
 use Rattle.std.proofs.lemmas.Bool.{lt-leb}
