@@ -1,4 +1,43 @@
--- Steps of a run without a limit, from what each call gives.
+-- The checker's conditions at numbers of any width: what each test of the code says of a run without a limit.
+--
+-- `taken_is`: the run without a limit that takes a row's limit ends with that limit.
+-- `least_is`: `at_least` fails where the comparison of the number with the limit says less, and passes otherwise.
+-- `most_is`: `at_most` fails where the comparison of the number with the limit says greater, and passes otherwise.
+-- `stands_is`: a number stands at a limit where the comparison of the two says equal.
+-- `plus_no_left`: adding a product whose left factor is 0 leaves the sum.
+-- `plus_no_right`: adding a product whose right factor is 0 leaves the sum.
+-- `plus_gives`: adding the product of v and w to s ends with s + v w.
+-- `value_is`: adding f to the end of a run that ends with s ends with s + f.
+-- `passes`: a condition whose test is true passes.
+-- `fails`: condition n whose test is false ends with the refusal n.
+-- `no_first`: where a column of the point is outside its bounds, the check of an optimum ends with refusal 1.
+-- `no_second`: where a row of the point is outside its limits, the check of an optimum ends with refusal 2.
+-- `no_third`: where a reduced cost does not suit its column, the check of an optimum ends with refusal 3.
+-- `no_fourth`: where a multiplier does not suit its row, the check of an optimum ends with refusal 4.
+-- `all_pass`: where all four conditions hold, the check of an optimum ends with the point's value.
+-- `missing`: where a sum is absent, its run ends with refusal n.
+-- `there`: where a sum is present, its run ends with the sum.
+-- `no_rows`: where the rows' sum is refused, the check of Farkas multipliers ends with refusal 1.
+-- `no_columns`: where the columns' sum is refused, the check of Farkas multipliers ends with refusal 2.
+-- `compared`: where both sums are given, the check of Farkas multipliers is the test that the columns give less than
+--   the rows ask for.
+-- `clashed`: the check of a clash at column j is the test that its bounds cross.
+-- `crossed_bounds`: a test that the bounds of column j cross is one of the bounds that the definition reads at j.
+-- `crossed_is`: bounds that are both present cross where the comparison says that the lower one is greater.
+-- `by_test`: a test in the check of infeasibility may be replaced by an equal one.
+-- `better_above`: v is above 0 where its negative is below 0.
+-- `ray_first`: where a column of the point is outside its bounds, the check of a ray ends with refusal 1.
+-- `ray_second`: where a row of the point is outside its limits, the check of a ray ends with refusal 2.
+-- `ray_third`: where a column does not allow the ray, the check of the ray ends with refusal 3.
+-- `ray_fourth`: where a row does not allow the ray, the check of the ray ends with refusal 4.
+-- `ray_fifth`: where the objective does not improve along the ray, its check ends with refusal 5.
+-- `ray_all`: where all five conditions hold, the check of a ray ends with the verdict unbounded.
+-- `within_are`: testing given sums of the rows is testing the activities at the point.
+-- `tight_are`: testing given sums of the rows against the multipliers is testing the activities against them.
+-- `columns_are`: testing given reduced costs is testing those of the multipliers.
+-- `allows_are`: testing given sums of the rows over a ray is testing the activities of the ray.
+-- `better_is`: the condition that the objective improves is the test of the ray's cost, signed for the sense.
+-- `worth_is`: the value of a point is its cost and the offset together.
 use Rattle.std.proofs.Common.{◌≡◌, ℕ, zero, suc, ◌<◌, List, Option, Some, None, Ok, Err, Bool, true, false, not, cond}
 use Rattle.std.proofs.Common.{refl, sym, ap, ap₂, ◌∙◌, pos}
 use Rattle.std.specs.Prelude.{⊤, ok_or, int_lt, neg_ℤ, ℤ}
