@@ -1,4 +1,8 @@
 -- How many columns of a basis of a form are basic.
+--
+-- `basics_within`: at most n of the first n columns are basic.
+-- `basics_are_rows`: in a basis of a form as many columns are basic as the form has rows.
+-- `basics_made`: the statuses made for n columns have as many basic ones as were counted among the n.
 use Rattle.std.proofs.Common.{◌≡◌, ℕ, zero, suc, ◌≤◌, List, Bool, true, false, cond, ap, ◌∙◌, arith}
 use Rattle.spec_pivot.specs.declared.status.Status.{Status}
 use Rattle.spec_simplex.specs.Form.{Form}

@@ -1,4 +1,8 @@
--- The form of a model from its parts, and why there is none.
+-- The computational form of a model from its parts, and the faults for which it has none.
+--
+-- `column_more`: pushing what belongs to column j onto a list for the first j columns gives that for j + 1.
+-- `row_more`: pushing the limits of row i onto the bounds of the columns and the first i rows gives those with row i.
+-- `usual_form`: the form of a usual model is within the usual limits.
 use Rattle.std.proofs.Common.{◌≡◌, ℕ, ◌+◌, ◌<◌, ◌≤◌, List, [], ◌∷◌, ◌++◌, length, take, get_or, map}
 use Rattle.std.proofs.Common.{replicate, Option, Some, Result, Ok, Err, sym, subst, ap, ap₂, ◌∙◌, arith}
 use Rattle.std.specs.Prelude.{All}
