@@ -121,6 +121,7 @@ impl Model {
         self.offset = narrow(v);
     }
 
+    /// Says whether the objective is to be made least or greatest.
     pub fn set_sense(&mut self, sense: Sense)
         ensures { self.new ≡ changes.with_sense self.old sense }
     {
@@ -128,7 +129,7 @@ impl Model {
     }
 }
 
-// Takes row `i` out of each column.
+// Takes row `i` out of the entries of each column. The rows after it move down by one.
 fn take_row_out_of(columns: &mut [Column], i: u32)
     requires { All (λ c. AllPairs (λ d e. d.0 < e.0) c.entries) columns.old }
     ensures { columns.new ≡

@@ -13,14 +13,15 @@ use lp_base::{Name, are_same};
 use lp_frac::{Entries, Frac};
 use std::alloc::Global;
 
-// Whether one of the pairs has this name.
+// Whether one of the pairs has this row name.
 fn is_given(name: &[u8], pairs: &[(Name, Frac)]) -> bool
     ensures { result ≡ edited.is_given name.now pairs.now }
 {
     pairs.iter().any(|p| are_same(p.0.as_slice(), name))
 }
 
-/// The entries of the pairs of a new column. A name that is no good is taken out of the pairs.
+/// The entries of the pairs of a new column, in the order of their rows. A name that no row has, or that is given
+/// twice, is taken out of the pairs and is the fault.
 pub(crate) fn entries_of(
     alloc: Global,
     model: &Model,

@@ -79,25 +79,28 @@ impl Pairs {
         Ok(())
     }
 
+    /// How many pairs there are.
     pub fn len(&self) -> usize
         ensures { result ≡ length self.now }
     {
         self.items.len()
     }
 
+    /// Whether there is no pair.
     pub fn is_empty(&self) -> bool
         ensures { result ≡ (length self.now == 0) }
     {
         self.items.is_empty()
     }
 
+    /// The pairs in the order in which they were added.
     pub fn as_slice(&self) -> &[(Name, Frac)]
         ensures { result.now ≡ self.now }
     {
         &self.items
     }
 
-    /// Takes out the name of the pair at `place`, counted from 0.
+    /// Takes out the name of the pair at `place`, counted from 0. Of the pairs left, the last one moves to its place.
     pub(crate) fn take_name(&mut self, place: usize) -> Name
         requires { place < length self.old }
         ensures { IfSome (slice_get self.old place) (λ p. result ≡ p.0) }
@@ -125,6 +128,7 @@ impl Model for ColumnBounds {
 }
 
 impl ColumnBounds {
+    /// Bounds of these two numbers, each of which may be absent.
     pub fn new(lower: Option<Frac>, upper: Option<Frac>) -> Self
         requires lower { IsBound lower }
         requires upper { IsBound upper }
@@ -133,6 +137,7 @@ impl ColumnBounds {
         ColumnBounds { lower, upper }
     }
 
+    /// The lower bound, if there is one.
     pub fn lower(&self) -> Option<Frac>
         ensures value { result ≡ self.now.lower }
         ensures bound { IsBound result }
@@ -140,6 +145,7 @@ impl ColumnBounds {
         self.lower
     }
 
+    /// The upper bound, if there is one.
     pub fn upper(&self) -> Option<Frac>
         ensures value { result ≡ self.now.upper }
         ensures bound { IsBound result }

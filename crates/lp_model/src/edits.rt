@@ -22,6 +22,7 @@ const MAX_ROWS: u32 = 256;
 
 const MAX_COLUMNS: u32 = 512;
 
+// The place of the row with this name, or the fault that no row has it.
 fn row_named(model: &Model, name: Name) -> Result<u32, EditFault>
     ensures value { result ≡ edited.row_named model.now name }
     ensures inside { IfOk result (λ i. i < height model.now) }
@@ -32,6 +33,7 @@ fn row_named(model: &Model, name: Name) -> Result<u32, EditFault>
     }
 }
 
+// The place of the column with this name, or the fault that no column has it.
 fn column_named(model: &Model, name: Name) -> Result<u32, EditFault>
     ensures value { result ≡ edited.column_named model.now name }
     ensures inside { IfOk result (λ j. j < width model.now) }
@@ -42,19 +44,21 @@ fn column_named(model: &Model, name: Name) -> Result<u32, EditFault>
     }
 }
 
+// Whether a row or the objective has this name.
 fn is_row_taken(model: &Model, name: &[u8]) -> bool
     ensures { result ≡ edited.is_row_taken model.now name.now }
 {
     are_same(model.objective().as_slice(), name) || model.row_of(name).is_some()
 }
 
-// Whether a free row is to have a range.
+// Whether a row of this kind and range would be a free row with a range, which there may not be.
 fn is_ranged_free(kind: Kind, range: &Option<Frac>) -> bool
     ensures { result ≡ edited.is_ranged_free kind range.now }
 {
     range.is_some() && is_free(kind)
 }
 
+// Adds a row at the end, if its name is good and new, there is room for it, and it is no free row with a range.
 #[tactic(auto, unfolding(spec_edit::specs::Edited::new_row))]
 fn add_row(model: &mut Model, row: Row) -> Result<(), EditError>
     ensures { Leaves (edited.new_row model.old row) true model.old model.new result }
@@ -75,6 +79,7 @@ fn add_row(model: &mut Model, row: Row) -> Result<(), EditError>
     Ok(())
 }
 
+// Takes the row with this name out, with its coefficients.
 fn delete_row(model: &mut Model, name: Name) -> Result<(), EditError>
     ensures { Leaves (at_row model.old name (changes.without_row model.old)) false model.old model.new result }
 {
@@ -83,6 +88,8 @@ fn delete_row(model: &mut Model, name: Name) -> Result<(), EditError>
     Ok(())
 }
 
+// Adds a column at the end with lower bound 0 and no upper bound, if its name is good and new, there is room for it,
+// and its pairs name rows of the model, each once. The pairs are used up.
 #[tactic(auto, unfolding(spec_edit::specs::Edited::new_column))]
 fn add_column(
     alloc: Global,
@@ -113,6 +120,7 @@ fn add_column(
     Ok(())
 }
 
+// Takes the column with this name out.
 fn delete_column(model: &mut Model, name: Name) -> Result<(), EditError>
     ensures { Leaves (at_column model.old name (changes.without_column model.old)) false model.old model.new result }
 {
@@ -121,6 +129,7 @@ fn delete_column(model: &mut Model, name: Name) -> Result<(), EditError>
     Ok(())
 }
 
+// Gives the column with this name this cost.
 fn set_cost(model: &mut Model, name: Name, value: Frac) -> Result<(), EditError>
     ensures { Leaves (at_column model.old name (λ j. changes.with_cost model.old j value))
         false model.old model.new result }
@@ -130,6 +139,7 @@ fn set_cost(model: &mut Model, name: Name, value: Frac) -> Result<(), EditError>
     Ok(())
 }
 
+// Gives the column `column` this coefficient in row `row`; 0 takes the entry out.
 fn set_coefficient(model: &mut Model, row: Name, column: Name, value: Frac) -> Result<(), EditError>
     ensures { Leaves (at_entry model.old row column (λ i j. changes.with_coefficient model.old i j value))
         true model.old model.new result }
@@ -140,7 +150,7 @@ fn set_coefficient(model: &mut Model, row: Name, column: Name, value: Frac) -> R
     Ok(())
 }
 
-// The objective's right side is the negative of its offset.
+// Gives the row with this name this right side. The objective's right side is the negative of its offset.
 #[tactic(auto, unfolding(spec_edit::specs::Edited::with_right_side))]
 fn set_right_side(model: &mut Model, name: Name, value: Frac) -> Result<(), EditError>
     ensures { Leaves (edited.with_right_side model.old name value) false model.old model.new result }
@@ -154,6 +164,7 @@ fn set_right_side(model: &mut Model, name: Name, value: Frac) -> Result<(), Edit
     Ok(())
 }
 
+// Gives the row with this name this range, or takes its range away. A free row may have none.
 #[tactic(auto, unfolding(spec_edit::specs::Edited::with_new_range))]
 fn set_range(model: &mut Model, name: Name, range: Option<Frac>) -> Result<(), EditError>
     ensures { Leaves (edited.with_new_range model.old name range) false model.old model.new result }
@@ -168,6 +179,7 @@ fn set_range(model: &mut Model, name: Name, range: Option<Frac>) -> Result<(), E
     Ok(())
 }
 
+// Gives the column with this name these bounds.
 fn set_bounds(model: &mut Model, name: Name, bounds: ColumnBounds) -> Result<(), EditError>
     ensures { Leaves (at_column model.old name (λ j. changes.with_bounds model.old j bounds))
         false model.old model.new result }
@@ -177,7 +189,7 @@ fn set_bounds(model: &mut Model, name: Name, bounds: ColumnBounds) -> Result<(),
     Ok(())
 }
 
-// What an edit makes of a model. One that is refused leaves it as it was.
+// Applies an edit to a model. One that is refused leaves the model as it was.
 #[tactic(auto, unfolding(spec_edit::specs::Edited::edited))]
 fn change(alloc: Global, model: &mut Model, edit: Edit) -> Result<(), EditError>
     ensures { Applies model.old edit model.new result }

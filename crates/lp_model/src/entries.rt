@@ -9,7 +9,7 @@ use crate::narrow::narrow;
 use lp_frac::{Entries, Frac, is_zero};
 use std::alloc::AllocError;
 
-/// Lets `value` stand at row `row` from then on; 0 takes the row's entry out.
+/// Gives row `row` the coefficient `value`. 0 takes the row's entry out.
 pub fn put_entry(entries: &mut Entries, row: u32, value: Frac) -> Result<(), AllocError>
     requires { AllPairs (λ d e. d.0 < e.0) entries.old }
     ensures ok { OnOk result (entries.new ≡ with_entry row value entries.old) }
@@ -51,7 +51,7 @@ pub(crate) fn take_row_out(entries: &mut Entries, row: u32)
     }
 }
 
-/// Where the row's entry stands, or else where it belongs.
+/// The place of the row's entry, or else, as `Err`, the place where it belongs.
 pub(crate) fn place_of(entries: &[(u32, Frac)], row: u32) -> Result<usize, usize>
     requires { AllPairs (λ d e. d.0 < e.0) entries.now }
     ensures { IsPlace row entries.now result }
@@ -59,7 +59,7 @@ pub(crate) fn place_of(entries: &[(u32, Frac)], row: u32) -> Result<usize, usize
     entries.binary_search_by_key(&row, |e| e.0)
 }
 
-// Lowers the rows of the entries from `place` on by one.
+// Lowers the rows of the entries by one, from place `place` on.
 fn lower_rows(entries: &mut Entries, place: usize)
     requires inside { place ≤ length entries.old }
     requires above { All (λ e. 0 < e.0) (drop place entries.old) }

@@ -10,7 +10,7 @@ use crate::name_index::NameIndex;
 use lp_base::are_same;
 use std::alloc::Global;
 
-/// The names of the rows.
+/// The names of the rows, to find rows by them; none where there is no memory for them.
 pub(crate) fn names_of_rows(alloc: Global, rows: &[Row]) -> Option<NameIndex>
     requires { AllPairs (λ x y. x ≢ y) (map (λ (r : ExactRow). r.name) rows.now) }
     ensures { IfSome result (λ names. names ≡ map (λ (r : ExactRow). r.name) rows.now) }
@@ -22,7 +22,7 @@ pub(crate) fn names_of_rows(alloc: Global, rows: &[Row]) -> Option<NameIndex>
     names
 }
 
-/// The names of the columns.
+/// The names of the columns, to find columns by them; none where there is no memory for them.
 pub(crate) fn names_of_columns(alloc: Global, columns: &[Column]) -> Option<NameIndex>
     requires { AllPairs (λ x y. x ≢ y) (map (λ (c : ExactColumn). c.name) columns.now) }
     ensures { IfSome result (λ names. names ≡ map (λ (c : ExactColumn). c.name) columns.now) }
@@ -34,7 +34,7 @@ pub(crate) fn names_of_columns(alloc: Global, columns: &[Column]) -> Option<Name
     names
 }
 
-/// The names with one more at the end.
+/// The names with one more at the end; none where there were none, or there is no memory for it.
 pub(crate) fn with_name(names: Option<NameIndex>, name: &[u8]) -> Option<NameIndex>
     requires { IfSome names (λ old. All (λ x. x ≢ name.now) old) }
     ensures { (xs : List (List ℕ)) → IfSome names (λ old. old ≡ xs) → IfSome result (λ new. new ≡ xs ++ name.now ∷ []) }
@@ -46,7 +46,7 @@ pub(crate) fn with_name(names: Option<NameIndex>, name: &[u8]) -> Option<NameInd
     }
 }
 
-/// The place of the row with this name.
+/// The place of the row with this name, by the kept names where there are some, else by a walk over the rows.
 pub(crate) fn row_named(names: &Option<NameIndex>, rows: &[Row], name: &[u8]) -> Option<usize>
     requires { IfSome names.now (λ names. names ≡ map (λ (r : ExactRow). r.name) rows.now) }
     ensures value { result ≡ position (λ r. same r.name name.now) rows.now }
@@ -58,7 +58,7 @@ pub(crate) fn row_named(names: &Option<NameIndex>, rows: &[Row], name: &[u8]) ->
     }
 }
 
-/// The place of the column with this name.
+/// The place of the column with this name, by the kept names where there are some, else by a walk over the columns.
 pub(crate) fn column_named(
     names: &Option<NameIndex>,
     columns: &[Column],

@@ -41,6 +41,7 @@ pub fn upper_of(row: &Row) -> RowLimit
     }
 }
 
+// The number that the operation gives at 127 bits, none where the limit is absent.
 fn taken(limit: RowLimit) -> Result<Option<Frac>, Past>
     ensures { result ≡ model.limit_run (Some number_limit) limit }
 {

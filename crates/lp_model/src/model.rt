@@ -118,12 +118,14 @@ impl Model {
         }
     }
 
+    /// The model's name, which may be empty.
     pub fn name(&self) -> &Name
         ensures { result.now ≡ self.now.name }
     {
         &self.name
     }
 
+    /// Whether the objective is to be made least or greatest.
     pub fn sense(&self) -> Sense
         ensures { result ≡ self.now.sense }
     {
@@ -219,7 +221,7 @@ impl Model {
     }
 }
 
-// What stands at row `i`, 0 where nothing does.
+// The coefficient in row `i`, which is 0 where the row has no entry.
 fn entry_at(entries: &[(u32, Frac)], i: u32) -> Frac
     requires { AllPairs (λ d e. d.0 < e.0) entries.now }
     ensures { result ≡ entry_of entries.now i }

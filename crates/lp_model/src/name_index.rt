@@ -28,6 +28,7 @@ impl Drop for NameIndex {
 }
 
 impl NameIndex {
+    /// The empty list of names.
     pub fn new(alloc: Global) -> Self
         ensures { result ≡ [] }
     {
@@ -54,14 +55,14 @@ impl NameIndex {
         Ok(())
     }
 
-    /// Whether a name is among them.
+    /// Whether the list has this name.
     pub fn has(&self, name: &[u8]) -> bool
         ensures { result ≡ list_any (same name.now) self.now }
     {
         self.names.contains(name)
     }
 
-    /// The place of a name, counted from 0.
+    /// The place of a name, counted from 0, or none where the list does not have it.
     pub fn place_of(&self, name: &[u8]) -> Option<usize>
         ensures value { result ≡ position (λ x. same x name.now) self.now }
         ensures inside { IfSome result (λ i. i < length self.now) }

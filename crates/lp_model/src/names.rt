@@ -7,12 +7,14 @@ use lp_base::are_same;
 
 const MAX_NAME: usize = 64;
 
+// Whether the byte is a printable character of ASCII other than the space.
 fn is_printable(b: u8) -> bool
     ensures { result ≡ kept.is_printable b }
 {
     33 <= b && b <= 126
 }
 
+// Whether all bytes are printable characters of ASCII other than the space.
 fn are_printable(text: &[u8]) -> bool
     ensures { result ≡ list_all kept.is_printable text.now }
 {

@@ -7,7 +7,7 @@ ghost use Rattle.spec_model.specs.Kept.{IsNarrowRow, IsNarrowColumn};
 use crate::model::{Column, Row};
 use lp_frac::{Frac, den, num};
 
-/// The same fraction.
+/// The same fraction. It tells its caller that the fraction has at most 127 bits.
 pub(crate) fn narrow(v: Frac) -> Frac
     ensures value { result ≡ v }
     ensures narrow { IsNarrow v }
@@ -16,7 +16,7 @@ pub(crate) fn narrow(v: Frac) -> Frac
     v
 }
 
-/// The same fraction, if it is there.
+/// The same fraction, if there is one, known to have at most 127 bits.
 pub(crate) fn narrow_if(v: Option<Frac>) -> Option<Frac>
     ensures value { result ≡ v }
     ensures narrow { IfSome v IsNarrow }
@@ -27,7 +27,7 @@ pub(crate) fn narrow_if(v: Option<Frac>) -> Option<Frac>
     }
 }
 
-/// The same row.
+/// The same row, whose numbers are then known to have at most 127 bits.
 pub(crate) fn narrow_row(row: Row) -> Row
     ensures value { result ≡ row }
     ensures narrow { IsNarrowRow row }
@@ -39,7 +39,7 @@ pub(crate) fn narrow_row(row: Row) -> Row
     }
 }
 
-/// The same column, whose coefficients are known to be narrow.
+/// The same column, whose cost and bounds are then known to have at most 127 bits, as its coefficients were.
 pub(crate) fn narrow_column(column: Column) -> Column
     requires { All (λ e. IsNarrow e.1) column.entries }
     ensures value { result ≡ column }

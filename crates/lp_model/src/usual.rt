@@ -35,6 +35,7 @@ impl std::marker::Model for UsualModel {
 }
 
 impl UsualModel {
+    /// The model, which is within the usual limits, as a usual one.
     pub fn new(model: Model) -> UsualModel
         requires { IsUsual model }
         ensures { result ≡ model }
@@ -42,6 +43,7 @@ impl UsualModel {
         UsualModel { model }
     }
 
+    /// The model itself.
     pub fn model(&self) -> &Model
         ensures value { result.now ≡ self.now }
         ensures usual { IsUsual result.now }
