@@ -6,7 +6,7 @@ use Rattle.spec_model.specs.Model.{Model, height, row, bounds, activity, part}
 use Rattle.spec_check.specs.Run.{Run, need, lower_run, upper_run, at_least, at_most, stands_at, is_tight}
 use Rattle.spec_check.specs.Run.{not_below, not_above}
 
--- a sum for each row
+-- the list has the activity of each row
 abbrev pub AreSums : Model → List ℚ → List ℚ → Type 0
 AreSums m z sums = (length sums ≡ height m) × ((i : ℕ) → i < height m → part sums i ≡ activity m z i)
 

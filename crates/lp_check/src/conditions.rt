@@ -13,7 +13,7 @@ use crate::ray::{better, columns_allow, rows_allow};
 use lp_frac::Fracs;
 use lp_model::Model;
 
-// What a certificate of an optimum shows.
+// What a certificate of an optimum shows, or the first of its conditions that fails.
 fn optimal(model: &Model, x: &Fracs, y: &Fracs) -> Result<Known, CheckStop>
     requires point { length x.now ≡ width model.now }
     requires multipliers { length y.now ≡ height model.now }
@@ -26,7 +26,7 @@ fn optimal(model: &Model, x: &Fracs, y: &Fracs) -> Result<Known, CheckStop>
     Ok(Known::Optimal(value(model, x)?))
 }
 
-// What a certificate of a ray shows.
+// What a certificate of a ray shows, or the first of its conditions that fails.
 fn unbounded(model: &Model, x: &Fracs, r: &Fracs) -> Result<Known, CheckStop>
     requires point { length x.now ≡ width model.now }
     requires ray { length r.now ≡ width model.now }
@@ -40,7 +40,7 @@ fn unbounded(model: &Model, x: &Fracs, r: &Fracs) -> Result<Known, CheckStop>
     Ok(Known::Unbounded)
 }
 
-// What the certificate shows, or why it shows nothing.
+// What the certificate shows, or the first condition that fails, or the first operation past 127 bits.
 #[tactic(auto, unfolding(spec_check::specs::Run::check_run))]
 fn accepted(model: &Model, cert: &Certificate) -> Result<Known, CheckStop>
     requires { IsFor model.now cert.now }

@@ -10,7 +10,7 @@ use crate::steps::{need, part, plus_product};
 use lp_frac::{Frac, Fracs, cmp, is_negative, is_positive, zero};
 use lp_model::{Model, lower_limit, upper_limit};
 
-// `d` times a limit that condition `n` asks for, onto `s`.
+// `s` with `d` times the limit added. Condition `n` fails where there is no limit.
 fn weighed_at(n: u32, d: Frac, limit: Option<Frac>, s: Frac) -> Result<Frac, CheckStop>
     ensures { result ≡ run.weighed_at n (Some number_limit) d limit s }
 {
@@ -33,7 +33,7 @@ macro_rules! weighed {
     };
 }
 
-// What row `i` asks for with its multiplier, onto `sum`.
+// `sum` with what row `i` asks for added: its multiplier times the limit that the multiplier's sign needs.
 fn row_asks(model: &Model, y: &Fracs, i: u32, sum: Frac) -> Result<Frac, CheckStop>
     requires inside { i < height model.now }
     requires multipliers { length y.now ≡ height model.now }
@@ -44,7 +44,7 @@ fn row_asks(model: &Model, y: &Fracs, i: u32, sum: Frac) -> Result<Frac, CheckSt
     weighed!(1, multiplier, lower_limit(row)?, upper_limit(row)?, sum)
 }
 
-// Condition 1: what all rows ask for.
+// Condition 1: the sum of what all rows ask for. Each row has the limit that its multiplier needs.
 fn rows_ask(model: &Model, y: &Fracs) -> Result<Frac, CheckStop>
     requires { length y.now ≡ height model.now }
     ensures { result ≡ run.rows_ask_run (Some number_limit) model.now y.now }
@@ -56,7 +56,7 @@ fn rows_ask(model: &Model, y: &Fracs) -> Result<Frac, CheckStop>
     Ok(sum)
 }
 
-// The multipliers' part in column `j`.
+// The multipliers' part in column `j`: its coefficients times the multipliers of their rows.
 fn priced(model: &Model, y: &Fracs, j: u32) -> Result<Frac, CheckStop>
     requires inside { j < width model.now }
     requires multipliers { length y.now ≡ height model.now }
@@ -69,7 +69,8 @@ fn priced(model: &Model, y: &Fracs, j: u32) -> Result<Frac, CheckStop>
     Ok(sum)
 }
 
-// The most that column `j` gives, onto `sum`.
+// `sum` with the most that column `j` gives added: the multipliers' part in it times the bound that the part's sign
+// needs.
 fn column_gives(model: &Model, y: &Fracs, j: u32, sum: Frac) -> Result<Frac, CheckStop>
     requires inside { j < width model.now }
     requires multipliers { length y.now ≡ height model.now }
@@ -80,7 +81,7 @@ fn column_gives(model: &Model, y: &Fracs, j: u32, sum: Frac) -> Result<Frac, Che
     weighed!(2, priced, column.upper, column.lower, sum)
 }
 
-// Condition 2: the most that all columns give.
+// Condition 2: the most that all columns give. Each column has the bound that it needs.
 fn columns_give(model: &Model, y: &Fracs) -> Result<Frac, CheckStop>
     requires { length y.now ≡ height model.now }
     ensures { result ≡ run.columns_give_run (Some number_limit) model.now y.now }
@@ -92,7 +93,7 @@ fn columns_give(model: &Model, y: &Fracs) -> Result<Frac, CheckStop>
     Ok(sum)
 }
 
-// What multipliers show with which the columns give less than the rows ask for.
+/// What Farkas multipliers show, by the three conditions: the columns give less than the rows ask for.
 pub(crate) fn infeasible(model: &Model, y: &Fracs) -> Result<Known, CheckStop>
     requires { length y.now ≡ height model.now }
     ensures { result ≡ run.infeasible_run (Some number_limit) model.now y.now }
@@ -113,7 +114,7 @@ fn crossed(lower: Option<Frac>, upper: Option<Frac>) -> Result<(), CheckStop>
     }
 }
 
-// What a column shows whose bounds clash.
+/// What the claim shows that the bounds of column `j` clash.
 pub(crate) fn clash(model: &Model, j: u32) -> Result<Known, CheckStop>
     requires { j < width model.now }
     ensures { result ≡ run.clash_run (Some number_limit) model.now j }

@@ -11,7 +11,7 @@ use crate::steps::{less_product, need, part, stands_at};
 use lp_frac::{Frac, Fracs, is_negative, is_positive, neg};
 use lp_model::{Column, Model, Sense, lower_limit, upper_limit};
 
-// The cost to be made least.
+/// The cost where the objective is made least: its negative for `max`.
 pub(crate) fn signed(sense: Sense, cost: Frac) -> Frac
     ensures { result ≡ signed_by sense cost }
 {
@@ -21,7 +21,7 @@ pub(crate) fn signed(sense: Sense, cost: Frac) -> Frac
     }
 }
 
-// What is left of the cost of column `j` without the multipliers' part.
+// The reduced cost of column `j`: its signed cost less the multipliers' part in it.
 fn reduced(model: &Model, y: &Fracs, j: u32) -> Result<Frac, CheckStop>
     requires inside { j < width model.now }
     requires multipliers { length y.now ≡ height model.now }
@@ -34,7 +34,7 @@ fn reduced(model: &Model, y: &Fracs, j: u32) -> Result<Frac, CheckStop>
     Ok(rest)
 }
 
-// `value` is at the column's bound that a reduced cost of this sign asks for.
+// Whether `value` is at the column's bound that a reduced cost of this sign needs.
 fn is_tight(column: &Column, reduced: Frac, value: Frac) -> bool
     ensures { result ≡ run.is_tight (bounds_of column.now) reduced value }
 {
@@ -47,7 +47,7 @@ fn is_tight(column: &Column, reduced: Frac, value: Frac) -> bool
     }
 }
 
-// Condition 3 at column `j`.
+// Condition 3 at column `j`: its value is at the bound that its reduced cost needs.
 fn column_tight(model: &Model, x: &Fracs, y: &Fracs, j: u32) -> Result<(), CheckStop>
     requires inside { j < width model.now }
     requires point { length x.now ≡ width model.now }
@@ -58,7 +58,7 @@ fn column_tight(model: &Model, x: &Fracs, y: &Fracs, j: u32) -> Result<(), Check
     need(3, is_tight(model.col(j), reduced, part(x, j)))
 }
 
-// Each column's value is at the bound that its reduced cost asks for.
+/// Condition 3: the value of each column is at the bound that its reduced cost needs.
 pub(crate) fn columns_tight(model: &Model, x: &Fracs, y: &Fracs) -> Result<(), CheckStop>
     requires point { length x.now ≡ width model.now }
     requires multipliers { length y.now ≡ height model.now }
@@ -70,7 +70,7 @@ pub(crate) fn columns_tight(model: &Model, x: &Fracs, y: &Fracs) -> Result<(), C
     Ok(())
 }
 
-// Condition 4 at row `i`. The row's sum and limit are taken again.
+// Condition 4 at row `i`: its sum is at the limit that its multiplier needs. Sum and limit are computed anew.
 fn row_tight(model: &Model, x: &Fracs, y: &Fracs, i: u32) -> Result<(), CheckStop>
     requires inside { i < height model.now }
     requires point { length x.now ≡ width model.now }
@@ -92,7 +92,7 @@ fn row_tight(model: &Model, x: &Fracs, y: &Fracs, i: u32) -> Result<(), CheckSto
     need(4, stands_at(limit?, sum))
 }
 
-// Each row's sum is at the limit that its multiplier asks for.
+/// Condition 4: the sum of each row is at the limit that its multiplier needs.
 pub(crate) fn rows_tight(model: &Model, x: &Fracs, y: &Fracs) -> Result<(), CheckStop>
     requires point { length x.now ≡ width model.now }
     requires multipliers { length y.now ≡ height model.now }

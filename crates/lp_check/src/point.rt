@@ -9,7 +9,7 @@ use crate::steps::{at_least, at_most, part, plus_product};
 use lp_frac::{Frac, Fracs, add, zero};
 use lp_model::{Model, lower_limit, upper_limit};
 
-// The value of column `j` is within the column's bounds.
+// Condition 1 at column `j`: its value is within its bounds.
 fn column_within(model: &Model, x: &Fracs, j: u32) -> Result<(), CheckStop>
     requires inside { j < width model.now }
     requires point { length x.now ≡ width model.now }
@@ -21,7 +21,7 @@ fn column_within(model: &Model, x: &Fracs, j: u32) -> Result<(), CheckStop>
     at_most(1, column.upper, value)
 }
 
-// Each column's value is within its bounds.
+/// Condition 1: the value of each column is within its bounds.
 pub(crate) fn columns_within(model: &Model, x: &Fracs) -> Result<(), CheckStop>
     requires { length x.now ≡ width model.now }
     ensures { result ≡ run.columns_run (Some number_limit) model.now x.now }
@@ -32,7 +32,7 @@ pub(crate) fn columns_within(model: &Model, x: &Fracs) -> Result<(), CheckStop>
     Ok(())
 }
 
-// The sum of row `i`.
+/// The activity of row `i`: its coefficients times the values of their columns.
 pub(crate) fn activity(model: &Model, x: &Fracs, i: u32) -> Result<Frac, CheckStop>
     requires inside { i < height model.now }
     requires point { length x.now ≡ width model.now }
@@ -45,7 +45,7 @@ pub(crate) fn activity(model: &Model, x: &Fracs, i: u32) -> Result<Frac, CheckSt
     Ok(sum)
 }
 
-// The sum of row `i` is within the row's limits.
+// Condition 2 at row `i`: its activity is within its limits.
 fn row_within(model: &Model, x: &Fracs, i: u32) -> Result<(), CheckStop>
     requires inside { i < height model.now }
     requires point { length x.now ≡ width model.now }
@@ -57,7 +57,7 @@ fn row_within(model: &Model, x: &Fracs, i: u32) -> Result<(), CheckStop>
     at_most(2, upper_limit(row)?, sum)
 }
 
-// Each row's sum is within the row's limits.
+/// Condition 2: the activity of each row is within its limits.
 pub(crate) fn rows_within(model: &Model, x: &Fracs) -> Result<(), CheckStop>
     requires { length x.now ≡ width model.now }
     ensures { result ≡ run.rows_run (Some number_limit) model.now x.now }
@@ -68,7 +68,7 @@ pub(crate) fn rows_within(model: &Model, x: &Fracs) -> Result<(), CheckStop>
     Ok(())
 }
 
-// The sum of the costs.
+/// The sum of the costs times the values of their columns.
 pub(crate) fn cost(model: &Model, x: &Fracs) -> Result<Frac, CheckStop>
     requires { length x.now ≡ width model.now }
     ensures { result ≡ run.cost_run (Some number_limit) model.now x.now }
@@ -80,7 +80,7 @@ pub(crate) fn cost(model: &Model, x: &Fracs) -> Result<Frac, CheckStop>
     Ok(sum)
 }
 
-// What the objective is at the point.
+/// The value of the objective at the point: its cost and the offset.
 pub(crate) fn value(model: &Model, x: &Fracs) -> Result<Frac, CheckStop>
     requires { length x.now ≡ width model.now }
     ensures { result ≡ run.value_run (Some number_limit) model.now x.now }

@@ -11,7 +11,7 @@ use crate::steps::{need, part};
 use lp_frac::{Frac, Fracs, is_negative, is_positive};
 use lp_model::{Model, lower_limit, upper_limit};
 
-// `r` is not below 0, where a lower limit is there.
+// Whether a lower limit allows a ray that moves by `r`: there is no limit, or `r` is not below 0.
 fn not_below(limit: Option<Frac>, r: Frac) -> bool
     ensures { result ≡ run.not_below limit r }
 {
@@ -21,7 +21,7 @@ fn not_below(limit: Option<Frac>, r: Frac) -> bool
     }
 }
 
-// `r` is not above 0, where an upper limit is there.
+// Whether an upper limit allows a ray that moves by `r`: there is no limit, or `r` is not above 0.
 fn not_above(limit: Option<Frac>, r: Frac) -> bool
     ensures { result ≡ run.not_above limit r }
 {
@@ -31,7 +31,7 @@ fn not_above(limit: Option<Frac>, r: Frac) -> bool
     }
 }
 
-// Condition 3 at column `j`.
+// Condition 3 at column `j`: its bounds allow the ray.
 fn column_allows(model: &Model, r: &Fracs, j: u32) -> Result<(), CheckStop>
     requires inside { j < width model.now }
     requires ray { length r.now ≡ width model.now }
@@ -43,7 +43,7 @@ fn column_allows(model: &Model, r: &Fracs, j: u32) -> Result<(), CheckStop>
     need(3, not_above(column.upper, value))
 }
 
-// Each column's bounds allow the ray.
+/// Condition 3: the bounds of each column allow the ray.
 pub(crate) fn columns_allow(model: &Model, r: &Fracs) -> Result<(), CheckStop>
     requires { length r.now ≡ width model.now }
     ensures { result ≡ run.each (width model.now) (run.column_allows_run model.now r.now) }
@@ -54,7 +54,7 @@ pub(crate) fn columns_allow(model: &Model, r: &Fracs) -> Result<(), CheckStop>
     Ok(())
 }
 
-// Condition 4 at row `i`.
+// Condition 4 at row `i`: its limits allow the ray.
 fn row_allows(model: &Model, r: &Fracs, i: u32) -> Result<(), CheckStop>
     requires inside { i < height model.now }
     requires ray { length r.now ≡ width model.now }
@@ -66,7 +66,7 @@ fn row_allows(model: &Model, r: &Fracs, i: u32) -> Result<(), CheckStop>
     need(4, not_above(upper_limit(row)?, sum))
 }
 
-// Each row's limits allow the ray.
+/// Condition 4: the limits of each row allow the ray.
 pub(crate) fn rows_allow(model: &Model, r: &Fracs) -> Result<(), CheckStop>
     requires { length r.now ≡ width model.now }
     ensures { result ≡ run.each (height model.now) (run.row_allows_run (Some number_limit) model.now r.now) }
@@ -77,7 +77,7 @@ pub(crate) fn rows_allow(model: &Model, r: &Fracs) -> Result<(), CheckStop>
     Ok(())
 }
 
-// Condition 5: the objective gets better along the ray.
+/// Condition 5: the objective improves along the ray.
 pub(crate) fn better(model: &Model, r: &Fracs) -> Result<(), CheckStop>
     requires { length r.now ≡ width model.now }
     ensures { result ≡ run.better_run (Some number_limit) model.now r.now }

@@ -16,7 +16,7 @@ pub fn part(z: &Fracs, k: u32) -> Frac
     z.at(k as usize)
 }
 
-// `v * w` onto `s`.
+/// `s` with the product `v * w` added.
 pub(crate) fn plus_product(v: Frac, w: Frac, s: Frac) -> Result<Frac, CheckStop>
     ensures { result ≡ run.plus_product (Some number_limit) v w s }
 {
@@ -24,7 +24,7 @@ pub(crate) fn plus_product(v: Frac, w: Frac, s: Frac) -> Result<Frac, CheckStop>
     Ok(sum)
 }
 
-// `v * w` off `s`.
+/// `s` with the product `v * w` taken off.
 pub(crate) fn less_product(v: Frac, w: Frac, s: Frac) -> Result<Frac, CheckStop>
     ensures { result ≡ run.less_product (Some number_limit) v w s }
 {
@@ -32,7 +32,7 @@ pub(crate) fn less_product(v: Frac, w: Frac, s: Frac) -> Result<Frac, CheckStop>
     Ok(rest)
 }
 
-// Condition `n`: `v` is at least the limit, if there is one.
+/// Condition `n`: `v` is at least the limit, if there is one.
 pub(crate) fn at_least(n: u32, limit: Option<Frac>, v: Frac) -> Result<(), CheckStop>
     ensures { result ≡ run.at_least n (Some number_limit) limit v }
 {
@@ -45,7 +45,7 @@ pub(crate) fn at_least(n: u32, limit: Option<Frac>, v: Frac) -> Result<(), Check
     }
 }
 
-// Condition `n`: `v` is at most the limit, if there is one.
+/// Condition `n`: `v` is at most the limit, if there is one.
 pub(crate) fn at_most(n: u32, limit: Option<Frac>, v: Frac) -> Result<(), CheckStop>
     ensures { result ≡ run.at_most n (Some number_limit) limit v }
 {
@@ -58,14 +58,14 @@ pub(crate) fn at_most(n: u32, limit: Option<Frac>, v: Frac) -> Result<(), CheckS
     }
 }
 
-// Condition `n` asks that the test holds.
+/// Condition `n` fails unless the test holds.
 pub(crate) fn need(n: u32, holds: bool) -> Result<(), CheckStop>
     ensures { result ≡ run.need n holds }
 {
     if holds { Ok(()) } else { Err(CheckStop::No(n)) }
 }
 
-// The limit is there, and `v` is at it.
+/// Whether there is a limit and `v` equals it.
 pub(crate) fn stands_at(limit: Option<Frac>, v: Frac) -> bool
     ensures { result ≡ run.stands_at limit v }
 {

@@ -15,7 +15,7 @@ use crate::wide::sums::evaluated;
 use lp_model::Model;
 use std::alloc::{AllocError, Global};
 
-// What a certificate of an optimum shows.
+// The verdict on a certificate of an optimum: the first of its conditions that fails, or the point's value.
 fn optimal(alloc: Global, model: &Model, x: &Ratios, y: &Ratios) -> Result<Verdict, AllocError>
     requires point { length x.now ≡ width model.now }
     requires multipliers { length y.now ≡ height model.now }
@@ -39,7 +39,7 @@ fn optimal(alloc: Global, model: &Model, x: &Ratios, y: &Ratios) -> Result<Verdi
     Ok(Verdict::Yes(Known::Optimal(value)))
 }
 
-// What a certificate of a ray shows.
+// The verdict on a certificate of a ray: the first of its conditions that fails, or that the model is unbounded.
 fn unbounded(alloc: Global, model: &Model, x: &Ratios, r: &Ratios) -> Result<Verdict, AllocError>
     requires point { length x.now ≡ width model.now }
     requires ray { length r.now ≡ width model.now }

@@ -16,7 +16,7 @@ use lp_model::Model;
 use lp_ratio::{Ratio, common_denominator, multiples};
 use std::alloc::{AllocError, Global};
 
-// `d` times a limit that a condition asks for, onto `s`; nothing where the limit is not there.
+// `s` with `d` times the limit added, or none where the condition needs a limit and there is none.
 fn weighed_at(
     alloc: Global,
     d: &Ratio,
@@ -34,7 +34,7 @@ fn weighed_at(
     }
 }
 
-// What row `i` asks for with its multiplier, onto `sum`.
+// `sum` with what row `i` asks for added: its multiplier times the limit that the multiplier's sign needs.
 fn row_asks(
     alloc: Global,
     model: &Model,
@@ -59,7 +59,7 @@ fn row_asks(
     }
 }
 
-// Condition 1: what all rows ask for.
+// Condition 1: the sum of what all rows ask for, none where a row lacks the limit that its multiplier needs.
 fn rows_ask(alloc: Global, model: &Model, y: &Ratios) -> Result<Option<Ratio>, AllocError>
     requires { length y.now ≡ height model.now }
     ensures { IfOk result (λ o. run.rows_ask_run None model.now y.now ≡ ok_or o (stop.No 1)) }
@@ -74,7 +74,8 @@ fn rows_ask(alloc: Global, model: &Model, y: &Ratios) -> Result<Option<Ratio>, A
     Ok(Some(sum))
 }
 
-// The most that column `j` gives, onto `sum`.
+// `sum` with the most that column `j` gives added: the multipliers' part in it times the bound that the part's sign
+// needs.
 fn column_gives(
     alloc: Global,
     model: &Model,
@@ -99,7 +100,7 @@ fn column_gives(
     }
 }
 
-// Condition 2: the most that all columns give.
+// Condition 2: the most that all columns give, none where a column lacks the bound that it needs.
 fn columns_give(alloc: Global, model: &Model, y: &Ratios) -> Result<Option<Ratio>, AllocError>
     requires { length y.now ≡ height model.now }
     ensures { IfOk result (λ o. run.columns_give_run None model.now y.now ≡ ok_or o (stop.No 2)) }
@@ -114,7 +115,8 @@ fn columns_give(alloc: Global, model: &Model, y: &Ratios) -> Result<Option<Ratio
     Ok(Some(sum))
 }
 
-// What multipliers show with which the columns give less than the rows ask for.
+// The verdict on Farkas multipliers, by the three conditions: infeasible where the columns give less than the rows ask
+// for.
 fn judged(alloc: Global, model: &Model, y: &Ratios) -> Result<Verdict, AllocError>
     requires { length y.now ≡ height model.now }
     ensures { IfOk result (Says model.now (Infeasible y.now)) }
@@ -135,7 +137,7 @@ fn judged(alloc: Global, model: &Model, y: &Ratios) -> Result<Verdict, AllocErro
     }
 }
 
-// The same of any multipliers: they show what they show when each is taken as many times as their common denominator.
+/// The verdict on Farkas multipliers. Each is first multiplied by their common denominator, which keeps the verdict.
 pub(crate) fn infeasible(alloc: Global, model: &Model, y: &Ratios) -> Result<Verdict, AllocError>
     requires { length y.now ≡ height model.now }
     ensures { IfOk result (Says model.now (Infeasible y.now)) }
@@ -161,7 +163,7 @@ fn is_crossed(alloc: Global, lower: Option<Ratio>, upper: Option<Ratio>) -> Resu
     }
 }
 
-// What a column shows whose bounds clash.
+/// The verdict on the claim that the bounds of column `j` clash.
 pub(crate) fn clash(alloc: Global, model: &Model, j: u32) -> Result<Verdict, AllocError>
     requires { j < width model.now }
     ensures { IfOk result (Says model.now (Clash j)) }

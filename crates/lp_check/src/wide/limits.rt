@@ -22,6 +22,7 @@ pub fn limit_of(alloc: Global, bound: Option<Frac>) -> Result<Option<Ratio>, All
     }
 }
 
+// The sum of two fractions, at any width.
 fn sum(alloc: Global, v: Frac, w: Frac) -> Result<Ratio, AllocError>
     ensures { IfOk result (λ r. r ≡ v +ℚ w) }
 {
@@ -30,13 +31,14 @@ fn sum(alloc: Global, v: Frac, w: Frac) -> Result<Ratio, AllocError>
     left.plus(alloc, &right)
 }
 
+// The difference of two fractions, at any width.
 fn difference(alloc: Global, v: Frac, w: Frac) -> Result<Ratio, AllocError>
     ensures { IfOk result (λ r. r ≡ v -ℚ w) }
 {
     sum(alloc, v, neg(w))
 }
 
-// A limit of a row, if there is one.
+// The number that the operation gives, at any width, none where the limit is absent.
 fn taken(alloc: Global, limit: RowLimit) -> Result<Option<Ratio>, AllocError>
     ensures { IfOk result (λ l. l ≡ model.limit_of limit) }
 {

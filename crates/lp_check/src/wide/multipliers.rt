@@ -11,7 +11,7 @@ use lp_model::{Column, Model};
 use lp_ratio::Ratio;
 use std::alloc::{AllocError, Global};
 
-// `value` is at the column's bound that a reduced cost of this sign asks for.
+// Whether `value` is at the column's bound that a reduced cost of this sign needs.
 fn is_tight(
     alloc: Global,
     column: &Column,
@@ -31,7 +31,7 @@ fn is_tight(
     }
 }
 
-// Condition 3 at column `j`.
+// Condition 3 at column `j`: whether its value is at the bound that its reduced cost needs.
 fn column_tight(
     alloc: Global,
     model: &Model,
@@ -47,7 +47,7 @@ fn column_tight(
     Ok(tight)
 }
 
-// Each column's value is at the bound that its reduced cost asks for.
+/// Condition 3: whether the value of each column is at the bound that its reduced cost needs.
 pub(crate) fn columns_tight(
     alloc: Global,
     model: &Model,
@@ -67,7 +67,7 @@ pub(crate) fn columns_tight(
     Ok(true)
 }
 
-// Condition 4 at row `i`.
+// Condition 4 at row `i`: whether its sum is at the limit that its multiplier needs.
 fn row_tight(
     alloc: Global,
     model: &Model,
@@ -92,7 +92,7 @@ fn row_tight(
     }
 }
 
-// Each row's sum is at the limit that its multiplier asks for.
+/// Condition 4: whether the sum of each row is at the limit that its multiplier needs.
 pub(crate) fn rows_tight(
     alloc: Global,
     model: &Model,

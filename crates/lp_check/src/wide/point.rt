@@ -12,7 +12,7 @@ use lp_model::Model;
 use lp_ratio::Ratio;
 use std::alloc::{AllocError, Global};
 
-// The value of column `j` is within the column's bounds.
+// Condition 1 at column `j`: whether its value is within its bounds.
 fn column_within(alloc: Global, model: &Model, x: &Ratios, j: u32) -> Result<bool, AllocError>
     requires inside { j < width model.now }
     requires point { length x.now ≡ width model.now }
@@ -28,7 +28,7 @@ fn column_within(alloc: Global, model: &Model, x: &Ratios, j: u32) -> Result<boo
     is_at_most(alloc, upper, value)
 }
 
-// Each column's value is within its bounds.
+/// Condition 1: whether the value of each column is within its bounds.
 pub(crate) fn columns_within(alloc: Global, model: &Model, x: &Ratios) -> Result<bool, AllocError>
     requires { length x.now ≡ width model.now }
     ensures { IfOk result (λ b. run.columns_run None model.now x.now ≡ run.need 1 b) }
@@ -41,7 +41,7 @@ pub(crate) fn columns_within(alloc: Global, model: &Model, x: &Ratios) -> Result
     Ok(true)
 }
 
-// The sum of row `i` is within the row's limits.
+// Condition 2 at row `i`: whether this sum is within the row's limits.
 fn row_within(alloc: Global, model: &Model, i: u32, sum: &Ratio) -> Result<bool, AllocError>
     requires { i < height model.now }
     ensures { IfOk result (λ b. given.row_within model.now i sum.now ≡ run.need 2 b) }
@@ -55,7 +55,7 @@ fn row_within(alloc: Global, model: &Model, i: u32, sum: &Ratio) -> Result<bool,
     is_at_most(alloc, upper, sum)
 }
 
-// Each row's sum is within the row's limits.
+/// Condition 2: whether each of these sums is within its row's limits.
 pub(crate) fn rows_within(alloc: Global, model: &Model, sums: &Ratios) -> Result<bool, AllocError>
     requires { length sums.now ≡ height model.now }
     ensures { IfOk result (λ b. run.each (height model.now) (λ i. given.row_within model.now i (part_of sums.now i))
@@ -69,7 +69,7 @@ pub(crate) fn rows_within(alloc: Global, model: &Model, sums: &Ratios) -> Result
     Ok(true)
 }
 
-// What the objective is at a point with these costs.
+/// The value of the objective at a point of this cost: the cost and the offset.
 pub(crate) fn value(alloc: Global, model: &Model, cost: &Ratio) -> Result<Ratio, AllocError>
     ensures { IfOk result (λ s. s ≡ cost.now +ℚ model.now.offset) }
 {

@@ -16,7 +16,7 @@ use lp_natural::Natural;
 use lp_ratio::{Ratio, common_denominator, multiples};
 use std::alloc::{AllocError, Global};
 
-// The cost to be made least.
+// The cost where the objective is made least: its negative for `max`.
 fn signed(sense: Sense, cost: Frac) -> Frac
     ensures { result ≡ signed_by sense cost }
 {
@@ -38,7 +38,7 @@ fn weighed_sum(alloc: Global, entries: &[(u32, Frac)], y: &[Ratio]) -> Result<Ra
     Ok(sum)
 }
 
-/// The multipliers' part in column `j`.
+/// The multipliers' part in column `j`: its coefficients times the multipliers of their rows.
 #[tactic(auto, using(crate::proofs::Scaled::priced_is))]
 pub(crate) fn priced(alloc: Global, model: &Model, y: &[Ratio], j: u32) -> Result<Ratio, AllocError>
     requires inside { j < width model.now }
@@ -50,7 +50,7 @@ pub(crate) fn priced(alloc: Global, model: &Model, y: &[Ratio], j: u32) -> Resul
     Ok(sum)
 }
 
-// The reduced cost of column `j`, by multipliers that were taken so many times.
+// The reduced cost of column `j`. `numbers` are the multipliers, each multiplied by `times`.
 fn reduced_over(
     alloc: Global,
     model: &Model,
@@ -71,7 +71,7 @@ fn reduced_over(
     rest.divided(alloc, times)
 }
 
-// The reduced costs of all columns, so.
+// The reduced costs of all columns. `numbers` are the multipliers, each multiplied by `times`.
 fn all_reduced(
     alloc: Global,
     model: &Model,

@@ -14,7 +14,7 @@ use lp_model::{Model, Sense};
 use lp_ratio::Ratio;
 use std::alloc::{AllocError, Global};
 
-// `r` is not below 0, where a lower limit is there.
+// Whether a column with this lower bound allows a ray with the number `r`: there is no bound, or `r` is not below 0.
 fn not_below(limit: &Option<Frac>, r: &Ratio) -> bool
     ensures { result ≡ run.not_below limit.now r.now }
 {
@@ -24,7 +24,7 @@ fn not_below(limit: &Option<Frac>, r: &Ratio) -> bool
     }
 }
 
-// `r` is not above 0, where an upper limit is there.
+// Whether a column with this upper bound allows a ray with the number `r`: there is no bound, or `r` is not above 0.
 fn not_above(limit: &Option<Frac>, r: &Ratio) -> bool
     ensures { result ≡ run.not_above limit.now r.now }
 {
@@ -34,7 +34,7 @@ fn not_above(limit: &Option<Frac>, r: &Ratio) -> bool
     }
 }
 
-// The same of a row's limit.
+// Whether a row with this lower limit allows a ray with the sum `r`: there is no limit, or `r` is not below 0.
 fn is_not_below(limit: &Option<Ratio>, r: &Ratio) -> bool
     ensures { result ≡ run.not_below limit.now r.now }
 {
@@ -44,6 +44,7 @@ fn is_not_below(limit: &Option<Ratio>, r: &Ratio) -> bool
     }
 }
 
+// Whether a row with this upper limit allows a ray with the sum `r`: there is no limit, or `r` is not above 0.
 fn is_not_above(limit: &Option<Ratio>, r: &Ratio) -> bool
     ensures { result ≡ run.not_above limit.now r.now }
 {
@@ -53,7 +54,7 @@ fn is_not_above(limit: &Option<Ratio>, r: &Ratio) -> bool
     }
 }
 
-// Condition 3 at column `j`.
+// Condition 3 at column `j`: whether its bounds allow the ray.
 fn column_allows(model: &Model, r: &Ratios, j: u32) -> bool
     requires inside { j < width model.now }
     requires ray { length r.now ≡ width model.now }
@@ -64,7 +65,7 @@ fn column_allows(model: &Model, r: &Ratios, j: u32) -> bool
     not_below(&column.lower, value) && not_above(&column.upper, value)
 }
 
-// Each column's bounds allow the ray.
+/// Condition 3: whether the bounds of all columns allow the ray.
 pub(crate) fn columns_allow(model: &Model, r: &Ratios) -> bool
     requires { length r.now ≡ width model.now }
     ensures { run.each (width model.now) (run.column_allows_run model.now r.now) ≡ run.need 3 result }
@@ -77,7 +78,7 @@ pub(crate) fn columns_allow(model: &Model, r: &Ratios) -> bool
     true
 }
 
-// Condition 4 at row `i`.
+// Condition 4 at row `i`: whether its limits allow a ray with this sum.
 fn row_allows(alloc: Global, model: &Model, i: u32, sum: &Ratio) -> Result<bool, AllocError>
     requires { i < height model.now }
     ensures { IfOk result (λ b. given.row_allows model.now i sum.now ≡ run.need 4 b) }
@@ -91,7 +92,7 @@ fn row_allows(alloc: Global, model: &Model, i: u32, sum: &Ratio) -> Result<bool,
     Ok(is_not_above(&upper, sum))
 }
 
-// Each row's limits allow the ray.
+/// Condition 4: whether the limits of all rows allow a ray with these sums.
 pub(crate) fn rows_allow(alloc: Global, model: &Model, sums: &Ratios) -> Result<bool, AllocError>
     requires { length sums.now ≡ height model.now }
     ensures { IfOk result (λ b. run.each (height model.now) (λ i. given.row_allows model.now i (part_of sums.now i))
@@ -105,8 +106,8 @@ pub(crate) fn rows_allow(alloc: Global, model: &Model, sums: &Ratios) -> Result<
     Ok(true)
 }
 
-// Condition 5: whether the objective gets better along a ray with this sum of costs, which is below 0 once it is to be made
-// least.
+/// Condition 5: whether the objective improves along a ray of this cost. The cost is below 0 for `min`, above 0 for
+/// `max`.
 pub(crate) fn gets_better(sense: Sense, cost: &Ratio) -> bool
     ensures { result ≡ lt_ℚ (signed_by sense cost.now) 0ℚ }
 {

@@ -15,7 +15,7 @@ pub fn part(z: &Ratios, k: u32) -> &Ratio
     z.get(k as usize)
 }
 
-// `v * w` onto `s`.
+/// `s` with the product `v * w` added.
 pub(crate) fn plus_wide_product(
     alloc: Global,
     v: &Ratio,

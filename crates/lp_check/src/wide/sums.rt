@@ -31,6 +31,7 @@ impl Drop for Evaluation {
     }
 }
 
+// A list of `count` zeros.
 fn zeros(alloc: Global, count: u32) -> Result<Vec<Ratio>, AllocError>
     ensures len { IfOk result (λ r. length r.items ≡ count) }
     ensures value { IfOk result (λ r. (i : ℕ) → i < count → part_of r.items i ≡ 0ℚ) }
@@ -42,7 +43,7 @@ fn zeros(alloc: Global, count: u32) -> Result<Vec<Ratio>, AllocError>
     Ok(zeros)
 }
 
-// A column's coefficients times its number, onto the sums of their rows.
+// Adds each coefficient of a column, times the column's number, to the sum of its row.
 fn add_column(
     alloc: Global,
     entries: &[(u32, Frac)],
@@ -60,7 +61,7 @@ fn add_column(
     Ok(())
 }
 
-// The sums of all rows.
+// The sum of each row: its coefficients times the numbers of their columns.
 fn sums_of(alloc: Global, model: &Model, numbers: &[Ratio]) -> Result<Vec<Ratio>, AllocError>
     requires { length numbers.now ≡ width model.now }
     ensures { IfOk result (λ r. AreSums model.now numbers.now r.items) }
@@ -72,7 +73,7 @@ fn sums_of(alloc: Global, model: &Model, numbers: &[Ratio]) -> Result<Vec<Ratio>
     Ok(sums)
 }
 
-// The sum of the costs.
+// The sum of the costs times the numbers of their columns.
 fn cost_sum(alloc: Global, model: &Model, numbers: &[Ratio]) -> Result<Ratio, AllocError>
     requires { length numbers.now ≡ width model.now }
     ensures { IfOk result (λ r. r ≡ cost_of model.now numbers.now) }
