@@ -3,7 +3,7 @@ use Rattle.std.specs.Prelude.{ℕ, ◌≡◌, ◌<◌, ◌≤◌, ◌+◌, List,
 use Rattle.std.specs.List.{HoldsAt}
 use Rattle.spec_exact.specs.Fraction.{ℚ}
 
--- the entries before a row, and those after it
+-- all entries in front are of rows before the row, and all in back of rows after it
 pub record IsSplit (row : ℕ) (front back : List (ℕ × ℚ)) : Type 0 where
   pub before : All (λ e. e.0 < row) front
   pub behind : All (λ e. row < e.0) back
@@ -19,6 +19,7 @@ pub record BelongsAt (row k : ℕ) (entries : List (ℕ × ℚ)) : Type 0 where
   pub inside : k ≤ length entries
   pub split : IsSplit row (take k entries) (drop k entries)
 
+-- what a search for the row's entry answers: the place where it stands, or as an error the place where it belongs
 abbrev pub IsPlace : ℕ → List (ℕ × ℚ) → Result ℕ ℕ → Type 0
 IsPlace row entries (Ok k) = StandsAt row k entries
 IsPlace row entries (Err k) = BelongsAt row k entries
