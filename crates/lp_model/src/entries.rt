@@ -10,7 +10,7 @@ use lp_frac::{Entries, Frac, is_zero};
 use std::alloc::AllocError;
 
 /// Gives row `row` the coefficient `value`. 0 takes the row's entry out.
-pub fn put_entry(entries: &mut Entries, row: u32, value: Frac) -> Result<(), AllocError>
+pub(crate) fn put_entry(entries: &mut Entries, row: u32, value: Frac) -> Result<(), AllocError>
     requires { AllPairs (λ d e. d.0 < e.0) entries.old }
     ensures ok { OnOk result (entries.new ≡ with_entry row value entries.old) }
     ensures err { OnErr result (entries.new ≡ entries.old) }

@@ -10,7 +10,6 @@
 //! | `RowLimit`, `lower_of`, `upper_of` | the limits of a row, as the operations that give them | src/limits |
 //! | `lower_limit`, `upper_limit` | the same, taken at 127 bits | src/limits |
 //! | `is_free` | whether a kind of row has no limits | src/limits |
-//! | `put_entry` | puts a coefficient among the entries of a column | src/entries |
 //! | `NameIndex` | distinct names that are found by their hashes | src/name_index |
 //! | `is_name`, `is_row_name`, `is_model_name` | whether a text may be a name | src/names |
 //! | `apply` | changes a usual model by an edit, or refuses the edit and leaves the model | src/edits |
@@ -38,7 +37,6 @@ mod usual;
 
 pub use edit::{ColumnBounds, Edit, EditError, EditFault, Pairs};
 pub use edits::apply;
-pub use entries::put_entry;
 pub use limits::{RowLimit, is_free, lower_limit, lower_of, upper_limit, upper_of};
 pub use model::{Column, Model, Row};
 pub use name_index::NameIndex;
