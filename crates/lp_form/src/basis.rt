@@ -51,6 +51,7 @@ impl Basis {
         self.rows
     }
 
+    /// The statuses of all structural and then all logical columns.
     pub fn as_slice(&self) -> &[Status]
         ensures { result.now ≡ self.now }
     {

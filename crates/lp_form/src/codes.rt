@@ -24,6 +24,7 @@ pub fn form_code(form: &Form, c: u32) -> u64
     }
 }
 
+// The two bits of a status.
 fn status_code(status: Status) -> u64
     ensures value { result ≡ shape.status_code status }
     ensures small { result < 4 }

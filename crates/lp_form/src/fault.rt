@@ -17,7 +17,7 @@ pub struct Clash {
 /// Why a model has no form.
 pub type FormStop = Stop<Clash>;
 
-// Memory was not wanting.
+/// The fault as a stop of the code, which may also run out of memory.
 pub(crate) fn stop_of(fault: FormFault) -> FormStop
     ensures { result ≡ stop_of fault }
 {

@@ -7,7 +7,7 @@ use crate::large::LargeForm;
 use crate::status::is_basic;
 use spec_pivot::Status;
 
-// Whether column `k` can stand so.
+// Whether column `k` may have this status: it has the bound that the status names, or none where it is at 0.
 fn can_stand(form: &LargeForm, k: u32, status: Status) -> bool
     requires { k < form.now.cols + form.now.rows }
     ensures { IsTrue result ↔ CanStand status (form_lower form.now k) (form_upper form.now k) }
@@ -20,7 +20,7 @@ fn can_stand(form: &LargeForm, k: u32, status: Status) -> bool
     }
 }
 
-// Whether each column can.
+// Whether each column may have its status.
 fn all_stand(form: &LargeForm, basis: &[Status]) -> bool
     requires { length basis.now ≡ form.now.cols + form.now.rows }
     ensures { IsTrue result ↔ ((k : ℕ) → k < form.now.cols + form.now.rows →
@@ -34,7 +34,7 @@ fn all_stand(form: &LargeForm, basis: &[Status]) -> bool
     true
 }
 
-// How many columns are basic.
+// How many of the first `columns` columns are basic.
 fn count_basic(basis: &[Status], columns: u32) -> u32
     requires { length basis.now ≡ columns }
     ensures { result ≡ basics_below basis.now columns }

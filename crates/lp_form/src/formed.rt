@@ -9,7 +9,7 @@ use spec_board::BasisWords;
 // The most columns that words have bits for.
 const PLACES: u32 = 768;
 
-// How many columns are basic.
+// How many of the first `columns` columns of the words are basic.
 fn count_basic(words: &BasisWords, columns: u32) -> u64
     requires columns { columns ≡ columns_of words.now }
     requires few { columns ≤ places }
@@ -24,6 +24,7 @@ fn count_basic(words: &BasisWords, columns: u32) -> u64
     count
 }
 
+// Whether the status of each column is one that its bounds allow.
 fn all_suit(words: &BasisWords, columns: u32) -> bool
     requires columns { columns ≡ columns_of words.now }
     requires few { columns ≤ places }
@@ -37,6 +38,7 @@ fn all_suit(words: &BasisWords, columns: u32) -> bool
     true
 }
 
+// Whether the bits of all columns from number `columns` on are 0.
 fn rest_is_zero(words: &BasisWords, columns: u32) -> bool
     requires columns { columns ≡ columns_of words.now }
     requires few { columns ≤ places }

@@ -24,6 +24,7 @@ impl Model for Form {
 }
 
 impl Form {
+    /// The form, which is within the usual limits, as one of which tableaus can be made.
     pub fn new(form: LargeForm) -> Form
         requires { IsForm form }
         ensures { result ≡ form }
@@ -31,6 +32,7 @@ impl Form {
         Form { form }
     }
 
+    /// The form itself, without the promise of its size.
     pub fn as_large(&self) -> &LargeForm
         ensures value { result.now ≡ self.now }
         ensures kept { IsForm result.now }
@@ -112,7 +114,7 @@ impl Form {
         self.form.lowers()
     }
 
-    /// The upper bounds, in the same order.
+    /// The upper bounds of all structural and then all logical columns.
     pub fn uppers(&self) -> &[Option<Frac>]
         ensures { result.now ≡ self.now.upper }
     {

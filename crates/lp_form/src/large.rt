@@ -181,7 +181,7 @@ impl LargeForm {
         self.lower.as_slice()
     }
 
-    /// The upper bounds, in the same order.
+    /// The upper bounds of all structural and then all logical columns.
     pub fn uppers(&self) -> &[Option<Frac>]
         ensures { result.now ≡ self.now.upper }
     {
@@ -189,7 +189,7 @@ impl LargeForm {
     }
 }
 
-// What stands at row `i`, 0 where nothing does.
+// The coefficient in row `i`, which is 0 where the row has no entry.
 fn entry_at(entries: &[(u32, Frac)], i: u32) -> Frac
     ensures { result ≡ entry_of entries.now i }
 {

@@ -15,6 +15,7 @@ pub(crate) enum Coded<'a> {
     Statuses(&'a Basis),
 }
 
+// The two bits of column `c`.
 fn code(columns: &Coded, c: u32) -> u64
     ensures value { result ≡ code_of columns.now c }
     ensures small { result < 4 }
@@ -25,7 +26,7 @@ fn code(columns: &Coded, c: u32) -> u64
     }
 }
 
-// The word of the 32 columns from column `first`.
+// The word that holds the bits of the 32 columns from column `first` on.
 fn word_of(columns: &Coded, first: u32) -> u64
     requires { first ≤ 1000 }
     ensures { result ≡ word_from (code_of columns.now) first 32 }
@@ -37,7 +38,7 @@ fn word_of(columns: &Coded, first: u32) -> u64
     word
 }
 
-/// The shape of the form.
+/// The words of the form's shape: its numbers of rows and columns, and which bounds exist.
 #[tactic(auto, unfolding(spec_board::specs::Words::shape_of))]
 pub fn shape(form: &Form) -> ShapeWords
     ensures { result ≡ shape_of form.now }
@@ -68,7 +69,7 @@ pub fn pack(form: &Form, basis: &Basis) -> BasisWords
     words
 }
 
-/// Whether the shapes are the same.
+/// Whether two shapes are equal.
 pub fn same_shape(a: &ShapeWords, b: &ShapeWords) -> bool
     ensures { IsTrue result ↔ a.now ≡ b.now }
 {

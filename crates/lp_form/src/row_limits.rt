@@ -9,7 +9,7 @@ use std::cmp::Ordering;
 
 type FormFault = spec_simplex::FormFault<Frac>;
 
-// The least and the most that the row's sum may be.
+/// The lower and the upper limit of the row's sum, at 127 bits.
 pub(crate) fn limits(row: &Row) -> Result<(Option<Frac>, Option<Frac>), Past>
     ensures { result ≡ forms.limits_run (Some number_limit) row.now }
 {
@@ -18,7 +18,7 @@ pub(crate) fn limits(row: &Row) -> Result<(Option<Frac>, Option<Frac>), Past>
     Ok((lower, upper))
 }
 
-// Whether the bounds of column `j` clash.
+/// The fault that the bounds of column `j` clash, where the lower one is above the upper one.
 pub(crate) fn clash(j: u32, lower: Option<Frac>, upper: Option<Frac>) -> Result<(), FormFault>
     ensures { result ≡ forms.bounds_clash (Some number_limit) j lower upper }
 {

@@ -20,6 +20,7 @@ use std::alloc::{AllocError, Global};
 
 type FormFault = spec_simplex::FormFault<Frac>;
 
+// Adds `least` at the end of the lower bounds, and `most` at the end of the upper ones.
 fn push_bounds(
     lower: &mut BoundList,
     upper: &mut BoundList,
@@ -34,7 +35,7 @@ fn push_bounds(
     Ok(())
 }
 
-// Puts the bounds of all columns into both lists, and then the limits of all rows.
+// Adds the bounds of all columns and then the limits of all rows to both lists. A limit past 127 bits stops it.
 fn fill_bounds(model: &Model, lower: &mut BoundList, upper: &mut BoundList) -> Result<(), FormStop>
     requires lower { lower.old ≡ [] }
     requires upper { upper.old ≡ [] }
@@ -53,7 +54,7 @@ fn fill_bounds(model: &Model, lower: &mut BoundList, upper: &mut BoundList) -> R
     Ok(())
 }
 
-// The first column whose bounds clash, if there is one.
+// The first column whose bounds clash, as the fault, or `Ok` where none do.
 fn first_clash(model: &Model) -> Result<(), FormFault>
     ensures { result ≡ steps (width model.now) (λ j _. forms.column_clash (Some number_limit) model.now j) tt }
 {
@@ -64,7 +65,7 @@ fn first_clash(model: &Model) -> Result<(), FormFault>
     Ok(())
 }
 
-// The entries of all columns.
+// The entries of all structural columns, copied from the model.
 fn entries(alloc: Global, model: &Model) -> Result<Columns, AllocError>
     ensures value { IfOk result (λ v. v ≡ map (λ c. c.entries) model.now.columns) }
     ensures kept { IfOk result (λ v. All (AreEntries (height model.now)) v) }
@@ -77,7 +78,7 @@ fn entries(alloc: Global, model: &Model) -> Result<Columns, AllocError>
     Ok(entries)
 }
 
-// The cost to be made least.
+// The cost where the objective is made least: its negative for `max`.
 fn least_cost(sense: Sense, cost: Frac) -> Frac
     ensures { result ≡ forms.least_cost sense cost }
 {
@@ -87,7 +88,7 @@ fn least_cost(sense: Sense, cost: Frac) -> Frac
     }
 }
 
-// The costs of all columns, and then 0 for each row.
+// The costs of all structural columns, for an objective to be made least, and 0 for each logical column.
 fn costs(alloc: Global, model: &Model) -> Result<Fracs, AllocError>
     ensures { IfOk result (λ v.
         v ≡ map (λ c. forms.least_cost model.now.sense c.cost) model.now.columns ++ replicate (height model.now) 0ℚ) }

@@ -4,7 +4,7 @@ ghost use Rattle.spec_simplex.specs.Tableau.{is_basic as is_basic_of};
 
 use spec_pivot::Status;
 
-/// Whether it is that of a basic column.
+/// Whether the status is that of a basic column.
 #[inline(always)]
 pub fn is_basic(status: Status) -> bool
     ensures { result ≡ is_basic_of status }
