@@ -1,4 +1,21 @@
--- Cards that are added in turn, and cards of each item of a list.
+-- Cards that are written in turn, and the cards of each item of a list.
+--
+-- `first_none`: where the first of two choices has no field, the text of their first field is the second's.
+-- `first_some`: where the first of two choices has a field, the text of their first field is the first's.
+-- `wide_behind`: where no field of the first cards is too wide, the first too wide one of all is that of the later
+--   cards.
+-- `wide_first`: the first too wide field of some cards is that of these with more cards behind.
+-- `nothing`: writing no cards leaves the text as it is.
+-- `joined`: cards written after other cards are the two lists' cards written in turn.
+-- `behind`: where some cards were written and a later field is too wide, the stop names the first too wide field of
+--   all.
+-- `first`: a stop that names the first too wide field of some cards names that of these with more cards behind.
+-- `goes_on`: what writing later cards answers, after some were written, is what writing all of them answers.
+-- `section_none`: where a section is not wanted, nothing of it is written.
+-- `section_some`: where a section is wanted, its heading and its cards are written in turn.
+-- `each_done`: where the cards of the first n items are written and there are no more, those of all items are.
+-- `all_cards_of`: the cards of a model are those up to COLUMNS and those after them.
+-- `fixed_given`: the text of all cards in fixed form, or the first too wide field, is what writing fixed form gives.
 use Rattle.std.proofs.Common.{◌≡◌, ℕ, ◌+◌, ◌<◌, ◌≤◌, Some, None, Ok, Err, List, [], ◌∷◌, ◌++◌, length, take}
 use Rattle.std.proofs.Common.{drop, get_or, refl, sym, subst, ◌∙◌, ap, append_assoc, append-nil, Option, Result}
 use Rattle.std.specs.Prelude.{⊤, Bool, true, false, option_map, find, codes, if◌then◌else◌}

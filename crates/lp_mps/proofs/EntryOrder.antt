@@ -1,4 +1,7 @@
--- Entries that are put one by one at their places, as a stable sort by rows leaves them.
+-- Entries put one by one at the places of their rows are in the order of a stable sort by rows.
+--
+-- `put_pushed`: putting a list of entries with one more at its end is putting that one last.
+-- `sorted_in_order`: what a stable sort by rows makes of a list is its entries put one by one at their places.
 use Rattle.std.proofs.Common.{◌≡◌, ◌≢◌, ℕ, zero, suc, ◌<◌, ◌≤◌, Bool, true, false, cond, ltb, eqb, List, []}
 use Rattle.std.proofs.Common.{◌∷◌, ◌++◌, length, drop, get_or, Less, Equal, Greater, refl, sym, ap, ap₂, ◌∙◌}
 use Rattle.std.proofs.Common.{arith}

@@ -1,4 +1,7 @@
--- A line that is refused, and one that ends a text.
+-- What the reader answers to a line that is refused, and to one that ends a text.
+--
+-- `refusal`: where the step of a line fails, the reader's answer says so of the line with the next number.
+-- `ended_within`: a model with which a line ends the text is within the limits of the reader.
 use Rattle.std.proofs.Common.{◌≡◌, ℕ, ◌+◌, Ok, List, subst}
 use Rattle.spec_text.specs.declared.line.Line.{Line}
 use Rattle.spec_model.specs.Model.{Model}

@@ -1,4 +1,14 @@
--- Runs of lines, and the verdict on a text.
+-- Runs of lines that are each read, and the verdict on a text.
+--
+-- `start_reached`: the first state is reached, by no lines.
+-- `one_more`: where lines lead to a state and a line leads on, the lines with it lead to the next state.
+-- `more_reached`: a state to which a line leads from a reached state is reached.
+-- `joined`: the verdict on lines that lead to a state and more lines is the verdict on the others from that state.
+-- `ends`: where lines lead to a state and the next line ends the text with a model, the text spells this model.
+-- `refuses`: where lines lead to a state and the next line fails, the text is refused at that line with its code.
+-- `done_within`: a model with which a line ends a text, from a reached state, may be kept and is within the limits.
+-- `end_kept`: a model that the end of a text gives, from a reached state, may be kept.
+-- `cut_off`: a text whose lines do not end it is refused behind its last line as cut off.
 use Rattle.std.proofs.Common.{◌≡◌, ℕ, ◌+◌, Ok, Err, List, [], ◌∷◌, ◌++◌, length, refl, sym, ap, ◌∙◌, subst, arith}
 use Rattle.std.proofs.lemmas.List.{append-nil}
 use Rattle.spec_text.specs.declared.line.Line.{Line}

@@ -1,4 +1,10 @@
--- One place of a list, and one number of a column.
+-- Changes of one item of a list, and of one number of a column.
+--
+-- `changed_at-set`: setting an item of a list to f of it is changing the list at its place by f.
+-- `changed_at-past`: changing a list at a place behind its end leaves the list.
+-- `number_zero`: giving a column the number 0 in a row leaves the column.
+-- `number_put`: pushing a number other than 0 to a column's entries gives, once sorted, the column with that number.
+-- `list_any-reverse`: whether some item passes a test does not change when the list is reversed.
 use Rattle.std.proofs.Common.{◌≡◌, ℕ, zero, suc, ◌<◌, ◌≤◌, Bool, true, false, List, [], ◌∷◌, ◌++◌}
 use Rattle.std.proofs.Common.{length, reverse, ◌||◌, get_or, cond, refl, ap, ◌∙◌, arith, Result, Ok, Err, OnOk}
 use Rattle.std.specs.List.{list_any}

@@ -1,4 +1,7 @@
--- Lists of marks.
+-- The rows and the objective that have a number already, as a list of marks.
+--
+-- `among_marks`: the mark of a target is in the list exactly if the target is among those of the list's marks.
+-- `mark_put`: inserting a mark that is new puts its target in front of the others, and inserting an old one puts none.
 use Rattle.std.proofs.Common.{◌≡◌, ℕ, Bool, true, false, not, ◌||◌, cond, nat_eq, Option, Some, None}
 use Rattle.std.proofs.Common.{List, [], ◌∷◌, ◌++◌, map, reverse, refl, sym, ap, ap₂, ◌∙◌}
 use Rattle.std.specs.List.{list_any}

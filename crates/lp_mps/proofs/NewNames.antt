@@ -1,4 +1,13 @@
--- Names that stand for nothing yet.
+-- Names that no row or column has yet, and lists of names kept beside them.
+--
+-- `rows_new`: where a name has no place in the state, no row has it.
+-- `names_changed`: changing one item of a list by what keeps its name keeps the list of names.
+-- `written_back`: changing an item of a slice of the whole list and writing it back changes that item of the list.
+-- `rows_changed`: changing a row by what keeps its name keeps the list of names that belongs to the rows.
+-- `names_beside`: where the whole columns keep their names, all names with the current column stay.
+-- `names_current`: where the current column keeps its name, all names stay.
+-- `names_sorted`: sorting the entries of the current column keeps all names.
+-- `row_placed`: a name's place in the list of names is the place of the row with that name.
 use Rattle.std.proofs.Common.{◌≡◌, ◌≢◌, ℕ, zero, suc, ◌<◌, ◌^◌, Bool, true, false, cond, Option, Some, None, List}
 use Rattle.std.proofs.Common.{[], ◌∷◌, ◌++◌, length, map, take, drop, All, refl, sym, ap, ◌∙◌, subst, arith}
 use Rattle.std.specs.List.{position}

@@ -1,4 +1,8 @@
--- What is said once of the numbers of rows is what the definition says of those of each section.
+-- One definition of the numbers that cards give rows agrees with those of the sections.
+--
+-- `entries_are`: reading pairs as entries is what the definition of COLUMNS does with them.
+-- `rhs_card_is`: reading a card as right sides is what the definition of RHS does with it.
+-- `ranges_card_is`: reading a card as ranges is what the definition of RANGES does with it.
 use Rattle.std.proofs.Common.{◌≡◌, ℕ, Bool, true, false, Some, None, Ok, Err, List, [], ◌∷◌, get_or, cond, refl, ap, ◌∙◌}
 use Rattle.spec_model.specs.Model.{Name, no_row, is_free}
 use Rattle.spec_mps.specs.declared.fault.Code.TheVariants as code

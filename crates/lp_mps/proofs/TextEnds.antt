@@ -1,4 +1,12 @@
--- Spaces at the ends of a text, and columns after the last field.
+-- Spaces at the ends of a text, and bytes in columns where none may be.
+--
+-- `spaces_stop`: a text whose last byte is no space has no space to remove at its end.
+-- `spaces_go`: removing the spaces at the end of a text without its last space is removing those of the text.
+-- `front_stop`: a text whose first byte is no space has no space to remove in front.
+-- `front_go`: removing the spaces in front of a text without its first space is removing those of the text.
+-- `past_columns`: no byte after column 62 is misplaced.
+-- `misplaced_here`: a misplaced byte at the front is the first misplaced one.
+-- `misplaced_later`: where the first byte is not misplaced, the first misplaced one is that of the rest.
 use Rattle.std.proofs.Common.{◌≡◌, ℕ, suc, ◌+◌, ◌-◌, ◌<◌, ◌≤◌, List, [], ◌∷◌, length, get_or, take, drop}
 use Rattle.std.proofs.Common.{length-drop, refl, sym, ◌∙◌, arith, Some, None, true, false}
 use Rattle.std.proofs.lemmas.Bool.{lt-leb, ne_eqb}

@@ -1,4 +1,10 @@
--- Lists of texts: their number, and those at the first places.
+-- Lists of fields: whether a set's name comes first, and which texts stand at which places.
+--
+-- `even_fields`: an even number of fields is read as pairs without a set.
+-- `odd_fields`: an odd number of fields is read as a set's name and pairs.
+-- `few_pairs`: fewer than two fields hold no pair.
+-- `bound_texts_are`: the texts at the first four places of a bound's card, of the right shape, are those that are read
+--   of it.
 use Rattle.std.proofs.Common.{◌≡◌, ◌≢◌, ℕ, suc, ◌%◌, ◌<◌, Bool, true, false, not, nat_eq, Option, Some, None}
 use Rattle.std.proofs.Common.{List, [], ◌∷◌, length, slice_get, refl, sym, ap, ap₂, ◌∙◌, arith, cond, Err}
 use Rattle.std.specs.List.{filter}
