@@ -3,6 +3,7 @@
 --
 -- `fixed_lower`: a nonbasic value whose two bounds are equal is the lower bound.
 -- `fixed_upper`: a nonbasic value whose two bounds are equal is the upper bound.
+-- `at_or`: the values that are v at index q, and x elsewhere.
 -- `at_own`: values that are v at index q, and x elsewhere, are v at q.
 -- `at_other`: values that are v at index q, and x elsewhere, are x at any other index.
 -- `term_least`: a coefficient times a value within bounds is least at the bound that the coefficient's sign asks for.
