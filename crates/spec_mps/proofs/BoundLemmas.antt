@@ -1,4 +1,9 @@
--- Bounds and their texts.
+-- Numbers and their absolute values against a limit, and which texts are finite bounds.
+--
+-- `within_from_abs`: a number with an absolute value below a limit is between the limit's negative and the limit.
+-- `abs_from_within`: a number strictly between a limit's negative and the limit has an absolute value below the limit.
+-- `number_is_bound`: a text read as a number strictly between -10^20 and 10^20 is read as that finite bound.
+-- `bound_is_within`: a text read as a finite bound stands for a number strictly between -10^20 and 10^20.
 use Rattle.std.proofs.Common.{◌≡◌, Bool, true, false, cond, not, Option, Some, None, List}
 use Rattle.std.proofs.Common.{ℕ, pos, refl, sym, ap, ◌∙◌, subst}
 use Rattle.std.specs.Prelude.{int_lt}

@@ -1,4 +1,21 @@
--- What a data card of each section did to what was read so far.
+-- What a data card of each section did to the reader's state.
+--
+-- `sense_did`: a word that the reader takes as the sense is a sense, is the first one, and is kept in the state.
+-- `rows_did`: a card of ROWS that is taken has a kind, a free and valid name and room within the limits, and adds its
+--   row.
+-- `pairs_keep`: what each pair of a name and a number keeps, a list of pairs keeps when they are taken in turn.
+-- `column_puts`: the pairs of a COLUMNS card are taken in turn, each as an entry of the column.
+-- `side_puts`: the pairs of an RHS card are taken in turn, each as a right side.
+-- `put_range_did`: a range that is taken was dropped because its row is free, or was given to a row that had none.
+-- `range_puts`: the pairs of a RANGES card are taken in turn, each as a range of a row.
+-- `puts_of`: the pairs of a card of RHS or RANGES are taken in turn, each as its section says.
+-- `columns_did`: a card of COLUMNS that is taken has a valid name, opens or continues that column, and enters its
+--   pairs.
+-- `card_did`: a card of RHS or RANGES that is taken uses its set's pairs, or is skipped because another set is used.
+-- `rhs_did`: an RHS card that is taken puts its right sides, or is skipped because another set is used.
+-- `ranges_did`: a RANGES card that is taken puts its ranges, or is skipped because another set is used.
+-- `set_keeps`: what the choice of a set and each pair keep, a whole card of RHS or RANGES keeps.
+-- `bounds_did`: a card of BOUNDS that is taken has a kind and texts, and sets a column's bounds or is of an unused set.
 use Rattle.std.proofs.Common.{◌≡◌, ℕ, ◌+◌, Bool, true, false, not, ◌||◌, cond, ltb, Option, Some, is_none, Ok, Err}
 use Rattle.std.proofs.Common.{List, [], ◌∷◌, ◌++◌, length, get_or, refl, sym, ◌∙◌, subst, codes, append-nil, append_assoc}
 use Rattle.std.specs.List.{list_any, position}

@@ -1,4 +1,9 @@
--- What was found on the way to a value that checks let pass.
+-- What held on the way, where a chain of checks ends in a value.
+--
+-- `step_ok`: where a chain of two checks ends in a value, the first gave a value and the second took it.
+-- `must_ok`: where a chain that begins with a test ends in a value, the test holds and the rest gives the value.
+-- `need_ok`: where a chain that needs an optional value ends well, the value is there and the rest takes it.
+-- `same_ok`: two equal `Ok` results have equal values.
 use Rattle.std.proofs.Common.{◌≡◌, Bool, true, false, Option, Some, None, Ok, Err, refl}
 use Rattle.std.specs.Bool.{⊤}
 use Rattle.spec_mps.specs.declared.fault.Code.{Code}

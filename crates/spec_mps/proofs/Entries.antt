@@ -1,4 +1,9 @@
--- The entries of a column that cards are read of.
+-- The entries of the column whose cards are being read: rows strictly ascending, below the number of rows, none zero.
+--
+-- `climbs_more`: entries of a column stay in order where one more row or the objective has got its number.
+-- `climbs_higher`: entries of a column over some rows are in order over more rows as well.
+-- `climbs_put`: a nonzero entry put at its place, for a row without a number so far, keeps the entries in order.
+-- `climbs_entries`: entries in order over some rows are the entries of a column of a model with these rows.
 use Rattle.std.proofs.Common.{◌≡◌, ◌≢◌, ℕ, suc, ◌<◌, ◌≤◌, Bool, true, false, ◌||◌, cond}
 use Rattle.std.proofs.Common.{ltb, List, [], ◌∷◌, All, refl, sym, ap, ◌∙◌, arith, eq-eqb}
 use borrow.Author.Tests.{ltb-true, ltb-false}

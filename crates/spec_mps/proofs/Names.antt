@@ -1,4 +1,8 @@
--- Names that are distinct.
+-- Tests of lists that no element passes, and names that differ from all of a list.
+--
+-- `none_pass`: where no element of a list passes a test, each element fails it.
+-- `nowhere`: where no place in a list passes a test, each element fails it.
+-- `others`: where no element's name is the same as a name, all names of the list differ from it.
 use Rattle.std.proofs.Common.{◌≡◌, ◌≢◌, ℕ, suc, ◌+◌, Bool, true, false, not, cond}
 use Rattle.std.proofs.Common.{ltb, Some, None, List, [], ◌∷◌, length, map, All, arith}
 use Rattle.std.specs.List.{list_any, position, prefix_len}

@@ -1,4 +1,8 @@
--- Numbers that texts are read as are of 127 bits.
+-- Numbers read from texts are within 127 bits.
+--
+-- `same_number`: two equal readings of a number have equal numbers.
+-- `number_narrow`: a number that a text is read as is within 127 bits.
+-- `bound_narrow`: a finite bound that a text is read as is within 127 bits.
 use Rattle.std.proofs.Common.{◌≡◌, ℕ, zero, suc, ◌*◌, ◌^◌, ◌≤◌, Bool, true, false, cond, not, Option, Some}
 use Rattle.std.proofs.Common.{None, List, ℤ, pos, negsuc, unsigned_abs, refl, sym, ap, subst, arith}
 use Rattle.std.specs.Prelude.{nat_le}

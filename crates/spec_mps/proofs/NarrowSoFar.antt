@@ -1,4 +1,9 @@
--- The numbers that were read so far are of 127 bits.
+-- The numbers in the reader's state are within 127 bits.
+--
+-- `none_narrow`: before the first card all numbers of the state are within 127 bits.
+-- `in_narrow`: a number that a card's text is taken as is within 127 bits.
+-- `changed_length`: a list with one element changed keeps its length.
+-- `changed_all`: where a change keeps a property, a list with that change at one place keeps it for all elements.
 use Rattle.std.proofs.Common.{◌≡◌, ℕ, zero, suc, Bool, true, false, ◌&&◌, not, cond, ltb, Option, Some, None}
 use Rattle.std.proofs.Common.{option_map, Ok, List, [], ◌∷◌, ◌++◌, All, IfSome, refl, subst, length, ap}
 use Rattle.std.proofs.lemmas.List.Elements.{All-nil, All-cons, All-head, All-tail, All-push}

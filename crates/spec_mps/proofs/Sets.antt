@@ -1,4 +1,7 @@
 -- RHS and RANGES alike: the sections whose cards have a set and pairs of a row's name and a number.
+--
+-- `shapes_are`: cards of RHS and of RANGES may have the same shapes in each form.
+-- `card_is`: the reader takes a card of RHS or RANGES as a set with pairs, where that set is used.
 use Rattle.std.proofs.Common.{◌≡◌, ℕ, Some, List, refl}
 use Rattle.spec_model.specs.declared.parts.SizeLimits.{SizeLimits}
 use Rattle.spec_model.specs.Model.{Name}

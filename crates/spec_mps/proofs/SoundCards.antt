@@ -1,4 +1,10 @@
--- Each data card keeps what was read so far as a model has it, with numbers of 127 bits.
+-- Each data card keeps the reader's state sound: rows, columns and numbers as a kept model has them.
+--
+-- `rows_card_sound`: a card of ROWS that is taken keeps the state sound.
+-- `columns_card_sound`: a card of COLUMNS that is taken keeps the state sound.
+-- `rhs_card_sound`: a card of RHS that is taken keeps the state sound.
+-- `ranges_card_sound`: a card of RANGES that is taken keeps the state sound.
+-- `bounds_card_sound`: a card of BOUNDS that is taken keeps the state sound.
 use Rattle.std.proofs.Common.{◌≡◌, ◌≢◌, ℕ, zero, suc, ◌+◌, ◌<◌, ◌≤◌, Bool, true, false, ◌||◌, not}
 use Rattle.std.proofs.Common.{cond, ltb, Option, Some, None, is_none, Ok, List, [], ◌∷◌, ◌++◌, length}
 use Rattle.std.proofs.Common.{map, All, refl, sym, ap, subst, arith, get_or, length-append}

@@ -1,4 +1,15 @@
--- The columns of a text so far, as a model has them.
+-- The columns in the reader's state are sound: few enough, with distinct names, and each as a kept model has it.
+--
+-- `no_columns`: a state without columns is sound.
+-- `more_rows`: columns that are sound over some rows are sound over more rows.
+-- `more_paired`: columns stay sound where one more row or the objective has got its number.
+-- `close_column`: where the open column has the shape of a kept one, all columns with it are columns of a kept model.
+-- `closed`: columns stay sound where the open column joins the whole ones.
+-- `with_new`: sound columns stay sound with a new open column that has a valid name, other than theirs, and room.
+-- `number_name`: a number put into a column leaves its name.
+-- `with_pair`: columns stay sound where the open column gets the number of an existing row that had none.
+-- `bounded_name`: bounds put on a column leave its name.
+-- `with_bounds`: columns stay sound where a card with finite bounds below 10^20 in size changes one of them.
 use Rattle.std.proofs.Common.{◌≡◌, ◌≢◌, ℕ, zero, suc, ◌<◌, ◌≤◌, Bool, true, false, ◌&&◌, not, cond}
 use Rattle.std.proofs.Common.{Option, Some, None, option_map, List, [], ◌∷◌, ◌++◌, length, map}
 use Rattle.std.proofs.Common.{All, IfSome, IsTrue, refl, sym, ap, ◌∙◌, subst, arith, length-append}

@@ -1,4 +1,9 @@
--- The names of a text so far, as a model has them.
+-- The names in the reader's state are sound: valid, distinct, and few enough.
+--
+-- `no_rows`: a state without names is sound.
+-- `with_name`: names stay sound with another valid name of the model.
+-- `with_objective`: names stay sound with a first objective whose name is valid and differs from those of all rows.
+-- `push_row`: names stay sound with one more row that has room and a valid name, other than all before.
 use Rattle.std.proofs.Common.{◌≡◌, ◌≢◌, ◌+◌, ◌<◌, ◌≤◌, Option, Some, None, List, [], ◌∷◌, ◌++◌, length, All}
 use Rattle.std.proofs.Common.{IfSome, IsTrue, refl, sym, subst, arith, true, append_assoc, length-append}
 use Rattle.std.specs.List.{AllPairs}

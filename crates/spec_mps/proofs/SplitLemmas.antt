@@ -1,4 +1,7 @@
 -- A text in two at the first byte that passes a test.
+--
+-- `whole`: a text in which no byte passes a test is all before the first such byte, with nothing behind.
+-- `split`: a text is split at its first byte that passes a test into what is before and what is after that byte.
 use Rattle.std.proofs.Common.{◌≡◌, ℕ, ◌+◌, Bool, true, false, Some, None, List}
 use Rattle.std.proofs.Common.{[], ◌∷◌, ◌++◌, length, take, drop, refl, ap, ◌∙◌, arith}
 use Rattle.std.specs.List.{list_any, position_or_len, before_first, after_first}

@@ -1,4 +1,8 @@
--- What follows others in a list: its place, what is there, and a change there.
+-- An element that follows others in a list: where it is found, what is read there, and what a change there does.
+--
+-- `place_behind`: a name absent from the elements before is found at the place right behind them.
+-- `changed_behind`: a change at the place behind some elements changes the element there alone.
+-- `there_behind`: what is read at the place behind some elements is the element there.
 use Rattle.std.proofs.Common.{◌≡◌, Some, List, [], ◌∷◌, ◌++◌, length, map, get_or, refl, ap, length-append, arith}
 use Rattle.std.specs.List.{list_any, position, position_or_len}
 use Rattle.std.proofs.lemmas.Bool.{or_parts}

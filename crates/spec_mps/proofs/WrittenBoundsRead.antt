@@ -1,4 +1,7 @@
--- The whole section BOUNDS of a written text, and the end.
+-- The section BOUNDS of a written text as a whole, and its end.
+--
+-- `bounds_are_read`: the cards of BOUNDS of a written model lead the reader to the whole model.
+-- `end_step`: the line ENDATA ends the text with the model whose parts the state has.
 use Rattle.std.proofs.Common.{◌≡◌, ℕ, suc, Bool, true, false, Option, Some, None, Ok, List, [], ◌∷◌}
 use Rattle.std.proofs.Common.{◌++◌, length, map, refl, sym, ap, ◌∙◌, subst, append_assoc, length-append, arith}
 use Rattle.std.specs.Prelude.{codes, IfSome}

@@ -1,4 +1,9 @@
--- A card of COLUMNS of a written text.
+-- Reading one card of COLUMNS of a written text.
+--
+-- `column_card_goes`: a written card of a column is read: it opens or continues its column and enters the number.
+-- `opened_new`: a column whose name is not taken is opened where there is room, and the one before it is whole.
+-- `opened_open`: a card of the column that is open already leaves the state as it is.
+-- `entered`: a number of the objective or a row that had none in this column goes into the open column.
 use Rattle.std.proofs.Common.{◌≡◌, ℕ, ◌<◌, true, false, not, Option, Some}
 use Rattle.std.proofs.Common.{Ok, List, [], ◌∷◌, ◌++◌, length, refl, ap, ◌∙◌}
 use Rattle.std.specs.Prelude.{codes}

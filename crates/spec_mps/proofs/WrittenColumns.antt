@@ -1,4 +1,10 @@
 -- The fields of a written line, in fixed form: texts that stand in their columns are read as those texts.
+--
+-- `column_read`: a text with blanks up to its field's end is what is read in the field's columns.
+-- `column_last`: a text at the end of a line is what is read in its field's columns.
+-- `column_past`: in columns past the end of a line nothing is read.
+-- `placed_blanks`: blanks are never misplaced, so the search for a misplaced byte goes on behind them.
+-- `placed_text`: a printed text within a field is never misplaced, so the search goes on behind it.
 use Rattle.std.proofs.Common.{◌≡◌, ℕ, zero, suc, ◌+◌, ◌-◌, ◌≤◌, ◌<◌, ◌==◌, ◌&&◌, ◌||◌, Bool, true, false}
 use Rattle.std.proofs.Common.{List, [], ◌∷◌, ◌++◌, length, take, drop, replicate, refl, sym, ap, ◌∙◌, arith}
 use Rattle.std.specs.Prelude.{nat_le}

@@ -1,4 +1,11 @@
--- The entries of a column of a written text, one after another.
+-- The entries of a column of a written text, read one after another.
+--
+-- `entries_ascend`: entries of a kept column with numbers within 127 bits are ascending, nonzero and of its rows.
+-- `below_more`: entries below one row are below each later row.
+-- `below_push`: entries below a row stay so with one more entry below it at the end.
+-- `paired_more`: where all rows with a number are below one row, they are below each later row.
+-- `not_paired`: a row above all rows with a number has no number.
+-- `entry_put`: an entry put into a column whose entries are all of earlier rows goes to the end.
 use Rattle.std.proofs.Common.{◌≡◌, ◌≢◌, ℕ, suc, ◌<◌, ◌≤◌, Bool, true, false, List, [], ◌∷◌, ◌++◌, refl, ap, arith}
 use Rattle.std.specs.List.{All, AllPairs}
 use borrow.Author.Tests.{le-ltb}

@@ -1,4 +1,16 @@
--- Data cards of a written text, in fixed form, are read as their fields.
+-- Data cards of a written text in fixed form are read as their fields.
+--
+-- `within`: more bytes at the end of a line do not change what is read in columns before them.
+-- `none_1`: the columns 2 and 3 of field 1 are all inside a field.
+-- `none_2`: the columns 5 to 12 of field 2 are all inside a field.
+-- `none_3`: the columns 15 to 22 of field 3 are all inside a field.
+-- `none_4`: the columns 25 to 36 of field 4 are all inside a field.
+-- `ended`: a line with a last word within its field is short, printed, not blank and without a misplaced byte.
+-- `last_is`: the last word of a line is what is read in its field's columns.
+-- `type_card_read`: a written card with a type and a name is read as these two fields.
+-- `number_card_read`: a written card with two names and a number is read as these three fields.
+-- `unbound_card_read`: a written card with a kind of bounds, a set and a column is read as these three fields.
+-- `bound_card_read`: a written card with a kind of bounds, a set, a column and a number is read as these four fields.
 use Rattle.std.proofs.Common.{◌≡◌, ℕ, zero, suc, ◌+◌, ◌-◌, ◌≤◌, ◌&&◌, not, Bool, true, false, None, List, []}
 use Rattle.std.proofs.Common.{◌∷◌, ◌++◌, length, refl, sym, ap, ◌∙◌, append_assoc, length-append, arith}
 use Rattle.std.specs.List.{list_all}

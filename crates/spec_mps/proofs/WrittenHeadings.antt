@@ -1,4 +1,11 @@
--- The headings of a written text, of one word each.
+-- Reading the headings of a written text that have one word.
+--
+-- `heading_step`: a line read in both forms as a heading of one word is taken as that section's card.
+-- `rows_step`: the line ROWS begins that section where it has not begun before.
+-- `columns_step`: the line COLUMNS begins that section after ROWS, where there is an objective.
+-- `sides_step`: the line RHS begins that section after COLUMNS, where it has not begun before.
+-- `ranges_step`: the line RANGES begins that section after COLUMNS, where it has not begun before.
+-- `bounds_step`: the line BOUNDS begins that section after COLUMNS, where it has not begun before.
 use Rattle.std.proofs.Common.{◌≡◌, true, false, Option, Some, None, Ok, List, ℕ, [], ◌∷◌, refl, ap, ◌∙◌}
 use Rattle.std.specs.Prelude.{codes}
 use Rattle.spec_text.specs.declared.line.Line.TheVariants.{Text}

@@ -1,4 +1,12 @@
--- The kinds of bounds of a written text: their words, and what their cards are read as.
+-- The kinds of bounds in a written text: their words, and what their cards are read as.
+--
+-- `kind_item`: the word of a kind of bounds is a word with room in field 1.
+-- `value_known`: a written card of bounds with a value is read as of its own kind.
+-- `value_shape`: a written card of a kind that takes a value is read as its set, its column and the number's text.
+-- `value_is`: a kind that takes a value, with the text of a finite bound, sets that bound.
+-- `name_known`: a written card of bounds without a value is read as of its own kind.
+-- `name_shape`: a written card of a kind without a value is read as its set and its column, with an empty value.
+-- `name_is`: a kind that takes no value sets what the kind alone says.
 use Rattle.std.proofs.Common.{◌≡◌, ℕ, ◌≤◌, true, false, Some, None, Ok, List, []}
 use Rattle.std.proofs.Common.{◌∷◌, length, refl, ap, arith}
 use Rattle.std.specs.Prelude.{codes}

@@ -1,4 +1,7 @@
--- The lines of a written text are those of its cards.
+-- The lines of a written text are the lines of its cards.
+--
+-- `no_feed`: no byte of a printed line is a line feed.
+-- `has_its_lines`: a text of cards whose lines are plain and short splits into the lines of these cards.
 use Rattle.std.proofs.Common.{◌≡◌, ◌≢◌, ℕ, suc, ◌≤◌, true, List, [], ◌∷◌, ◌++◌, ap, ◌∙◌, append_assoc, arith}
 use Rattle.std.specs.Prelude.{nat_le}
 use Rattle.std.specs.List.{All, list_all}

@@ -1,4 +1,13 @@
 -- Names of a kept model are words, none is there twice, and where fixed form fits they have room in their fields.
+--
+-- `name_word`: a valid name of a column is a word.
+-- `row_name_word`: a valid name of a row is a word.
+-- `fresh`: distinct names that are absent from some names before them are each fresh.
+-- `fresh_names`: of distinct names, those after the first are each fresh after it.
+-- `field_narrow`: where no field of a list is too wide, the first one fits and no other is too wide.
+-- `front_narrow`: where no field of two lists of cards is too wide, none of the first list is.
+-- `back_narrow`: where no field of two lists of cards is too wide, none of the second list is.
+-- `rows_known`: rows with valid names that fit the form have names that are items of their cards.
 use Rattle.std.proofs.Common.{◌≡◌, ◌≢◌, suc, ◌&&◌, Bool, true, false, cond, Option, Some, None}
 use Rattle.std.proofs.Common.{List, [], ◌∷◌, ◌++◌, length, map, get_or, refl, sym, ap, ◌∙◌, arith}
 use Rattle.std.specs.Prelude.{nat_lt, nat_le, option_map, find, IsTrue}

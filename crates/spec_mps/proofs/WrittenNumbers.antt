@@ -1,4 +1,9 @@
--- The text of a number is a word.
+-- The text of a number within 127 bits is a word.
+--
+-- `printed`: digits are printable bytes.
+-- `has_some`: a text with a positive length has bytes.
+-- `longer`: a word with more printable bytes behind it is a word.
+-- `number_word`: the text of a fraction with numerator and denominator within 127 bits is a word.
 use Rattle.std.proofs.Common.{◌≡◌, ℕ, ◌*◌, ◌/◌, ◌^◌, ◌<◌, ◌≤◌, ◌==◌, Bool, true, false, cond, Option}
 use Rattle.std.proofs.Common.{Some, None, List, [], ◌∷◌, ◌++◌, length, pos, refl, ◌∙◌, arith}
 use Rattle.std.specs.Prelude.{decimal, nat_le, int_lt, unsigned_abs}

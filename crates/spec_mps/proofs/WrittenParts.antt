@@ -1,4 +1,8 @@
 -- What the sections RHS, RANGES and BOUNDS of a written text have in common: data cards with a number.
+--
+-- `given_step`: in a section with numbers, a line read as a data card is taken by that section's rule.
+-- `number_item`: the text of a number within 127 bits that has room is an item of 12 bytes.
+-- `number_card_of`: a word and a number within 127 bits on a card with room make a card that says the number of a row.
 use Rattle.std.proofs.Common.{◌≡◌, ℕ, Bool, true, false, Some, Ok, List, [], ◌∷◌, refl, ap, ◌∙◌}
 use Rattle.spec_text.specs.declared.line.Line.TheVariants.{Text}
 use Rattle.spec_exact.specs.Fraction.{ℚ}

@@ -1,4 +1,9 @@
--- The names of a kept model's objective and rows stand for them, and the texts of its numbers are read as these.
+-- The names of a kept model's objective and rows are found at their places, and its numbers are read from their texts.
+--
+-- `number_is_in`: the text of a number within 127 bits is taken as that number.
+-- `same_itself`: a name is the same as itself.
+-- `objective_place`: where a model's rows are read, its objective's name stands for the objective.
+-- `row_place`: where a model's rows are read, the name of row i stands for row i.
 use Rattle.std.proofs.Common.{◌≡◌, ◌≢◌, ℕ, zero, suc, ◌<◌, true, Some, Ok}
 use Rattle.std.proofs.Common.{List, [], ◌∷◌, length, map, get_or, refl, sym, ap, ◌∙◌, arith}
 use Rattle.std.specs.List.{AllPairs, position, position_or_len}

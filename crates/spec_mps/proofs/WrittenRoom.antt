@@ -1,4 +1,10 @@
--- Where fixed form fits, the fields of cards with numbers have room.
+-- Where a model fits fixed form, the fields of its cards have room.
+--
+-- `card_room`: where cards with numbers have room, the first card's two names and its number have room.
+-- `room_front`: where two lists of cards have room, the first list has room.
+-- `room_back`: where two lists of cards have room, the second list has room.
+-- `room_of`: a model that fits a form has room for the cards of each of its sections.
+-- `room_for_columns`: a model that fits a form has room for the cards of its columns.
 use Rattle.std.proofs.Common.{◌≡◌, None, [], ◌∷◌, ◌++◌, length}
 use Rattle.std.specs.Prelude.{codes}
 use Rattle.std.specs.List.{flat_map}

@@ -1,4 +1,9 @@
--- The rows of a written text get numbers, one after another.
+-- Each row of a written text gets its number, one row after another.
+--
+-- `unpaired_next`: where no row from n on has a number, none from n + 1 on has one once row n has got its own.
+-- `unpaired_later`: where no row from n on has a number, none from n + 1 on has one.
+-- `place_of_row`: a row's name, absent before it, stands for the row behind those before it.
+-- `rows_known`: where the cards of a kept model's rows have room, each row has what its cards need.
 use Rattle.std.proofs.Common.{◌≡◌, ℕ, suc, ◌+◌, ◌≤◌, true, false, Option, Some, List, [], ◌∷◌, ◌++◌}
 use Rattle.std.proofs.Common.{length, map, refl, sym, ap, ◌∙◌, subst, append_assoc, length-append, arith}
 use Rattle.std.specs.Prelude.{IsTrue}

@@ -1,4 +1,12 @@
--- The cards of ROWS of a written text are read as the rows.
+-- The cards of ROWS of a written text are read as the model's rows.
+--
+-- `goes_one`: where one step of the reader leads on to a state, the card of that line leads there.
+-- `goes_none`: no cards leave the state as it is.
+-- `goes_then`: where a card leads to a state and more cards on from it, all of them lead to the last state.
+-- `type_step`: the line of a card with a type and a name adds that row, where the type is known.
+-- `row_goes`: a card of a new row with a valid name and room adds this row without its numbers.
+-- `objective_added`: the first row of type N with a new valid name becomes the objective.
+-- `rows_go`: the cards of rows with fresh valid names and room add these rows in their order.
 use Rattle.std.proofs.Common.{◌≡◌, ℕ, ◌+◌, ◌<◌, ◌≤◌, true, false, Option, Some, None, Ok, List, [], ◌∷◌}
 use Rattle.std.proofs.Common.{◌++◌, length, map, refl, sym, ap, ◌∙◌, subst, append_assoc, length-append, arith}
 use Rattle.std.specs.List.{list_any, position, position_or_len}

@@ -1,4 +1,7 @@
 -- A card of RHS or of RANGES of a written text is read as a number of its row.
+--
+-- `card_goes`: a written card of the set in use leads where its pair of a name and a number leads.
+-- `number_goes`: a written card gives its number to the row behind those that are done.
 use Rattle.std.proofs.Common.{◌≡◌, ℕ, true, false, Option, Some, Ok, List, [], ◌∷◌, ◌++◌, length, get_or, refl, sym, ap, ◌∙◌}
 use Rattle.std.proofs.Common.{subst, arith}
 use Rattle.std.specs.Prelude.{codes}

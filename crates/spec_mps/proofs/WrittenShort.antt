@@ -1,4 +1,12 @@
--- Each line of a written text is short, and of spaces and printed bytes.
+-- Each line of a written text is short, and has only spaces and printed bytes.
+--
+-- `column_small`: each field of fixed form begins in one of the first 50 columns.
+-- `blanks_len`: a line with k blanks behind it is k bytes longer.
+-- `plain_both`: two texts of spaces and printed bytes, one after the other, are such a text.
+-- `plain_line`: the line of a card with few short fields is short and plain.
+-- `name_short`: a valid name is short and plain.
+-- `name_card_short`: the NAME card of a valid model name has few short fields.
+-- `cards_short`: each card of a kept model has few short fields.
 use Rattle.std.proofs.Common.{◌≡◌, ℕ, zero, suc, ◌+◌, ◌-◌, ◌*◌, ◌/◌, ◌^◌, ◌≤◌, ◌<◌, ◌==◌, ◌&&◌}
 use Rattle.std.proofs.Common.{Bool, true, false, cond, Option, Some, None, List, [], ◌∷◌, ◌++◌, length}
 use Rattle.std.proofs.Common.{map, get_or, replicate, pos, refl, ap, ◌∙◌, length-append, arith}

@@ -1,4 +1,9 @@
 -- The text that a model is written as spells that model.
+--
+-- `free_spells`: the free-form text of a usual model spells that model, where its columns are read.
+-- `fixed_spells`: the fixed-form text of a usual model spells that model, where nothing is too wide and its columns are
+--   read.
+-- `no_other`: lines that spell one model spell no other.
 use Rattle.std.proofs.Common.{◌≡◌, ◌↔◌, ℕ, ◌+◌, false, Option, Some, None, List, [], ◌∷◌, ◌++◌, length}
 use Rattle.std.proofs.Common.{get_or, refl, sym, ap, ◌∙◌, subst, append_assoc}
 use Rattle.std.specs.Prelude.{codes}

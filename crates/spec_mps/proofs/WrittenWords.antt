@@ -1,4 +1,13 @@
--- The words of a written line, in free form: words joined by single blanks are read as those words.
+-- The words of a written line in free form: words joined by single blanks are read as those words.
+--
+-- `no_blank`: a printable byte is no blank.
+-- `parts_word`: a word alone splits into itself.
+-- `parts_word_then`: a word, a blank and more text split into the word and the words of the rest.
+-- `words_of_joined`: words with a blank before each are read as these words.
+-- `stripped_plain`: a plain line has no carriage return at its end to strip.
+-- `plain_text`: a text of printable bytes is of spaces and printed bytes.
+-- `free_line`: a line of free form with fields is the line, and each field's text with a blank before it.
+-- `free_card_read`: a data card whose fields are words is read in free form as these words.
 use Rattle.std.proofs.Common.{◌≡◌, ℕ, zero, suc, ◌-◌, ◌≤◌, ◌==◌, ◌&&◌, Bool, true, false, List, []}
 use Rattle.std.proofs.Common.{◌∷◌, ◌++◌, length, get_or, refl, sym, ap, ◌∙◌, append_assoc, arith}
 use Rattle.std.specs.Prelude.{nat_le}

@@ -23,6 +23,7 @@ pub data BoundReading : Type 0 where
 abbrev pub infinite : ℚ
 infinite = whole (pos (10 ^ 20))
 
+-- whether a value is at least a limit
 abbrev pub is_at_least : ℚ → ℚ → Bool
 is_at_least limit value = not (lt_ℚ value limit)
 
@@ -30,10 +31,12 @@ is_at_least limit value = not (lt_ℚ value limit)
 abbrev pub is_infinity : List ℕ → Bool
 is_infinity word = str_eq_ignore_ascii_case word (codes "inf") || str_eq_ignore_ascii_case word (codes "infinity")
 
+-- infinity, by whether a minus stands before it
 abbrev pub infinity : Bool → BoundReading
 infinity true = MinusInf
 infinity false = PlusInf
 
+-- what a text is as a bound, by what it is as a number
 abbrev pub as_bound : NumberReading → BoundReading
 as_bound (number.Is q) = Finite q
 as_bound number.Shape = Shape
@@ -45,6 +48,7 @@ bound_by_value value reading =
     if is_at_least infinite value then PlusInf
     else (if is_at_least value (neg_ℚ infinite) then MinusInf else as_bound reading)
 
+-- what a text is as a bound, by its parts, if it has those of a number
 unfoldable pub bound_by : List ℕ → Option NumberParts → BoundReading
 bound_by text None = if is_infinity (without_sign text) then infinity (is_negative text) else Shape
 bound_by text (Some parts) = bound_by_value (value_of parts) (number_by (Some parts))

@@ -20,27 +20,31 @@ use Rattle.spec_mps.specs.Sides.{is_used, changed_at}
 
 -- ---- what a card does
 
--- `None` is no bound
+-- what a card does to a column's bounds; `None` takes a bound away
 pub data BoundCard : Type 0 where
   SetsUpper : (bound : Option ℚ) → BoundCard
   SetsLower : (bound : Option ℚ) → BoundCard
   SetsBoth : (lower upper : Option ℚ) → BoundCard
 
+-- what `UP` does with its value
 abbrev pub upper_card : BoundValue ℚ → Check BoundCard
 upper_card (Finite u) = Ok (SetsUpper (Some u))
 upper_card PlusInf = Ok (SetsUpper None)
 upper_card MinusInf = Err code.BoundKind
 
+-- what `LO` does with its value
 abbrev pub lower_card : BoundValue ℚ → Check BoundCard
 lower_card (Finite l) = Ok (SetsLower (Some l))
 lower_card PlusInf = Err code.BoundKind
 lower_card MinusInf = Ok (SetsLower None)
 
+-- what `FX` does with its value
 abbrev pub both_card : BoundValue ℚ → Check BoundCard
 both_card (Finite v) = Ok (SetsBoth (Some v) (Some v))
 both_card PlusInf = Err code.BoundKind
 both_card MinusInf = Err code.BoundKind
 
+-- a text as a bound, or the code of what is wrong with it
 unfoldable pub bound_in : List ℕ → Check (BoundValue ℚ)
 bound_in text = coded (bound_answer (bound_of text))
 
@@ -53,22 +57,25 @@ bound_card Fr text = Ok (SetsBoth None None)
 bound_card Mi text = Ok (SetsLower None)
 bound_card Pl text = Ok (SetsUpper None)
 
+-- whether there is an upper bound, and it is below 0
 abbrev pub is_negative : Option ℚ → Bool
 is_negative None = false
 is_negative (Some u) = lt_ℚ u 0ℚ
 
--- A negative upper bound takes away the lower bound, where no card has set that.
+-- A column with the bounds of a card. A negative upper bound takes away the lower bound, where no card has set that.
 abbrev pub bounded : Bool → BoundCard → ExactColumn → ExactColumn
 bounded lowered (SetsUpper u) c =
     if is_negative u && not lowered then record c { lower = None; upper = u } else record c { upper = u }
 bounded lowered (SetsLower l) c = record c { lower = l }
 bounded lowered (SetsBoth l u) c = record c { lower = l; upper = u }
 
+-- whether a card says something of the lower bound
 abbrev pub sets_lower : BoundCard → Bool
 sets_lower (SetsUpper u) = false
 sets_lower (SetsLower l) = true
 sets_lower (SetsBoth l u) = true
 
+-- the state after a card for the column at a place
 unfoldable pub with_bound : State → ℕ → BoundCard → State
 with_bound s place card =
     record s {
@@ -84,6 +91,7 @@ pub record BoundTexts : Type 0 where
   pub column : Name
   pub value : List ℕ
 
+-- whether a card of this kind needs a value
 abbrev pub takes_value : BoundKind → Bool
 takes_value Up = true
 takes_value Lo = true
@@ -100,21 +108,25 @@ bound_texts_by false (column ∷ []) = Ok (record { set = None; column = column;
 bound_texts_by false (set ∷ column ∷ []) = Ok (record { set = Some set; column = column; value = [] })
 bound_texts_by has_value texts = Err code.CardShape
 
+-- whether field n of a card is read, beside its kind in field 1
 abbrev pub is_read : BoundKind → ℕ → Bool
 is_read kind n = not (n == 1) && (takes_value kind || not (n == 4))
 
+-- the texts of a card in BOUNDS, where it has a shape of its kind
 unfoldable pub bound_texts : Style → BoundKind → Fields → Check BoundTexts
 bound_texts style kind fields =
     if has_shape (bound_shapes style kind) fields
     then bound_texts_by (takes_value kind) (texts_of (filter (λ f. is_read kind f.number) fields))
     else Err code.CardShape
 
+-- the state after a card of the set that is used
 unfoldable pub use_bound : State → BoundKind → BoundTexts → Check State
 use_bound s kind texts = do
   place ← need (position (λ c. same c.name texts.column) s.columns) code.UnknownColumn
   card ← bound_card kind texts.value
   Ok (with_bound (record s { set = Some texts.set }) place card)
 
+-- the state after a card of BOUNDS, or what is wrong with it
 unfoldable pub bounds_card : Style → State → Fields → Check State
 bounds_card style s fields = do
   kind ← bound_kind_of (text_at 1 fields)

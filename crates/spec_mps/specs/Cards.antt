@@ -4,6 +4,7 @@ use Rattle.std.specs.List.{list_all}
 use Rattle.std.specs.Str.Lines.{strip_carriage_return}
 use Rattle.spec_text.specs.Words.{is_blank}
 
+-- a comment has a star in column 1
 abbrev pub begins_with_star : List ℕ → Bool
 begins_with_star [] = false
 begins_with_star (b ∷ bs) = b == 42

@@ -9,6 +9,7 @@ abbrev pub Check : Type 0 → Type 0
 Check A = Result A Code
 
 infixl 10 ◌>>=◌
+-- the next check, where this one has a value
 abbrev pub ◌>>=◌ : {A B : Type 0} → Check A → (A → Check B) → Check B
 (Ok x) >>= next = next x
 (Err code) >>= next = Err code
@@ -28,10 +29,12 @@ abbrev pub fault_code : NumFault → Code
 fault_code fault.Shape = code.NumberShape
 fault_code fault.Wide = code.NumberWide
 
+-- a number, or the code of why it is none
 abbrev pub coded : {A : Type 0} → Result A NumFault → Check A
 coded (Ok x) = Ok x
 coded (Err fault) = Err (fault_code fault)
 
+-- the number of a code in replies
 abbrev pub code_number : Code → ℕ
 code_number code.SectionOrder = 1
 code_number code.UnknownSection = 2

@@ -12,6 +12,7 @@ pub record Field : Type 0 where
   pub number : ℕ
   pub text : List ℕ
 
+-- the fields of a card, in their order
 abbrev pub Fields : Type 0
 Fields = List Field
 
@@ -22,13 +23,16 @@ pub data CardReading : Type 0 where
 
 -- ---- free form: the fields are the words
 
+-- texts as fields with the numbers from n on
 abbrev pub numbered_from : ℕ → List (List ℕ) → Fields
 numbered_from n [] = []
 numbered_from n (text ∷ texts) = record { number = n; text = text } ∷ numbered_from (n + 1) texts
 
+-- the words of a line as fields 1, 2 and so on
 unfoldable pub word_fields : List ℕ → Fields
 word_fields line = numbered_from 1 (words_of line)
 
+-- what a line of free form is
 unfoldable pub free_fields : List ℕ → CardReading
 free_fields line =
     if is_skipped line then Is Skip
@@ -51,6 +55,7 @@ abbrev pub misplaced_from : ℕ → List ℕ → Option ℕ
 misplaced_from column [] = None
 misplaced_from column (b ∷ bs) = if is_misplaced column b then Some column else misplaced_from (column + 1) bs
 
+-- whether a byte is a space
 abbrev pub is_space : ℕ → Bool
 is_space b = b == 32
 
@@ -72,15 +77,18 @@ abbrev pub field_of : ℕ → List ℕ → Fields
 field_of n [] = []
 field_of n (b ∷ bs) = record { number = n; text = b ∷ bs } ∷ []
 
+-- the fields of a line of fixed form, by their columns
 unfoldable pub column_fields : List ℕ → Fields
 column_fields line =
     field_of 1 (in_columns 2 3 line) ++ field_of 2 (in_columns 5 12 line) ++ field_of 3 (in_columns 15 22 line)
     ++ field_of 4 (in_columns 25 36 line) ++ field_of 5 (in_columns 40 47 line) ++ field_of 6 (in_columns 50 61 line)
 
+-- the card of these fields, unless a byte is misplaced
 abbrev pub placed : Option ℕ → Fields → CardReading
 placed None fields = Is (Given fields)
 placed (Some column) fields = Misplaced column
 
+-- what a line of fixed form is
 unfoldable pub fixed_fields : List ℕ → CardReading
 fixed_fields line =
     if is_skipped line then Is Skip
@@ -94,8 +102,10 @@ abbrev pub text_at : ℕ → Fields → List ℕ
 text_at n [] = []
 text_at n (f ∷ fs) = if f.number == n then f.text else text_at n fs
 
+-- the numbers of a card's fields
 abbrev pub numbers_of : Fields → List ℕ
 numbers_of fields = map (λ f. f.number) fields
 
+-- the texts of a card's fields
 abbrev pub texts_of : Fields → List (List ℕ)
 texts_of fields = map (λ f. f.text) fields

@@ -22,7 +22,7 @@ use Rattle.spec_mps.specs.Fields.{Fields, text_at}
 use Rattle.spec_mps.specs.Checks.{Check, ◌>>=◌, must, need, coded}
 use Rattle.spec_mps.specs.Shapes.{row_type_of, shaped}
 
--- what was read so far
+-- what was read so far: the state of the reader
 pub record State : Type 0 where
   pub part : Option Section  -- the section of the next data card
   pub seen : Seen
@@ -37,6 +37,7 @@ pub record State : Type 0 where
   pub paired : List Target  -- what has a number already, 0 too, in this column or in this section
   pub set : Option (Option Name)  -- the set of this section's first card, which may be absent
 
+-- the state before the first line
 abbrev pub start : State
 start =
     record {
@@ -65,10 +66,12 @@ start =
 
 -- ---- names and numbers
 
+-- whether a name is that of the objective
 abbrev pub is_objective : Option Name → Name → Bool
 is_objective None name = false
 is_objective (Some objective) name = same objective name
 
+-- the row at a place, if there is one
 abbrev pub row_at : Option ℕ → Option Target
 row_at None = None
 row_at (Some i) = Some (Row i)
@@ -78,20 +81,24 @@ unfoldable pub place_of : State → Name → Option Target
 place_of s name =
     if is_objective s.objective name then Some Objective else row_at (position (λ r. same r.name name) s.rows)
 
+-- a text as a number within 127 bits, or the code of what is wrong with it
 unfoldable pub number_in : List ℕ → Check ℚ
 number_in text = coded (answer (number_of text))
 
+-- whether two targets are the same
 abbrev pub same_target : Target → Target → Bool
 same_target Objective Objective = true
 same_target Objective (Row j) = false
 same_target (Row i) Objective = false
 same_target (Row i) (Row j) = i == j
 
+-- whether a target is in a list
 abbrev pub is_among : Target → List Target → Bool
 is_among t ts = list_any (same_target t) ts
 
 -- ---- ROWS: shape, type, name, a name that is taken, too many rows
 
+-- a row before its right side and its range are read
 abbrev pub new_row : Kind → Name → ExactRow
 new_row kind name = record { name = name; kind = kind; rhs = 0ℚ; range = None }
 
@@ -99,10 +106,12 @@ new_row kind name = record { name = name; kind = kind; rhs = 0ℚ; range = None 
 abbrev pub is_first : State → Kind → Bool
 is_first s kind = is_none s.objective && is_free kind
 
+-- the state with one more row, or with its objective
 abbrev pub with_row : State → Kind → Name → State
 with_row s kind name =
     if is_first s kind then record s { objective = Some name } else record s { rows = s.rows ++ new_row kind name ∷ [] }
 
+-- the state with a new row, where its name is valid and free and there is room
 unfoldable pub add_row : SizeLimits → State → Kind → Name → Check State
 add_row limits s kind name = do
   _ ← must (is_row_name name) code.Name
@@ -110,6 +119,7 @@ add_row limits s kind name = do
   _ ← must (is_first s kind || nat_lt (length s.rows) limits.rows) code.Limit
   Ok (with_row s kind name)
 
+-- the state after a card of ROWS, or what is wrong with it
 unfoldable pub rows_card : SizeLimits → Style → State → Fields → Check State
 rows_card limits style s fields = do
   _ ← shaped style section.Rows fields
@@ -130,6 +140,7 @@ columns_with columns (Some column) = columns ++ column ∷ []
 abbrev pub whole_columns : State → List ExactColumn
 whole_columns s = columns_with s.columns s.column
 
+-- whether the column that cards are read of has this name
 abbrev pub is_open : Option ExactColumn → Name → Bool
 is_open None name = false
 is_open (Some column) name = same column.name name
@@ -164,6 +175,7 @@ enter s t v = do
   _ ← must (not (is_among t s.paired)) code.EntryRepeated
   Ok (record s { column = option_map (λ c. with_number c t v) s.column; paired = t ∷ s.paired })
 
+-- the state after a pair of a row's name and a number on a card of COLUMNS
 unfoldable pub column_pair : State → Name → List ℕ → Check State
 column_pair s name text = do
   t ← need (place_of s name) code.UnknownRow
@@ -181,6 +193,7 @@ abbrev pub in_turn : (State → Name → List ℕ → Check State) → State →
 in_turn take s [] = Ok s
 in_turn take s (pair ∷ pairs) = take s pair.0 pair.1 >>= λ t. in_turn take t pairs
 
+-- the state after all pairs of a card of COLUMNS
 abbrev pub column_pairs : State → List (List ℕ × List ℕ) → Check State
 column_pairs = in_turn column_pair
 
@@ -197,6 +210,7 @@ abbrev pub marker_field : Style → ℕ
 marker_field Free = 2
 marker_field Fixed = 3
 
+-- the state after a card of COLUMNS, or what is wrong with it
 unfoldable pub columns_card : SizeLimits → Style → State → Fields → Check State
 columns_card limits style s fields = do
   _ ← must (not (same (text_at (marker_field style) fields) (codes "'MARKER'"))) code.Integer

@@ -18,7 +18,7 @@ use Rattle.spec_mps.specs.Checks.{Check, need, ◌>>=◌}
 
 -- ---- words
 
--- what stands beside a word in a table
+-- the item beside a word in a table, if the word is there
 abbrev pub look_up : {A : Type 0} → List ℕ → List (List ℕ × A) → Option A
 look_up word [] = None
 look_up word (line ∷ lines) = if same word line.0 then Some line.1 else look_up word lines
@@ -36,13 +36,16 @@ section_words =
     ∷ (codes "ENDATA", section.End)
     ∷ []
 
+-- the section that a word begins
 unfoldable pub section_of : List ℕ → Option Section
 section_of word = look_up word section_words
 
+-- the sense that a word of OBJSENSE says
 unfoldable pub sense_of : List ℕ → Option Sense
 sense_of word =
     look_up word ((codes "MIN", Min) ∷ (codes "MINIMIZE", Min) ∷ (codes "MAX", Max) ∷ (codes "MAXIMIZE", Max) ∷ [])
 
+-- the kind of rows that a word of ROWS says
 unfoldable pub row_type_of : List ℕ → Option Kind
 row_type_of word = look_up word ((codes "N", N) ∷ (codes "L", L) ∷ (codes "G", G) ∷ (codes "E", E) ∷ [])
 
@@ -61,6 +64,7 @@ bound_kinds =
     ∷ (codes "SC", Err code.SemiContinuous)
     ∷ []
 
+-- the kind of bounds that a word says, or why it is not read
 unfoldable pub bound_kind_of : List ℕ → Check BoundKind
 bound_kind_of word = need (look_up word bound_kinds) code.BoundKind >>= λ kind. kind
 
@@ -71,6 +75,7 @@ abbrev pub set_shapes : Style → List (List ℕ)
 set_shapes Free = (1 ∷ 2 ∷ []) ∷ (1 ∷ 2 ∷ 3 ∷ []) ∷ (1 ∷ 2 ∷ 3 ∷ 4 ∷ []) ∷ (1 ∷ 2 ∷ 3 ∷ 4 ∷ 5 ∷ []) ∷ []
 set_shapes Fixed = (3 ∷ 4 ∷ []) ∷ (2 ∷ 3 ∷ 4 ∷ []) ∷ (3 ∷ 4 ∷ 5 ∷ 6 ∷ []) ∷ (2 ∷ 3 ∷ 4 ∷ 5 ∷ 6 ∷ []) ∷ []
 
+-- the shapes of a section's cards
 abbrev pub shapes_of : Style → Section → List (List ℕ)
 shapes_of style section.Name = []
 shapes_of style section.Sense = (1 ∷ []) ∷ []
@@ -88,6 +93,7 @@ abbrev pub unvalued_shapes : Style → List (List ℕ)
 unvalued_shapes Free = (1 ∷ 2 ∷ []) ∷ (1 ∷ 2 ∷ 3 ∷ []) ∷ []
 unvalued_shapes Fixed = (1 ∷ 3 ∷ []) ∷ (1 ∷ 2 ∷ 3 ∷ []) ∷ (1 ∷ 3 ∷ 4 ∷ []) ∷ (1 ∷ 2 ∷ 3 ∷ 4 ∷ []) ∷ []
 
+-- the shapes of a card in BOUNDS, by its kind
 abbrev pub bound_shapes : Style → BoundKind → List (List ℕ)
 bound_shapes style Up = shapes_of style section.Bounds
 bound_shapes style Lo = shapes_of style section.Bounds
@@ -96,6 +102,7 @@ bound_shapes style Fr = unvalued_shapes style
 bound_shapes style Mi = unvalued_shapes style
 bound_shapes style Pl = unvalued_shapes style
 
+-- whether a card's fields have one of these shapes
 unfoldable pub has_shape : List (List ℕ) → Fields → Bool
 has_shape shapes fields = list_any (same (numbers_of fields)) shapes
 

@@ -17,6 +17,7 @@ use Rattle.spec_mps.specs.Reader.{State, place_of, number_in, is_among, pairs_of
 
 -- ---- sets: the set of a section's first card is used, and cards of other sets are skipped
 
+-- whether there is an odd number of texts
 abbrev pub is_odd : List (List ℕ) → Bool
 is_odd [] = false
 is_odd (t ∷ ts) = not (is_odd ts)
@@ -34,6 +35,7 @@ set_and_pairs_by odd texts = record { set = None; pairs = pairs_of texts }
 unfoldable pub set_and_pairs : List (List ℕ) → SetAndPairs
 set_and_pairs texts = set_and_pairs_by (is_odd texts) texts
 
+-- whether two sets are the same, where both may be absent
 abbrev pub same_set : Option Name → Option Name → Bool
 same_set None None = true
 same_set None (Some b) = false
@@ -68,19 +70,22 @@ abbrev pub with_side : State → Target → ℚ → State
 with_side s Objective b = record s { offset = neg_ℚ b }
 with_side s (Row i) b = record s { rows = changed_at i (λ r. record r { rhs = b }) s.rows }
 
+-- a right side at a target that had none in this section
 unfoldable pub put_side : State → Target → ℚ → Check State
 put_side s t b = do
   _ ← must (not (is_among t s.paired)) code.EntryRepeated
   Ok (record (with_side s t b) { paired = t ∷ s.paired })
 
+-- the state after a pair of RHS
 unfoldable pub side_pair : State → Name → List ℕ → Check State
 side_pair s name text = do
   t ← need (place_of s name) code.UnknownRow
   b ← number_in text
   put_side s t b
 
--- ---- a pair of RANGES: the same, and the objective, which comes after the row, has none
+-- ---- a pair of RANGES: the row, a range of the objective, the number, a range that is there already
 
+-- the number of the row that a range is for; the objective has no range
 abbrev pub ranged_row : Target → Check ℕ
 ranged_row Objective = Err code.RangeOnObjective
 ranged_row (Row i) = Ok i
@@ -91,10 +96,11 @@ new_range s i v = do
   _ ← must (not (is_among (Row i) s.paired)) code.EntryRepeated
   Ok (record s { rows = changed_at i (λ r. record r { range = Some v }) s.rows; paired = Row i ∷ s.paired })
 
--- that of a free row is forgotten
+-- the state with a range for row i; a range of a free row is dropped
 unfoldable pub put_range : State → ℕ → ℚ → Check State
 put_range s i v = if is_free (get_or s.rows i no_row).kind then Ok s else new_range s i v
 
+-- the state after a pair of RANGES
 unfoldable pub range_pair : State → Name → List ℕ → Check State
 range_pair s name text = do
   t ← need (place_of s name) code.UnknownRow
@@ -104,20 +110,26 @@ range_pair s name text = do
 
 -- ---- the cards of both
 
+-- the state after all pairs of a card of RHS
 abbrev pub side_pairs : State → List (List ℕ × List ℕ) → Check State
 side_pairs = in_turn side_pair
 
+-- the state after all pairs of a card of RANGES
 abbrev pub range_pairs : State → List (List ℕ × List ℕ) → Check State
 range_pairs = in_turn range_pair
 
+-- the state after a card of RHS with this set and these pairs
 unfoldable pub rhs_by : State → SetAndPairs → Check State
 rhs_by s card = if_used side_pairs s card
 
+-- the state after a card of RANGES with this set and these pairs
 unfoldable pub ranges_by : State → SetAndPairs → Check State
 ranges_by s card = if_used range_pairs s card
 
+-- the state after a card of RHS, or what is wrong with it
 unfoldable pub rhs_card : Style → State → Fields → Check State
 rhs_card style s fields = set_card section.RightSides rhs_by style s fields
 
+-- the state after a card of RANGES, or what is wrong with it
 unfoldable pub ranges_card : Style → State → Fields → Check State
 ranges_card style s fields = set_card section.Ranges ranges_by style s fields

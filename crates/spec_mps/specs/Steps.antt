@@ -26,17 +26,20 @@ use Rattle.spec_mps.specs.Bounds.{bounds_card}
 
 -- ---- OBJSENSE: the sense may stand once, under it or beside it
 
+-- the state with the sense that a word says, where it had none
 unfoldable pub take_sense : State → List ℕ → Check State
 take_sense s text = do
   sense ← need (sense_of text) code.CardShape
   _ ← must (is_none s.sense) code.CardShape
   Ok (record s { sense = Some sense })
 
+-- the state after a card of OBJSENSE
 unfoldable pub sense_card : Style → State → Fields → Check State
 sense_card style s fields = shaped style section.Sense fields >>= λ texts. take_sense s (text_at 1 fields)
 
 -- ---- sections: each at most once, in their order
 
+-- whether a section has begun
 abbrev pub has_begun : Seen → Section → Bool
 has_begun seen section.Name = seen.name
 has_begun seen section.Sense = seen.sense
@@ -47,6 +50,7 @@ has_begun seen section.Ranges = seen.ranges
 has_begun seen section.Bounds = seen.bounds
 has_begun seen section.End = false
 
+-- the sections that have begun, with one more
 abbrev pub with_section : Seen → Section → Seen
 with_section seen section.Name = record seen { name = true }
 with_section seen section.Sense = record seen { sense = true }
@@ -80,6 +84,7 @@ begun s part =
       set = None;
     }
 
+-- the state after the word beside OBJSENSE, if there is one
 abbrev pub sense_beside : State → List ℕ → Check State
 sense_beside s [] = Ok s
 sense_beside s (b ∷ bs) = take_sense s (b ∷ bs)
@@ -93,20 +98,25 @@ headed s part word = Ok s
 
 -- ---- one line
 
+-- what a line leads to: a further state, or the end with a model
 pub data Progress : Type 0 where
   More : (state : State) → Progress
   Done : (model : Model) → Progress
 
+-- what a line leads to, or what is wrong with it
 abbrev pub Outcome : Type 0
 Outcome = Check Progress
 
+-- a further state as an outcome
 abbrev pub more : Check State → Outcome
 more check = check >>= λ s. Ok (More s)
 
+-- the sense, which is to minimize where the text says nothing
 abbrev pub sense_or_min : Option Sense → Sense
 sense_or_min None = Min
 sense_or_min (Some sense) = sense
 
+-- the model that was read, with this objective
 unfoldable pub model_by : State → Name → Model
 model_by s objective =
     record {
@@ -118,6 +128,7 @@ model_by s objective =
       columns = whole_columns s;
     }
 
+-- the end of a text: its model, if it has an objective
 unfoldable pub finished : State → Outcome
 finished s = need s.objective code.NoObjective >>= λ objective. Ok (Done (model_by s objective))
 
@@ -126,13 +137,14 @@ abbrev pub begin : State → Section → List ℕ → Outcome
 begin s section.End word = finished s
 begin s part word = more (headed (begun s part) part word)
 
+-- what a section card leads to: a known section, not begun before, in its order
 unfoldable pub section_card : State → Fields → Outcome
 section_card s fields = do
   part ← need (section_of (text_at 1 fields)) code.UnknownSection
   _ ← must (may_follow s.seen part && not (has_begun s.seen part)) code.SectionOrder
   begin s part (text_at 2 fields)
 
--- none stands before ROWS but under OBJSENSE
+-- The state after a data card of a section. Before ROWS there are none but under OBJSENSE.
 abbrev pub data_card : SizeLimits → Style → Option Section → State → Fields → Check State
 data_card limits style (Some section.Sense) s fields = sense_card style s fields
 data_card limits style (Some section.Rows) s fields = rows_card limits style s fields
@@ -142,11 +154,13 @@ data_card limits style (Some section.Ranges) s fields = ranges_card style s fiel
 data_card limits style (Some section.Bounds) s fields = bounds_card style s fields
 data_card limits style part s fields = Err code.CardShape
 
+-- what a card leads to
 abbrev pub on_card : SizeLimits → Style → State → Card Fields → Outcome
 on_card limits style s card.Skip = Ok (More s)
 on_card limits style s (card.Section fields) = section_card s fields
 on_card limits style s (card.Given fields) = more (data_card limits style s.part s fields)
 
+-- what a line leads to, by what it is read as
 abbrev pub on_reading : SizeLimits → Style → State → CardReading → Outcome
 on_reading limits style s (Is c) = on_card limits style s c
 on_reading limits style s (Misplaced column) = Err code.CardShape
@@ -157,6 +171,7 @@ reading_of Free part bytes = free_fields bytes
 reading_of Fixed (Some section.Sense) bytes = free_fields bytes
 reading_of Fixed part bytes = fixed_fields bytes
 
+-- what a line leads to from a state, or what is wrong with it
 unfoldable pub step : SizeLimits → Style → State → Line (List ℕ) → Outcome
 step limits style s (Text bytes) = on_reading limits style s (reading_of style s.part bytes)
 step limits style s (Long len) = Err code.Limit
@@ -165,6 +180,7 @@ step limits style s Over = Err code.Cut
 
 -- ---- a whole text
 
+-- what a whole text is: the model that it spells, or the first wrong line with its fault
 pub data Verdict : Type 0 where
   Spelled : (model : Model) → Verdict
   Refused : (line : ℕ) → (code : Code) → Verdict
@@ -188,7 +204,7 @@ SpellsWithin limits style lines m = judge limits style start 1 lines ≡ Spelled
 abbrev pub RefusesWithin : SizeLimits → Style → List (Line (List ℕ)) → ℕ → Code → Type 0
 RefusesWithin limits style lines n fault = judge limits style start 1 lines ≡ Refused n fault
 
--- the same within the usual limits
+-- the lines spell this model within the usual limits
 abbrev pub Spells : Style → List (Line (List ℕ)) → Model → Type 0
 Spells = SpellsWithin usual_limits
 

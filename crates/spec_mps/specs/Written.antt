@@ -20,12 +20,15 @@ pub data WrittenCard : Type 0 where
   Head : (start : List ℕ) → (fields : Fields) → WrittenCard
   Data : (fields : Fields) → WrittenCard
 
+-- the cards of a text, in their order
 abbrev pub WrittenCards : Type 0
 WrittenCards = List WrittenCard
 
+-- field n with a text
 abbrev pub field_at : ℕ → List ℕ → Field
 field_at n text = record { number = n; text = text }
 
+-- the card of a section, which has one word
 abbrev pub section_card : List ℕ → WrittenCard
 section_card word = Head word []
 
@@ -54,15 +57,18 @@ abbrev pub sense_cards : Sense → WrittenCards
 sense_cards Min = []
 sense_cards Max = section_card (codes "OBJSENSE MAX") ∷ []
 
+-- the word of a row's kind
 abbrev pub kind_word : Kind → List ℕ
 kind_word L = codes "L"
 kind_word G = codes "G"
 kind_word E = codes "E"
 kind_word N = codes "N"
 
+-- the card of a row in ROWS
 abbrev pub row_card : ExactRow → WrittenCard
 row_card r = type_card (kind_word r.kind) r.name
 
+-- the section ROWS: the objective first, then the rows
 unfoldable pub rows_cards : Model → WrittenCards
 rows_cards m = section_card (codes "ROWS") ∷ type_card (codes "N") m.objective ∷ map row_card m.rows
 
@@ -70,6 +76,7 @@ rows_cards m = section_card (codes "ROWS") ∷ type_card (codes "N") m.objective
 abbrev pub column_cards : Model → ExactColumn → WrittenCards
 column_cards m c = number_card c.name m.objective c.cost ∷ map (λ e. number_card c.name (row m e.0).name e.1) c.entries
 
+-- the section COLUMNS, one column after the other
 unfoldable pub columns_cards : Model → WrittenCards
 columns_cards m = section_card (codes "COLUMNS") ∷ flat_map (column_cards m) m.columns
 
@@ -88,9 +95,11 @@ abbrev pub range_cards : Name → Option ℚ → WrittenCards
 range_cards name None = []
 range_cards name (Some v) = number_card (codes "RNG") name v ∷ []
 
+-- whether a row has a range
 abbrev pub has_range : ExactRow → Bool
 has_range r = is_some r.range
 
+-- the section RANGES, where a row has a range
 unfoldable pub ranges_cards : Model → WrittenCards
 ranges_cards m =
     if list_any has_range m.rows then section_card (codes "RANGES")
@@ -112,14 +121,17 @@ bound_cards name (Some l) (Some u) =
     else (if eq_ℚ l 0ℚ && lt_ℚ 0ℚ u then bound_card (codes "UP") name u
     ∷ [] else bound_card (codes "LO") name l ∷ bound_card (codes "UP") name u ∷ [])
 
+-- whether a column has other bounds than the usual ones
 abbrev pub has_bounds : ExactColumn → Bool
 has_bounds c = not (is_usual c.lower c.upper)
 
+-- the section BOUNDS, where a column has other bounds than the usual ones
 unfoldable pub bounds_cards : Model → WrittenCards
 bounds_cards m =
     if list_any has_bounds m.columns then section_card (codes "BOUNDS")
     ∷ flat_map (λ c. bound_cards c.name c.lower c.upper) m.columns else []
 
+-- the cards of a model, section by section
 unfoldable pub cards_of : Model → WrittenCards
 cards_of m =
     name_card m.name ∷ sense_cards m.sense ++ rows_cards m
@@ -128,12 +140,13 @@ cards_of m =
 
 -- ---- lines
 
--- the column of fixed form in which a field begins, and the most bytes that it holds
+-- the column of fixed form in which field n begins
 abbrev pub first_column : ℕ → ℕ
 first_column n =
     if n == 1 then 2
     else (if n == 2 then 5 else (if n == 3 then 15 else (if n == 4 then 25 else (if n == 5 then 40 else 50))))
 
+-- the most bytes that field n of fixed form holds
 abbrev pub field_width : ℕ → ℕ
 field_width n = if n == 1 then 2 else (if n == 4 || n == 6 then 12 else 8)
 
@@ -142,10 +155,12 @@ abbrev pub padded : Style → ℕ → List ℕ → List ℕ
 padded Free n line = line ++ 32 ∷ []
 padded Fixed n line = line ++ replicate (first_column n - 1 - length line) 32
 
+-- a line with these fields behind it
 abbrev pub with_fields : Style → List ℕ → Fields → List ℕ
 with_fields style line [] = line
 with_fields style line (f ∷ fs) = with_fields style (padded style f.number line ++ f.text) fs
 
+-- the line of a card
 abbrev pub line_text : Style → WrittenCard → List ℕ
 line_text style (Head start fields) = with_fields style start fields
 line_text style (Data fields) = with_fields style [] fields
@@ -154,14 +169,17 @@ line_text style (Data fields) = with_fields style [] fields
 abbrev pub cards_text : Style → WrittenCards → List ℕ
 cards_text style cards = flat_map (λ card. line_text style card ++ 10 ∷ []) cards
 
+-- the text of a model in free form
 unfoldable pub free : Model → List ℕ
 free m = cards_text Free (cards_of m)
 
+-- the text of a model in fixed form
 unfoldable pub fixed : Model → List ℕ
 fixed m = cards_text Fixed (cards_of m)
 
 -- ---- what fixed form has no place for
 
+-- whether a field has more bytes than fixed form has room for
 abbrev pub is_wide : Field → Bool
 is_wide f = nat_lt (field_width f.number) (length f.text)
 
@@ -174,5 +192,6 @@ data_fields (Data fields) = fields
 abbrev pub first_wide : WrittenCards → Option (List ℕ)
 first_wide cards = option_map (λ f. f.text) (find is_wide (flat_map data_fields cards))
 
+-- the first text of a model that has no room in fixed form, if there is one
 unfoldable pub too_wide : Model → Option (List ℕ)
 too_wide m = first_wide (cards_of m)
