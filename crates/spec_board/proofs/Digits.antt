@@ -1,4 +1,8 @@
--- The bits of each column of a word.
+-- The two bits that each column has in a word.
+--
+-- `next_power`: 2 ^ (2 n + 2) is 4 times 2 ^ (2 n).
+-- `word_fits`: a word of n columns has 2 n bits.
+-- `digit_is`: bits 2 k and 2 k + 1 of a word are the code of the column k after its first one.
 use Rattle.std.proofs.Common.{◌≡◌, ℕ, zero, suc, ◌+◌, ◌*◌, ◌/◌, ◌%◌, ◌^◌, ◌<◌, sym, ap, ◌∙◌, arith}
 use Rattle.std.proofs.lemmas.Nat.{pow-add, shr-shr}
 use Rattle.spec_board.specs.Words.{word_from}

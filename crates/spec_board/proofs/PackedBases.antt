@@ -1,4 +1,9 @@
 -- Packed words are the words of their basis, and well-formed words of a form's shape have one of its bases.
+--
+-- `unpacked_length`: words that say n columns unpack to n statuses.
+-- `unpacked_at`: the status of a column of the words is the one at its place in the unpacked basis.
+-- `front_is`: the first 25 packed words of a form and a basis are the shape of the form.
+-- `same_bases`: a basis of one form is one of each form of the same shape.
 use Rattle.std.proofs.Common.{◌≡◌, ℕ, ◌+◌, ◌*◌, ◌/◌, ◌%◌, ◌^◌, ◌<◌, ◌≤◌, List, length, get_or, take}
 use Rattle.std.proofs.Common.{Option, Some, None, true, false, refl, sym, ap, ap₂, ◌∙◌, subst, arith}
 use Rattle.std.proofs.lemmas.List.{ext_get_or, get_or-take, take_at}

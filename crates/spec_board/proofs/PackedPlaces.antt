@@ -1,4 +1,21 @@
--- What stands where in packed words.
+-- Which words, and which bits of them, packed words have for the rows, the columns and the statuses.
+--
+-- `form_small`: the code of a column's bounds is less than 4.
+-- `basis_small`: the code of a column's status is less than 4.
+-- `form_unused`: beyond the columns and rows of a form the code of bounds is 0.
+-- `basis_unused`: beyond the statuses of a basis the code of a status is 0.
+-- `shape_length`: a shape has 25 words.
+-- `packed_length`: the packed words of a basis are 49.
+-- `front_word`: the first 25 words of a packed basis are those of its form's shape.
+-- `shape_bits`: the bits of a column in the shape are the code of its bounds.
+-- `front_bits`: the bits of a column in front of the packed words are the code of its bounds.
+-- `basis_bits`: the bits of a column behind the shape are the code of its status.
+-- `shape_rows`: word 0 of a form's shape has the form's number of rows.
+-- `shape_cols`: word 0 of a form's shape has the form's number of structural columns.
+-- `packed_rows`: word 0 of a packed basis has the form's number of rows.
+-- `packed_cols`: word 0 of a packed basis has the form's number of structural columns.
+-- `packed_columns`: word 0 of a packed basis has the form's number of structural and logical columns.
+-- `packed_small`: each packed word is less than 2 ^ 64.
 use Rattle.std.proofs.Common.{◌≡◌, ℕ, suc, ◌+◌, ◌-◌, ◌*◌, ◌/◌, ◌%◌, ◌^◌, ◌<◌, ◌≤◌, List}
 use Rattle.std.proofs.Common.{length, get_or, Option, Some, None, refl, ap, ap₂, ◌∙◌, arith}
 use Rattle.std.proofs.lemmas.List.{length-append, get_or_past, get_or_append_left, get_or-append_right}

@@ -1,4 +1,12 @@
--- The places with one more, and with another one at a place.
+-- The list of places that are claimed, with one more behind it, and with another place at a number.
+--
+-- `place_more`: with one more place behind them, the places before have their numbers.
+-- `place_last`: the place that is put behind n places has number n.
+-- `some_same`: where `Some p` is `Some q`, p is q.
+-- `place_before`: a place of the longer list is one of the places before, or the new one.
+-- `length_with`: another place at a number leaves the number of places as it was.
+-- `with_same`: where number k had a place, it has the new one after the change at k.
+-- `with_other`: a change at number j leaves the places at all other numbers.
 use Rattle.std.proofs.Common.{◌≡◌, ℕ, zero, suc, List, [], ◌∷◌, ◌++◌, Some, length, refl, Option, sym, ◌⊎◌, inl, inr}
 use Rattle.std.proofs.Common.{ap}
 use Rattle.spec_board.specs.Places.{ExactPlace, place_at, with_place}

@@ -8,7 +8,7 @@ use Rattle.spec_board.specs.Places.{ExactPlace, IsShown, Logged, Plays}
 
 -- ---- the reads of one
 
--- each pair of an earlier and a later one
+-- the relation holds of each member of the list and each later one
 abbrev pub InPairs : {X : Type 0} → (X → X → Type 0) → List X → Type 0
 InPairs R [] = Unit {0}
 InPairs R (x ∷ xs) = AllByRecursion (R x) xs × InPairs R xs
@@ -28,6 +28,7 @@ AreInOrder earlier later = Unit {0}
 
 -- ---- the reads of all
 
+-- the place that a read says its reader wrote, in a list; none for each other read
 abbrev pub published_by : ExactRead → List ℕ
 published_by (Done k words) = k ∷ []
 published_by other = []
@@ -52,11 +53,11 @@ pub record AreBacked (all : List ExactRead) : Type 0 where
 
 -- ---- the reads of all, in one order
 
--- a session is one worker's, by its number
+-- the reads of one worker, which serves the sessions whose number leaves its own when divided by `workers`
 abbrev pub log_of_worker : ℕ → ℕ → List Logged → List Logged
 log_of_worker workers worker log = filter (λ x. x.session % workers == worker) log
 
--- So many workers made these reads. There is one order of all of them, in which those of each worker stand as it made
+-- `workers` workers made these reads. There is one order of all of them, in which those of each worker stand as it made
 -- them, and each is answered by the places as they are then. No place is claimed at first.
 pub record HaveOneOrder (places workers : ℕ) (logs : ℕ → List Logged) : Type 0 where
   pub log : List Logged

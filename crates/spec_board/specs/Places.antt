@@ -15,16 +15,18 @@ place_at [] k = None
 place_at (p ∷ ps) zero = Some p
 place_at (p ∷ ps) (suc k) = place_at ps k
 
+-- the places with `new` at number k, where there is a place of that number
 abbrev pub with_place : List ExactPlace → ℕ → ExactPlace → List ExactPlace
 with_place [] k new = []
 with_place (p ∷ ps) zero new = new ∷ ps
 with_place (p ∷ ps) (suc k) new = p ∷ with_place ps k new
 
--- all its words, or those in front
+-- what is read of a place: all its words, or only those in front, which are the shape
 abbrev pub IsShown : Words → Words → Type 0
 IsShown payload words = (words ≡ payload) ⊎ (words ≡ front payload)
 
--- With so many places in all, and these claimed, a session may make this read, and then these are claimed.
+-- With `places` places in all, of which those in `now` are claimed, a session may make this read, and then those in
+-- `next` are claimed.
 abbrev pub Answers : ℕ → List ExactPlace → ℕ → ExactRead → List ExactPlace → Type 0
 Answers places now session (Count c) next = (c ≡ length now) × (next ≡ now)
 Answers places now session (NotDone k) next = (owner : ℕ) × (place_at now k ≡ Some (place.Claimed owner)) × (next ≡ now)
@@ -36,11 +38,12 @@ Answers places now session (Lost c) next = (c ≡ length now) × (next ≡ now)
 Answers places now session (Done k words) next =
     (place_at now k ≡ Some (place.Claimed session)) × (next ≡ with_place now k (place.Done words))
 
--- a read of a session
+-- one read, with the session that made it
 pub record Logged : Type 0 where
   pub session : ℕ
   pub read : ExactRead
 
+-- the reads of one session, each with the session's number
 abbrev pub logged : ℕ → List ExactRead → List Logged
 logged session reads = map (λ read. record { session = session; read = read }) reads
 

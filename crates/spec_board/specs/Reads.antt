@@ -8,24 +8,29 @@ use Rattle.spec_board.specs.declared.read.Put.TheVariants.{Published, Full, Race
 use Rattle.spec_board.specs.declared.read.Read.{Read}
 use Rattle.spec_board.specs.declared.read.Read.TheVariants.{Count, NotDone, Seen, Claim, Lost, Done}
 
+-- the words of one place
 abbrev pub Words : Type 0
 Words = List ℕ
 
+-- a read or write of the places, with lists of words
 abbrev pub ExactRead : Type 0
 ExactRead = Read Words
 
 -- ---- the words of a place
 
--- a basis has so many words, of which those in front are its shape
+-- the number of words of a basis
 abbrev pub basis_words : ℕ
 basis_words = 49
 
+-- the number of words in front of a basis, which are the shape of its form
 abbrev pub shape_words : ℕ
 shape_words = 25
 
+-- the words in front, which are the shape
 abbrev pub front : Words → Words
 front words = take shape_words words
 
+-- whether words begin with a shape
 abbrev pub has_shape : Words → Words → Bool
 has_shape shape words = same (front words) shape
 
@@ -56,7 +61,7 @@ SeesDown shape (suc k) (Seen j words ∷ reads) found =
     (j ≡ k) × SeenBy (has_shape shape words) k words reads found (SeesDown shape k reads found)
 SeesDown shape (suc k) (other ∷ reads) found = ⊥
 
--- a look: how many places are claimed, and then these places from the newest down
+-- a look reads how many places are claimed, and then these places from the newest down
 pub record LookReads (shape : Words) (reads : List ExactRead) (found : Looked) : Type 0 where
   pub count : ℕ
   pub seen : List ExactRead
@@ -65,8 +70,8 @@ pub record LookReads (shape : Words) (reads : List ExactRead) (found : Looked) :
 
 -- ---- puts
 
--- With so many places, a put of these words: one is claimed and written; or another session was quicker; or all are
--- claimed.
+-- A put of words among `places` places. It claims one and writes it; or another session was quicker, and e are claimed;
+-- or all are claimed.
 abbrev pub PutReads : ℕ → Words → Put → List ExactRead → Type 0
 PutReads places words (Published k) reads = (k < places) × (reads ≡ Count k ∷ Claim k ∷ Done k words ∷ [])
 PutReads places words (Raced e) reads = (c : ℕ) × (c < e) × (reads ≡ Count c ∷ Lost e ∷ [])

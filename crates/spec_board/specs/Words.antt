@@ -22,12 +22,14 @@ bounds_code (Some l) None = 1
 bounds_code None (Some u) = 2
 bounds_code (Some l) (Some u) = 3
 
+-- the two bits for a status
 abbrev pub status_code : Status → ℕ
 status_code Basic = 0
 status_code AtLower = 1
 status_code AtUpper = 2
 status_code AtZero = 3
 
+-- the status that two bits stand for
 abbrev pub status_of : ℕ → Status
 status_of zero = Basic
 status_of (suc zero) = AtLower
@@ -61,9 +63,11 @@ abbrev pub code_at : ℕ → List ℕ → ℕ → ℕ
 code_at first words c = get_or words (first + c / 32) 0 / 2 ^ (2 * (c % 32)) % 4
 
 -- ---- of a form and a basis
+-- the two bits for the bounds of column c of a form
 abbrev pub form_code : Form → ℕ → ℕ
 form_code f c = bounds_code (form_lower f c) (form_upper f c)
 
+-- the two bits for the status of column c in a basis
 abbrev pub basis_code : List Status → ℕ → ℕ
 basis_code basis c = status_code (basis_at basis c)
 
@@ -76,18 +80,23 @@ unfoldable pub packed : Form → List Status → List ℕ
 packed f basis = shape_of f ++ words_of (basis_code basis)
 
 -- ---- of words
+-- the number of rows, by word 0
 abbrev pub rows_of : List ℕ → ℕ
 rows_of words = get_or words 0 0 / 65536
 
+-- the number of structural columns, by word 0
 abbrev pub cols_of : List ℕ → ℕ
 cols_of words = get_or words 0 0 % 65536
 
+-- the number of structural and logical columns
 abbrev pub columns_of : List ℕ → ℕ
 columns_of words = cols_of words + rows_of words
 
+-- the two bits for the bounds of column c
 abbrev pub bounds_at : List ℕ → ℕ → ℕ
 bounds_at words c = code_at 1 words c
 
+-- the status of column c
 abbrev pub status_at : List ℕ → ℕ → Status
 status_at words c = status_of (code_at 25 words c)
 
