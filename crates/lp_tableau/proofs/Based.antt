@@ -1,4 +1,7 @@
 -- The tableau of a basis, from its parts.
+--
+-- `written_back`: a list that was lent whole and is written back is the list that the call left.
+-- `lent_is`: the tableau of columns that were lent whole and written back is that of the columns which the call left.
 use Rattle.std.proofs.Common.{◌≡◌, ℕ, ◌+◌, ◌<◌, List, ◌++◌, length, take, get_or, replicate}
 use Rattle.std.proofs.Common.{IfSome, Option, Some, None, Result, Ok, Err, false, cond, refl, sym, ap, ap₂, ◌∙◌, arith}
 use Rattle.std.specs.Prelude.{slice_set}

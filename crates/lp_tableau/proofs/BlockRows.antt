@@ -1,4 +1,12 @@
--- The rows of a block.
+-- Rows that are kept one after the other in one block, and the places of the block at which their entries are.
+--
+-- `length-rows_of`: the rows of a block are as many as were asked for.
+-- `at-rows_of`: the entry of row i in column k is the item of the block at place i * n + k.
+-- `inside`: where m rows have width n, place i * n + k is one of the block's m * n places.
+-- `row_width`: where a block has m * n items, each of its m rows has n.
+-- `place_in`: the place of an entry is inside the block, and no number on the way to it overflows.
+-- `row_in`: a row of the rows that a block is seen as is one of the block's m rows.
+-- `narrow_rows`: where all items of a block are within the limit, all entries of its rows are.
 use Rattle.std.proofs.Common.{◌≡◌, ℕ, zero, suc, ◌+◌, ◌*◌, ◌<◌, ◌≤◌, List, [], ◌∷◌, length}
 use Rattle.std.proofs.Common.{take, drop, get_or, refl, sym, subst, ap, ap₂, ◌∙◌, arith}
 use Rattle.std.proofs.Math.ListN.{set}

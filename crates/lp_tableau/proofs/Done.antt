@@ -1,4 +1,23 @@
--- Lists whose items are replaced one after the other, from the start, and rows among rows.
+-- Lists whose items are replaced one after the other, from the first on, and rows among rows that are replaced so.
+--
+-- `none_done`: a list is done up to item 0 before any item is replaced.
+-- `one_done`: where a list is done up to item k and item k becomes what the run gives, it is done up to item k + 1.
+-- `all_done`: where a list of n items is done up to item n, the run over all items gives it.
+-- `as_before`: where a list is done up to item k, item k is as it was.
+-- `no_row_done`: a row among rows is done up to item 0 before any item is replaced.
+-- `one_row_done`: where row p is done up to item k and item k is replaced by the run's, it is done up to k + 1.
+-- `row_all_done`: where row p has n items and is done up to item n, the run over the row and its write give the rows.
+-- `row_stops`: where row p is done up to item k, and the run refuses item k, the run over the row is refused so.
+-- `row_as_before`: where row p is done up to item k, its item k is as it was.
+-- `others_as_before`: where a row is done up to some item, each other row is as it was.
+-- `other_as_before`: where a row is done up to some item, each item of another row is as it was.
+-- `grid_row`: where m rows have width n, each of them has n items.
+-- `row_inside`: a row number below m is one of the list of m rows.
+-- `column_inside`: where m rows have width n, a column number below n is inside each row.
+-- `grid_set`: m rows of width n stay such where one entry is replaced.
+-- `row_finished`: where a loop over row p ends at n, the run over the row and its write give the rows.
+-- `list_finished`: where a loop over a list of n items ends at n, the run over all items gives the list.
+-- `item_is`: an item that was read inside the list is the list's item, whatever default is asked with.
 use Rattle.std.proofs.Common.{◌≡◌, ◌≢◌, ℕ, ◌+◌, ◌<◌, ◌≤◌, List, [], length, take}
 use Rattle.std.proofs.Common.{drop, get_or, Ok, Err, refl, sym, ap, ◌∙◌, subst, arith}
 use Rattle.std.proofs.Math.ListN.{set}

@@ -1,4 +1,9 @@
--- The elimination, column by column.
+-- Elimination: the form's equations solved for the basic columns, one column after the other.
+--
+-- `none_more`: where no position below k is open for a column, and k is not, none below k + 1 is.
+-- `open_at`: where k is open and none below it is, k is the least open position.
+-- `open_entry`: the entry of an open position in the column is not 0.
+-- `one_inside`: columns that are all below n stay so where a position gets a column below n.
 use Rattle.std.proofs.Common.{◌≡◌, ◌≢◌, ℕ, zero, suc, ◌+◌, ◌-◌, ◌<◌, List, length, get_or}
 use Rattle.std.proofs.Common.{replicate, IfSome, Option, Some, None, Result, Ok, Err, Bool, true}
 use Rattle.std.proofs.Common.{false, not, ◌&&◌, cond, refl, sym, ap, ap₂, ◌∙◌, subst, arith}

@@ -1,4 +1,7 @@
--- The coefficients of a form's columns, put into rows of zeros.
+-- The coefficients of a form's columns, written into rows of zeros.
+--
+-- `none_put`: where the columns below j are written, column j has none of its entries yet.
+-- `all_put`: where all entries of column j are written, the rows have the coefficients of the columns below j + 1.
 use Rattle.std.proofs.Common.{◌≡◌, ◌≢◌, ℕ, suc, ◌+◌, ◌-◌, ◌*◌, ◌<◌, ◌≤◌, List, [], ◌∷◌, length, replicate}
 use Rattle.std.proofs.Common.{drop, get_or, cond, ne_eqb, sym, subst, subst₂, ap, ◌∙◌, arith, ⊎_elim}
 use Rattle.std.proofs.Math.ListN.{set}

@@ -1,4 +1,11 @@
 -- Lists that grow by one item after the other.
+--
+-- `more_made`: a front, then f 0 .. f (n - 1), pushed with f n is the front, then f 0 .. f n.
+-- `more_flat`: n rows one after the other, with row n after them, are n + 1 rows one after the other.
+-- `more_mapped`: the images of the first i items, pushed with the image of item i, are those of the first i + 1.
+-- `all_mapped`: where i is at least the length, the images of the first i items are those of all.
+-- `all_made`: at the end of a range of m numbers the list has its front, then f 0 .. f (m - 1).
+-- `filled_up`: a list that is resized by k items has its own items, then the same item k times.
 use Rattle.std.proofs.Common.{◌≡◌, ℕ, ◌+◌, ◌-◌, ◌<◌, ◌≤◌, List, [], ◌∷◌, ◌++◌, length, map, take, get_or, replicate}
 use Rattle.std.proofs.Common.{sym, ap, ap₂, ◌∙◌, append_assoc, arith, add-one}
 use Rattle.std.proofs.lemmas.List.{map-append, take_more, take_all}

@@ -1,4 +1,7 @@
 -- An operation with the negative of an operand gives the negative, and is refused where that without it is.
+--
+-- `quotient_signed`: where v / w gives z, the quotient of v with a sign gives z with that sign.
+-- `less_signed`: where s - v * w gives z, with one sign on w and s it gives z with that sign.
 use Rattle.std.proofs.Common.{◌≡◌, ℕ, ◌*◌, ◌/◌, Option, Some, None, Ok, Err, Bool, true, false, ◌&&◌, cond, ℤ}
 use Rattle.std.proofs.Common.{pos, neg_ℤ, ◌+ℤ◌, ◌*ℤ◌, int_div, unsigned_abs, [], ◌∷◌, refl, sym, ap, ap₂, ◌∙◌}
 use Rattle.std.proofs.lemmas.Int.{unsigned_abs-mul}

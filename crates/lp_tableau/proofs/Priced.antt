@@ -1,4 +1,10 @@
--- Reduced costs, and the change to phase two.
+-- Reduced costs of a tableau for given costs, and the change to phase two.
+--
+-- `reduced_same`: the reduced cost of a column does not depend on the reduced costs that the tableau has.
+-- `repriced_again`: a tableau that was repriced and gets other reduced costs is still the first one repriced.
+-- `phase_two_gives`: fixing the artificials and pricing at the form's costs gives, or refuses, what the run of phase
+--   two does.
+-- `free_passed`: a basic column of cost 0 may be passed over in the sum of a reduced cost.
 use Rattle.std.proofs.Common.{◌≡◌, ℕ, ◌+◌, List, Option, Some, Ok, Err, Result, sym, subst, ap, ◌∙◌}
 use Rattle.std.specs.Prelude.{⊤}
 use Rattle.spec_exact.specs.Fraction.{ℚ, 0ℚ}

@@ -1,4 +1,12 @@
 -- The columns in which a row is not 0, and the operations with 0 that are passed over.
+--
+-- `less_no_times`: s - v * w is s where v is 0, and is not refused where w and s are within the limit.
+-- `less_times_no`: s - v * w is s where w is 0, and is not refused where v and s are within the limit.
+-- `one_listed`: the list of columns in which a row is not 0, with column n added, covers the columns up to n.
+-- `zero_passed`: the list of columns in which a row is not 0 covers column n too where the row is 0 there.
+-- `set_out`: before any entry is replaced, clearing a row is on its way along the listed columns.
+-- `none_cleared`: where the multiple is 0, the row with nothing taken off is the row cleared in all columns.
+-- `not_moved`: a basic column whose entry in the moving column is 0 keeps its value.
 use Rattle.std.proofs.Common.{◌≡◌, ℕ, zero, suc, ◌+◌, ◌-◌, ◌<◌, ◌≤◌, List, [], ◌∷◌, ◌++◌, length}
 use Rattle.std.proofs.Common.{take, drop, get_or, Some, Ok, sym, ap, ◌∙◌, subst, arith, ⊎_elim}
 use Rattle.std.proofs.Math.ListN.{set}

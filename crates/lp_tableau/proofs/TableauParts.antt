@@ -1,4 +1,10 @@
 -- The tableau that a form begins with, from its parts.
+--
+-- `begun_shape`: the tableau that a form begins with has the shape of a tableau.
+-- `equations_are`: where each row starts within its limits, the rows of the start are the form's equations.
+-- `twins_are`: the rows of the start without artificial columns, with a twin of each logical, are those of the start.
+-- `is_twinned`: the rows of the start without artificial columns are as wide as rows with twins must be.
+-- `begun_is`: a tableau whose parts are those of the start is the tableau that the form begins with.
 use Rattle.std.proofs.Common.{◌≡◌, ℕ, zero, suc, ◌+◌, ◌-◌, ◌*◌, ◌<◌, ◌≤◌, List, [], ◌∷◌, ◌++◌, length, take}
 use Rattle.std.proofs.Common.{drop, map, replicate, Option, Some, Ok, Err, Bool, true, false, cond, refl}
 use Rattle.std.proofs.Common.{sym, subst, subst₂, ap, ap₂, ◌∙◌, arith, append_assoc, ⊎_elim, nat_eq, ne_eqb}
