@@ -1,4 +1,7 @@
--- Where the conditions that no point is feasible hold, the run without a limit says yes.
+-- Where the conditions that no point is feasible hold, the run without a limit accepts the certificate.
+--
+-- `infeasible_all`: Farkas multipliers that meet the conditions are accepted by the run without a limit.
+-- `clash_all`: a column whose bounds clash is accepted by the run without a limit.
 use Rattle.std.proofs.Common.{◌≡◌, ℕ, List, Option, Some, None, Ok, Bool, true, false, cond}
 use Rattle.std.proofs.Common.{Ordering, Less, Equal, Greater, refl, sym, ap, ap₂, ◌∙◌, subst}
 use Rattle.std.specs.Ordering.{is_lt, is_gt}

@@ -1,4 +1,7 @@
--- Where the run says yes that no point is feasible, the conditions hold.
+-- Where the run accepts that no point is feasible, the conditions hold.
+--
+-- `infeasible_ok`: Farkas multipliers that the run accepts meet the conditions, and the run says infeasible.
+-- `clash_ok`: a column that the run accepts as a clash has bounds that clash, and the run says infeasible.
 use Rattle.std.proofs.Common.{◌≡◌, ℕ, ◌<◌, List, Option, Some, None, Ok, Bool}
 use Rattle.std.proofs.Common.{true, false, cond, refl, sym, ap, ◌∙◌, subst}
 use Rattle.std.specs.Prelude.{⊤}

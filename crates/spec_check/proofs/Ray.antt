@@ -1,4 +1,7 @@
 -- Along a ray feasible points get better without limit.
+--
+-- `length-made`: the list of f 0 to f (n - 1) has n numbers.
+-- `unbounded_holds`: a model with a feasible point and an improving ray from it is unbounded.
 use Rattle.std.proofs.Common.{◌≡◌, ℕ, zero, suc, pos, ◌<◌, List, [], ◌∷◌, length, Option}
 use Rattle.std.proofs.Common.{Some, None, IfSome, refl, sym, ap, ◌∙◌, subst, subst₂, arith}
 use Rattle.spec_exact.specs.Fraction.{whole, ℚ, ◌+ℚ◌, ◌-ℚ◌, ◌*ℚ◌, neg_ℚ, 0ℚ, 1ℚ, ◌≤ℚ◌, ◌<ℚ◌, inverse, floor}

@@ -1,4 +1,24 @@
--- What the steps of a run without a limit give: sums, limits, comparisons, and conditions 1 and 2.
+-- The steps of a run without a limit succeed: sums, limits, comparisons, and conditions 1 and 2.
+--
+-- `then_ok`: where a step succeeds and what follows it succeeds, both together succeed.
+-- `comes`: an operation that gives a result succeeds with that result.
+-- `need_true`: a condition whose test holds succeeds.
+-- `each_all`: conditions that all succeed, succeed one after the other.
+-- `from_all`: steps that each add their term give the start and the sum of the terms.
+-- `added`: an addition without a limit succeeds with the sum.
+-- `taken`: a subtraction without a limit succeeds with the difference.
+-- `multiplied`: a multiplication without a limit succeeds with the product.
+-- `plus_all`: adding a product without a limit succeeds with s + v w.
+-- `less_all`: subtracting a product without a limit succeeds with s - v w.
+-- `sum_all`: a sum of products without a limit succeeds with that sum.
+-- `lower_all`: the lower limit of a row comes out exact without a limit of numbers.
+-- `upper_all`: the upper limit of a row comes out exact without a limit of numbers.
+-- `ordered`: a comparison without a limit succeeds with the order.
+-- `stands_test`: the test that a limit is v passes where it is v.
+-- `tight_test`: the test that a value is at the limit a multiplier asks for passes where it is.
+-- `columns_all`: condition 1, on the columns' bounds, succeeds at a feasible point without a limit.
+-- `activity_all`: the activity of a row comes out exact without a limit.
+-- `rows_all`: condition 2, on the rows' limits, succeeds at a feasible point without a limit.
 use Rattle.std.proofs.Common.{◌≡◌, ℕ, zero, suc, ◌<◌, List, Option, Some, None, Ok, IfSome, Bool, true}
 use Rattle.std.proofs.Common.{false, not, cond, Ordering, Less, Equal, Greater, refl, sym, ap, ◌∙◌, arith}
 use Rattle.std.specs.Prelude.{⊤}

@@ -1,4 +1,29 @@
--- What the steps of a run that says yes show: sums, limits, comparisons, and a feasible point.
+-- What the steps of a run that accepts a certificate show: sums, limits, comparisons, and a feasible point.
+--
+-- `after_ok`: where two steps succeed together, the first one succeeds, and the second one does with its result.
+-- `step_ok`: an operation that succeeds gave its result.
+-- `need_ok`: the test of a condition that succeeds holds.
+-- `last`: a number below n + 1 is below n or equal to n.
+-- `each_ok`: where conditions succeed one after the other, each of them does.
+-- `sum_ok`: steps that each add their term give, where they succeed, the start and the sum of the terms.
+-- `some_ok_at`: where n steps succeed, each of them succeeds from some number to some number.
+-- `plus_ok`: adding a product gives, where it succeeds, s + v w.
+-- `less_ok`: subtracting a product gives, where it succeeds, s - v w.
+-- `products_ok`: a sum of products gives, where it succeeds, that sum.
+-- `added`: an addition gives, where it succeeds, the sum.
+-- `lower_ok`: the lower limit of a row that comes out is the exact one.
+-- `upper_ok`: the upper limit of a row that comes out is the exact one.
+-- `least_from`: where v does not compare as less than k, k is at most v.
+-- `most_from`: where v does not compare as greater than k, v is at most k.
+-- `less_from`: where v compares as less than k, v is below k.
+-- `greater_from`: where v compares as greater than k, k is below v.
+-- `compared`: a comparison gives, where it succeeds, the order of its operands.
+-- `at_least_ok`: where the condition of a lower limit succeeds, the limit is at most the value, or absent.
+-- `at_most_ok`: where the condition of an upper limit succeeds, the value is at most the limit, or it is absent.
+-- `stands_from`: where the test that a limit is v passes, it is v.
+-- `tight_from`: where the test passes, the value is at the limit that the multiplier asks for.
+-- `activity_ok`: the activity of a row that comes out is the exact one.
+-- `feasible_ok`: a point that conditions 1 and 2 accept, with a value for each column, is feasible.
 use Rattle.std.proofs.Common.{◌≡◌, ℕ, zero, suc, ◌<◌, List, length, Option, Some, None}
 use Rattle.std.proofs.Common.{Ok, Err, IfSome, Bool, true, false, not, cond, Ordering, Less}
 use Rattle.std.proofs.Common.{Equal, Greater, refl, sym, ap, ◌∙◌, subst, arith, ⊎_elim}

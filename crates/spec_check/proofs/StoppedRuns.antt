@@ -1,4 +1,8 @@
--- Two operations are steps one after the other, and a stop at a place stops the run over the places.
+-- Adding or subtracting a product takes two steps, and a condition that fails ends the conditions of all places.
+--
+-- `plus_is`: adding a product is a multiplication and then an addition.
+-- `less_is`: subtracting a product is a multiplication and then a subtraction.
+-- `each_stops`: where condition k fails after k that succeed, all n conditions fail with its error.
 use Rattle.std.proofs.Common.{◌≡◌, ℕ, ◌<◌, Option, Ok, Err}
 use Rattle.std.specs.Prelude.{⊤}
 use Rattle.spec_exact.specs.Fraction.{ℚ}

@@ -9,14 +9,15 @@ use Rattle.spec_check.specs.declared.certificate.Certificate.TheVariants.{Optima
 use Rattle.spec_check.specs.declared.certificate.Known.{Known}
 use Rattle.spec_check.specs.declared.certificate.Known.TheVariants as known
 
--- the lists have a number for each column or each row, and the column that is named is one
+-- a certificate for a model: its lists have a number for each column or row, and the column that it names is one of the
+-- model's
 abbrev pub IsFor : {F : Type 0} → Model → Certificate (List F) → Type 0
 IsFor m (Optimal x y) = (length x ≡ width m) × (length y ≡ height m)
 IsFor m (Infeasible y) = length y ≡ height m
 IsFor m (Clash j) = j < width m
 IsFor m (Unbounded x r) = (length x ≡ width m) × (length r ≡ width m)
 
--- all its numbers are of at most 127 bits
+-- all numbers of a certificate have at most 127 bits
 abbrev pub IsNarrowCertificate : Certificate (List ℚ) → Type 0
 IsNarrowCertificate (Optimal x y) = All IsNarrow x × All IsNarrow y
 IsNarrowCertificate (Infeasible y) = All IsNarrow y
@@ -30,6 +31,7 @@ shown m (Infeasible y) = known.Infeasible
 shown m (Clash j) = known.Infeasible
 shown m (Unbounded x r) = known.Unbounded
 
+-- what a certificate shows is true of the model
 abbrev pub Holds : Model → Known ℚ → Type 0
 Holds m (known.Optimal v) = IsOptimal m v
 Holds m known.Infeasible = IsInfeasible m

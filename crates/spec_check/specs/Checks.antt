@@ -10,12 +10,12 @@ use Rattle.spec_model.specs.Truth.{IsFeasible}
 use Rattle.spec_check.specs.declared.certificate.Certificate.{Certificate}
 use Rattle.spec_check.specs.declared.certificate.Certificate.TheVariants.{Optimal, Infeasible, Clash, Unbounded}
 
--- the cost to be made least
+-- a cost that is to be least, whatever the sense: for a maximum it is negated
 abbrev pub signed : Sense → ℚ → ℚ
 signed Min q = q
 signed Max q = neg_ℚ q
 
--- the multipliers' part in a column
+-- the sum of a column's coefficients times the multipliers of their rows
 abbrev pub priced : Model → List ℚ → ℕ → ℚ
 priced m y j = sum_below (height m) (λ i. part y i *ℚ coefficient m i j)
 
@@ -25,7 +25,7 @@ reduced m y j = signed m.sense (cost m j) -ℚ priced m y j
 
 -- ---- a point that is optimal
 
--- with a multiplier d above 0 the value v is the lower limit, with one below 0 the upper
+-- the value v is at the limit that the multiplier d asks for: with d above 0 the lower limit, with d below 0 the upper
 pub record IsTight (l : Limits) (d v : ℚ) : Type 0 where
   pub above : 0ℚ <ℚ d → l.lower ≡ Some v
   pub below : d <ℚ 0ℚ → l.upper ≡ Some v
@@ -38,19 +38,21 @@ pub record ChecksOptimal (m : Model) (x y : List ℚ) : Type 0 where
 
 -- ---- rows that no point satisfies together
 
--- a multiplier d above 0 has the lower limit, one below 0 the upper
+-- the limit that the multiplier d asks for is there: with d above 0 the lower limit, with d below 0 the upper
 pub record HasLimit (l : Limits) (d : ℚ) : Type 0 where
   pub above : 0ℚ <ℚ d → (b : ℚ) × (l.lower ≡ Some b)
   pub below : d <ℚ 0ℚ → (b : ℚ) × (l.upper ≡ Some b)
 
+-- a limit, or 0 where it is absent
 abbrev pub or_zero : Option ℚ → ℚ
 or_zero None = 0ℚ
 or_zero (Some b) = b
 
--- that limit
+-- the limit that the multiplier d asks for, or 0 where it asks for none
 abbrev pub asked : Limits → ℚ → ℚ
 asked l d = cond (lt_ℚ 0ℚ d) (or_zero l.lower) (cond (lt_ℚ d 0ℚ) (or_zero l.upper) 0ℚ)
 
+-- the lower and the upper limit change places
 abbrev pub turned_limits : Limits → Limits
 turned_limits l = record { lower = l.upper; upper = l.lower }
 
@@ -58,7 +60,7 @@ turned_limits l = record { lower = l.upper; upper = l.lower }
 abbrev pub rows_ask : Model → List ℚ → ℚ
 rows_ask m y = sum_below (height m) (λ i. part y i *ℚ asked (limits m i) (part y i))
 
--- the most that the columns' bounds let that sum be
+-- the most that the bounds of the columns let the same sum be
 abbrev pub columns_give : Model → List ℚ → ℚ
 columns_give m y = sum_below (width m) (λ j. priced m y j *ℚ asked (turned_limits (bounds m j)) (priced m y j))
 
@@ -79,7 +81,7 @@ pub record ChecksClash (m : Model) (j : ℕ) : Type 0 where
 
 -- ---- a ray along which feasible points get better without limit
 
--- limits that a value may move by r from for good
+-- a value within these limits may move by any multiple of r: no limit stops it
 pub record Allows (l : Limits) (r : ℚ) : Type 0 where
   pub lower : IfSome l.lower (λ _. 0ℚ ≤ℚ r)
   pub upper : IfSome l.upper (λ _. r ≤ℚ 0ℚ)
@@ -91,6 +93,7 @@ pub record ChecksUnbounded (m : Model) (x r : List ℚ) : Type 0 where
   pub rows : (i : ℕ) → i < height m → Allows (limits m i) (activity m r i)
   pub better : signed m.sense (cost_of m r) <ℚ 0ℚ
 
+-- the conditions under which a certificate is accepted
 abbrev pub Checks : Model → Certificate (List ℚ) → Type 0
 Checks m (Optimal x y) = ChecksOptimal m x y
 Checks m (Infeasible y) = ChecksInfeasible m y

@@ -35,43 +35,48 @@ abbrev pub need : ℕ → Bool → Run ⊤
 need n true = Ok tt
 need n false = Err (stop.No n)
 
--- f 0, f 1 .. f (n - 1)
+-- the conditions f 0, f 1 .. f (n - 1) in order, up to the first that fails
 abbrev pub each : ℕ → (ℕ → Run ⊤) → Run ⊤
 each n f = steps n (λ k _. f k) tt
 
--- s and v * w more, or less
+-- s + v * w
 abbrev pub plus_product : Option ℕ → ℚ → ℚ → ℚ → Run ℚ
 plus_product limit v w s = refused_as stop.Past (exact.plus_product limit v w s)
 
+-- s - v * w
 abbrev pub less_product : Option ℕ → ℚ → ℚ → ℚ → Run ℚ
 less_product limit v w s = refused_as stop.Past (exact.less_product limit v w s)
 
--- a sum of products
+-- the sum of f k * g k for k below n
 abbrev pub sum_run : Option ℕ → ℕ → (ℕ → ℚ) → (ℕ → ℚ) → Run ℚ
 sum_run limit n f g = steps n (λ k s. plus_product limit (f k) (g k) s) 0ℚ
 
 -- ---- a row's limits
+-- the lower limit of a row, or the refusal of its operation
 abbrev pub lower_run : Option ℕ → ExactRow → Run (Option ℚ)
 lower_run limit r = refused_as stop.Past (model.lower_run limit r)
 
+-- the upper limit of a row, or the refusal of its operation
 abbrev pub upper_run : Option ℕ → ExactRow → Run (Option ℚ)
 upper_run limit r = refused_as stop.Past (model.upper_run limit r)
 
 -- ---- tests
--- v is at least, and at most, a limit
+-- condition n asks that v is at least a lower limit
 abbrev pub at_least : ℕ → Option ℕ → Option ℚ → ℚ → Run ⊤
 at_least n limit None v = Ok tt
 at_least n limit (Some k) v = step Cmp v k (compare limit v k) >>= λ o. need n (not (is_lt o))
 
+-- condition n asks that v is at most an upper limit
 abbrev pub at_most : ℕ → Option ℕ → Option ℚ → ℚ → Run ⊤
 at_most n limit None v = Ok tt
 at_most n limit (Some k) v = step Cmp v k (compare limit v k) >>= λ o. need n (not (is_gt o))
 
--- the limit is there, and is v
+-- a limit is there, and is v
 abbrev pub stands_at : Option ℚ → ℚ → Bool
 stands_at None v = false
 stands_at (Some k) v = eq_ℚ k v
 
+-- the value v is at the limit that the multiplier d asks for
 abbrev pub is_tight : Limits → ℚ → ℚ → Bool
 is_tight l d v = cond (lt_ℚ 0ℚ d) (stands_at l.lower v) (cond (lt_ℚ d 0ℚ) (stands_at l.upper v) true)
 
@@ -80,18 +85,22 @@ abbrev pub column_within_run : Option ℕ → Model → List ℚ → ℕ → Run
 column_within_run limit m x j =
     at_least 1 limit (bounds m j).lower (part x j) >>= λ _. at_most 1 limit (bounds m j).upper (part x j)
 
+-- condition 1: each value is within its column's bounds
 abbrev pub columns_run : Option ℕ → Model → List ℚ → Run ⊤
 columns_run limit m x = each (width m) (column_within_run limit m x)
 
+-- the activity of row i at the point z
 abbrev pub activity_run : Option ℕ → Model → List ℚ → ℕ → Run ℚ
 activity_run limit m z i = sum_run limit (width m) (λ j. coefficient m i j) (λ j. part z j)
 
+-- condition 2 of row i: its activity is within its limits
 abbrev pub row_within_run : Option ℕ → Model → List ℚ → ℕ → Run ⊤
 row_within_run limit m x i =
     activity_run limit m x i >>= λ v.
     lower_run limit (row m i) >>= λ l. at_least 2 limit l v >>= λ _.
     upper_run limit (row m i) >>= λ u. at_most 2 limit u v
 
+-- condition 2 of all rows
 abbrev pub rows_run : Option ℕ → Model → List ℚ → Run ⊤
 rows_run limit m x = each (height m) (row_within_run limit m x)
 
@@ -100,10 +109,12 @@ abbrev pub reduced_run : Option ℕ → Model → List ℚ → ℕ → Run ℚ
 reduced_run limit m y j =
     steps (height m) (λ i d. less_product limit (part y i) (coefficient m i j) d) (signed m.sense (cost m j))
 
+-- condition 3 of column j: its value is at the bound that its reduced cost asks for
 abbrev pub column_tight_run : Option ℕ → Model → List ℚ → List ℚ → ℕ → Run ⊤
 column_tight_run limit m x y j = reduced_run limit m y j >>= λ d. need 3 (is_tight (bounds m j) d (part x j))
 
--- The sum and the limit that the multiplier's sign asks for are those of condition 2, taken again.
+-- Condition 4 of row i: its activity is at the limit that its multiplier asks for. Activity and limit are computed
+-- again.
 abbrev pub row_tight_run : Option ℕ → Model → List ℚ → List ℚ → ℕ → Run ⊤
 row_tight_run limit m x y i =
     cond (lt_ℚ 0ℚ (part y i))
@@ -115,9 +126,11 @@ row_tight_run limit m x y i =
 abbrev pub cost_run : Option ℕ → Model → List ℚ → Run ℚ
 cost_run limit m z = sum_run limit (width m) (cost m) (λ j. part z j)
 
+-- the value of the objective at the point z
 abbrev pub value_run : Option ℕ → Model → List ℚ → Run ℚ
 value_run limit m z = cost_run limit m z >>= λ s. step Add s m.offset (add limit s m.offset)
 
+-- the run on a certificate that a point is optimal
 abbrev pub optimal_run : Option ℕ → Model → List ℚ → List ℚ → Run (Known ℚ)
 optimal_run limit m x y =
     columns_run limit m x >>= λ _. rows_run limit m x >>= λ _.
@@ -126,34 +139,39 @@ optimal_run limit m x y =
 
 -- ---- rows that no point satisfies together
 
--- d times a limit that condition n asks for, onto s
+-- s + d * b for a limit b, which condition n asks to be there
 abbrev pub weighed_at : ℕ → Option ℕ → ℚ → Option ℚ → ℚ → Run ℚ
 weighed_at n limit d None s = Err (stop.No n)
 weighed_at n limit d (Some b) s = plus_product limit d b s
 
--- the limit of a row is the one that the multiplier's sign asks for
+-- s + y_i * b, where b is the limit of row i that its multiplier y_i asks for
 abbrev pub row_asks_run : Option ℕ → Model → List ℚ → ℕ → ℚ → Run ℚ
 row_asks_run limit m y i s =
     cond (lt_ℚ 0ℚ (part y i)) (lower_run limit (row m i) >>= λ l. weighed_at 1 limit (part y i) l s)
     (cond (lt_ℚ (part y i) 0ℚ) (upper_run limit (row m i) >>= λ u. weighed_at 1 limit (part y i) u s) (Ok s))
 
+-- s + d * b for the limit b that d asks for, which condition n asks to be there
 abbrev pub weighed : ℕ → Option ℕ → Limits → ℚ → ℚ → Run ℚ
 weighed n limit l d s =
     cond (lt_ℚ 0ℚ d) (weighed_at n limit d l.lower s) (cond (lt_ℚ d 0ℚ) (weighed_at n limit d l.upper s) (Ok s))
 
+-- the sum of column j's coefficients times the multipliers of their rows
 abbrev pub priced_run : Option ℕ → Model → List ℚ → ℕ → Run ℚ
 priced_run limit m y j = sum_run limit (height m) (λ i. part y i) (λ i. coefficient m i j)
 
--- a column's multipliers' part above 0 asks for the upper bound, one below 0 for the lower
+-- s + g * b, where g is that sum of column j, and b its upper bound where g is above 0, its lower bound where g is below
 abbrev pub column_gives_run : Option ℕ → Model → List ℚ → ℕ → ℚ → Run ℚ
 column_gives_run limit m y j s = priced_run limit m y j >>= λ g. weighed 2 limit (turned_limits (bounds m j)) g s
 
+-- the least that the limits let the sum of all rows be, each of them times its multiplier
 abbrev pub rows_ask_run : Option ℕ → Model → List ℚ → Run ℚ
 rows_ask_run limit m y = steps (height m) (row_asks_run limit m y) 0ℚ
 
+-- the most that the bounds of the columns let the same sum be
 abbrev pub columns_give_run : Option ℕ → Model → List ℚ → Run ℚ
 columns_give_run limit m y = steps (width m) (column_gives_run limit m y) 0ℚ
 
+-- the run on Farkas multipliers
 abbrev pub infeasible_run : Option ℕ → Model → List ℚ → Run (Known ℚ)
 infeasible_run limit m y =
     rows_ask_run limit m y >>= λ asked. columns_give_run limit m y >>= λ given.
@@ -161,57 +179,64 @@ infeasible_run limit m y =
 
 -- ---- a column whose lower bound is above its upper bound
 
+-- the lower bound is there and above the upper bound
 abbrev pub crossed_run : Option ℕ → Option ℚ → Option ℚ → Run ⊤
 crossed_run limit None upper = Err (stop.No 1)
 crossed_run limit (Some l) None = Err (stop.No 1)
 crossed_run limit (Some l) (Some u) = step Cmp l u (compare limit l u) >>= λ o. need 1 (is_gt o)
 
+-- the run on a column whose bounds clash
 abbrev pub clash_run : Option ℕ → Model → ℕ → Run (Known ℚ)
 clash_run limit m j = crossed_run limit (bounds m j).lower (bounds m j).upper >>= λ _. Ok known.Infeasible
 
 -- ---- a ray: conditions 3 to 5, after those of a feasible point
 
--- a lower limit asks that r is at least 0, an upper one that it is at most 0
+-- where there is a lower limit, r is at least 0
 abbrev pub not_below : Option ℚ → ℚ → Bool
 not_below None r = true
 not_below (Some k) r = not (lt_ℚ r 0ℚ)
 
+-- where there is an upper limit, r is at most 0
 abbrev pub not_above : Option ℚ → ℚ → Bool
 not_above None r = true
 not_above (Some k) r = not (lt_ℚ 0ℚ r)
 
+-- condition 3 of column j: no bound stops a move along the ray
 abbrev pub column_allows_run : Model → List ℚ → ℕ → Run ⊤
 column_allows_run m r j =
     need 3 (not_below (bounds m j).lower (part r j)) >>= λ _. need 3 (not_above (bounds m j).upper (part r j))
 
--- The limits are those of condition 2, taken again.
+-- Condition 4 of row i: no limit stops a move along the ray. The limits are computed again.
 abbrev pub row_allows_run : Option ℕ → Model → List ℚ → ℕ → Run ⊤
 row_allows_run limit m r i =
     activity_run limit m r i >>= λ s.
     lower_run limit (row m i) >>= λ l. need 4 (not_below l s) >>= λ _.
     upper_run limit (row m i) >>= λ u. need 4 (not_above u s)
 
+-- condition 5: the objective improves along the ray
 abbrev pub better_run : Option ℕ → Model → List ℚ → Run ⊤
 better_run limit m r = cost_run limit m r >>= λ s. need 5 (lt_ℚ (signed m.sense s) 0ℚ)
 
+-- the run on a certificate that the model is unbounded
 abbrev pub unbounded_run : Option ℕ → Model → List ℚ → List ℚ → Run (Known ℚ)
 unbounded_run limit m x r =
     columns_run limit m x >>= λ _. rows_run limit m x >>= λ _.
     each (width m) (column_allows_run m r) >>= λ _. each (height m) (row_allows_run limit m r) >>= λ _.
     better_run limit m r >>= λ _. Ok known.Unbounded
 
+-- the run on a certificate
 unfoldable pub check_run : Option ℕ → Model → Certificate (List ℚ) → Run (Known ℚ)
 check_run limit m (Optimal x y) = optimal_run limit m x y
 check_run limit m (Infeasible y) = infeasible_run limit m y
 check_run limit m (Clash j) = clash_run limit m j
 check_run limit m (Unbounded x r) = unbounded_run limit m x r
 
--- what is said of the certificate
+-- the verdict on a certificate, by the end of its run
 abbrev pub verdict_of : Run (Known ℚ) → Verdict ℚ
 verdict_of (Ok known) = verdict.Yes known
 verdict_of (Err (stop.No n)) = verdict.No n
 verdict_of (Err (stop.Past p)) = verdict.Past p
 
--- the same outcome, or a refusal in the first
+-- both runs end alike, or an operation of the first is refused
 unfoldable pub Agrees : {A : Type 0} → Run A → Run A → Type 0
 Agrees o u = (o ≡ u) ⊎ ((p : Past ℚ) × (o ≡ Err (stop.Past p)))

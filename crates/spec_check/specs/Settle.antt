@@ -15,36 +15,39 @@ use Rattle.spec_check.specs.declared.certificate.SettleFault.{SettleFault}
 use Rattle.spec_check.specs.declared.certificate.SettleFault.TheVariants.{UnknownName, Repeated}
 use Rattle.spec_check.specs.Raw.{PartOf, RawOf, ExactRaw, ExactKind}
 
+-- a result, or the name that does not fit the model
 abbrev pub Settled : Type 0 → Type 0
 Settled A = Result A (SettleFault Name)
 
+-- the next step goes on with a result; a fault ends all
 infixl 1 ◌>>=◌
 abbrev pub ◌>>=◌ : {A B : Type 0} → Settled A → (A → Settled B) → Settled B
 (Ok a) >>= next = next a
 (Err fault) >>= next = Err fault
 
--- a place in the model, or the name that is not known
+-- the number that was found for a name, or the fault that the name is unknown
 abbrev pub known : Option ℕ → Name → Settled ℕ
 known None name = Err (UnknownName name)
 known (Some k) name = Ok k
 
--- the column or the row that a part is for
+-- the number of the column or row that a part is for, if its name is known
 abbrev pub place_of : Model → Letter → Name → Option ℕ
 place_of m X name = column_place m name
 place_of m Y name = row_place m name
 place_of m R name = column_place m name
 
+-- a list of n zeros
 abbrev pub zeros : ℕ → List ℚ
 zeros n = replicate n 0ℚ
 
--- the certificate of this kind in which all numbers are this one
+-- the certificate of this kind in which each number is v
 unfoldable pub blank : {F : Type 0} → F → Model → ExactKind → Settled (Certificate (List F))
 blank v m kind.Optimal = Ok (Optimal (replicate (width m) v) (replicate (height m) v))
 blank v m kind.Infeasible = Ok (Infeasible (replicate (height m) v))
 blank v m kind.Unbounded = Ok (Unbounded (replicate (width m) v) (replicate (width m) v))
 blank v m (kind.Clash name) = known (column_place m name) name >>= λ j. Ok (Clash j)
 
--- the certificate with this number in its place
+-- the certificate with v as the number of column or row k under this letter
 abbrev pub with_value : {F : Type 0} → Letter → ℕ → F → Certificate (List F) → Certificate (List F)
 with_value X j v (Optimal x y) = Optimal (slice_set x j v) y
 with_value Y i v (Optimal x y) = Optimal x (slice_set y i v)
@@ -53,6 +56,7 @@ with_value X j v (Unbounded x r) = Unbounded (slice_set x j v) r
 with_value R j v (Unbounded x r) = Unbounded x (slice_set r j v)
 with_value letter k v cert = cert
 
+-- two letters are the same
 abbrev pub same_letter : Letter → Letter → Bool
 same_letter X X = true
 same_letter Y Y = true
@@ -63,14 +67,14 @@ same_letter a b = false
 abbrev pub is_given : {F : Type 0} → Letter → Name → List (PartOf F) → Bool
 is_given letter name parts = list_any (λ p. same_letter p.letter letter && same p.name name) parts
 
--- one part, after those before it
+-- the certificate with one part more, or why that part does not fit
 unfoldable pub put : {F : Type 0} → Model → List (PartOf F) → PartOf F → Certificate (List F) →
     Settled (Certificate (List F))
 put m before p cert =
     known (place_of m p.letter p.name) p.name >>= λ k.
     if is_given p.letter p.name before then Err (Repeated p.name) else Ok (with_value p.letter k p.value cert)
 
--- each part in order, up to the first whose name is not known or was given before
+-- the certificate with more parts, in order, up to the first whose name is unknown or was given before
 abbrev pub put_all : {F : Type 0} → Model → List (PartOf F) → List (PartOf F) → Certificate (List F) →
     Settled (Certificate (List F))
 put_all m before [] cert = Ok cert
@@ -80,6 +84,6 @@ put_all m before (p ∷ parts) cert = put m before p cert >>= λ next. put_all m
 unfoldable pub certificate_by : {F : Type 0} → F → Model → RawOf F → Settled (Certificate (List F))
 certificate_by v m raw = blank v m raw.kind >>= λ cert. put_all m [] raw.parts cert
 
--- what is not named is 0
+-- the certificate of these parts, in which what is not named is 0
 abbrev pub certificate_for : Model → ExactRaw → Settled (Certificate (List ℚ))
 certificate_for m raw = certificate_by 0ℚ m raw
