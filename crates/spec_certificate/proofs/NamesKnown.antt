@@ -1,4 +1,9 @@
 -- The names by which the parts of a certificate are placed.
+--
+-- `column_word`: the name of a column of a kept model is one word.
+-- `columns_named`: in a kept model the names of the columns are words that lead to the columns, for the letter `x`.
+-- `rays_named`: in a kept model the names of the columns are words that lead to the columns, for the letter `r`.
+-- `rows_named`: in a kept model the names of the rows are words that lead to the rows, for the letter `y`.
 use Rattle.std.proofs.Common.{◌≡◌, ℕ, ◌<◌, false, Some}
 use Rattle.spec_text.specs.Words.{same}
 use Rattle.spec_model.specs.Model.{Model, Name, no_row, no_column, width, height}

@@ -1,4 +1,8 @@
--- The parts that are written of a certificate, put into their places.
+-- The parts that a certificate is written as, put into their places, give the certificate's numbers.
+--
+-- `put_more`: putting two lists of parts is putting the first and then the second.
+-- `free_at_first`: no part among none has a given letter.
+-- `free_behind`: parts of one letter have no part of another letter among them.
 use Rattle.std.proofs.Common.{◌≡◌, ℕ, zero, suc, ◌+◌, ◌-◌, ◌<◌, ◌≤◌, ◌&&◌, ◌||◌, Bool, true, false, cond, Ok, Err}
 use Rattle.std.proofs.Common.{List, [], ◌∷◌, ◌++◌, length, take, refl, sym, ap, ap₂, ◌∙◌, append_assoc, arith}
 use Rattle.std.specs.Prelude.{slice_set}

@@ -1,4 +1,9 @@
 -- A written certificate is read back.
+--
+-- `read_back`: the written text of a certificate of a kept model, with numbers of 127 bits, is read as that
+--   certificate.
+-- `wide_read_back`: the written text of a certificate of a kept model, whose numbers have short enough texts, is read
+--   as that certificate.
 use Rattle.std.proofs.Common.{◌≡◌, ℕ, ◌<◌, true, false, Some, None, Ok, List, [], ◌∷◌, ◌++◌, length}
 use Rattle.std.proofs.Common.{map, get_or, refl, sym, ap, ◌∙◌, subst, append_assoc, arith}
 use Rattle.std.specs.Prelude.{codes, All, slice_set}

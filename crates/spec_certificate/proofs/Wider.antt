@@ -1,4 +1,7 @@
--- What one way to read numbers reads another reads too, so what a text spells by the one it spells by the other.
+-- A text that is read with numbers of 127 bits is read alike with numbers of any width.
+--
+-- `is_read`: a text that is read as a number of 127 bits is read as the same number of any width.
+-- `spelled_wide`: lines that spell a certificate with numbers of 127 bits spell it with numbers of any width.
 use Rattle.std.proofs.Common.{◌≡◌, ℕ, ◌+◌, Bool, true, false, cond, Option, Some, None, List, [], ◌∷◌, ◌⊎◌, inl, inr}
 use Rattle.std.proofs.Common.{refl, sym, ap, ◌∙◌}
 use Rattle.spec_text.specs.declared.line.Line.{Line}

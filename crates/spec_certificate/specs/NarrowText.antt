@@ -14,9 +14,11 @@ value_in (Is value) = Some value
 value_in Shape = None
 value_in Wide = None
 
+-- how the text of a number of 127 bits is read
 abbrev pub narrow : Reading ℚ
 narrow text = value_in (number_of text)
 
+-- each definition below is that of Text by the same name, for numbers of 127 bits
 abbrev pub Outcome : Type 0
 Outcome = OutcomeOf ℚ
 

@@ -21,10 +21,11 @@ Reading F = List ℕ → Option F
 
 -- ---- one line
 
+-- the letter that a word is
 unfoldable pub letter_of : List ℕ → Option Letter
 letter_of word = look_up word ((codes "x", X) ∷ (codes "y", Y) ∷ (codes "r", R) ∷ [])
 
--- the letters of each kind
+-- a certificate of this kind has parts with this letter
 abbrev pub takes : ExactKind → Letter → Bool
 takes Optimal X = true
 takes Optimal Y = true
@@ -44,10 +45,12 @@ kind_of (word ∷ []) =
 kind_of (word ∷ name ∷ []) = if same word (codes "CLASH") then Some (Clash name) else None
 kind_of words = None
 
+-- the part with this letter and name, where there is a value
 abbrev pub valued : {F : Type 0} → Letter → Name → Option F → Option (PartOf F)
 valued letter name None = None
 valued letter name (Some value) = Some (record { letter = letter; name = name; value = value })
 
+-- the part with this letter and name, where the kind takes the letter and the text is that of a number
 abbrev pub lettered : {F : Type 0} → Reading F → ExactKind → Option Letter → Name → List ℕ → Option (PartOf F)
 lettered read kind None name text = None
 lettered read kind (Some letter) name text = if takes kind letter then valued letter name (read text) else None
@@ -57,6 +60,7 @@ unfoldable pub part_by : {F : Type 0} → Reading F → ExactKind → List (List
 part_by read kind (word ∷ name ∷ text ∷ []) = lettered read kind (letter_of word) name text
 part_by read kind words = None
 
+-- the words of a line are END
 unfoldable pub is_end : List (List ℕ) → Bool
 is_end (word ∷ []) = same word (codes "END")
 is_end words = false
@@ -65,20 +69,23 @@ is_end words = false
 abbrev pub OutcomeOf : Type 0 → Type 0
 OutcomeOf F = Progress (RawOf F)
 
+-- the first line leads to a certificate without parts, where it says a kind
 abbrev pub opened : {F : Type 0} → Option ExactKind → OutcomeOf F
 opened None = Unfit
 opened (Some kind) = More (record { kind = kind; parts = [] })
 
+-- a later line leads to a certificate with one part more, where it says a part
 abbrev pub with_part : {F : Type 0} → RawOf F → Option (PartOf F) → OutcomeOf F
 with_part raw None = Unfit
 with_part raw (Some p) = More (record raw { parts = raw.parts ++ p ∷ [] })
 
--- by the words of a line, after nothing or after a kind and its parts so far
+-- what the words of a line lead to, after nothing or after a kind and its parts so far
 abbrev pub words_step : {F : Type 0} → Reading F → Option (RawOf F) → List (List ℕ) → OutcomeOf F
 words_step read None words = opened (kind_of words)
 words_step read (Some raw) words =
     if is_end words then Done raw else with_part raw (part_by read raw.kind words)
 
+-- what a line leads to, after nothing or after a kind and its parts so far
 unfoldable pub step_by : {F : Type 0} → Reading F → Option (RawOf F) → Line (List ℕ) → OutcomeOf F
 step_by read so_far (line.Text bytes) = words_step read so_far (words_of bytes)
 step_by read so_far (line.Long len) = Unfit
@@ -93,18 +100,19 @@ LeadsBy {F} read so_far (line ∷ lines) after =
 
 -- ---- a whole text
 
--- it spells a certificate, or this line is the first that does not fit
+-- a text spells a certificate, or this line is the first that does not fit
 pub data JudgementOf (F : Type 0) : Type 0 where
   Spelled : (raw : RawOf F) → JudgementOf F
   Refused : (line : ℕ) → JudgementOf F
 
--- what follows a step at line n
+-- the judgement of a text after a step at line n; `next` judges the lines behind it
 abbrev pub settled : {F : Type 0} → ℕ → (RawOf F → JudgementOf F) → OutcomeOf F → JudgementOf F
 settled n next (More raw) = next raw
 settled n next (Done raw) = Spelled raw
 settled n next Unfit = Refused n
 
--- The first of the lines is line n. Where they end too early, the line that would come next does not fit.
+-- The judgement of lines of which the first is line n. Where they end too early, the line that would come next does not
+-- fit.
 abbrev pub judge_by : {F : Type 0} → Reading F → Option (RawOf F) → ℕ → List (Line (List ℕ)) → JudgementOf F
 judge_by read so_far n [] = Refused n
 judge_by read so_far n (line ∷ lines) =
@@ -118,7 +126,7 @@ SpellsBy read lines raw = judge_by read None 1 lines ≡ Spelled raw
 abbrev pub RefusesBy : {F : Type 0} → Reading F → List (Line (List ℕ)) → ℕ → Type 0
 RefusesBy read lines n = judge_by read None 1 lines ≡ Refused n
 
--- exactly one of the two, with one certificate or one line
+-- a text spells one certificate or is refused at one line, and never both
 pub record IsJudged {F : Type 0} (read : Reading F) (lines : List (Line (List ℕ))) : Type 0 where
   pub some : ((raw : RawOf F) × SpellsBy read lines raw) ⊎ ((n : ℕ) × RefusesBy read lines n)
   pub one_certificate : (raw other : RawOf F) → SpellsBy read lines raw → SpellsBy read lines other → raw ≡ other

@@ -21,20 +21,21 @@ pub record IsReadBackBy (read : Reading ℚ) (write : Writing ℚ) (m : Model) (
   pub spelled : (more : List (Line (List ℕ))) → SpellsBy read (map Text (certificate_lines_by write m cert) ++ more) raw
   pub settled : certificate_for m raw ≡ Ok cert
 
--- with numbers of 127 bits, and of any width
+-- a certificate is read back, with numbers of 127 bits
 abbrev pub IsReadBack : Model → Certificate (List ℚ) → Type 0
 IsReadBack = IsReadBackBy narrow narrow_writing
 
+-- a certificate is read back, with numbers of any width
 abbrev pub IsWidelyReadBack : Model → Certificate (List ℚ) → Type 0
 IsWidelyReadBack = IsReadBackBy wide wide_writing
 
--- this holds of all its numbers
+-- P holds of all numbers of a certificate
 abbrev pub AllNumbers : (ℚ → Type 0) → Certificate (List ℚ) → Type 0
 AllNumbers P (Optimal x y) = All P x × All P y
 AllNumbers P (Infeasible y) = All P y
 AllNumbers P (Clash j) = Unit {0}
 AllNumbers P (Unbounded x r) = All P x × All P r
 
--- its text has at most as many bytes as a power of ten may have zeros
+-- the text of v has at most as many bytes as a power of ten may have zeros
 abbrev pub IsShortNumber : ℚ → Type 0
 IsShortNumber v = length (wide_text v) ≤ most_zeros

@@ -19,44 +19,50 @@ pub record Writing (F : Type 0) : Type 0 where
 abbrev pub writing_of : (ℚ → List ℕ) → Writing ℚ
 writing_of text = record { none = 0ℚ; is_none = λ v. eq_ℚ v 0ℚ; text = text }
 
--- as numbers of 127 bits, and as numbers of any width
+-- fractions, as numbers of 127 bits
 abbrev pub narrow_writing : Writing ℚ
 narrow_writing = writing_of number_text
 
+-- fractions, as numbers of any width
 abbrev pub wide_writing : Writing ℚ
 wide_writing = writing_of wide_text
 
+-- the word of a letter
 abbrev pub letter_text : Letter → List ℕ
 letter_text X = codes "x"
 letter_text Y = codes "y"
 letter_text R = codes "r"
 
--- the letter, the name and the number, with one blank between
+-- the text of a part: the letter, the name and the number, with one blank between
 abbrev pub part_text_by : {F : Type 0} → Writing F → Letter → Name → F → List ℕ
 part_text_by write letter name v = letter_text letter ++ 32 ∷ (name ++ 32 ∷ write.text v)
 
--- a number that is 0 has no line
+-- the line of a part, or none where its number is 0
 abbrev pub part_lines_by : {F : Type 0} → Writing F → Letter → Name → F → List (List ℕ)
 part_lines_by write letter name v = if write.is_none v then [] else part_text_by write letter name v ∷ []
 
--- the lines of the first n columns, or rows
+-- the lines of the first n columns, or rows, in order
 abbrev pub lines_below_by : {F : Type 0} → Writing F → Letter → (ℕ → Name) → List F → ℕ → List (List ℕ)
 lines_below_by write letter names values zero = []
 lines_below_by write letter names values (suc n) =
     lines_below_by write letter names values n ++ part_lines_by write letter (names n) (get_or values n write.none)
 
+-- the lines of all columns
 abbrev pub column_lines_by : {F : Type 0} → Writing F → Model → Letter → List F → List (List ℕ)
 column_lines_by write m letter values = lines_below_by write letter (λ j. (column m j).name) values (width m)
 
+-- the lines of all rows
 abbrev pub row_lines_by : {F : Type 0} → Writing F → Model → Letter → List F → List (List ℕ)
 row_lines_by write m letter values = lines_below_by write letter (λ i. (row m i).name) values (height m)
 
+-- the first line, which says the kind
 abbrev pub kind_text : {F : Type 0} → Model → Certificate (List F) → List ℕ
 kind_text m (Optimal x y) = codes "OPTIMAL"
 kind_text m (Infeasible y) = codes "INFEASIBLE"
 kind_text m (Unbounded x r) = codes "UNBOUNDED"
 kind_text m (Clash j) = codes "CLASH" ++ 32 ∷ (column m j).name
 
+-- the lines between the first one and END
 abbrev pub all_part_lines_by : {F : Type 0} → Writing F → Model → Certificate (List F) → List (List ℕ)
 all_part_lines_by write m (Optimal x y) = column_lines_by write m X x ++ row_lines_by write m Y y
 all_part_lines_by write m (Infeasible y) = row_lines_by write m Y y

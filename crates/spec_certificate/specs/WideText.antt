@@ -10,5 +10,6 @@ wide_in (Is value) = Some value
 wide_in Shape = None
 wide_in Far = None
 
+-- how the text of a number of any width is read
 abbrev pub wide : Reading ℚ
 wide text = wide_in (wide_of text)
