@@ -1,4 +1,7 @@
 -- Structural, logical and artificial columns, and sums over all of them.
+--
+-- `by_kind`: what follows for a structural, for a logical and for an artificial column holds.
+-- `sum_by_kind`: a sum over all columns is the sum over structural, logical and artificial columns.
 use Rattle.std.proofs.Common.{◌≡◌, ℕ, zero, suc, ◌+◌, ◌-◌, ◌<◌, refl, sym, ap, ◌∙◌, arith, lt-ltb, le-ltb}
 use Rattle.spec_exact.specs.Fraction.{ℚ, ◌+ℚ◌}
 use Rattle.spec_exact.specs.Sums.{sum_below}

@@ -1,4 +1,7 @@
--- The column that enters, and that none does.
+-- The run finds the column that enters by Bland's rule, or that none does.
+--
+-- `fixed_means`: bounds that pass the test of being fixed are there, and equal.
+-- `fixed_test`: bounds that are there and equal pass the test of being fixed.
 use Rattle.std.proofs.Common.{◌≡◌, ◌≢◌, ℕ, zero, suc, ◌<◌, Option, Some, None, Bool}
 use Rattle.std.proofs.Common.{true, false, cond, refl, sym, ap, ap₂, ◌∙◌, subst, arith}
 use Rattle.spec_exact.specs.Fraction.{ℚ, 0ℚ, lt_ℚ}

@@ -1,4 +1,10 @@
 -- The tableau that a form begins with is one of the form's equations, and each value is within its bounds.
+--
+-- `sign_square`: the sign of a logical column in the first tableau, times itself, is 1.
+-- `twice`: multiplying twice by a number whose square is 1 changes nothing.
+-- `first_few`: the costs of phase one are at most as many as there are columns.
+-- `start_is_tableau`: the start of a proper form is a tableau of its equations, with values within its bounds.
+-- `start_begins`: the start of a proper form is a first tableau, with the costs of phase one.
 use Rattle.std.proofs.Common.{◌≡◌, ◌⊎◌, inl, inr, ℕ, ◌+◌, ◌-◌, ◌<◌, ◌≤◌, List, [], ◌++◌, length}
 use Rattle.std.proofs.Common.{get_or, map, replicate, Option, Some, None, Ok, Bool}
 use Rattle.std.proofs.Common.{true, false, cond, nat_eq, refl, sym, ap, ap₂, ◌∙◌, subst, arith}

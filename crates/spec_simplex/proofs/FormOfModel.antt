@@ -1,4 +1,7 @@
 -- The form of a model: its parts are the model's, and no bounds clash.
+--
+-- `form_is`: the form of a model has the model's columns and the limits of its rows, and no bounds clash.
+-- `form_proper`: the form of a model has a bound or none for each column, and no bounds clash.
 use Rattle.std.proofs.Common.{◌≡◌, ℕ, ◌+◌, ◌-◌, ◌<◌, List, ◌++◌, length, get_or, map, replicate}
 use Rattle.std.proofs.Common.{Option, Some, None, false, Result, Ok, Err, refl, sym, ap, ap₂, ◌∙◌, subst, subst₂, arith}
 use Rattle.std.specs.declared.cmp.Ordering.{Ordering}

@@ -1,4 +1,7 @@
--- The limits of a row, as the form's run takes them.
+-- The limits of a row, as the run that makes a form computes them.
+--
+-- `limits_ok`: the limits of a row that come out at a limit of numbers are the exact ones.
+-- `limits_ordered`: a row's lower limit is not above its upper one, whatever its kind, right side and range.
 use Rattle.std.proofs.Common.{◌≡◌, Option, Some, None, Ok, Bool, true, false, cond, refl, subst}
 use Rattle.spec_exact.specs.Fraction.{ℚ, 0ℚ, ◌+ℚ◌, ◌-ℚ◌, neg_ℚ, abs_ℚ, lt_ℚ, ◌≤ℚ◌, ◌<ℚ◌}
 use Rattle.spec_exact.proofs.Order.{≤ℚ_from, <ℚ-le, ≤ℚ_refl, lt_if, le_if_not}

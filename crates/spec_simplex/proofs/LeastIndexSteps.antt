@@ -1,4 +1,8 @@
--- A step of the run is a step by the rule of the least index.
+-- A step of the run is a step by Bland's rule.
+--
+-- `ahead_is`: the bound that lies ahead of a column on its way is the other bound that the run names.
+-- `way_is`: a column with a lower bound flips the way in which it may enter.
+-- `choice_is_meant`: what the run chooses in a tableau within its bounds is an end, a flip or a pivot by the rule.
 use Rattle.std.proofs.Common.{◌≡◌, ℕ, ◌+◌, Option, Some, None, Ok, Bool, true, false, refl, sym, ◌∙◌, subst, subst₂}
 use Rattle.spec_exact.specs.Fraction.{ℚ}
 use Rattle.spec_pivot.specs.declared.status.Status.{Status}

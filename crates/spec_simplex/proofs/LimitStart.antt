@@ -1,4 +1,8 @@
--- The form, the start and the steps at a limit beside those without one.
+-- The form, the start and the steps at a limit agree with those without one, or an operation is refused.
+--
+-- `ok`: a run that gives a result agrees with one that gives the same result.
+-- `also`: runs that agree, and go on with runs that agree, agree together.
+-- `form_without`: the form of a model at a limit is its form without one.
 use Rattle.std.proofs.Common.{◌≡◌, ℕ, ◌+◌, List, Option, Some, None, Ok, Bool, nat_eq, ⊎_elim, Result, Err, sym, ◌∙◌}
 use Rattle.std.specs.declared.cmp.Ordering.{Ordering}
 use Rattle.std.specs.declared.cmp.Ordering.TheVariants.{Less, Equal, Greater}

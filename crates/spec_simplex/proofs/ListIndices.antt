@@ -1,4 +1,9 @@
--- Reading lists by an index, past their ends too.
+-- Reading lists by an index, also past their ends.
+--
+-- `by_lt`: what follows for an index below n, and for one of at least n, holds.
+-- `set_reads`: after item i of a list is set to v, reading gives v at i and the old items elsewhere.
+-- `past_rows`: an entry past the last row is 0.
+-- `past_row`: an entry past the end of its row is 0.
 use Rattle.std.proofs.Common.{◌≡◌, ℕ, ◌<◌, ◌≤◌, List, [], length, get_or, set}
 use Rattle.std.proofs.Common.{cond, nat_eq, ap, ◌∙◌, arith, eq-eqb, ne_eqb, ⊎_elim}
 use Rattle.std.proofs.lemmas.Bool.{cases_lt}

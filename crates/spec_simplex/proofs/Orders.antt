@@ -1,4 +1,7 @@
--- What follows where a run compares two numbers, and goes on by their order.
+-- What follows where a run compares two numbers, and goes on according to their order.
+--
+-- `by_order`: what follows from each of the three orders, with the result for it, holds.
+-- `given`: what holds of a result holds of an equal result.
 use Rattle.std.proofs.Common.{◌≡◌, ℕ, Option, Ok, sym, subst}
 use Rattle.std.specs.declared.cmp.Ordering.{Ordering}
 use Rattle.std.specs.declared.cmp.Ordering.TheVariants.{Less, Equal, Greater}

@@ -1,4 +1,11 @@
--- Phase two begins with the values, rows and statuses of phase one's end, where each artificial is 0.
+-- Phase two begins with the values, rows and statuses of phase one's end, where each artificial column is 0.
+--
+-- `some_of`: where some item of a list passes a test, there is an index whose item passes it.
+-- `stands_zero`: a nonbasic value is 0 where the lower bound is 0 and the upper bound is absent or 0.
+-- `zeroed_before`: fixing m bounds from n on at 0 changes no bound before n.
+-- `zeroed_after`: fixing m bounds from n on at 0 makes each of these 0.
+-- `second_phase`: where no artificial is stuck above 0, phase two's start is a tableau within bounds, with the form's
+--   costs.
 use Rattle.std.proofs.Common.{◌≡◌, ◌⊎◌, inr, ⊎_elim, ℕ, zero, suc, ◌+◌, ◌<◌, ◌≤◌, List, []}
 use Rattle.std.proofs.Common.{◌∷◌, length, get_or, Option, Some, None, Ok, Bool, true, false}
 use Rattle.std.proofs.Common.{not, ◌&&◌, ◌||◌, refl, sym, ap, ap₂, ◌∙◌, subst, subst₂, arith}

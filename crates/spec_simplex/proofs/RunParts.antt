@@ -1,5 +1,17 @@
--- What is known of a run's parts where it gives a result: each of them gave one, and operations gave the exact ones. So
--- all that follows holds at each limit.
+-- What is known of a run's parts where the run gives a result: each part gave one, and operations gave the exact ones.
+-- So all that follows holds at each limit.
+--
+-- `then_ok`: where two parts give a result together, the first gives one, and the second does with it.
+-- `refused_ok`: a result of a run whose refusal is another kind of error is the result of the run.
+-- `sum_ok`: an addition that gives a result gives the sum.
+-- `difference_ok`: a subtraction that gives a result gives the difference.
+-- `quotient_ok`: a division that gives a result gives v times the reciprocal of w.
+-- `order_ok`: a comparison that gives a result gives the order.
+-- `plus_ok`: adding a product gives s + v w, where it gives a result.
+-- `less_ok`: subtracting a product gives s - v w, where it gives a result.
+-- `steps_ok`: what holds at first, and is kept by each step, holds after n steps that succeed.
+-- `list_ok`: a run that gives a list of n items gives the result of each item, in order.
+-- `get_or-made`: item i of the list of f 0 to f (n - 1) is f i, where i is below n.
 use Rattle.std.proofs.Common.{◌≡◌, ℕ, zero, suc, ◌<◌, List, [], ◌∷◌, ◌++◌, length, get_or, Option}
 use Rattle.std.proofs.Common.{Result, Ok, Err, refl, sym, ap, ◌∙◌, subst, arith}
 use Rattle.std.specs.declared.cmp.Ordering.{Ordering}

@@ -1,4 +1,7 @@
--- Tables of functions that agree at each index, and bounds at which statuses stand.
+-- Tables whose functions agree at each index are equal, and a nonbasic status and the bounds fix the value.
+--
+-- `same_table`: tables with equal entries, basic columns, values, reduced costs and statuses are equal.
+-- `stand_is`: the value that a nonbasic status and the bounds name is the value of a column with that status.
 use Rattle.std.proofs.Common.{◌≡◌, ℕ, Option, refl, sym, ap, ◌∙◌}
 use Rattle.std.proofs.Math.Path.{fun_ext}
 use Rattle.spec_exact.specs.Fraction.{ℚ}

@@ -1,4 +1,7 @@
--- The ratio test of the run is that of the table.
+-- The ratio test of the run is the ratio test of the table.
+--
+-- `abs_falling`: an entry that is below 0 along the entering column's way has the negative of that as its magnitude.
+-- `abs_rising`: an entry that is above 0 along the entering column's way has that as its magnitude.
 use Rattle.std.proofs.Common.{◌≡◌, ℕ, suc, ◌<◌, Option, Some, None, Ok, Bool, true, false}
 use Rattle.std.proofs.Common.{cond, nat_lt, option_map, refl, sym, ap, ap₂, ◌∙◌, subst}
 use Rattle.std.specs.declared.cmp.Ordering.{Ordering}

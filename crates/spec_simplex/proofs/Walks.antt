@@ -1,5 +1,10 @@
--- Steps of the run up to an end: each of them is a step by the rule, so there are few, and what holds of the first
+-- Steps of the run up to an end: each of them is a step by Bland's rule, so there are few, and what holds of the first
 -- tableau holds of the last.
+--
+-- `then_err`: where two parts end in an error together, the first does, or the second does with the first's result.
+-- `never_spent`: a run of operations never ends with a spent budget.
+-- `stand_still`: each tableau begins a walk of no steps.
+-- `few`: a walk from a tableau has fewer steps than three to the power of the number of columns.
 use Rattle.std.proofs.Common.{◌≡◌, ℕ, zero, suc, ◌+◌, ◌<◌, ◌^◌, Option, Result, Ok, Err, refl, sym, ap, subst, arith}
 use Rattle.spec_exact.specs.Fraction.{ℚ}
 use Rattle.spec_exact.proofs.Results.{ok_same, err_not_ok, ok_not_err}

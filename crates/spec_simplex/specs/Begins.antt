@@ -12,11 +12,11 @@ use Rattle.spec_simplex.specs.Tables.{bounds_of, IsTableauOf, IsWithinBounds}
 abbrev pub form_rows : Form → (ℕ → ℚ) → Matrix
 form_rows f signs r k = by_column f k (neg_ℚ (form_entry f r k)) (λ i. delta r i) (λ i. signs r *ℚ delta r i)
 
--- the signs of the artificials of rows that begin so
+-- the sign of the artificial of row r, by how each row begins
 abbrev pub signs_of : List (RowStart ℚ) → ℕ → ℚ
 signs_of starts r = logical_sign (start_at starts r)
 
--- a bound or none of each column, and no lower one is above the upper one
+-- a form with a bound or none for each column, in which no bounds clash
 pub record IsProper (f : Form) : Type 0 where
   pub all_lower : length f.lower ≡ f.cols + f.rows
   pub all_upper : length f.upper ≡ f.cols + f.rows

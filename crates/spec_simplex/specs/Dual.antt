@@ -27,18 +27,20 @@ pub record Reached : Type 0 where
   pub tableau : Tableau
   pub used : ℕ
 
+-- the tableau u, after one more flip or pivot
 abbrev pub one_more : Reached → Tableau → Reached
 one_more r u = record { tableau = u; used = r.used + 1 }
 
+-- column k flips, unless the budget is spent
 abbrev pub flip_by : Option ℕ → ℕ → Reached → Bool → Result Reached (RunStop ℚ)
 flip_by limit k r true = Err stop.Spent
 flip_by limit k r false = refused_as stop.Past (flip_run limit r.tableau k) >>= λ u. Ok (one_more r u)
 
--- the budget is looked at before a flip takes its first operation
+-- column k flips. The budget is tested before the flip takes its first operation
 abbrev pub flip_next : Option ℕ → ℕ → ℕ → Reached → Result Reached (RunStop ℚ)
 flip_next limit budget k r = flip_by limit k r (nat_le budget r.used)
 
--- Each column that needs its other bound goes there, in order. A flip changes the need of no other column.
+-- the flips: each column that needs its other bound goes there, in order. A flip changes the need of no other column
 unfoldable pub flips_run : Option ℕ → ℕ → Tableau → Result Reached (RunStop ℚ)
 flips_run limit budget t =
     steps (all_columns t) (λ k r. if needs_flip_at r.tableau k then flip_next limit budget k r else Ok r)
@@ -50,6 +52,7 @@ abbrev pub place_below : Tableau → ℕ → ℕ → ℕ
 place_below t k zero = 0
 place_below t k (suc n) = if nat_eq (basic_at t n) k then n else place_below t k n
 
+-- the position of column k
 abbrev pub place_of : Tableau → ℕ → ℕ
 place_of t k = place_below t k t.rows
 
@@ -59,26 +62,29 @@ abbrev pub dual_way_at : Tableau → ℕ → Bool → ℕ → Option Bool
 dual_way_at t p below k =
     if is_fixed (lower_at t k) (upper_at t k) then None else way_by (status_at t k) (directed below (entry_at t p k))
 
--- of equal ratios the first stays
+-- the cheaper of two candidates. Of equal ratios the earlier candidate stays
 abbrev pub cheaper_by : Cheapest ℚ → Cheapest ℚ → Ordering → Cheapest ℚ
 cheaper_by new best Less = new
 cheaper_by new best Equal = best
 cheaper_by new best Greater = best
 
+-- the cheaper of a new candidate and the best so far
 abbrev pub cheaper_run : Option ℕ → Cheapest ℚ → Option (Cheapest ℚ) → Run (Option (Cheapest ℚ))
 cheaper_run limit new None = Ok (Some new)
 cheaper_run limit new (Some best) = order_run limit new.ratio best.ratio >>= λ o. Ok (Some (cheaper_by new best o))
 
--- with column k, whose ratio is the size of its reduced cost divided by the size of its entry
+-- the cheapest candidate after column k, whose ratio is the magnitude of its reduced cost over that of its entry
 abbrev pub cheapest_by : Option ℕ → Tableau → ℕ → ℕ → Option (Cheapest ℚ) → Option Bool → Run (Option (Cheapest ℚ))
 cheapest_by limit t p k best None = Ok best
 cheapest_by limit t p k best (Some up) =
     quotient_run limit (abs_ℚ (reduced_at t k)) (abs_ℚ (entry_at t p k)) >>=
     λ ratio. cheaper_run limit (record { ratio = ratio; col = k }) best
 
+-- the cheapest candidate after column k, if column k may enter
 abbrev pub cheapest_with : Option ℕ → Tableau → ℕ → Bool → ℕ → Option (Cheapest ℚ) → Run (Option (Cheapest ℚ))
 cheapest_with limit t p below k best = cheapest_by limit t p k best (dual_way_at t p below k)
 
+-- the cheapest candidate of all columns: the first with the least ratio
 abbrev pub cheapest_run : Option ℕ → Tableau → ℕ → Bool → Run (Option (Cheapest ℚ))
 cheapest_run limit t p below = steps (all_columns t) (cheapest_with limit t p below) None
 
@@ -87,42 +93,48 @@ cheapest_run limit t p below = steps (all_columns t) (cheapest_with limit t p be
 abbrev pub passed_bound : Bool → Status
 passed_bound below = if below then AtLower else AtUpper
 
+-- a pivot on the cheapest candidate, or the end that no point is feasible where there is none
 abbrev pub dual_choice_by : ℕ → Bool → Option (Cheapest ℚ) → DualChoice
 dual_choice_by p below None = End (Infeasible p below)
 dual_choice_by p below (Some x) = Pivot p x.col (passed_bound below)
 
+-- what the step does where the column at position p leaves
 abbrev pub dual_choice_at : Option ℕ → Tableau → ℕ → Bool → Run DualChoice
 dual_choice_at limit t p below = cheapest_run limit t p below >>= λ best. Ok (dual_choice_by p below best)
 
+-- what the step does, by the leaving column; without one the tableau is optimal
 abbrev pub dual_choice_of : Option ℕ → Tableau → Option Leaving → Run DualChoice
 dual_choice_of limit t None = Ok (End Optimal)
 dual_choice_of limit t (Some x) = dual_choice_at limit t (place_of t x.col) x.below
 
+-- what a step of the dual method does
 unfoldable pub dual_choice_run : Option ℕ → Tableau → Run DualChoice
 dual_choice_run limit t = leaving_run limit t >>= dual_choice_of limit t
 
--- column j moves by what brings column q, at position p, to its bound `to`, and takes the position
+-- column j takes position p, after a move that brings column q from there to its bound `to`
 abbrev pub dual_pivot_by : Option ℕ → Tableau → ℕ → ℕ → ℕ → Status → Run Tableau
 dual_pivot_by limit t p j q to =
     difference_run limit (value_at t q) (stand to (lower_at t q) (upper_at t q)) >>= λ gap.
     quotient_run limit gap (entry_at t p j) >>= λ theta.
     pivot_run limit t p j theta to
 
+-- column j takes position p, after a move that brings its basic column to its bound `to`
 unfoldable pub dual_pivot_run : Option ℕ → Tableau → ℕ → ℕ → Status → Run Tableau
 dual_pivot_run limit t p j to = dual_pivot_by limit t p j (basic_at t p) to
 
 -- ---- steps up to an end
+-- how the dual method ended, with the last tableau and the count of flips and pivots
 pub record DualEnded : Type 0 where
   pub end : DualEnd
   pub tableau : Tableau
   pub used : ℕ
 
--- at an end, or where none is left of the budget
+-- how the steps end where no step is left of the budget
 abbrev pub dual_end_or_spent : Tableau → ℕ → DualChoice → Result DualEnded (RunStop ℚ)
 dual_end_or_spent t used (End end) = Ok (record { end = end; tableau = t; used = used })
 dual_end_or_spent t used (Pivot p j to) = Err stop.Spent
 
--- at an end, or on with the next tableau
+-- how the steps end or go on, with `next` on the next tableau
 abbrev pub dual_end_or_next : Option ℕ → Tableau → ℕ → (Tableau → Result DualEnded (RunStop ℚ)) → DualChoice →
     Result DualEnded (RunStop ℚ)
 dual_end_or_next limit t used next (End end) = Ok (record { end = end; tableau = t; used = used })
@@ -135,6 +147,6 @@ dual_from limit (suc left) used t =
     refused_as stop.Past (dual_choice_run limit t) >>=
     dual_end_or_next limit t used (λ u. dual_from limit left (used + 1) u)
 
--- the flips, and then the steps
+-- the dual method: the flips, and then the steps
 unfoldable pub dual_run : Option ℕ → ℕ → Tableau → Result DualEnded (RunStop ℚ)
 dual_run limit budget t = flips_run limit budget t >>= λ r. dual_from limit (budget - r.used) r.used r.tableau

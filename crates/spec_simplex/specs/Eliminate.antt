@@ -26,14 +26,14 @@ abbrev pub basics_below : List Status → ℕ → ℕ
 basics_below basis zero = 0
 basics_below basis (suc n) = basics_below basis n + (if is_basic (basis_at basis n) then 1 else 0)
 
--- a column between these bounds can have this status
+-- a column with these bounds can have this status
 abbrev pub CanStand : Status → Option ℚ → Option ℚ → Type 0
 CanStand Basic lower upper = Unit {0}
 CanStand AtLower lower upper = (v : ℚ) × (lower ≡ Some v)
 CanStand AtUpper lower upper = (v : ℚ) × (upper ≡ Some v)
 CanStand AtZero lower upper = (lower ≡ None) × (upper ≡ None)
 
--- a status for each column, which it can have, and as many basic columns as there are rows
+-- a basis of a form: a status that each column can have, and as many basic columns as there are rows
 pub record IsBasisOf (f : Form) (basis : List Status) : Type 0 where
   pub all : length basis ≡ f.cols + f.rows
   pub stand : (k : ℕ) → k < f.cols + f.rows → CanStand (basis_at basis k) (form_lower f k) (form_upper f k)
@@ -49,9 +49,11 @@ pub record Elimination : Type 0 where
 abbrev pub equation : Form → ℕ → List ℚ
 equation f i = made (f.cols + f.rows + f.rows) (start_entry f (Within 0ℚ) i)
 
+-- the elimination at its start: all equations, and no basic column
 abbrev pub unsolved : Form → Elimination
 unsolved f = record { rows = made f.rows (equation f); basic = replicate f.rows None }
 
+-- a position has no basic column
 abbrev pub has_none : Option ℕ → Bool
 has_none None = true
 has_none (Some k) = false
@@ -60,11 +62,12 @@ has_none (Some k) = false
 abbrev pub is_open : Elimination → ℕ → ℕ → Bool
 is_open e j i = has_none (get_or e.basic i None) && not (eq_ℚ (at_place e.rows i j) 0ℚ)
 
+-- the position found so far, or position i if it is free
 abbrev pub or_place : Option ℕ → ℕ → Bool → Option ℕ
 or_place (Some p) i free = Some p
 or_place None i free = if free then Some i else None
 
--- the least such position of the first n
+-- the least of the first n positions that is open for column j
 abbrev pub open_below : Elimination → ℕ → ℕ → Option ℕ
 open_below e j zero = None
 open_below e j (suc n) = or_place (open_below e j n) n (is_open e j n)
@@ -75,14 +78,16 @@ solved_at limit f e j p =
     turned_run limit f.rows (f.cols + f.rows + f.rows) e.rows p j >>=
     λ rows. Ok (record { rows = rows; basic = slice_set e.basic p (Some j) })
 
+-- column j takes the position that was found for it; without one the basis is singular
 abbrev pub solved_by : Option ℕ → Form → Elimination → ℕ → Option ℕ → Result Elimination (StartStop ℚ)
 solved_by limit f e j None = Err stop.Singular
 solved_by limit f e j (Some p) = refused_as stop.Past (solved_at limit f e j p)
 
+-- column j takes the least open position
 abbrev pub solved_run : Option ℕ → Form → Elimination → ℕ → Result Elimination (StartStop ℚ)
 solved_run limit f e j = solved_by limit f e j (open_below e j f.rows)
 
--- the basic columns, in order
+-- the elimination: each basic column takes a position, in order
 unfoldable pub eliminate_run : Option ℕ → Form → List Status → Result Elimination (StartStop ℚ)
 eliminate_run limit f basis =
     steps (f.cols + f.rows) (λ j e. if is_basic (basis_at basis j) then solved_run limit f e j else Ok e) (unsolved f)
@@ -93,19 +98,24 @@ abbrev pub or_first : Option ℕ → ℕ
 or_first None = 0
 or_first (Some k) = k
 
+-- the statuses of all columns: no artificial column is basic
 abbrev pub basis_status : Form → List Status → List Status
 basis_status f basis = basis ++ replicate f.rows AtLower
 
+-- the lower bounds of all columns: those of artificial ones are 0
 abbrev pub basis_lower : Form → List (Option ℚ)
 basis_lower f = f.lower ++ replicate f.rows (Some 0ℚ)
 
+-- the upper bounds of all columns: those of artificial ones are 0
 abbrev pub basis_upper : Form → List (Option ℚ)
 basis_upper f = f.upper ++ replicate f.rows (Some 0ℚ)
 
+-- the value of column k where it is not basic, and 0 where it is
 abbrev pub basis_value : Form → List Status → ℕ → ℚ
 basis_value f basis k =
     stand (get_or (basis_status f basis) k Basic) (get_or (basis_lower f) k None) (get_or (basis_upper f) k None)
 
+-- the tableau of a basis after elimination
 abbrev pub with_basis : Form → List Status → Elimination → Tableau
 with_basis f basis e =
     record {
@@ -121,16 +131,18 @@ with_basis f basis e =
     }
 
 -- ---- the values of the basic columns
--- of that at position i: from 0, each entry of a column that is not basic takes its value times that away
+-- the value of the basic column at position i: 0 less each nonbasic column's entry times its value
 abbrev pub position_run : Option ℕ → Tableau → ℕ → Run ℚ
 position_run limit t i =
     steps (all_columns t)
     (λ k v. if is_basic (status_at t k) then Ok v else less_product limit (entry_at t i k) (value_at t k) v) 0ℚ
 
+-- the values of all columns
 unfoldable pub valued_run : Option ℕ → Tableau → Run (List ℚ)
 valued_run limit t =
     steps t.rows (λ i values. position_run limit t i >>= λ v. Ok (slice_set values (basic_at t i) v)) t.value
 
+-- the tableau with these values
 abbrev pub with_values : Tableau → List ℚ → Tableau
 with_values t values = record t { value = values }
 
@@ -141,6 +153,7 @@ filled_run limit f t =
     priced_run limit t f.cost >>= λ reduced.
     Ok (with_reduced (with_values t values) reduced)
 
+-- the tableau of a basis, or why there is none
 unfoldable pub start_from : Option ℕ → Form → List Status → Result Tableau (StartStop ℚ)
 start_from limit f basis =
     eliminate_run limit f basis >>= λ e. refused_as stop.Past (filled_run limit f (with_basis f basis e))

@@ -17,6 +17,7 @@ abbrev pub below_lower : Option ℕ → Option ℚ → ℚ → Run Bool
 below_lower limit None v = Ok false
 below_lower limit (Some l) v = order_run limit v l >>= λ o. Ok (is_lt o)
 
+-- v is above the upper bound, where there is one
 abbrev pub above_upper : Option ℕ → Option ℚ → ℚ → Run Bool
 above_upper limit None v = Ok false
 above_upper limit (Some u) v = order_run limit v u >>= λ o. Ok (is_gt o)
@@ -30,16 +31,19 @@ outside_by limit upper v false = above_upper limit upper v >>= λ above. Ok (if 
 abbrev pub outside_run : Option ℕ → Option ℚ → Option ℚ → ℚ → Run (Option Bool)
 outside_run limit lower upper v = below_lower limit lower v >>= outside_by limit upper v
 
+-- column k leaves, if its value is outside its bounds
 abbrev pub leaving_at : Option ℕ → Tableau → ℕ → Run (Option Leaving)
 leaving_at limit t k =
     outside_run limit (lower_at t k) (upper_at t k) (value_at t k) >>=
     λ side. Ok (option_map (λ below. record { col = k; below = below }) side)
 
--- nothing is compared after the first that is outside
+-- the leaving column so far, or column k if it is basic and outside its bounds. Nothing is compared after the first
+-- one.
 abbrev pub leaving_with : Option ℕ → Tableau → ℕ → Option Leaving → Run (Option Leaving)
 leaving_with limit t k (Some x) = Ok (Some x)
 leaving_with limit t k None = if is_basic (status_at t k) then leaving_at limit t k else Ok None
 
+-- the first basic column that is outside its bounds
 abbrev pub leaving_run : Option ℕ → Tableau → Run (Option Leaving)
 leaving_run limit t = steps (all_columns t) (leaving_with limit t) None
 
@@ -51,26 +55,28 @@ needs_flip AtLower d = lt_ℚ d 0ℚ
 needs_flip AtUpper d = lt_ℚ 0ℚ d
 needs_flip AtZero d = false
 
+-- a bound is there
 abbrev pub is_there : Option ℚ → Bool
 is_there None = false
 is_there (Some v) = true
 
--- it has that bound; a column without bounds needs the reduced cost 0
+-- a column has the other bound if it needs it; a column without bounds has the reduced cost 0
 abbrev pub meets_need : Status → ℚ → Option ℚ → Option ℚ → Bool
 meets_need Basic d lower upper = true
 meets_need AtLower d lower upper = not (lt_ℚ d 0ℚ) || is_there upper
 meets_need AtUpper d lower upper = not (lt_ℚ 0ℚ d) || is_there lower
 meets_need AtZero d lower upper = eq_ℚ d 0ℚ
 
--- a fixed column needs nothing
+-- column k needs its other bound. A fixed column needs nothing
 abbrev pub needs_flip_at : Tableau → ℕ → Bool
 needs_flip_at t k = not (is_fixed (lower_at t k) (upper_at t k)) && needs_flip (status_at t k) (reduced_at t k)
 
+-- column k can have the sign of its reduced cost, at one of its bounds
 abbrev pub meets_need_at : Tableau → ℕ → Bool
 meets_need_at t k =
     is_fixed (lower_at t k) (upper_at t k) || meets_need (status_at t k) (reduced_at t k) (lower_at t k) (upper_at t k)
 
--- each of the first n columns meets its need
+-- each of the first n columns can have the sign of its reduced cost
 abbrev pub all_meet : Tableau → ℕ → Bool
 all_meet t zero = true
 all_meet t (suc n) = all_meet t n && meets_need_at t n
@@ -80,5 +86,6 @@ abbrev pub fit_by : Tableau → Option Leaving → Fit
 fit_by t None = Primal
 fit_by t (Some x) = if all_meet t (all_columns t) then Dual else Unfit
 
+-- whether a tableau is primal feasible, can be made dual feasible by flips, or neither
 unfoldable pub fit_run : Option ℕ → Tableau → Run Fit
 fit_run limit t = leaving_run limit t >>= λ x. Ok (fit_by t x)

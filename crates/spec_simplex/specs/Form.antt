@@ -17,6 +17,7 @@ use Rattle.spec_simplex.specs.declared.ends.FormFault.{FormFault}
 use Rattle.spec_simplex.specs.declared.ends.FormFault.TheVariants as fault
 use Rattle.spec_exact.specs.Run.{Run, ◌>>=◌, refused_as, order_run, steps, list_run}
 
+-- a linear program of bounds alone, whose costs are to be least. Column `cols + i` is the logical column of row i
 pub record Form : Type 0 where
   pub rows : ℕ
   pub cols : ℕ
@@ -35,7 +36,7 @@ pub record IsFormWithin (limits : SizeLimits) (f : Form) : Type 0 where
   pub all_costs : length f.cost ≡ f.cols + f.rows
   pub columns : All (AreEntries f.rows) f.entries
 
--- a form of which tableaus are made
+-- a form of a usual model, of which tableaus are made
 abbrev pub IsForm : Form → Type 0
 IsForm f = IsFormWithin usual_limits f
 
@@ -43,12 +44,15 @@ IsForm f = IsFormWithin usual_limits f
 abbrev pub form_entry : Form → ℕ → ℕ → ℚ
 form_entry f i j = entry_of (get_or f.entries j []) i
 
+-- the lower bound of column k, structural or logical
 abbrev pub form_lower : Form → ℕ → Option ℚ
 form_lower f k = get_or f.lower k None
 
+-- the upper bound of column k, structural or logical
 abbrev pub form_upper : Form → ℕ → Option ℚ
 form_upper f k = get_or f.upper k None
 
+-- the cost of column k, structural or logical
 abbrev pub form_cost : Form → ℕ → ℚ
 form_cost f k = get_or f.cost k 0ℚ
 
@@ -56,17 +60,19 @@ form_cost f k = get_or f.cost k 0ℚ
 abbrev pub limits_run : Option ℕ → ExactRow → Run (Option ℚ × Option ℚ)
 limits_run limit r = lower_run limit r >>= λ l. upper_run limit r >>= λ u. Ok (l, u)
 
--- ---- column j has no bounds that clash
+-- ---- a fault where the bounds of column j clash
 abbrev pub clash_by : ℕ → Ordering → Result (Unit {0}) (FormFault ℚ)
 clash_by j Less = Ok tt
 clash_by j Equal = Ok tt
 clash_by j Greater = Err (fault.Clash j)
 
+-- a fault where the bounds of column j clash
 abbrev pub bounds_clash : Option ℕ → ℕ → Option ℚ → Option ℚ → Result (Unit {0}) (FormFault ℚ)
 bounds_clash limit j None upper = Ok tt
 bounds_clash limit j (Some l) None = Ok tt
 bounds_clash limit j (Some l) (Some u) = refused_as fault.Past (order_run limit l u) >>= λ o. clash_by j o
 
+-- a fault where the bounds of column j of a model clash
 abbrev pub column_clash : Option ℕ → Model → ℕ → Result (Unit {0}) (FormFault ℚ)
 column_clash limit m j = bounds_clash limit j (column m j).lower (column m j).upper
 

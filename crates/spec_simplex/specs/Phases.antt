@@ -28,13 +28,13 @@ done_run limit t (End end) = Ok t
 done_run limit t (Flip j) = flip_run limit t j
 done_run limit t (Pivot p j theta to) = pivot_run limit t p j theta to
 
--- at an end, or where none is left of the budget
+-- how the steps end where no step is left of the budget
 abbrev pub end_or_spent : Tableau → ℕ → Choice ℚ → Result PrimalEnded (RunStop ℚ)
 end_or_spent t used (End end) = Ok (record { end = end; tableau = t; used = used })
 end_or_spent t used (Flip j) = Err stop.Spent
 end_or_spent t used (Pivot p j theta to) = Err stop.Spent
 
--- at an end, or on with the next tableau
+-- how the steps end or go on, with `next` on the next tableau
 abbrev pub end_or_next : Option ℕ → Tableau → ℕ → (Tableau → Result PrimalEnded (RunStop ℚ)) → Choice ℚ →
     Result PrimalEnded (RunStop ℚ)
 end_or_next limit t used next (End end) = Ok (record { end = end; tableau = t; used = used })
@@ -53,6 +53,7 @@ abbrev pub fixed_at_zero : ℕ → ℕ → List (Option ℚ) → List (Option �
 fixed_at_zero n zero bounds = bounds
 fixed_at_zero n (suc m) bounds = slice_set (fixed_at_zero n m bounds) (n + m) (Some 0ℚ)
 
+-- the tableau in which each artificial column is fixed at 0
 abbrev pub without_artificials : Tableau → Tableau
 without_artificials t =
     record t {
@@ -60,16 +61,17 @@ without_artificials t =
       upper = fixed_at_zero (form_columns t) t.rows t.upper;
     }
 
+-- the tableau with which phase two begins
 unfoldable pub phase_two_run : Option ℕ → Form → Tableau → Run Tableau
 phase_two_run limit f t =
     priced_run limit (without_artificials t) f.cost >>= λ reduced. Ok (with_reduced (without_artificials t) reduced)
 
 -- ---- the two phases
--- some artificial is basic
+-- phase one is needed: some artificial column is basic
 abbrev pub wants_phase_one : Tableau → Bool
 wants_phase_one t = list_any (λ k. is_artificial t k) t.basic
 
--- some artificial is basic, and not 0
+-- after phase one, no point is feasible: some artificial column is basic, and not 0
 abbrev pub is_stuck : Tableau → Bool
 is_stuck t = list_any (λ k. is_artificial t k && not (eq_ℚ (value_at t k) 0ℚ)) t.basic
 
@@ -83,12 +85,13 @@ pub data PhasesEnd : Type 0 where
   Infeasible : Tableau → ℕ → PhasesEnd
   Finished : PrimalEnded → PhasesEnd
 
+-- phase two, within what phase one left of the budget
 abbrev pub phase_two : Option ℕ → ℕ → Form → PrimalEnded → Result PhasesEnd (RunStop ℚ)
 phase_two limit budget f one =
     refused_as stop.Past (phase_two_run limit f one.tableau) >>= λ t.
     run_from limit (budget - one.used) one.used t >>= λ two. Ok (Finished two)
 
--- both phases share the budget
+-- the cold solve: the start, phase one, and phase two where a point is feasible. Both phases share the budget
 unfoldable pub phases_run : Option ℕ → ℕ → Form → Result PhasesEnd (RunStop ℚ)
 phases_run limit budget f =
     refused_as stop.Past (start_of limit f) >>= λ t.

@@ -20,6 +20,7 @@ first_status (Some l) upper = AtLower
 first_status None (Some u) = AtUpper
 first_status None None = AtZero
 
+-- the value of structural column j at the start
 abbrev pub first_value : Form → ℕ → ℚ
 first_value f j = stand (first_status (form_lower f j) (form_upper f j)) (form_lower f j) (form_upper f j)
 
@@ -27,33 +28,39 @@ first_value f j = stand (first_status (form_lower f j) (form_upper f j)) (form_l
 abbrev pub row_sum : Option ℕ → Form → ℕ → Run ℚ
 row_sum limit f i = steps f.cols (λ j s. plus_product limit (form_entry f i j) (first_value f j) s) 0ℚ
 
--- how much v is below a lower limit, or above an upper one, if it is
+-- how much v is below the lower limit l, if it is
 abbrev pub below_by : Option ℕ → ℚ → ℚ → Ordering → Run (Option ℚ)
 below_by limit l v Less = difference_run limit l v >>= λ gap. Ok (Some gap)
 below_by limit l v Equal = Ok None
 below_by limit l v Greater = Ok None
 
+-- how much v is below a lower limit, where there is one and v is below it
 abbrev pub below_run : Option ℕ → Option ℚ → ℚ → Run (Option ℚ)
 below_run limit None v = Ok None
 below_run limit (Some l) v = order_run limit v l >>= λ o. below_by limit l v o
 
+-- how much v is above the upper limit u, if it is
 abbrev pub above_by : Option ℕ → ℚ → ℚ → Ordering → Run (Option ℚ)
 above_by limit u v Less = Ok None
 above_by limit u v Equal = Ok None
 above_by limit u v Greater = difference_run limit v u >>= λ gap. Ok (Some gap)
 
+-- how much v is above an upper limit, where there is one and v is above it
 abbrev pub above_run : Option ℕ → Option ℚ → ℚ → Run (Option ℚ)
 above_run limit None v = Ok None
 above_run limit (Some u) v = order_run limit v u >>= λ o. above_by limit u v o
 
+-- how a row begins whose sum v is not below its lower limit
 abbrev pub within_or_above : ℚ → Option ℚ → RowStart ℚ
 within_or_above v None = Within v
 within_or_above v (Some gap) = Above gap
 
+-- how a row begins, by how much its sum v is below its lower limit
 abbrev pub row_start_by : Option ℕ → Option ℚ → ℚ → Option ℚ → Run (RowStart ℚ)
 row_start_by limit upper v None = above_run limit upper v >>= λ gap. Ok (within_or_above v gap)
 row_start_by limit upper v (Some gap) = Ok (Below gap)
 
+-- how row i begins: its sum is within its limits, or misses one by this gap
 abbrev pub row_start : Option ℕ → Form → ℕ → Run (RowStart ℚ)
 row_start limit f i =
     row_sum limit f i >>= λ v. below_run limit (form_lower f (f.cols + i)) v >>= λ gap.
@@ -65,32 +72,38 @@ logical_status (Within v) = Basic
 logical_status (Below gap) = AtLower
 logical_status (Above gap) = AtUpper
 
+-- the value of the logical column, with these bounds
 abbrev pub logical_value : RowStart ℚ → Option ℚ → Option ℚ → ℚ
 logical_value (Within v) lower upper = v
 logical_value (Below gap) lower upper = or_zero lower
 logical_value (Above gap) lower upper = or_zero upper
 
+-- the entry of the logical column in its row
 abbrev pub logical_sign : RowStart ℚ → ℚ
 logical_sign (Within v) = 1ℚ
 logical_sign (Below gap) = neg_ℚ 1ℚ
 logical_sign (Above gap) = 1ℚ
 
--- the row is s - sum of a_j x_j and the artificial, or the negative of this beside the artificial
+-- the entry of a structural column with the coefficient a. The row says that its sum and the artificial column are the
+-- logical column, or that the logical and the artificial column are its sum.
 abbrev pub structural_entry : RowStart ℚ → ℚ → ℚ
 structural_entry (Within v) a = neg_ℚ a
 structural_entry (Below gap) a = a
 structural_entry (Above gap) a = neg_ℚ a
 
+-- the status of the artificial column
 abbrev pub artificial_status : RowStart ℚ → Status
 artificial_status (Within v) = AtLower
 artificial_status (Below gap) = Basic
 artificial_status (Above gap) = Basic
 
+-- the value of the artificial column
 abbrev pub artificial_value : RowStart ℚ → ℚ
 artificial_value (Within v) = 0ℚ
 artificial_value (Below gap) = gap
 artificial_value (Above gap) = gap
 
+-- the upper bound of the artificial column: 0 where its row does not need it
 abbrev pub artificial_upper : RowStart ℚ → Option ℚ
 artificial_upper (Within v) = Some 0ℚ
 artificial_upper (Below gap) = None
@@ -112,30 +125,36 @@ by_column f k structural logical artificial =
     if nat_lt k f.cols then structural
     else (if nat_lt k (f.cols + f.rows) then logical (k - f.cols) else artificial (k - (f.cols + f.rows)))
 
+-- v where both numbers are the same, 0 elsewhere
 abbrev pub one_at : ℕ → ℕ → ℚ → ℚ
 one_at i r v = if nat_eq i r then v else 0ℚ
 
+-- the entry of row i in column k
 abbrev pub start_entry : Form → RowStart ℚ → ℕ → ℕ → ℚ
 start_entry f s i k =
     by_column f k (structural_entry s (form_entry f i k)) (λ r. one_at i r (logical_sign s)) (λ r. one_at i r 1ℚ)
 
+-- the basic column of position i
 abbrev pub start_basic : Form → List (RowStart ℚ) → ℕ → ℕ
 start_basic f starts i = if is_wanting (start_at starts i) then f.cols + f.rows + i else f.cols + i
 
+-- the value of column k
 abbrev pub start_value : Form → List (RowStart ℚ) → ℕ → ℚ
 start_value f starts k =
     by_column f k (first_value f k) (λ r. logical_value (start_at starts r) (form_lower f k) (form_upper f k))
     (λ r. artificial_value (start_at starts r))
 
+-- the status of column k
 abbrev pub start_status : Form → List (RowStart ℚ) → ℕ → Status
 start_status f starts k =
     by_column f k (first_status (form_lower f k) (form_upper f k))
     (λ r. logical_status (start_at starts r)) (λ r. artificial_status (start_at starts r))
 
+-- row i of the tableau
 abbrev pub start_row : Form → List (RowStart ℚ) → ℕ → List ℚ
 start_row f starts i = made (f.cols + f.rows + f.rows) (start_entry f (start_at starts i) i)
 
--- without reduced costs
+-- the tableau without reduced costs
 abbrev pub begun : Form → List (RowStart ℚ) → Tableau
 begun f starts =
     record {
@@ -154,14 +173,16 @@ begun f starts =
 abbrev pub cost_at : List ℚ → ℕ → ℚ
 cost_at costs k = get_or costs k 0ℚ
 
--- of column k: its cost less, position by position, the basic column's cost times the row's entry
+-- the reduced cost of column k: its cost less, position by position, the basic column's cost times the row's entry
 abbrev pub reduced_run : Option ℕ → Tableau → List ℚ → ℕ → Run ℚ
 reduced_run limit t costs k =
     steps t.rows (λ i d. less_product limit (cost_at costs (basic_at t i)) (entry_at t i k) d) (cost_at costs k)
 
+-- the reduced costs of all columns
 unfoldable pub priced_run : Option ℕ → Tableau → List ℚ → Run (List ℚ)
 priced_run limit t costs = list_run (all_columns t) (reduced_run limit t costs)
 
+-- the tableau with these reduced costs
 abbrev pub with_reduced : Tableau → List ℚ → Tableau
 with_reduced t reduced = record t { reduced = reduced }
 
@@ -171,9 +192,11 @@ first_cost (Within v) = 0ℚ
 first_cost (Below gap) = 1ℚ
 first_cost (Above gap) = 1ℚ
 
+-- the costs of phase one, of all columns
 abbrev pub first_costs : Form → List (RowStart ℚ) → List ℚ
 first_costs f starts = replicate (f.cols + f.rows) 0ℚ ++ map first_cost starts
 
+-- the tableau that a form begins with
 unfoldable pub start_of : Option ℕ → Form → Run Tableau
 start_of limit f =
     list_run f.rows (row_start limit f) >>= λ starts.

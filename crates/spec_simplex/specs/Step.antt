@@ -24,10 +24,11 @@ way_by AtLower d = if lt_ℚ d 0ℚ then Some true else None
 way_by AtUpper d = if lt_ℚ 0ℚ d then Some false else None
 way_by AtZero d = if lt_ℚ d 0ℚ then Some true else (if lt_ℚ 0ℚ d then Some false else None)
 
--- a fixed column never enters
+-- whether column k rises or falls, if it may enter. A fixed column never enters
 abbrev pub way_at : Tableau → ℕ → Option Bool
 way_at t k = if is_fixed (lower_at t k) (upper_at t k) then None else way_by (status_at t k) (reduced_at t k)
 
+-- the entering column so far, or column k where there is none and k may enter
 abbrev pub or_enters : Option Entering → ℕ → Option Bool → Option Entering
 or_enters (Some e) k way = Some e
 or_enters None k None = None
@@ -38,6 +39,7 @@ abbrev pub entering_below : Tableau → ℕ → Option Entering
 entering_below t zero = None
 entering_below t (suc n) = or_enters (entering_below t n) n (way_at t n)
 
+-- the column that enters, by Bland's rule
 abbrev pub entering : Tableau → Option Entering
 entering t = entering_below t (all_columns t)
 
@@ -46,10 +48,11 @@ entering t = entering_below t (all_columns t)
 abbrev pub directed : Bool → ℚ → ℚ
 directed up v = if up then v else neg_ℚ v
 
--- where the entering column goes if nothing else stops it
+-- the bound at which the entering column ends if no basic column stops it
 abbrev pub other_bound : Bool → Status
 other_bound up = if up then AtUpper else AtLower
 
+-- the best at the start: the distance between the entering column's bounds, where it has both
 abbrev pub range_run : Option ℕ → Entering → Option ℚ → Option ℚ → Run (Option (Best ℚ))
 range_run limit e None upper = Ok None
 range_run limit e (Some l) None = Ok None
@@ -57,16 +60,17 @@ range_run limit e (Some l) (Some u) =
     difference_run limit u l >>=
     λ range. Ok (Some (record { ratio = range; col = e.col; place = None; to = other_bound e.up }))
 
--- how far the value v may rise, and how far it may fall, where a bound stops it
+-- how far the value v may rise, where an upper bound stops it
 abbrev pub rise_run : Option ℕ → Option ℚ → ℚ → Run (Option (ℚ × Status))
 rise_run limit None v = Ok None
 rise_run limit (Some u) v = difference_run limit u v >>= λ gap. Ok (Some (gap, AtUpper))
 
+-- how far the value v may fall, where a lower bound stops it
 abbrev pub fall_run : Option ℕ → Option ℚ → ℚ → Run (Option (ℚ × Status))
 fall_run limit None v = Ok None
 fall_run limit (Some l) v = difference_run limit v l >>= λ gap. Ok (Some (gap, AtLower))
 
--- the gap of a column with these bounds at v, in a position whose entry in the entering column is a
+-- how far the basic column of a position, at v and with these bounds, may move; its entry in the entering column is a
 abbrev pub gap_run : Option ℕ → Bool → ℚ → Option ℚ → Option ℚ → ℚ → Run (Option (ℚ × Status))
 gap_run limit up a lower upper v =
     if lt_ℚ (directed up a) 0ℚ then rise_run limit upper v
@@ -78,23 +82,26 @@ better_by new best Less = new
 better_by new best Equal = if nat_lt new.col best.col then new else best
 better_by new best Greater = best
 
+-- the better of a new ratio and the best so far
 abbrev pub better_run : Option ℕ → Best ℚ → Option (Best ℚ) → Run (Option (Best ℚ))
 better_run limit new None = Ok (Some new)
 better_run limit new (Some best) = order_run limit new.ratio best.ratio >>= λ o. Ok (Some (better_by new best o))
 
+-- the best after position i, whose column k may move by this gap
 abbrev pub with_gap : Option ℕ → ℕ → ℕ → ℚ → Option (Best ℚ) → Option (ℚ × Status) → Run (Option (Best ℚ))
 with_gap limit i k a best None = Ok best
 with_gap limit i k a best (Some (gap, to)) =
     quotient_run limit gap (abs_ℚ a) >>=
     λ ratio. better_run limit (record { ratio = ratio; col = k; place = Some i; to = to }) best
 
--- with position i
+-- the best after position i
 abbrev pub best_with : Option ℕ → Tableau → Entering → ℕ → Option (Best ℚ) → Run (Option (Best ℚ))
 best_with limit t e i best =
     gap_run limit e.up (entry_at t i e.col) (lower_at t (basic_at t i))
     (upper_at t (basic_at t i)) (value_at t (basic_at t i)) >>= λ gap.
     with_gap limit i (basic_at t i) (entry_at t i e.col) best gap
 
+-- the best of all positions and the entering column's own range
 abbrev pub best_run : Option ℕ → Tableau → Entering → Run (Option (Best ℚ))
 best_run limit t e =
     range_run limit e (lower_at t e.col) (upper_at t e.col) >>= λ best. steps t.rows (best_with limit t e) best
@@ -104,14 +111,17 @@ abbrev pub choice_at : Entering → Best ℚ → Option ℕ → Choice ℚ
 choice_at e best None = Flip e.col
 choice_at e best (Some i) = Pivot i e.col (directed e.up best.ratio) best.to
 
+-- what the step does, by the best of the ratio test; without one the entering column is never stopped
 abbrev pub choice_by : Entering → Option (Best ℚ) → Choice ℚ
 choice_by e None = End (Unbounded e.col e.up)
 choice_by e (Some best) = choice_at e best best.place
 
+-- what the step does, by the entering column; without one the tableau is optimal
 abbrev pub choice_of : Option ℕ → Tableau → Option Entering → Run (Choice ℚ)
 choice_of limit t None = Ok (End Optimal)
 choice_of limit t (Some e) = best_run limit t e >>= λ best. Ok (choice_by e best)
 
+-- what a step of the primal method does
 unfoldable pub choice_run : Option ℕ → Tableau → Run (Choice ℚ)
 choice_run limit t = choice_of limit t (entering t)
 
@@ -120,11 +130,13 @@ abbrev pub is_place : Option ℕ → ℕ → Bool
 is_place None i = false
 is_place (Some p) i = nat_eq i p
 
+-- the values after the basic column of position i has moved
 abbrev pub moved_at : Option ℕ → Tableau → ℕ → ℚ → ℕ → List ℚ → Run (List ℚ)
 moved_at limit t j theta i values =
     less_product limit (entry_at t i j) theta (get_or values (basic_at t i) 0ℚ) >>=
     λ v. Ok (slice_set values (basic_at t i) v)
 
+-- the values after all basic columns have moved, but for that of position `but`
 unfoldable pub moved_run : Option ℕ → Tableau → ℕ → ℚ → Option ℕ → Run (List ℚ)
 moved_run limit t j theta but =
     steps t.rows (λ i values. if is_place but i then Ok values else moved_at limit t j theta i values) t.value
@@ -136,10 +148,12 @@ flip_way Basic = false
 flip_way AtUpper = false
 flip_way AtZero = false
 
+-- the tableau with column j at its bound `to`, and these values
 abbrev pub flipped : Tableau → ℕ → Status → List ℚ → Tableau
 flipped t j to values =
     record t { value = slice_set values j (stand to (lower_at t j) (upper_at t j)); status = slice_set t.status j to }
 
+-- the tableau after column j goes to its other bound
 unfoldable pub flip_run : Option ℕ → Tableau → ℕ → Run Tableau
 flip_run limit t j =
     difference_run limit (or_zero (upper_at t j)) (or_zero (lower_at t j)) >>= λ range.
@@ -147,33 +161,33 @@ flip_run limit t j =
     Ok (flipped t j (other_bound (flip_way (status_at t j))) values)
 
 -- ---- a pivot at position p in column j
--- row p over its entry in column j
+-- the rows with row p divided by its entry in column j
 unfoldable pub scaled_run : Option ℕ → ℕ → List (List ℚ) → ℕ → ℕ → Run (List (List ℚ))
 scaled_run limit n rows p j =
     list_run n (λ k. quotient_run limit (at_place rows p k) (at_place rows p j)) >>= λ row. Ok (slice_set rows p row)
 
--- row i less row p, as often as makes its entry in column j 0
+-- the rows with row i less the multiple of row p that makes its entry in column j 0
 unfoldable pub cleared_run : Option ℕ → ℕ → ℕ → ℕ → ℕ → List (List ℚ) → Run (List (List ℚ))
 cleared_run limit n p j i rows =
     list_run n (λ k. less_product limit (at_place rows i j) (at_place rows p k) (at_place rows i k)) >>=
     λ row. Ok (slice_set rows i row)
 
--- all rows: first row p, then the others in order
+-- the rows after a pivot: first row p is divided, then the others are cleared in order
 unfoldable pub turned_run : Option ℕ → ℕ → ℕ → List (List ℚ) → ℕ → ℕ → Run (List (List ℚ))
 turned_run limit m n rows p j =
     scaled_run limit n rows p j >>=
     λ scaled. steps m (λ i rows. if nat_eq i p then Ok rows else cleared_run limit n p j i rows) scaled
 
--- the reduced costs, by the new rows
+-- the reduced costs after a pivot, by the new rows
 unfoldable pub repriced_run : Option ℕ → ℕ → List ℚ → List (List ℚ) → ℕ → ℕ → Run (List ℚ)
 repriced_run limit n reduced rows p j =
     list_run n (λ k. less_product limit (get_or reduced j 0ℚ) (at_place rows p k) (get_or reduced k 0ℚ))
 
--- An artificial that leaves is at 0 for good.
+-- the bounds after column q leaves: an artificial column that leaves is fixed at 0
 abbrev pub leave_bound : Tableau → ℕ → List (Option ℚ) → List (Option ℚ)
 leave_bound t q bounds = if is_artificial t q then slice_set bounds q (Some 0ℚ) else bounds
 
--- the column at position p goes to a bound, and column j takes the position
+-- the tableau after column q at position p goes to its bound `to`, and column j takes the position
 abbrev pub exchanged_by : Tableau → ℕ → ℕ → ℕ → Status → Tableau
 exchanged_by t p j q to =
     record t {
@@ -184,16 +198,19 @@ exchanged_by t p j q to =
       upper = leave_bound t q t.upper;
     }
 
+-- the tableau after the column at position p goes to its bound `to`, and column j takes the position
 abbrev pub exchanged : Tableau → ℕ → ℕ → Status → Tableau
 exchanged t p j to = exchanged_by t p j (basic_at t p) to
 
+-- the tableau with these values, rows and reduced costs
 abbrev pub turned : Tableau → List ℚ → List (List ℚ) → List ℚ → Tableau
 turned t values rows reduced = record t { entries = rows; value = values; reduced = reduced }
 
--- the value of column j after the move
+-- the values with column j moved by theta
 unfoldable pub shifted_run : Option ℕ → List ℚ → ℕ → ℚ → Run (List ℚ)
 shifted_run limit values j theta = sum_run limit (get_or values j 0ℚ) theta >>= λ v. Ok (slice_set values j v)
 
+-- the tableau after column j moves by theta and takes position p, whose column goes to its bound `to`
 unfoldable pub pivot_run : Option ℕ → Tableau → ℕ → ℕ → ℚ → Status → Run Tableau
 pivot_run limit t p j theta to =
     moved_run limit t j theta (Some p) >>= λ values.
@@ -203,7 +220,7 @@ pivot_run limit t p j theta to =
     Ok (exchanged (turned t shifted rows reduced) p j to)
 
 -- ---- conditions
--- `to` names a bound v
+-- the status `to` names a bound that is there, and is v
 abbrev pub NamesBound : Status → Option ℚ → Option ℚ → ℚ → Type 0
 NamesBound Basic lower upper v = ⊥
 NamesBound AtLower lower upper v = lower ≡ Some v

@@ -29,6 +29,7 @@ form_columns t = t.cols + t.rows
 abbrev pub all_columns : Tableau → ℕ
 all_columns t = t.cols + t.rows + t.rows
 
+-- column k is artificial
 abbrev pub is_artificial : Tableau → ℕ → Bool
 is_artificial t k = nat_le (form_columns t) k
 
@@ -36,27 +37,35 @@ is_artificial t k = nat_le (form_columns t) k
 abbrev pub at_place : List (List ℚ) → ℕ → ℕ → ℚ
 at_place rows i k = get_or (get_or rows i []) k 0ℚ
 
+-- the entry of position i in column k
 abbrev pub entry_at : Tableau → ℕ → ℕ → ℚ
 entry_at t i k = at_place t.entries i k
 
+-- the basic column of position i
 abbrev pub basic_at : Tableau → ℕ → ℕ
 basic_at t i = get_or t.basic i 0
 
+-- the value of column k
 abbrev pub value_at : Tableau → ℕ → ℚ
 value_at t k = get_or t.value k 0ℚ
 
+-- the reduced cost of column k
 abbrev pub reduced_at : Tableau → ℕ → ℚ
 reduced_at t k = get_or t.reduced k 0ℚ
 
+-- the status of column k
 abbrev pub status_at : Tableau → ℕ → Status
 status_at t k = get_or t.status k Basic
 
+-- the lower bound of column k
 abbrev pub lower_at : Tableau → ℕ → Option ℚ
 lower_at t k = get_or t.lower k None
 
+-- the upper bound of column k
 abbrev pub upper_at : Tableau → ℕ → Option ℚ
 upper_at t k = get_or t.upper k None
 
+-- a status is that of a basic column
 abbrev pub is_basic : Status → Bool
 is_basic Basic = true
 is_basic AtLower = false
@@ -69,18 +78,19 @@ is_fixed None upper = false
 is_fixed (Some l) None = false
 is_fixed (Some l) (Some u) = eq_ℚ l u
 
+-- a bound, or 0 where it is absent
 abbrev pub or_zero : Option ℚ → ℚ
 or_zero None = 0ℚ
 or_zero (Some v) = v
 
--- where a column of this status stands, between these bounds
+-- the value of a nonbasic column with this status and these bounds; 0 for a basic one
 abbrev pub stand : Status → Option ℚ → Option ℚ → ℚ
 stand Basic lower upper = 0ℚ
 stand AtLower lower upper = or_zero lower
 stand AtUpper lower upper = or_zero upper
 stand AtZero lower upper = 0ℚ
 
--- as many of each as there are positions and columns, which are at most as many as a model has
+-- each list has as many items as there are positions or columns, and these are at most as many as a usual model has
 pub record IsTableauShape (t : Tableau) : Type 0 where
   pub few_rows : t.rows ≤ row_limit
   pub few_columns : t.cols ≤ column_limit

@@ -15,18 +15,20 @@ use Rattle.spec_simplex.specs.Tableau.{Tableau, form_columns, all_columns, is_ar
 use Rattle.spec_simplex.specs.Tableau.{basic_at, value_at, reduced_at, status_at, lower_at, upper_at}
 use Rattle.spec_simplex.specs.Step.{flip_run, pivot_run}
 
+-- the functions of an index that a tableau of lists is read as
 abbrev pub table_of : Tableau → Table
 table_of t =
     record { entry = entry_at t; basic = basic_at t; value = value_at t; reduced = reduced_at t; status = status_at t }
 
--- artificial columns never enter
+-- the bounds of a tableau's columns, of which the artificial ones never enter
 abbrev pub bounds_of : Tableau → Bounds
 bounds_of t = record { lower = lower_at t; upper = upper_at t; barred = is_artificial t }
 
+-- the way of a column that rises, or else falls
 abbrev pub way : Bool → Way
 way up = if up then Up else Down
 
--- as many of each as there are positions and columns
+-- each list has as many items as there are positions or columns
 pub record IsWhole (t : Tableau) : Type 0 where
   pub all_rows : length t.entries ≡ t.rows
   pub whole_rows : (i : ℕ) → i < t.rows → length (get_or t.entries i []) ≡ all_columns t
@@ -67,7 +69,8 @@ pub record StepsTo (m n : ℕ) (f : Matrix) (cost : ℕ → ℚ) (b : Bounds) (t
   pub after : IsTableauOf m n f cost b u
   pub within : IsWithinBounds m n b u
 
--- no column is eligible; a column enters and is never stopped; or what the flip or the pivot gives is a step away
+-- what a choice means: no column is eligible; or a column enters and nothing stops it; or the flip or the pivot gives a
+-- tableau that is one step away
 abbrev pub IsMeant : ℕ → ℕ → Matrix → (ℕ → ℚ) → Bounds → Option ℕ → Tableau → Choice ℚ → Type 0
 IsMeant m n f cost b limit t (End Optimal) = (w : Way) (k : ℕ) → k < n + m + m → ¬ (IsEligible b (table_of t) w k)
 IsMeant m n f cost b limit t (End (Unbounded j up)) = GoesOn m (n + m + m) b (table_of t) (way up) j
