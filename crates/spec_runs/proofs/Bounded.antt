@@ -1,4 +1,8 @@
--- The bounds of a tableau that began with a basis are those that it began with.
+-- The tableau of a basis, and those made of it, with the form's counts of rows and columns or with their own.
+--
+-- `own_counts`: a tableau that is based on m rows and n columns is based on its own counts of them.
+-- `given_counts`: where one tableau is based on m rows and n columns, another one based on its counts is based on m and
+--   n.
 use Rattle.std.proofs.Common.{◌≡◌, ℕ, ◌<◌, true, false, sym, ◌∙◌, subst₂}
 use Rattle.spec_exact.specs.Fraction.{ℚ, 0ℚ}
 use Rattle.spec_pivot.specs.Tableau.{Matrix}

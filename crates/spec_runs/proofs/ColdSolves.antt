@@ -1,4 +1,14 @@
 -- What a cold solve ends with is true.
+--
+-- `accepted`: a certificate that shows its answer is accepted at each limit.
+-- `end_accepted`: the certificate of what both phases of a model's form end with is accepted.
+-- `clash_accepted`: a clash that the form of a model has is accepted as a certificate.
+-- `by_accepted`: the check of an accepted certificate gives what it shows, or says that an operation is refused.
+-- `same_or_refused`: what is made of a check at a limit is made of the one without a limit, or of a refused operation.
+-- `end_is_true`: an answer and a certificate equal to those of a true end hold of the model and pass the check.
+-- `ended_is_true`: the answer of a cold solve holds of the model, and the check of its certificate gives that answer.
+-- `spent_is_spent`: a cold solve is spent only where the phases of the model's form are spent.
+-- `enough`: with a budget of 2 * 3 ^ (width + 2 * height) or more a cold solve is never spent.
 use Rattle.std.proofs.Common.{◌≡◌, ◌⊎◌, inl, inr, ⊎_elim, ℕ, ◌+◌, ◌*◌, ◌^◌, ◌≤◌, List, Option, None}
 use Rattle.std.proofs.Common.{Result, Ok, Err, refl, sym, ap, ◌∙◌, subst, arith}
 use Rattle.spec_exact.specs.Fraction.{ℚ}

@@ -1,4 +1,11 @@
 -- How many positions have a column.
+--
+-- `basic_test`: the status `Basic` passes the test of basic columns.
+-- `nonbasic_test`: each other status fails the test of basic columns.
+-- `filled_all`: where the count of filled positions below n is n, each of them has a column.
+-- `filled_set`: a column set at an empty position below n makes the count one more.
+-- `none_is`: a position that has no column has none of all columns.
+-- `some_is`: a position that is not empty has some column.
 use Rattle.std.proofs.Common.{◌≡◌, ◌≢◌, ℕ, zero, suc, ◌+◌, ◌<◌, ◌≤◌, List, length, get_or, set, Option}
 use Rattle.std.proofs.Common.{Some, None, Bool, true, false, cond, refl, sym, ap, ap₂, ◌∙◌, subst, arith}
 use Rattle.std.proofs.lemmas.List.{get_or-set_same, get_or-set_other}

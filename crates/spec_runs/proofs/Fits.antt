@@ -1,4 +1,7 @@
 -- The first basic column that is outside its bounds, and what the fit of a tableau means.
+--
+-- `met_suits`: a reduced cost that meets its status's need without a flip has the sign that suits the status.
+-- `fit_is`: the fit found is true: primal, each basic value is within its bounds; dual, each need is met.
 use Rattle.std.proofs.Common.{◌≡◌, ℕ, zero, suc, ◌<◌, Option, Some, None, IfSome, Ok, Bool, true}
 use Rattle.std.proofs.Common.{false, cond, option_map, refl, sym, ap, ◌∙◌, subst, arith}
 use Rattle.spec_exact.specs.Fraction.{ℚ, 0ℚ, ◌≤ℚ◌, ◌<ℚ◌}

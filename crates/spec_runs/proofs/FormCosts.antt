@@ -1,4 +1,7 @@
--- The costs of a form are those of the model, with the sign of its sense; and where bounds clash, they do in the model.
+-- The costs of a form are those of the model, with the sign of its sense; and a clash of the form is one of the model.
+--
+-- `cost_structural`: the cost of a structural column in the form is the model's cost with the sign of the sense.
+-- `clash_is`: where the form has a clash at a column, the model's bounds of that column clash.
 use Rattle.std.proofs.Common.{◌≡◌, ◌≢◌, ℕ, zero, suc, ◌<◌, List}
 use Rattle.std.proofs.Common.{Option, Some, None, Result, Ok, Err, refl, sym, ap, ◌∙◌, subst, arith}
 use Rattle.std.specs.declared.cmp.Ordering.{Ordering}

@@ -1,4 +1,7 @@
 -- The whole solve at a limit beside the one without a limit; and each model has an answer.
+--
+-- `never_past`: a cold solve without a limit never ends with a refused operation.
+-- `answers`: with a budget of 2 * 3 ^ (width + 2 * height) or more, the solve without a limit ends with a true answer.
 use Rattle.std.proofs.Common.{◌≡◌, ◌≢◌, ◌⊎◌, inl, inr, ℕ, ◌+◌, ◌*◌, ◌^◌}
 use Rattle.std.proofs.Common.{◌≤◌, List, Option, None, Result, Ok, Err, refl, sym, ap, ◌∙◌, subst}
 use Rattle.spec_exact.specs.Fraction.{ℚ}

@@ -1,4 +1,11 @@
--- Counting indexes that pass a test.
+-- Counting the indexes that pass a test, and the values of a function below a bound.
+--
+-- `count_same`: tests that agree on all indexes below n are passed by as many of these.
+-- `count_split`: the count of the first a + b indexes is that of the first a and that of the next b.
+-- `count_either`: where no index passes both tests, as many pass one of them as pass the first and the second together.
+-- `member_if`: a number that is found among the values of a function below m is its value at some index below m.
+-- `member_test`: each value of a function at an index below m is found among its values.
+-- `count_members`: where a function has m different values below n, m of the numbers below n are among them.
 use Rattle.std.proofs.Common.{◌≡◌, ℕ, zero, suc, ◌+◌, ◌<◌, ◌≤◌, Bool, true, false, ◌||◌}
 use Rattle.std.proofs.Common.{cond, nat_eq, refl, sym, ap, ap₂, ◌∙◌, arith, eq-eqb, ne_eqb}
 use Rattle.std.proofs.lemmas.Bool.{eqb-true}

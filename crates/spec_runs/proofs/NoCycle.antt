@@ -1,4 +1,8 @@
 -- The steps of a phase never come back to the same statuses.
+--
+-- `never_in_phase_one`: tableaus after different numbers of steps of phase one have different statuses.
+-- `few_costs`: a form has at most as many costs as columns, logical columns and artificial columns together.
+-- `never_in_phase_two`: tableaus after different numbers of steps of phase two have different statuses.
 use Rattle.std.proofs.Common.{◌≡◌, ◌≢◌, ℕ, zero, suc, ◌+◌, ◌-◌, ◌<◌, ◌≤◌, length, get_or, Option}
 use Rattle.std.proofs.Common.{Ok, Bool, true, false, cond, refl, sym, ap, ◌∙◌, subst, arith}
 use Rattle.spec_exact.specs.Fraction.{ℚ}

@@ -1,4 +1,7 @@
 -- Runs go by steps, and so do both phases: what they end with is the tableau after so many of them.
+--
+-- `given`: a run that no operation refuses has a result.
+-- `end_or_a_next`: without a limit each tableau is at an end of the method, or a step leads to a next one.
 use Rattle.std.proofs.Common.{◌≡◌, ◌≢◌, ◌⊎◌, inl, inr, ℕ, zero, suc, ◌+◌, ◌-◌, Option, None}
 use Rattle.std.proofs.Common.{Result, Ok, Err, Bool, true, false, cond, refl, subst, arith}
 use Rattle.spec_exact.specs.Fraction.{ℚ}

@@ -11,14 +11,15 @@ use Rattle.spec_pivot.specs.declared.status.Status.{Status}
 use Rattle.spec_check.specs.declared.solve_end.SolveEnd.TheVariants.{Ended}
 use Rattle.spec_runs.specs.Cold.{cold}
 
--- it is one for the model, its conditions hold, and the checker says yes, or at a limit that an operation is refused
+-- The certificate is one for the model, and its conditions hold. The checker says yes, or at a limit that an operation
+-- is refused.
 pub record IsAccepted (limit : Option ℕ) (m : Model) (c : Certificate (List ℚ)) : Type 0 where
   pub fits : IsFor m c
   pub holds : Checks m c
   pub accepted : check_run None m c ≡ Ok (shown m c)
   pub limited : Agrees (check_run limit m c) (Ok (shown m c))
 
--- the cold solve without a limit ends with an answer, and this is true
+-- the cold solve without a limit ends with an answer that holds of the model
 pub record IsAnswered (budget : ℕ) (m : Model) : Type 0 where
   pub answer : Known ℚ
   pub certificate : Certificate (List ℚ)

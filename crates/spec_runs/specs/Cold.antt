@@ -27,6 +27,7 @@ use Rattle.spec_simplex.specs.Phases.{PhasesEnd, Infeasible, Finished, phases_ru
 use Rattle.spec_check.specs.declared.solve_end.SolveEnd.{SolveEnd}
 use Rattle.spec_check.specs.declared.solve_end.SolveEnd.TheVariants as outcome
 
+-- how a solve ends, in exact numbers
 abbrev pub ExactSolveEnd : Type 0
 ExactSolveEnd = SolveEnd ℚ (List ℚ) (List Status)
 
@@ -46,17 +47,20 @@ moves_below t j up k zero = if nat_eq k j then directed up 1ℚ else 0ℚ
 moves_below t j up k (suc m) =
     if nat_eq (basic_at t m) k then neg_ℚ (directed up (entry_at t m j)) else moves_below t j up k m
 
+-- how column k moves while column j enters and rises or falls by 1
 abbrev pub moves_by : Tableau → ℕ → Bool → ℕ → ℚ
 moves_by t j up k = moves_below t j up k t.rows
 
--- the same of the model's columns
+-- the ray along which the model's columns move
 abbrev pub direction : Tableau → ℕ → Bool → List ℚ
 direction t j up = made t.cols (moves_by t j up)
 
+-- the certificate of what the primal method ends with at a tableau
 abbrev pub certificate_at : Tableau → PrimalEnd → Certificate (List ℚ)
 certificate_at t Optimal = certificate.Optimal (point t) (multipliers t)
 certificate_at t (Unbounded j up) = certificate.Unbounded (point t) (direction t j up)
 
+-- the certificate of what both phases end with
 abbrev pub certificate_of : PhasesEnd → Certificate (List ℚ)
 certificate_of (Infeasible t used) = certificate.Infeasible (multipliers t)
 certificate_of (Finished e) = certificate_at e.tableau e.end
@@ -71,10 +75,12 @@ abbrev pub basis_at : Tableau → PrimalEnd → Option (List Status)
 basis_at t Optimal = Some (made (form_columns t) (basis_status t))
 basis_at t (Unbounded j up) = None
 
+-- the basis of what both phases end with, if that is an optimum
 abbrev pub basis_of : PhasesEnd → Option (List Status)
 basis_of (Infeasible t used) = None
 basis_of (Finished e) = basis_at e.tableau e.end
 
+-- the count of pivots and flips of both phases
 abbrev pub pivots_of : PhasesEnd → ℕ
 pivots_of (Infeasible t used) = used
 pivots_of (Finished e) = e.used
@@ -86,19 +92,23 @@ checked certificate basis pivots (Ok answer) = outcome.Ended answer certificate 
 checked certificate basis pivots (Err (check.Past p)) = outcome.Past p
 checked certificate basis pivots (Err (check.No n)) = outcome.Spent
 
+-- how a solve ends with a certificate, by the check of it
 abbrev pub answered : Option ℕ → Model → Certificate (List ℚ) → Option (List Status) → ℕ → ExactSolveEnd
 answered limit m certificate basis pivots = checked certificate basis pivots (check_run limit m certificate)
 
 -- ---- the whole solve
+-- how a solve ends after both phases
 abbrev pub after_phases : Option ℕ → Model → Result PhasesEnd (Spending ℚ) → ExactSolveEnd
 after_phases limit m (Ok e) = answered limit m (certificate_of e) (basis_of e) (pivots_of e)
 after_phases limit m (Err (stop.Past p)) = outcome.Past p
 after_phases limit m (Err stop.Spent) = outcome.Spent
 
+-- how a solve ends for a model with this form; a clash of bounds is its own certificate
 abbrev pub after_form : Option ℕ → ℕ → Model → Result Form (FormFault ℚ) → ExactSolveEnd
 after_form limit budget m (Ok f) = after_phases limit m (phases_run limit budget f)
 after_form limit budget m (Err (fault.Clash j)) = answered limit m (certificate.Clash j) None 0
 after_form limit budget m (Err (fault.Past p)) = outcome.Past p
 
+-- the cold solve of a model
 unfoldable pub cold : Option ℕ → ℕ → Model → ExactSolveEnd
 cold limit budget m = after_form limit budget m (form_of limit m)

@@ -17,6 +17,7 @@ use Rattle.spec_runs.specs.declared.ends.Solved.{Solved}
 use Rattle.spec_runs.specs.declared.ends.Warm.TheVariants as warm
 use Rattle.spec_runs.specs.Warm.{WarmResult, warm as warm_start}
 
+-- how a solve ends, in exact numbers, with the route by which it got there
 abbrev pub SolveEnd : Type 0
 SolveEnd = Solved ℚ (List ℚ) (List Status)
 
@@ -31,12 +32,13 @@ fall_of stop.Unfit = fall.Unfit
 fall_of (stop.Past p) = fall.Past
 fall_of stop.Spent = fall.Spent
 
--- by how the warm start ended, and how the cold solve ends
+-- the end of a solve, by how the cold solve ends and how the warm start did
 abbrev pub solved_by : ExactSolveEnd → WarmResult → SolveEnd
 solved_by other (warm.Ended answer certificate basis pivots) =
     record { end = cold.Ended answer certificate basis pivots; route = Warm }
 solved_by other (warm.Stopped stop) = record { end = other; route = Fell (fall_of stop) }
 
+-- the solve of a model, from the basis that is handed to it, if one is
 unfoldable pub solve : Option ℕ → ℕ → Model → Option (List Status) → SolveEnd
 solve limit budget m None = record { end = cold_solve limit budget m; route = Cold }
 solve limit budget m (Some basis) = solved_by (cold_solve limit budget m) (warm_start limit budget m basis)

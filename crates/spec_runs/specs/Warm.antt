@@ -36,29 +36,34 @@ use Rattle.spec_simplex.specs.Fit.{fit_run}
 use Rattle.spec_simplex.specs.Dual.{DualEnded, dual_run}
 
 -- ---- one kind of stop as another
+-- a result whose stop is taken as another kind of stop
 abbrev pub stopped_as : {A D E : Type 0} → (D → E) → Result A D → Result A E
 stopped_as kind (Ok a) = Ok a
 stopped_as kind (Err e) = Err (kind e)
 
+-- why no tableau of the basis is made, as the stop of a warm start
 abbrev pub start_stop : StartStop ℚ → WarmStop ℚ
 start_stop start.Singular = fall.Singular
 start_stop (start.Past p) = fall.Past p
 
+-- why the primal or the dual method stopped, as the stop of a warm start
 abbrev pub run_stop : RunStop ℚ → WarmStop ℚ
 run_stop (stop.Past p) = fall.Past p
 run_stop stop.Spent = fall.Spent
 
 -- ---- the run
--- how it ended: by the primal or by the dual method
+-- how a run from a basis ended: by the primal or by the dual method
 pub data WarmEnd : Type 0 where
   ByPrimal : PrimalEnded → WarmEnd
   ByDual : DualEnded → WarmEnd
 
+-- the method that suits the fit of the tableau
 abbrev pub run_by : Option ℕ → ℕ → Tableau → Fit → Result WarmEnd (WarmStop ℚ)
 run_by limit budget t fit.Primal = stopped_as run_stop (run_from limit budget 0 t) >>= λ e. Ok (ByPrimal e)
 run_by limit budget t fit.Dual = stopped_as run_stop (dual_run limit budget t) >>= λ e. Ok (ByDual e)
 run_by limit budget t fit.Unfit = Err fall.Unfit
 
+-- the run from a basis: its tableau, the fit of that, and the method that suits it
 unfoldable pub warm_run : Option ℕ → ℕ → Form → List Status → Result WarmEnd (WarmStop ℚ)
 warm_run limit budget f basis =
     stopped_as start_stop (start_from limit f basis) >>= λ t.
@@ -70,28 +75,34 @@ warm_run limit budget f basis =
 abbrev pub row_multipliers : Tableau → ℕ → Bool → List ℚ
 row_multipliers t p below = made t.rows (λ i. directed below (entry_at t p (t.cols + i)))
 
+-- the certificate of what the dual method ends with at a tableau
 abbrev pub dual_certificate : Tableau → DualEnd → Certificate (List ℚ)
 dual_certificate t Optimal = certificate.Optimal (point t) (multipliers t)
 dual_certificate t (Infeasible p below) = certificate.Infeasible (row_multipliers t p below)
 
+-- the certificate of what the run from a basis ends with
 abbrev pub warm_certificate : WarmEnd → Certificate (List ℚ)
 warm_certificate (ByPrimal e) = certificate_at e.tableau e.end
 warm_certificate (ByDual e) = dual_certificate e.tableau e.end
 
 -- ---- the basis of an optimal end
+-- the basis that the dual method leaves, if that is of an optimum
 abbrev pub dual_basis : Tableau → DualEnd → Option (List Status)
 dual_basis t Optimal = basis_at t primal.Optimal
 dual_basis t (Infeasible p below) = None
 
+-- the basis that the run from a basis leaves, if that is of an optimum
 abbrev pub warm_basis : WarmEnd → Option (List Status)
 warm_basis (ByPrimal e) = basis_at e.tableau e.end
 warm_basis (ByDual e) = dual_basis e.tableau e.end
 
+-- the count of pivots and flips of a run
 abbrev pub warm_pivots : WarmEnd → ℕ
 warm_pivots (ByPrimal e) = e.used
 warm_pivots (ByDual e) = e.used
 
 -- ---- the certificate is checked, at the same limit
+-- how a warm start ends, in exact numbers
 abbrev pub WarmResult : Type 0
 WarmResult = Warm ℚ (List ℚ) (List Status)
 
@@ -101,10 +112,12 @@ checked certificate basis pivots (Ok answer) = outcome.Ended answer certificate 
 checked certificate basis pivots (Err (check.Past p)) = outcome.Stopped (fall.Past p)
 checked certificate basis pivots (Err (check.No n)) = outcome.Stopped fall.Spent
 
+-- how a warm start ends with a certificate, by the check of it
 abbrev pub answered : Option ℕ → Model → Certificate (List ℚ) → Option (List Status) → ℕ → WarmResult
 answered limit m certificate basis pivots = checked certificate basis pivots (check_run limit m certificate)
 
 -- ---- the whole
+-- how a warm start ends after its run
 abbrev pub after_run : Option ℕ → Model → Result WarmEnd (WarmStop ℚ) → WarmResult
 after_run limit m (Ok e) = answered limit m (warm_certificate e) (warm_basis e) (warm_pivots e)
 after_run limit m (Err s) = outcome.Stopped s
@@ -115,6 +128,7 @@ after_form limit budget m basis (Ok f) = after_run limit m (warm_run limit budge
 after_form limit budget m basis (Err (fault.Clash j)) = answered limit m (certificate.Clash j) None 0
 after_form limit budget m basis (Err (fault.Past p)) = outcome.Stopped (fall.Past p)
 
+-- the warm start of a model from a basis
 unfoldable pub warm : Option ℕ → ℕ → Model → List Status → WarmResult
 warm limit budget m basis = after_form limit budget m basis (form_of limit m)
 
