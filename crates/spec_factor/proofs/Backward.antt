@@ -1,4 +1,8 @@
 -- What btran gives, without a limit, is adjoint to what ftran gives.
+--
+-- `backward_one_same`: btran by one pair gives the same items, where the lists are the same at all m places.
+-- `adjoint`: the sum of products of btran's result with v is that of the list c with ftran's result of v.
+-- `backward_same`: btran gives the same items, where the lists are the same at all m places.
 use Rattle.std.proofs.Common.{◌≡◌, ◌≢◌, ℕ, ◌<◌, List, [], ◌∷◌, cond, nat_eq}
 use Rattle.std.proofs.Common.{refl, sym, ap, ap₂, ◌∙◌, subst, eq-eqb, ne_eqb}
 use Rattle.std.specs.Prelude.{All}

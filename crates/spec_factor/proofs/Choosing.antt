@@ -1,5 +1,8 @@
--- Factoring anew: the columns that were taken are unit vectors, and where a column finds no place it is a combination
--- of them.
+-- Factoring anew: the columns that were taken are unit vectors, and a column that finds no place is a combination of
+-- them.
+--
+-- `filled`: how many of the first n places have a column.
+-- `filled_all`: where the count of the first n places that have a column is n, each of them has one.
 use Rattle.std.proofs.Common.{◌≡◌, ◌≢◌, ℕ, zero, suc, ◌+◌, ◌<◌, ◌≤◌, List, length, get_or, set}
 use Rattle.std.proofs.Common.{replicate, Option, Some, None, is_none, is_some, Result, Ok, Err, Bool}
 use Rattle.std.proofs.Common.{true, false, not, ◌&&◌, cond, refl, sym, ap, ap₂, ◌∙◌, subst, arith}

@@ -1,4 +1,8 @@
--- The solves, factoring anew and replacing, at a limit beside the same without one.
+-- The solves, factoring anew and replacing a column, at a limit beside the same without one.
+--
+-- `choose_agrees`: finding places for the first n columns at a limit agrees with it without one, or an operation is
+--   refused.
+-- `factor_agrees`: factoring a basis at a limit agrees with it without one, or an operation is refused.
 use Rattle.std.proofs.Common.{◌≡◌, ℕ, ◌+◌, List, [], ◌∷◌, get_or, Option, Some, None, Ok, Err, cond, nat_eq}
 use Rattle.spec_exact.specs.Fraction.{ℚ, 0ℚ}
 use Rattle.spec_pivot.specs.declared.status.Status.{Status}

@@ -1,4 +1,12 @@
--- The product of elementary matrices: it keeps combinations, it looks at the m places alone, and it can be undone.
+-- The product of elementary matrices keeps combinations, depends on the m places alone, and can be undone.
+--
+-- `one_at_place`: an elementary matrix divides the item at its place by the pair's entry there.
+-- `one_off_place`: an elementary matrix takes from each other item its entry times the quotient at the place.
+-- `forward_same`: ftran gives the same items, where the lists are the same at all m places.
+-- `forward-append`: ftran by one list of pairs after another is ftran by the two lists in turn.
+-- `forward_combines`: ftran of a combination of columns is the same combination of ftran of the columns.
+-- `forward_undone`: ftran of an undone list gives the list at all m places.
+-- `forward_apart`: lists for which ftran gives the same at all m places are the same there.
 use Rattle.std.proofs.Common.{◌≡◌, ◌≢◌, ℕ, ◌<◌, List, [], ◌∷◌, ◌++◌, cond, nat_eq}
 use Rattle.std.proofs.Common.{refl, sym, ap, ap₂, ◌∙◌, subst, eq-eqb, ne_eqb}
 use Rattle.std.specs.Prelude.{All}

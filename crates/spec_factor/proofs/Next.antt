@@ -1,4 +1,11 @@
 -- After the same step two tableaus of one basis have the same columns again.
+--
+-- `flip_out`: a flip without a refused operation leaves the column at its other bound, with the values moved over the
+--   range.
+-- `pivot_out`: a pivot without a refused operation leaves the entering column in the position, with moved values.
+-- `next_statuses`: after the same choice two tableaus with equal statuses have equal statuses again.
+-- `next_same`: after the same choice two tableaus of one form with the same statuses by columns have the same ones
+--   again.
 use Rattle.std.proofs.Common.{◌≡◌, ℕ, ◌+◌, ◌<◌, List, get_or, set, Option, Some, None, Ok, sym, ap, ap₂, ◌∙◌, subst}
 use Rattle.std.proofs.lemmas.List.{ext_get_or}
 use Rattle.spec_exact.specs.Fraction.{ℚ, 0ℚ}

@@ -1,4 +1,7 @@
--- Factors that are taken anew of the same basic columns: they are there, and stand for them.
+-- Factors taken anew of the same basic columns exist, and stand for them.
+--
+-- `stands_as`: pairs that stand for a basis matrix stand for each matrix of the same entries.
+-- `refactored_goes`: a state that goes with a tableau can be factored anew, and then goes with it again.
 use Rattle.std.proofs.Common.{◌≡◌, ◌≢◌, ℕ, ◌+◌, ◌-◌, ◌<◌, ◌≤◌, List, get_or, map, Option, Some, None, Result}
 use Rattle.std.proofs.Common.{Ok, Err, Bool, true, false, cond, ◌&&◌, nat_le, refl, sym, ap, ◌∙◌, subst, arith}
 use Rattle.std.proofs.lemmas.Bool.{le-leb, lt-leb, leb-true, and_parts}

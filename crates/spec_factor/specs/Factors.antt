@@ -17,21 +17,26 @@ use Rattle.spec_simplex.specs.Eliminate.{basis_at}
 use Rattle.spec_factor.specs.declared.stop.NoFactors.{NoFactors}
 use Rattle.spec_factor.specs.declared.stop.NoFactors.TheVariants as stop
 
+-- an elementary matrix, by the one column in which it differs from the unit matrix
 pub record Pair : Type 0 where
   pub place : ℕ
   pub column : List ℚ  -- by places, and not 0 at its own
 
+-- the entry of a pair's column at place i
 abbrev pub pair_at : Pair → ℕ → ℚ
 pair_at e i = get_or e.column i 0ℚ
 
+-- pairs with the basic columns that they stand for
 pub record Factors : Type 0 where
   pub pairs : List Pair
   pub basic : List ℕ  -- of each place, its column
 
 -- ---- the columns of the form's equations
+-- the entry of column k of the form's equations in row i
 abbrev pub column_entry : Form → ℕ → ℕ → ℚ
 column_entry f i k = if nat_lt k f.cols then neg_ℚ (form_entry f i k) else one_at i (k - f.cols) 1ℚ
 
+-- column k of the form's equations, by rows
 abbrev pub column_of : Form → ℕ → List ℚ
 column_of f k = made f.rows (λ i. column_entry f i k)
 
@@ -42,6 +47,7 @@ forward_run limit m e v =
     quotient_run limit (get_or v e.place 0ℚ) (pair_at e e.place) >>= λ q.
     list_run m (λ i. if nat_eq i e.place then Ok q else less_product limit (pair_at e i) q (get_or v i 0ℚ))
 
+-- ftran by all pairs
 abbrev pub ftran_run : Option ℕ → ℕ → List Pair → List ℚ → Run (List ℚ)
 ftran_run limit m [] v = Ok v
 ftran_run limit m (e ∷ es) v = forward_run limit m e v >>= λ w. ftran_run limit m es w
@@ -54,6 +60,7 @@ backward_run limit m e v =
     (get_or v e.place 0ℚ) >>= λ s.
     quotient_run limit s (pair_at e e.place) >>= λ q. Ok (slice_set v e.place q)
 
+-- btran by all pairs
 abbrev pub btran_run : Option ℕ → ℕ → List Pair → List ℚ → Run (List ℚ)
 btran_run limit m [] v = Ok v
 btran_run limit m (e ∷ es) v = btran_run limit m es v >>= λ w. backward_run limit m e w
@@ -68,16 +75,18 @@ pub record Chosen : Type 0 where
 abbrev pub is_open : List (Option ℕ) → List ℚ → ℕ → Bool
 is_open columns v i = is_none (get_or columns i None) && not (eq_ℚ (get_or v i 0ℚ) 0ℚ)
 
+-- the place found before, or else place i where that is open
 abbrev pub or_open : Option ℕ → ℕ → Bool → Option ℕ
 or_open (Some p) i open_here = Some p
 or_open None i true = Some i
 or_open None i false = None
 
--- the least of these among the first n places
+-- the least open place among the first n
 abbrev pub open_place : List (Option ℕ) → List ℚ → ℕ → Option ℕ
 open_place columns v zero = None
 open_place columns v (suc n) = or_open (open_place columns v n) n (is_open columns v n)
 
+-- the pairs with one more behind them
 abbrev pub with_pair : List Pair → ℕ → List ℚ → List Pair
 with_pair pairs p v = pairs ++ record { place = p; column = v } ∷ []
 
@@ -86,19 +95,22 @@ abbrev pub chosen_at : Chosen → ℕ → List ℚ → Option ℕ → Result Cho
 chosen_at s k v None = Err stop.Singular
 chosen_at s k v (Some p) = Ok (record { pairs = with_pair s.pairs p v; columns = slice_set s.columns p (Some k) })
 
+-- column k taken after the others, where it finds a place
 abbrev pub choose_run : Option ℕ → Form → ℕ → Chosen → Result Chosen (NoFactors ℚ)
 choose_run limit f k s =
     refused_as stop.Past (ftran_run limit f.rows s.pairs (column_of f k)) >>= λ v.
     chosen_at s k v (open_place s.columns v f.rows)
 
+-- no pairs, and no place that has a column
 abbrev pub none_chosen : Form → Chosen
 none_chosen f = record { pairs = []; columns = replicate f.rows None }
 
--- over the first n columns of the form
+-- places for the basic columns among the first n columns of the form
 unfoldable pub choose_all : Option ℕ → Form → List Status → ℕ → Result Chosen (NoFactors ℚ)
 choose_all limit f basis n =
     steps n (λ k s. if is_basic (basis_at basis k) then choose_run limit f k s else Ok s) (none_chosen f)
 
+-- factors of the columns that have places
 abbrev pub factors_of : Chosen → Factors
 factors_of s = record { pairs = s.pairs; basic = map (λ o. unwrap_or o 0) s.columns }
 

@@ -31,11 +31,13 @@ pub record RevisedEnded : Type 0 where
   pub selection : Selection
   pub used : ℕ
 
+-- the end of a run whose budget is used up: at an end of the method, or spent
 abbrev pub over_or_spent : Revised → ℕ → Selection → Choice ℚ → Result RevisedEnded (RunStop ℚ)
 over_or_spent s used selection (End end) = Ok (record { end = end; state = s; selection = selection; used = used })
 over_or_spent s used selection (Flip j) = Err stop.Spent
 over_or_spent s used selection (Pivot p j theta to) = Err stop.Spent
 
+-- what a run does by its choice: it ends, or goes on from the state after the step
 abbrev pub over_or_next : Option ℕ → Form → Revised → ℕ → (Revised → Result RevisedEnded (RunStop ℚ)) → Selection →
     Choice ℚ → Result RevisedEnded (RunStop ℚ)
 over_or_next limit f s used next selection (End end) =
@@ -56,6 +58,7 @@ over_from limit f starts costs (suc left) used s =
     over_or_next limit f s used (λ u. over_from limit f starts costs left (used + 1) u) selection selection.choice
 
 -- ---- the two phases
+-- the selection where phase one makes no step
 abbrev pub nothing_seen : Revised → Selection
 nothing_seen s = record { multipliers = []; tableau = s.bare; choice = End Optimal }
 
@@ -66,6 +69,7 @@ over_one limit budget f starts s =
     then over_from limit f starts (first_costs f starts) budget 0 s
     else Ok (record { end = Optimal; state = s; selection = nothing_seen s; used = 0 })
 
+-- the state with which phase two begins, without artificial columns
 abbrev pub second_state : Revised → Revised
 second_state s = record s { bare = without_artificials s.bare }
 
@@ -79,6 +83,7 @@ pub record OverEnd : Type 0 where
 abbrev pub negatives : ℕ → List ℚ → List ℚ
 negatives m y = made m (λ i. neg_ℚ (get_or y i 0ℚ))
 
+-- the end where phase one leaves an artificial column that is not 0
 abbrev pub stuck_answer : RevisedEnded → OverEnd
 stuck_answer e =
     record {
@@ -87,10 +92,12 @@ stuck_answer e =
       pivots = e.used;
     }
 
+-- the certificate of an end of phase two
 abbrev pub over_certificate : Tableau → Selection → PrimalEnd → Certificate (List ℚ)
 over_certificate t selection Optimal = certificate.Optimal (point t) (negatives t.rows selection.multipliers)
 over_certificate t selection (Unbounded j up) = certificate.Unbounded (point t) (direction selection.tableau j up)
 
+-- the certificate, the basis and the count of an end of phase two
 abbrev pub end_answer : RevisedEnded → OverEnd
 end_answer e =
     record {
@@ -99,6 +106,7 @@ end_answer e =
       pivots = e.used;
     }
 
+-- phase two, with what phase one left of the budget
 abbrev pub over_two : Option ℕ → ℕ → Form → List (RowStart ℚ) → RevisedEnded → Result OverEnd (RunStop ℚ)
 over_two limit budget f starts one =
     over_from limit f starts f.cost (budget - one.used) one.used (second_state one.state) >>= λ two. Ok (end_answer two)
@@ -109,7 +117,7 @@ over_phases limit budget f starts s =
     over_one limit budget f starts s >>= λ one.
     if is_stuck one.state.bare then Ok (stuck_answer one) else over_two limit budget f starts one
 
--- the start, with the factors of all logicals
+-- the cold run over factors of a form: it starts with the factors of all logical columns
 unfoldable pub over_run : Option ℕ → ℕ → Form → Result OverEnd (RunStop ℚ)
 over_run limit budget f =
     refused_as stop.Past (list_run f.rows (row_start limit f)) >>= λ starts.
@@ -117,18 +125,22 @@ over_run limit budget f =
     over_phases limit budget f starts s
 
 -- ---- beside the run on whole tableaus
+-- the certificate, the basis and the count of an end on whole tableaus
 abbrev pub answer_of : PhasesEnd → OverEnd
 answer_of e = record { certificate = certificate_of e; basis = basis_of e; pivots = pivots_of e }
 
+-- a result on whole tableaus as one over factors
 abbrev pub answer_in : Result PhasesEnd (RunStop ℚ) → Result OverEnd (RunStop ℚ)
 answer_in (Ok e) = Ok (answer_of e)
 answer_in (Err s) = Err s
 
 -- ---- the check, at the same limit, of a model that has this form
+-- how a solve ends after the run over factors
 abbrev pub after_over : Option ℕ → Model → Result OverEnd (RunStop ℚ) → ExactSolveEnd
 after_over limit m (Ok a) = answered limit m a.certificate a.basis a.pivots
 after_over limit m (Err (stop.Past p)) = outcome.Past p
 after_over limit m (Err stop.Spent) = outcome.Spent
 
+-- the cold run over factors with the check of its certificate
 unfoldable pub over_factors : Option ℕ → ℕ → Model → Form → ExactSolveEnd
 over_factors limit budget m f = after_over limit m (over_run limit budget f)

@@ -32,6 +32,7 @@ pub record Revised : Type 0 where
   pub pairs : List Pair
   pub replaced : ℕ  -- how many columns were replaced since the factors were made
 
+-- a tableau without its rows and reduced costs
 abbrev pub bare_of : Tableau → Tableau
 bare_of t = record t { entries = []; reduced = [] }
 
@@ -40,6 +41,7 @@ bare_of t = record t { entries = []; reduced = [] }
 abbrev pub sign_of : List (RowStart ℚ) → Tableau → ℕ → ℚ
 sign_of starts t k = if is_artificial t k then logical_sign (start_at starts (k - form_columns t)) else 1ℚ
 
+-- the column that stands in the factors for column k: an artificial's is its row's logical
 abbrev pub factor_column : Tableau → ℕ → ℕ
 factor_column t k = if is_artificial t k then k - t.rows else k
 
@@ -58,24 +60,28 @@ factor_stop (Ok s) = Ok s
 factor_stop (Err (factor.Past p)) = Err (stop.Past p)
 factor_stop (Err factor.Singular) = Err stop.Spent
 
+-- the state with new factors, whose places are the positions
 abbrev pub refactored : Tableau → Factors → Revised
 refactored t s = record { bare = record t { basic = map (λ k. standing t k) s.basic }; pairs = s.pairs; replaced = 0 }
 
+-- the state with factors that are taken anew of its basic columns
 unfoldable pub refactor_run : Option ℕ → Form → Tableau → Result Revised (RunStop ℚ)
 refactor_run limit f t = factor_stop (factor_run limit f (factor_basis t)) >>= λ s. Ok (refactored t s)
 
--- as many replacements as are made on the same factors
+-- how many replacements are made before factors are taken anew
 abbrev pub replacements : ℕ
 replacements = 64
 
+-- the state with new factors after as many replacements, else as it is
 abbrev pub refreshed_run : Option ℕ → Form → Revised → Result Revised (RunStop ℚ)
 refreshed_run limit f s = if nat_eq s.replaced replacements then refactor_run limit f s.bare else Ok s
 
 -- ---- pricing
--- of each place, the cost of its column
+-- the cost of the basic column at each place
 abbrev pub basic_costs : List (RowStart ℚ) → List ℚ → Tableau → List ℚ
 basic_costs starts costs t = made t.rows (λ p. sign_of starts t (basic_at t p) *ℚ cost_at costs (basic_at t p))
 
+-- the multipliers of the rows, by btran of the basic costs
 unfoldable pub multipliers_run : Option ℕ → List (RowStart ℚ) → List ℚ → Revised → Run (List ℚ)
 multipliers_run limit starts costs s = btran_run limit s.bare.rows s.pairs (basic_costs starts costs s.bare)
 
@@ -96,6 +102,7 @@ abbrev pub or_priced : Option ℕ → Form → List ℚ → List ℚ → Tableau
 or_priced limit f costs y t k (Some e) = Ok (Some e)
 or_priced limit f costs y t k None = way_run limit f costs y t k >>= λ way. Ok (or_enters None k way)
 
+-- the entering column by Bland's rule: the least that may enter
 unfoldable pub entering_run : Option ℕ → Form → List ℚ → List ℚ → Tableau → Run (Option Entering)
 entering_run limit f costs y t = steps (all_columns t) (λ k e. or_priced limit f costs y t k e) None
 
@@ -103,16 +110,19 @@ entering_run limit f costs y t = steps (all_columns t) (λ k e. or_priced limit 
 abbrev pub seen_entry : List (RowStart ℚ) → Tableau → List ℚ → ℕ → ℚ
 seen_entry starts t z p = sign_of starts t (basic_at t p) *ℚ get_or z p 0ℚ
 
+-- the tableau as a step sees it
 abbrev pub seen : List (RowStart ℚ) → Tableau → ℕ → List ℚ → Tableau
 seen starts t j z =
     record t { entries = made t.rows (λ p. made (suc j) (λ k. if nat_eq k j then seen_entry starts t z p else 0ℚ)) }
 
 -- ---- the choice
+-- what a step sees and chooses
 pub record Selection : Type 0 where
   pub multipliers : List ℚ
   pub tableau : Tableau  -- as the step sees it
   pub choice : Choice ℚ
 
+-- the choice of a step once pricing has ended: an end, or the ratio test of the entering column
 abbrev pub selection_with : Option ℕ → Form → List (RowStart ℚ) → Revised → List ℚ → Option Entering → Run Selection
 selection_with limit f starts s y None = Ok (record { multipliers = y; tableau = s.bare; choice = End Optimal })
 selection_with limit f starts s y (Some e) =
@@ -120,6 +130,7 @@ selection_with limit f starts s y (Some e) =
     best_run limit (seen starts s.bare e.col z) e >>= λ best.
     Ok (record { multipliers = y; tableau = seen starts s.bare e.col z; choice = choice_by e best })
 
+-- the selection of a step: multipliers, pricing, ratio test
 unfoldable pub selection_run : Option ℕ → Form → List (RowStart ℚ) → List ℚ → Revised → Run Selection
 selection_run limit f starts costs s =
     multipliers_run limit starts costs s >>= λ y.
@@ -127,12 +138,15 @@ selection_run limit f starts costs s =
     selection_with limit f starts s y e
 
 -- ---- the flip, and the pivot: it changes the values, and then the column is replaced
+-- the state after a flip of column j
 unfoldable pub flip_over_run : Option ℕ → Revised → Tableau → ℕ → Run Revised
 flip_over_run limit s t j = flip_run limit t j >>= λ u. Ok (record s { bare = bare_of u })
 
+-- the factors of a state
 abbrev pub factors_at : Revised → Factors
 factors_at s = record { pairs = s.pairs; basic = s.bare.basic }
 
+-- the state after a pivot, before factors may be taken anew
 unfoldable pub exchange_run : Option ℕ → Form → Revised → Tableau → ℕ → ℕ → ℚ → Status → Run Revised
 exchange_run limit f s t p j theta to =
     moved_run limit t j theta (Some p) >>= λ values.
@@ -144,6 +158,7 @@ exchange_run limit f s t p j theta to =
       replaced = suc s.replaced;
     })
 
+-- the state after a pivot
 abbrev pub pivot_over_run : Option ℕ → Form → Revised → Tableau → ℕ → ℕ → ℚ → Status → Result Revised (RunStop ℚ)
 pivot_over_run limit f s t p j theta to =
     refused_as stop.Past (exchange_run limit f s t p j theta to) >>= λ u. refreshed_run limit f u

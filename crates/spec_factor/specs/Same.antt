@@ -12,7 +12,7 @@ use Rattle.spec_factor.specs.Factors.{Pair}
 use Rattle.spec_factor.specs.Basis.{StandsFor, basis_of}
 use Rattle.spec_factor.specs.Revised.{Revised, factor_column}
 
--- the same choice, named by its columns
+-- two choices are the same, where a pivot is named by its columns
 abbrev pub SameChoice : Tableau → Tableau → Choice ℚ → Choice ℚ → Type 0
 SameChoice t u (End end) d = d ≡ End end
 SameChoice t u (Flip j) d = d ≡ Flip j
