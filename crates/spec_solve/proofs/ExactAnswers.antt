@@ -1,4 +1,7 @@
 -- What an exact solve answers is true, and what it knows is what any other solve knows.
+--
+-- `narrow_shown`: a certificate of numbers within 127 bits that the check at 127 bits accepts shows its answer exactly.
+-- `solved_exactly`: the end of a solve at 127 bits, without its basis, is an end of an exact solve.
 use Rattle.std.proofs.Common.{◌≡◌, ℕ, List, Option, Some, None, Ok, All, get_or, refl, sym, ap, ◌∙◌, subst}
 use Rattle.std.proofs.Common.{IfSome, arith}
 use Rattle.spec_exact.specs.Fraction.{ℚ}

@@ -1,5 +1,9 @@
 -- The certificate of a cold solve at the limit of the program, of a model whose numbers are of at most 127 bits, has
 -- such numbers.
+--
+-- `fixed_narrow`: bounds within 127 bits are so too where the artificial columns are fixed at 0.
+-- `moves_narrow`: where a tableau's numbers are within 127 bits, so is each column's entry of a ray.
+-- `point_narrow`: where a tableau's numbers are within 127 bits, so are the values of the model's columns.
 use Rattle.std.proofs.Common.{◌≡◌, ◌+◌, ◌-◌, ℕ, zero, suc, Bool, true, false, cond, Option, Some, None, Result, Ok, Err}
 use Rattle.std.proofs.Common.{List, nat_eq, refl, subst}
 use Rattle.std.specs.Prelude.{All}

@@ -1,4 +1,11 @@
 -- At the limit of the program operations give fractions of at most 127 bits, and so do runs of them.
+--
+-- `sum_narrow`: a sum that is not refused at 127 bits is within them.
+-- `difference_narrow`: a difference that is not refused at 127 bits is within them.
+-- `quotient_narrow`: a quotient that is not refused at 127 bits is within them.
+-- `plus_narrow`: a number with a product added, where nothing is refused at 127 bits, is within them.
+-- `less_narrow`: a number with a product subtracted, where nothing is refused at 127 bits, is within them.
+-- `all_given`: a property of each result of the runs of a list holds of all items of the list.
 use Rattle.std.proofs.Common.{◌≡◌, ◌<◌, ℕ, ◌&&◌, Bool, true, false, cond, Some, None, Ok}
 use Rattle.std.proofs.Common.{List, get_or, unsigned_abs, refl, subst, arith}
 use Rattle.std.specs.Prelude.{All}

@@ -1,5 +1,14 @@
 -- Where a model's numbers are of at most 127 bits, so are those of its form and of the tableau that the form begins
 -- with, at the limit of the program.
+--
+-- `one_narrow`: the number 1 is within 127 bits.
+-- `least_narrow`: a cost within 127 bits is so too with the sign of the sense.
+-- `form_narrow`: the form of a model whose numbers are within 127 bits has such numbers.
+-- `form_entry_narrow`: each entry of a form whose numbers are within 127 bits is so too.
+-- `row_start_narrow`: what a row begins with, where nothing is refused at 127 bits, is within them.
+-- `one_at_narrow`: a number within 127 bits at one place, and 0 at all others, is so at each place.
+-- `priced_narrow`: reduced costs of costs within 127 bits, where nothing is refused, are within 127 bits.
+-- `start_narrow`: the first tableau of a form whose numbers are within 127 bits has such numbers.
 use Rattle.std.proofs.Common.{◌≡◌, ◌+◌, ◌-◌, ℕ, suc, Bool, true, false, cond, Option, Some, None, Ok, List, [], ◌∷◌}
 use Rattle.std.proofs.Common.{get_or, map, replicate, nat_eq, subst, arith}
 use Rattle.std.specs.Prelude.{All, nat_lt}

@@ -1,4 +1,16 @@
 -- The numbers of a tableau, of at most 127 bits, stay so in each step of the method at the limit of the program.
+--
+-- `at`: a property of all items of a list and of the default holds of what is read at each place.
+-- `number_at`: what is read at a place of a list of numbers within 127 bits, or 0, is within 127 bits.
+-- `place_narrow`: each entry of rows of numbers within 127 bits, or 0, is within 127 bits.
+-- `bound_at`: each bound of a list of bounds within 127 bits, or none, is within 127 bits.
+-- `or_zero_narrow`: a bound within 127 bits, or 0 where there is none, is within 127 bits.
+-- `stand_narrow`: where a nonbasic column stands between bounds within 127 bits is within 127 bits.
+-- `moved_narrow`: values within 127 bits stay so as a column moves, where nothing is refused.
+-- `flip_narrow`: the numbers of a tableau within 127 bits stay so in a flip, where nothing is refused.
+-- `shifted_narrow`: values within 127 bits stay so where one of them is shifted and nothing is refused.
+-- `exchanged_narrow`: the numbers of a tableau within 127 bits stay so as two columns exchange their statuses.
+-- `pivot_narrow`: the numbers of a tableau within 127 bits stay so in a pivot, where nothing is refused.
 use Rattle.std.proofs.Common.{◌≡◌, ℕ, Bool, true, false, cond, Option, Some, None, Ok, List, [], length, get_or, set}
 use Rattle.std.proofs.Common.{sym, subst, ⊎_elim}
 use Rattle.std.specs.Prelude.{All, IfSome, nat_eq}

@@ -1,4 +1,7 @@
 -- What the two stated runs end with may be answered, of a model that may be kept.
+--
+-- `part_is_solved`: the stated run of a kept model that has a form is a solve of it from no basis.
+-- `stated_is_solved`: the stated cold run over factors of a kept model is a solve of it from no basis.
 use Rattle.std.proofs.Common.{◌≡◌, ℕ, List, Option, Some, None, Result, Ok, Err, refl, ◌∙◌, subst}
 use Rattle.spec_exact.specs.Fraction.{ℚ}
 use Rattle.spec_exact.specs.Narrow.{number_limit}

@@ -1,4 +1,7 @@
 -- What may be answered is true, and is what the cold solve at the limit finds.
+--
+-- `ended_true`: an answer that may be given holds of the model.
+-- `one_truth`: two answers that hold of one model are equal.
 use Rattle.std.proofs.Common.{◌≡◌, ℕ, List, Option, Some, refl, sym, ap, ◌∙◌, subst, pos}
 use Rattle.spec_exact.specs.Fraction.{ℚ}
 use Rattle.spec_exact.specs.Narrow.{number_limit}

@@ -20,18 +20,21 @@ use Rattle.spec_solve.specs.Order.{GivesUp}
 use Rattle.spec_solve.specs.Answers.{IsSolved}
 use Rattle.spec_solve.specs.OfBasis.{IsOfBasis}
 
+-- an answer of an exact solve, in rational numbers
 abbrev pub RationalAnswer : Type 0
 RationalAnswer = ExactAnswer ℚ (List ℚ) (List Status)
 
+-- how an exact solve ends, in rational numbers
 abbrev pub RationalEnd : Type 0
 RationalEnd = ExactEnd ℚ (List ℚ) (List Status)
 
--- Its numerator and its denominator have so few digits that its text fits a line of a certificate: such a line has at most
+-- The numerator and the denominator of a number have so few digits that its text fits a line of a certificate: such a
+-- line has at most
 -- 16,384 bytes, of which some hundred are for a letter, a name, a sign and a slash.
 abbrev pub FitsLine : ℚ → Type 0
 FitsLine v = (above : ℕ) × (below : ℕ) × (unsigned_abs v.num < 10 ^ above) × (v.den < 10 ^ below) × (above + below ≤ 16000)
 
--- each number of the certificate does
+-- the text of each number of the certificate fits a line
 abbrev pub FitsLines : Certificate (List ℚ) → Type 0
 FitsLines (Optimal x y) = All FitsLine x × All FitsLine y
 FitsLines (Infeasible y) = All FitsLine y
@@ -47,6 +50,7 @@ pub record IsBasisOfAnswer (m : Model) (certificate : Certificate (List ℚ)) (b
   pub stands : IsOfBasis m basis certificate
   pub of_form : (f : Form) → form_of (Some number_limit) m ≡ Ok f → IsBasisOf f basis
 
+-- the answer's certificate shows it, and its basis, if there is one, is that of the certificate
 abbrev pub IsExactAnswer : Model → RationalAnswer → Type 0
 IsExactAnswer m a = IsShown m a.known a.certificate × IfSome a.basis (IsBasisOfAnswer m a.certificate)
 

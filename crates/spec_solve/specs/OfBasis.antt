@@ -13,12 +13,14 @@ use Rattle.spec_pivot.specs.declared.status.Status.{Status}
 use Rattle.spec_pivot.specs.declared.status.Status.TheVariants.{Basic, AtLower, AtUpper, AtZero}
 use Rattle.spec_simplex.specs.Eliminate.{basis_at}
 
+-- column j stands as its status says: a basic one has the reduced cost 0, each other one is at that bound or at 0
 abbrev pub ColumnStands : Model → List ℚ → List ℚ → ℕ → Status → Type 0
 ColumnStands m x y j Basic = reduced_run None m y j ≡ Ok 0ℚ
 ColumnStands m x y j AtLower = (bounds m j).lower ≡ Some (part x j)
 ColumnStands m x y j AtUpper = (bounds m j).upper ≡ Some (part x j)
 ColumnStands m x y j AtZero = part x j ≡ 0ℚ
 
+-- row i stands as its status says: a basic one has the multiplier 0, each other one has its sum at that limit or at 0
 abbrev pub RowStands : Model → List ℚ → List ℚ → ℕ → Status → Type 0
 RowStands m x y i Basic = part y i ≡ 0ℚ
 RowStands m x y i AtLower =
@@ -27,6 +29,7 @@ RowStands m x y i AtUpper =
     (v : ℚ) × (activity_run None m x i ≡ Ok v) × (upper_run None (row m i) ≡ Ok (Some v))
 RowStands m x y i AtZero = activity_run None m x i ≡ Ok 0ℚ
 
+-- the point and the multipliers are those of the basis
 pub record StandsAt (m : Model) (basis : List Status) (x y : List ℚ) : Type 0 where
   pub columns : (j : ℕ) → j < width m → ColumnStands m x y j (basis_at basis j)
   pub rows : (i : ℕ) → i < height m → RowStands m x y i (basis_at basis (width m + i))

@@ -17,13 +17,13 @@ use Rattle.spec_runs.specs.Warm.{WarmResult, warm}
 use Rattle.spec_runs.specs.Solve.{SolveEnd, fall_of}
 use Rattle.spec_factor.specs.Over.{over_factors}
 
--- it ends without an answer: an operation is refused, or the budget is spent
+-- a solve ends without an answer: an operation is refused, or the budget is spent
 abbrev pub GivesUp : ExactSolveEnd → Type 0
 GivesUp (Ended known certificate basis pivots) = ⊥
 GivesUp (Past p) = Unit {0}
 GivesUp Spent = Unit {0}
 
--- the checker says yes at the limit to the certificate that it ends with
+-- a solve ends with a certificate to which the checker says yes at the limit
 abbrev pub IsChecked : Option ℕ → Model → ExactSolveEnd → Type 0
 IsChecked limit m (Ended known certificate basis pivots) = check_run limit m certificate ≡ Ok known
 IsChecked limit m (Past p) = ⊥
