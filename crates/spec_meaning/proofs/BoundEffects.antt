@@ -1,4 +1,8 @@
 -- What one more card of BOUNDS makes of a column's bounds.
+--
+-- `effects`: the fields of a card of BOUNDS say of both bounds what the reader does with the card.
+-- `bounded_push`: a column with the bounds that some cards say has, after one more card, those that all of them say.
+-- `none_bounded`: a column with a lower bound 0 and no upper one has the bounds that no card says.
 use Rattle.std.proofs.Common.{◌≡◌, ℕ, Bool, true, false, not, ◌&&◌, ◌||◌, cond, Option, Some, None}
 use Rattle.std.proofs.Common.{is_some, Ok, List, [], ◌∷◌, ◌++◌, refl, sym, ap, ◌∙◌, subst, append-nil}
 use Rattle.std.specs.List.{filter_map, cons_option, list_any}

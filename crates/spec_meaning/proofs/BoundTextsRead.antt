@@ -1,4 +1,7 @@
--- The fields of a card of BOUNDS in both forms.
+-- The fields of a card of BOUNDS, read in both forms.
+--
+-- `kind_is`: a kind of bounds that the reader takes a word for is the kind that the word means.
+-- `texts_are`: the set, the column and the value that the reader takes of a card are those that its fields mean.
 use Rattle.std.proofs.Common.{◌≡◌, ℕ, suc, Bool, true, false, ◌||◌, cond, Some, Ok, Err}
 use Rattle.std.proofs.Common.{List, [], ◌∷◌, length, refl, sym, ap, ◌∙◌, subst, codes, arith}
 use Rattle.std.specs.List.{filter, list_any}

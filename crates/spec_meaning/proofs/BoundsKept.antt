@@ -1,4 +1,7 @@
--- Columns, their bounds, and a card of BOUNDS.
+-- The bounds of columns, and what one more card of BOUNDS makes of them.
+--
+-- `new_bounded`: columns that no card has bounded have the bounds that no card says.
+-- `bounds_card_says`: where the cards so far say the bounds, they do so with one more card that the reader takes.
 use Rattle.std.proofs.Common.{◌≡◌, ◌≢◌, ℕ, zero, suc, ◌+◌, ◌<◌, Bool, true, false, not, ◌&&◌, ◌||◌}
 use Rattle.std.proofs.Common.{cond, ltb, Option, Some, None, Ok, List, [], ◌∷◌, ◌++◌, length, map}
 use Rattle.std.proofs.Common.{refl, sym, ap, ◌∙◌, subst, subst₂, get_or, arith, append-nil, All}

@@ -1,4 +1,9 @@
--- What holds of each state and the cards so far, holds of the last one and all cards of the text.
+-- What holds of each state with the cards so far holds of the last state with all cards of the text.
+--
+-- `both_kept`: where two properties are kept by each card and heading, both together are kept.
+-- `stays`: a data card of any section leaves the section that is here and those that have begun.
+-- `headed_leads`: the word behind a heading changes the state in nothing but the name and the sense.
+-- `spelled_by`: a property that is kept holds of the state that the model is made of, with all cards of the text.
 use Rattle.std.proofs.Common.{◌≡◌, ℕ, ◌+◌, true, false, not, ◌&&◌, Some, None, Ok, Err, List}
 use Rattle.std.proofs.Common.{[], ◌∷◌, refl, sym, ap, ◌∙◌, subst, subst₂, is_some}
 use Rattle.std.proofs.lemmas.Bool.{and_parts, not-true}

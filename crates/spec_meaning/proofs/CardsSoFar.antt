@@ -1,4 +1,14 @@
 -- The cards of a text so far, and those that are still to come.
+--
+-- `before_is`: the elements before the first that passes a test are those that std's function gives.
+-- `behind_is`: the elements behind the first that passes a test are those that std's function gives.
+-- `same_section`: two sections with the same word are the same.
+-- `begun_elsewhere`: where a section begins, whether another one has begun stays as it was.
+-- `skipped_plain`: a comment or a blank line is no heading, and begins no section.
+-- `data_plain`: a line with a blank in column 1 is no heading, and begins no section.
+-- `title_plain`: a line that is no heading leaves the heading to come as it is.
+-- `cards_skip`: a comment or a blank line leaves the cards to come as they are.
+-- `cards_data`: a data card of the section that is here goes behind that section's cards so far.
 use Rattle.std.proofs.Common.{◌≡◌, ℕ, ◌+◌, Bool, true, false, not, ◌&&◌, cond}
 use Rattle.std.proofs.Common.{Option, Some, None, option_map, List, [], ◌∷◌, ◌++◌, map, take, drop}
 use Rattle.std.proofs.Common.{refl, sym, ap, ◌∙◌, append_assoc, add-one, add_comm}

@@ -1,4 +1,15 @@
--- Columns that cards name, their pairs, and entries that are put at their place.
+-- The columns that cards name, their pairs, and entries that are put at their place.
+--
+-- `column_is`: the column's name and the pairs of a card that has a shape are those that the reader takes.
+-- `pairs_push`: one more card adds its pairs to those of the column that it names, and to no other's.
+-- `named_push`: after one more card a name is named where it was, or where the card names it.
+-- `firsts_push`: one more card adds its column to the named ones, unless that is named already.
+-- `not_named`: a name that differs from all named columns is on no card.
+-- `unnamed_pairs`: a column that no card names has no pairs.
+-- `none_named`: no cards name no columns.
+-- `put_non_zero`: entries that are not 0 stay so with another such entry put among them.
+-- `put_here`: a number put at a row that had no entry is the entry of that row.
+-- `put_there`: a number put at one row leaves the entry of each other row.
 use Rattle.std.proofs.Common.{◌≡◌, ◌≢◌, ℕ, ◌≤◌, Bool, true, false, not, ◌||◌, cond, eqb, eq-eqb, ltb, List, []}
 use Rattle.std.proofs.Common.{◌∷◌, ◌++◌, length, map, refl, sym, ap, ◌∙◌, subst, arith, append-nil, All, Ok}
 use Rattle.std.specs.List.{filter, flat_map, list_any}

@@ -1,4 +1,8 @@
--- The numbers that a column has for targets.
+-- The numbers that a column has for the objective and for rows.
+--
+-- `number_here`: a number that a column takes for a target that had 0 is the target's number.
+-- `number_there`: a number that a column takes for one target leaves the number of each other target.
+-- `number_non_zero`: the entries of a column that are not 0 stay so with one more number.
 use Rattle.std.proofs.Common.{◌≡◌, ◌≢◌, Bool, true, false, cond, eqb, Option, Some}
 use Rattle.std.proofs.Common.{None, refl, sym, ◌∙◌}
 use Rattle.std.proofs.Common.{arith}

@@ -1,4 +1,9 @@
--- The columns of a model are what COLUMNS says.
+-- The columns of a model, and their numbers, are what the cards of COLUMNS say.
+--
+-- `columns_kept`: each card and heading keeps that the cards of COLUMNS so far say the state's columns.
+-- `columns_named`: the columns of a spelled model are those that the cards name, in that order.
+-- `coefficient_said`: each coefficient of a spelled model is the number that the cards give its column for its row.
+-- `cost_said`: each cost of a spelled model is the number that the cards give its column for the objective.
 use Rattle.std.proofs.Common.{◌≡◌, ℕ, ◌<◌, true, false, Some, None, Ok, List, [], ◌∷◌}
 use Rattle.std.proofs.Common.{map, refl, sym, ap, ◌∙◌, subst, subst₂, get_or, All, IfSome}
 use Rattle.std.proofs.lemmas.List.Elements.{All-nil, All-cons, All-head, All-tail, All-map}

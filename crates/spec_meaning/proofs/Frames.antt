@@ -1,4 +1,7 @@
--- What a data card of a section leaves as it was.
+-- What a data card of a section leaves in the state as it was.
+--
+-- `changed_unseen`: where a change of an element does not change how it is viewed, a list's view stays.
+-- `card_leads`: a data card that the reader takes changes nothing but what belongs to its section.
 use Rattle.std.proofs.Common.{◌≡◌, ℕ, zero, suc, Bool, true, false, not, ◌&&◌, cond}
 use Rattle.std.proofs.Common.{Some, None, Ok, List, [], ◌∷◌, ◌++◌, map, refl}
 use Rattle.std.proofs.Common.{ap, ◌∙◌, subst, get_or}

@@ -1,4 +1,11 @@
--- Lines that begin sections, and the order of these.
+-- The lines that begin sections, and what they do to the cards to come.
+--
+-- `word_is`: a word that the reader takes for a section is that section's word.
+-- `heading_is`: a line with a section's word in column 1 is the heading of that section and of no other.
+-- `cards_begin`: a heading makes its section the one that is here, and leaves all cards to come.
+-- `title_begin`: a heading becomes its section's title, and leaves the titles of the others.
+-- `cards_end`: behind ENDATA no cards are to come.
+-- `title_end`: behind ENDATA no headings are to come.
 use Rattle.std.proofs.Common.{sym, ◌≡◌, ℕ, Bool, true, false, not, ◌&&◌, ◌||◌, cond, Option, Some}
 use Rattle.std.proofs.Common.{None, option_map, List, [], ◌∷◌, ◌++◌, refl, ap, ◌∙◌, append-nil}
 use Rattle.std.specs.List.{find}

@@ -1,4 +1,15 @@
--- The limits of a row, by its kind, its right side and its range.
+-- When a number is between the limits of a row, by the row's kind, right side and range.
+--
+-- `at_most`: in a row of type L a number is between the limits if and only if it is at most the right side.
+-- `at_most_from`: in a row of type L with a range it is at most the right side, and not below that by more than the
+--   range.
+-- `at_least`: in a row of type G a number is between the limits if and only if it is at least the right side.
+-- `at_least_to`: in a row of type G with a range it is at least the right side, and not above that by more than the
+--   range.
+-- `equal`: in a row of type E a number is between the limits if and only if it is the right side.
+-- `equal_up_to`: in a row of type E a range of 0 or more reaches up from the right side.
+-- `equal_down_to`: in a row of type E a range below 0 reaches down from the right side.
+-- `free`: in a row of type N each number is between the limits.
 use Rattle.std.proofs.Common.{◌≡◌, ◌↔◌, Bool, cond, Option, Some, None, refl, sym, ap, ◌∙◌, subst}
 use Rattle.spec_exact.specs.Fraction.{ℚ, 0ℚ, ◌+ℚ◌, ◌-ℚ◌, abs_ℚ, ◌≤ℚ◌, ◌<ℚ◌}
 use Rattle.spec_exact.proofs.Order.{≤ℚ_refl, ≤ℚ_antisym, lt_test, not_lt_test}

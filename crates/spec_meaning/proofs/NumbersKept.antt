@@ -1,4 +1,8 @@
--- Cards of RHS or of RANGES give numbers to rows, and the state has them.
+-- Cards of RHS or of RANGES give numbers to rows, and the state has these numbers.
+--
+-- `row_put`: a change that sets the number of a row without one, and keeps kind and name, puts it there alone.
+-- `viewed_row`: two lists of rows with the same view show the same at each place.
+-- `row_counts`: whether a row counts depends on its kind alone.
 use Rattle.std.proofs.Common.{◌≡◌, ◌≢◌, ℕ, zero, suc, ◌<◌, Bool, true, false, cond, eqb, eq-eqb, Option}
 use Rattle.std.proofs.Common.{Some, None, Ok, List, [], ◌∷◌, ◌++◌, length, map, refl}
 use Rattle.std.proofs.Common.{sym, ap, ◌∙◌, subst, get_or, arith, append_assoc, append-nil}

@@ -1,4 +1,10 @@
--- The order of sections, and what a line does.
+-- The order of the sections, and what a line does.
+--
+-- `start_ordered`: before the first line the sections are in order.
+-- `one_more`: the sections that have begun are, after one more, those from before and that one.
+-- `not_both`: a test that is both true and false gives anything.
+-- `begun_ordered`: sections in order stay so where a section begins that may follow and has not begun before.
+-- `step_did`: a line that the reader takes is skipped, is a data card of the section here, or is a heading.
 use Rattle.std.proofs.Common.{◌≡◌, ℕ, Bool, true, false, ◌||◌, cond, Option, Some, None, Ok, List, refl, ◌∙◌, subst}
 use Rattle.std.proofs.lemmas.Bool.{or_left}
 use Rattle.spec_text.specs.declared.line.Line.{Line}

@@ -1,4 +1,8 @@
--- The ranges of rows are what RANGES says.
+-- The ranges of rows are what the cards of RANGES say.
+--
+-- `range_said`: the range of each row of a spelled model, but for free rows, is the one that the cards say, if any.
+-- `range_by_kind`: the range of each row of a spelled model is what the cards say for its kind; a free row has none.
+-- `no_range_said`: in a text that spells a model no card gives the objective a range.
 use Rattle.std.proofs.Common.{◌≡◌, ℕ, ◌<◌, Bool, true, false, not, Option, Some, None, Ok, List, [], ◌∷◌, refl, ap, ◌∙◌, subst}
 use Rattle.std.proofs.lemmas.Bool.{not-true}
 use Rattle.spec_exact.specs.Fraction.{ℚ}

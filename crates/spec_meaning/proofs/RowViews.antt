@@ -1,4 +1,17 @@
--- The names of rows that a state has, what they stand for, and what leaves them as they are.
+-- The names of the rows in a state, what each stands for, and what leaves them as they are.
+--
+-- `rows_stay`: a data card of another section than ROWS leaves the objective and the rows' kinds and names.
+-- `rows_stay_headed`: a heading leaves the objective and the rows' kinds and names.
+-- `many_labels`: there are as many kinds and names as rows.
+-- `place_by_view`: what a name stands for in a state depends on the objective and the rows' names alone.
+-- `place_name`: a target that a name stands for has that name, and is the objective or one of the rows.
+-- `one_name`: two names that stand for one target are the same.
+-- `one_target`: two targets that one name stands for are the same.
+-- `objective_place`: the name of the objective stands for the objective.
+-- `all_count`: where each kind counts, each target counts.
+-- `placed_objective`: a name that stands for a target does so after a first objective, whose name was not taken.
+-- `placed_row`: a name that stands for a target does so after one more row.
+-- `placed_new`: the name of a new row, which was not taken, stands for that row.
 use Rattle.std.proofs.Common.{◌≡◌, ℕ, suc, ◌+◌, ◌<◌, ◌≤◌, Bool, true, false, not, cond}
 use Rattle.std.proofs.Common.{ltb, Option, Some, None, Ok, List, [], ◌∷◌, ◌++◌, length}
 use Rattle.std.proofs.Common.{map, refl, sym, ap, ◌∙◌, subst, get_or, arith, length-append}

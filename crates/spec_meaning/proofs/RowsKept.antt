@@ -1,4 +1,9 @@
--- The objective and the rows are those of the cards of ROWS.
+-- The objective and the rows are those that the cards of ROWS say.
+--
+-- `rows_kept`: each card and heading keeps that the cards of ROWS so far say the state's objective and rows.
+-- `rows_said`: the kinds and names of a spelled model's rows are those on the cards, without the first row of type N.
+-- `objective_said`: the objective of a spelled model is the first row of type N on the cards.
+-- `row_place`: in a state whose rows are placed, the name of row i stands for row i.
 use Rattle.std.proofs.Common.{◌≡◌, ℕ, ◌<◌, ◌≤◌, Bool, true, false, ◌&&◌, cond, ltb, Some, None}
 use Rattle.std.proofs.Common.{is_none, Ok, List, [], ◌∷◌, ◌++◌, length, map, refl, sym, ap, ◌∙◌}
 use Rattle.std.proofs.Common.{subst, get_or, arith, length-append}

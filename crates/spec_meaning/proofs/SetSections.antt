@@ -1,4 +1,14 @@
--- Where RHS and RANGES stand among the sections, and what their cards are.
+-- Where RHS and RANGES stand among the sections, and which cards are theirs.
+--
+-- `part_told`: where a card of RHS or RANGES may come, the section has begun.
+-- `part_later`: while cards of ROWS are read, RHS and RANGES have not begun.
+-- `part_not_rows`: ROWS is neither RHS nor RANGES.
+-- `part_now`: a section that begins here has begun.
+-- `cards_first`: before the first line there are no cards of RHS or RANGES.
+-- `cards_titled`: a heading leaves the cards of RHS and RANGES so far.
+-- `cards_more`: a data card goes behind the cards of RHS or RANGES where it is one of that section.
+-- `cards_all`: the cards of RHS or RANGES of the whole text are those that its lines have in that section.
+-- `set_card_did`: a card of RHS or RANGES that is taken puts its pairs, or is skipped because another set is used.
 use Rattle.std.proofs.Common.{◌≡◌, true, false, Some, Ok, List, [], refl, sym, ◌∙◌, subst}
 use Rattle.spec_model.specs.declared.parts.SizeLimits.{SizeLimits}
 use Rattle.spec_mps.specs.declared.section.Section.{Section}

@@ -1,4 +1,13 @@
--- Numbers of the set that is used in RHS or in RANGES.
+-- The numbers of the set that is used in RHS or in RANGES.
+--
+-- `has_its_shape`: a card whose texts the reader takes has one of its section's shapes.
+-- `shape_length`: a property of the lengths of all shapes holds of the number of a card's texts.
+-- `side_is`: the set and the pairs of a card of RHS or RANGES are those that the reader takes.
+-- `same_set_itself`: a set, or the absent one, is the same as itself.
+-- `same_set_true`: two sets that pass the reader's test are equal.
+-- `same_as`: the test of equal sets here is that of the reader.
+-- `used_push`: one more card adds its pairs to those of the set in use, if it is of that set.
+-- `says_skipped`: a card of another set leaves that the cards so far say the numbers.
 use Rattle.std.proofs.Common.{◌≡◌, ℕ, suc, ◌≤◌, Bool, true, false, ◌||◌, cond, Option, Some, None, Ok, Err, List, []}
 use Rattle.std.proofs.Common.{◌∷◌, ◌++◌, length, refl, sym, ap, ◌∙◌, subst, subst₂, arith, append-nil, append_assoc}
 use Rattle.std.specs.List.{filter, flat_map, list_any}

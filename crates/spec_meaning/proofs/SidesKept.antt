@@ -1,4 +1,7 @@
--- The right sides of rows, and the offset, are what RHS says.
+-- The right sides of rows, and the offset, are what the cards of RHS say.
+--
+-- `right_side_said`: the right side of each row of a spelled model is the number that the cards give, or 0.
+-- `offset_said`: the negative of a spelled model's offset is the number that the cards give the objective, or 0.
 use Rattle.std.proofs.Common.{◌≡◌, ℕ, ◌<◌, false, not, Some, Ok, ◌∷◌, refl, ap, subst}
 use Rattle.std.proofs.lemmas.Bool.{not-true}
 use Rattle.spec_exact.specs.Fraction.{ℚ, neg_ℚ}

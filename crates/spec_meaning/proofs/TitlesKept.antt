@@ -1,4 +1,7 @@
--- The name and the sense are what NAME and OBJSENSE say.
+-- The name and the sense are what the lines of NAME and OBJSENSE say.
+--
+-- `name_said`: the name of a spelled model is the second word of its NAME line.
+-- `sense_said`: the sense of a spelled model is that of the one word under or beside OBJSENSE, or MIN.
 use Rattle.std.proofs.Common.{cond, ◌≡◌, ℕ, Bool, true, false, Option, Some, None, is_some, Ok, List, []}
 use Rattle.std.proofs.Common.{◌∷◌, ◌++◌, map, refl, sym, ap, ◌∙◌, subst, subst₂, append_assoc, codes, inl, inr}
 use Rattle.std.specs.List.{filter}

@@ -6,19 +6,23 @@ use Rattle.spec_model.specs.Model.{Name}
 use Rattle.spec_mps.specs.Fields.{Fields, texts_of}
 use Rattle.spec_meaning.specs.NumberCards.{Pairs}
 
+-- what the texts of a card say
 pub record ColumnTexts : Type 0 where
   pub column : Name
   pub pairs : Pairs
 
+-- the column and the pairs among the texts of a card
 abbrev pub column_of : List (List ℕ) → ColumnTexts
 column_of (column ∷ row ∷ value ∷ []) = record { column = column; pairs = (row, value) ∷ [] }
 column_of (column ∷ row ∷ value ∷ other ∷ second ∷ []) =
     record { column = column; pairs = (row, value) ∷ (other, second) ∷ [] }
 column_of texts = record { column = []; pairs = [] }
 
+-- the column that a card names
 abbrev pub column_on : Fields → Name
 column_on card = (column_of (texts_of card)).column
 
+-- the pairs on a card
 abbrev pub numbers_on : Fields → Pairs
 numbers_on card = (column_of (texts_of card)).pairs
 

@@ -29,17 +29,18 @@ IsTheRange [] range = range ≡ None
 IsTheRange (text ∷ []) range = (q : ℚ) × (range ≡ Some q) × (number_of text ≡ Is q)
 IsTheRange (text ∷ other ∷ more) range = ⊥
 
--- what stands beside a free row counts for nothing
+-- the range of a row, by whether the row is free; what the cards say of a free row counts for nothing
 abbrev pub IsRangeIf : Bool → List (List ℕ) → Option ℚ → Type 0
 IsRangeIf true texts range = range ≡ None
 IsRangeIf false texts range = IsTheRange texts range
 
--- that of a row of this kind
+-- the range of a row of this kind is what these texts say
 abbrev pub IsTheRangeOf : Kind → List (List ℕ) → Option ℚ → Type 0
 IsTheRangeOf kind = IsRangeIf (is_free kind)
 
 -- ---- RHS and RANGES: a set, which may be absent, and one pair or two
 
+-- the set and the pairs among the texts of a card
 abbrev pub side_of : List (List ℕ) → SetAndPairs
 side_of (row ∷ value ∷ []) = record { set = None; pairs = (row, value) ∷ [] }
 side_of (set ∷ row ∷ value ∷ []) = record { set = Some set; pairs = (row, value) ∷ [] }
@@ -48,9 +49,11 @@ side_of (set ∷ row ∷ value ∷ other ∷ second ∷ []) =
     record { set = Some set; pairs = (row, value) ∷ (other, second) ∷ [] }
 side_of texts = record { set = None; pairs = [] }
 
+-- the set that a card names, if it names one
 abbrev pub set_on : Fields → Option Name
 set_on card = (side_of (texts_of card)).set
 
+-- the pairs on a card
 abbrev pub pairs_on : Fields → Pairs
 pairs_on card = (side_of (texts_of card)).pairs
 

@@ -11,9 +11,11 @@ use Rattle.spec_mps.specs.Shapes.{row_type_of}
 
 -- ---- ROWS: the type in field 1 and the name in field 2
 
+-- rows by their kinds and names
 abbrev pub Labels : Type 0
 Labels = List (Kind × Name)
 
+-- a row's kind and name, where its type is known
 abbrev pub typed : Option Kind → Name → Option (Kind × Name)
 typed None name = None
 typed (Some kind) name = Some (kind, name)
@@ -22,24 +24,27 @@ typed (Some kind) name = Some (kind, name)
 unfoldable pub typed_rows : List Fields → Labels
 typed_rows cards = filter_map (λ card. typed (row_type_of (text_at 1 card)) (text_at 2 card)) cards
 
--- the name of the first row of type N, and all rows but that one
+-- the name of the first row of type N
 abbrev pub first_free : Labels → Option Name
 first_free [] = None
 first_free (r ∷ rows) = if is_free r.0 then Some r.1 else first_free rows
 
+-- all rows but the first of type N
 abbrev pub but_first_free : Labels → Labels
 but_first_free [] = []
 but_first_free (r ∷ rows) = if is_free r.0 then rows else r ∷ but_first_free rows
 
--- the names of the rows of type N, and the rows of the other types
+-- the names of the rows of type N
 abbrev pub free_names : Labels → List Name
 free_names rows = map (λ r. r.1) (filter (λ r. is_free r.0) rows)
 
+-- the rows of the other types than N
 abbrev pub limited : Labels → Labels
 limited rows = filter (λ r. not (is_free r.0)) rows
 
 -- ---- OBJSENSE: the sense stands beside the word, or on a card
 
+-- the second word of a heading, if there is one; else no bytes
 abbrev pub second_word : Option Fields → List ℕ
 second_word None = []
 second_word (Some words) = text_at 2 words

@@ -11,6 +11,7 @@ use Rattle.spec_mps.specs.declared.section.Section.TheVariants as section
 use Rattle.spec_mps.specs.Cards.{is_skipped, begins_with_blank}
 use Rattle.spec_mps.specs.Fields.{Fields, word_fields, column_fields, text_at}
 
+-- the lines of a text
 abbrev pub Lines : Type 0
 Lines = List (Line (List ℕ))
 
@@ -36,9 +37,11 @@ section_word section.End = codes "ENDATA"
 abbrev pub is_heading : Line (List ℕ) → Bool
 is_heading line = not (is_skipped (bytes_of line)) && not (begins_with_blank (bytes_of line))
 
+-- whether a line begins this section
 abbrev pub begins : Section → Line (List ℕ) → Bool
 begins part line = is_heading line && same (text_at 1 (word_fields (bytes_of line))) (section_word part)
 
+-- the lines before ENDATA
 unfoldable pub lines_up_to_end : Lines → Lines
 lines_up_to_end lines = before_first (begins section.End) lines
 
