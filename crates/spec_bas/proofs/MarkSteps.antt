@@ -1,4 +1,8 @@
--- What the steps that go on mark, and that what was read gives a basis of the form from line to line.
+-- What each step that goes on marks, and that a basis of the form stays one from line to line.
+--
+-- `pair_taken`: a pair that is taken names a column and a row of the model without marks, and marks both.
+-- `usual_taken`: a card LL that is taken names a column without a mark, and marks it as without a card.
+-- `upper_taken`: a card UL that is taken names a column without a mark that has an upper bound, and marks it there.
 use Rattle.std.proofs.Common.{◌≡◌, ℕ, ◌+◌, ◌||◌, Bool, true, false, not}
 use Rattle.std.proofs.Common.{List}
 use Rattle.std.proofs.Common.{Option, Some, None, is_some, Ok, Err, refl, sym, ap, ◌∙◌, subst, arith}

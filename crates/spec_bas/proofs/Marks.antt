@@ -1,4 +1,9 @@
--- What was read of a file gives a basis of the form, and so does one more mark of a column or of a pair.
+-- What was read of a file gives a basis of the form, also with one more mark of a column or of a pair.
+--
+-- `lower_can`: whatever its bounds are, a column can stand where it does without a card.
+-- `lower_out`: where a column stands without a card, it is not basic.
+-- `upper_can`: whatever its bounds are, a column can stand at its upper bound, or at what it has in its place.
+-- `upper_out`: a column at its upper bound, or at what it has in its place, is not basic.
 use Rattle.std.proofs.Common.{◌≡◌, ◌≢◌, ℕ, zero, suc, ◌+◌, ◌<◌, ◌≤◌, ◌⊎◌, inl, inr, Bool, true, false}
 use Rattle.std.proofs.Common.{cond, ltb, List, length, get_or}
 use Rattle.std.proofs.Common.{Option, Some, None, is_some, ⊎_elim, refl, sym, ap, ◌∙◌, subst, arith}

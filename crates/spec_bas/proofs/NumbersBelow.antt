@@ -1,4 +1,12 @@
--- The numbers below a bound of which something holds, in order: what holds of them, and how many they are.
+-- The numbers below a bound that pass a test, in order, and how many they are.
+--
+-- `all_front`: what holds of all items of two lists holds of all items of the first.
+-- `all_back`: what holds of all items of two lists holds of all items of the second.
+-- `all_named`: what holds of all images of a list under a function holds of the image of each item.
+-- `all_zip`: what holds of all items of two lists holds of the two parts of each pair of them.
+-- `basics_chosen`: the chosen basic columns below n are as many as the basic columns that are counted below n.
+-- `others_chosen`: the basic columns below c + n and the nonbasic ones of the last n are the basic ones below c, and n
+--   more.
 use Rattle.std.proofs.Common.{◌≡◌, ◌≢◌, ℕ, zero, suc, ◌+◌, ◌<◌, ◌⊎◌, inl, inr, Bool, true, false, not, cond}
 use Rattle.std.proofs.Common.{List, [], ◌∷◌, ◌++◌, length, map, get_or, All, refl, sym, ap, ◌∙◌, subst, arith}
 use Rattle.std.proofs.Common.{length-append}

@@ -13,18 +13,21 @@ use Rattle.spec_bas.specs.declared.card.Card.TheVariants.{Xu, Xl, Ul, Ll}
 use Rattle.spec_bas.specs.declared.card.Reading.{Reading}
 use Rattle.spec_bas.specs.declared.card.Reading.TheVariants.{Skipped, Named, Ends, Says, Wrong}
 
+-- a data card, with names as lists of bytes
 abbrev pub ExactCard : Type 0
 ExactCard = Card Name
 
+-- what a line is, with names as lists of bytes
 abbrev pub ExactReading : Type 0
 ExactReading = Reading Name
 
 -- ---- data cards
 
--- a kind with a column and a row, and one with a column alone
+-- the card of a kind with a column and a row
 abbrev pub pair_of : List ℕ → Name → Name → Option ExactCard
 pair_of kind column row = look_up kind ((codes "XU", Xu column row) ∷ (codes "XL", Xl column row) ∷ [])
 
+-- the card of a kind with a column alone
 abbrev pub single_of : List ℕ → Name → Option ExactCard
 single_of kind column = look_up kind ((codes "UL", Ul column) ∷ (codes "LL", Ll column) ∷ [])
 
@@ -34,12 +37,14 @@ card_of (kind ∷ column ∷ row ∷ []) = pair_of kind column row
 card_of (kind ∷ column ∷ []) = single_of kind column
 card_of words = None
 
+-- the card that a line says, or a fault where it says none
 abbrev pub data_reading : Option ExactCard → ExactReading
 data_reading None = Wrong code.Card
 data_reading (Some card) = Says card
 
 -- ---- section cards
 
+-- the section card that a line is, or a fault where it is none
 abbrev pub section_by : Option ExactReading → ExactReading
 section_by None = Wrong code.Section
 section_by (Some reading) = reading

@@ -16,11 +16,12 @@ use Rattle.spec_bas.specs.Steps.{lower_first, upper_first}
 
 -- ---- which lines are cards
 
--- what lines are, but for comments and blank lines
+-- what a line is, unless it is a comment or blank
 abbrev pub unless_skipped : ExactReading → List ExactReading
 unless_skipped Skipped = []
 unless_skipped reading = reading ∷ []
 
+-- what the lines are that are neither comments nor blank
 abbrev pub readings_of : List (Line (List ℕ)) → List ExactReading
 readings_of lines = flat_map (λ line. unless_skipped (reading_of line)) lines
 
@@ -35,22 +36,25 @@ pub record HasCards (lines : List (Line (List ℕ))) (cards : List ExactCard) : 
 
 -- ---- what cards mean
 
--- the column and the row that a card names
+-- the column that a card names
 abbrev pub column_on : ExactCard → List Name
 column_on (Xu column row) = column ∷ []
 column_on (Xl column row) = column ∷ []
 column_on (Ul column) = column ∷ []
 column_on (Ll column) = column ∷ []
 
+-- the row that a card names, if it names one
 abbrev pub row_on : ExactCard → List Name
 row_on (Xu column row) = row ∷ []
 row_on (Xl column row) = row ∷ []
 row_on (Ul column) = []
 row_on (Ll column) = []
 
+-- the columns that cards name
 abbrev pub columns_on : List ExactCard → List Name
 columns_on cards = flat_map column_on cards
 
+-- the rows that cards name
 abbrev pub rows_on : List ExactCard → List Name
 rows_on cards = flat_map row_on cards
 
@@ -101,6 +105,7 @@ pub record AreCardsOf (m : Model) (f : Form) (cards : List ExactCard) (basis : L
   pub other_rows : (i : ℕ) → i < f.rows → HasNoCard (row_place m) (rows_on cards) i →
       basis_at basis (f.cols + i) ≡ Basic
 
+-- the lines have cards, and these spell this basis
 pub record SpellsBasis (m : Model) (f : Form) (lines : List (Line (List ℕ))) (basis : List Status) : Type 0 where
   pub cards : List ExactCard
   pub has : HasCards lines cards

@@ -23,12 +23,13 @@ use Rattle.spec_bas.specs.Cards.{ExactCard, ExactReading, reading_of}
 abbrev pub lower_first : Form → ℕ → Status
 lower_first f k = first_status (form_lower f k) (form_upper f k)
 
--- and a row that is to be at its upper limit: there, else at the lower one, else at 0
+-- a row that is to be at its upper limit is there, else at its lower one, else at 0
 abbrev pub upper_status : Option ℚ → Option ℚ → Status
 upper_status lower (Some u) = AtUpper
 upper_status (Some l) None = AtLower
 upper_status None None = AtZero
 
+-- where a row stands that is to be at its upper limit
 abbrev pub upper_first : Form → ℕ → Status
 upper_first f k = upper_status (form_lower f k) (form_upper f k)
 
@@ -42,35 +43,43 @@ pub record State : Type 0 where
   pub begun : Bool  -- whether there was a card
   pub marks : List (Option Status)  -- of each structural and then each logical column, the status that a card gave it
 
+-- the state before the first line: no card, and no marks
 abbrev pub start : Form → State
 start f = record { begun = false; marks = replicate (f.cols + f.rows) None }
 
+-- whether a card has given column k a status
 abbrev pub is_marked : State → ℕ → Bool
 is_marked s k = is_some (get_or s.marks k None)
 
+-- the state where a card has given column k this status
 abbrev pub mark : ℕ → Status → State → State
 mark k status s = record { begun = true; marks = slice_set s.marks k (Some status) }
 
--- the statuses in all
+-- the status that a card gave column k, or else the usual one
 abbrev pub marked_status : Form → ℕ → Option Status → Status
 marked_status f k None = usual_status f k
 marked_status f k (Some status) = status
 
+-- the status of column k after what was read
 abbrev pub status_of : Form → State → ℕ → Status
 status_of f s k = marked_status f k (get_or s.marks k None)
 
+-- the basis of what was read
 unfoldable pub marked_basis : Form → State → List Status
 marked_basis f s = made (f.cols + f.rows) (status_of f s)
 
 -- ---- checks: a value, or what is wrong
 
+-- a value, or what is wrong
 abbrev pub Check : Type 0 → Type 0
 Check A = Result A BasCode
 
+-- goes on where the test holds
 abbrev pub must : Bool → BasCode → Check ⊤
 must true code = Ok tt
 must false code = Err code
 
+-- goes on with what is there
 abbrev pub need : {A : Type 0} → Option A → BasCode → Check A
 need None code = Err code
 need (Some x) code = Ok x
@@ -104,19 +113,23 @@ usual_step m f s column =
     must (not (is_marked s j)) code.Repeated >>= λ _.
     Ok (mark j (lower_first f j) s)
 
+-- the state after a data card, or what is wrong with it
 abbrev pub card_step : Model → Form → State → ExactCard → Check State
 card_step m f s (Xu column row) = pair_step m f s column row (upper_first f)
 card_step m f s (Xl column row) = pair_step m f s column row (lower_first f)
 card_step m f s (Ul column) = upper_step m f s column
 card_step m f s (Ll column) = usual_step m f s column
 
+-- what a line leads to: a further state, or the end with a basis
 pub data Progress : Type 0 where
   More : (state : State) → Progress
   Done : (basis : List Status) → Progress
 
+-- what a line leads to, or what is wrong with it
 abbrev pub Outcome : Type 0
 Outcome = Check Progress
 
+-- a further state as an outcome
 abbrev pub more : Check State → Outcome
 more check = check >>= λ t. Ok (More t)
 
@@ -128,11 +141,13 @@ on_reading m f s Ends = Ok (Done (marked_basis f s))
 on_reading m f s (Says card) = more (card_step m f s card)
 on_reading m f s (Wrong code) = Err code
 
+-- what a line leads to from a state, or what is wrong with it
 unfoldable pub step : Model → Form → State → Line (List ℕ) → Outcome
 step m f s line = on_reading m f s (reading_of line)
 
 -- ---- a whole file
 
+-- what a whole file is: the basis that it gives, or the first wrong line with its fault
 pub data Verdict : Type 0 where
   Spelled : (basis : List Status) → Verdict
   Refused : (line : ℕ) → (code : BasCode) → Verdict

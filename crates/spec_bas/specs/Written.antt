@@ -17,23 +17,26 @@ use Rattle.spec_bas.specs.Cards.{ExactCard}
 
 -- ---- the cards of a basis
 
+-- whether a status is that of a column at its upper bound
 abbrev pub is_at_upper : Status → Bool
 is_at_upper Basic = false
 is_at_upper AtLower = false
 is_at_upper AtUpper = true
 is_at_upper AtZero = false
 
--- the first n numbers of which something holds, in order
+-- those of the first n numbers that pass a test, in order
 abbrev pub chosen : ℕ → (ℕ → Bool) → List ℕ
 chosen n test = filter test (made n (λ k. k))
 
--- the model's basic columns, the rows whose logical columns are not basic, and the model's columns at upper bounds
+-- the model's basic columns
 abbrev pub basic_columns : Form → List Status → List ℕ
 basic_columns f basis = chosen f.cols (λ j. is_basic (basis_at basis j))
 
+-- the rows whose logical columns are not basic
 abbrev pub other_rows : Form → List Status → List ℕ
 other_rows f basis = chosen f.rows (λ i. not (is_basic (basis_at basis (f.cols + i))))
 
+-- the model's columns at their upper bounds
 abbrev pub upper_columns : Form → List Status → List ℕ
 upper_columns f basis = chosen f.cols (λ j. is_at_upper (basis_at basis j))
 
@@ -44,12 +47,15 @@ paired AtLower column row = Xl column row
 paired AtUpper column row = Xu column row
 paired AtZero column row = Xl column row
 
+-- the card of a basic column and a row that is not basic, by their numbers
 abbrev pub pair_card : Model → Form → List Status → ℕ × ℕ → ExactCard
 pair_card m f basis pair = paired (basis_at basis (f.cols + pair.1)) (column m pair.0).name (row m pair.1).name
 
+-- the card of column j at its upper bound
 abbrev pub upper_card : Model → ℕ → ExactCard
 upper_card m j = Ul (column m j).name
 
+-- the cards of a basis: pairs, then columns at their upper bounds
 unfoldable pub cards_of : Model → Form → List Status → List ExactCard
 cards_of m f basis =
     map (pair_card m f basis) (zip (basic_columns f basis) (other_rows f basis))
@@ -57,25 +63,30 @@ cards_of m f basis =
 
 -- ---- their lines, as those of texts of models in free form
 
+-- the fields of a card with a column and a row
 abbrev pub pair_fields : List ℕ → Name → Name → Fields
 pair_fields kind column row = field_at 1 kind ∷ field_at 2 column ∷ field_at 3 row ∷ []
 
+-- the fields of a card with a column alone
 abbrev pub single_fields : List ℕ → Name → Fields
 single_fields kind column = field_at 1 kind ∷ field_at 2 column ∷ []
 
+-- the fields of a card
 abbrev pub fields_on : ExactCard → Fields
 fields_on (Xu column row) = pair_fields (codes "XU") column row
 fields_on (Xl column row) = pair_fields (codes "XL") column row
 fields_on (Ul column) = single_fields (codes "UL") column
 fields_on (Ll column) = single_fields (codes "LL") column
 
+-- a card as one of a text in free form
 abbrev pub written_card : ExactCard → WrittenCard
 written_card card = Data (fields_on card)
 
+-- the cards of the file: NAME, those of the basis, ENDATA
 unfoldable pub written_cards : Model → Form → List Status → WrittenCards
 written_cards m f basis =
     name_card m.name ∷ map written_card (cards_of m f basis) ++ section_card (codes "ENDATA") ∷ []
 
--- the file
+-- the file that a basis is written as
 unfoldable pub bas_text : Model → Form → List Status → List ℕ
 bas_text m f basis = cards_text Free (written_cards m f basis)
