@@ -69,7 +69,7 @@ over_one limit budget f starts s =
     then over_from limit f starts (first_costs f starts) budget 0 s
     else Ok (record { end = Optimal; state = s; selection = nothing_seen s; used = 0 })
 
--- the state with which phase two begins, without artificial columns
+-- the state with which phase two begins, where the artificial columns are fixed at 0
 abbrev pub second_state : Revised → Revised
 second_state s = record s { bare = without_artificials s.bare }
 

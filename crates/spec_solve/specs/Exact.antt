@@ -28,9 +28,8 @@ RationalAnswer = ExactAnswer ℚ (List ℚ) (List Status)
 abbrev pub RationalEnd : Type 0
 RationalEnd = ExactEnd ℚ (List ℚ) (List Status)
 
--- The numerator and the denominator of a number have so few digits that its text fits a line of a certificate: such a
--- line has at most
--- 16,384 bytes, of which some hundred are for a letter, a name, a sign and a slash.
+-- The numerator and the denominator of a number have so few digits that its text fits a line of a certificate. Such a
+-- line has at most 16,384 bytes, of which some hundred are for a letter, a name, a sign and a slash.
 abbrev pub FitsLine : ℚ → Type 0
 FitsLine v = (above : ℕ) × (below : ℕ) × (unsigned_abs v.num < 10 ^ above) × (v.den < 10 ^ below) × (above + below ≤ 16000)
 
