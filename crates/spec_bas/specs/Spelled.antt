@@ -93,8 +93,8 @@ HasNoCard place names k = All (λ name. place name ≢ Some k) names
 
 -- ---- which basis they spell
 
--- each column and each row is named at most once; what they mean is so, columns that are not named are at a bound or
--- at 0, and rows that are not named are basic
+-- Each column and each row is named at most once, and what the cards mean holds. Columns that are not named are at a
+-- bound or at 0, and rows that are not named are basic.
 pub record AreCardsOf (m : Model) (f : Form) (cards : List ExactCard) (basis : List Status) : Type 0 where
   pub columns_once : AllPairs (λ x y. x ≢ y) (columns_on cards)
   pub rows_once : AllPairs (λ x y. x ≢ y) (rows_on cards)

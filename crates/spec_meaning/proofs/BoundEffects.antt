@@ -91,7 +91,7 @@ card_does Pl text does h =
     subst (Does Pl (bound_of text)) (same_ok (SetsUpper None) does h)
     (record { upper = refl; lower = refl; below = refl })
 
--- the same of the card's fields
+-- the fields of a card say of both bounds what the reader does with the card
 pub record Effects (style : Style) (card : Fields) (does : BoundCard) : Type 0 where
   upper : upper_on style card ≡ upper_set does
   lower : lower_on style card ≡ lower_set does

@@ -1,11 +1,9 @@
 -- When a number is between the limits of a row, by the row's kind, right side and range.
 --
 -- `at_most`: in a row of type L a number is between the limits if and only if it is at most the right side.
--- `at_most_from`: in a row of type L with a range it is at most the right side, and not below that by more than the
---   range.
+-- `at_most_from`: in a row of type L with a range q it is between the right side less the size of q and the right side.
 -- `at_least`: in a row of type G a number is between the limits if and only if it is at least the right side.
--- `at_least_to`: in a row of type G with a range it is at least the right side, and not above that by more than the
---   range.
+-- `at_least_to`: in a row of type G with a range q it is between the right side and that plus the size of q.
 -- `equal`: in a row of type E a number is between the limits if and only if it is the right side.
 -- `equal_up_to`: in a row of type E a range of 0 or more reaches up from the right side.
 -- `equal_down_to`: in a row of type E a range below 0 reaches down from the right side.

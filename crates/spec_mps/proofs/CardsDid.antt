@@ -1,8 +1,7 @@
 -- What a data card of each section did to the reader's state.
 --
 -- `sense_did`: a word that the reader takes as the sense is a sense, is the first one, and is kept in the state.
--- `rows_did`: a card of ROWS that is taken has a kind, a free and valid name and room within the limits, and adds its
---   row.
+-- `rows_did`: a card of ROWS that is taken has a known type, a valid name that is not taken and room; its row is added.
 -- `pairs_keep`: what each pair of a name and a number keeps, a list of pairs keeps when they are taken in turn.
 -- `column_puts`: the pairs of a COLUMNS card are taken in turn, each as an entry of the column.
 -- `side_puts`: the pairs of an RHS card are taken in turn, each as a right side.

@@ -1,6 +1,6 @@
 -- Each row of a written text gets its number, one row after another.
 --
--- `unpaired_next`: where no row from n on has a number, none from n + 1 on has one once row n has got its own.
+-- `unpaired_next`: where no row from n on has a number, row n may get one, and no row from n + 1 on has one.
 -- `unpaired_later`: where no row from n on has a number, none from n + 1 on has one.
 -- `place_of_row`: a row's name, absent before it, stands for the row behind those before it.
 -- `rows_known`: where the cards of a kept model's rows have room, each row has what its cards need.

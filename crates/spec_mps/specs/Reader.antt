@@ -132,6 +132,7 @@ rows_card limits style s fields = do
 abbrev pub new_column : Name → ExactColumn
 new_column name = record { name = name; cost = 0ℚ; lower = Some 0ℚ; upper = None; entries = [] }
 
+-- the whole columns and the one that cards are read of
 abbrev pub columns_with : List ExactColumn → Option ExactColumn → List ExactColumn
 columns_with columns None = columns
 columns_with columns (Some column) = columns ++ column ∷ []

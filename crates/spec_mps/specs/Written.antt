@@ -40,11 +40,12 @@ type_card type name = Data (field_at 1 type ∷ field_at 2 name ∷ [])
 abbrev pub number_card : Name → Name → ℚ → WrittenCard
 number_card group name value = Data (field_at 2 group ∷ field_at 3 name ∷ field_at 4 (number_text value) ∷ [])
 
--- a kind of bounds and a column, with and without a number
+-- a kind of bounds, a column and a number
 abbrev pub bound_card : List ℕ → Name → ℚ → WrittenCard
 bound_card kind name value =
     Data (field_at 1 kind ∷ field_at 2 (codes "BND") ∷ field_at 3 name ∷ field_at 4 (number_text value) ∷ [])
 
+-- a kind of bounds and a column, without a number
 abbrev pub unbound_card : List ℕ → Name → WrittenCard
 unbound_card kind name = Data (field_at 1 kind ∷ field_at 2 (codes "BND") ∷ field_at 3 name ∷ [])
 
@@ -80,7 +81,7 @@ column_cards m c = number_card c.name m.objective c.cost ∷ map (λ e. number_c
 unfoldable pub columns_cards : Model → WrittenCards
 columns_cards m = section_card (codes "COLUMNS") ∷ flat_map (column_cards m) m.columns
 
--- a right side that is not 0
+-- the card of a right side that is not 0
 abbrev pub side_cards : Name → ℚ → WrittenCards
 side_cards name value = if eq_ℚ value 0ℚ then [] else number_card (codes "RHS") name value ∷ []
 
@@ -90,7 +91,7 @@ sides_cards m =
     section_card (codes "RHS")
     ∷ (side_cards m.objective (neg_ℚ m.offset) ++ flat_map (λ r. side_cards r.name r.rhs) m.rows)
 
--- a range, if there is one, as it is
+-- the card of a row's range, if there is one
 abbrev pub range_cards : Name → Option ℚ → WrittenCards
 range_cards name None = []
 range_cards name (Some v) = number_card (codes "RNG") name v ∷ []

@@ -70,7 +70,7 @@ unfolding Agrees
 by_accepted limit m c a P says past =
     ⊎_elim (λ e. subst P (sym e) (says e)) (λ p. subst P (sym p.1) (past p.0)) a.limited
 
--- what is made of it is what is made of the check without a limit, or of a refused operation
+-- what is made of the check at a limit is made of the check without one, or of a refused operation
 pub same_or_refused : {E : Type 0} (limit : Option ℕ) (m : Model) (c : Certificate (List ℚ)) → IsAccepted limit m c →
     (f : Result (Known ℚ) (CheckStop ℚ) → E) →
     (f (check_run limit m c) ≡ f (check_run None m c)) ⊎ ((p : Past ℚ) × (f (check_run limit m c) ≡ f (Err
