@@ -1,4 +1,8 @@
 -- The edits that lines ask for have numbers of at most 127 bits, and bounds that are less than 10 ^ 20 from 0.
+--
+-- `then_kept`: where a read value has P, and reading on from each value with P gives Q, the two readings give Q.
+-- `any_kept`: where reading on from any value gives Q, the two readings in order give Q.
+-- `edit_kept`: an edit read from any words has numbers and bounds that may be kept.
 use Rattle.std.proofs.Common.{◌≡◌, ℕ, Bool, true, false, cond, Option, Some, None, Ok, Err, IfOk, IfSome, List, [], ◌∷◌}
 use Rattle.std.proofs.Common.{refl}
 use Rattle.std.specs.Prelude.{All, codes}

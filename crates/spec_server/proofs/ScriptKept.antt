@@ -1,4 +1,8 @@
 -- The models that a script's asks hold may be kept, and so may the numbers of its edits.
+--
+-- `lines_kept`: the asks of lines, from any text or certificate that has begun, have models and edits that may be kept.
+-- `ended_kept`: the asks of the ended lines of bytes have models and edits that may be kept.
+-- `script_kept`: the asks of a script's bytes have models and edits that may be kept.
 use Rattle.std.proofs.Common.{◌≡◌, ℕ, Bool, true, false, cond, Option, Some, None, List, [], ◌∷◌, ◌++◌, length, take}
 use Rattle.std.proofs.Common.{refl, sym, subst}
 use Rattle.std.specs.Prelude.{nat_le}

@@ -1,4 +1,11 @@
--- A script's asks, line by line.
+-- A script's asks, line by line; its sessions have the numbers 0 to 64.
+--
+-- `asks_from-append`: the asks of two lists of lines are those of the first, and then those of the second from where it
+--   ended.
+-- `pending_after-append`: what is pending after two lists of lines is what is pending after the second from the first's
+--   end.
+-- `line_is_kept`: the command of any line is to a session of at most 64, and its numbers may be kept.
+-- `asked_session`: an ask that a line behind others gives is of a session of at most 64.
 use Rattle.std.proofs.Common.{◌≡◌, ◌≤◌, ℕ, Bool, true, false, ◌&&◌, not, cond, Option, Some, None, Ok, Err, IfOk, List}
 use Rattle.std.proofs.Common.{[], ◌∷◌, ◌++◌, length, nat_le, nat_lt, refl, sym, ap, ◌∙◌, subst, append_assoc, arith}
 use Rattle.std.proofs.Common.{leb-true}

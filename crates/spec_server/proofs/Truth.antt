@@ -1,4 +1,12 @@
--- What is said of a certificate with a yes, and what a solve answers, is true.
+-- What is said of a certificate with a yes is true, and so is what a solve answers.
+--
+-- `said_yes`: where the verdict is yes with an answer, the check's run ended with this answer.
+-- `checked`: two replies of verdicts are the same only where their verdicts are.
+-- `accepted_is_true`: where a session accepts a certificate, it holds a model, and what the certificate says holds of
+--   it.
+-- `answers_same`: two replies of answers are the same only where their answers are.
+-- `answered_is_true`: where a session answers a solve with a known answer, it holds a model, and the answer holds of
+--   it.
 use Rattle.std.proofs.Common.{◌≡◌, ℕ, List, Option, Some, None, Ok, Err, refl, sym, subst, inl, inr, ◌⊎◌}
 use Rattle.spec_exact.specs.Fraction.{ℚ}
 use Rattle.spec_exact.specs.Narrow.{number_limit}

@@ -16,6 +16,8 @@ abbrev pub addressed_to : Option ℕ → List (List ℕ) → Addressed ExactEdit
 addressed_to None words = record { session = 0; command = Bad fault.Word }
 addressed_to (Some session) words = record { session = session; command = command_of words }
 
+-- a line's command and its session: the first word says the session where sessions are numbered, and is the command's
+-- word else
 abbrev pub addressed_from : Addressing → List ℕ → List (List ℕ) → Addressed ExactEdit
 addressed_from Numbered first words = addressed_to (session_of first) words
 addressed_from Alone first words = record { session = 0; command = command_of (first ∷ words) }
@@ -25,6 +27,7 @@ abbrev pub addressed_by : Addressing → List (List ℕ) → Option (Addressed E
 addressed_by addressing [] = None
 addressed_by addressing (first ∷ words) = Some (addressed_from addressing first words)
 
+-- whether a line is a comment
 abbrev pub begins_with_hash : List ℕ → Bool
 begins_with_hash [] = false
 begins_with_hash (b ∷ bs) = b == 35

@@ -25,6 +25,7 @@ ExactCommand = Command ExactEdit
 abbrev pub is_digit : ℕ → Bool
 is_digit b = nat_le 48 b && nat_le b 57
 
+-- whether a numeral begins with 0
 abbrev pub begins_with_zero : List ℕ → Bool
 begins_with_zero [] = false
 begins_with_zero (b ∷ bs) = b == 48
@@ -44,10 +45,11 @@ session_of text = number_to 64 2 text
 unfoldable pub budget_of : List ℕ → Option ℕ
 budget_of text = number_to 1000000 7 text
 
--- the form that a word names
+-- the style of a model's text that a word names
 unfoldable pub style_of : List ℕ → Option Style
 style_of text = look_up text ((codes "FREE", style.Free) ∷ (codes "FIXED", style.Fixed) ∷ [])
 
+-- the command word that these bytes spell
 unfoldable pub command_word_of : List ℕ → Option CommandWord
 command_word_of text =
     look_up text
@@ -74,18 +76,22 @@ command_word_of text =
 
 -- ---- commands
 
+-- `LOAD`, by the style of the text that follows
 abbrev pub load_by : Option Style → ExactCommand
 load_by None = Bad fault.Word
 load_by (Some form) = Load form
 
+-- `WRITE`, by the style of the text that is asked for
 abbrev pub write_by : Option Style → ExactCommand
 write_by None = Bad fault.Word
 write_by (Some form) = Plain (plain_command.Write form)
 
+-- `BUDGET`, by the number that was read
 abbrev pub budget_by : Option ℕ → ExactCommand
 budget_by None = Bad fault.Number
 budget_by (Some n) = Plain (plain_command.Budget n)
 
+-- an edit, or the fault of its line
 abbrev pub change_by : Reads ExactEdit → ExactCommand
 change_by (Ok e) = Plain (plain_command.Change e)
 change_by (Err why) = Bad why
@@ -104,10 +110,12 @@ command_with word.Quit [] = Plain plain_command.Quit
 command_with (word.Edit which) behind = change_by (edit_by which behind)
 command_with other behind = Bad fault.Word
 
+-- a command by its first word, and the words behind it
 abbrev pub command_at : Option CommandWord → List (List ℕ) → ExactCommand
 command_at None behind = Bad fault.Word
 command_at (Some which) behind = command_with which behind
 
+-- the command of a line's words
 abbrev pub command_of : List (List ℕ) → ExactCommand
 command_of [] = Bad fault.Word
 command_of (first ∷ behind) = command_at (command_word_of first) behind

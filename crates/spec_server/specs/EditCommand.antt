@@ -27,6 +27,7 @@ abbrev pub Reads : Type 0 → Type 0
 Reads A = Result A LineFault
 
 infixl 1 ◌>>=◌
+-- reads on from a value, or passes on the fault
 abbrev pub ◌>>=◌ : {A B : Type 0} → Reads A → (A → Reads B) → Reads B
 (Ok x) >>= next = next x
 (Err why) >>= next = Err why
@@ -37,23 +38,29 @@ abbrev pub number_fault : NumFault → LineFault
 number_fault number.Shape = fault.Number
 number_fault number.Wide = fault.Wide
 
+-- a number that was read, or its fault as one of the line
 abbrev pub as_read : {A : Type 0} → Result A NumFault → Reads A
 as_read (Ok x) = Ok x
 as_read (Err why) = Err (number_fault why)
 
+-- the number that a word spells
 unfoldable pub number_in : List ℕ → Reads ℚ
 number_in text = as_read (answer (number_of text))
 
+-- a word of a fixed list, or the fault `Word`
 abbrev pub keyword : {A : Type 0} → Option A → Reads A
 keyword None = Err fault.Word
 keyword (Some x) = Ok x
 
+-- the kind of a row that a word spells
 unfoldable pub kind_in : List ℕ → Reads Kind
 kind_in text = keyword (look_up text ((codes "L", L) ∷ (codes "G", G) ∷ (codes "E", E) ∷ (codes "N", N) ∷ []))
 
+-- the sense of the objective that a word spells
 unfoldable pub sense_in : List ℕ → Reads Sense
 sense_in text = keyword (look_up text ((codes "MIN", Min) ∷ (codes "MAX", Max) ∷ []))
 
+-- the range of a row that a word spells, where `NONE` is none
 unfoldable pub range_in : List ℕ → Reads (Option ℚ)
 range_in text = if same text (codes "NONE") then Ok None else (number_in text >>= λ v. Ok (Some v))
 
@@ -67,14 +74,17 @@ lower_by (Finite v) = Ok (Some v)
 lower_by MinusInf = Ok None
 lower_by PlusInf = Err fault.Number
 
+-- what a spelled value is as an upper bound
 abbrev pub upper_by : BoundValue ℚ → Reads (Option ℚ)
 upper_by (Finite v) = Ok (Some v)
 upper_by PlusInf = Ok None
 upper_by MinusInf = Err fault.Number
 
+-- the lower bound that a word spells
 unfoldable pub lower_in : List ℕ → Reads (Option ℚ)
 lower_in text = as_read (bound_answer (bound_of text)) >>= lower_by
 
+-- the upper bound that a word spells
 unfoldable pub upper_in : List ℕ → Reads (Option ℚ)
 upper_in text = as_read (bound_answer (bound_of text)) >>= upper_by
 
@@ -98,6 +108,7 @@ column_in name cost (Some pairs) = number_in cost >>= λ c. numbers_in pairs >>=
 
 -- ---- edits: the count of words, and then the words from left to right
 
+-- the edit that its command word and the words behind it spell
 unfoldable pub edit_by : EditWord → List (List ℕ) → Reads ExactEdit
 edit_by AddRow (name ∷ kind ∷ rhs ∷ []) = kind_in kind >>= λ k. number_in rhs >>= λ b. Ok (edit.AddRow name k b None)
 edit_by AddRow (name ∷ kind ∷ rhs ∷ range ∷ []) =

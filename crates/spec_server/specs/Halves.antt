@@ -23,11 +23,13 @@ pub record Standing : Type 0 where
   pub state : State
   pub awaits : Awaits
 
+-- a session that awaits nothing
 abbrev pub at_rest : State → Standing
 at_rest state = record { state = state; awaits = Nothing }
 
 -- ---- an ask begins
 
+-- a session begins an ask: it replies at once, or awaits what a look for a shape finds
 abbrev pub StartFits : State → ExactAsk → Started ExactReply → Standing → Type 0
 StartFits old asked (started.Reply replied) new = Begins old asked (Answers replied new.state) × (new.awaits ≡ Nothing)
 StartFits old asked (started.Look shape) new =
@@ -50,17 +52,20 @@ pub record AwaitsPut (old : State) (found : Looked) (words : Words) (new : Stand
   pub formed : IsWellFormed words
   pub awaited : new ≡ record { state = old; awaits = WhatBecameOf pending }
 
+-- what a session does next after a look: it replies, or awaits the end of a put
 abbrev pub NextFits : State → Looked → Next ExactReply → Standing → Type 0
 NextFits old found (next.Reply replied) new = Works old found (Ends replied new.state) × (new.awaits ≡ Nothing)
 NextFits old found (next.Publish words) new = AwaitsPut old found words new
 
 -- ---- words were published, or not
 
+-- the session awaits what becomes of a put
 abbrev pub IsPutAwaited : Awaits → Type 0
 IsPutAwaited Nothing = ⊥
 IsPutAwaited (WhatIsFound shape) = ⊥
 IsPutAwaited (WhatBecameOf pending) = Unit {0}
 
+-- after a put the session replies what was pending, and rests
 abbrev pub PutFits : State → Awaits → Put → ExactReply → Standing → Type 0
 PutFits old Nothing put replied new = ⊥
 PutFits old (WhatIsFound shape) put replied new = ⊥

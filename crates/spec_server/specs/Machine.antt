@@ -37,9 +37,11 @@ use Rattle.spec_server.specs.declared.command.Plain.TheVariants as command
 abbrev pub ExactAsk : Type 0
 ExactAsk = Ask Model ExactRaw ExactEdit
 
+-- a reply with exact numbers
 abbrev pub ExactReply : Type 0
 ExactReply = Reply Name ℚ (List ℕ) (List (List ℕ))
 
+-- the last answer to a solve, with exact numbers
 abbrev pub ExactLastAnswer : Type 0
 ExactLastAnswer = LastAnswer ℚ (List ℚ) (List Status)
 
@@ -48,11 +50,13 @@ abbrev pub IsKeptPlain : Plain ExactEdit → Type 0
 IsKeptPlain (command.Change e) = edits.IsKeptEdit e
 IsKeptPlain asked = Unit {0}
 
+-- a model that an ask loads is usual, and the numbers of an edit may be kept
 abbrev pub IsKeptAsk : ExactAsk → Type 0
 IsKeptAsk (ask.Loaded m) = IsUsualModel m
 IsKeptAsk (ask.Plain asked) = IsKeptPlain asked
 IsKeptAsk asked = Unit {0}
 
+-- all asks hold models and numbers that may be kept
 abbrev pub AreKept : List (Asked ExactAsk) → Type 0
 AreKept asks = All (λ a. IsKeptAsk a.ask) asks
 
@@ -62,9 +66,11 @@ pub record State : Type 0 where
   pub budget : ℕ
   pub last : Option ExactLastAnswer
 
+-- the budget of pivots with which a session begins
 abbrev pub opening_budget : ℕ
 opening_budget = 10000
 
+-- a session that was asked nothing yet
 abbrev pub opening : State
 opening = record { model = None; budget = opening_budget; last = None }
 
@@ -85,6 +91,7 @@ abbrev pub verdict_on : Model → Settled (Certificate (List ℚ)) → ExactRepl
 verdict_on m (Ok certificate) = reply.Checked (verdict_of (check_run (Some number_limit) m certificate))
 verdict_on m (Err fault) = settle_reply fault
 
+-- the reply to a certificate, by the model that is held
 abbrev pub check_reply : Option Model → ExactRaw → ExactReply
 check_reply None raw = reply.Refused refusal.NoModel
 check_reply (Some m) raw = verdict_on m (certificate_for m raw)
@@ -94,10 +101,12 @@ abbrev pub fixed_reply : Model → Option (List ℕ) → ExactReply
 fixed_reply m None = reply.Written (fixed m)
 fixed_reply m (Some item) = reply.Refused (refusal.FixedWide item)
 
+-- a model's text in a style, as a reply
 abbrev pub text_reply : Model → Style → ExactReply
 text_reply m style.Free = reply.Written (free m)
 text_reply m style.Fixed = fixed_reply m (too_wide m)
 
+-- the reply to `WRITE`
 abbrev pub write_reply : Option Model → Style → ExactReply
 write_reply None form = reply.Refused refusal.NoModel
 write_reply (Some m) form = text_reply m form
@@ -114,15 +123,18 @@ lines_of_solved m (outcome.Ended known certificate basis pivots) = certificate_l
 lines_of_solved m (outcome.Past p) = []
 lines_of_solved m outcome.Spent = []
 
+-- how many pivots a solve took that ended with an answer
 abbrev pub pivots_of_solved : ExactSolveEnd → Option ℕ
 pivots_of_solved (outcome.Ended known certificate basis pivots) = Some pivots
 pivots_of_solved (outcome.Past p) = None
 pivots_of_solved outcome.Spent = None
 
+-- the reply to `CERT`: the certificate of the last answer
 abbrev pub cert_reply : Option Model → Option ExactLastAnswer → ExactReply
 cert_reply (Some m) (Some last) = reply.Certified (lines_of_solved m last.solved)
 cert_reply model last = reply.Refused refusal.NoAnswer
 
+-- the reply to `HOW`: from which basis the last answer was found, and in how many pivots
 abbrev pub how_reply : Option ExactLastAnswer → ExactReply
 how_reply None = reply.Refused refusal.NoAnswer
 how_reply (Some last) = reply.Found last.how (pivots_of_solved last.solved) last.publication
@@ -135,10 +147,12 @@ pub data Due : Type 0 where
   Solves : (model : Model) → Due
   SolvesWide : (model : Model) → Due
 
+-- what is due to `SOLVE`
 abbrev pub solve_due : State → Option Model → Due
 solve_due state None = Replies (reply.Refused refusal.NoModel) state
 solve_due state (Some m) = Solves m
 
+-- what is due to `WIDE`
 abbrev pub wide_due : State → Option Model → Due
 wide_due state None = Replies (reply.Refused refusal.NoModel) state
 wide_due state (Some m) = SolvesWide m
@@ -157,10 +171,12 @@ abbrev pub edit_due : State → OrFault Model → Due
 edit_due state (Ok m) = Replies reply.Done (record state { model = Some m; last = None })
 edit_due state (Err why) = Replies (edit_refusal why) state
 
+-- what is due to an edit of the model that is held
 abbrev pub change_due : State → Option Model → ExactEdit → Due
 change_due state None e = Replies (reply.Refused refusal.NoModel) state
 change_due state (Some m) e = edit_due state (edited m e)
 
+-- what is due to a command of one line
 abbrev pub plain_due : State → Plain ExactEdit → Due
 plain_due state (command.Write form) = Replies (write_reply state.model form) state
 plain_due state command.Solve = solve_due state state.model
@@ -171,6 +187,7 @@ plain_due state command.Wide = wide_due state state.model
 plain_due state command.Quit = Replies reply.Bye opening
 plain_due state (command.Change e) = change_due state state.model e
 
+-- what is due to an ask
 abbrev pub due : State → ExactAsk → Due
 due state (ask.Plain asked) = plain_due state asked
 due state (ask.Loaded m) =
@@ -192,6 +209,7 @@ plain_takes_memory command.Cert = true
 plain_takes_memory (command.Change e) = edits.takes_memory e
 plain_takes_memory asked = false
 
+-- whether an ask may be answered with `MEMORY`
 abbrev pub takes_memory : ExactAsk → Bool
 takes_memory (ask.Plain asked) = plain_takes_memory asked
 takes_memory (ask.Checked raw) = true

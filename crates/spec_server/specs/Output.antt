@@ -39,6 +39,7 @@ use Rattle.spec_server.specs.Machine.{ExactReply}
 abbrev pub fraction_text : ℚ → List ℕ
 fraction_text q = number_text q
 
+-- the word of an operation that was refused
 abbrev pub op_text : Op → List ℕ
 op_text Add = codes "ADD"
 op_text Sub = codes "SUB"
@@ -50,16 +51,19 @@ op_text Cmp = codes "CMP"
 abbrev pub past_text : Past ℚ → List ℕ
 past_text p = codes "PAST " ++ op_text p.op ++ codes " " ++ fraction_text p.a ++ codes " " ++ fraction_text p.b
 
+-- an answer as it is printed
 abbrev pub known_text : Known ℚ → List ℕ
 known_text (known.Optimal v) = codes "OPTIMAL " ++ fraction_text v
 known_text known.Infeasible = codes "INFEASIBLE"
 known_text known.Unbounded = codes "UNBOUNDED"
 
+-- a checker's verdict as it is printed
 abbrev pub verdict_text : Verdict ℚ → List ℕ
 verdict_text (verdict.Yes what) = codes "YES " ++ known_text what
 verdict_text (verdict.No n) = codes "NO " ++ decimal n
 verdict_text (verdict.Past p) = past_text p
 
+-- what a solve ended with, as it is printed
 abbrev pub answer_text : Answer ℚ → List ℕ
 answer_text (answer.Known what) = known_text what
 answer_text (answer.Past p) = past_text p
@@ -72,20 +76,24 @@ fall_text fall.Unfit = codes "UNFIT"
 fall_text fall.Past = codes "PAST"
 fall_text fall.Spent = codes "SPENT"
 
+-- how the last answer was found, as it is printed
 abbrev pub how_text : How → List ℕ
 how_text Cold = codes "COLD"
 how_text (Basis k) = codes "BASIS " ++ decimal k
 how_text (Fell k why) = codes "FELL " ++ decimal k ++ codes " " ++ fall_text why
 
+-- a number of pivots, or `-` where none is known
 abbrev pub pivots_text : Option ℕ → List ℕ
 pivots_text None = codes "-"
 pivots_text (Some n) = decimal n
 
+-- what became of a put, as it is printed
 abbrev pub put_text : Put → List ℕ
 put_text (put.Published k) = codes "PUBLISHED " ++ decimal k
 put_text (put.Raced c) = codes "RACED " ++ decimal c
 put_text (put.Full c) = codes "FULL " ++ decimal c
 
+-- what became of the basis of the last answer, as it is printed
 abbrev pub publication_text : Publication → List ℕ
 publication_text Nothing = codes "NONE"
 publication_text Same = codes "SAME"
@@ -110,10 +118,12 @@ item_text item = codes "FIXEDWIDE " ++ item
 unfoldable pub repeated_text : List ℕ → List ℕ
 repeated_text name = codes "REPEATED " ++ name
 
+-- rows or columns, as a refusal says it
 abbrev pub which_text : Which → List ℕ
 which_text Rows = codes "ROWS"
 which_text Columns = codes "COLUMNS"
 
+-- a refusal behind the word `ERR`: its number and what is at fault
 abbrev pub refusal_text : Refusal Name (List ℕ) → List ℕ
 refusal_text (refusal.Bad why) = line_fault_text why
 refusal_text refusal.NoModel = codes "4 NOMODEL"
@@ -132,6 +142,7 @@ refusal_text (refusal.FreeRow name) = codes "16 FREEROW " ++ name
 unfoldable pub count_of_lines : List ℕ → ℕ
 count_of_lines text = length (filter (λ b. b == 10) text)
 
+-- a reply as its one line, or its lines, are printed
 unfoldable pub reply_text : ExactReply → List ℕ
 reply_text (reply.Loaded rows columns) = codes "LOADED " ++ decimal rows ++ codes " " ++ decimal columns
 reply_text (reply.Written text) = codes "TEXT " ++ decimal (count_of_lines text)

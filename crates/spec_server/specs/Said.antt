@@ -8,6 +8,7 @@ pub data Step (S R : Type 0) : Type 0 where
   On : (stage : S) → Step S R
   Says : (said : R) → Step S R
 
+-- goes on with the next stage, unless something was said
 abbrev pub follow : {S R : Type 0} → Step S R → (S → Option R) → Option R
 follow (On stage) next = next stage
 follow (Says said) next = Some said

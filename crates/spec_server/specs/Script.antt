@@ -24,6 +24,7 @@ use Rattle.spec_server.specs.Machine.{ExactAsk}
 
 -- ---- bodies
 
+-- whether this is the first of some words
 abbrev pub begins_with_word : List ℕ → List (List ℕ) → Bool
 begins_with_word word [] = false
 begins_with_word word (w ∷ ws) = same w word
@@ -42,10 +43,12 @@ ends_certificate (line.Long len) = false
 ends_certificate line.End = false
 ends_certificate line.Over = false
 
+-- the ask of a text that was read: its model, or its fault
 abbrev pub ask_of_verdict : Verdict → ExactAsk
 ask_of_verdict (Spelled m) = ask.Loaded m
 ask_of_verdict (Refused n fault) = ask.Misspelled (record { line = n; code = fault })
 
+-- the ask of a certificate that was read: its numbers, or its fault
 abbrev pub ask_of_judgement : certificate.Judgement → ExactAsk
 ask_of_judgement (certificate.Spelled raw) = ask.Checked raw
 ask_of_judgement (certificate.Refused n) = ask.Unfit n
@@ -65,6 +68,7 @@ begun session Check = Certificate session []
 begun session (Plain asked) = Between
 begun session (Bad fault) = Between
 
+-- what is pending after a line that may begin a text or a certificate
 abbrev pub begun_by : Option (Addressed ExactEdit) → Pending
 begun_by None = Between
 begun_by (Some addressed) = begun addressed.session addressed.command
@@ -77,12 +81,14 @@ pending_after_line addressing (Text session form body) next =
 pending_after_line addressing (Certificate session body) next =
     if ends_certificate next then Between else Certificate session (body ++ next ∷ [])
 
+-- the ask of a command in one line; none for one whose text or certificate follows
 abbrev pub asks_of_command : ℕ → ExactCommand → List (Asked ExactAsk)
 asks_of_command session (Load form) = []
 asks_of_command session Check = []
 asks_of_command session (Plain asked) = record { session = session; ask = ask.Plain asked } ∷ []
 asks_of_command session (Bad fault) = record { session = session; ask = ask.Bad fault } ∷ []
 
+-- the asks of a line by its command, where it has one
 abbrev pub asks_by : Option (Addressed ExactEdit) → List (Asked ExactAsk)
 asks_by None = []
 asks_by (Some addressed) = asks_of_command addressed.session addressed.command
@@ -105,6 +111,7 @@ asks_from addressing pending [] = []
 asks_from addressing pending (next ∷ lines) =
     asks_of_line addressing pending next ++ asks_from addressing (pending_after_line addressing pending next) lines
 
+-- what is pending after some lines
 abbrev pub pending_after : Addressing → Pending → List (Line (List ℕ)) → Pending
 pending_after addressing pending [] = pending
 pending_after addressing pending (next ∷ lines) =
@@ -118,6 +125,7 @@ pub data Ending : Type 0 where
   Cut : Ending
   Over : Ending
 
+-- the ending of a script, by what is pending after its last line
 abbrev pub ending_by : Pending → Ending
 ending_by Between = Ended
 ending_by (Text session form body) = Cut
@@ -132,6 +140,7 @@ pub record Script : Type 0 where
 unfoldable pub ended_asks_of : Addressing → List ℕ → List (Asked ExactAsk)
 ended_asks_of addressing bytes = asks_from addressing Between (ended_lines_of (take input_limit bytes))
 
+-- the asks of a script's bytes, and how it ends
 unfoldable pub script_of : Addressing → List ℕ → Script
 script_of addressing bytes =
     if nat_le (length bytes) input_limit

@@ -59,6 +59,7 @@ pub record AnswersWide (old : State) (m : Model) (begun : Begun) : Type 0 where
   pub is_end : IsExactEnd m old.budget None end
   pub answers : begun ≡ Answers (reply.Wide (wide_lines m end)) old
 
+-- how a session begins with what is due to an ask
 abbrev pub BegunBy : State → Due → Begun → Type 0
 BegunBy old (Replies replied next) begun = begun ≡ Answers replied next
 BegunBy old (Solves m) begun = begun ≡ solve_begun old m (form_of (Some number_limit) m)
@@ -92,6 +93,7 @@ how_from k route.Cold = how.Cold
 how_from k route.Warm = how.Basis k
 how_from k (route.Fell why) = how.Fell k why
 
+-- from which basis a solve found its answer, by what its look found and by its route
 abbrev pub how_by : Looked → Route → How
 how_by None route = how.Cold
 how_by (Some place) route = how_from place.place route
@@ -131,6 +133,7 @@ Works old found worked = SolvesWith old found worked ⊎ (worked ≡ Ends reply.
 
 -- ---- words were published, or not
 
+-- the state after a put, with the answer that was pending
 abbrev pub after_put : State → Pending → Put → State
 after_put old pending put = with_answer old pending.end pending.how (publication.Tried put)
 
@@ -144,6 +147,7 @@ pub record PutStep (places : ℕ) (old : State) (pending : Pending) (looked read
   pub answer : replied ≡ answered old pending.end
   pub kept : new ≡ after_put old pending put
 
+-- a solve ends without a put, or with one
 abbrev pub Concludes : ℕ → State → Worked → List ExactRead → List ExactRead → ExactReply → State → Type 0
 Concludes places old (Ends stated next) looked reads replied new = (reads ≡ looked) × (replied ≡ stated) × (new ≡ next)
 Concludes places old (Publishes pending) looked reads replied new = PutStep places old pending looked reads replied new
@@ -160,6 +164,7 @@ pub record LookStep (places : ℕ) (old : State) (shape : Words) (reads : List E
   pub works : Works old found worked
   pub concludes : Concludes places old worked looked reads replied new
 
+-- a session replies at once, or looks for a basis first
 abbrev pub GoesOn : ℕ → State → Begun → List ExactRead → ExactReply → State → Type 0
 GoesOn places old (Answers stated next) reads replied new = (reads ≡ []) × (replied ≡ stated) × (new ≡ next)
 GoesOn places old (Looks shape) reads replied new = LookStep places old shape reads replied new

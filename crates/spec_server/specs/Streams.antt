@@ -2,12 +2,14 @@
 -- it.
 use Rattle.std.specs.Prelude.{ℕ, List, Option}
 
+-- the bytes of two streams before and after a call: those still to be read, and those that were written
 pub record Streams : Type 0 where
   pub left_before : Option (List ℕ)
   pub left_after : Option (List ℕ)
   pub taken_before : Option (List ℕ)
   pub taken_after : Option (List ℕ)
 
+-- these four in order
 abbrev pub streams : Option (List ℕ) → Option (List ℕ) → Option (List ℕ) → Option (List ℕ) → Streams
 streams before after taken now =
     record { left_before = before; left_after = after; taken_before = taken; taken_after = now }

@@ -25,6 +25,7 @@ behind_line n (Ok (text.More s)) = On (record { state = s; lines = n })
 behind_line n (Ok (text.Done m)) = Says (Ok m)
 behind_line n (Err code) = Says (Err (record { line = n; code = code }))
 
+-- one line more of a text, which may end it
 unfoldable pub text_step : SizeLimits → Style → TextStage → Line (List ℕ) → Step TextStage TextSaid
 text_step limits style stage line = behind_line (stage.lines + 1) (text.step limits style stage.state line)
 
@@ -32,6 +33,6 @@ text_step limits style stage line = behind_line (stage.lines + 1) (text.step lim
 abbrev pub text_said_within : SizeLimits → Style → List (Line (List ℕ)) → Option TextSaid
 text_said_within limits style lines = said_by (text_step limits style) (record { state = start; lines = 0 }) lines
 
--- the same within the usual limits
+-- what lines say where the model is within the usual limits
 abbrev pub text_said : Style → List (Line (List ℕ)) → Option TextSaid
 text_said = text_said_within usual_limits
