@@ -1,4 +1,13 @@
--- The model after a reduction.
+-- The model after a reduction, with what the step from the model before needs for its certificates.
+--
+-- `row_less`: a model has one row, at i, more than the model without row i.
+-- `empty_step`: where row i is found to be without entries, the model without it is one empty step on.
+-- `single_step`: where row i is found with one entry, the model without it and with tighter bounds is one single step
+--   on.
+-- `shifted_ok`: where moving all right sides for column j at v succeeds, each row has its own side less the entry times
+--   v.
+-- `fixed_parts`: where column j is removed at v, the right sides and the offset were moved before, without a refusal.
+-- `fixed_step`: where column j is found to be fixed at v, the model after its removal is one fixed step on.
 use Rattle.std.proofs.Common.{◌≡◌, ℕ, suc, ◌+◌, ◌<◌, ◌≤◌, Bool, true, false, cond, ltb, length, get_or}
 use Rattle.std.proofs.Common.{Option, Ok, refl, sym, ap, ap₂, ◌∙◌, subst, arith, ⊎_elim}
 use borrow.Author.Tests.{ltb-true, ltb-false}

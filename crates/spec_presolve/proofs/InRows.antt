@@ -1,4 +1,8 @@
--- What is found in a row.
+-- What a search of a row finds: no entry, one entry or more.
+--
+-- `row_empty`: where the search of a row finds nothing, each of its coefficients is 0.
+-- `row_alone`: where the search finds entry a in column j alone, this is not 0 and all other coefficients of the row
+--   are.
 use Rattle.std.proofs.Common.{◌≡◌, ℕ, zero, suc, ◌<◌, Bool, true, false, cond, refl, sym, ◌∙◌, subst, arith}
 use Rattle.std.proofs.Common.{⊎_elim}
 use Rattle.std.proofs.lemmas.Bool.{cases_eq}

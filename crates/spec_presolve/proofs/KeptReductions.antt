@@ -1,4 +1,9 @@
 -- Reduced models may be kept.
+--
+-- `after_kept`: a reduction of a model within some limits, in numbers of at most 127 bits, gives one within these
+--   limits.
+-- `kept_all`: where a model is within some limits of size and numbers, all the models of its reductions are within
+--   them.
 use Rattle.std.proofs.Common.{◌≡◌, ℕ, zero, suc, ◌+◌, Option, Some, None, IfSome, Ok, [], ◌∷◌, All}
 use Rattle.std.proofs.Common.{length, pos, ◌^◌, refl, ◌∙◌, subst, arith}
 use Rattle.std.proofs.lemmas.List.{length-set}

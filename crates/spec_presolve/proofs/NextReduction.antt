@@ -1,4 +1,7 @@
--- What is known of the row or column that goes next.
+-- The row or column that goes next, and what holds of it: no entries, one entry, or two bounds that are the same.
+--
+-- `none_not`: `None` is never `Some a`.
+-- `chosen_ok`: a choice that succeeds was found by one of the rules, at a row or column of the model, or nothing was.
 use Rattle.std.proofs.Common.{◌≡◌, ℕ, suc, ◌<◌, ◌||◌, Bool, true, false, not, cond, Option, Some, None, IfSome}
 use Rattle.std.proofs.Common.{Ok, refl, sym, ap, ◌∙◌, subst, arith, is_gt, is_lt, pos, ◌^◌}
 use Rattle.std.proofs.lemmas.Bool.{not-false, or_parts}

@@ -1,4 +1,8 @@
 -- A certificate carried back over a row without entries.
+--
+-- `plus_none`: adding 0 times a number changes nothing.
+-- `less_none`: subtracting 0 times a number changes nothing.
+-- `allows_zero`: a direction with the part 0 stays within any limits.
 use Rattle.std.proofs.Common.{◌≡◌, ℕ, ◌<◌, List, length, Option, Some, None, IfSome}
 use Rattle.std.proofs.Common.{refl, sym, ap, ap₂, ◌∙◌, subst, subst₂}
 use Rattle.std.specs.List.{insert}

@@ -1,4 +1,14 @@
 -- The limits of a row with one entry, as bounds of its column.
+--
+-- `quotient_times`: b divided by an a that is not 0, times a, is b.
+-- `by_entry`: what follows for an entry above 0, and for one below 0, follows for each entry that is not 0.
+-- `scaled_up`: for an entry that is not below 0, the limits divided by it keep their order.
+-- `scaled_down`: for an entry below 0, the limits divided by it change places.
+-- `scaled_between`: a value between the divided limits, times the entry, is between the limits.
+-- `scaled_allows`: a direction that the divided limits allow, times the entry, is one that the limits allow.
+-- `whole_of`: where a limit divided by the entry is v, the limit is the entry times v.
+-- `scaled_tight`: a multiplier that asks for a divided limit, divided by the entry, asks for the limit itself.
+-- `scaled_ordered`: where the lower limit is at most the upper one, so it is of the divided limits.
 use Rattle.std.proofs.Common.{◌≡◌, true, false, cond, Option, Some, None, IfSome}
 use Rattle.std.proofs.Common.{sym, ap, ◌∙◌, subst, subst₂}
 use Rattle.spec_exact.specs.Fraction.{ℚ, 0ℚ, ◌*ℚ◌, neg_ℚ, inverse, ◌≤ℚ◌, ◌<ℚ◌, lt_ℚ}

@@ -1,4 +1,12 @@
 -- Lists and sums with one index more.
+--
+-- `by_skip`: what holds of i, and of each index below n that skips i, holds of each index below n + 1.
+-- `skipping_inside`: an index below n that skips i is below n + 1.
+-- `part_at`: a list with v put in at i has the part v there.
+-- `part_skipping`: a list with v put in at i has its own parts at the indexes that skip i.
+-- `sum_skipping`: a sum of n + 1 terms is the sum of those that skip index i, and term i.
+-- `sum_of_one`: where all terms but term j are 0, their sum is term j.
+-- `sum_but_one`: two sums whose terms are the same but at j differ by their terms at j.
 use Rattle.std.proofs.Common.{◌≡◌, ℕ, zero, suc, ◌+◌, ◌-◌, ◌<◌, ◌≤◌, List, length}
 use Rattle.std.proofs.Common.{sym, ap, ap₂, ◌∙◌, subst, arith, ⊎_elim}
 use Rattle.std.specs.List.{insert}

@@ -1,4 +1,7 @@
 -- Bounds that a row with one entry tightens.
+--
+-- `asked_tight`: where the limit that a multiplier asks for exists, the multiplier is tight at it.
+-- `tight_zero`: the multiplier 0 asks for no limit, so it is tight at any value.
 use Rattle.std.proofs.Common.{◌≡◌, Bool, true, false, cond, Option, Some, None, IfSome, is_some}
 use Rattle.std.proofs.Common.{refl, sym, ap, ◌∙◌, subst, subst₂}
 use Rattle.spec_exact.specs.Fraction.{ℚ, 0ℚ, neg_ℚ, ◌≤ℚ◌, ◌<ℚ◌, lt_ℚ}

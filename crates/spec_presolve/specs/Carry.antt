@@ -16,6 +16,7 @@ use Rattle.spec_presolve.specs.declared.reduction.Halt.{Halt}
 use Rattle.spec_presolve.specs.declared.reduction.Halt.TheVariants as halt
 use Rattle.spec_presolve.specs.Choose.{ExactReduction}
 
+-- a certificate with exact numbers
 abbrev pub ExactCertificate : Type 0
 ExactCertificate = Certificate (List ℚ)
 
@@ -39,6 +40,7 @@ abbrev pub reduced_run : Option ℕ → Model → List ℚ → ℕ → Run ℚ
 reduced_run limit m y j =
     steps (height m) (λ i d. less_product limit (part y i) (coefficient m i j) d) (signed m.sense (cost m j))
 
+-- the multipliers' part in column j: the sum of each row's multiplier times its coefficient
 abbrev pub priced_run : Option ℕ → Model → List ℚ → ℕ → Run ℚ
 priced_run limit m y j = steps (height m) (λ i s. plus_product limit (part y i) (coefficient m i j) s) 0ℚ
 
@@ -57,6 +59,7 @@ apart limit n i a (Some l) upper = quotient_run limit 1ℚ a >>= λ v. Ok (Some 
 apart limit n i a None (Some u) = quotient_run limit (neg_ℚ 1ℚ) a >>= λ v. Ok (Some (Infeasible (alone_at n i v)))
 apart limit n i a None None = Ok None
 
+-- the certificate that was found, or that the bounds of column k clash
 abbrev pub or_clash : ℕ → Option ExactCertificate → ExactCertificate
 or_clash k None = Clash k
 or_clash k (Some certificate) = certificate
@@ -73,12 +76,14 @@ over_single limit m i j a lower upper (Clash k) =
     if k == j then (apart limit (height m) i a lower upper >>= λ c. Ok (or_clash k c)) else Ok (Clash k)
 over_single limit m i j a lower upper (Unbounded x r) = Ok (Unbounded x r)
 
+-- a certificate carried back over row i, which has no entries: its multiplier is 0
 abbrev pub over_empty : ℕ → ExactCertificate → ExactCertificate
 over_empty i (Optimal x y) = Optimal x (insert y i 0ℚ)
 over_empty i (Infeasible y) = Infeasible (insert y i 0ℚ)
 over_empty i (Clash k) = Clash k
 over_empty i (Unbounded x r) = Unbounded x r
 
+-- a certificate carried back over column j, which is fixed at v: v is its value, and 0 its part in a ray
 abbrev pub over_fixed : ℕ → ℚ → ExactCertificate → ExactCertificate
 over_fixed j v (Optimal x y) = Optimal (insert x j v) y
 over_fixed j v (Infeasible y) = Infeasible y
@@ -93,6 +98,7 @@ carried_over limit (Fixed j v, m) c = Ok (over_fixed j v c)
 
 -- ---- over all of them, from the last one
 
+-- a certificate of the last model, carried back over all steps from the last one on
 abbrev pub carried : Option ℕ → List (ExactReduction × Model) → ExactCertificate → Run ExactCertificate
 carried limit [] c = Ok c
 carried limit (s ∷ steps) c = carried limit steps c >>= carried_over limit s

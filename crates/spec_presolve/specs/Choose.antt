@@ -13,9 +13,11 @@ use Rattle.spec_presolve.specs.declared.reduction.Halt.TheVariants.{Done, Clash,
 use Rattle.spec_presolve.specs.declared.reduction.Choice.{Choice}
 use Rattle.spec_presolve.specs.declared.reduction.Choice.TheVariants.{Reduce, Halt}
 
+-- a reduction with exact numbers
 abbrev pub ExactReduction : Type 0
 ExactReduction = Reduction ℚ
 
+-- a choice with exact numbers
 abbrev pub ExactChoice : Type 0
 ExactChoice = Choice ℚ
 
@@ -36,6 +38,7 @@ crossed limit None upper = Ok false
 crossed limit (Some l) None = Ok false
 crossed limit (Some l) (Some u) = order_run limit l u >>= λ o. Ok (is_gt o)
 
+-- the end where the bounds of column j clash
 abbrev pub clash_at : Option ℕ → Model → ℕ → Run (Option ExactChoice)
 clash_at limit m j =
     crossed limit (bounds m j).lower (bounds m j).upper >>= λ c. Ok (if c then Some (Halt (Clash j)) else None)
@@ -48,6 +51,7 @@ one_more Nothing j a = One j a
 one_more (One k b) j a = More
 one_more More j a = More
 
+-- what was found in a row, with the coefficient of column j too
 abbrev pub and_next : InRow ℚ → ℕ → ℚ → InRow ℚ
 and_next found j a = if eq_ℚ a 0ℚ then found else one_more found j a
 
@@ -56,33 +60,40 @@ abbrev pub in_row_below : Model → ℕ → ℕ → InRow ℚ
 in_row_below m i zero = Nothing
 in_row_below m i (suc n) = and_next (in_row_below m i n) n (coefficient m i n)
 
+-- what is found in row i: no entry, one, or more
 abbrev pub in_row : Model → ℕ → InRow ℚ
 in_row m i = in_row_below m i (width m)
 
 -- ---- a row without entries goes, unless its sum, which is 0, is outside its limits
 
+-- whether a lower limit is above 0
 abbrev pub is_above : Option ℚ → Bool
 is_above None = false
 is_above (Some l) = lt_ℚ 0ℚ l
 
+-- whether an upper limit is below 0
 abbrev pub is_below : Option ℚ → Bool
 is_below None = false
 is_below (Some u) = lt_ℚ u 0ℚ
 
+-- row i without entries goes where 0 is within its limits; else the model is infeasible by it
 abbrev pub empty_row : ℕ → Option ℚ → Option ℚ → ExactChoice
 empty_row i lower upper =
     if is_above lower then Halt (Above i) else if is_below upper then Halt (Below i) else Reduce (Empty i)
 
+-- the choice for row i where nothing was found in it
 abbrev pub empty_by : Option ℕ → Model → ℕ → InRow ℚ → Run (Option ExactChoice)
 empty_by limit m i Nothing = limits_run limit (row m i) >>= λ l. Ok (Some (empty_row i l.0 l.1))
 empty_by limit m i (One j a) = Ok None
 empty_by limit m i More = Ok None
 
+-- the choice for row i as one without entries
 abbrev pub empty_at : Option ℕ → Model → ℕ → Run (Option ExactChoice)
 empty_at limit m i = empty_by limit m i (in_row m i)
 
 -- ---- a row with one entry gives its column bounds, where they are tighter than those that the column has
 
+-- a limit divided by the entry
 abbrev pub quotient : Option ℕ → Option ℚ → ℚ → Run (Option ℚ)
 quotient limit None a = Ok None
 quotient limit (Some l) a = quotient_run limit l a >>= λ q. Ok (Some q)
@@ -116,6 +127,7 @@ near limit m i j a p q =
     if is_far p || is_far q then Ok None
     else if lt_ℚ a 0ℚ then given limit m i j a q p else given limit m i j a p q
 
+-- the choice for row i where one entry was found in it
 abbrev pub single_by : Option ℕ → Model → ℕ → InRow ℚ → Run (Option ExactChoice)
 single_by limit m i Nothing = Ok None
 single_by limit m i (One j a) =
@@ -123,25 +135,30 @@ single_by limit m i (One j a) =
     quotient limit l.0 a >>= λ p. quotient limit l.1 a >>= λ q. near limit m i j a p q
 single_by limit m i More = Ok None
 
+-- the choice for row i as one with a single entry
 abbrev pub single_at : Option ℕ → Model → ℕ → Run (Option ExactChoice)
 single_at limit m i = single_by limit m i (in_row m i)
 
 -- ---- a column that stands still
 
+-- column j is removed where its two bounds are the same
 abbrev pub fixed_by : ℕ → Option ℚ → Option ℚ → Option ExactChoice
 fixed_by j None upper = None
 fixed_by j (Some l) None = None
 fixed_by j (Some l) (Some u) = if eq_ℚ l u then Some (Reduce (Fixed j l)) else None
 
+-- the choice for column j as a fixed one
 abbrev pub fixed_at : Model → ℕ → Run (Option ExactChoice)
 fixed_at m j = Ok (fixed_by j (bounds m j).lower (bounds m j).upper)
 
 -- ---- what comes next
 
+-- the choice that was found, or the end
 abbrev pub or_done : Option ExactChoice → ExactChoice
 or_done None = Halt Done
 or_done (Some choice) = choice
 
+-- the first choice: a clash, then a row without entries, one with a single entry, a fixed column, the end
 unfoldable pub chosen : Option ℕ → Model → Run ExactChoice
 chosen limit m =
     first (width m) (clash_at limit m) >>= λ a.

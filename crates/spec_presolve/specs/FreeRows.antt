@@ -11,6 +11,7 @@ abbrev pub without_free_below : ℕ → Model → Model
 without_free_below zero m = m
 without_free_below (suc i) m = without_free_below i (if is_free (row m i).kind then without_row m i else m)
 
+-- the model without its free rows
 unfoldable pub without_free_rows : Model → Model
 without_free_rows m = without_free_below (height m) m
 
@@ -19,6 +20,7 @@ abbrev pub but_free : List ExactRow → List ℚ → List ℚ
 but_free (r ∷ rows) (v ∷ y) = if is_free r.kind then but_free rows y else v ∷ but_free rows y
 but_free rows y = []
 
+-- a certificate without the multipliers of free rows
 unfoldable pub without_free_multipliers : Model → ExactCertificate → ExactCertificate
 without_free_multipliers m (Optimal x y) = Optimal x (but_free m.rows y)
 without_free_multipliers m (Infeasible y) = Infeasible (but_free m.rows y)
@@ -29,6 +31,7 @@ without_free_multipliers m (Unbounded x r) = Unbounded x r
 abbrev pub IsZeroAtFree : Model → List ℚ → Type 0
 IsZeroAtFree m y = (i : ℕ) → i < height m → is_free (row m i).kind ≡ true → part y i ≡ 0ℚ
 
+-- a certificate has the multiplier 0 for each free row
 abbrev pub TakesNoFreeRow : Model → ExactCertificate → Type 0
 TakesNoFreeRow m (Optimal x y) = IsZeroAtFree m y
 TakesNoFreeRow m (Infeasible y) = IsZeroAtFree m y

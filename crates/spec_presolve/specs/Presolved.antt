@@ -20,9 +20,11 @@ use Rattle.spec_presolve.specs.declared.presolved.Presolved.{Presolved}
 use Rattle.spec_presolve.specs.Reduce.{Reductions, reduced}
 use Rattle.spec_presolve.specs.Carry.{ExactCertificate, halted, carried}
 
+-- why a presolved solve gives up, with exact numbers
 abbrev pub ExactWhy : Type 0
 ExactWhy = Why ℚ
 
+-- what a presolved solve ends with, in exact numbers
 abbrev pub ExactPresolved : Type 0
 ExactPresolved = Presolved ℚ (List ℚ) (List Status)
 
@@ -32,6 +34,7 @@ ExactPresolved = Presolved ℚ (List ℚ) (List Status)
 abbrev pub LastEnd : Type 0
 LastEnd = Result (ExactCertificate × ℕ) ExactWhy
 
+-- a solve of the last model: its certificate and pivots, or why there is none
 abbrev pub last_end : ExactSolveEnd → LastEnd
 last_end (Ended known certificate basis pivots) = Ok (certificate, pivots)
 last_end (Past q) = Err (why.Past q)

@@ -18,6 +18,7 @@ abbrev pub or_old : Option ℚ → Option ℚ → Option ℚ
 or_old None old = old
 or_old (Some b) old = Some b
 
+-- bounds with the new ones where these are given
 abbrev pub tightened : Limits → Option ℚ → Option ℚ → Limits
 tightened l lower upper = record { lower = or_old lower l.lower; upper = or_old upper l.upper }
 
@@ -26,6 +27,7 @@ abbrev pub shifted : Option ℕ → Model → ℕ → ℚ → Run Model
 shifted limit m j v =
     steps (height m) (λ i n. less_product limit (coefficient m i j) v (row m i).rhs >>= λ b. Ok (with_rhs n i b)) m
 
+-- the model after a reduction, at a limit
 unfoldable pub after : Option ℕ → Model → ExactReduction → Run Model
 after limit m (Empty i) = Ok (without_row m i)
 after limit m (Single i j a lower upper) =
@@ -42,6 +44,7 @@ pub record Reductions : Type 0 where
   pub last : Model
   pub halt : Halt
 
+-- ends with the model where the choice is to halt, and goes on with the reduction else
 abbrev pub proceed : Model → ExactChoice → (ExactReduction → Run Reductions) → Run Reductions
 proceed m (choice.Halt halt) next = Ok (record { steps = []; last = m; halt = halt })
 proceed m (Reduce r) next = next r
