@@ -1,4 +1,7 @@
 -- The bounds of a model's form, by its columns, its rows and its artificial columns; and the bases that fit them.
+--
+-- `bounds_by`: where the columns, rows and artificial columns of a model have some bounds, so does the model's form.
+-- `fits_other`: a basis fits another form of the same size whose bounds let each column keep its status.
 use Rattle.std.proofs.Common.{◌≡◌, ℕ, ◌+◌, ◌<◌, List, Option, Some, sym, ap, ap₂, ◌∙◌, arith}
 use Rattle.spec_exact.specs.Fraction.{ℚ, 0ℚ}
 use Rattle.spec_model.specs.Model.{Model, width, height, bounds, limits}

@@ -125,11 +125,11 @@ module _ (limit : Option ℕ) (m : Model) (ls : List (Option ℚ × Option ℚ))
   structural_upper j l =
       sym ((bounded (formed m ls) (formed_proper m ls h)).upper j (omega (arith, l)) ∙ upper_structural m ls h j l)
 
-  pub logical_lower : (i : ℕ) → i < height m → (limits m i).lower ≡ (form_bounds (formed m ls)).lower (width m + i)
+  logical_lower : (i : ℕ) → i < height m → (limits m i).lower ≡ (form_bounds (formed m ls)).lower (width m + i)
   logical_lower i l =
       sym ((bounded (formed m ls) (formed_proper m ls h)).lower (w + i) (omega (arith, l)) ∙ lower_logical m ls h i l)
 
-  pub logical_upper : (i : ℕ) → i < height m → (limits m i).upper ≡ (form_bounds (formed m ls)).upper (width m + i)
+  logical_upper : (i : ℕ) → i < height m → (limits m i).upper ≡ (form_bounds (formed m ls)).upper (width m + i)
   logical_upper i l =
       sym ((bounded (formed m ls) (formed_proper m ls h)).upper (w + i) (omega (arith, l)) ∙ upper_logical m ls h i l)
 

@@ -1,4 +1,8 @@
 -- The range of a cost has exactly the numbers of the span, and says the optimal values in it.
+--
+-- `kept`: where a basis keeps a model and its tableau is made, the tableau's point and multipliers show the optimum.
+-- `cost_range_is`: where the range of a cost is found, from a basis that keeps the model, it is the range by
+--   definition.
 use Rattle.std.proofs.Common.{◌≡◌, ◌↔◌, ℕ, ◌+◌, ◌<◌, List, get_or, Option, None, Ok, Bool, true, false, cond}
 use Rattle.std.proofs.Common.{refl, sym, ap, ◌∙◌, subst, arith}
 use Rattle.spec_exact.specs.Fraction.{ℚ, ◌+ℚ◌, ◌-ℚ◌, ◌*ℚ◌, 0ℚ, 1ℚ}

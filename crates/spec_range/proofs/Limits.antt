@@ -128,13 +128,13 @@ module _ (limit : Option ℕ) where
       (nonbasic_agrees (row m i).rhs t (t.cols + i)) (ok _))) (λ e. ok _)
 
   -- ---- the whole
-  pub cost_range_agrees : (m : Model) (f : Form) (basis : List Status) (j : ℕ) →
+  cost_range_agrees : (m : Model) (f : Form) (basis : List Status) (j : ℕ) →
       Agrees stop.Past (cost_range limit m f basis j) (cost_range None m f basis j)
   unfolding cost_range
   cost_range_agrees m f basis j =
       agrees_then stop.Past _ _ _ _ (from_agrees limit f basis) (λ t. agrees_as stop.Past _ _ (cost_agrees m t j))
 
-  pub side_range_agrees : (m : Model) (f : Form) (basis : List Status) (i : ℕ) →
+  side_range_agrees : (m : Model) (f : Form) (basis : List Status) (i : ℕ) →
       Agrees stop.Past (side_range limit m f basis i) (side_range None m f basis i)
   unfolding side_range
   side_range_agrees m f basis i =

@@ -1,4 +1,7 @@
 -- The tableau of a basis, with the bounds and the statuses that the form and the basis say.
+--
+-- `status_before`: below the artificial columns, the full list of statuses has the statuses of the basis.
+-- `status_after`: each artificial column is at its lower bound in the full list of statuses.
 use Rattle.std.proofs.Common.{◌≡◌, ℕ, ◌+◌, ◌-◌, ◌<◌, ◌≤◌, List, ◌++◌, length, get_or, replicate}
 use Rattle.std.proofs.Common.{Option, Some, None, Ok, nat_le, refl, sym, ap, ap₂, ◌∙◌, subst, subst₂, arith}
 use Rattle.std.proofs.lemmas.Bool.{lt-leb}

@@ -68,7 +68,7 @@ module _ (m : Model) (i : ℕ) (i_in : i < height m) (x : ℚ) where
   abbrev changed : ExactRow
   changed = record (row m i) { rhs = x }
 
-  pub other_height : height (with_rhs m i x) ≡ height m
+  other_height : height (with_rhs m i x) ≡ height m
   other_height = length-set m.rows i (record (row m i) { rhs = x })
 
   limits_there : IsShifted (x -ℚ (row m i).rhs) (limits m i) (limits (with_rhs m i x) i)
@@ -94,7 +94,7 @@ module _ (m : Model) (i : ℕ) (i_in : i < height m) (x : ℚ) where
       })
       (sym other_height)
 
-  pub costs_same : (ls l : List (Option ℚ × Option ℚ)) (k : ℕ) →
+  costs_same : (ls l : List (Option ℚ × Option ℚ)) (k : ℕ) →
       cost_at (formed (with_rhs m i x) l).cost k ≡ cost_at (formed m ls).cost k
   costs_same ls l k =
       ap (λ n. get_or (map (λ (c : ExactColumn). least_cost m.sense c.cost) m.columns ++ replicate n 0ℚ) k 0ℚ)

@@ -1,4 +1,10 @@
--- Where a number that moves evenly with t has the sign that a status lets it have.
+-- For which t a multiple of v - t has the sign that a status asks of a reduced cost.
+--
+-- `up_from`: t is at most v exactly where v - t is at least 0.
+-- `down_from`: v is at most t exactly where v - t is at most 0.
+-- `meets_above`: t is on the side of v that the sign of a gives exactly where a times (v - t) is at least 0.
+-- `meets_below`: t is on the other side of v exactly where a times (v - t) is at most 0.
+-- `ends_ok`: the ends after a status's step have the numbers from before for which a times (v - t) suits the status.
 use Rattle.std.proofs.Common.{◌≡◌, ◌↔◌, ℕ, Option, Ok, Bool, true, false, not, refl, sym, subst, subst₂}
 use Rattle.spec_exact.specs.Fraction.{ℚ, ◌-ℚ◌, ◌*ℚ◌, neg_ℚ, 0ℚ, ◌≤ℚ◌, ◌<ℚ◌, lt_ℚ}
 use Rattle.spec_exact.proofs.Field.{*ℚ_zero}
@@ -40,13 +46,13 @@ module _ (a : ℚ) (above : 0ℚ <ℚ a) where
     λ h. *ℚ_mono_back w 0ℚ a above (subst (λ z. (a *ℚ w) ≤ℚ z) (sym (*ℚ_zero a)) h),
   )
 
-  pub falls_above : (v t : ℚ) → t ≤ℚ v ↔ 0ℚ ≤ℚ (a *ℚ (v -ℚ t))
+  falls_above : (v t : ℚ) → t ≤ℚ v ↔ 0ℚ ≤ℚ (a *ℚ (v -ℚ t))
   falls_above v t = (
     λ h. (grows (v -ℚ t)).0 ((up_from v t).0 h),
     λ h. (up_from v t).1 ((grows (v -ℚ t)).1 h),
   )
 
-  pub falls_below : (v t : ℚ) → v ≤ℚ t ↔ (a *ℚ (v -ℚ t)) ≤ℚ 0ℚ
+  falls_below : (v t : ℚ) → v ≤ℚ t ↔ (a *ℚ (v -ℚ t)) ≤ℚ 0ℚ
   falls_below v t = (
     λ h. (shrinks (v -ℚ t)).0 ((down_from v t).0 h),
     λ h. (down_from v t).1 ((shrinks (v -ℚ t)).1 h),
@@ -59,7 +65,7 @@ module _ (a : ℚ) (below : a <ℚ 0ℚ) where
   turn : (w : ℚ) → neg_ℚ a *ℚ w ≡ neg_ℚ (a *ℚ w)
   turn w = simp ring
 
-  pub rises_above : (v t : ℚ) → v ≤ℚ t ↔ 0ℚ ≤ℚ (a *ℚ (v -ℚ t))
+  rises_above : (v t : ℚ) → v ≤ℚ t ↔ 0ℚ ≤ℚ (a *ℚ (v -ℚ t))
   rises_above v t = (
     λ h. neg_mono_back 0ℚ (a *ℚ (v -ℚ t)) (subst₂ ◌≤ℚ◌ (turn (v -ℚ t)) (simp ring)
         ((falls_below (neg_ℚ a) turned v t).0 h)),
@@ -67,7 +73,7 @@ module _ (a : ℚ) (below : a <ℚ 0ℚ) where
         (subst₂ ◌≤ℚ◌ (sym (turn (v -ℚ t))) (simp ring) (neg_mono 0ℚ (a *ℚ (v -ℚ t)) h)),
   )
 
-  pub rises_below : (v t : ℚ) → t ≤ℚ v ↔ (a *ℚ (v -ℚ t)) ≤ℚ 0ℚ
+  rises_below : (v t : ℚ) → t ≤ℚ v ↔ (a *ℚ (v -ℚ t)) ≤ℚ 0ℚ
   rises_below v t = (
     λ h. neg_mono_back (a *ℚ (v -ℚ t)) 0ℚ (subst₂ ◌≤ℚ◌ (simp ring) (turn (v -ℚ t))
         ((falls_above (neg_ℚ a) turned v t).0 h)),

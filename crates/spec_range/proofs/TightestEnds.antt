@@ -1,4 +1,11 @@
 -- The tightest ends are kept: a number is within the ends after a step where it was before and meets the new end.
+--
+-- `at_least_ok`: with v as a lower end too, the ends have the numbers from before that are at least v.
+-- `at_most_ok`: with v as an upper end too, the ends have the numbers from before that are at most v.
+-- `at_side_ok`: with v as an end at a side too, the ends have the numbers from before that are within v at this side.
+-- `cuts_as`: where two conditions hold of the same numbers, ends that are cut by one are cut by the other.
+-- `cuts_none`: ends that stay as they are are cut by each condition that all numbers meet.
+-- `cuts_both`: ends that are cut by one condition and then by another are cut by both together.
 use Rattle.std.proofs.Common.{◌≡◌, ◌↔◌, ℕ, Option, Some, None, IfSome, Ok, Bool, true, false, subst}
 use Rattle.spec_exact.specs.Fraction.{ℚ, ◌≤ℚ◌}
 use Rattle.spec_exact.proofs.Order.{≤ℚ_refl, ≤ℚ_trans, <ℚ-le}

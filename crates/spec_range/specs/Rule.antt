@@ -28,31 +28,37 @@ use Rattle.spec_range.specs.declared.range.Range.{Range}
 abbrev pub no_ends : Ends ℚ
 no_ends = record { low = None; high = None }
 
+-- the greater of two numbers, by their order
 abbrev pub greater_by : ℚ → ℚ → Ordering → ℚ
 greater_by new kept Less = kept
 greater_by new kept Equal = kept
 greater_by new kept Greater = new
 
+-- the lesser of two numbers, by their order
 abbrev pub lesser_by : ℚ → ℚ → Ordering → ℚ
 lesser_by new kept Less = new
 lesser_by new kept Equal = kept
 lesser_by new kept Greater = kept
 
+-- the greater of a new lower end and the one so far
 abbrev pub greater_run : Option ℕ → ℚ → Option ℚ → Run ℚ
 greater_run limit new None = Ok new
 greater_run limit new (Some kept) = order_run limit new kept >>= λ o. Ok (greater_by new kept o)
 
+-- the lesser of a new upper end and the one so far
 abbrev pub lesser_run : Option ℕ → ℚ → Option ℚ → Run ℚ
 lesser_run limit new None = Ok new
 lesser_run limit new (Some kept) = order_run limit new kept >>= λ o. Ok (lesser_by new kept o)
 
--- with v as a lower end too, and with v as an upper one
+-- the ends e, with v as a lower end too
 abbrev pub at_least : Option ℕ → ℚ → Ends ℚ → Run (Ends ℚ)
 at_least limit v e = greater_run limit v e.low >>= λ low. Ok (record { low = Some low; high = e.high })
 
+-- the ends e, with v as an upper end too
 abbrev pub at_most : Option ℕ → ℚ → Ends ℚ → Run (Ends ℚ)
 at_most limit v e = lesser_run limit v e.high >>= λ high. Ok (record { low = e.low; high = Some high })
 
+-- the ends e, with v as an upper or a lower end too
 abbrev pub at_side : Option ℕ → Bool → ℚ → Ends ℚ → Run (Ends ℚ)
 at_side limit upper v e = if upper then at_most limit v e else at_least limit v e
 
@@ -76,6 +82,7 @@ own_number limit s c AtLower d = difference_run limit c (least_cost s d)
 own_number limit s c AtUpper d = difference_run limit c (least_cost s d)
 own_number limit s c AtZero d = Ok c
 
+-- the ends for the cost c of column j, which is not basic
 abbrev pub own_ends : Option ℕ → Sense → ℚ → Tableau → ℕ → Run (Ends ℚ)
 own_ends limit s c t j =
     if is_fixed (lower_at t j) (upper_at t j) then Ok no_ends
@@ -87,17 +94,21 @@ abbrev pub is_moved : Tableau → ℕ → ℕ → Bool
 is_moved t p k =
     not (is_basic (status_at t k) || (is_fixed (lower_at t k) (upper_at t k) || eq_ℚ (entry_at t p k) 0ℚ))
 
+-- the ends e, with the one that column k gives, whose reduced cost moves
 abbrev pub moved_ends : Option ℕ → Sense → ℚ → Tableau → ℕ → ℕ → Ends ℚ → Run (Ends ℚ)
 moved_ends limit s c t p k e =
     quotient_run limit (least_cost s (reduced_at t k)) (entry_at t p k) >>= λ q. sum_run limit c q >>= λ v.
     ends_by limit (status_at t k) (falls_by s (entry_at t p k)) v e
 
+-- the ends e, with the one that column k gives if its reduced cost moves
 abbrev pub moved_if : Option ℕ → Sense → ℚ → Tableau → ℕ → ℕ → Ends ℚ → Run (Ends ℚ)
 moved_if limit s c t p k e = if is_moved t p k then moved_ends limit s c t p k e else Ok e
 
+-- the ends for the cost c of the basic column at position p
 abbrev pub basic_ends : Option ℕ → Sense → ℚ → Tableau → ℕ → Run (Ends ℚ)
 basic_ends limit s c t p = steps (all_columns t) (moved_if limit s c t p) no_ends
 
+-- the ends for the cost c of column j
 abbrev pub cost_ends : Option ℕ → Sense → ℚ → Tableau → ℕ → Run (Ends ℚ)
 cost_ends limit s c t j =
     if is_basic (status_at t j) then basic_ends limit s c t (place_of t j) else own_ends limit s c t j
@@ -113,6 +124,7 @@ abbrev pub shifted_run : Option ℕ → ℚ → ℚ → Option ℚ → Run (Opti
 shifted_run limit b v None = Ok None
 shifted_run limit b v (Some bound) = difference_run limit v bound >>= λ g. sum_run limit b g >>= λ x. Ok (Some x)
 
+-- the ends for the right side b, where the logical is basic and has the value v
 abbrev pub still_ends : Option ℕ → ℚ → ℚ → Option ℚ → Option ℚ → Run (Ends ℚ)
 still_ends limit b v lower upper =
     shifted_run limit b v lower >>= λ high. shifted_run limit b v upper >>= λ low. Ok (record { low = low; high = high })
@@ -129,6 +141,7 @@ abbrev pub carried_ends : Option ℕ → ℚ → ℚ → ℚ → Option ℚ → 
 carried_ends limit b v a lower upper e =
     bound_ends limit b v a lower (lt_ℚ 0ℚ a) e >>= λ e. bound_ends limit b v a upper (not (lt_ℚ 0ℚ a)) e
 
+-- whether column k is basic and moves with the logical s
 abbrev pub is_carried : Tableau → ℕ → ℕ → Bool
 is_carried t s k = is_basic (status_at t k) && not (eq_ℚ (entry_at t (place_of t k) s) 0ℚ)
 
@@ -139,6 +152,7 @@ carried_if limit b t s k e =
     then carried_ends limit b (value_at t k) (entry_at t (place_of t k) s) (lower_at t k) (upper_at t k) e
     else Ok e
 
+-- the ends for the right side b, where the logical s is not basic
 abbrev pub nonbasic_ends : Option ℕ → ℚ → Tableau → ℕ → Run (Ends ℚ)
 nonbasic_ends limit b t s = steps (all_columns t) (carried_if limit b t s) no_ends
 
@@ -155,8 +169,10 @@ side_run limit m t i =
     Ok (record { ends = e; slope = least_cost m.sense (reduced_at t (t.cols + i)) })
 
 -- ---- from a basis of the model's form
+-- the range of the cost of column j
 unfoldable pub cost_range : Option ℕ → Model → Form → List Status → ℕ → Result (Range ℚ) (StartStop ℚ)
 cost_range limit m f basis j = start_from limit f basis >>= λ t. refused_as stop.Past (cost_run limit m t j)
 
+-- the range of the right side of row i
 unfoldable pub side_range : Option ℕ → Model → Form → List Status → ℕ → Result (Range ℚ) (StartStop ℚ)
 side_range limit m f basis i = start_from limit f basis >>= λ t. refused_as stop.Past (side_run limit m t i)
