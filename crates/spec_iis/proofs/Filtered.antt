@@ -1,4 +1,13 @@
--- What holds on the way of the rule: from its begin, over each of its two steps, to its end.
+-- What holds as the rule leaves out sides one by one: at its begin, over each of its two steps, and at its end.
+--
+-- `filtered_none`: where sides of the model are infeasible together, the invariant of the rule holds at its begin.
+-- `clash_infeasible`: sides are infeasible together where a few of them are.
+-- `clash_without`: a few sides that clash still do so without a side that is none of them.
+-- `present_without`: where all of some sides are sides of the model, they are so without one of them.
+-- `filtered_without`: the invariant stays where a side is left out without which the others are infeasible together.
+-- `filtered_kept`: the invariant stays where a side is kept, by a point that is feasible without it.
+-- `filtered_points`: at the end each kept side has a point that is feasible without it.
+-- `filtered_all`: at the end the kept sides are an irreducible infeasible set.
 use Rattle.std.proofs.Common.{◌≡◌, ◌≢◌, ℕ, ◌-◌, ◌<◌, false, List, [], ◌∷◌, ◌++◌, All, length, get_or}
 use Rattle.std.proofs.Common.{refl, sym, ap, ◌∙◌, subst, subst₂, arith, ⊎_elim, length-append}
 use Rattle.std.specs.List.{remove}

@@ -1,4 +1,14 @@
--- Sides that are listed.
+-- Sides that are listed, in lists that are put together or filtered.
+--
+-- `listed_holds`: what holds of all sides of a list holds of a side that is listed.
+-- `listed_first`: the first side of a list is listed.
+-- `all_listed`: each side of a list is listed in it.
+-- `listed_left`: a side that is listed in one list is listed with another list behind it.
+-- `listed_right`: a side that is listed in one list is listed with another list before it.
+-- `among_both`: sides without the one between are among those with it.
+-- `among_without`: a few sides among some, of which one is none of the few, are among the others.
+-- `among_filter`: the sides that pass a test are among all of them.
+-- `listed_filter`: a side that is listed and passes a test is listed among those that pass.
 use Rattle.std.proofs.Common.{◌≡◌, ℕ, Bool, true, false, cond, eqb, List, [], ◌∷◌, ◌++◌, All, get_or}
 use Rattle.std.proofs.Common.{refl, sym, ◌∙◌, subst, eq-eqb, ◌&&◌, ◌||◌}
 use borrow.Author.Tests.{eqb-true}

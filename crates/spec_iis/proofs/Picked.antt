@@ -11,7 +11,7 @@ use Rattle.std.proofs.lemmas.List.Quantifiers.{all_pairs_push}
 use Rattle.spec_iis.specs.Only.{picked, rank}
 
 module _ (p : ℕ → Bool) where
-  pub rank_pass : (k : ℕ) → p k ≡ true → rank p (suc k) ≡ rank p k + 1
+  rank_pass : (k : ℕ) → p k ≡ true → rank p (suc k) ≡ rank p k + 1
   rank_pass k h = rw h refl
 
   rank_up : (k d : ℕ) → rank p k ≤ rank p (k + d)

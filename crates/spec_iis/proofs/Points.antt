@@ -1,4 +1,7 @@
--- The points of some sides alone.
+-- The points that are feasible with some sides alone: those that meet each of these sides.
+--
+-- `stays_by`: the row of a listed side stays in the model with the listed sides alone.
+-- `more_points`: a point that is feasible with some sides alone is feasible with fewer of them.
 use Rattle.std.proofs.Common.{◌≡◌, ℕ, ◌<◌, Bool, true, false, cond, List, All}
 use Rattle.std.proofs.Common.{get_or, Option, Some, None, IfSome, refl, sym, ap, ap₂, ◌∙◌, subst, ◌||◌}
 use Rattle.std.proofs.lemmas.Bool.{or_right}
@@ -55,11 +58,11 @@ module _ (m : Model) (sides : List Side) where
   unfolding only
   height-only = length-picked (stays sides) (only_row_at m sides) (height m)
 
-  pub column-only : (j : ℕ) → j < width m → column (only m sides) j ≡ only_column_at m sides j
+  column-only : (j : ℕ) → j < width m → column (only m sides) j ≡ only_column_at m sides j
   unfolding only
   column-only j l = get_or-made (width m) (only_column_at m sides) j no_column l
 
-  pub row-only : (i : ℕ) → i < height m → stays sides i ≡ true →
+  row-only : (i : ℕ) → i < height m → stays sides i ≡ true →
       row (only m sides) (rank (stays sides) i) ≡ only_row_at m sides i
   unfolding only
   row-only i l h = get_or-picked (stays sides) (only_row_at m sides) (height m) i no_row l h

@@ -1,4 +1,9 @@
 -- The sides that a certificate uses are infeasible together.
+--
+-- `All-gathered`: what holds of all members of each of n lists holds of all members of these behind one another.
+-- `All-side_if`: what holds of a side where a test says yes holds of all in the list that has it only then.
+-- `used_clash`: where a certificate shows a model infeasible, the sides that it uses are the model's, and infeasible
+--   together.
 use Rattle.std.proofs.Common.{◌≡◌, ◌≢◌, ℕ, zero, suc, ◌<◌, Bool, true, false, List, [], ◌∷◌, ◌++◌, All}
 use Rattle.std.proofs.Common.{Option, Some, None, IfSome, Ok, refl, ap, ◌∙◌, subst, arith, ⊎_elim}
 use Rattle.std.proofs.lemmas.Bool.{cases_eq}

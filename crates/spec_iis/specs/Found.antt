@@ -21,6 +21,7 @@ use Rattle.spec_iis.specs.Only.{only}
 use Rattle.spec_iis.specs.Irreducible.{IsIrreducible, ArePointsWithout}
 use Rattle.spec_iis.specs.Rule.{used, Reaches}
 
+-- what a search ends with, in exact numbers
 abbrev pub ExactIis : Type 0
 ExactIis = Iis (List Side) (Certificate (List ℚ)) (List (List ℚ)) ExactSolveEnd
 
@@ -68,6 +69,7 @@ pub record IsStopped (m : Model) (budget : ℕ) (end : ExactSolveEnd) : Type 0 w
   pub ends : EndsCold (only m sides) budget end
   pub gives_up : GivesUp end
 
+-- what a search may end with, where each solve has this budget
 abbrev pub MayFind : Model → ℕ → ExactIis → Type 0
 MayFind m budget (Found sides cert points) = IsFound m budget sides cert points
 MayFind m budget (Other end) = EndsCold m budget end × IsElse end

@@ -8,6 +8,7 @@ use Rattle.spec_iis.specs.declared.side.Side.{Side}
 use Rattle.spec_iis.specs.Sides.{IsSide}
 use Rattle.spec_iis.specs.Only.{only}
 
+-- some sides are infeasible together, and without any one of them some point is feasible
 pub record IsIrreducible (m : Model) (sides : List Side) : Type 0 where
   pub present : All (IsSide m) sides
   pub infeasible : IsInfeasible (only m sides)

@@ -12,9 +12,11 @@ use Rattle.spec_iis.specs.declared.side.Side.{Side}
 use Rattle.spec_iis.specs.Sides.{is_listed}
 
 -- ---- which sides are listed
+-- whether the lower side of a row, or of a column, with number k is listed
 abbrev pub has_lower : List Side → Bool → ℕ → Bool
 has_lower sides of_row k = is_listed sides (record { row = of_row; at = k; upper = false })
 
+-- whether the upper side of a row, or of a column, with number k is listed
 abbrev pub has_upper : List Side → Bool → ℕ → Bool
 has_upper sides of_row k = is_listed sides (record { row = of_row; at = k; upper = true })
 
@@ -24,6 +26,7 @@ stays sides i = has_lower sides true i || has_upper sides true i
 
 -- ---- rows
 
+-- a row with one limit, of this kind
 abbrev pub single : Kind → ExactRow → ℚ → ExactRow
 single kind r b = record { name = r.name; kind = kind; rhs = b; range = None }
 
@@ -33,6 +36,7 @@ with_sides true false r (Some low) (Some high) = single G r low
 with_sides false true r (Some low) (Some high) = single L r high
 with_sides lower upper r low high = r
 
+-- a row with its lower side, its upper one or both
 unfoldable pub only_row : Bool → Bool → ExactRow → ExactRow
 only_row lower upper r = with_sides lower upper r (limits_of r).lower (limits_of r).upper
 
@@ -46,6 +50,7 @@ abbrev pub rank : (ℕ → Bool) → ℕ → ℕ
 rank p zero = 0
 rank p (suc k) = if p k then rank p k + 1 else rank p k
 
+-- row i with its listed sides
 abbrev pub only_row_at : Model → List Side → ℕ → ExactRow
 only_row_at m sides i = only_row (has_lower sides true i) (has_upper sides true i) (row m i)
 
@@ -55,6 +60,7 @@ renumbered sides s = record { row = s.row; at = if s.row then rank (stays sides)
 
 -- ---- columns
 
+-- a bound that is listed, or none
 abbrev pub if_listed : Bool → Option ℚ → Option ℚ
 if_listed listed bound = if listed then bound else None
 
@@ -62,6 +68,7 @@ if_listed listed bound = if listed then bound else None
 unfoldable pub only_entries : (ℕ → Bool) → List (ℕ × ℚ) → List (ℕ × ℚ)
 only_entries p entries = map (λ e. (rank p e.0, e.1)) (filter (λ e. p e.0) entries)
 
+-- column j with its listed bounds, at the cost 0, with the entries in rows that stay
 abbrev pub only_column_at : Model → List Side → ℕ → ExactColumn
 only_column_at m sides j =
     record {

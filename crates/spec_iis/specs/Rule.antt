@@ -20,6 +20,7 @@ abbrev pub gathered : {A : Type 0} → (ℕ → List A) → ℕ → List A
 gathered f zero = []
 gathered f (suc n) = gathered f n ++ f n
 
+-- a list of one side, or of none
 abbrev pub side_if : Bool → Side → List Side
 side_if used s = if used then s ∷ [] else []
 
@@ -35,6 +36,7 @@ column_sides j g =
     side_if (lt_ℚ g 0ℚ) (record { row = false; at = j; upper = false })
     ++ side_if (lt_ℚ 0ℚ g) (record { row = false; at = j; upper = true })
 
+-- the sides that a certificate of infeasibility uses
 unfoldable pub used : Model → Certificate (List ℚ) → List Side
 used m (Infeasible y) =
     gathered (λ i. row_sides i (part y i)) (height m) ++ gathered (λ j. column_sides j (priced m y j)) (width m)
@@ -76,5 +78,6 @@ abbrev pub end_run : Bool → Option ℕ → ExactRow → Run (Option ℚ)
 end_run true limit r = upper_run limit r
 end_run false limit r = lower_run limit r
 
+-- the limit of a row's side is read without a refusal
 abbrev pub IsRead : Option ℕ → Model → Side → Type 0
 IsRead limit m s = s.row ≡ true → end_run s.upper limit (row m s.at) ≡ Ok (end_of s.upper (limits m s.at))

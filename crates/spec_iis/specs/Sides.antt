@@ -10,6 +10,7 @@ use Rattle.spec_iis.specs.declared.side.Side.{Side}
 abbrev pub limits_at : Model → Side → Limits
 limits_at m s = if s.row then limits m s.at else bounds m s.at
 
+-- the upper one or the lower one of two limits
 abbrev pub end_of : Bool → Limits → Option ℚ
 end_of true l = l.upper
 end_of false l = l.lower
@@ -24,9 +25,11 @@ abbrev pub same_way : Bool → Bool → Bool
 same_way true b = b
 same_way false b = not b
 
+-- whether two sides are the same
 abbrev pub same_side : Side → Side → Bool
 same_side s t = same_way s.row t.row && ((s.at == t.at) && same_way s.upper t.upper)
 
+-- whether a side is in a list
 unfoldable pub is_listed : List Side → Side → Bool
 is_listed sides s = list_any (same_side s) sides
 
@@ -45,6 +48,7 @@ IsWithin false bound v = IfSome bound (λ k. k ≤ℚ v)
 abbrev pub value_at : Model → List ℚ → Side → ℚ
 value_at m z s = if s.row then activity m z s.at else part z s.at
 
+-- a point meets a side
 abbrev pub Meets : Model → List ℚ → Side → Type 0
 Meets m z s = IsWithin s.upper (end_of s.upper (limits_at m s)) (value_at m z s)
 
