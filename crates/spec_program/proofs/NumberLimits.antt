@@ -1,4 +1,7 @@
 -- The numbers of a command line are within their limits.
+--
+-- `none_is_not`: `None` is never `Some a`.
+-- `command-fits`: the numbers of a command line that words spell are within the limits of its command.
 use Rattle.std.proofs.Common.{◌≡◌, ℕ, ◌+◌, ◌-◌, ◌*◌, ◌≤◌, Bool, true, false, ◌&&◌, not, cond, nat_le, nat_lt, arith}
 use Rattle.std.proofs.Common.{List, [], ◌∷◌, length, Option, Some, None, refl, subst, ⊎_elim}
 use Rattle.std.specs.Prelude.{codes, option_map, option_and_then}

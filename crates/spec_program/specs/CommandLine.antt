@@ -16,6 +16,7 @@ use Rattle.spec_program.specs.declared.command_line.TextCommand.{TextCommand}
 use Rattle.spec_program.specs.declared.command_line.TextCommand.TheVariants.{Solve, SolveWide, Check, CheckWide, Basis, BasisWide, Presolve, Iis, Range, RangeAll}
 use Rattle.spec_server.specs.Command.{number_to}
 
+-- a word of a command line, by its bytes
 abbrev pub Word : Type 0
 Word = List ℕ
 
@@ -23,6 +24,7 @@ Word = List ℕ
 abbrev pub ExactLine : Type 0
 ExactLine = CommandLine Word
 
+-- a command that reads a text, with the names themselves
 abbrev pub ExactTextCommand : Type 0
 ExactTextCommand = TextCommand Word
 
@@ -32,9 +34,11 @@ ExactTextCommand = TextCommand Word
 abbrev pub Options : Type 0
 Options = List (Word × Word)
 
+-- the names of options
 abbrev pub OptionNames : Type 0
 OptionNames = List Word
 
+-- whether a name is one of these
 abbrev pub is_one_of : Word → OptionNames → Bool
 is_one_of name names = list_any (λ other. same name other) names
 
@@ -47,6 +51,7 @@ in_pairs switches (name ∷ value ∷ words) =
     then option_map (λ pairs. (name, []) ∷ pairs) (in_pairs switches (value ∷ words))
     else option_map (λ pairs. (name, value) ∷ pairs) (in_pairs switches words)
 
+-- whether no two names are the same
 abbrev pub are_distinct : OptionNames → Bool
 are_distinct [] = true
 are_distinct (name ∷ names) = not (is_one_of name names) && are_distinct names
@@ -76,6 +81,7 @@ given_in plain names switches words =
 
 -- ---- the table of commands
 
+-- the form of a text that a word names
 abbrev pub form_of : Word → Option Style
 form_of word = look_up word ((codes "free", Free) ∷ (codes "fixed", Fixed) ∷ [])
 
@@ -84,11 +90,11 @@ abbrev pub given_or : {A : Type 0} → A → (Word → Option A) → Option Word
 given_or usual of None = Some usual
 given_or usual of (Some word) = of word
 
--- the form that a text is read in, if its word is one; the free one unless another is given
+-- the form that the word of `--form` gives: the free one where it is not given
 abbrev pub form_given : Option Word → Option Style
 form_given = given_or Free form_of
 
--- a script is run by so many workers, unless another number is given
+-- how many workers run a script where `--workers` is not given
 abbrev pub usual_workers : ℕ
 usual_workers = 1
 
@@ -96,10 +102,11 @@ usual_workers = 1
 unfoldable pub workers_of : Word → Option ℕ
 workers_of word = number_to 16 2 word
 
+-- how many workers are given
 abbrev pub workers_given : Option Word → Option ℕ
 workers_given = given_or usual_workers workers_of
 
--- so many places are shared by the sessions of a script, unless another number is given
+-- how many places the sessions share where `--places` is not given
 abbrev pub usual_places : ℕ
 usual_places = 256
 
@@ -107,10 +114,11 @@ usual_places = 256
 unfoldable pub places_of : Word → Option ℕ
 places_of word = number_to 1024 7 word
 
+-- how many places are given
 abbrev pub places_given : Option Word → Option ℕ
 places_given = given_or usual_places places_of
 
--- so many links are served by each worker, one after the other, unless another number is given
+-- how many links each worker serves, one after the other, where `--each` is not given
 abbrev pub usual_links : ℕ
 usual_links = 1
 
@@ -118,6 +126,7 @@ usual_links = 1
 unfoldable pub links_of : Word → Option ℕ
 links_of word = number_to 1000 4 word
 
+-- how many links each worker serves
 abbrev pub links_given : Option Word → Option ℕ
 links_given = given_or usual_links links_of
 
@@ -130,10 +139,11 @@ is_plain (b ∷ bs) = not (b == 45)
 unfoldable pub seed_of : Word → Option ℕ
 seed_of word = if same word (codes "0") then Some 0 else number_to 1000000 7 word
 
--- how many rows and columns it has, from 1 to the most that a model may have
+-- how many rows the word of `gen` gives, from 1 to 256
 unfoldable pub row_count_of : Word → Option ℕ
 row_count_of word = number_to 256 3 word
 
+-- how many columns the word of `gen` gives, from 1 to 512
 unfoldable pub column_count_of : Word → Option ℕ
 column_count_of word = number_to 512 3 word
 
@@ -145,9 +155,11 @@ pub record Row : Type 0 where
   pub switches : OptionNames
   pub asks : Given → Option ExactLine
 
+-- the command `run` with these numbers
 abbrev pub run_by : Option ℕ → Option ℕ → Option ExactLine
 run_by workers places = option_and_then (λ k. option_map (Run k) places) workers
 
+-- `run` with its options
 abbrev pub run_row : Row
 run_row = record {
   plain = λ words. 0;
@@ -157,6 +169,7 @@ run_row = record {
       (places_given (look_up (codes "--places") given.options));
 }
 
+-- a command that reads a text, with its option
 abbrev pub text_row : ExactTextCommand → Row
 text_row command = record {
   plain = λ words. 0;
@@ -170,6 +183,7 @@ abbrev pub by_width : ExactTextCommand → ExactTextCommand → Option Word → 
 by_width narrow wide None = narrow
 by_width narrow wide (Some given) = wide
 
+-- a command that reads a text, with one for large models and numbers of any width, and its options
 abbrev pub wide_row : ExactTextCommand → ExactTextCommand → Row
 wide_row narrow wide = record {
   plain = λ words. 0;
@@ -183,9 +197,11 @@ wide_row narrow wide = record {
 abbrev pub moved_of : Word → Option Moved
 moved_of word = look_up word ((codes "cost", Cost) ∷ (codes "rhs", RightSide) ∷ [])
 
+-- the name of a column or row that a word is
 abbrev pub name_of : Word → Option Word
 name_of word = if is_plain word then Some word else None
 
+-- `range` of one number, by what moves, its name and the form
 abbrev pub range_by : Option Moved → Option Word → Option Style → Option ExactLine
 range_by moved name style =
     option_and_then (λ w. option_and_then (λ n. option_map (Read (Range w n)) style) name) moved
@@ -207,6 +223,7 @@ range_with (what ∷ name ∷ []) options =
     range_by (moved_of what) (name_of name) (form_given (look_up (codes "--form") options))
 range_with words options = None
 
+-- `range` with its options
 abbrev pub range_row : Row
 range_row = record {
   plain = range_plain;
@@ -215,6 +232,7 @@ range_row = record {
   asks = λ given. range_with given.plain given.options;
 }
 
+-- `gen` with these numbers
 abbrev pub generate_by : Option ℕ → Option ℕ → Option ℕ → Option ExactLine
 generate_by seed rows columns =
     option_and_then (λ s. option_and_then (λ r. option_map (Generate s r) columns) rows) seed
@@ -224,9 +242,11 @@ abbrev pub generate_with : List Word → Option ExactLine
 generate_with (seed ∷ rows ∷ columns ∷ []) = generate_by (seed_of seed) (row_count_of rows) (column_count_of columns)
 generate_with words = None
 
+-- `gen`, with three words
 abbrev pub generate_row : Row
 generate_row = record { plain = λ words. 3; names = []; switches = []; asks = λ given. generate_with given.plain }
 
+-- `serve` with these numbers
 abbrev pub serve_by : Option ℕ → Option ℕ → Option ℕ → Option ExactLine
 serve_by workers each places =
     option_and_then (λ k. option_and_then (λ c. option_map (Serve k c) places) each) workers
@@ -240,6 +260,7 @@ serve_with (address ∷ []) options =
     else None
 serve_with words options = None
 
+-- `serve` with its options
 abbrev pub serve_row : Row
 serve_row = record {
   plain = λ words. 1;
@@ -248,6 +269,7 @@ serve_row = record {
   asks = λ given. serve_with given.plain given.options;
 }
 
+-- the words of all commands, each with its row of the table
 abbrev pub commands : List (Word × Row)
 commands =
     (codes "run", run_row)
@@ -283,5 +305,6 @@ served_at (word ∷ address ∷ words) (Some (Serve workers each places)) =
     Some (record { address = address; workers = workers })
 served_at words command = None
 
+-- the address that `serve` is asked to listen at
 unfoldable pub address_of : List Word → Option Address
 address_of words = served_at words (command_line_of words)
