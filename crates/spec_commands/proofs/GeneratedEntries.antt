@@ -1,4 +1,7 @@
 -- The entries of a generated column stand in the order of their rows, and none is 0.
+--
+-- `entries-kept`: the entries of a generated column are in rows that there are, in their order, and none is 0.
+-- `entries_narrow`: each entry of a generated column is a number of at most 127 bits.
 use Rattle.std.proofs.Common.{◌≢◌, ℕ, zero, suc, ◌<◌, Bool, true, false, cond, List}
 use Rattle.std.proofs.Common.{[], ◌∷◌, ◌++◌, All, sym, subst, append-nil, arith}
 use Rattle.std.proofs.lemmas.List.Elements.{All-push, All-weaker}

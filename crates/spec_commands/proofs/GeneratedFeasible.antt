@@ -1,4 +1,9 @@
--- The point 0 is feasible in each generated model, and its values have an upper limit.
+-- The point 0 is feasible in each generated model, and the objective has an upper limit.
+--
+-- `width_is`: a generated model has the number of columns that was asked for.
+-- `height_is`: a generated model has the number of rows that was asked for.
+-- `zero_feasible`: the point with 0 in each column is feasible in a generated model.
+-- `bounded`: no generated model is unbounded.
 use Rattle.std.proofs.Common.{◌≡◌, ℕ, suc, ◌+◌, ◌%◌, ◌<◌, ◌≤◌, List}
 use Rattle.std.proofs.Common.{pos, sym, ap, ◌∙◌, subst, subst₂, arith}
 use Rattle.std.specs.Prelude.{replicate}

@@ -1,4 +1,7 @@
 -- What holds of lists that are made from the numbers 0, 1 and so on.
+--
+-- `All-made`: what holds of f 0 to f (n - 1) holds of all members of their list.
+-- `AllPairs-map`: a relation of g (f i) with g (f j), for each i below j, holds of the pairs of the list of these.
 use Rattle.std.proofs.Common.{◌≡◌, ℕ, ◌<◌, List, [], ◌∷◌, map, refl, ap, All, sym, subst, subst₂, arith}
 use Rattle.std.specs.List.{AllPairs, range_with_len}
 use Rattle.std.proofs.lemmas.List.FromFn.{length-map-range_with_len, get_or-map-range_with_len}

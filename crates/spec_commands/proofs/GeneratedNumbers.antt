@@ -1,4 +1,8 @@
 -- Generated numbers are small and whole.
+--
+-- `number_from_narrow`: a generated number has at most 127 bits.
+-- `number_from_bound`: a generated number is one that a bound may be.
+-- `number_from_not_zero`: a generated number is not 0 where the least one is above 0.
 use Rattle.std.proofs.Common.{◌≡◌, ◌≢◌, ℕ, ◌+◌, ◌%◌, ◌^◌, ◌<◌, ◌≤◌, Some, sym, subst, ap, arith, pos}
 use Rattle.std.specs.Prelude.{unsigned_abs}
 use Rattle.std.proofs.lemmas.Int.{ints}

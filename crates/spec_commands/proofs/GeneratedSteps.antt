@@ -1,4 +1,18 @@
--- One row more, and one column more.
+-- A generated model with one row more, and with one column more, and how many numbers were drawn for it.
+--
+-- `after_more`: after n + 1 draws the state is the next one after n draws.
+-- `entries_some`: where the draw for row n says so, one entry more is drawn for it, behind those of the rows before.
+-- `at_row_some`: where row n has an entry, two numbers are drawn for it.
+-- `entries_none`: where the draw for row n does not say so, the entries are those of the rows before.
+-- `at_row_none`: where row n has no entry, one number is drawn for it.
+-- `generated_columns_more`: n + 1 generated columns are the first n of them and column n.
+-- `at_column_more`: column n takes two draws and those of its rows.
+-- `generated_rows_more`: n + 1 generated rows are the first n of them and row n.
+-- `entries_first`: a column of no rows has no entries.
+-- `at_row_first`: before the first row no number of the column's entries is drawn.
+-- `generated_columns_first`: no columns are the empty list.
+-- `at_column_first`: before the first column the state is the seed.
+-- `generated_rows_first`: no rows are the empty list.
 use Rattle.std.proofs.Common.{◌≡◌, ◌≢◌, ℕ, ◌+◌, ◌%◌, [], ◌∷◌, ◌++◌, refl, ap, add-one, ◌∙◌, append-nil, arith}
 use borrow.Author.Tests.{eq-eqb, ne_eqb}
 use Rattle.std.proofs.lemmas.List.FromFn.{map-range_with_len_more}

@@ -1,4 +1,8 @@
 -- The numbers of a range are of at most 127 bits at the limit of the program, where those of the model are.
+--
+-- `cost_range_narrow`: the range of a cost has numbers of at most 127 bits, where the model's are and the program's
+--   limit is kept.
+-- `side_range_narrow`: the range of a right side has numbers of at most 127 bits in the same case.
 use Rattle.std.proofs.Common.{◌≡◌, ◌+◌, ◌<◌, ℕ, Bool, true, false, not, cond, Option, Some, None, Ok, List, set}
 use Rattle.std.proofs.Common.{replicate, subst}
 use Rattle.std.specs.Prelude.{All, ◌||◌}

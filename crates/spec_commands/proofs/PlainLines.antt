@@ -1,5 +1,10 @@
--- The lines of a written certificate are short, and of spaces and printed bytes; and what the lines of a text of such
--- lines are.
+-- The lines of a written certificate are short, and of spaces and printed bytes, so a text of them is read back by
+-- lines.
+--
+-- `ended_lines_behind`: plain lines with line feeds, and more behind them, are read as these lines and then those of
+--   the rest.
+-- `both_short`: the name of a column and the text of a number of at most 127 bits are short enough for a line.
+-- `narrow_fitting`: the text of a number of at most 127 bits fits in a line.
 use Rattle.std.proofs.Common.{◌≡◌, ℕ, zero, suc, ◌≤◌, ◌<◌, Bool, true, false, cond, None, List, [], ◌∷◌, ◌++◌}
 use Rattle.std.proofs.Common.{length, get_or, map, refl, ap, ◌∙◌, append_assoc, length-append, arith}
 use Rattle.std.specs.Prelude.{codes, All}

@@ -1,4 +1,7 @@
 -- What a wide solve writes is true, from a basis too, and `check --wide` accepts its certificate.
+--
+-- `out_true`: what a wide solve writes is `OPEN`, or the line of an answer that is true of the model.
+-- `based_true`: what a wide solve from a basis writes is `OPEN`, or the line of an answer that is true of the model.
 use Rattle.std.proofs.Common.{◌≡◌, ◌⊎◌, inl, inr, ℕ, ◌+◌, List, [], ◌∷◌, ◌++◌, map, get_or, Option, Some}
 use Rattle.std.proofs.Common.{None, Ok, Err, All, ap, ◌∙◌, append_assoc, arith, ◌≤◌, ◌-◌, length, take}
 use Rattle.std.specs.Prelude.{codes}

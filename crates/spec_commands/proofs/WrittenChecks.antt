@@ -1,4 +1,10 @@
 -- What the command `check` says of a model's written text with the certificate of an answer after it.
+--
+-- `certificate_said`: what `check` says of the lines of a certificate is the verdict on the certificate that they
+--   spell.
+-- `free_checks`: `check` accepts a model's text in free form with the certificate of its answer behind it.
+-- `fixed_checks`: `check` accepts a model's text in fixed form, where it has one, with the certificate of its answer
+--   behind.
 use Rattle.std.proofs.Common.{◌≡◌, ℕ, suc, ◌+◌, ◌-◌, ◌≤◌, true, false, Option, Some, None, Ok, Err, List, [], ◌∷◌, ◌++◌}
 use Rattle.std.proofs.Common.{get_or, length, take, map, refl, sym, ap, ◌∙◌, append_assoc, arith}
 use Rattle.std.specs.Prelude.{codes, All}

@@ -63,6 +63,7 @@ behind_file m f n (Ok (file.More s)) = On (InFile m f s n)
 behind_file m f n (Ok (file.Done basis)) = Says (Ok (record { model = m; basis = Some basis }))
 behind_file m f n (Err code) = Says (Err (fault.File (record { line = n; code = code })))
 
+-- one line more of the text, or of the basis file behind it
 unfoldable pub basis_step : SizeLimits → Stage → Line (List ℕ) → Step Stage BasisSaid
 basis_step limits (InText style s n) line = behind_text style (n + 1) (text.step limits style s line)
 basis_step limits (InFile m f s n) line = behind_file m f (n + 1) (file.step m f s line)
@@ -83,6 +84,7 @@ route_text route.Cold = codes "COLD"
 route_text route.Warm = codes "WARM"
 route_text (route.Fell why) = codes "FELL " ++ fall_text why
 
+-- from which basis a solve found its end, and in how many pivots
 abbrev pub route_line : SolveEnd → List ℕ
 route_line solved =
     route_text solved.route ++ codes " PIVOTS " ++ pivots_text (pivots_of_solved solved.end) ++ 10 ∷ []

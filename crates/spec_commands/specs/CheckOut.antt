@@ -34,6 +34,7 @@ behind_certificate m n (progress.More raw) = On (InCertificate m (Some raw) n)
 behind_certificate m n (progress.Done raw) = Says (verdict_on m (certificate_for m raw))
 behind_certificate m n progress.Unfit = Says (reply.Refused (refusal.Unfit n))
 
+-- one line more of the text, or of the certificate behind it
 unfoldable pub check_step : Stage → Line (List ℕ) → Step Stage ExactReply
 check_step (InText style s n) line = behind_text style (n + 1) (text.step usual_limits style s line)
 check_step (InCertificate m so_far n) line = behind_certificate m (n + 1) (certificate.step so_far line)
@@ -42,6 +43,7 @@ check_step (InCertificate m so_far n) line = behind_certificate m (n + 1) (certi
 abbrev pub said_from : Stage → List (Line (List ℕ)) → Option ExactReply
 said_from stage lines = said_by check_step stage lines
 
+-- what `check` says of lines from the first on
 abbrev pub said : Style → List (Line (List ℕ)) → Option ExactReply
 said style lines = said_from (InText style start 0) lines
 

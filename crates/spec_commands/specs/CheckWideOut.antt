@@ -37,10 +37,12 @@ behind_wide m n (progress.More raw) = On (InCertificate m (Some raw) n)
 behind_wide m n (progress.Done raw) = Says (wide_verdict_on m (certificate_for m raw))
 behind_wide m n progress.Unfit = Says (reply.Refused (refusal.Unfit n))
 
+-- one line more of the text, or of the certificate behind it
 unfoldable pub wide_step : Stage → Line (List ℕ) → Step Stage ExactReply
 wide_step (InText style s n) line = behind_text style (n + 1) (text.step (limits_of CheckWide) style s line)
 wide_step (InCertificate m so_far n) line = behind_wide m (n + 1) (step_by wide so_far line)
 
+-- what `check --wide` says of lines from the first on
 abbrev pub wide_said : Style → List (Line (List ℕ)) → Option ExactReply
 wide_said style lines = said_by wide_step (InText style start 0) lines
 

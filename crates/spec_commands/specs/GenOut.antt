@@ -39,5 +39,6 @@ abbrev pub SolvedOut : Model → List ℕ → Type 0
 SolvedOut m written =
     (solved : SolveEnd) × IsSolved m opening_budget None solved × (written ≡ generated_lines m solved.end)
 
+-- what `gen` may write: what is written of a solve of the generated model
 abbrev pub GenOut : ℕ → ℕ → ℕ → List ℕ → Type 0
 GenOut seed rows columns written = SolvedOut (generated seed rows columns) written

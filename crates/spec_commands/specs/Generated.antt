@@ -12,10 +12,11 @@ use Rattle.spec_commands.specs.Draws.{next, draw, after}
 abbrev pub number_from : ℕ → ℕ → ℕ → ℚ
 number_from least many s = whole (pos (least + draw s % many))
 
--- the names of rows and columns are numbered from 1
+-- the name of row i, which is numbered from 1
 unfoldable pub row_name : ℕ → Name
 row_name i = codes "R" ++ decimal (i + 1)
 
+-- the name of column j, which is numbered from 1
 unfoldable pub column_name : ℕ → Name
 column_name j = codes "C" ++ decimal (j + 1)
 
@@ -69,9 +70,11 @@ unfoldable pub generated_columns : ℕ → ℕ → ℕ → List ExactColumn
 generated_columns seed rows columns =
     map (λ j. generated_column rows j (at_column rows seed j)) (range_with_len 0 columns)
 
+-- all rows, whose first right side is drawn after one at state s
 unfoldable pub generated_rows : ℕ → ℕ → List ExactRow
 generated_rows s rows = map (λ i. generated_row i (after i s)) (range_with_len 0 rows)
 
+-- the model of a seed, with so many rows and columns
 unfoldable pub generated : ℕ → ℕ → ℕ → Model
 generated seed rows columns = record {
   name = codes "gen";

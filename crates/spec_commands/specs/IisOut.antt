@@ -26,6 +26,7 @@ abbrev pub kind_word : Bool → List ℕ
 kind_word true = codes "ROW "
 kind_word false = codes "COLUMN "
 
+-- the word of an upper or a lower side
 abbrev pub end_word : Bool → List ℕ
 end_word true = codes "UPPER "
 end_word false = codes "LOWER "
@@ -34,6 +35,7 @@ end_word false = codes "LOWER "
 abbrev pub side_name : Model → Side → Name
 side_name m s = if s.row then (row m s.at).name else (column m s.at).name
 
+-- the line of a side: row or column, upper or lower, and the name
 unfoldable pub side_line : Model → Side → List ℕ
 side_line m s = kind_word s.row ++ end_word s.upper ++ side_name m s
 
@@ -47,6 +49,7 @@ point_lines m n (z ∷ points) =
 
 -- ---- what is written
 
+-- the lines of an irreducible set: its number of sides, the sides, the certificate and the points
 unfoldable pub found_lines : Model → List Side → Certificate (List ℚ) → List (List ℚ) → List (List ℕ)
 found_lines m sides cert points =
     codes "INFEASIBLE"
@@ -56,6 +59,7 @@ found_lines m sides cert points =
     ++ point_lines m 0 points
     ++ codes "END" ∷ [])
 
+-- what a solve ended with, as a search that stops prints it
 abbrev pub end_words : ExactSolveEnd → List ℕ
 end_words end = answer_text (answer_of opening_budget end)
 

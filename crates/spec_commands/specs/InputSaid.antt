@@ -16,6 +16,7 @@ pub record IsSaidAtEnd {R : Type 0} (said : List (Line (List ℕ)) → Option R)
   pub within : length read ≤ input_limit
   pub at_end : IsAtEnd after
 
+-- said before the end of the input, or at it
 abbrev pub IsSaid : {R : Type 0} → (List (Line (List ℕ)) → Option R) → Option (List ℕ) → List ℕ → R → Type 0
 IsSaid said after read what = IsSaidEarly said read what ⊎ IsSaidAtEnd said after read what
 

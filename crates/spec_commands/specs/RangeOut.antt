@@ -38,10 +38,12 @@ range_of RightSide limit m f basis at = side_range limit m f basis at
 
 -- ---- what is written
 
+-- an end as it is printed
 abbrev pub end_text : Option ℚ → List ℕ
 end_text None = codes "NONE"
 end_text (Some v) = fraction_text v
 
+-- the line of a range
 unfoldable pub range_line : Range ℚ → List ℕ
 range_line r =
     codes "RANGE "
@@ -94,6 +96,7 @@ abbrev pub place_code : Option ℕ → ℕ
 place_code None = 9
 place_code (Some at) = 0
 
+-- the status of the command by what is said of the text
 abbrev pub range_code : Moved → Name → TextSaid → ℕ
 range_code moved name (Ok m) = place_code (place_by moved m name)
 range_code moved name (Err fault) = 9
