@@ -1,4 +1,15 @@
--- The lines of answers, and what a reader makes of them.
+-- The first lines of answers, and what a reader of their words and numbers knows of the model.
+--
+-- `same_line`: two texts that are the same have the same first line, where both lines end at a line feed.
+-- `same_rest`: two texts that are the same have the same bytes behind their first line.
+-- `number_no_feed`: the text of a number of at most 127 bits has no line feed.
+-- `read_back`: the text of a number of at most 127 bits reads as this number.
+-- `read_as`: where a number's text and a line feed begin a text, its first line reads as the number.
+-- `apart`: two numbers that the test of equality tells apart are different.
+-- `optimal_line`: an answer that is shown and printed as `OPTIMAL` and a text is right: the text reads as the optimal
+--   value.
+-- `infeasible_line`: where an answer that is shown is printed as `INFEASIBLE`, the model is infeasible.
+-- `unbounded_line`: where an answer that is shown is printed as `UNBOUNDED`, the model is unbounded.
 use Rattle.std.proofs.Common.{◌≡◌, ◌≢◌, ◌≤◌, ℕ, true, false, List, [], ◌∷◌, ◌++◌, get_or, refl, sym, ◌∙◌, ap, nat_eq}
 use Rattle.std.proofs.Common.{eq-eqb, arith}
 use Rattle.std.specs.Prelude.{All, codes, nat_le}

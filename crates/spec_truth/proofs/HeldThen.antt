@@ -1,4 +1,7 @@
 -- The machine's state holds the model that the asks and replies of its run say.
+--
+-- `step_then`: a step leaves the model that its ask and reply say that the session holds from then on.
+-- `holds_then`: after a run a session holds the model that its asks and replies say.
 use Rattle.std.proofs.Common.{◌≡◌, ℕ, List, [], ◌∷◌, Option, Some, None, Ok, Err, refl, sym, ◌∙◌, ap, ◌⊎◌, inl, inr}
 use Rattle.spec_model.specs.Model.{Model, Name}
 use Rattle.spec_edit.specs.declared.edit.EditFault.{EditFault}

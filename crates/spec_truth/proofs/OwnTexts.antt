@@ -1,4 +1,8 @@
 -- Different answers have different texts.
+--
+-- `different`: two answers with numbers of at most 127 bits are the same where their printed replies are.
+-- `answered_narrow`: the value of an answer in a run has at most 127 bits.
+-- `accepted_narrow`: the value that an accepted certificate shows in a run has at most 127 bits.
 use Rattle.std.proofs.Common.{◌≡◌, ℕ, List, ◌∷◌, ◌++◌, refl, sym, ◌∙◌, ap}
 use Rattle.spec_exact.specs.Fraction.{ℚ}
 use Rattle.spec_exact.specs.Narrow.{IsNarrow}

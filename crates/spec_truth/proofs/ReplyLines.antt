@@ -1,4 +1,18 @@
 -- Which reply a line is the line of, where it says what is known of a model.
+--
+-- `yes_reply`: a reply whose text begins as `YES` accepts a certificate.
+-- `wide_reply`: a reply whose text is `WIDE` and a count is one of a wide solve.
+-- `valued`: an answer whose text is `OPTIMAL` and a text is an optimum, with a value of this text.
+-- `infeasible`: an answer whose text is `INFEASIBLE` is this one.
+-- `unbounded`: an answer whose text is `UNBOUNDED` is this one.
+-- `optimal_answer`: a reply whose text is `OPTIMAL` and a text answers with an optimum, of a value of this text.
+-- `infeasible_answer`: a reply whose text is `INFEASIBLE` answers that no point is feasible.
+-- `unbounded_answer`: a reply whose text is `UNBOUNDED` answers that the model is unbounded.
+-- `yes_text_is`: the text of a reply that accepts a certificate is `YES` and the text of what it shows.
+-- `behind_yes`: two texts are the same where they are so behind the word `YES`.
+-- `optimal_yes`: a reply whose text is `YES OPTIMAL` and a text accepts the certificate of an optimum with this value.
+-- `infeasible_yes`: a reply whose text is `YES INFEASIBLE` accepts a certificate that no point is feasible.
+-- `unbounded_yes`: a reply whose text is `YES UNBOUNDED` accepts a certificate that the model is unbounded.
 use Rattle.std.proofs.Common.{◌≡◌, ℕ, ◌==◌, ◌&&◌, ◌||◌, Bool, true, false, List, ◌++◌, get_or, refl, sym, ◌∙◌, ap}
 use Rattle.std.specs.Prelude.{codes}
 use Rattle.spec_exact.specs.Fraction.{ℚ}

@@ -1,5 +1,11 @@
 -- What the checker says yes to, at the limit of the server's numbers, is true, and an optimal value is of at most 127
 -- bits.
+--
+-- `shown_holds`: what a certificate that the checker accepts says of a model holds of it.
+-- `value_fits`: an optimal value that the checker accepts has at most 127 bits.
+-- `yes_shown`: where the reply to a certificate is yes, the checker accepts it for the model.
+-- `answer_shown`: a known answer to a solve has a certificate that the checker accepts.
+-- `answer_holds`: an answer with an accepted certificate is true of the model; `PAST` and `SPENT` say nothing of it.
 use Rattle.std.proofs.Common.{◌≡◌, ℕ, List, Some, Ok, Err, refl, sym, ap, subst}
 use Rattle.spec_exact.specs.Fraction.{ℚ}
 use Rattle.spec_exact.specs.Limit.{add}

@@ -1,4 +1,9 @@
 -- A reply that answers, or says yes to a certificate, is shown of the model that the session holds, whatever was asked.
+--
+-- `answer_is_shown`: where a step replies with a known answer, the session holds a model of which it is shown.
+-- `yes_is_shown`: where a step replies with a yes, the session holds a model of which what it says is shown.
+-- `wide_is_shown`: where a step replies with the lines of a wide solve, the session holds a model and the lines begin
+--   truly.
 use Rattle.std.proofs.Common.{◌≡◌, ℕ, suc, List, Option, Some, None, Ok, Err, refl, sym, ap, subst, ◌⊎◌, inl, inr}
 use Rattle.std.proofs.Common.{arith}
 use Rattle.spec_exact.specs.Fraction.{ℚ}

@@ -1,5 +1,14 @@
 -- In a run of sessions, what is answered, and what a yes to a certificate says, is shown of the model that the session
 -- has then.
+--
+-- `split_run`: a run of two lists of exchanges is a run of the first, and one of the second from where it ended.
+-- `own_first`: the exchanges of a session among those that begin with its own begin with this one.
+-- `steps_then`: at each exchange of a run the session holds the model that the exchanges before say, and takes a step.
+-- `answered_then`: what is answered in a run is shown of the model that the session holds then.
+-- `accepted_then`: what an accepted certificate says in a run is shown of the model that the session holds then.
+-- `answered_holds`: what is answered in a run holds of the model that the session holds then.
+-- `accepted_holds`: what an accepted certificate says in a run holds of the model that the session holds then.
+-- `wide_then`: the lines of a wide solve in a run begin truly of the model that the session holds then.
 use Rattle.std.proofs.Common.{◌≡◌, ℕ, true, cond, List, [], ◌∷◌, ◌++◌, Some, refl, sym, ◌∙◌, ap, subst, nat_eq, eq-eqb}
 use Rattle.spec_exact.specs.Fraction.{ℚ}
 use Rattle.spec_model.specs.Model.{Model}

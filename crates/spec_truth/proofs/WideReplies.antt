@@ -1,4 +1,9 @@
 -- The first line that an exact solve replies says what is true of the model, or that nothing is known.
+--
+-- `lines_true`: the first line of a wide solve is `OPEN`, or says an answer that holds of the model.
+-- `ends_agree`: two wide solves of a model, with any budgets, have the same first line unless one of them is `OPEN`.
+-- `same_wide`: where two replies to the same wide solve may differ only by `OPEN`, and neither is, their first lines
+--   are the same.
 use Rattle.std.specs.Prelude.{codes}
 use Rattle.std.proofs.Common.{◌≡◌, ◌≢◌, ℕ, List, [], ◌∷◌, None, refl, sym, ap, ◌∙◌, ◌⊎◌, inl, inr}
 use Rattle.spec_exact.specs.Fraction.{ℚ}

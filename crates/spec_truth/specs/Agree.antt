@@ -36,6 +36,7 @@ MayDiffer (ask.Plain command.Solve) (reply.Answered a) (reply.Answered b) = IsWo
 MayDiffer (ask.Plain command.Wide) (reply.Wide lines) (reply.Wide lines') = IsWonLine lines lines'
 MayDiffer asked a b = ⊥
 
+-- two replies to an ask are the same, or are ones that may differ
 abbrev pub IsSameBut : ExactAsk → ExactReply → ExactReply → Type 0
 IsSameBut asked a b = (a ≡ b) ⊎ MayDiffer asked a b
 

@@ -13,6 +13,7 @@ abbrev pub made : OrFault Model → Option Model
 made (Ok m) = Some m
 made (Err why) = None
 
+-- the model after an edit that is done
 abbrev pub after_edit : Option Model → ExactEdit → Option Model
 after_edit None e = None
 after_edit (Some m) e = made (edited m e)
@@ -22,10 +23,12 @@ abbrev pub after_change : Option Model → ExactEdit → ExactReply → Option M
 after_change held e reply.Done = after_edit held e
 after_change held e replied = held
 
+-- the model after an ask to load m, by its reply
 abbrev pub after_load : Option Model → Model → ExactReply → Option Model
 after_load held m (reply.Loaded rows columns) = Some m
 after_load held m replied = held
 
+-- the model after `QUIT`, by its reply
 abbrev pub after_quit : Option Model → ExactReply → Option Model
 after_quit held reply.Bye = None
 after_quit held replied = held
@@ -37,6 +40,7 @@ after_exchange held (ask.Plain (command.Change e)) replied = after_change held e
 after_exchange held (ask.Plain command.Quit) replied = after_quit held replied
 after_exchange held asked replied = held
 
+-- the model after some exchanges
 abbrev pub after_exchanges : Option Model → List Exchange → Option Model
 after_exchanges held [] = held
 after_exchanges held (x ∷ xs) = after_exchanges (after_exchange held x.ask x.reply) xs
