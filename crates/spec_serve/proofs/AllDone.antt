@@ -1,4 +1,9 @@
--- With one worker each place that is claimed is done once the ask has ended.
+-- Where each ask ends before the next one begins, as with one worker, each place that is claimed is done between two
+-- asks.
+--
+-- `after_one`: where each session has a run of some exchanges, each has one of those behind the first, from its next
+--   state.
+-- `all_done`: where no place is claimed but not done at first, none is after whole runs of all sessions.
 use Rattle.std.proofs.Common.{◌≡◌, ℕ, zero, suc, Bool, true, false, List, [], ◌∷◌, ◌++◌, length, Option, Some}
 use Rattle.std.proofs.Common.{refl, sym, ap, ◌∙◌, subst, ◌⊎◌, inl, inr, nat_eq, eqb-true, cond}
 use Rattle.std.proofs.lemmas.Bool.{eqb-false}

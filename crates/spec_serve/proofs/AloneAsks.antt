@@ -1,4 +1,7 @@
 -- Lines that name no session ask session 0.
+--
+-- `asked_alone`: where lines that name no session give one ask, it is one of session 0.
+-- `script_alone`: all asks of bytes whose lines name no session are of session 0.
 use Rattle.std.proofs.Common.{◌≡◌, ℕ, Bool, true, false, cond, Option, Some, None, List, [], ◌∷◌, ◌++◌, length, take}
 use Rattle.std.proofs.Common.{refl, sym, subst}
 use Rattle.std.specs.Prelude.{nat_le}

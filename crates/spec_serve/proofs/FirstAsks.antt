@@ -1,4 +1,8 @@
 -- The asks of a link are the first of those that its lines ask, and the exchanges of a service are of the first of these.
+--
+-- `link_asks_first`: the asks of a link are the first of the asks of all its bytes, read as a script.
+-- `ended_link_asks_first`: the asks of a link's ended lines are the first of those of the ended lines as a script.
+-- `served_script`: the asks that were served are the first of the asks of the bytes that were read.
 use Rattle.std.proofs.Common.{ℕ, Bool, true, false, cond, Option, List, [], ◌∷◌, ◌++◌, map, refl, ap, ◌∙◌}
 use Rattle.std.proofs.Common.{subst, append_assoc, append-nil, inl, inr}
 use Rattle.spec_server.specs.declared.addressing.Addressing.TheVariants.{Alone}

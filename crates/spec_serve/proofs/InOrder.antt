@@ -1,4 +1,7 @@
 -- Whatever sessions one worker serves, what it reads stays in order.
+--
+-- `served_in_order`: the reads of the sessions that one worker serves are in order, where the places answer all reads.
+-- `published_once`: where the places answer all reads, no place is published twice.
 use Rattle.std.proofs.Common.{◌≡◌, ℕ, ◌<◌, ◌≤◌, Bool, true, false, List, [], ◌∷◌, ◌++◌, length, map, Some}
 use Rattle.std.proofs.Common.{sym, ap, ◌∙◌, subst, cond, arith}
 use Rattle.std.specs.List.{filter, flat_map, AllByRecursion}

@@ -1,4 +1,9 @@
 -- The models that the asks of a link hold may be kept, and so may the numbers of its edits; and its last answers stand up.
+--
+-- `link_kept`: the asks of a link hold models and numbers that may be kept.
+-- `ended_link_kept`: the asks of a link's ended lines hold models and numbers that may be kept.
+-- `served_kept`: the asks that were served hold models and numbers that may be kept.
+-- `served_front_kept`: so do the asks of the first exchanges of those that were served.
 use Rattle.std.proofs.Common.{ℕ, List, [], ◌∷◌, ◌++◌, map, subst}
 use Rattle.std.proofs.lemmas.List.{map-append}
 use Rattle.std.proofs.lemmas.List.Elements.{All-nil, All-cons, All-head, All-tail}

@@ -1,4 +1,10 @@
 -- What reads and writes leave of the places.
+--
+-- `place_some`: each number below that of the claimed places has a place.
+-- `place_below`: a number that has a place is below the number of places.
+-- `logged-append`: the log of two lists of reads of a session is that of the first and then that of the second.
+-- `plays_keep_done`: a place that is done stays so, with its words, over all reads that the places answer.
+-- `Plays-split`: where the places answer two lists of reads in order, they answer the first, and then the second.
 use Rattle.std.proofs.Common.{◌≡◌, ℕ, zero, suc, ◌<◌, ◌≤◌, Bool, true, false, List, [], ◌∷◌, ◌++◌, length}
 use Rattle.std.proofs.Common.{Some, refl, sym, ap, ◌∙◌, subst, ◌⊎◌, inl, inr, nat_eq, eqb-true, ◌+◌, arith}
 use Rattle.std.proofs.lemmas.Bool.{eqb-false}

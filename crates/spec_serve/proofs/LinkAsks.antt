@@ -1,4 +1,11 @@
 -- What a link asks, by the lines that were read of it.
+--
+-- `begins_whole`: the asks of all lines that were read are the first of the bytes' asks, where no more bytes come.
+-- `first_asks`: where the first asks of the bytes have no `QUIT`, they are the first of the link's asks.
+-- `asks_at_end`: where no line that was read asks `QUIT`, the link's asks are those of all its lines.
+-- `asks_past`: where more is read than may be and no ended line asks `QUIT`, the link's asks are those of its ended
+--   lines.
+-- `ended_asks`: where no ended line asks `QUIT`, the asks of these lines are those of the link's ended lines.
 use Rattle.std.proofs.Common.{◌≡◌, ℕ, ◌^◌, ◌≤◌, ◌<◌, ◌-◌, ◌+◌, true, false, List, [], ◌∷◌, ◌++◌}
 use Rattle.std.proofs.Common.{length, take, ap, sym, ◌∙◌, append-nil, subst, arith, ⊎_elim, length-append}
 use Rattle.std.proofs.lemmas.Bool.{cases_lt}

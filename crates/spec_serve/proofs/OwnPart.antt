@@ -1,4 +1,7 @@
 -- The exchanges of one session among those that begin with this one.
+--
+-- `own_part`: the run of a session whose exchange is first begins with this exchange.
+-- `other_part`: the run of a session whose exchange is not the first is one of the exchanges behind it.
 use Rattle.std.proofs.Common.{◌≡◌, ℕ, List, ◌∷◌, refl, subst, cond}
 use Rattle.std.proofs.lemmas.Bool.{eq-eqb, ne_eqb}
 use Rattle.spec_server.specs.Machine.{State}

@@ -1,4 +1,7 @@
 -- The models that a link asks to hold are spelled by its lines.
+--
+-- `link_ended`: a model that an ended line of a link asks to hold is spelled by the lines before it.
+-- `link_whole`: a model that a link of at most 2 ^ 26 bytes asks to hold is spelled by its lines.
 use Rattle.std.proofs.Common.{◌≡◌, ℕ, ◌≤◌, ◌<◌, List, ◌∷◌, ◌++◌, length, take, map, sym, ap, ◌∙◌, append_assoc}
 use Rattle.std.proofs.lemmas.List.{map-append}
 use Rattle.spec_text.specs.Lines.{lines_of, ended_lines_of, input_limit}

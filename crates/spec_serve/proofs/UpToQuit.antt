@@ -1,4 +1,9 @@
 -- Asks up to the first QUIT, where it is known which of them may be one.
+--
+-- `up_to_quit_none`: where no ask is `QUIT`, the asks up to the first `QUIT` are all of them.
+-- `until_quit_none`: a script none of whose asks is `QUIT` is the same up to its first `QUIT`.
+-- `first_before_quit`: asks none of which is `QUIT` are the first of those up to the first `QUIT`, whatever follows
+--   them.
 use Rattle.std.proofs.Common.{◌≡◌, ◌||◌, Bool, true, false, cond, List, [], ◌∷◌, ◌++◌, ap, sym, ◌∙◌, refl}
 use Rattle.std.proofs.Common.{append_assoc, append-nil}
 use Rattle.std.proofs.lemmas.List.Folds.{list_any-append}
@@ -18,14 +23,14 @@ first_by false u a xs ys none more = ap (λ (zs : List (Asked ExactAsk)). a ∷ 
 
 module _ (rest : List (Asked ExactAsk)) where
   -- with others after them
-  pub up_to_quit_past : (front : List (Asked ExactAsk)) → quits front ≡ false →
+  up_to_quit_past : (front : List (Asked ExactAsk)) → quits front ≡ false →
       up_to_quit (front ++ rest) ≡ front ++ up_to_quit rest
   up_to_quit_past [] none = refl
   up_to_quit_past (a ∷ front) none =
       first_by (is_quit a.ask) (quits front) a (up_to_quit (front ++ rest)) (front ++ up_to_quit rest) none
       (up_to_quit_past front)
 
-  pub quits_past : (front : List (Asked ExactAsk)) → quits front ≡ false → quits (front ++ rest) ≡ quits rest
+  quits_past : (front : List (Asked ExactAsk)) → quits front ≡ false → quits (front ++ rest) ≡ quits rest
   quits_past front none =
       list_any-append (λ (a : Asked ExactAsk). is_quit a.ask) front rest ∙ ap (λ (t : Bool). t || quits rest) none
 

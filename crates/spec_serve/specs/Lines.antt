@@ -3,6 +3,7 @@ use Rattle.std.specs.Prelude.{ℕ, suc, ◌++◌, List, [], ◌∷◌, codes, de
 use Rattle.spec_serve.specs.declared.link_end.LinkEnd.{LinkEnd}
 use Rattle.spec_serve.specs.declared.link_end.LinkEnd.TheVariants as end
 
+-- the word of a link's end
 abbrev pub end_text : LinkEnd → List ℕ
 end_text end.Done = codes "DONE"
 end_text end.Read = codes "READ"
@@ -25,5 +26,6 @@ abbrev pub lines_from : ℕ → List (List LinkEnd) → List ℕ
 lines_from worker [] = []
 lines_from worker (ends ∷ workers) = end_lines worker 1 ends ++ lines_from (suc worker) workers
 
+-- the lines of all workers, whose numbers begin with 1
 abbrev pub serve_out : List (List LinkEnd) → List ℕ
 serve_out workers = lines_from 1 workers

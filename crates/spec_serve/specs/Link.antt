@@ -18,10 +18,12 @@ use Rattle.spec_serve.specs.declared.link_end.LinkEnd.TheVariants as end
 
 -- ---- what is asked
 
+-- whether an ask is `QUIT`
 abbrev pub is_quit : ExactAsk → Bool
 is_quit (ask.Plain command.Quit) = true
 is_quit other = false
 
+-- whether one of some asks is `QUIT`
 abbrev pub quits : List (Asked ExactAsk) → Bool
 quits asks = list_any (λ asked. is_quit asked.ask) asks
 
@@ -44,6 +46,7 @@ link_asks_of bytes = until_quit (script_of Alone bytes)
 
 -- ---- what is written
 
+-- what is written of the exchanges of a link
 abbrev pub link_out : List Exchange → List ℕ
 link_out xs = flat_map (λ x. reply_lines Alone x.session x.reply) xs
 
@@ -92,5 +95,6 @@ EndsLinkSo moves end.Read = BreaksLink moves
 EndsLinkSo moves end.Write = Unit {0}
 EndsLinkSo moves end.NoMemory = Unit {0}
 
+-- the service of a link: what it read, wrote and replied, and what its end says of this
 abbrev pub ServesLink : ℕ → Streams → List Exchange → LinkEnd → Type 0
 ServesLink places s exchanges end = (moves : LinkMoves places s exchanges) × EndsLinkSo moves end

@@ -8,6 +8,7 @@ use Rattle.spec_server.specs.declared.asks.Asked.{Asked}
 use Rattle.spec_server.specs.Machine.{ExactAsk}
 use Rattle.spec_server.specs.Exchanges.{Exchange, asked_in, log_of, RunAlone, RunFits}
 
+-- the reads of all exchanges, in order
 abbrev pub reads_in_all : List Exchange → List ExactRead
 reads_in_all xs = flat_map (λ x. x.reads) xs
 
@@ -40,6 +41,7 @@ pub record RunsBy (workers places : ℕ) (xs : List Exchange) : Type 0 where
 
 -- ---- what each worker has had by itself
 
+-- the asks of one worker, which serves the sessions whose number leaves its own when divided by `workers`
 abbrev pub asks_of_worker : ℕ → ℕ → List (Asked ExactAsk) → List (Asked ExactAsk)
 asks_of_worker workers worker asks = filter (λ asked. asked.session % workers == worker) asks
 
