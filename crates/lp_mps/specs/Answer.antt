@@ -12,6 +12,7 @@ use Rattle.lp_mps.specs.declared.read.fault.Fault.TheVariants as fault
 use Rattle.lp_mps.specs.declared.read.fault.Went.{Went}
 use Rattle.lp_mps.specs.declared.read.fault.Went.TheVariants as went
 
+-- the fault of a card as one of the reader
 abbrev pub fault_of : CardFault → Fault
 fault_of (card_fault.Misplaced column) = fault.Code code.CardShape
 fault_of card_fault.NoMemory = fault.NoMemory

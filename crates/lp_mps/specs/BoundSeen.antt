@@ -10,23 +10,27 @@ use Rattle.lp_mps.specs.declared.read.bound_card.BoundCard.{BoundCard}
 use Rattle.lp_mps.specs.declared.read.bound_card.BoundCard.TheVariants as card
 use Rattle.lp_mps.specs.declared.read.bounds.BoundTexts.{BoundTexts}
 
+-- the definition's card
 abbrev pub bound_seen : BoundCard → bounds.BoundCard
 bound_seen (card.SetsUpper u) = bounds.SetsUpper u
 bound_seen (card.SetsLower l) = bounds.SetsLower l
 bound_seen (card.SetsBoth l u) = bounds.SetsBoth l u
 
+-- the definition's card, or the code of its fault
 abbrev pub bound_made : Result BoundCard Code → Check bounds.BoundCard
 bound_made (Ok card) = Ok (bound_seen card)
 bound_made (Err code) = Err code
 
+-- the definition's set, column and value
 abbrev pub texts_seen : BoundTexts → bounds.BoundTexts
 texts_seen texts = record { set = option_copied texts.set; column = texts.column.now; value = texts.value.now }
 
+-- the definition's texts, or the code of their fault
 abbrev pub texts_made : Result BoundTexts Code → Check bounds.BoundTexts
 texts_made (Ok texts) = Ok (texts_seen texts)
 texts_made (Err code) = Err code
 
--- the texts of a card by their places
+-- the set, the column and the value among the first four texts after the kind; the set may be left out
 abbrev pub texts_by : Bool → Option Name → Option Name → Option Name → Option Name → Check bounds.BoundTexts
 texts_by true (Some column) (Some value) None fourth = Ok (record { set = None; column = column; value = value })
 texts_by true (Some set) (Some column) (Some value) None =

@@ -9,6 +9,7 @@ abbrev pub name_of : Option Name → Name
 name_of None = []
 name_of (Some name) = name
 
+-- the definition's state: the current column stands beside the whole ones
 abbrev pub state_of : Draft → State
 state_of d =
     record {

@@ -9,8 +9,10 @@ abbrev pub put_all : List (ℕ × ℚ) → List (ℕ × ℚ) → List (ℕ × �
 put_all placed [] = placed
 put_all placed (e ∷ es) = put_all (put_entry e.0 e.1 placed) es
 
+-- the entries in the order of their rows; of two of one row, the first stays the first
 abbrev pub in_order : List (ℕ × ℚ) → List (ℕ × ℚ)
 in_order es = put_all [] es
 
+-- the column with its entries in the order of their rows
 abbrev pub ordered : ExactColumn → ExactColumn
 ordered c = record c { entries = in_order c.entries }

@@ -3,6 +3,7 @@ use Rattle.std.specs.Prelude.{◌≡◌, ◌<◌, ◌^◌, Option, List, length,
 use Rattle.spec_model.specs.Model.{Name, ExactRow, ExactColumn}
 use Rattle.spec_mps.specs.Reader.{columns_with}
 
+-- the names are those of the rows, of which there are fewer than 2^32
 pub record AreRows (rows : List ExactRow) (names : List Name) : Type 0 where
   pub few : length rows < 2 ^ 32
   pub named : names ≡ map (λ (r : ExactRow). r.name) rows
@@ -12,5 +13,6 @@ pub record ColumnsRead : Type 0 where
   pub whole : List ExactColumn
   pub current : Option ExactColumn
 
+-- the names are those of the whole columns, and last that of the current one
 pub record AreColumns (columns : ColumnsRead) (names : List Name) : Type 0 where
   pub named : names ≡ map (λ (c : ExactColumn). c.name) (columns_with columns.whole columns.current)

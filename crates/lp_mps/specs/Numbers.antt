@@ -16,6 +16,7 @@ use Rattle.spec_mps.specs.Sides.{SetAndPairs, set_and_pairs, is_used, changed_at
 use Rattle.lp_mps.specs.declared.read.numbers.Numbers.{Numbers}
 use Rattle.lp_mps.specs.declared.read.numbers.Numbers.TheVariants.{Entries, Sides, Ranges}
 
+-- the section whose cards give these numbers
 abbrev pub section_of : Numbers → Section
 section_of Entries = section.Columns
 section_of Sides = section.RightSides
@@ -28,45 +29,52 @@ target_of Sides s t = Ok (Some t)
 target_of Ranges s Objective = Err code.RangeOnObjective
 target_of Ranges s (Row i) = Ok (if is_free (get_or s.rows i no_row).kind then None else Some (Row i))
 
+-- a row's range is given; the objective gets none
 abbrev pub with_range : State → Target → ℚ → State
 with_range s Objective v = s
 with_range s (Row i) v = record s { rows = changed_at i (λ r. record r { range = Some v }) s.rows }
 
+-- a row or the objective is given a number
 abbrev pub with_by : Numbers → State → Target → ℚ → State
 with_by Entries s t v = record s { column = option_map (λ c. with_number c t v) s.column }
 with_by Sides s t v = with_side s t v
 with_by Ranges s t v = with_range s t v
 
--- a number at a target that had none
+-- a row or the objective is given a number, where it had none
 abbrev pub put_by : Numbers → State → Target → ℚ → Check State
 put_by numbers s t v = do
   _ ← must (not (is_among t s.paired)) code.EntryRepeated
   Ok (with_by numbers (record s { paired = t ∷ s.paired }) t v)
 
+-- the same where there is a target, and else nothing
 abbrev pub put_if : Numbers → State → Option Target → ℚ → Check State
 put_if numbers s None v = Ok s
 put_if numbers s (Some t) v = put_by numbers s t v
 
--- a number beside a row's name that stands for this target
+-- the number in a text is given to what its row's name stands for
 abbrev pub place_by : Numbers → State → List ℕ → Target → Check State
 place_by numbers s text t = do
   target ← target_of numbers s t
   v ← number_in text
   put_if numbers s target v
 
+-- a row's name and a number beside it
 abbrev pub pair_by : Numbers → State → Name → List ℕ → Check State
 pair_by numbers s name text = need (place_of s name) code.UnknownRow >>= place_by numbers s text
 
+-- such pairs in turn
 abbrev pub pairs_by : Numbers → State → List (List ℕ × List ℕ) → Check State
 pairs_by numbers s [] = Ok s
 pairs_by numbers s (pair ∷ pairs) = pair_by numbers s pair.0 pair.1 >>= λ t. pairs_by numbers t pairs
 
 -- ---- with a set, or none, before them
 
+-- the pairs of a card, unless it belongs to another set than the one in use
 abbrev pub set_by : Numbers → State → SetAndPairs → Check State
 set_by numbers s card =
     if is_used s.set card.set then pairs_by numbers (record s { set = Some card.set }) card.pairs else Ok s
 
+-- the fields of a card, which have a shape of its section
 abbrev pub set_card : Numbers → Style → State → Fields → Check State
 set_card numbers style s fields = do
   texts ← shaped style (section_of numbers) fields

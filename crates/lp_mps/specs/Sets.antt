@@ -5,5 +5,6 @@ use Rattle.spec_mps.specs.Reader.{pairs_of}
 use Rattle.spec_mps.specs.Sides as sides
 use Rattle.lp_mps.specs.declared.read.sets.SetAndPairs.{SetAndPairs}
 
+-- the definition's set and pairs
 abbrev pub card_seen : SetAndPairs → sides.SetAndPairs
 card_seen card = record { set = option_copied card.set; pairs = pairs_of (texts_of card.pairs.now) }

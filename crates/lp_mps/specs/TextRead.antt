@@ -10,7 +10,7 @@ pub record TextRead : Type 0 where
   pub state : State
   pub lines : ℕ
 
--- the same, and the limits of its model
+-- what was read so far, and the limits of the model's size
 pub record ReadWithin : Type 0 where
   pub limits : SizeLimits
   pub text : TextRead

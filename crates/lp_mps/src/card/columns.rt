@@ -8,6 +8,7 @@ use std::alloc::{AllocError, Global};
 /// The column after the last field, from which on nothing is read.
 const LAST_COLUMN: u32 = 62;
 
+// Whether the column is outside all fields of a card in fixed form, so that only a space may stand there.
 fn is_beside(column: u32) -> bool
     ensures { result ≡ field.is_beside column }
 {
@@ -17,13 +18,14 @@ fn is_beside(column: u32) -> bool
     )
 }
 
+// Whether the byte may not stand in this column of a data card in fixed form.
 fn is_misplaced(column: u32, byte: u8) -> bool
     ensures { result ≡ field.is_misplaced column byte }
 {
     column <= LAST_COLUMN && (byte == b'\t' || (is_beside(column) && byte != b' '))
 }
 
-/// The first column where such a byte may not stand.
+/// The first column, from 1 on, with a byte that may not stand there in fixed form.
 pub(crate) fn misplaced(line: &[u8]) -> Option<u32>
     ensures { result ≡ field.misplaced_from 1 line.now }
 {
@@ -40,6 +42,7 @@ pub(crate) fn misplaced(line: &[u8]) -> Option<u32>
     None
 }
 
+// The text without the spaces in front.
 fn without_front(text: &[u8]) -> &[u8]
     ensures { result.now ≡ field.without_front text.now }
 {
@@ -51,6 +54,7 @@ fn without_front(text: &[u8]) -> &[u8]
     &[]
 }
 
+// The text without the spaces at its end.
 fn without_end(text: &[u8]) -> &[u8]
     ensures { result.now ≡ field.without_end text.now }
 {
@@ -62,6 +66,7 @@ fn without_end(text: &[u8]) -> &[u8]
     &[]
 }
 
+// The first `count` bytes of the line, or all of them where it has fewer.
 fn first_bytes(line: &[u8], count: usize) -> &[u8]
     ensures { result.now ≡ take count line.now }
 {
@@ -72,6 +77,7 @@ fn first_bytes(line: &[u8], count: usize) -> &[u8]
     }
 }
 
+// The line without its first `count` bytes, empty where it has no more.
 fn behind(line: &[u8], count: usize) -> &[u8]
     ensures { result.now ≡ drop count line.now }
 {
@@ -82,7 +88,7 @@ fn behind(line: &[u8], count: usize) -> &[u8]
     }
 }
 
-/// What stands in some columns, from the first to the last.
+// The text in the columns from `first` to `last`, counted from 1, without the spaces around it.
 #[tactic(auto, unfolding(spec_mps::specs::Fields::in_columns))]
 fn in_columns(line: &[u8], first: usize, last: usize) -> &[u8]
     requires { 0 < first }
@@ -91,7 +97,7 @@ fn in_columns(line: &[u8], first: usize, last: usize) -> &[u8]
     without_end(without_front(behind(first_bytes(line, last), first - 1)))
 }
 
-// Adds the fields of a card to fields of which there are none.
+// Adds the fields of a card in fixed form to an empty list of fields.
 #[tactic(auto, unfolding(spec_mps::specs::Fields::column_fields))]
 fn push_columns(alloc: Global, line: &[u8], fields: &mut Fields) -> Result<(), AllocError>
     requires { fields.old ≡ [] }
@@ -105,7 +111,7 @@ fn push_columns(alloc: Global, line: &[u8], fields: &mut Fields) -> Result<(), A
     fields.push(alloc, 6, in_columns(line, 50, 61))
 }
 
-/// The fields of a card, none of whose bytes is misplaced.
+/// The fields of a card in fixed form, by their columns. None of its bytes is misplaced.
 pub(crate) fn column_fields(alloc: Global, line: &[u8]) -> Result<Fields, AllocError>
     ensures { IfOk result (λ fields. fields ≡ field.column_fields line.now) }
 {

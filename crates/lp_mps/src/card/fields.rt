@@ -24,12 +24,14 @@ impl Model for Field {
 }
 
 impl Field {
+    /// The place of the word, counted from 1, or the number of the field in fixed form.
     pub fn number(&self) -> u32
         ensures { result ≡ self.now.number }
     {
         self.number
     }
 
+    /// The bytes of the field.
     pub fn text(&self) -> &[u8]
         ensures { result.now ≡ self.now.text }
     {
@@ -71,6 +73,7 @@ impl Drop for Fields {
 }
 
 impl Fields {
+    /// The empty list of fields.
     pub(crate) fn new(alloc: Global) -> Self
         ensures { result ≡ [] }
     {
@@ -79,14 +82,14 @@ impl Fields {
         }
     }
 
-    /// All of them.
+    /// All fields, in order.
     pub fn as_slice(&self) -> &[Field]
         ensures { result.now ≡ self.now }
     {
         self.items.as_slice()
     }
 
-    /// The bytes of a field; none where it is absent.
+    /// The bytes of the field with this number, none where the card does not have it.
     pub fn text_at(&self, number: u32) -> &[u8]
         ensures { result.now ≡ card_field.text_at number self.now }
     {
@@ -98,7 +101,7 @@ impl Fields {
         &[]
     }
 
-    /// Adds a field, unless nothing stands there.
+    /// Adds a field at the end, unless its text is empty.
     pub(crate) fn push(&mut self, alloc: Global, number: u32, text: &[u8]) -> Result<(), AllocError>
         ensures { OnOk result (self.new ≡ self.old ++ card_field.field_of number text.now) }
     {
@@ -110,7 +113,8 @@ impl Fields {
         Ok(())
     }
 
-    /// Adds a word with the next number, unless it is empty. A number past a `u32` counts as running out of memory.
+    /// Adds a word at the end, with the next number, unless it is empty. A number past a `u32` counts as running out of
+    /// memory.
     pub(crate) fn push_word(&mut self, alloc: Global, word: &[u8]) -> Result<(), AllocError>
         ensures { OnOk result (self.new ≡ self.old ++ card_field.field_of (length self.old + 1) word.now) }
     {

@@ -7,7 +7,7 @@ ghost use Rattle.spec_mps.specs.Cards as cards;
 
 use lp_base::is_blank;
 
-/// Whether the line is a comment, or has nothing but blanks.
+/// Whether the line is a comment, or has only blanks.
 #[tactic(auto, unfolding(spec_mps::specs::Cards::is_skipped))]
 pub(crate) fn is_skipped(line: &[u8]) -> bool
     ensures { result ≡ cards.is_skipped line.now }
@@ -15,13 +15,14 @@ pub(crate) fn is_skipped(line: &[u8]) -> bool
     begins_with_star(line) || has_only_blanks(without_carriage_return(line))
 }
 
+// Whether the line is a comment.
 fn begins_with_star(line: &[u8]) -> bool
     ensures { result ≡ cards.begins_with_star line.now }
 {
     line.first() == Some(&b'*')
 }
 
-/// Whether the line is a data card, if it is not skipped.
+/// Whether the line is a data card. Lines that are skipped may say so too.
 pub(crate) fn begins_with_blank(line: &[u8]) -> bool
     ensures { result ≡ cards.begins_with_blank line.now }
 {
@@ -31,6 +32,7 @@ pub(crate) fn begins_with_blank(line: &[u8]) -> bool
     }
 }
 
+// The line without a carriage return at its end.
 fn without_carriage_return(line: &[u8]) -> &[u8]
     ensures { result.now ≡ strip_carriage_return line.now }
 {
@@ -40,6 +42,7 @@ fn without_carriage_return(line: &[u8]) -> &[u8]
     }
 }
 
+// Whether the line has no byte but spaces and tabs.
 fn has_only_blanks(line: &[u8]) -> bool
     ensures { result ≡ list_all word.is_blank line.now }
 {

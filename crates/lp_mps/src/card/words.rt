@@ -6,7 +6,7 @@ use crate::card::Fields;
 use lp_base::is_blank;
 use std::alloc::{AllocError, Global};
 
-// Adds the words of a line to fields of which there are none.
+// Adds the words of a line to an empty list of fields.
 fn push_words(alloc: Global, line: &[u8], fields: &mut Fields) -> Result<(), AllocError>
     requires { fields.old ≡ [] }
     ensures { OnOk result (fields.new ≡ field.word_fields line.now) }
@@ -17,7 +17,7 @@ fn push_words(alloc: Global, line: &[u8], fields: &mut Fields) -> Result<(), All
     Ok(())
 }
 
-/// The words of a line.
+/// The words of a line as fields, numbered from 1.
 pub(crate) fn word_fields(alloc: Global, line: &[u8]) -> Result<Fields, AllocError>
     ensures { IfOk result (λ fields. fields ≡ field.word_fields line.now) }
 {

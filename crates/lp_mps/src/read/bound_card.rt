@@ -18,6 +18,7 @@ pub(crate) enum BoundCard {
     SetsBoth(Option<Frac>, Option<Frac>),
 }
 
+// The number or infinity that the text is.
 #[tactic(auto, unfolding(spec_mps::specs::Bounds::bound_in))]
 fn bound_in(text: &[u8]) -> Result<BoundValue<Frac>, Code>
     ensures { result ≡ bounds.bound_in text.now }
@@ -25,6 +26,7 @@ fn bound_in(text: &[u8]) -> Result<BoundValue<Frac>, Code>
     Ok(read_bound(text)?)
 }
 
+// What a card of kind `UP` with this value does. The value is not minus infinity.
 fn upper_card(value: BoundValue<Frac>) -> Result<BoundCard, Code>
     ensures { bound_made result ≡ bounds.upper_card value }
 {
@@ -35,6 +37,7 @@ fn upper_card(value: BoundValue<Frac>) -> Result<BoundCard, Code>
     }
 }
 
+// What a card of kind `LO` with this value does. The value is not plus infinity.
 fn lower_card(value: BoundValue<Frac>) -> Result<BoundCard, Code>
     ensures { bound_made result ≡ bounds.lower_card value }
 {
@@ -45,6 +48,7 @@ fn lower_card(value: BoundValue<Frac>) -> Result<BoundCard, Code>
     }
 }
 
+// What a card of kind `FX` with this value does. The value is finite.
 fn both_card(value: BoundValue<Frac>) -> Result<BoundCard, Code>
     ensures { bound_made result ≡ bounds.both_card value }
 {
@@ -54,7 +58,7 @@ fn both_card(value: BoundValue<Frac>) -> Result<BoundCard, Code>
     }
 }
 
-/// The card of a kind, with its value where it takes one.
+/// What a card of this kind does. `text` is its value, which the kinds `FR`, `MI` and `PL` do not read.
 #[tactic(auto, unfolding(spec_mps::specs::Bounds::bound_card))]
 pub(crate) fn bound_card(kind: BoundKind, text: &[u8]) -> Result<BoundCard, Code>
     ensures { bound_made result ≡ bounds.bound_card kind text.now }
@@ -69,6 +73,7 @@ pub(crate) fn bound_card(kind: BoundKind, text: &[u8]) -> Result<BoundCard, Code
     }
 }
 
+// Whether there is a bound and it is below 0.
 fn is_below_zero(bound: &Option<Frac>) -> bool
     ensures { result ≡ bounds.is_negative bound.now }
 {
@@ -78,6 +83,7 @@ fn is_below_zero(bound: &Option<Frac>) -> bool
     }
 }
 
+// Sets the bounds that the card gives. An upper bound below 0 also removes the lower one, unless a card has set it.
 fn bound_column(column: &mut Column, lowered: bool, card: &BoundCard)
     ensures { column.new ≡ bounds.bounded lowered (bound_seen card.now) column.old }
 {
@@ -96,7 +102,7 @@ fn bound_column(column: &mut Column, lowered: bool, card: &BoundCard)
     }
 }
 
-/// Lets a card act on the column at a place. Past the end there is none.
+/// Sets the bounds of the column at a place, as the card gives them. A place past the end changes nothing.
 pub(crate) fn bound_at(columns: &mut [Column], place: usize, lowered: bool, card: &BoundCard)
     ensures { columns.new ≡ changed_at place (bounds.bounded lowered (bound_seen card.now)) columns.old }
 {

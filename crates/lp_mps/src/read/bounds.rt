@@ -28,6 +28,7 @@ pub(crate) struct BoundTexts<'a> {
     pub(crate) value: &'a [u8],
 }
 
+// Whether cards of this kind have a value.
 fn takes_value(kind: BoundKind) -> bool
     ensures { result ≡ bounds.takes_value kind }
 {
@@ -37,14 +38,14 @@ fn takes_value(kind: BoundKind) -> bool
     }
 }
 
-// Field 1 is the kind. Where that takes no value, field 4 is not read.
+// Whether a card's field of this number is read after its kind. Field 1 is the kind; field 4 is read only for a value.
 fn is_read(kind: BoundKind, number: u32) -> bool
     ensures { result ≡ bounds.is_read kind number }
 {
     number != 1 && (takes_value(kind) || number != 4)
 }
 
-// What stands in one of the fields that are read, counted from 0.
+// The text of the field at a place, counted from 0, among the fields that are read after the kind.
 fn text_read(kind: BoundKind, fields: &[Field], place: usize) -> Option<&[u8]>
     ensures { option_copied result
         ≡ slice_get (texts_of (filter (λ f. bounds.is_read kind f.number) fields.now)) place }
@@ -61,7 +62,7 @@ fn text_read(kind: BoundKind, fields: &[Field], place: usize) -> Option<&[u8]>
     None
 }
 
-// The texts after the kind, by their places.
+// The set, the column and the value among the texts after the kind. The set may be left out.
 fn texts_by<'a>(
     has_value: bool,
     first: Option<&'a [u8]>,
@@ -84,6 +85,7 @@ fn texts_by<'a>(
     Ok(BoundTexts { set, column, value })
 }
 
+// The set, the column and the value of a card of this kind, whose fields have a shape of the format.
 #[tactic(auto, unfolding(spec_mps::specs::Bounds::bound_texts))]
 fn bound_texts(style: Style, kind: BoundKind, fields: &[Field]) -> Result<BoundTexts<'_>, Code>
     ensures { texts_made result ≡ bounds.bound_texts style kind fields.now }
@@ -100,6 +102,7 @@ fn bound_texts(style: Style, kind: BoundKind, fields: &[Field]) -> Result<BoundT
     )
 }
 
+// Whether a card has set the lower bound of the column at this place.
 fn is_lowered(lowered: &[bool], place: usize) -> bool
     ensures { result ≡ get_or lowered.now place false }
 {
@@ -109,6 +112,7 @@ fn is_lowered(lowered: &[bool], place: usize) -> bool
     }
 }
 
+// Notes at this place whether a card sets the lower bound. A place past the end changes nothing.
 fn lower_at(lowered: &mut [bool], place: usize, sets_lower: bool)
     ensures { lowered.new ≡ changed_at place (λ b. b || sets_lower) lowered.old }
 {
@@ -118,6 +122,8 @@ fn lower_at(lowered: &mut [bool], place: usize, sets_lower: bool)
 }
 
 impl Draft {
+    /// Reads a data card of BOUNDS: sets the bounds of its column, unless it belongs to another set than the one in
+    /// use.
     #[tactic(auto, unfolding(spec_mps::specs::Bounds::bounds_card))]
     pub(crate) fn bounds_card(
         &mut self,
@@ -135,6 +141,7 @@ impl Draft {
         self.use_bound(alloc, kind, texts)
     }
 
+    // Sets the bounds of the column that the texts name, and puts their set in use.
     #[tactic(auto, unfolding(spec_mps::specs::Bounds::use_bound))]
     fn use_bound(&mut self, alloc: Global, kind: BoundKind, texts: BoundTexts) -> Result<(), Fault>
         ensures { GivesState (bounds.use_bound (state_of self.old) kind (texts_seen texts.entry))
@@ -149,6 +156,7 @@ impl Draft {
         Ok(())
     }
 
+    // Sets the bounds of the column at a place, and notes whether the card sets its lower bound.
     #[tactic(auto, unfolding(spec_mps::specs::Bounds::with_bound))]
     fn put_bound(&mut self, place: usize, card: &BoundCard)
         ensures { state_of self.new ≡ bounds.with_bound (state_of self.old) place (bound_seen card.now) }

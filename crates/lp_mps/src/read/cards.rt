@@ -13,7 +13,7 @@ use spec_model::SizeLimits;
 use spec_mps::{Code, Section, Style};
 use std::alloc::Global;
 
-// Under OBJSENSE a card is read by its words in both forms.
+// The card of a line, in the form of the text. Under OBJSENSE it is read by its words in both forms.
 fn read_card(
     alloc: Global,
     style: Style,
@@ -29,6 +29,7 @@ fn read_card(
 }
 
 impl Draft {
+    // Reads a data card in the section that the text is in.
     fn data_card(
         &mut self,
         alloc: Global,
@@ -50,6 +51,7 @@ impl Draft {
         }
     }
 
+    // Reads a card: begins a section, or reads a data card, or skips a comment.
     fn on_card(
         &mut self,
         alloc: Global,
@@ -69,6 +71,7 @@ impl Draft {
         }
     }
 
+    // Reads a line's bytes.
     fn text_line(
         &mut self,
         alloc: Global,
@@ -83,7 +86,7 @@ impl Draft {
         self.on_card(alloc, limits, style, &card)
     }
 
-    /// Reads a line.
+    /// Reads a line, which may be too long, or the end of the input.
     #[tactic(auto, unfolding(spec_mps::specs::Steps::step))]
     pub(crate) fn step(
         &mut self,

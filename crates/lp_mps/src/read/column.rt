@@ -23,7 +23,7 @@ pub(crate) fn make_column(alloc: Global, name: Name) -> Column
     }
 }
 
-/// Puts a number where it belongs: to the cost, or after the entries so far, unless it is 0.
+/// Gives the column a number: as its cost, or as an entry behind the others, unless it is 0.
 pub(crate) fn put_number(column: &mut Column, target: Target, value: Frac) -> Result<(), AllocError>
     ensures ok { OnOk result (ordered column.new ≡ reader.with_number (ordered column.old) target value) }
     ensures named { column.new.name ≡ column.old.name }
@@ -42,7 +42,7 @@ pub(crate) fn put_number(column: &mut Column, target: Target, value: Frac) -> Re
     }
 }
 
-/// Sorts entries by their rows.
+/// Sorts entries by their rows. Entries of one row keep their order.
 pub(crate) fn sort_entries(alloc: Global, entries: &mut Entries) -> Result<(), AllocError>
     ensures { OnOk result (entries.new ≡ in_order entries.old) }
 {
@@ -52,7 +52,7 @@ pub(crate) fn sort_entries(alloc: Global, entries: &mut Entries) -> Result<(), A
     sorted
 }
 
-// Of two entries of one row, the first stays the first.
+// Sorts pairs by their rows. Of two pairs of one row, the first stays the first.
 fn sort_items(items: &mut Vec<(u32, Frac)>) -> Result<(), AllocError>
     ensures { OnOk result (items.new.items ≡ in_order items.old.items) }
 {

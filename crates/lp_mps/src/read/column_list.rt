@@ -44,6 +44,7 @@ impl Model for Columns {
 }
 
 impl Columns {
+    /// No columns.
     pub(crate) fn new(alloc: Global) -> Self
         ensures { result ≡ record { whole = []; current = None } }
     {
@@ -88,7 +89,7 @@ impl Columns {
         }
     }
 
-    /// No more cards are read of the column.
+    /// Makes the current column whole, with its entries sorted, so that no more cards are read of it.
     pub(crate) fn close(&mut self) -> Result<(), AllocError>
         ensures { OnOk result
             (self.new ≡ record { whole = columns_with self.old.whole self.old.current; current = None }) }
@@ -102,7 +103,7 @@ impl Columns {
         Ok(())
     }
 
-    /// Cards are read of a column with this name, and no numbers.
+    /// Makes a new column without numbers current, so that cards are read of it.
     pub(crate) fn begin(&mut self, alloc: Global, name: &[u8]) -> Result<(), AllocError>
         requires closed { self.old.current ≡ None }
         requires new { list_any (λ c. same c.name name.now) self.old.whole ≡ false }
@@ -114,7 +115,7 @@ impl Columns {
         Ok(())
     }
 
-    /// Puts a number of the column that cards are read of, if there is one.
+    /// Gives the current column a number, in a row or as its cost. Without a current column nothing changes.
     pub(crate) fn put_number(&mut self, target: Target, value: Frac) -> Result<(), AllocError>
         ensures { OnOk result
             (self.new ≡ record (self.old) { current = option_map (λ c. with_number c target value) self.old.current }) }
@@ -125,7 +126,7 @@ impl Columns {
         put_number(column, target, value)
     }
 
-    /// Lets a card act on the whole column at a place. Past the end there is none.
+    /// Sets the bounds of the whole column at a place, as the card gives them. A place past the end changes nothing.
     pub(crate) fn bound_at(&mut self, place: usize, lowered: bool, card: &BoundCard)
         ensures { self.new ≡ record (self.old)
             { whole = changed_at place (bounded lowered (bound_seen card.now)) self.old.whole } }
@@ -148,7 +149,7 @@ impl Columns {
     }
 }
 
-// Sorts the entries of the column that cards were read of, if there is one.
+// Sorts the entries of the current column by their rows, if there is one.
 fn sort_current(alloc: Global, current: &mut Option<Column>) -> Result<(), AllocError>
     ensures ok { OnOk result (current.new ≡ option_map ordered current.old) }
     ensures named { map (λ c. c.name) (columns_with [] current.new) ≡ map (λ c. c.name) (columns_with [] current.old) }

@@ -29,6 +29,7 @@ fn marker_field(style: Style) -> u32
 }
 
 impl Draft {
+    /// Reads a data card of COLUMNS: gives the column that it names its numbers, and begins that column if it is new.
     #[tactic(auto, unfolding(spec_mps::specs::Reader::columns_card, spec_mps::specs::Shapes::shaped))]
     pub(crate) fn columns_card(
         &mut self,
@@ -49,7 +50,7 @@ impl Draft {
         self.column_by(alloc, limits, fields.as_slice())
     }
 
-    // A column's name, and pairs of a row's name and a number.
+    // Reads a column's name and then pairs of a row's name and a number, and gives the column these numbers.
     fn column_by(
         &mut self,
         alloc: Global,
@@ -69,7 +70,8 @@ impl Draft {
         self.pairs(Numbers::Entries, pairs)
     }
 
-    // Cards of this column are read, or of none that is there already.
+    // Makes the column with this name current, so that cards are read of it. Its name may not be that of a column
+    // before it.
     #[tactic(auto, unfolding(spec_mps::specs::Reader::opened))]
     fn open(&mut self, alloc: Global, limits: SizeLimits, name: &[u8]) -> Result<(), Fault>
         ensures { GivesState (reader.opened limits (state_of self.old) name.now) (state_of self.new) result }
@@ -88,6 +90,7 @@ impl Draft {
         Ok(())
     }
 
+    // Makes a new column with this name current, none of whose rows has a number yet.
     fn begin_column(&mut self, alloc: Global, name: &[u8]) -> Result<(), AllocError>
         requires closed { (state_of self.old).column ≡ None }
         requires new { list_any (λ c. same c.name name.now) (state_of self.old).columns ≡ false }

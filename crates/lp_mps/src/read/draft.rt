@@ -35,6 +35,7 @@ pub(crate) struct Draft {
 }
 
 impl Draft {
+    /// A model of which nothing has been read.
     pub(crate) fn new(alloc: Global) -> Self
         ensures { state_of result ≡ reader.start }
     {
@@ -61,13 +62,14 @@ impl Draft {
         }
     }
 
-    /// What was read is let go.
+    /// Forgets what was read.
     pub(crate) fn restart(&mut self, alloc: Global)
         ensures { state_of self.new ≡ reader.start }
     {
         drop(mem::replace(self, Draft::new(alloc)));
     }
 
+    // Whether the objective has been read and has this name.
     fn is_objective(&self, name: &[u8]) -> bool
         ensures { result ≡ reader.is_objective self.now.objective name.now }
     {
@@ -77,7 +79,7 @@ impl Draft {
         }
     }
 
-    /// What a row's name stands for.
+    /// The row or the objective that has this name.
     #[tactic(auto, unfolding(spec_mps::specs::Reader::place_of))]
     pub(crate) fn place_of(&self, name: &[u8]) -> Option<Target>
         ensures { result ≡ reader.place_of (state_of self.now) name.now }
@@ -92,7 +94,7 @@ impl Draft {
     }
 }
 
-/// Puts a name where there may be one.
+/// Stores a copy of the name.
 pub(crate) fn set_name(
     place: &mut Option<Name>,
     alloc: Global,
@@ -104,7 +106,7 @@ pub(crate) fn set_name(
     Ok(())
 }
 
-/// The number that a text is.
+/// The number that the text is, or the code of its fault.
 #[tactic(auto, unfolding(spec_mps::specs::Reader::number_in))]
 pub(crate) fn number_in(text: &[u8]) -> Result<Frac, Code>
     ensures { result ≡ reader.number_in text.now }

@@ -18,6 +18,7 @@ use spec_mps::{Code, Style};
 use std::alloc::{AllocError, Global};
 use std::mem;
 
+// The model's name, which is empty where the text gave none.
 fn name_or_none(alloc: Global, name: Option<Name>) -> Result<Name, AllocError>
     ensures { IfOk result (λ made. made ≡ name_of name) }
 {
@@ -27,6 +28,7 @@ fn name_or_none(alloc: Global, name: Option<Name>) -> Result<Name, AllocError>
     }
 }
 
+// The sense of the objective, which is `Min` where the text gave none.
 fn sense_or_min(sense: Option<Sense>) -> Sense
     ensures { result ≡ steps.sense_or_min sense }
 {
@@ -37,7 +39,7 @@ fn sense_or_min(sense: Option<Sense>) -> Sense
 }
 
 impl Draft {
-    /// Reads a line. Where the text has ended, its model.
+    /// Reads a line. Where it ends the text, gives the model that was read.
     pub(crate) fn advance(
         &mut self,
         alloc: Global,
@@ -55,7 +57,7 @@ impl Draft {
         }
     }
 
-    /// The model, if there is an objective. The last column is whole then.
+    // The model that was read, which has an objective. The current column becomes whole.
     #[tactic(auto, unfolding(spec_mps::specs::Steps::finished, spec_mps::specs::Steps::model_by))]
     fn finish(&mut self, alloc: Global) -> Result<Model, Fault>
         requires { IsKept (steps.finished (state_of self.old)) }

@@ -23,7 +23,7 @@ pub(crate) enum Numbers {
 }
 
 impl Numbers {
-    /// The section in which they stand.
+    /// The section whose cards give these numbers.
     pub(crate) fn section(self) -> Section
         ensures { result ≡ numbers.section_of self }
     {
@@ -36,7 +36,7 @@ impl Numbers {
 }
 
 impl Draft {
-    /// Pairs of a row's name and a number.
+    /// Reads pairs of a row's name and a number, and gives each row its number.
     pub(crate) fn pairs(&mut self, what: Numbers, fields: &[Field]) -> Result<(), Fault>
         ensures { GivesState (numbers.pairs_by what (state_of self.old) (reader.pairs_of (texts_of fields.now)))
             (state_of self.new) result }
@@ -49,7 +49,7 @@ impl Draft {
         Ok(())
     }
 
-    // What a number belongs to: the objective has no range, and that of a free row is forgotten.
+    // The row or the objective to give the number to. The objective has no range, and a free row's range is dropped.
     fn target_of(&self, what: Numbers, target: Target) -> Result<Option<Target>, Code>
         ensures { result ≡ numbers.target_of what (state_of self.now) target }
     {
@@ -60,6 +60,7 @@ impl Draft {
         }
     }
 
+    // Reads a row's name and a number, and gives the row this number.
     fn pair(&mut self, what: Numbers, name: &[u8], text: &[u8]) -> Result<(), Fault>
         ensures { GivesState (numbers.pair_by what (state_of self.old) name.now text.now) (state_of self.new) result }
     {
@@ -74,7 +75,7 @@ impl Draft {
         }
     }
 
-    // A number at a target that had none.
+    // Gives a row or the objective a number, unless it has one in this column or section already.
     fn put(&mut self, what: Numbers, target: Target, value: Frac) -> Result<(), Fault>
         ensures { GivesState (numbers.put_by what (state_of self.old) target value) (state_of self.new) result }
     {
@@ -85,6 +86,7 @@ impl Draft {
         Ok(())
     }
 
+    // Gives a row or the objective this number, as an entry of the current column, a right side or a range.
     fn give(&mut self, what: Numbers, target: Target, value: Frac) -> Result<(), AllocError>
         ensures { OnOk result (state_of self.new ≡ numbers.with_by what (state_of self.old) target value) }
     {
@@ -96,7 +98,7 @@ impl Draft {
         Ok(())
     }
 
-    // A right side of the objective is subtracted from its value.
+    // Gives a row its right side. The objective's right side is the negative of its offset.
     fn set_side(&mut self, target: Target, value: Frac)
         ensures { state_of self.new ≡ side.with_side (state_of self.old) target value }
     {
@@ -106,6 +108,7 @@ impl Draft {
         }
     }
 
+    // Gives a row its range. The objective gets none.
     fn set_range(&mut self, target: Target, value: Frac)
         ensures { state_of self.new ≡ numbers.with_range (state_of self.old) target value }
     {

@@ -43,6 +43,7 @@ impl marker::Model for ReaderWithin {
     ghost invariant = { λ r. AreAtMost r.limits large_limits × IsReached r.limits r.style (state_of r.draft) };
 }
 
+// The answer that line `line` has this fault, or that memory ran out.
 fn refused(fault: Fault, line: u32) -> Feed<Model, MpsFault>
     ensures feeds { (outcome : Outcome) (style : Style) (new : TextRead) →
         Fails outcome fault → Feeds outcome style line new result }
@@ -67,7 +68,7 @@ impl Drop for ReaderWithin {
 }
 
 impl ReaderWithin {
-    /// Nothing was read.
+    /// A reader that has read nothing.
     pub fn new(alloc: Global, limits: SizeLimits, style: Style) -> Self
         requires { AreAtMost limits large_limits }
         ensures { result ≡ record {
@@ -83,6 +84,7 @@ impl ReaderWithin {
         }
     }
 
+    /// The limits of the model's size.
     pub fn limits(&self) -> SizeLimits
         ensures { result ≡ self.now.limits }
     {

@@ -47,6 +47,7 @@ impl Model for Rows {
 }
 
 impl Rows {
+    /// No rows.
     pub(crate) fn new(alloc: Global) -> Self
         ensures { result ≡ [] }
     {
@@ -56,12 +57,14 @@ impl Rows {
         }
     }
 
+    /// How many rows there are.
     pub(crate) fn len(&self) -> usize
         ensures { result ≡ length self.now }
     {
         self.items.len()
     }
 
+    /// Adds a row at the end.
     pub(crate) fn push(&mut self, row: Row) -> Result<(), AllocError>
         requires few { length self.old + 1 < 2 ^ 32 }
         requires new { All (λ r. r.name ≢ row.name) self.old }
@@ -108,6 +111,7 @@ impl Rows {
         set_range_in(&mut self.items, at as usize, value);
     }
 
+    /// The rows, without the names beside them.
     pub(crate) fn into_vec(self) -> Vec<Row>
         ensures { result.items ≡ self }
     {
@@ -115,6 +119,7 @@ impl Rows {
     }
 }
 
+// Gives the row at a place this right side. Past the end nothing changes.
 fn set_rhs_in(rows: &mut [Row], at: usize, value: Frac)
     ensures { rows.new ≡ changed_at at (λ r. record r { rhs = value }) rows.old }
 {
@@ -123,6 +128,7 @@ fn set_rhs_in(rows: &mut [Row], at: usize, value: Frac)
     }
 }
 
+// Gives the row at a place this range. Past the end nothing changes.
 fn set_range_in(rows: &mut [Row], at: usize, value: Frac)
     ensures { rows.new ≡ changed_at at (λ r. record r { range = Some value }) rows.old }
 {

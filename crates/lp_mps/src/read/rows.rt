@@ -17,6 +17,7 @@ use spec_mps::{Code, Section, Style};
 use std::alloc::Global;
 
 impl Draft {
+    /// Reads a data card of ROWS: adds its row, or takes it as the objective.
     #[tactic(auto, unfolding(spec_mps::specs::Reader::rows_card, spec_mps::specs::Shapes::shaped))]
     pub(crate) fn rows_card(
         &mut self,
@@ -36,6 +37,7 @@ impl Draft {
         self.add_row(alloc, limits, kind, fields.text_at(2))
     }
 
+    // Adds a row of this kind and name, whose name is good and new. The first free row is the objective.
     #[tactic(auto, unfolding(spec_mps::specs::Reader::add_row))]
     fn add_row(
         &mut self,
@@ -55,7 +57,7 @@ impl Draft {
         self.put_row(alloc, limits, kind, name)
     }
 
-    // Whether a row of this kind is the objective.
+    // Whether a row of this kind is the objective: it is free, and there is no objective yet.
     fn is_first(&self, kind: Kind) -> bool
         ensures { result ≡ reader.is_first (state_of self.now) kind }
     {
@@ -65,6 +67,7 @@ impl Draft {
         }
     }
 
+    // Adds a row of this kind and name at the end, or takes it as the objective, if there is room for it.
     fn put_row(
         &mut self,
         alloc: Global,

@@ -13,6 +13,7 @@ use lp_model::is_model_name;
 use spec_mps::{Code, Section, Seen};
 use std::alloc::{AllocError, Global};
 
+// Whether the section's card has been read.
 fn has_begun(seen: Seen, part: Section) -> bool
     ensures { result ≡ steps.has_begun seen part }
 {
@@ -28,6 +29,7 @@ fn has_begun(seen: Seen, part: Section) -> bool
     }
 }
 
+// The sections that have begun, with this one.
 fn with_section(mut seen: Seen, part: Section) -> Seen
     ensures { result ≡ steps.with_section seen part }
 {
@@ -44,7 +46,8 @@ fn with_section(mut seen: Seen, part: Section) -> Seen
     seen
 }
 
-// NAME and OBJSENSE stand before ROWS, and RHS, RANGES, BOUNDS and ENDATA after COLUMNS.
+// Whether the section may begin now: NAME and OBJSENSE stand before ROWS, and RHS, RANGES, BOUNDS and ENDATA after
+// COLUMNS.
 fn may_follow(seen: Seen, part: Section) -> bool
     ensures { result ≡ steps.may_follow seen part }
 {
@@ -57,6 +60,7 @@ fn may_follow(seen: Seen, part: Section) -> bool
 }
 
 impl Draft {
+    /// Reads a card that begins a section, which may begin now and has not begun before.
     #[tactic(auto, unfolding(spec_mps::specs::Steps::section_card))]
     pub(crate) fn section_card(&mut self, alloc: Global, fields: &Fields) -> Result<Went, Fault>
         ensures { Goes (steps.section_card (state_of self.old) fields.now) (state_of self.new) result }
@@ -70,6 +74,7 @@ impl Draft {
         self.begin(alloc, part, fields.text_at(2))
     }
 
+    // Begins a section, or says that the text ends. `word` is the card's second word, empty where there is none.
     fn begin(&mut self, alloc: Global, part: Section, word: &[u8]) -> Result<Went, Fault>
         ensures { Goes (steps.begin (state_of self.old) part word.now) (state_of self.new) result }
     {
@@ -81,7 +86,7 @@ impl Draft {
         Ok(Went::On)
     }
 
-    // The last column is whole, no row has a number in the section, and there is no set.
+    // Begins a section: the current column becomes whole, no row has a number in the section yet, and no set is in use.
     fn begin_part(&mut self, part: Section) -> Result<(), AllocError>
         ensures { OnOk result (state_of self.new ≡ steps.begun (state_of self.old) part) }
     {
@@ -93,7 +98,7 @@ impl Draft {
         Ok(())
     }
 
-    // What a section's card says by its second word, which has no bytes where there is none.
+    // Reads the second word of a section's card, which is empty where there is none.
     fn head(&mut self, alloc: Global, part: Section, word: &[u8]) -> Result<(), Fault>
         ensures { GivesState (steps.headed (state_of self.old) part word.now) (state_of self.new) result }
     {
@@ -114,6 +119,7 @@ impl Draft {
         }
     }
 
+    // Stores the word as the model's name, if it is a good one.
     fn take_name(&mut self, alloc: Global, word: &[u8]) -> Result<(), Fault>
         ensures { GivesState (steps.headed (state_of self.old) part.Name word.now) (state_of self.new) result }
     {

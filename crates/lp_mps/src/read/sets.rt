@@ -19,7 +19,7 @@ pub(crate) struct SetAndPairs<'a> {
 }
 
 impl<'a> SetAndPairs<'a> {
-    /// An odd number of fields begins with a set.
+    /// A card's fields as pairs. Where their number is odd, the first is the set's name.
     #[tactic(auto, unfolding(spec_mps::specs::Sides::set_and_pairs))]
     pub(crate) fn new(fields: &'a [Field]) -> Self
         ensures { card_seen result ≡ sides.set_and_pairs (texts_of fields.now) }
@@ -43,6 +43,7 @@ impl<'a> SetAndPairs<'a> {
     }
 }
 
+// Whether two sets, each of which may have no name, are the same.
 fn is_set(first: &Option<Name>, set: Option<&[u8]>) -> bool
     ensures { result ≡ sides.same_set first.now (option_copied set.entry) }
 {
@@ -53,7 +54,7 @@ fn is_set(first: &Option<Name>, set: Option<&[u8]>) -> bool
     }
 }
 
-/// Whether the cards of a set are used.
+/// Whether a card of this set is read: it is the set in use, or there is none in use yet.
 pub(crate) fn is_used(first: &Option<Option<Name>>, set: Option<&[u8]>) -> bool
     ensures { result ≡ sides.is_used first.now (option_copied set.entry) }
 {
@@ -64,7 +65,7 @@ pub(crate) fn is_used(first: &Option<Option<Name>>, set: Option<&[u8]>) -> bool
 }
 
 impl Draft {
-    /// This set is used from here on.
+    /// Puts the set in use, so that cards of other sets of the section are skipped.
     pub(crate) fn use_set(&mut self, alloc: Global, set: Option<&[u8]>) -> Result<(), AllocError>
         ensures { OnOk result
             (state_of self.new ≡ record (state_of self.old) { set = Some (option_copied set.entry) }) }

@@ -25,7 +25,7 @@ fn has_numbers(fields: &[Field], numbers: &[u32]) -> bool
     rest.is_empty()
 }
 
-// A column, and one or two pairs of a row's name and a number.
+// Whether the fields are a column, and one or two pairs of a row's name and a number.
 #[tactic(auto, unfolding(spec_mps::specs::Shapes::has_shape))]
 fn has_entry_shape(style: Style, fields: &[Field]) -> bool
     ensures { result ≡ shapes.has_shape (shapes.shapes_of style part.Columns) fields.now }
@@ -36,7 +36,7 @@ fn has_entry_shape(style: Style, fields: &[Field]) -> bool
     }
 }
 
-// A set or none, and one or two pairs of a row's name and a number.
+// Whether the fields are a set or none, and one or two pairs of a row's name and a number.
 #[tactic(auto, unfolding(spec_mps::specs::Shapes::has_shape))]
 fn has_set_shape(style: Style, fields: &[Field]) -> bool
     ensures { result ≡ shapes.has_shape (shapes.set_shapes style) fields.now }
@@ -57,7 +57,7 @@ fn has_set_shape(style: Style, fields: &[Field]) -> bool
     }
 }
 
-// A kind, a set or none, a column and a value.
+// Whether the fields are a kind, a set or none, a column and a value.
 #[tactic(auto, unfolding(spec_mps::specs::Shapes::has_shape))]
 fn has_valued_shape(style: Style, fields: &[Field]) -> bool
     ensures { result ≡ shapes.has_shape (shapes.shapes_of style part.Bounds) fields.now }
@@ -83,6 +83,7 @@ pub(crate) fn has_shape(style: Style, section: Section, fields: &[Field]) -> boo
     }
 }
 
+// Whether the fields are a kind, a set or none, and a column, and in fixed form perhaps a value that is not read.
 #[tactic(auto, unfolding(spec_mps::specs::Shapes::has_shape))]
 fn has_unvalued_shape(style: Style, fields: &[Field]) -> bool
     ensures { result ≡ shapes.has_shape (shapes.unvalued_shapes style) fields.now }

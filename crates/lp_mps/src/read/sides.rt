@@ -13,6 +13,8 @@ use spec_mps::{Code, Style};
 use std::alloc::Global;
 
 impl Draft {
+    /// Reads a data card of RHS or RANGES: gives its rows their numbers, unless it belongs to another set than the one
+    /// in use.
     #[tactic(auto, unfolding(spec_mps::specs::Shapes::shaped))]
     pub(crate) fn set_card(
         &mut self,

@@ -26,6 +26,7 @@ impl Model for Targets {
 }
 
 impl Targets {
+    /// The empty list.
     pub(crate) fn new(alloc: Global) -> Self
         ensures { result ≡ [] }
     {
@@ -34,7 +35,7 @@ impl Targets {
         }
     }
 
-    /// Puts a target in, unless it is there already. Whether it was put in.
+    /// Adds a target, unless it is in the list. The result says whether it was added.
     pub(crate) fn insert(&mut self, target: Target) -> Result<bool, AllocError>
         ensures value { IfOk result (λ is_new. is_new ≡ not (is_among target self.old)) }
         ensures put { IfOk result (λ is_new. self.new ≡ (if is_new then target ∷ self.old else self.old)) }
@@ -43,6 +44,7 @@ impl Targets {
         Ok(is_new)
     }
 
+    /// Removes all targets.
     pub(crate) fn clear(&mut self)
         ensures { self.new ≡ [] }
     {
@@ -50,6 +52,7 @@ impl Targets {
     }
 }
 
+// The number of the row, or none for the objective.
 fn mark_of(target: Target) -> Option<u32>
     ensures { result ≡ mark_of target }
 {

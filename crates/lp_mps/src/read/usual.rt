@@ -32,7 +32,7 @@ impl Model for Reader {
 }
 
 impl Reader {
-    /// Nothing was read.
+    /// A reader that has read nothing.
     pub fn new(alloc: Global, style: Style) -> Self
         ensures { result ≡ record { style = style; state = start; lines = 0 } }
     {

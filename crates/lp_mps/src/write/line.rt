@@ -33,7 +33,7 @@ fn field_width(number: u32) -> usize
     }
 }
 
-/// Blanks after a line until it has this many bytes.
+// Adds blanks to a line until it has `width` bytes.
 fn pad(width: usize, line: &mut Bytes) -> Result<(), AllocError>
     ensures { OnOk result (line.new ≡ line.old ++ replicate (width - length line.old) 32) }
 {
@@ -43,7 +43,7 @@ fn pad(width: usize, line: &mut Bytes) -> Result<(), AllocError>
     Ok(())
 }
 
-// A line after a text.
+// Adds a line and its end to a text.
 fn add_line(line: &[u8], to: &mut Bytes) -> Result<(), AllocError>
     ensures { OnOk result (to.new ≡ to.old ++ (line.now ++ 10 ∷ [])) }
 {
@@ -59,7 +59,7 @@ pub(crate) struct Writer {
 }
 
 impl Writer {
-    // A field after a line, whatever its width.
+    // Adds a field to a line, behind a blank, or in fixed form at its column, whatever its width.
     fn place(&self, number: u32, text: &[u8], line: &mut Bytes) -> Result<(), AllocError>
         ensures { OnOk result (line.new ≡ written.padded self.now.style number line.old ++ text.now) }
     {
@@ -70,13 +70,14 @@ impl Writer {
         line.extend(text)
     }
 
+    // Whether the text is too wide for its field, which it may only be in fixed form.
     fn is_wide(&self, number: u32, text: &[u8]) -> bool
         ensures { result ≡ is_wide_in self.now.style (written.field_at number text.now) }
     {
         self.style == Style::Fixed && text.len() > field_width(number)
     }
 
-    // Fields after a line, each with its number in fixed form.
+    // Adds fields to a line, each with its number in fixed form, or stops at the first that is too wide.
     fn fields(&self, fields: &[(u32, &[u8])], line: &mut Bytes) -> Result<(), WriteStop>
         ensures { PutsFields self.now.style (fields_of fields.now) line.old line.new result }
     {
@@ -89,7 +90,7 @@ impl Writer {
         Ok(())
     }
 
-    /// A data card of these fields, each with its number in fixed form.
+    /// Adds a data card of these fields, each with its number in fixed form.
     pub fn data(&self, fields: &[(u32, &[u8])], to: &mut Bytes) -> Result<(), WriteStop>
         ensures { Adds self.now.style (written.Data (fields_of fields.now) ∷ []) to.old to.new result }
     {
@@ -99,14 +100,14 @@ impl Writer {
         Ok(())
     }
 
-    /// A section card of one word.
+    /// Adds a card that begins a section.
     pub fn section(&self, word: &[u8], to: &mut Bytes) -> Result<(), AllocError>
         ensures { OnOk result (IsAdded self.now.style (written.section_card word.now ∷ []) to.old to.new) }
     {
         add_line(word, to)
     }
 
-    /// The card of a model's name.
+    /// Adds the card of the model's name, which may be empty.
     pub fn name(&self, name: &[u8], to: &mut Bytes) -> Result<(), AllocError>
         ensures { OnOk result (IsAdded self.now.style (written.name_card name.now ∷ []) to.old to.new) }
     {

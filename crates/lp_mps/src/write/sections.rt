@@ -36,12 +36,14 @@ fn kind_word(kind: Kind) -> &'static [u8]
 }
 
 impl Writer {
+    // Adds the card of a row: its kind and its name.
     fn type_card(&self, word: &[u8], name: &[u8], to: &mut Bytes) -> Result<(), WriteStop>
         ensures { Adds self.now.style (written.type_card word.now name.now ∷ []) to.old to.new result }
     {
         self.data(&[(1, word), (2, name)], to)
     }
 
+    // Adds a card that gives `name` a number. `group` is a column's name, or a set's.
     fn number_card(
         &self,
         group: &[u8],
@@ -55,6 +57,7 @@ impl Writer {
         self.data(&[(2, group), (3, name), (4, text.as_slice())], to)
     }
 
+    // Adds a card of BOUNDS without a value.
     fn unbound_card<'a>(
         &self,
         kind: &'a [u8],
@@ -66,6 +69,7 @@ impl Writer {
         self.data(&[(1, kind), (2, b"BND"), (3, name)], to)
     }
 
+    // Adds a card of BOUNDS with a value.
     fn bound_card(
         &self,
         kind: &[u8],
@@ -82,7 +86,7 @@ impl Writer {
         )
     }
 
-    /// `ROWS`: the objective and the rows.
+    /// Adds `ROWS`: the objective and the rows.
     pub fn rows(&self, model: &Model, to: &mut Bytes) -> Result<(), WriteStop>
         ensures { Adds self.now.style (written.rows_cards model.now) to.old to.new result }
     {
@@ -91,6 +95,7 @@ impl Writer {
         self.row_cards(model, to)
     }
 
+    // Adds the cards of all rows.
     fn row_cards(&self, model: &Model, to: &mut Bytes) -> Result<(), WriteStop>
         ensures { Adds self.now.style (map written.row_card model.now.rows) to.old to.new result }
     {
@@ -100,13 +105,14 @@ impl Writer {
         Ok(())
     }
 
+    // Adds the card of a row: its kind and its name.
     fn row_card(&self, row: &Row, to: &mut Bytes) -> Result<(), WriteStop>
         ensures { Adds self.now.style (written.row_card row.now ∷ []) to.old to.new result }
     {
         self.type_card(kind_word(row.kind), row.name.as_slice(), to)
     }
 
-    /// `COLUMNS`: each column's cost and its entries.
+    /// Adds `COLUMNS`: each column's cost and its entries.
     pub fn columns(&self, model: &Model, to: &mut Bytes) -> Result<(), WriteStop>
         ensures { Adds self.now.style (written.columns_cards model.now) to.old to.new result }
     {
@@ -114,6 +120,7 @@ impl Writer {
         self.column_cards(model, to)
     }
 
+    // Adds the cards of all columns.
     fn column_cards(&self, model: &Model, to: &mut Bytes) -> Result<(), WriteStop>
         ensures { Adds self.now.style
             (flat_map (written.column_cards model.now) model.now.columns) to.old to.new result }
@@ -124,6 +131,7 @@ impl Writer {
         Ok(())
     }
 
+    // Adds the cards of column `j`: its cost, and its entries.
     fn column(&self, model: &Model, j: u32, to: &mut Bytes) -> Result<(), WriteStop>
         requires { j < width model.now }
         ensures { Adds self.now.style (written.column_cards model.now (column model.now j)) to.old to.new result }
@@ -134,6 +142,7 @@ impl Writer {
         self.entries(model, name, model.entries(j), to)
     }
 
+    // Adds a card for each entry of the column with this name.
     fn entries(
         &self,
         model: &Model,
@@ -151,7 +160,7 @@ impl Writer {
         Ok(())
     }
 
-    /// `RHS`: the right sides that are not 0.
+    /// Adds `RHS`: the right sides that are not 0.
     pub fn sides(&self, model: &Model, to: &mut Bytes) -> Result<(), WriteStop>
         ensures { Adds self.now.style (written.sides_cards model.now) to.old to.new result }
     {
@@ -160,7 +169,7 @@ impl Writer {
         self.row_numbers(RowNumber::Side, model, to)
     }
 
-    // The numbers of all rows.
+    // Adds the right sides, or the ranges, of all rows.
     fn row_numbers(&self, which: RowNumber, model: &Model, to: &mut Bytes) -> Result<(), WriteStop>
         ensures { Adds self.now.style (flat_map (λ r. number_cards which r) model.now.rows) to.old to.new result }
     {
@@ -170,6 +179,7 @@ impl Writer {
         Ok(())
     }
 
+    // Adds the right side, or the range, of a row.
     fn row_number(&self, which: RowNumber, row: &Row, to: &mut Bytes) -> Result<(), WriteStop>
         ensures { Adds self.now.style (number_cards which row.now) to.old to.new result }
     {
@@ -179,6 +189,7 @@ impl Writer {
         }
     }
 
+    // Adds the card of a right side, unless it is 0.
     fn side(&self, name: &[u8], value: &Frac, to: &mut Bytes) -> Result<(), WriteStop>
         ensures { Adds self.now.style (written.side_cards name.now value.now) to.old to.new result }
     {
@@ -188,7 +199,7 @@ impl Writer {
         self.number_card(b"RHS", name, value, to)
     }
 
-    /// `RANGES`, where a row has one.
+    /// Adds `RANGES`, if a row has a range.
     pub fn ranges(&self, model: &Model, to: &mut Bytes) -> Result<(), WriteStop>
         ensures { Adds self.now.style (written.ranges_cards model.now) to.old to.new result }
     {
@@ -199,6 +210,7 @@ impl Writer {
         self.row_numbers(RowNumber::Range, model, to)
     }
 
+    // Adds the card of a range, if there is one.
     fn range(&self, name: &[u8], range: Option<Frac>, to: &mut Bytes) -> Result<(), WriteStop>
         ensures { Adds self.now.style (written.range_cards name.now range) to.old to.new result }
     {
@@ -208,7 +220,7 @@ impl Writer {
         }
     }
 
-    /// `BOUNDS`, where a column has others than 0 and none.
+    /// Adds `BOUNDS`, if a column has other bounds than the lower bound 0 alone.
     pub fn bounds(&self, model: &Model, to: &mut Bytes) -> Result<(), WriteStop>
         ensures { Adds self.now.style (written.bounds_cards model.now) to.old to.new result }
     {
@@ -219,6 +231,7 @@ impl Writer {
         self.column_bounds(model, to)
     }
 
+    // Adds the cards for the bounds of all columns.
     fn column_bounds(&self, model: &Model, to: &mut Bytes) -> Result<(), WriteStop>
         ensures { Adds self.now.style
             (flat_map (λ c. written.bound_cards c.name c.lower c.upper) model.now.columns) to.old to.new result }
@@ -230,6 +243,7 @@ impl Writer {
         Ok(())
     }
 
+    // Adds the cards for a column's bounds. The lower bound 0 without an upper one needs none.
     fn bound_cards(
         &self,
         name: &[u8],
@@ -249,7 +263,7 @@ impl Writer {
         }
     }
 
-    // No lower bound, and an upper one, if there is one.
+    // Adds the cards for a column without a lower bound. Its upper bound may be absent.
     fn upper_cards(&self, name: &[u8], upper: Option<Frac>, to: &mut Bytes) -> Result<(), WriteStop>
         ensures { Adds self.now.style (written.bound_cards name.now None upper) to.old to.new result }
     {
@@ -262,6 +276,8 @@ impl Writer {
         }
     }
 
+    // Adds the cards for a column with both bounds: one where they are equal, or the lower one is 0 and the upper one
+    // above it.
     fn both_cards(
         &self,
         name: &[u8],
@@ -282,6 +298,7 @@ impl Writer {
     }
 }
 
+// Whether a row has a range.
 fn has_ranges(model: &Model) -> bool
     ensures { result ≡ list_any written.has_range model.now.rows }
 {
@@ -293,6 +310,7 @@ fn has_ranges(model: &Model) -> bool
     false
 }
 
+// Whether a column has other bounds than the lower bound 0 alone.
 fn has_bounds(model: &Model) -> bool
     ensures { result ≡ list_any written.has_bounds model.now.columns }
 {
@@ -305,7 +323,7 @@ fn has_bounds(model: &Model) -> bool
     false
 }
 
-/// A lower bound 0 and no upper one.
+// Whether these bounds are the lower bound 0 alone.
 fn is_usual(lower: Option<Frac>, upper: Option<Frac>) -> bool
     ensures { result ≡ written.is_usual lower upper }
 {

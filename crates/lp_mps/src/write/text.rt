@@ -11,6 +11,7 @@ use spec_mps::Style;
 use std::alloc::{AllocError, Global};
 
 impl Writer {
+    // Adds `OBJSENSE MAX`, if the objective is made greatest.
     fn sense(&self, sense: Sense, to: &mut Bytes) -> Result<(), WriteStop>
         ensures { Adds self.now.style (written.sense_cards sense) to.old to.new result }
     {
@@ -20,7 +21,7 @@ impl Writer {
         Ok(())
     }
 
-    // What stands before `ROWS`.
+    // Adds what stands before `ROWS`: the name and the sense.
     fn start(&self, model: &Model, to: &mut Bytes) -> Result<(), WriteStop>
         ensures { Adds self.now.style
             (written.name_card model.now.name ∷ written.sense_cards model.now.sense) to.old to.new result }
@@ -29,6 +30,7 @@ impl Writer {
         self.sense(model.sense(), to)
     }
 
+    // Adds the sections up to `COLUMNS`.
     fn front(&self, model: &Model, to: &mut Bytes) -> Result<(), WriteStop>
         ensures { Adds self.now.style (front_cards model.now) to.old to.new result }
     {
@@ -37,7 +39,7 @@ impl Writer {
         self.columns(model, to)
     }
 
-    // What follows `COLUMNS`.
+    // Adds the sections after `COLUMNS`, and `ENDATA`.
     fn back(&self, model: &Model, to: &mut Bytes) -> Result<(), WriteStop>
         ensures { Adds self.now.style (back_cards model.now) to.old to.new result }
     {
@@ -48,6 +50,7 @@ impl Writer {
         Ok(())
     }
 
+    // Adds all sections of the model's text.
     fn cards(&self, model: &Model, to: &mut Bytes) -> Result<(), WriteStop>
         ensures { Adds self.now.style (written.cards_of model.now) to.old to.new result }
     {
@@ -56,6 +59,7 @@ impl Writer {
     }
 }
 
+// The text of a model in this form, or the first text that is too wide for its field.
 fn text_of(alloc: Global, style: Style, model: &Model) -> Result<Bytes, WriteStop>
     ensures { GivesText style (written.cards_of model.now) result }
 {
