@@ -1,4 +1,7 @@
--- One mark more is one part more.
+-- The marks of the places that were given a number: one part more is one mark more.
+--
+-- `marked_has`: marking a place keeps that there is a mark for each column and row.
+-- `nothing_has`: lists of as many unset marks as there are columns, rows and columns have a mark for each.
 use Rattle.std.proofs.Common.{◌≡◌, ℕ, zero, suc, ◌<◌, Bool, true, false, ◌&&◌, ◌||◌, Some, List, [], ◌∷◌, ◌++◌, length, get_or, set}
 use Rattle.std.proofs.Common.{refl, sym, ap, ap₂, ◌∙◌, subst, ⊎_elim, ◌≢◌, get_or-set_same, get_or-set_other, length-set}
 use Rattle.std.specs.Prelude.{replicate}

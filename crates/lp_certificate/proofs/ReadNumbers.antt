@@ -1,4 +1,12 @@
--- The readings of numbers, by what their readers answer.
+-- What the readers of numbers answer, as the definitions of certificates read a number; and tests for 0.
+--
+-- `narrow_ok`: where the reader at 127 bits answers a number, the definition reads that number.
+-- `narrow_err`: where the reader at 127 bits answers a fault, the definition reads none.
+-- `wide_ok`: where the reader at any width answers a number, the definition reads that number.
+-- `wide_shape`: where the reader at any width finds no number, the definition reads none.
+-- `wide_far`: where the reader at any width finds an exponent out of range, the definition reads none.
+-- `above_is`: a number above 0 is not 0.
+-- `not_above_is`: a number that is not above 0 is 0 exactly if it is not below 0.
 use Rattle.std.proofs.Common.{◌≡◌, Bool, true, false, not, Some, None, Ok, Err, refl, sym, ap, ◌∙◌}
 use Rattle.spec_exact.specs.Fraction.{ℚ, 0ℚ, eq_ℚ, lt_ℚ}
 use Rattle.spec_exact.proofs.Order.{≤ℚ_refl, ≤ℚ_antisym, le_if_not, not_lt_test}
