@@ -1,4 +1,11 @@
--- Cards that are added one by one.
+-- Cards of a basis file that are written in turn.
+--
+-- `joined`: a text to which some cards and then others were added has all of them added.
+-- `one_more`: adding the card of the item at place k to those of the first k items gives those of the first k + 1.
+-- `one_pair`: adding the card of the pair at place k of two lists to those before it gives those of the first k + 1
+--   pairs.
+-- `all_pairs`: where one of the two lists has no item left, the cards of all their pairs are added.
+-- `all_cards`: the cards of the pairs and then of the columns at their upper bounds are all cards of the basis.
 use Rattle.std.proofs.Common.{◌≡◌, ℕ, ◌+◌, ◌<◌, ◌≤◌, List, [], ◌∷◌, ◌++◌, length, take, map, get_or, sym, ap, ◌∙◌}
 use Rattle.std.proofs.Common.{append_assoc, ap₂, arith}
 use Rattle.std.specs.Prelude.{min}
