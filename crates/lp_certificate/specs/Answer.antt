@@ -26,11 +26,11 @@ abbrev pub Puts : {F : Type 0} → Settled (Certificate (List F)) → Certificat
 Puts answer after (Ok done) = answer ≡ Ok after
 Puts answer after (Err error) = IsErrorOf answer error
 
--- a place among the columns, or among the rows
+-- a place among the columns, or for `y` among the rows
 abbrev pub IsPlace : Model → Letter → ℕ → Type 0
 IsPlace m letter k = k < count_of m letter
 
--- a place in the list of the letter
+-- a place in the certificate's list of the letter, if it has one
 abbrev pub IsInside : {F : Type 0} → Letter → ℕ → Certificate (List F) → Type 0
 IsInside X k (Optimal x y) = k < length x
 IsInside Y k (Optimal x y) = k < length y
@@ -39,11 +39,12 @@ IsInside X k (Unbounded x r) = k < length x
 IsInside R k (Unbounded x r) = k < length r
 IsInside letter k cert = Unit {0}
 
--- a name that is not known, or that is given twice
+-- the fault says that no column or row has this name
 abbrev pub IsUnknown : Name → SettleError → Type 0
 IsUnknown name (Fault fault) = fault ≡ UnknownName name
 IsUnknown name NoMemory = Unit {0}
 
+-- the fault says that this name was given a number before
 abbrev pub IsRepeated : Name → SettleError → Type 0
 IsRepeated name (Fault fault) = fault ≡ Repeated name
 IsRepeated name NoMemory = Unit {0}

@@ -5,11 +5,13 @@ use Rattle.spec_check.specs.declared.certificate.Letter.{Letter}
 use Rattle.spec_check.specs.declared.certificate.Letter.TheVariants.{X, Y, R}
 use Rattle.spec_certificate.specs.TextWritten.{Writing, lines_below_by}
 
+-- how many numbers a list of the letter has
 abbrev pub count_of : Model → Letter → ℕ
 count_of m X = width m
 count_of m Y = height m
 count_of m R = width m
 
+-- the name of the column or the row at a place
 abbrev pub name_at : Model → Letter → ℕ → Name
 name_at m X = λ j. (column m j).name
 name_at m Y = λ i. (row m i).name

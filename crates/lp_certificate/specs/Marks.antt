@@ -14,7 +14,7 @@ marks_of X g = g.x
 marks_of Y g = g.y
 marks_of R g = g.r
 
--- one mark more
+-- the place of the letter is marked too
 abbrev pub with_mark : Letter → ℕ → Given → Given
 with_mark X k g = record g { x = slice_set g.x k true }
 with_mark Y k g = record g { y = slice_set g.y k true }

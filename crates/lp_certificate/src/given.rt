@@ -25,7 +25,7 @@ impl Drop for Given {
     }
 }
 
-// So many places that were given nothing.
+// A list of `count` unset marks.
 fn unmarked(alloc: Global, count: u32) -> Result<Items<bool>, AllocError>
     ensures { IfOk result (λ marks. marks ≡ replicate count false) }
 {
@@ -34,7 +34,7 @@ fn unmarked(alloc: Global, count: u32) -> Result<Items<bool>, AllocError>
 }
 
 impl Given {
-    /// Nothing was given.
+    /// Marks that say that nothing was given.
     pub(crate) fn nothing(alloc: Global, model: &Model) -> Result<Given, AllocError>
         ensures x { IfOk result (λ given. given.x ≡ replicate (width model.now) false) }
         ensures y { IfOk result (λ given. given.y ≡ replicate (height model.now) false) }
@@ -46,7 +46,7 @@ impl Given {
         Ok(Given { x, y, r })
     }
 
-    /// Whether the column or the row at `k` was given a number.
+    /// Whether the column, or for `y` the row, at `k` was given a number.
     pub(crate) fn has(&self, letter: Letter, k: u32) -> bool
         requires { k < length (marks_of letter self.now) }
         ensures { result ≡ get_or (marks_of letter self.now) k false }
@@ -58,7 +58,7 @@ impl Given {
         }
     }
 
-    /// Notes that it was.
+    /// Notes that the column, or for `y` the row, at `k` was given a number.
     pub(crate) fn mark(&mut self, letter: Letter, k: u32)
         requires { k < length (marks_of letter self.old) }
         ensures { self.new ≡ with_mark letter k self.old }

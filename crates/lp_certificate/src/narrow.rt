@@ -41,7 +41,7 @@ impl Number for Frac {
     }
 }
 
-// The number that a text is, within 127 bits.
+// The number that the text is, or none where it is no number of 127 bits.
 #[tactic(auto, using(crate::proofs::ReadNumbers::narrow_ok, crate::proofs::ReadNumbers::narrow_err))]
 fn number_of(text: &[u8]) -> Option<Frac>
     ensures { result ≡ narrow_text.narrow text.now }
@@ -52,6 +52,7 @@ fn number_of(text: &[u8]) -> Option<Frac>
     }
 }
 
+// Whether the number is 0, so that no line is written for it.
 fn is_none(v: Frac) -> bool
     ensures { result ≡ eq_ℚ v 0ℚ }
 {

@@ -31,7 +31,7 @@ impl<N> Model for ReaderOf<N> {
     ghost view = { λ r. record { raw = r.raw; lines = r.lines } };
 }
 
-// A first line.
+// Reads the words of a first line, which say the certificate's kind.
 fn open<N: Drop>(alloc: Global, words: &Texts) -> Result<Progress<RawOf<N>>, AllocError>
     ensures { IfOk result (λ progress. progress ≡ certificate.opened (certificate.kind_of words.now)) }
 {
@@ -44,7 +44,7 @@ fn open<N: Drop>(alloc: Global, words: &Texts) -> Result<Progress<RawOf<N>>, All
     }
 }
 
-// Adds the part that the words of a line say. Whether they say one.
+// Adds the part that the words of a line say. The result says whether they say one.
 fn add_part<N: Number>(alloc: Global, raw: &mut RawOf<N>, words: &Texts) -> Result<bool, AllocError>
     ensures { IfOk result (λ is_part. (if is_part then More raw.new else Unfit)
         ≡ certificate.with_part raw.old (certificate.part_by N.reading raw.old.kind words.now)) }
@@ -58,7 +58,7 @@ fn add_part<N: Number>(alloc: Global, raw: &mut RawOf<N>, words: &Texts) -> Resu
     }
 }
 
-// A line after the first.
+// Reads the words of a line after the first: a part, or the end of the text.
 fn go_on<N: Number>(
     alloc: Global,
     mut raw: RawOf<N>,
@@ -82,7 +82,7 @@ fn go_on<N: Number>(
     }
 }
 
-// What a line leads to, after what was read before it, which is taken where the line has words.
+// Reads a line. What was read before it is taken out of `so_far`, unless the line is too long or the input's end.
 #[tactic(auto, unfolding(spec_certificate::specs::Text::step_by))]
 fn advance<N: Number>(
     alloc: Global,
@@ -111,7 +111,7 @@ impl<N: Drop> Drop for ReaderOf<N> {
 }
 
 impl<N> ReaderOf<N> {
-    /// Nothing was read.
+    /// A reader that has read nothing.
     pub fn new() -> Self
         ensures { result ≡ record { raw = None; lines = 0 } }
     {

@@ -34,7 +34,7 @@ impl From<AllocError> for SettleError {
     }
 }
 
-// The name is not known.
+// The error that no column or row has this name, or that there is no memory to say so.
 fn unknown(alloc: Global, name: &Name) -> SettleError
     ensures { IsUnknown name.now result }
 {
@@ -44,7 +44,7 @@ fn unknown(alloc: Global, name: &Name) -> SettleError
     }
 }
 
-// The name was given before.
+// The error that the name was given a number before, or that there is no memory to say so.
 fn repeated(alloc: Global, name: &Name) -> SettleError
     ensures { IsRepeated name.now result }
 {
@@ -111,7 +111,7 @@ fn blank<N: Number>(
     }
 }
 
-// The column or the row that a part is for.
+// The place of the column with this name, or for `y` of the row.
 fn place_of(model: &Model, letter: Letter, name: &[u8]) -> Option<u32>
     ensures value { result ≡ settling.place_of model.now letter name.now }
     ensures inside { IfSome result (IsPlace model.now letter) }
@@ -122,7 +122,7 @@ fn place_of(model: &Model, letter: Letter, name: &[u8]) -> Option<u32>
     }
 }
 
-// Puts a number into its place.
+// Sets the number with this letter at place `k`. A certificate without such numbers stays.
 fn set<N: Drop>(cert: &mut CertificateOf<N>, letter: Letter, k: u32, value: N)
     requires { IsInside letter k cert.old }
     ensures { cert.new ≡ settling.with_value letter k value cert.old }
@@ -138,7 +138,7 @@ fn set<N: Drop>(cert: &mut CertificateOf<N>, letter: Letter, k: u32, value: N)
     }
 }
 
-// Puts the part into its place, after those before it, whose places are marked.
+// Sets the number that the part gives, and marks its place. A place that is marked already is an error.
 #[tactic(auto, unfolding(spec_check::specs::Settle::put))]
 fn put<N: Number>(
     alloc: Global,
@@ -168,7 +168,7 @@ fn put<N: Number>(
     Ok(())
 }
 
-// The certificate with all parts put to it.
+// Sets the numbers that all parts give, in turn.
 fn put_all<N: Number>(
     alloc: Global,
     model: &Model,

@@ -12,6 +12,7 @@ use lp_model::Model;
 use spec_check::{Certificate, Letter};
 use std::alloc::{AllocError, Global};
 
+// The word of a letter.
 fn letter_text(letter: Letter) -> &'static [u8]
     ensures { result.now ≡ text_written.letter_text letter }
 {
@@ -22,7 +23,7 @@ fn letter_text(letter: Letter) -> &'static [u8]
     }
 }
 
-// Adds a word after a blank.
+// Adds a blank and a word to a text.
 fn add_word(text: &mut Bytes, word: &[u8]) -> Result<(), AllocError>
     ensures { OnOk result (text.new ≡ text.old ++ 32 ∷ word.now) }
 {
@@ -46,7 +47,7 @@ fn add_part_text<N: Number>(
     value.write(alloc, text)
 }
 
-// Adds the line of a number, unless it is 0.
+// Adds the line of a number to the lines, unless the number is 0.
 fn add_part<N: Number>(
     alloc: Global,
     letter: Letter,
@@ -64,7 +65,7 @@ fn add_part<N: Number>(
     lines.push(text)
 }
 
-// How many columns, or rows, have a number with this letter.
+// How many numbers a list with this letter has: one for each column, or for `y` one for each row.
 fn count_of(model: &Model, letter: Letter) -> u32
     ensures { result ≡ count_of model.now letter }
 {
@@ -74,7 +75,7 @@ fn count_of(model: &Model, letter: Letter) -> u32
     }
 }
 
-// The name of the column, or of the row, at `k`.
+// The name of the column at `k`, or for `y` of the row.
 fn name_at(model: &Model, letter: Letter, k: u32) -> &[u8]
     requires { IsPlace model.now letter k }
     ensures { result.now ≡ name_at model.now letter k }
@@ -85,7 +86,7 @@ fn name_at(model: &Model, letter: Letter, k: u32) -> &[u8]
     }
 }
 
-// The number at `k`.
+// The number at place `k` of the list.
 fn number_at<N: Number>(values: &Items<N>, k: u32) -> &N
     requires { k < length values.now }
     ensures { result.now ≡ get_or values.now k N.writing.none }
@@ -93,7 +94,7 @@ fn number_at<N: Number>(values: &Items<N>, k: u32) -> &N
     values.get(k as usize)
 }
 
-// Adds the lines of the numbers with this letter.
+// Adds to the lines those of all numbers with this letter.
 fn add_values<N: Number>(
     alloc: Global,
     model: &Model,
@@ -111,7 +112,7 @@ fn add_values<N: Number>(
     Ok(())
 }
 
-// Adds the text that says the kind.
+// Adds to a text the words that say the certificate's kind.
 fn add_kind_text<N>(
     model: &Model,
     cert: &CertificateOf<N>,
@@ -131,7 +132,7 @@ fn add_kind_text<N>(
     }
 }
 
-// Adds the lines of all parts.
+// Adds to the lines those of all numbers of the certificate.
 fn add_parts<N: Number>(
     alloc: Global,
     model: &Model,
@@ -155,7 +156,7 @@ fn add_parts<N: Number>(
     }
 }
 
-// Adds the lines of the certificate's text.
+// Adds to the lines all lines of the certificate's text.
 #[tactic(auto, unfolding(spec_certificate::specs::TextWritten::certificate_lines_by))]
 fn add_lines<N: Number>(
     alloc: Global,

@@ -43,7 +43,7 @@ impl Number for Ratio {
     }
 }
 
-// The number that a text is, of any width.
+// The number of any width that the text is, or none where it is no number.
 #[tactic(auto, using(crate::proofs::ReadNumbers::wide_ok, crate::proofs::ReadNumbers::wide_shape, crate::proofs::ReadNumbers::wide_far))]
 fn number_of(alloc: Global, text: &[u8]) -> Result<Option<Ratio>, AllocError>
     ensures { IfOk result (λ value. value ≡ wide_reading.wide text.now) }
@@ -55,6 +55,7 @@ fn number_of(alloc: Global, text: &[u8]) -> Result<Option<Ratio>, AllocError>
     }
 }
 
+// Whether the number is 0, so that no line is written for it.
 fn is_none(v: &Ratio) -> bool
     ensures { result ≡ eq_ℚ v.now 0ℚ }
 {

@@ -10,6 +10,7 @@ use std::alloc::{AllocError, Global};
 
 const LETTERS: [(&[u8], Letter); 3] = [(b"x", Letter::X), (b"y", Letter::Y), (b"r", Letter::R)];
 
+// The letter that the word is.
 #[tactic(auto, unfolding(spec_certificate::specs::Text::letter_of))]
 fn letter_of(word: &[u8]) -> Option<Letter>
     ensures { result ≡ certificate.letter_of word.now }
@@ -17,7 +18,7 @@ fn letter_of(word: &[u8]) -> Option<Letter>
     look_up(word, &LETTERS)
 }
 
-// Whether parts with this letter stand in a certificate of this kind.
+// Whether a certificate of this kind has numbers with this letter.
 fn takes(kind: &CertificateKind, letter: Letter) -> bool
     ensures { result ≡ certificate.takes kind.now letter }
 {
@@ -42,7 +43,7 @@ fn kind_by_word(word: &[u8]) -> Option<CertificateKind>
     })
 }
 
-// The kind that the words of a first line say.
+/// The kind that the words of a first line say, or none.
 #[tactic(auto, unfolding(spec_certificate::specs::Text::kind_of))]
 pub(crate) fn kind_of(alloc: Global, words: &Texts) -> Result<Option<CertificateKind>, AllocError>
     ensures { IfOk result (λ kind. kind ≡ certificate.kind_of words.now) }
@@ -57,7 +58,7 @@ pub(crate) fn kind_of(alloc: Global, words: &Texts) -> Result<Option<Certificate
     }
 }
 
-// The part that the words of a line say, in a certificate of this kind.
+/// The part that the words of a line say, or none where a certificate of this kind has no such part.
 #[tactic(auto, unfolding(spec_certificate::specs::Text::part_by))]
 pub(crate) fn part_of<N: Number>(
     alloc: Global,
