@@ -28,7 +28,7 @@ pub record IsWrong (outcome : Outcome) (old new : FileRead) (fault : BasFault) :
   pub line : fault.line ≡ old.lines + 1
   pub kept : new ≡ old
 
--- the answer at a line, of what its step leads to; if memory runs out it says nothing of that
+-- the answer at a line, by the outcome of its step; where memory runs out it says nothing of the outcome
 abbrev pub Feeds : Form → Outcome → FileRead → FileRead → Feed (List Status) BasFault → Type 0
 Feeds f outcome old new feed.More = GoesOn f outcome old new
 Feeds f outcome old new (feed.Done basis) = Ends f outcome old new basis

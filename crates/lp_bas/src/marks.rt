@@ -65,7 +65,7 @@ impl std::marker::Model for Marks {
 }
 
 impl Marks {
-    /// There was no card.
+    /// Marks of which none is set, for a file without a card.
     pub fn new(alloc: Global, form: &LargeForm) -> Result<Self, AllocError>
         ensures { IfOk result (λ marks. marks ≡ file.start form.now) }
     {
@@ -77,6 +77,7 @@ impl Marks {
         })
     }
 
+    // Whether a card gave column `k` a status.
     fn is_marked(&self, k: u32) -> bool
         requires { k < length self.now.marks }
         ensures { result ≡ file.is_marked self.now k }
@@ -84,6 +85,7 @@ impl Marks {
         self.items[k as usize].is_some()
     }
 
+    // Notes that a card gave column `k` this status.
     fn mark(&mut self, k: u32, status: Status)
         requires { k < length self.old.marks }
         ensures { self.new ≡ file.mark k status self.old }
@@ -92,7 +94,7 @@ impl Marks {
         self.items[k as usize] = Some(status);
     }
 
-    // `NAME`, before all other cards.
+    // Reads the card `NAME`, which stands before all other cards.
     fn name(&mut self) -> Result<(), BasCode>
         ensures { IsStep (file.named_step self.old) self.old self.new result }
     {
@@ -103,7 +105,8 @@ impl Marks {
         Ok(())
     }
 
-    // A column is basic, and a row is at a limit.
+    // Reads a card of a column and a row: the column is basic, and the row is at this limit, or at the other one where
+    // it has no such limit.
     #[tactic(auto, unfolding(spec_bas::specs::Steps::pair_step))]
     fn pair(
         &mut self,
@@ -133,7 +136,7 @@ impl Marks {
         Ok(())
     }
 
-    // A column is at its upper bound, or where it does without a card.
+    // Reads a card of a column alone: it is at its upper bound, or where it stands without a card.
     fn single(
         &mut self,
         model: &Model,
@@ -154,6 +157,7 @@ impl Marks {
         self.put(form, j, stands)
     }
 
+    // Gives column `j` the status that a card says, if it has the upper bound that this needs.
     fn put(&mut self, form: &LargeForm, j: u32, stands: Stands) -> Result<(), BasCode>
         requires all { length self.old.marks ≡ form.now.cols + form.now.rows }
         requires column { j < form.now.cols }
@@ -174,6 +178,7 @@ impl Marks {
         }
     }
 
+    // Reads a data card, which gives a column and perhaps a row a status.
     #[tactic(auto, unfolding(spec_bas::specs::Steps::upper_step, spec_bas::specs::Steps::usual_step))]
     fn card(&mut self, model: &Model, form: &LargeForm, card: &Card) -> Result<(), BasCode>
         requires sizes { HasSizeOf model.now form.now }
@@ -192,7 +197,7 @@ impl Marks {
         }
     }
 
-    // The status of column `k` in all.
+    // The status of column `k`: that of its card, or the one that it has without a card.
     fn status(&self, form: &LargeForm, k: u32) -> Status
         requires all { length self.now.marks ≡ form.now.cols + form.now.rows }
         requires inside { k < form.now.cols + form.now.rows }
@@ -204,7 +209,7 @@ impl Marks {
         }
     }
 
-    // The statuses of all columns.
+    // The basis of the statuses of all columns.
     #[tactic(auto, unfolding(spec_bas::specs::Steps::marked_basis))]
     fn basis(&self, alloc: Global, form: &LargeForm) -> Result<Basis, AllocError>
         requires all { length self.now.marks ≡ form.now.cols + form.now.rows }
@@ -218,7 +223,7 @@ impl Marks {
         Ok(Basis::from_vec(items, form.rows()))
     }
 
-    /// Takes the next line. There is a basis where the file ends with it.
+    /// Reads a line. Where it ends the file, gives the basis.
     #[tactic(auto, unfolding(spec_bas::specs::Steps::step))]
     pub fn take(
         &mut self,

@@ -34,7 +34,7 @@ impl Drop for BasReader {
 }
 
 impl BasReader {
-    /// Nothing was read.
+    /// A reader that has read nothing.
     pub fn new(alloc: Global, form: &LargeForm) -> Result<Self, AllocError>
         ensures state { IfOk result (λ reader. reader ≡ record { state = steps.start form.now; lines = 0 }) }
         ensures marking { IfOk result (λ reader. IsMarking form.now reader.state) }

@@ -14,7 +14,7 @@ pub(crate) type Card = spec_bas::Card<Name>;
 /// What a line is.
 pub(crate) type Reading = spec_bas::Reading<Name>;
 
-// A kind with a column and a row.
+// The card of this kind, with a column and a row, or none where there is no such kind.
 fn pair_of(
     alloc: Global,
     kind: &[u8],
@@ -32,7 +32,7 @@ fn pair_of(
     })
 }
 
-// A kind with a column alone.
+// The card of this kind, with a column alone, or none where there is no such kind.
 fn single_of(alloc: Global, kind: &[u8], column: &[u8]) -> Result<Option<Card>, AllocError>
     ensures { IfOk result (λ card. card ≡ cards.single_of kind.now column.now) }
 {
@@ -44,7 +44,7 @@ fn single_of(alloc: Global, kind: &[u8], column: &[u8]) -> Result<Option<Card>, 
     })
 }
 
-// The card that words say, if they say one.
+// The card that the words say, or none.
 #[tactic(auto, unfolding(spec_bas::specs::Cards::card_of))]
 fn card_of(alloc: Global, words: &[Field]) -> Result<Option<Card>, AllocError>
     ensures { IfOk result (λ card. card ≡ cards.card_of (texts_of words.now)) }
@@ -56,6 +56,7 @@ fn card_of(alloc: Global, words: &[Field]) -> Result<Option<Card>, AllocError>
     }
 }
 
+// What a data card with these words is.
 fn data_reading(alloc: Global, words: &Fields) -> Result<Reading, AllocError>
     ensures { IfOk result (λ reading. reading ≡ cards.data_reading (cards.card_of (texts_of words.now))) }
 {
@@ -65,7 +66,7 @@ fn data_reading(alloc: Global, words: &Fields) -> Result<Reading, AllocError>
     }
 }
 
-// By the first word.
+// What a section card is, by its first word.
 #[tactic(auto, unfolding(spec_bas::specs::Cards::section_reading))]
 fn section_reading(words: &[Field]) -> Reading
     ensures { result ≡ cards.section_reading (texts_of words.now) }
@@ -82,7 +83,7 @@ fn section_reading(words: &[Field]) -> Reading
     Reading::Wrong(BasCode::Section)
 }
 
-// What the bytes of a line are.
+// What a line with these bytes is.
 fn text_reading(alloc: Global, bytes: &[u8]) -> Result<Reading, AllocError>
     ensures { IfOk result (λ reading. reading ≡ cards.text_reading bytes.now) }
 {

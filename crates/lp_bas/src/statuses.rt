@@ -12,7 +12,7 @@ pub(crate) enum Limit {
     Upper,
 }
 
-/// At the lower bound of column `k`, else at its upper one, else at 0.
+/// The status of a nonbasic column `k`: at its lower bound, else at its upper one, else at 0.
 pub(crate) fn lower_first(form: &LargeForm, k: u32) -> Status
     requires { k < form.now.cols + form.now.rows }
     ensures { result ≡ steps.lower_first form.now k }
@@ -24,7 +24,7 @@ pub(crate) fn lower_first(form: &LargeForm, k: u32) -> Status
     }
 }
 
-/// At the upper bound of column `k`, else at its lower one, else at 0.
+/// The status of a nonbasic column `k`: at its upper bound, else at its lower one, else at 0.
 pub(crate) fn upper_first(form: &LargeForm, k: u32) -> Status
     requires { k < form.now.cols + form.now.rows }
     ensures { result ≡ steps.upper_first form.now k }
@@ -36,7 +36,7 @@ pub(crate) fn upper_first(form: &LargeForm, k: u32) -> Status
     }
 }
 
-/// At this limit of column `k`, or at the other one where it has no such limit.
+/// The status of a nonbasic column `k`: at this limit, else at the other one, else at 0.
 pub(crate) fn status_at(limit: Limit, form: &LargeForm, k: u32) -> Status
     requires { k < form.now.cols + form.now.rows }
     ensures { result ≡ status_at limit form.now k }
@@ -47,7 +47,8 @@ pub(crate) fn status_at(limit: Limit, form: &LargeForm, k: u32) -> Status
     }
 }
 
-/// Where column `k` stands without a card.
+/// The status of column `k` without a card: a logical column is basic, a structural one at its lower bound, else at its
+/// upper one, else at 0.
 pub(crate) fn usual_status(form: &LargeForm, k: u32) -> Status
     requires { k < form.now.cols + form.now.rows }
     ensures { result ≡ steps.usual_status form.now k }

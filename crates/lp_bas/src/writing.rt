@@ -16,6 +16,7 @@ use lp_form::{Basis, LargeForm, Status};
 use lp_model::Model;
 use std::alloc::{AllocError, Global};
 
+// Whether column `k` is basic.
 fn is_basic(basis: &Basis, k: u32) -> bool
     requires { k < length basis.now }
     ensures { result ≡ is_basic (basis_at basis.now k) }
@@ -26,6 +27,7 @@ fn is_basic(basis: &Basis, k: u32) -> bool
     }
 }
 
+// Whether column `k` is at its upper bound.
 fn is_at_upper(basis: &Basis, k: u32) -> bool
     requires { k < length basis.now }
     ensures { result ≡ written.is_at_upper (basis_at basis.now k) }
@@ -43,6 +45,7 @@ pub(crate) enum Listed {
     AtUpper,
 }
 
+// Whether column `k` has the status that is listed.
 fn is_listed(which: Listed, basis: &Basis, k: u32) -> bool
     requires { k < length basis.now }
     ensures { result ≡ is_listed which (basis_at basis.now k) }
@@ -53,7 +56,7 @@ fn is_listed(which: Listed, basis: &Basis, k: u32) -> bool
     }
 }
 
-// The columns of the model that stand so.
+// The structural columns that have the status that is listed, in order.
 fn columns(
     alloc: Global,
     form: &LargeForm,
@@ -87,7 +90,7 @@ fn other_rows(alloc: Global, form: &LargeForm, basis: &Basis) -> Result<Vec<u32>
     Ok(found)
 }
 
-// The word of a pair whose row stands so.
+// The word of a card of a column and a row, by the row's status.
 fn pair_word(row: Status) -> &'static [u8]
     ensures { result.now ≡ pair_word row }
 {
@@ -97,7 +100,7 @@ fn pair_word(row: Status) -> &'static [u8]
     }
 }
 
-// A word after a blank.
+// Adds a blank and a word to a text.
 fn push_word(word: &[u8], to: &mut Bytes) -> Result<(), AllocError>
     ensures { OnOk result (to.new ≡ to.old ++ 32 ∷ word.now) }
 {
@@ -105,7 +108,7 @@ fn push_word(word: &[u8], to: &mut Bytes) -> Result<(), AllocError>
     to.extend(word)
 }
 
-// `NAME`, and the model's name, if it has one.
+// Adds the card `NAME`, with the model's name, if it has one.
 fn push_name(name: &[u8], to: &mut Bytes) -> Result<(), AllocError>
     ensures { OnOk result (to.new ≡ to.old ++ text.cards_text style.Free (text.name_card name.now ∷ [])) }
 {
@@ -116,6 +119,7 @@ fn push_name(name: &[u8], to: &mut Bytes) -> Result<(), AllocError>
     to.push(b'\n')
 }
 
+// Adds a card of a column and a row.
 fn push_pair(kind: &[u8], column: &[u8], row: &[u8], to: &mut Bytes) -> Result<(), AllocError>
     ensures { OnOk result (to.new ≡ to.old ++ text.cards_text style.Free
         (text.Data (written.pair_fields kind.now column.now row.now) ∷ [])) }
@@ -126,6 +130,7 @@ fn push_pair(kind: &[u8], column: &[u8], row: &[u8], to: &mut Bytes) -> Result<(
     to.push(b'\n')
 }
 
+// Adds the card of a column at its upper bound.
 fn push_upper(column: &[u8], to: &mut Bytes) -> Result<(), AllocError>
     ensures { OnOk result (to.new ≡ to.old ++ text.cards_text style.Free
         (text.Data (written.single_fields (codes "UL") column.now) ∷ [])) }
@@ -135,7 +140,7 @@ fn push_upper(column: &[u8], to: &mut Bytes) -> Result<(), AllocError>
     to.push(b'\n')
 }
 
-// The card of a column and a row.
+// Adds the card of column `j` and row `i`.
 fn push_pair_of(
     model: &Model,
     form: &LargeForm,
@@ -156,7 +161,7 @@ fn push_pair_of(
     push_pair(kind, column, model.row(i).name.as_slice(), to)
 }
 
-// The cards of these columns and rows, side by side.
+// Adds a card for each column and the row at the same place of the other list.
 fn push_pairs(
     model: &Model,
     form: &LargeForm,
@@ -179,7 +184,7 @@ fn push_pairs(
     Ok(())
 }
 
-// The cards of columns at their upper bounds.
+// Adds the cards of these columns, which are at their upper bounds.
 fn push_uppers(model: &Model, columns: &[u32], to: &mut Bytes) -> Result<(), AllocError>
     requires { All (λ j. j < width model.now) columns.now }
     ensures { OnOk result (to.new ≡ to.old ++ text.cards_text style.Free
@@ -191,7 +196,7 @@ fn push_uppers(model: &Model, columns: &[u32], to: &mut Bytes) -> Result<(), All
     Ok(())
 }
 
-// The data cards.
+// Adds all data cards of the basis.
 fn push_cards(
     alloc: Global,
     model: &Model,
