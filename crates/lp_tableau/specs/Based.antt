@@ -34,7 +34,7 @@ pub record IsOpenAt (m : ℕ) (rows : List (List ℚ)) (j p : ℕ) : Type 0 wher
 abbrev pub AreInside : ℕ → List (Option ℕ) → Type 0
 AreInside n basic = All (λ o. IfSome o (λ k. k < n)) basic
 
--- where column k stands, by lists of statuses and bounds
+-- the value of column k where it is nonbasic, by lists of statuses and bounds
 abbrev pub stand_in : List Status → List (Option ℚ) → List (Option ℚ) → ℕ → ℚ
 stand_in status lower upper k = stand (get_or status k Basic) (get_or lower k None) (get_or upper k None)
 

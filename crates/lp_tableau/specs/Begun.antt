@@ -15,6 +15,7 @@ is_below (Within v) = false
 is_below (Below gap) = true
 is_below (Above gap) = false
 
+-- row i of the start, without its artificial columns
 abbrev pub start_front : Form → List (RowStart ℚ) → ℕ → List ℚ
 start_front f starts i = made (f.cols + f.rows) (start_entry f (start_at starts i) i)
 

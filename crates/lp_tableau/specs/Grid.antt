@@ -6,7 +6,7 @@ use Rattle.spec_exact.specs.Laws.{IsWithin}
 use Rattle.spec_exact.specs.Narrow.{number_limit}
 use Rattle.spec_simplex.specs.Tableau.{at_place}
 
--- what stands in each row, column by column
+-- rows of fractions, each column by column
 abbrev pub Rows : Type 0
 Rows = List (List ℚ)
 

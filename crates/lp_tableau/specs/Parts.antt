@@ -6,6 +6,7 @@ use Rattle.spec_simplex.specs.Tableau.{Tableau}
 use Rattle.lp_tableau.specs.declared.tableau.ColumnLists.{ColumnLists}
 use Rattle.lp_tableau.specs.Grid.{Rows}
 
+-- the tableau of these parts
 abbrev pub tableau_of : ℕ → ℕ → Rows → List ℕ → List ℚ → List ℚ → List Status → List (Option ℚ) → List (Option ℚ) →
     Tableau
 tableau_of rows cols entries basic value reduced status lower upper =

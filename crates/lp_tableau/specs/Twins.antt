@@ -10,13 +10,15 @@ use Rattle.lp_tableau.specs.Grid.{IsGrid}
 abbrev pub signed : Bool → ℚ → ℚ
 signed b v = if b then neg_ℚ v else v
 
--- the twin of what stands in the row at column c + r
+-- the twin of the row's item in column c + r
 abbrev pub twin : ℕ → List Bool → List ℚ → ℕ → ℚ
 twin c turned row r = signed (get_or turned r false) (get_or row (c + r) 0ℚ)
 
+-- a row, and then the twins of its items from column c on
 abbrev pub with_twins : ℕ → List Bool → List ℚ → List ℚ
 with_twins c turned row = row ++ made (length turned) (twin c turned row)
 
+-- the rows, each with its twins
 abbrev pub twinned : ℕ → List Bool → List (List ℚ) → List (List ℚ)
 twinned c turned [] = []
 twinned c turned (row ∷ rows) = with_twins c turned row ∷ twinned c turned rows

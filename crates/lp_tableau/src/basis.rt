@@ -31,12 +31,14 @@ fn equations(alloc: Global, form: &Form) -> Result<Twins, AllocError>
     rows(alloc, form, &coefficients, &starts)
 }
 
+// No column for each position of the form.
 fn no_columns(alloc: Global, form: &Form) -> Result<Vec<Option<u32>>, AllocError>
     ensures { IfOk result (λ v. v.items ≡ (elimination.unsolved form.now).basic) }
 {
     Vec::from_elem(alloc, None, form.rows() as usize)
 }
 
+// The column, or the first one where there is none.
 fn or_first(column: Option<u32>) -> u32
     ensures { result ≡ elimination.or_first column }
 {
@@ -46,7 +48,7 @@ fn or_first(column: Option<u32>) -> u32
     }
 }
 
-// The column of each position.
+// The column of each position, the first one where a position has none.
 fn columns(alloc: Global, basic: &[Option<u32>]) -> Result<Vec<u32>, AllocError>
     ensures { IfOk result
         (λ v. v.items ≡ made (length basic.now) (λ i. elimination.or_first (get_or basic.now i None))) }
@@ -58,6 +60,7 @@ fn columns(alloc: Global, basic: &[Option<u32>]) -> Result<Vec<u32>, AllocError>
     Ok(columns)
 }
 
+// The status of each column: those of the basis, and each artificial at its lower bound.
 fn statuses(alloc: Global, form: &Form, basis: &Basis) -> Result<Vec<Status>, AllocError>
     ensures { IfOk result (λ v. v.items ≡ elimination.basis_status form.now basis.now) }
 {
@@ -66,13 +69,14 @@ fn statuses(alloc: Global, form: &Form, basis: &Basis) -> Result<Vec<Status>, Al
     Ok(statuses)
 }
 
+// The upper bounds of the form, and 0 for each artificial.
 fn uppers(alloc: Global, form: &Form) -> Result<Vec<Option<Frac>>, AllocError>
     ensures { IfOk result (λ v. v.items ≡ elimination.basis_upper form.now) }
 {
     with_artificials(alloc, form.uppers(), form.rows())
 }
 
-// Where each column stands that is not basic.
+// The value of each nonbasic column by its status and bounds, and 0 for each basic one.
 fn values(
     alloc: Global,
     status: &[Status],
@@ -132,7 +136,7 @@ fn begun(
 }
 
 impl Tableau {
-    // The value of the basic column at position `i`.
+    // The value of the basic column at position `i`, from the values of the nonbasic columns.
     fn position(&self, i: u32) -> Result<Frac, Past>
         requires { i < self.now.rows }
         ensures { result ≡ elimination.position_run (Some number_limit) self.now i }
@@ -146,7 +150,7 @@ impl Tableau {
         Ok(value)
     }
 
-    // The values of all columns.
+    // The values of all columns: the nonbasic ones as they are, the basic ones from them.
     fn valued(&self, alloc: Global) -> Result<Vec<Frac>, BasisStop>
         ensures ok { IfOk result (λ v. elimination.valued_run (Some number_limit) self.now ≡ Ok v.items) }
         ensures len { IfOk result (λ v. length v.items ≡ all_columns self.now) }
@@ -161,6 +165,7 @@ impl Tableau {
         Ok(values)
     }
 
+    // Replaces the values of all columns.
     fn set_values(&mut self, values: Vec<Frac>)
         requires { length values.items ≡ all_columns self.old }
         ensures { self.new ≡ elimination.with_values self.old values.items }
@@ -168,7 +173,7 @@ impl Tableau {
         self.value = values;
     }
 
-    // The values of the basic columns, and the reduced costs for the form's costs.
+    // Sets the values of the basic columns, and the reduced costs for the form's costs.
     fn complete(&mut self, alloc: Global, form: &Form) -> Result<(), BasisStop>
         ensures ok { OnOk result (elimination.filled_run (Some number_limit) form.now self.old ≡ Ok self.new) }
         ensures err { IfErr result (StopsAt (refused_as start.Past

@@ -11,14 +11,14 @@ ghost use Rattle.lp_tableau.specs.Twins.{signed as signed_of, twinned, scaled_by
 use crate::grid::Grid;
 use lp_frac::{Frac, Past, div, is_zero, less_product, neg, within};
 
-// `v`, or its negative.
+// `v`, or its negative where it is turned.
 fn signed(is_turned: bool, v: Frac) -> Frac
     ensures { result ≡ signed_of is_turned v }
 {
     if is_turned { neg(v) } else { v }
 }
 
-// What stands in row `i` at column `k`, which may be a twin.
+// The entry of row `i` in column `k`, which may be a twin.
 pub(crate) fn item(
     grid: &Grid,
     first: u32,
@@ -42,7 +42,7 @@ pub(crate) fn item(
     signed(turned[r], grid.at(i, first as usize + r))
 }
 
-// Row `p` over a number.
+// Divides row `p` by a number.
 fn scale(grid: &mut Grid, height: u32, width: u32, p: u32, by: Frac) -> Result<(), Past>
     requires shape { IsGrid height width grid.old }
     requires place { p < height }
@@ -57,7 +57,7 @@ fn scale(grid: &mut Grid, height: u32, width: u32, p: u32, by: Frac) -> Result<(
     Ok(())
 }
 
-// Lists the columns in which row `p` is not 0 at the start of `spots`; how many they are.
+// Lists the columns in which row `p` is not 0 at the start of `spots`, and returns how many they are.
 fn list(spots: &mut [u32], grid: &Grid, height: u32, width: u32, p: u32) -> usize
     requires shape { IsGrid height width grid.now }
     requires place { p < height }
@@ -76,7 +76,7 @@ fn list(spots: &mut [u32], grid: &Grid, height: u32, width: u32, p: u32) -> usiz
     count
 }
 
-// Row `i` less a multiple of row `p`. Row `p` is 0 but in the columns of `spots`.
+// Takes a multiple of row `p` off row `i`. Row `p` is 0 but in the columns of `spots`.
 fn clear(
     grid: &mut Grid,
     height: u32,
@@ -112,7 +112,7 @@ fn clear(
     Ok(())
 }
 
-// Row `i` less row `p`, as often as makes its entry in column `j` 0.
+// Takes the multiple of row `p` off row `i` with which its entry in column `j` becomes 0.
 fn clear_twins(
     grid: &mut Grid,
     first: u32,
@@ -140,7 +140,7 @@ fn clear_twins(
     clear(grid, others, first + others, p, times, i, spots)
 }
 
-// All rows, so that column `j` has 1 in row `p` and 0 in the others.
+// Turns all rows so that column `j` has 1 in row `p` and 0 in the others.
 pub(crate) fn turn(
     grid: &mut Grid,
     first: u32,

@@ -23,7 +23,7 @@ impl Model for Grid {
     ghost invariant = { λ g. IsHeld g.height g.width g.block.items };
 }
 
-// Where row `i` of a block of rows has column `k`.
+// The place in the block of the entry of row `i` in column `k`.
 fn spot(block: &[Frac], height: usize, width: usize, i: usize, k: usize) -> usize
     requires block { IsBlock height width block.now }
     requires row { i < height }
@@ -35,6 +35,7 @@ fn spot(block: &[Frac], height: usize, width: usize, i: usize, k: usize) -> usiz
 }
 
 impl Grid {
+    // The rows of a block, which holds them one after the other.
     pub(crate) fn from_block(height: usize, width: usize, block: Vec<Frac>) -> Grid
         requires { IsBlock height width block.items }
         ensures { result ≡ rows_of width height block.items }
@@ -47,7 +48,7 @@ impl Grid {
         }
     }
 
-    // What stands in row `i` at column `k`.
+    // The entry of row `i` in column `k`.
     pub(crate) fn at(&self, i: usize, k: usize) -> Frac
         requires row { i < length self.now }
         requires column { k < length (get_or self.now i []) }
@@ -56,6 +57,7 @@ impl Grid {
         self.block[spot(&self.block, self.height, self.width, i, k)]
     }
 
+    // Replaces the entry of row `i` in column `k`.
     pub(crate) fn set(&mut self, i: usize, k: usize, value: Frac)
         requires row { i < length self.old }
         requires column { k < length (get_or self.old i []) }
@@ -66,7 +68,7 @@ impl Grid {
         self.block[place] = value;
     }
 
-    // That all fractions are within the limit. It does nothing.
+    // States that all fractions are within the limit, and changes nothing.
     pub(crate) fn narrow(&self)
         ensures { IsNarrowGrid self.now }
     {

@@ -6,8 +6,8 @@
 //! | `start` | the parts of that tableau that need no rows, by columns and by rows of the form | src/start, src/row_starts |
 //! | `start_from` | the tableau of a basis | src/basis |
 //! | `Tableau::pivot`, `flip`, `phase_two` | the changes, each exact or refused as `spec_simplex` has it | src/pivot, src/moves, src/price |
-//! | `Tableau::wants_phase_one`, `is_stuck` | what the phases ask: a basic artificial, and one that is not 0 | src/phases |
-//! | `or_zero`, `stand`, `directed`, `flip_way`, `other_bound`, `is_place` | where columns stand, and what moves in a flip | src/steps, src/moves |
+//! | `Tableau::wants_phase_one`, `is_stuck` | whether an artificial is basic, and whether a basic one is not 0 | src/phases |
+//! | `or_zero`, `stand`, `directed`, `flip_way`, `other_bound`, `is_place` | the values of nonbasic columns, and which way a column goes in a flip | src/steps, src/moves |
 //! | `PrimalEnd`, `RunStop` | how a run of steps ends, and why it does not | src/ends |
 //! | `ColdStop` | why a form has no start | src/ends |
 //!

@@ -37,7 +37,7 @@ pub fn flip_way(status: Status) -> bool
     }
 }
 
-/// Whether position `i` is the one that is named, if one is.
+/// Whether position `i` is the position `but`, if there is one.
 pub fn is_place(but: Option<u32>, i: u32) -> bool
     ensures { result ≡ is_place_of but i }
 {
@@ -48,6 +48,7 @@ pub fn is_place(but: Option<u32>, i: u32) -> bool
 }
 
 impl Tableau {
+    // Replaces the value of a column.
     pub(crate) fn set_value(&mut self, col: u32, value: Frac)
         requires { col < all_columns self.old }
         ensures { self.new ≡ record self.old { value = slice_set self.old.value col value } }
@@ -55,7 +56,7 @@ impl Tableau {
         self.value[col as usize] = value;
     }
 
-    // The column at position `i` moves with column `col`.
+    // Moves the basic column of position `i` as column `col` moves by `theta`.
     fn move_at(&mut self, col: u32, theta: Frac, i: u32) -> Result<(), Past>
         requires col_in_range { col < all_columns self.old }
         requires place_in_range { i < self.old.rows }
@@ -75,7 +76,7 @@ impl Tableau {
         Ok(())
     }
 
-    // All basic columns move with column `col`, but for the one at a position, if one is named.
+    // Moves all basic columns as column `col` moves by `theta`, but for the one at position `but`, if there is one.
     pub(crate) fn move_values(
         &mut self,
         col: u32,
@@ -94,7 +95,7 @@ impl Tableau {
         Ok(())
     }
 
-    // Column `col` is at the bound `to`.
+    // Puts column `col` at the bound `to`, with its value.
     pub(crate) fn put_at(&mut self, col: u32, to: Status)
         requires { col < all_columns self.old }
         ensures { self.new ≡ flipped self.old col to self.old.value }

@@ -1,4 +1,4 @@
-// What the phases ask of a tableau.
+// Whether phase one is wanted, and whether it has driven all artificials to 0.
 ghost use Rattle.std.specs.Prelude.{◌≡◌, not, ◌&&◌};
 ghost use Rattle.spec_exact.specs.Fraction.{0ℚ, eq_ℚ};
 ghost use Rattle.spec_simplex.specs.Tableau as tableaus;
@@ -8,13 +8,14 @@ use crate::tableau::Tableau;
 use lp_frac::{Frac, are_same, zero};
 
 impl Tableau {
+    // Whether column `k` is an artificial.
     fn is_artificial(&self, k: u32) -> bool
         ensures { result ≡ tableaus.is_artificial self.now k }
     {
         self.cols() + self.rows() <= k
     }
 
-    // The column's value, 0 where none stands.
+    // The value of column `k`, and 0 where there is no such column.
     fn value_or_zero(&self, k: u32) -> Frac
         ensures { result ≡ tableaus.value_at self.now k }
     {
@@ -24,6 +25,7 @@ impl Tableau {
         }
     }
 
+    // Whether column `k` has the value 0.
     fn is_at_zero(&self, k: u32) -> bool
         ensures { result ≡ eq_ℚ (tableaus.value_at self.now k) 0ℚ }
     {

@@ -1,4 +1,4 @@
-// Pivots.
+// Pivots, part by part: the values, the rows, the reduced costs and the basis.
 ghost use Rattle.std.specs.Prelude.{◌≡◌, ◌≢◌, ◌<◌, Some, length, slice_set};
 ghost use Rattle.spec_exact.specs.Fraction.{0ℚ};
 ghost use Rattle.spec_exact.specs.Narrow.{number_limit};
@@ -13,7 +13,7 @@ use crate::twins::Twins;
 use lp_form::Status;
 use lp_frac::{Frac, Past, add, is_zero, less_product, within};
 
-// The reduced costs less row `p`, as often as makes that of column `j` 0.
+// Takes the multiple of row `p` off the reduced costs with which that of column `j` becomes 0.
 fn reprice(reduced: &mut [Frac], grid: &Twins, height: u32, p: u32, j: u32) -> Result<(), Past>
     requires shape { IsGrid height (length reduced.old) grid.now }
     requires place { p < height }
@@ -36,7 +36,7 @@ fn reprice(reduced: &mut [Frac], grid: &Twins, height: u32, p: u32, j: u32) -> R
 }
 
 impl Tableau {
-    // Column `col`, which is not basic, moves by `theta`.
+    // Moves the value of column `col`, which is nonbasic, by `theta`.
     #[tactic(auto, unfolding(spec_simplex::specs::Step::shifted_run))]
     fn shift(&mut self, col: u32, theta: Frac) -> Result<(), Past>
         requires { col < all_columns self.old }
@@ -48,6 +48,7 @@ impl Tableau {
         Ok(())
     }
 
+    // Turns the rows so that column `col` has 1 at the position and 0 at the others.
     fn turn_rows(&mut self, place: u32, col: u32) -> Result<(), Past>
         requires place { place < self.old.rows }
         requires column { col < all_columns self.old }
@@ -60,6 +61,7 @@ impl Tableau {
         self.grid.turn(rows, width, place, col)
     }
 
+    // Updates the reduced costs so that that of column `col` becomes 0.
     fn reprice(&mut self, place: u32, col: u32) -> Result<(), Past>
         requires place { place < self.old.rows }
         requires column { col < all_columns self.old }
@@ -71,7 +73,7 @@ impl Tableau {
         reprice(&mut self.reduced, &self.grid, rows, place, col)
     }
 
-    // Column `col` takes a position.
+    // Makes column `col` basic at a position.
     fn make_basic(&mut self, place: u32, col: u32)
         requires place { place < self.old.rows }
         requires column { col < all_columns self.old }
@@ -84,7 +86,7 @@ impl Tableau {
         self.status[col as usize] = Status::Basic;
     }
 
-    // The column at a position goes to the bound `to`, and column `col` takes the position. An
+    // Puts the column at a position at the bound `to`, and makes column `col` basic there. An
     // artificial that leaves is at 0 for good.
     fn exchange(&mut self, place: u32, col: u32, to: Status)
         requires place { place < self.old.rows }

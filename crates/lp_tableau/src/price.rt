@@ -11,7 +11,7 @@ use crate::tableau::Tableau;
 use lp_form::Form;
 use lp_frac::{Frac, Past, is_zero, less_product, within, zero};
 
-// The cost of column `k`, 0 where none stands.
+// The cost of column `k`, and 0 where the list of costs is shorter.
 fn cost_at(costs: &[Frac], k: u32) -> Frac
     ensures { result ≡ cost_of costs.now k }
 {
@@ -41,6 +41,7 @@ impl Tableau {
         Ok(rest)
     }
 
+    // Replaces the reduced cost of a column.
     fn set_reduced(&mut self, k: u32, cost: Frac)
         requires { k < all_columns self.old }
         ensures { self.new ≡ record self.old { reduced = slice_set self.old.reduced k cost } }
@@ -48,7 +49,7 @@ impl Tableau {
         self.reduced[k as usize] = cost;
     }
 
-    // The reduced costs of all columns for these costs.
+    // Sets the reduced costs of all columns for these costs.
     pub(crate) fn price(&mut self, costs: &[Frac]) -> Result<(), Past>
         ensures priced { GivesRun (priced_run (Some number_limit) self.old costs.now) self.new.reduced result }
         ensures rest { self.new ≡ record self.old { reduced = self.new.reduced } }
@@ -60,7 +61,7 @@ impl Tableau {
         Ok(())
     }
 
-    // Column `k` has the bounds 0 and 0.
+    // Fixes column `k` at 0: both its bounds become 0.
     pub(crate) fn fix(&mut self, k: u32)
         requires { k < all_columns self.old }
         ensures { self.new ≡ record self.old {
@@ -72,7 +73,7 @@ impl Tableau {
         self.upper[k as usize] = Some(zero());
     }
 
-    // All artificials have the bounds 0 and 0.
+    // Fixes all artificials at 0.
     fn fix_artificials(&mut self)
         ensures { self.new ≡ without_artificials self.old }
     {

@@ -18,6 +18,7 @@ use std::cmp::Ordering;
 /// How a row begins.
 pub type RowStart = spec_simplex::RowStart<Frac>;
 
+// The status of structural column `j` at the start: at its lower bound, else at its upper one, else at 0.
 pub(crate) fn first_status(form: &Form, j: u32) -> Status
     requires { j < form.now.cols }
     ensures { result ≡ starting.first_status (form_lower form.now j) (form_upper form.now j) }
@@ -29,7 +30,7 @@ pub(crate) fn first_status(form: &Form, j: u32) -> Status
     }
 }
 
-// Where structural column `j` begins.
+// The value of structural column `j` at the start.
 pub(crate) fn first_value(form: &Form, j: u32) -> Frac
     requires { j < form.now.cols }
     ensures { result ≡ starting.first_value form.now j }
@@ -37,7 +38,7 @@ pub(crate) fn first_value(form: &Form, j: u32) -> Frac
     stand(first_status(form, j), form.lower(j), form.upper(j))
 }
 
-// The sum of row `i` there.
+// The sum of row `i` at the start's values of the structural columns.
 fn row_sum(form: &Form, coefficients: &Grid, i: u32) -> Result<Frac, Past>
     requires held { HoldsColumns form.now form.now.cols coefficients.now }
     requires row { i < form.now.rows }
@@ -77,6 +78,7 @@ fn within_or_above(upper: Option<Frac>, v: Frac) -> Result<RowStart, Past>
     }
 }
 
+// How row `i` begins: within its limits, or outside them by a gap.
 fn row_start(form: &Form, coefficients: &Grid, i: u32) -> Result<RowStart, Past>
     requires held { HoldsColumns form.now form.now.cols coefficients.now }
     requires row { i < form.now.rows }
@@ -90,6 +92,7 @@ fn row_start(form: &Form, coefficients: &Grid, i: u32) -> Result<RowStart, Past>
     }
 }
 
+// Adds a row's start to the list.
 fn push_start(starts: &mut Vec<RowStart>, start: RowStart) -> Result<(), AllocError>
     ensures { OnOk result (starts.new.items ≡ starts.old.items ++ start ∷ []) }
 {

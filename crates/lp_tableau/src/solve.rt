@@ -13,6 +13,7 @@ use crate::twins::Twins;
 use lp_form::{Basis, BasisStop, Form, Singular, is_basic};
 use lp_frac::{Frac, Stop, are_same, zero};
 
+// Whether a position has no column yet.
 fn has_none(column: Option<u32>) -> bool
     ensures { result ≡ elimination.has_none column }
 {
@@ -22,6 +23,7 @@ fn has_none(column: Option<u32>) -> bool
     }
 }
 
+// Whether the fraction is 0.
 fn is_zero(v: Frac) -> bool
     ensures { result ≡ eq_ℚ v 0ℚ }
 {
@@ -39,7 +41,7 @@ fn is_open(grid: &Twins, basic: &[Option<u32>], form: &Form, j: u32, i: u32) -> 
     has_none(basic[i as usize]) && !is_zero(grid.at(i as usize, j as usize))
 }
 
-// The least such position.
+// The least position that has no column yet and whose entry in column `j` is not 0.
 fn open(grid: &Twins, basic: &[Option<u32>], form: &Form, j: u32) -> Option<u32>
     requires shape { IsGrid form.now.rows (form.now.cols + form.now.rows + form.now.rows) grid.now }
     requires places { length basic.now ≡ form.now.rows }
@@ -55,7 +57,7 @@ fn open(grid: &Twins, basic: &[Option<u32>], form: &Form, j: u32) -> Option<u32>
     None
 }
 
-// Column `j` takes the least open position.
+// Makes column `j` basic at the least open position, and turns the rows so. Without one the basis is singular.
 fn solve(grid: &mut Twins, basic: &mut [Option<u32>], form: &Form, j: u32) -> Result<(), BasisStop>
     requires shape { IsGrid form.now.rows (form.now.cols + form.now.rows + form.now.rows) grid.old }
     requires places { length basic.old ≡ form.now.rows }
@@ -83,7 +85,7 @@ fn is_basic_at(basis: &Basis, j: u32) -> bool
     is_basic(basis.at(j as usize))
 }
 
-// Each basic column takes a position, in order.
+// Solves the rows for each basic column of the basis, in order.
 pub(crate) fn eliminate(
     grid: &mut Twins,
     basic: &mut [Option<u32>],

@@ -37,7 +37,7 @@ macro_rules! by_column {
     }};
 }
 
-// The list of what stands for each `i` of a range.
+// The list of an item for each `i` of a range.
 macro_rules! listed {
     ($alloc:expr, $i:ident in $range:expr => $item:expr) => {{
         let mut list = Vec::new($alloc);
@@ -48,6 +48,7 @@ macro_rules! listed {
     }};
 }
 
+// The value of a row's logical at the start: the row's sum, or the limit that the sum misses.
 fn logical_value(start: RowStart, lower: Option<Frac>, upper: Option<Frac>) -> Frac
     ensures { result ≡ starting.logical_value start lower upper }
 {
@@ -58,6 +59,7 @@ fn logical_value(start: RowStart, lower: Option<Frac>, upper: Option<Frac>) -> F
     }
 }
 
+// The status of a row's logical at the start: basic, or at the limit that the sum misses.
 fn logical_status(start: RowStart) -> Status
     ensures { result ≡ starting.logical_status start }
 {
@@ -68,6 +70,7 @@ fn logical_status(start: RowStart) -> Status
     }
 }
 
+// The status of a row's artificial at the start: basic where the row's sum misses a limit.
 fn artificial_status(start: RowStart) -> Status
     ensures { result ≡ starting.artificial_status start }
 {
@@ -77,6 +80,7 @@ fn artificial_status(start: RowStart) -> Status
     }
 }
 
+// The value of a row's artificial at the start: by how much the row's sum misses a limit.
 fn artificial_value(start: RowStart) -> Frac
     ensures { result ≡ starting.artificial_value start }
 {
@@ -86,6 +90,7 @@ fn artificial_value(start: RowStart) -> Frac
     }
 }
 
+// The upper bound of a row's artificial: none where the row's sum misses a limit, else 0.
 fn artificial_upper(start: RowStart) -> Option<Frac>
     ensures { result ≡ starting.artificial_upper start }
 {
@@ -95,6 +100,7 @@ fn artificial_upper(start: RowStart) -> Option<Frac>
     }
 }
 
+// The cost of a row's artificial in phase one: 1 where the row's sum misses a limit, else 0.
 fn artificial_cost(start: RowStart) -> Frac
     ensures { result ≡ starting.first_cost start }
 {
@@ -104,6 +110,7 @@ fn artificial_cost(start: RowStart) -> Frac
     }
 }
 
+// The entry of a row's logical in the row at the start: 1 or -1.
 fn logical_sign(start: RowStart) -> Frac
     ensures { result ≡ starting.logical_sign start }
 {
@@ -113,6 +120,7 @@ fn logical_sign(start: RowStart) -> Frac
     }
 }
 
+// The entry of a structural column in a row at the start: its coefficient, with the row's sign.
 fn structural_entry(start: RowStart, coefficient: Frac) -> Frac
     ensures { result ≡ starting.structural_entry start coefficient }
 {
@@ -122,13 +130,14 @@ fn structural_entry(start: RowStart, coefficient: Frac) -> Frac
     }
 }
 
+// The value where the row is the column's own, and 0 in the other rows.
 fn one_at(i: u32, r: u32, v: Frac) -> Frac
     ensures { result ≡ starting.one_at i r v }
 {
     if i == r { v } else { zero() }
 }
 
-// What stands in row `i` at column `k`.
+// The entry of row `i` in column `k` at the start.
 fn entry(form: &Form, coefficients: &Grid, starts: &[RowStart], i: u32, k: u32) -> Frac
     requires held { HoldsColumns form.now form.now.cols coefficients.now }
     requires row { i < form.now.rows }
@@ -146,6 +155,7 @@ fn entry(form: &Form, coefficients: &Grid, starts: &[RowStart], i: u32, k: u32) 
     )
 }
 
+// The basic column of row `i` at the start: its logical, or its artificial.
 fn basic(form: &Form, starts: &[RowStart], i: u32) -> u32
     requires row { i < form.now.rows }
     requires starts { length starts.now ≡ form.now.rows }
@@ -158,6 +168,7 @@ fn basic(form: &Form, starts: &[RowStart], i: u32) -> u32
     }
 }
 
+// The value of column `k` at the start.
 fn value(form: &Form, starts: &[RowStart], k: u32) -> Frac
     requires column { k < form.now.cols + form.now.rows + form.now.rows }
     requires starts { length starts.now ≡ form.now.rows }
@@ -172,6 +183,7 @@ fn value(form: &Form, starts: &[RowStart], k: u32) -> Frac
     )
 }
 
+// The status of column `k` at the start.
 fn status(form: &Form, starts: &[RowStart], k: u32) -> Status
     requires column { k < form.now.cols + form.now.rows + form.now.rows }
     requires starts { length starts.now ≡ form.now.rows }
@@ -194,6 +206,7 @@ fn front(form: &Form) -> u32
     form.cols() + form.rows()
 }
 
+// How many columns a tableau of the form has, with the artificial ones.
 pub(crate) fn width(form: &Form) -> u32
     ensures value { result ≡ form.now.cols + form.now.rows + form.now.rows }
     ensures bound { result ≤ 1024 }
@@ -201,6 +214,7 @@ pub(crate) fn width(form: &Form) -> u32
     form.cols() + 2 * form.rows()
 }
 
+// Adds row `i` of the start to the block, without its artificial columns.
 fn push_row(
     block: &mut Vec<Frac>,
     form: &Form,
@@ -219,6 +233,7 @@ fn push_row(
     Ok(())
 }
 
+// The rows of the start without artificial columns, one after the other.
 fn block(
     alloc: Global,
     form: &Form,
@@ -236,6 +251,7 @@ fn block(
     Ok(block)
 }
 
+// Whether the row's artificial is the negative of its logical.
 fn is_negative(start: RowStart) -> bool
     ensures { result ≡ is_below start }
 {
@@ -245,14 +261,14 @@ fn is_negative(start: RowStart) -> bool
     }
 }
 
-// Whether the artificials are the negatives of the logicals.
+// For each row, whether its artificial is the negative of its logical.
 fn turns(alloc: Global, starts: &[RowStart]) -> Result<Vec<bool>, AllocError>
     ensures { IfOk result (λ v. v.items ≡ map is_below starts.now) }
 {
     listed!(alloc, start in starts => is_negative(*start))
 }
 
-// The rows of the tableau.
+// The rows of the start, in which an artificial is kept as the twin of its logical.
 pub(crate) fn rows(
     alloc: Global,
     form: &Form,
@@ -270,7 +286,7 @@ pub(crate) fn rows(
     Ok(Twins::from_grid(first, others, grid, turned))
 }
 
-/// The basic column of each position.
+/// The basic column of each position at the start.
 pub fn basics(alloc: Global, form: &Form, starts: &[RowStart]) -> Result<Vec<u32>, AllocError>
     requires { length starts.now ≡ form.now.rows }
     ensures { IfOk result (λ v. v.items ≡ made form.now.rows (starting.start_basic form.now starts.now)) }
@@ -278,7 +294,7 @@ pub fn basics(alloc: Global, form: &Form, starts: &[RowStart]) -> Result<Vec<u32
     listed!(alloc, i in 0..form.rows() => basic(form, starts, i))
 }
 
-/// The value of each column.
+/// The value of each column at the start.
 pub fn values(alloc: Global, form: &Form, starts: &[RowStart]) -> Result<Vec<Frac>, AllocError>
     requires { length starts.now ≡ form.now.rows }
     ensures { IfOk result (λ v.
@@ -287,7 +303,7 @@ pub fn values(alloc: Global, form: &Form, starts: &[RowStart]) -> Result<Vec<Fra
     listed!(alloc, k in 0..width(form) => value(form, starts, k))
 }
 
-/// The status of each column.
+/// The status of each column at the start.
 pub fn statuses(alloc: Global, form: &Form, starts: &[RowStart]) -> Result<Vec<Status>, AllocError>
     requires { length starts.now ≡ form.now.rows }
     ensures { IfOk result (λ v.
@@ -296,7 +312,7 @@ pub fn statuses(alloc: Global, form: &Form, starts: &[RowStart]) -> Result<Vec<S
     listed!(alloc, k in 0..width(form) => status(form, starts, k))
 }
 
-// The bounds, and 0 for each artificial.
+// The bounds of the form's columns, and 0 for each artificial.
 pub(crate) fn with_artificials(
     alloc: Global,
     bounds: &[Option<Frac>],
@@ -309,14 +325,14 @@ pub(crate) fn with_artificials(
     Ok(all)
 }
 
-/// The lower bound of each column.
+/// The lower bound of each column, 0 for the artificials.
 pub fn lowers(alloc: Global, form: &Form) -> Result<Vec<Option<Frac>>, AllocError>
     ensures { IfOk result (λ v. v.items ≡ form.now.lower ++ replicate form.now.rows (Some 0ℚ)) }
 {
     with_artificials(alloc, form.lowers(), form.rows())
 }
 
-/// The upper bound of each column.
+/// The upper bound of each column. An artificial has 0, or none where its row's sum misses a limit.
 pub fn uppers(
     alloc: Global,
     form: &Form,
@@ -331,6 +347,7 @@ pub fn uppers(
     Ok(uppers)
 }
 
+// A list of zeros.
 pub(crate) fn zeros(alloc: Global, n: usize) -> Result<Vec<Frac>, AllocError>
     ensures { IfOk result (λ v. v.items ≡ replicate n 0ℚ) }
 {

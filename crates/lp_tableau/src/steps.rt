@@ -1,4 +1,4 @@
-// Where a column stands.
+// The values of nonbasic columns.
 ghost use Rattle.std.specs.Prelude.{◌≡◌};
 ghost use Rattle.spec_simplex.specs.Tableau.{or_zero as or_zero_of, stand as stand_of};
 
@@ -15,7 +15,7 @@ pub fn or_zero(bound: Option<Frac>) -> Frac
     }
 }
 
-/// Where a column of this status stands, between these bounds.
+/// The value of a nonbasic column of this status with these bounds, and 0 for a basic one.
 pub fn stand(status: Status, lower: Option<Frac>, upper: Option<Frac>) -> Frac
     ensures { result ≡ stand_of status lower upper }
 {

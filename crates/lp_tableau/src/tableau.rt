@@ -72,6 +72,7 @@ impl Drop for Tableau {
 }
 
 impl Tableau {
+    // The tableau of these parts.
     pub(crate) fn from_parts(
         rows: u32,
         cols: u32,
@@ -121,7 +122,7 @@ impl Tableau {
         self.cols + 2 * self.rows
     }
 
-    /// What stands in the row of a position at column `col`.
+    /// The entry of a position's row in column `col`.
     pub fn entry(&self, place: u32, col: u32) -> Frac
         requires place_in_range { place < self.now.rows }
         requires col_in_range { col < all_columns self.now }
@@ -139,6 +140,7 @@ impl Tableau {
         self.basic[place as usize]
     }
 
+    /// The value of a column.
     pub fn value(&self, col: u32) -> Frac
         requires { col < all_columns self.now }
         ensures { result ≡ value_at self.now col }
@@ -146,7 +148,7 @@ impl Tableau {
         self.value[col as usize]
     }
 
-    /// The reduced cost.
+    /// The reduced cost of a column.
     pub fn reduced(&self, col: u32) -> Frac
         requires { col < all_columns self.now }
         ensures { result ≡ reduced_at self.now col }
@@ -154,6 +156,7 @@ impl Tableau {
         self.reduced[col as usize]
     }
 
+    /// The status of a column.
     pub fn status(&self, col: u32) -> Status
         requires { col < all_columns self.now }
         ensures { result ≡ status_at self.now col }
@@ -161,6 +164,7 @@ impl Tableau {
         self.status[col as usize]
     }
 
+    /// The lower bound of a column, if it has one.
     pub fn lower(&self, col: u32) -> Option<Frac>
         requires { col < all_columns self.now }
         ensures { result ≡ lower_at self.now col }
@@ -168,6 +172,7 @@ impl Tableau {
         self.lower[col as usize]
     }
 
+    /// The upper bound of a column, if it has one.
     pub fn upper(&self, col: u32) -> Option<Frac>
         requires { col < all_columns self.now }
         ensures { result ≡ upper_at self.now col }

@@ -36,6 +36,7 @@ impl Model for Twins {
 }
 
 impl Twins {
+    // Rows in which each column from `first` on gets a twin: itself, or its negative where it is turned.
     pub(crate) fn from_grid(first: u32, others: u32, grid: Grid, turned: Vec<bool>) -> Twins
         requires { IsTwinned first others turned.items grid }
         ensures { result ≡ twinned first turned.items grid }
@@ -48,7 +49,7 @@ impl Twins {
         }
     }
 
-    // What stands in row `i` at column `k`.
+    // The entry of row `i` in column `k`, which may be a twin.
     pub(crate) fn at(&self, i: usize, k: usize) -> Frac
         requires row { i < length self.now }
         requires column { k < length (get_or self.now i []) }
@@ -57,7 +58,7 @@ impl Twins {
         item(&self.grid, self.first, self.others, &self.turned, i, k)
     }
 
-    // All rows, so that column `j` has 1 in row `p` and 0 in the others.
+    // Turns all rows so that column `j` has 1 in row `p` and 0 in the others.
     pub(crate) fn turn(&mut self, height: u32, width: u32, p: u32, j: u32) -> Result<(), Past>
         requires shape { IsGrid height width self.old }
         requires place { p < height }
