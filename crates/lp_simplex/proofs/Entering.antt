@@ -1,4 +1,7 @@
--- The column that enters.
+-- The column that enters in the primal method: one that may, and so a nonbasic one.
+--
+-- `may_enter`: the entering column is one of the tableau's, and may enter in the direction that is named.
+-- `not_basic`: a column that may rise or fall as it enters is not basic.
 use Rattle.std.proofs.Common.{◌≡◌, ◌≢◌, ℕ, zero, suc, ◌<◌, Option, Some, None}
 use Rattle.std.proofs.Common.{Bool, true, false, cond, refl, subst, ◌∙◌, arith}
 use Rattle.spec_exact.specs.Fraction.{ℚ}

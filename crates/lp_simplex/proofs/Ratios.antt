@@ -1,5 +1,11 @@
 -- What is known of the best of the ratio test: a position that stops the column has an entry there, and the move takes
 -- its column to a bound; where the column stops itself, it has both bounds.
+--
+-- `quotient_ok`: where v / w is not refused and w is not 0, the quotient times w is v.
+-- `directed_zero`: 0 stays 0, whichever way the entering column moves.
+-- `abs_not_zero`: the magnitude of a number other than 0 is not 0.
+-- `gap_is`: where a position has a gap, its entry is not 0, and the move by the ratio takes its column to a bound.
+-- `divides`: where a position has a gap, the magnitude of its entry is not 0.
 use Rattle.std.proofs.Common.{◌≡◌, ◌≢◌, ℕ, zero, suc, ◌<◌, ◌≤◌, Option, Some, None}
 use Rattle.std.proofs.Common.{Ok, Err, Bool, true, false, cond, int_lt, pos, nat_lt, Ordering}
 use Rattle.std.proofs.Common.{Less, Equal, Greater, refl, sym, subst, ap, ◌∙◌, arith}

@@ -1,4 +1,7 @@
 -- After a dual pivot each basic column still has a position; and such a pivot may be made.
+--
+-- `can_pivot`: a dual pivot whose gap and step are not refused may be made.
+-- `pivot_seated`: after a dual pivot each basic column still has a position.
 use Rattle.std.proofs.Common.{◌≡◌, ◌≢◌, ℕ, ◌<◌, List, get_or, Option, Some, Ok, sym, ap, ◌∙◌, subst, ⊎_elim, arith}
 use Rattle.std.proofs.lemmas.Bool.{cases_eq}
 use Rattle.std.proofs.lemmas.List.{get_or-set_same, get_or-set_other, length-set}

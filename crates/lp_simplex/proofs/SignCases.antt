@@ -1,4 +1,9 @@
--- What is done by the sign of a fraction.
+-- Choices by the sign of a fraction: the gap of a position, and which way a column enters.
+--
+-- `by_sign`: a choice by the sign of v is the choice by whether v is below 0, or above it.
+-- `gap_by`: the gap by the sign of the entry, turned as the column moves, is the gap of the ratio test.
+-- `still`: a column of reduced cost 0 enters in neither direction.
+-- `way_is`: the direction by the status and the sign of the reduced cost is the one in which the column may enter.
 use Rattle.std.proofs.Common.{◌≡◌, ℕ, Ordering, Less, Equal, Greater, Option, Some}
 use Rattle.std.proofs.Common.{None, Ok, Bool, true, false, cond, refl, ap, ap₂, ◌∙◌}
 use Rattle.std.specs.Ordering.{is_lt, is_gt}

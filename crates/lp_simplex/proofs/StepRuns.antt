@@ -1,4 +1,7 @@
--- Runs of steps: that they make a choice first, and how many steps are made.
+-- Runs of primal steps: that they make a choice first, and how many steps are made.
+--
+-- `spent_at`: where a step is chosen that is no end and no budget is left, the run stops as spent.
+-- `sets_out`: a run is under way at its first tableau, with no step made.
 use Rattle.std.proofs.Common.{◌≡◌, ℕ, suc, ◌+◌, ◌-◌, ◌<◌, ◌≤◌, Some, Option, Result, Ok, Err, refl, ap, ◌∙◌, arith}
 use Rattle.spec_exact.specs.Fraction.{ℚ}
 use Rattle.spec_exact.specs.declared.past.Past.{Past}
