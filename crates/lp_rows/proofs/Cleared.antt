@@ -1,4 +1,12 @@
--- What is left of a row without as much of another one as an entry says, from what each call gives.
+-- A row less another one, as often as an entry says, from the numbers that each call gives.
+--
+-- `fraction-at`: inside the list, the fraction of column k on d is its whole number over d.
+-- `whole-times`: where b * g is s, the number of magnitude s is the number of magnitude b, with that sign, times g.
+-- `below_gives`: a number that was made of n, which is within the width, has the value n.
+-- `over_neg`: the negative of t over a positive denominator is the negative of the fraction.
+-- `cleared`: where each number is a times the old one less b times the other row's, the row is cleared by its entry.
+-- `written`: a list that was lent whole and written back is the list that was written.
+-- `cleared_written`: what `cleared` says, of rows that were lent whole and written back.
 use Rattle.std.proofs.Common.{◌≡◌, ℕ, zero, suc, ◌*◌, ◌<◌, ℤ, pos, negsuc, neg_ℤ, ◌*ℤ◌, ◌-ℤ◌, List, [], ◌∷◌, ◌++◌}
 use Rattle.std.proofs.Common.{length, Bool, true, false, refl, sym, ap, ap₂, ◌∙◌, subst, subst₂, arith, Some}
 use Rattle.std.proofs.Common.{option_map}

@@ -1,4 +1,15 @@
--- Fractions as whole numbers on a denominator.
+-- Fractions as whole numbers on a denominator, and the rows that are made of them.
+--
+-- `whole_gives`: a whole number that was converted, if it is within the width, has the value that it was made of.
+-- `number_gives`: a natural number that was converted, if it is within the width, has the value that it was made of.
+-- `if_some`: where P implies Q, what is there of which P holds has Q.
+-- `on_denominator`: the numerator of f times q, over q times the denominator of f, is f.
+-- `fractions_map`: the fractions of a list of numbers on d are each number over d.
+-- `row_with`: the numbers of a list of fractions, with a last one behind, are the row of that list and that last
+--   value.
+-- `row_at-before`: a row that is pushed leaves the fractions of the rows before as they were.
+-- `row_at-seam`: the fractions of a row that is pushed are found in the last row.
+-- `rows_more`: the rows of the first i positions, with that of position i pushed, are those of the first i + 1.
 use Rattle.std.proofs.Common.{◌≡◌, ℕ, zero, suc, ◌+◌, ◌*◌, ◌<◌, ℤ, pos, ◌*ℤ◌, List, [], ◌∷◌, ◌++◌, length, map}
 use Rattle.std.proofs.Common.{get_or, Option, Some, None, option_map, refl, sym, ap, ap₂, subst, ◌∙◌, arith}
 use Rattle.std.specs.Prelude.{IfSome}

@@ -1,4 +1,9 @@
--- The order of two ratios, crosswise.
+-- The order of two ratios by crosswise products, without a division.
+--
+-- `ratios`: g / (d * e) is to h / (d * f) as g * f is to h * e.
+-- `chosen`: the better of two ratios by exact comparison is the better by the order of their crosswise products.
+-- `lesser`: where x is below y, the test says so.
+-- `not_lesser`: where y is at most x, the test of x below y fails.
 use Rattle.std.proofs.Common.{◌≡◌, ℕ, ◌*◌, ◌<◌, ◌≤◌, nat_lt, true, false, arith, ℤ, pos, ◌*ℤ◌, int_cmp, [], ◌∷◌}
 use Rattle.std.proofs.Common.{refl, sym, ap, ap₂, ◌∙◌, Ordering, Option, Some, None, Ok}
 use Rattle.std.proofs.Math.Nat.{mul-pos}

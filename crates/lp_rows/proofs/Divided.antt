@@ -1,4 +1,11 @@
--- A row over one of its entries, and a row without a divisor, from what each call gives.
+-- A row over one of its entries, and a row without a common divisor, from the numbers that each call gives.
+--
+-- `turned-whole`: a number whose sign is turned where asked for is the number, or its negative.
+-- `by_inverse`: where z is the inverse of y, a product with z is one with the inverse of y.
+-- `divided`: where each number takes the entry's sign, over the entry's magnitude, the row is divided by its entry.
+-- `without`: where each number times g is the old one, and so is the denominator, the fractions are as they were.
+-- `narrow_fraction`: the fraction of both parts over a common divisor, if it is within 127 bits, is that of the
+--   parts.
 use Rattle.std.proofs.Common.{◌≡◌, ◌≢◌, ℕ, ◌*◌, ◌<◌, ℤ, pos, ◌*ℤ◌, List, [], ◌∷◌, ◌++◌, length, Bool, true, false}
 use Rattle.std.proofs.Common.{not, refl, sym, ap, ap₂, ◌∙◌, subst, arith, unsigned_abs, Option}
 use Rattle.std.specs.Prelude.{IfSome}

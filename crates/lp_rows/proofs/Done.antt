@@ -1,4 +1,8 @@
--- A row of which the first numbers are done.
+-- A row of which the first k numbers are done, and the others as they were.
+--
+-- `one_done`: where number k becomes f k, the first k + 1 numbers are those of f.
+-- `one_kept`: where number k is f k already, the first k + 1 numbers are those of f.
+-- `one_so`: where number k becomes one of which P holds, P holds of the first k + 1 numbers.
 use Rattle.std.proofs.Common.{◌≡◌, ◌≢◌, ℕ, zero, suc, ◌+◌, ◌<◌, ◌≤◌, ℤ, List, [], ◌∷◌, length, get_or, refl, sym, ap}
 use Rattle.std.proofs.Common.{subst, ◌∙◌, arith, ⊎_elim}
 use Rattle.std.proofs.Math.ListN.{set}

@@ -1,4 +1,8 @@
--- The column that enters, from a row of reduced costs.
+-- The column that enters, by a row of reduced costs.
+--
+-- `none_more`: where no column below k may enter, and k may not, none below k + 1 may.
+-- `none_behind`: where no column below n may enter, and none of the d behind, none below n + d may.
+-- `way_there`: the direction by the sign of a column's number, its status and whether it is fixed is the tableau's.
 use Rattle.std.proofs.Common.{◌≡◌, ℕ, zero, suc, ◌+◌, ◌<◌, ◌≤◌, Option, Some, None, List, length, get_or, pos}
 use Rattle.std.proofs.Common.{int_cmp}
 use Rattle.std.proofs.Common.{Bool, true, false, cond, refl, sym, ap, ap₂, ◌∙◌, arith, Ordering, Less, Equal}

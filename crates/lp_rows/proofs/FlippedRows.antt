@@ -1,4 +1,7 @@
--- Rows after a flip show the tableau after it.
+-- Rows after a flip show the tableau after the flip.
+--
+-- `along`: v + r * -(s * a) is v - a * (s * r).
+-- `less_on`: (n - a * k) * c is n * c - a * (k * c).
 use Rattle.std.proofs.Common.{◌≡◌, ◌≢◌, ℕ, ◌<◌, ◌≤◌, List, length, get_or, None, false, cond, nat_eq}
 use Rattle.std.proofs.Common.{refl, sym, ap, ap₂, ◌∙◌, arith, pos, ne_eqb}
 use Rattle.std.proofs.lemmas.List.{length-set, ext_get_or}

@@ -1,4 +1,13 @@
--- A gap as a fraction.
+-- The gap between a basic value and the bound toward which it moves, as a fraction.
+--
+-- `together`: on one denominator, the difference of two fractions is that of their numerators.
+-- `wider`: a fraction is as it was where both its parts are multiplied by a number above 0.
+-- `difference_is`: without a limit, the difference of two fractions is not refused, and exact.
+-- `rises`: the gap of whole numbers up to the upper bound is the gap of the ratio test for a value that rises.
+-- `falls`: the gap of whole numbers down to the lower bound is the gap of the ratio test for a value that falls.
+-- `goes_up`: where the basic column rises, the gap to its upper bound, if within the width, is that by its direction.
+-- `goes_down`: where the basic column falls, the gap to its lower bound, if within the width, is that by its
+--   direction.
 use Rattle.std.proofs.Common.{◌≡◌, ℕ, ◌*◌, ◌<◌, ℤ, pos, neg_ℤ, ◌*ℤ◌, ◌-ℤ◌, [], ◌∷◌, refl, sym, ap, ◌∙◌, Option, Some}
 use Rattle.std.proofs.Common.{None, Ok, true, false, Ordering, Less, Greater}
 use Rattle.std.specs.Prelude.{IfSome}

@@ -1,4 +1,7 @@
--- What a move does to one row and to many.
+-- What a move does to the last number of a row, and a pivot to all rows.
+--
+-- `over_none`: 0 over a positive denominator is 0.
+-- `less_neg`: where a is the negative of b, a as a fraction is the negative of b as one.
 use Rattle.std.proofs.Common.{◌≡◌, ◌≢◌, ℕ, ◌+◌, ◌<◌, ◌≤◌, List, [], ◌∷◌, length, get_or, set, All, refl, sym, ap}
 use Rattle.std.proofs.Common.{ap₂, ◌∙◌, subst, subst₂, arith}
 use Rattle.std.proofs.Common.{ℤ, pos, neg_ℤ, ◌*ℤ◌, ◌-ℤ◌, Bool, true, false, cond, nat_eq, eq-eqb, ne_eqb}

@@ -1,4 +1,14 @@
--- What is read of the rows for a certificate.
+-- Numbers that are read of the rows for a certificate.
+--
+-- `read_at`: a number that was read of a list, over the list's denominator, is the fraction of its column.
+-- `last_is`: the last number of a position's row, if it was made a fraction, is the value of the basic column.
+-- `entry_is`: a number that was read of a position's row is the entry of the tableau that the rows show.
+-- `moved_here`: where column k is basic at position i, the positions up to i move it by minus the directed entry.
+-- `moved_elsewhere`: where column k is not basic at position i, that position does not move it.
+-- `moved_all`: how all positions move a column is how it moves along the ray.
+-- `listed_is`: a number of a list that is made of a fraction is the one made of an equal fraction.
+-- `all_made`: a list of n items is one of m where n is m.
+-- `by_end`: the certificate of an end is that of an equal end.
 use Rattle.std.proofs.Common.{◌≡◌, ◌≢◌, ℕ, ◌+◌, ◌*◌, ◌<◌, List, [], ◌∷◌, ◌++◌, length, get_or, Option, Some, Bool}
 use Rattle.std.proofs.Common.{Result, cond, All}
 use Rattle.std.proofs.Common.{eq-eqb, ne_eqb, sym, ap, ap₂, subst, ◌∙◌, arith, add-one}

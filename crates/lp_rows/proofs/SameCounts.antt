@@ -1,4 +1,7 @@
--- As many of each as before, after a flip or a pivot; and whole numbers as fractions.
+-- After a flip or a pivot a tableau of rows has as many rows and lists as before, and its whole numbers as fractions.
+--
+-- `none_on`: 0 over a positive denominator is 0.
+-- `whole_on`: n as a fraction, times 1 / d, is n / d.
 use Rattle.std.proofs.Common.{◌≡◌, ℕ, ◌*◌, ◌<◌, List, length, get_or, set, All, Option, None, Bool, true, false, not}
 use Rattle.std.proofs.Common.{refl, sym, ap, ap₂, ◌∙◌, subst, subst₂, arith}
 use Rattle.std.proofs.Common.{ℤ, pos, ◌-ℤ◌, [], ◌∷◌}

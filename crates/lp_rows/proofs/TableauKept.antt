@@ -1,4 +1,9 @@
--- What rows show of a tableau after a step, but for its numbers.
+-- What tableaus of one phase have in common: the values of nonbasic columns, and the bounds.
+--
+-- `stood`: a nonbasic column of such a tableau has the value that its status and bounds give.
+-- `lower_same`: two tableaus of a phase have the same lower bounds.
+-- `upper_same`: two tableaus of a phase have the same upper bounds of structural and logical columns.
+-- `fixed_same`: two tableaus of a phase have the same fixed columns among the structural and logical ones.
 use Rattle.std.proofs.Common.{◌≡◌, ◌≢◌, ◌⊎◌, inl, inr, ⊎_elim, ℕ, ◌<◌, Option, Some, None, Bool, refl, sym, ap, ap₂}
 use Rattle.std.proofs.Common.{◌∙◌, arith}
 use Rattle.spec_exact.specs.Fraction.{ℚ, 0ℚ}

@@ -1,4 +1,12 @@
--- Costs less rows of a tableau.
+-- Costs less rows of a tableau: the reduced costs.
+--
+-- `nothing_off`: a is a - 0 * b.
+-- `taken_off`: clearing costs by the row of a position takes it off as often as the cost of its basic column says.
+-- `none_off`: where the basic column is artificial, costs that stay are less its row as often as its cost of 0 says.
+-- `none_yet`: before any row is taken off, the costs are less the first 0 rows.
+-- `one_more`: costs less the first i rows, less row i as its basic column's cost says, are less the first i + 1.
+-- `priced_row`: the form's costs less all rows are the reduced costs of the form's costs.
+-- `stated_costs`: the reduced costs that a tableau gets for its costs are these less all rows, each by its cost.
 use Rattle.std.proofs.Common.{◌≡◌, ◌≢◌, ℕ, suc, ◌+◌, ◌*◌, ◌<◌, ◌≤◌, nat_lt, cond, true, false, List, length, get_or}
 use Rattle.std.proofs.Common.{None, Ok, sym, ap, ap₂, ◌∙◌, arith, ne_eqb}
 use Rattle.std.proofs.lemmas.List.{get_or_default, get_or_past}

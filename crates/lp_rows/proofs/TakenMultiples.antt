@@ -1,4 +1,9 @@
--- A number of which nothing is taken, and one that is taken once.
+-- A number less a multiple, where a factor is 0 or 1.
+--
+-- `whole_none`: a number of magnitude 0 is 0.
+-- `once`: where u is 1, u * v - w is v - w.
+-- `less_none`: where the other number is 0, v is v less any multiple of it.
+-- `both_none`: where both numbers are 0, the first is any multiple of it less any multiple of the other.
 use Rattle.std.proofs.Common.{◌≡◌, ℕ, ℤ, pos, ◌*ℤ◌, ◌-ℤ◌, [], ◌∷◌, Bool, true, false, refl, sym, ap, ◌∙◌}
 use Rattle.spec_exact.proofs.Ring.{◌⊕◌, ◌⊗◌, minus, lit, v0, v1}
 use Rattle.spec_exact.proofs.WholeRing.{by_ring}
