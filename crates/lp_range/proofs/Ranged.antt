@@ -1,4 +1,7 @@
--- The ranges from the start from a basis.
+-- The ranges that are read off the start from a basis.
+--
+-- `moved_entry`: a column that asks for an end as the cost at position p moves has an entry there that is not 0.
+-- `suits`: the tableau of a basis that keeps a model has the model's size, and each basic column has a position.
 use Rattle.std.proofs.Common.{◌≡◌, ◌≢◌, ℕ, ◌+◌, ◌<◌, List, length, Option, Some, None, Result, Ok, Err, Bool}
 use Rattle.std.proofs.Common.{true, false, not, ◌||◌, IfOk, refl, sym, ap, ◌∙◌, subst}
 use Rattle.spec_exact.specs.Fraction.{ℚ, 0ℚ, eq_ℚ}
