@@ -1,4 +1,7 @@
 -- Factors taken anew, part by part.
+--
+-- `stops_after`: a run that stops stops what goes on from it, for the same reason.
+-- `basis_long`: the statuses for the factors are as many as the form has columns and rows.
 use Rattle.std.proofs.Common.{◌≡◌, ℕ, ◌+◌, List, length, map, Result, Some, Ok, Err, sym, ap, ap₂, ◌∙◌, subst}
 use Rattle.spec_exact.specs.Fraction.{ℚ}
 use Rattle.spec_pivot.specs.declared.status.Status.{Status}

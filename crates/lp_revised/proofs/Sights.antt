@@ -1,4 +1,7 @@
--- What a step sees, part by part, and that it may be done.
+-- What a step sees, part by part, and that its choice may be made.
+--
+-- `gives`: a run that gives a value when its refusal is renamed gives that value.
+-- `may_do`: the choice that follows the least ratio may be made of the entering column.
 use Rattle.std.proofs.Common.{◌≡◌, ◌≢◌, ℕ, ◌<◌, List, get_or, Option, Some, None, Ok, Err, refl, sym, ap, ◌∙◌, subst}
 use Rattle.spec_exact.specs.Fraction.{ℚ, 0ℚ, ◌*ℚ◌}
 use Rattle.spec_exact.specs.declared.past.Past.{Past}
