@@ -19,11 +19,11 @@ abbrev pub AnswersRevised : {A : Type 0} → Result A (RunStop ℚ) → Result A
 AnswersRevised run (Ok x) = run ≡ Ok x
 AnswersRevised run (Err e) = StopsRevised run e
 
--- the same of a run that is never spent
+-- a run that is never spent gives the answer, or is refused so, or memory was wanting
 abbrev pub TellsRevised : {A : Type 0} → Run A → Result A (Stop Spent) → Type 0
 TellsRevised run result = AnswersRevised (refused_as cause.Past run) result
 
--- the run leaves x
+-- the run leaves the state x, or stops so, or memory was wanting
 abbrev pub LeavesRevised : {A : Type 0} → Result A (RunStop ℚ) → A → Result ⊤ (Stop Spent) → Type 0
 LeavesRevised run x (Ok u) = run ≡ Ok x
 LeavesRevised run x (Err e) = StopsRevised run e

@@ -10,11 +10,11 @@ use Rattle.spec_model.specs.Kept.{AreEntries, row_limit}
 use Rattle.spec_exact.specs.Run.{made}
 use Rattle.spec_factor.specs.Factors.{Pair, Factors}
 
--- the pair of a place and of a column with these entries, by places
+-- the pair of a place and of the list of `rows` items that has these entries, and 0 elsewhere
 abbrev pub pair_of : ℕ → ℕ → List (ℕ × ℚ) → Pair
 pair_of rows place entries = record { place = place; column = made rows (λ i. entry_of entries i) }
 
--- the entries stand in the order of their places, the pivot is that of the pair's own place, and is not 0
+-- the entries are in the order of their places, the pivot is the value at the pair's own place, and is not 0
 pub record IsEta (rows place : ℕ) (pivot : ℚ) (items : List (ℕ × ℚ)) : Type 0 where
   pub few : rows ≤ row_limit
   pub inside : place < rows

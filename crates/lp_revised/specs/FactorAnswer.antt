@@ -14,14 +14,14 @@ abbrev pub GivesRun : {A : Type 0} → Run A → A → Result ⊤ (Past ℚ) →
 GivesRun run x (Ok u) = run ≡ Ok x
 GivesRun run x (Err p) = run ≡ Err p
 
--- the making gives x, or it is refused with the stop, or memory was wanting
+-- the making leaves x, or is refused with the stop, or memory was wanting
 abbrev pub Chooses : {A : Type 0} → Result A (NoFactors ℚ) → A → Result ⊤ (Stop Singular) → Type 0
 Chooses run x (Ok u) = run ≡ Ok x
 Chooses run x (Err (stop.Cause why)) = run ≡ Err cause.Singular
 Chooses run x (Err (stop.Past p)) = run ≡ Err (cause.Past p)
 Chooses run x (Err stop.NoMemory) = ⊤
 
--- the same of what a call answers
+-- the making gives the answer, or is refused with the stop, or memory was wanting
 abbrev pub MakesFactors : {A : Type 0} → Result A (NoFactors ℚ) → Result A (Stop Singular) → Type 0
 MakesFactors run (Ok x) = run ≡ Ok x
 MakesFactors run (Err (stop.Cause why)) = run ≡ Err cause.Singular

@@ -14,17 +14,20 @@ use Rattle.spec_factor.specs.Revised.{Revised, seen_entry}
 abbrev pub WithValues : Revised → Revised → Type 0
 WithValues s u = u ≡ record s { bare = record s.bare { value = u.bare.value } }
 
+-- the values after the basic column at position i moved with the entering column, which is z by places and moves by
+-- theta
 abbrev pub moved_by : List (RowStart ℚ) → Tableau → List ℚ → ℚ → ℕ → List ℚ → Run (List ℚ)
 moved_by starts t z theta i values =
     less_product (Some number_limit) (seen_entry starts t z i) theta (get_or values (basic_at t i) 0ℚ) >>= λ v.
     Ok (slice_set values (basic_at t i) v)
 
--- those of the first n positions, but for one, if one is named
+-- the values after the basic columns at the first n positions moved so, but for the one at position `but`
 abbrev pub moves_by : List (RowStart ℚ) → Tableau → List ℚ → ℚ → Option ℕ → ℕ → Run (List ℚ)
 moves_by starts t z theta but n =
     steps n (λ i values. if is_place but i then Ok values else moved_by starts t z theta i values) t.value
 
--- column j, which is z by places, moves by theta, and takes place p, whose column goes to a bound
+-- a pivot without the renewal of factors: column j, which is z by places, moves by theta and takes place p, whose
+-- column goes to a bound
 abbrev pub exchanged_by : List (RowStart ℚ) → Revised → List ℚ → ℕ → ℕ → ℚ → Status → Run Revised
 exchanged_by starts s z p j theta to =
     moves_by starts s.bare z theta (Some p) s.bare.rows >>= λ values.

@@ -34,7 +34,7 @@ made_run f starts s column (Flip j) =
 made_run f starts s column (Pivot p j theta to) =
     pivot_over_run (Some number_limit) f s (tableau_of starts s.bare column) p j theta to
 
--- what the last step saw
+-- what the last step saw: its multipliers, its tableau and its end
 abbrev pub selection_at : List (RowStart ℚ) → Tableau → StepsEnd → Selection
 selection_at starts t e =
     record { multipliers = e.multipliers; tableau = tableau_of starts t e.column; choice = End e.end }
@@ -50,18 +50,19 @@ EndsWith t None end = end ≡ Optimal
 EndsWith t (Some c) Optimal = ⊥
 EndsWith t (Some c) (Unbounded j up) = (c.number ≡ j) × (length c.solved ≡ t.rows)
 
--- the steps end so, with this state and this count, or stop so, or memory was wanting
+-- the steps of a phase end so, with this state and this count, or stop so, or memory was wanting
 abbrev pub RunsOver : Result RevisedEnded (RunStop ℚ) → List (RowStart ℚ) → Revised → ℕ → Result StepsEnd (Stop Spent) →
     Type 0
 RunsOver answer starts s used (Ok e) = answer ≡ Ok (ended_of starts s used e)
 RunsOver answer starts s used (Err e) = StopsRevised answer e
 
--- the same where the answer has the count
+-- phase one ends so, with this state and the count in its answer, or stops so, or memory was wanting
 abbrev pub RunsFirst : Result RevisedEnded (RunStop ℚ) → List (RowStart ℚ) → Revised →
     Result (StepsEnd × ℕ) (Stop Spent) → Type 0
 RunsFirst answer starts s (Ok (e, used)) = answer ≡ Ok (ended_of starts s used e)
 RunsFirst answer starts s (Err e) = StopsRevised answer e
 
+-- an end of the code as an end of the definitions
 abbrev pub over_end : RunEnd → OverEnd
 over_end e = record { certificate = e.certificate; basis = e.basis; pivots = e.pivots }
 
@@ -75,12 +76,12 @@ abbrev pub second_run : ℕ → Form → List (RowStart ℚ) → ℕ → Revised
 second_run budget f starts used s =
     over_from (Some number_limit) f starts f.cost (budget - used) used (second_state s) >>= λ two. Ok (end_answer two)
 
--- what follows phase one
+-- what follows phase one: an infeasible end where an artificial is not 0, else phase two
 abbrev pub after_one_run : ℕ → Form → List (RowStart ℚ) → RevisedEnded → Result OverEnd (RunStop ℚ)
 after_one_run budget f starts one =
     if is_stuck one.state.bare then Ok (stuck_answer one) else over_two (Some number_limit) budget f starts one
 
--- both phases, with the first factors of these columns
+-- both phases from the state t, with the first factors of its basic columns
 abbrev pub begun_run : ℕ → Form → List (RowStart ℚ) → Tableau → Result OverEnd (RunStop ℚ)
 begun_run budget f starts t = refactor_run (Some number_limit) f t >>= λ s. over_phases (Some number_limit) budget f
     starts s

@@ -42,16 +42,17 @@ abbrev pub CanDo : Form → Revised → Option Column → Choice ℚ → Type 0
 CanDo f s None choice = choice ≡ End Optimal
 CanDo f s (Some c) choice = IsSolved f s c × MayDo s.bare c.solved c.number choice
 
--- the tableau as the step sees it
+-- the tableau as the step sees it: with the entering column's entries, where a column enters
 abbrev pub tableau_of : List (RowStart ℚ) → Tableau → Option Column → Tableau
 tableau_of starts t None = t
 tableau_of starts t (Some c) = seen starts t c.number c.solved
 
+-- what a step selected, as the definitions have it
 abbrev pub selection_of : List (RowStart ℚ) → Tableau → Selected → Selection
 selection_of starts t l =
     record { multipliers = l.multipliers; tableau = tableau_of starts t l.column; choice = l.choice }
 
--- the run sees this, or is refused so, or memory was wanting
+-- the run selects this, or is refused so, or memory was wanting
 abbrev pub Selects : Run Selection → List (RowStart ℚ) → Tableau → Result Selected (Stop Spent) → Type 0
 Selects run starts t (Ok l) = run ≡ Ok (selection_of starts t l)
 Selects run starts t (Err e) = StopsRevised (refused_as cause.Past run) e

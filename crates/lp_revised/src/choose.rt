@@ -17,7 +17,7 @@ use lp_frac::{Fracs, Past, Stop, is_zero, neg, one, zeros};
 use std::alloc::{AllocError, Global};
 use std::marker::Model;
 
-// The pairs so far, and the columns of the places that have one.
+// Factors in the making: the pairs so far, and the column of each place that has one.
 #[derive(Drop)]
 struct Chosen {
     etas: Vec<Eta>,
@@ -35,7 +35,7 @@ impl Model for Chosen {
     ghost invariant = { λ s. AreChosen (record { pairs = s.etas.items; columns = s.columns.items }) };
 }
 
-// The negatives of structural column `k`'s coefficients, in their rows.
+// Puts the negatives of structural column `k`'s coefficients in their rows of `column`, which is 0 everywhere.
 fn put_negatives(form: &Form, k: u32, column: &mut Fracs)
     requires structural { k < form.now.cols }
     requires zeros { column.old ≡ replicate form.now.rows 0ℚ }
@@ -46,7 +46,7 @@ fn put_negatives(form: &Form, k: u32, column: &mut Fracs)
     }
 }
 
-// 1 in the row of logical column `k`. An artificial has nothing in any row.
+// Puts 1 in the row of logical column `k` of `column`, which is 0 everywhere. Behind the logicals nothing is put.
 fn put_one(form: &Form, k: u32, column: &mut Fracs)
     requires not_structural { form.now.cols ≤ k }
     requires zeros { column.old ≡ replicate form.now.rows 0ℚ }
@@ -58,7 +58,7 @@ fn put_one(form: &Form, k: u32, column: &mut Fracs)
     }
 }
 
-/// Column `k` of the form's equations, by rows: its coefficients' negatives where it is structural, else 1 in its row.
+// Column `k` of the form's equations, by rows: its coefficients' negatives where it is structural, else 1 in its row.
 pub fn column_of(alloc: Global, form: &Form, k: u32) -> Result<Fracs, AllocError>
     ensures value { IfOk result (λ c. c ≡ column_by form.now k) }
     ensures all { IfOk result (λ c. length c ≡ form.now.rows) }
@@ -100,7 +100,7 @@ fn open_place(columns: &[Option<u32>], v: &Fracs) -> Option<u32>
 }
 
 impl Chosen {
-    // No pairs, and no columns in so many places.
+    // No pairs yet, and `rows` places without a column.
     fn none(alloc: Global, rows: u32) -> Result<Chosen, AllocError>
         requires { rows ≤ 256 }
         ensures { IfOk result (λ s. s ≡ record { pairs = []; columns = replicate rows None }) }
@@ -112,7 +112,7 @@ impl Chosen {
         })
     }
 
-    // Column `k`, which is `v` by places, takes a place.
+    // Puts column `k`, which is `v` by places, in a place, and adds its pair.
     fn put(&mut self, alloc: Global, place: u32, k: u32, v: &Fracs) -> Result<(), AllocError>
         requires inside { place < length self.old.columns }
         requires all { length v.now ≡ length self.old.columns }
@@ -132,7 +132,7 @@ impl Chosen {
         Ok(())
     }
 
-    // The pairs' solution of the list `v`, by rows.
+    // Solves over the pairs so far: `v`, by rows, becomes the solution by places. After a refusal `v` is open.
     fn ftran(&self, v: &mut Fracs) -> Result<(), Past>
         requires { length v.old ≡ length self.now.columns }
         ensures run { GivesRun (ftran_run (Some number_limit) (length v.old) self.now.pairs v.old) v.new result }
@@ -150,7 +150,7 @@ impl Chosen {
         open_place(&self.columns, v)
     }
 
-    // Column `k` takes the least place that is open for it.
+    // Puts column `k` in the least place that is open for it, or finds that the columns are dependent.
     fn choose(&mut self, alloc: Global, form: &Form, k: u32) -> Result<(), BasisStop>
         requires column { k < form.now.cols + form.now.rows }
         requires all { length self.old.columns ≡ form.now.rows }
@@ -169,7 +169,7 @@ impl Chosen {
     }
 }
 
-// The columns of the places, 0 where there is none.
+// The column of each place, 0 where a place has none.
 fn basic_of(alloc: Global, columns: &[Option<u32>]) -> Result<Vec<u32>, AllocError>
     ensures { IfOk result (λ b. b.items ≡ map (λ o. unwrap_or o 0) columns.now) }
 {
@@ -180,7 +180,7 @@ fn basic_of(alloc: Global, columns: &[Option<u32>]) -> Result<Vec<u32>, AllocErr
     Ok(basic)
 }
 
-/// Factors of the basic columns by the statuses of the form's structural and logical columns.
+// Factors of the columns that are basic by `basis`, the statuses of the form's structural and logical columns.
 pub fn factor(alloc: Global, form: &Form, basis: &StatusList) -> Result<Factors, BasisStop>
     requires { length basis.now ≡ form.now.cols + form.now.rows }
     ensures run { MakesFactors (factor_run (Some number_limit) form.now basis.now) result }

@@ -34,7 +34,7 @@ pub struct RunEnd {
     pub pivots: u64,
 }
 
-// How all rows begin, in order.
+// How each row begins at the start of a cold solve, in order.
 fn row_starts(alloc: Global, form: &Form) -> Result<Vec<RowStart>, RevisedStop>
     ensures ok { IfOk result (λ v. list_run form.now.rows (starting.row_start (Some number_limit) form.now) ≡ Ok
         v.items) }
@@ -48,7 +48,7 @@ fn row_starts(alloc: Global, form: &Form) -> Result<Vec<RowStart>, RevisedStop>
     }
 }
 
-// The state that the form begins with, before it has factors.
+// The state at the start of a cold solve, still without factors.
 fn begun(alloc: Global, form: &Form, starts: &[RowStart]) -> Result<Revised, AllocError>
     requires { length starts.now ≡ form.now.rows }
     ensures { IfOk result (λ s. s.bare ≡ bare_of (starting.begun form.now starts.now)) }
@@ -67,7 +67,7 @@ fn begun(alloc: Global, form: &Form, starts: &[RowStart]) -> Result<Revised, All
 }
 
 impl Revised {
-    // Phase one, where it is wanted, and how many pivots and flips it took.
+    // Runs phase one where an artificial is basic, and tells its end and how many pivots and flips it took.
     fn phase_one(
         &mut self,
         alloc: Global,
@@ -100,7 +100,7 @@ impl Revised {
         }
     }
 
-    // The certificate and the basis of an end, before which `pivots` pivots and flips were made.
+    // What the run ends with after `pivots` pivots and flips: the certificate and the basis of `end`.
     fn ended(
         &self,
         alloc: Global,
@@ -122,7 +122,7 @@ impl Revised {
         })
     }
 
-    // Phase two, before which `used` pivots and flips were made, and what it ends with.
+    // Fixes the artificials at 0 and runs phase two. `used` pivots and flips of the budget were made before.
     fn phase_two(
         &mut self,
         alloc: Global,
@@ -146,8 +146,8 @@ impl Revised {
         Ok(ended?)
     }
 
-    // What follows phase one, which made `used` pivots and flips. Where it leaves an artificial that is not 0, no point
-    // is feasible.
+    // Goes on from phase one, which made `used` pivots and flips: where an artificial is not 0 the model is infeasible,
+    // else phase two runs.
     fn after_one(
         &mut self,
         alloc: Global,
@@ -176,7 +176,7 @@ impl Revised {
         self.phase_two(alloc, form, starts, used, budget)
     }
 
-    // The first factors, and both phases, which share the budget.
+    // Takes the first factors and runs both phases, which share the budget.
     fn phases(
         &mut self,
         alloc: Global,

@@ -23,7 +23,7 @@ pub(crate) fn cost(costs: &[Frac], k: u32) -> Frac
 }
 
 impl Revised {
-    // The cost of the column of each position, times its sign.
+    // The cost of each position's basic column, times the column's sign.
     fn basic_costs(
         &self,
         alloc: Global,
@@ -41,7 +41,7 @@ impl Revised {
         Ok(list)
     }
 
-    // The multipliers for these costs.
+    // The multipliers of the rows for these costs: btran of the basic columns' costs.
     pub(crate) fn multipliers(
         &self,
         alloc: Global,

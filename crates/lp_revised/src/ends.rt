@@ -18,10 +18,10 @@ use lp_frac::{Frac, Fracs, neg, one, zero};
 use lp_tableau::{PrimalEnd, directed};
 use std::alloc::{AllocError, Global};
 
-/// The certificate of an end.
+/// The certificate of an end, by columns and rows of the model.
 pub type Certificate = spec_check::Certificate<Fracs>;
 
-// Puts a fraction at the end, whose parts have at most 127 bits as those of each one.
+// Pushes `v` on the list, and tells proofs that its parts have at most 127 bits.
 fn push(fracs: &mut Fracs, v: Frac) -> Result<(), AllocError>
     ensures pushed { OnOk result (fracs.new ≡ fracs.old ++ v ∷ []) }
     ensures narrow { IsNarrow v }
@@ -31,7 +31,7 @@ fn push(fracs: &mut Fracs, v: Frac) -> Result<(), AllocError>
     Ok(())
 }
 
-// The multiplier of row `i`, 0 where none stands.
+// The multiplier of row `i`, 0 where the list has none.
 fn multiplier(y: &Fracs, i: u32) -> Frac
     ensures { result ≡ get_or y.now i 0ℚ }
 {
@@ -67,7 +67,7 @@ impl Revised {
         Ok(point)
     }
 
-    // What stands at a position in a column that enters.
+    // The tableau's entry at a position in the entering column.
     fn entry_in(&self, starts: &[RowStart], column: &Column, place: u32) -> Frac
         requires starts { length starts.now ≡ self.now.bare.rows }
         requires solved { length column.now.solved ≡ self.now.bare.rows }
@@ -78,7 +78,7 @@ impl Revised {
         self.entry(starts, column.solved.as_slice(), place)
     }
 
-    // How column `k` moves while a column enters and rises or falls by 1.
+    // How far column `k` moves when the entering column rises or falls by 1.
     fn move_of(&self, starts: &[RowStart], column: &Column, up: bool, k: u32) -> Frac
         requires starts { length starts.now ≡ self.now.bare.rows }
         requires solved { length column.now.solved ≡ self.now.bare.rows }
@@ -98,7 +98,7 @@ impl Revised {
         moved
     }
 
-    // The same of the model's columns.
+    // The ray of an unbounded end: how far each of the model's columns moves when the entering one moves by 1.
     fn direction(
         &self,
         alloc: Global,
@@ -119,7 +119,7 @@ impl Revised {
         Ok(direction)
     }
 
-    // The certificate of an end.
+    // The certificate of an end: values with multipliers where it is optimal, else values with a ray.
     pub(crate) fn certificate(
         &self,
         alloc: Global,
@@ -147,7 +147,7 @@ impl Revised {
         }
     }
 
-    // The statuses of the basis of an end, which an optimal one has.
+    // The statuses of the basis of an optimal end; another end has none.
     pub(crate) fn basis_at(
         &self,
         alloc: Global,

@@ -12,7 +12,7 @@ use lp_frac::{Entries, Frac, Fracs, Past, div, is_zero, less_product};
 use std::alloc::{AllocError, Global};
 use std::marker::Model;
 
-// The items that are not 0, with their places.
+// The items of `column` that are not 0, with their places, in ascending order.
 fn entries_of(alloc: Global, column: &Fracs) -> Result<Entries, AllocError>
     requires { length column.now ≤ row_limit }
     ensures { IfOk result (AreItems (length column.now) column.now) }
@@ -27,6 +27,8 @@ fn entries_of(alloc: Global, column: &Fracs) -> Result<Entries, AllocError>
     Ok(entries)
 }
 
+// A pair of factors: a place of a list of `rows` items, and the items of its column that are not 0. `pivot` is the item
+// at the place.
 #[derive(Drop)]
 pub(crate) struct Eta {
     rows: u32,
@@ -49,7 +51,7 @@ impl Model for Eta {
 }
 
 impl Eta {
-    // The pair of a place and of a list by places, which is not 0 there.
+    // The pair of a place and of `column`, a list by places that is not 0 at the place.
     pub(crate) fn from_list(alloc: Global, place: u32, column: &Fracs) -> Result<Eta, AllocError>
         requires few { length column.now ≤ row_limit }
         requires inside { place < length column.now }
@@ -65,8 +67,8 @@ impl Eta {
         })
     }
 
-    // The item at the place is divided, and each other one loses its entry's part of it: nothing,
-    // where the item is 0.
+    // Applies the pair to `v`: divides the item at the place by the pivot, and takes the quotient times each other
+    // entry off that entry's item. After a refusal `v` is open.
     pub(crate) fn forward(&self, v: &mut Fracs) -> Result<(), Past>
         requires all { length self.now.column ≡ length v.old }
         requires narrow { All IsNarrow v.old }
@@ -89,7 +91,8 @@ impl Eta {
         Ok(())
     }
 
-    // The item at the place loses the others' parts, and is divided.
+    // Applies the transpose of the pair to `v`: takes each other entry times its item off the item at the place, and
+    // divides that by the pivot. Other items stay. After a refusal `v` is open.
     pub(crate) fn backward(&self, v: &mut Fracs) -> Result<(), Past>
         requires all { length self.now.column ≡ length v.old }
         requires narrow { All IsNarrow v.old }

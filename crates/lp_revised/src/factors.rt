@@ -13,8 +13,8 @@ use lp_frac::{Fracs, Past};
 use std::alloc::{AllocError, Global};
 use std::marker::Model;
 
-/// Factors of a basis in product form: a list of pairs, each held as the items of its column that
-/// are not 0, and the basic column of each place.
+// Factors of a basis in product form: a list of pairs, each held as the items of its column that
+// are not 0, and the basic column of each place.
 pub struct Factors {
     etas: Vec<Eta>,
     basic: Vec<u32>,
@@ -40,6 +40,7 @@ impl Drop for Factors {
 }
 
 impl Factors {
+    // Factors of these pairs, where `basic` has the basic column of each place.
     pub(crate) fn from_parts(etas: Vec<Eta>, basic: Vec<u32>) -> Factors
         requires { AreFactorsOf (record { pairs = etas.items; basic = basic.items }) }
         ensures { result ≡ record { pairs = etas.items; basic = basic.items } }
@@ -47,7 +48,7 @@ impl Factors {
         Factors { etas, basic }
     }
 
-    /// No pairs, and column 0 in each of so many places: what stands there until factors are made.
+    // No pairs, and column 0 in each of `rows` places: a stand-in until factors are made.
     pub fn empty(alloc: Global, rows: u32) -> Result<Factors, AllocError>
         requires { rows ≤ 256 }
         ensures { IfOk result (λ s. s ≡ record { pairs = []; basic = replicate rows 0 }) }
@@ -59,7 +60,7 @@ impl Factors {
         })
     }
 
-    /// The basic column of a place.
+    // The basic column of a place.
     pub fn basic(&self, place: u32) -> u32
         requires { place < length self.now.basic }
         ensures { result ≡ get_or self.now.basic place 0 }
@@ -67,8 +68,8 @@ impl Factors {
         self.basic[place as usize]
     }
 
-    /// Solves for the basis's columns: `v`, by rows, becomes the list z, by places, with
-    /// basis * z = v. After a refusal `v` is open.
+    // Solves for the basis's columns: `v`, by rows, becomes the list z, by places, with
+    // basis * z = v. After a refusal `v` is open.
     pub fn ftran(&self, v: &mut Fracs) -> Result<(), Past>
         requires { length v.old ≡ length self.now.basic }
         ensures run { GivesRun (ftran_run (Some number_limit) (length self.now.basic) self.now.pairs v.old) v.new result }
@@ -77,8 +78,8 @@ impl Factors {
         forward_all(&self.etas, v)
     }
 
-    /// Solves for the basis's rows: `v`, by places, becomes the list y, by rows, with y * basis = v.
-    /// After a refusal `v` is open.
+    // Solves for the basis's rows: `v`, by places, becomes the list y, by rows, with y * basis = v.
+    // After a refusal `v` is open.
     pub fn btran(&self, v: &mut Fracs) -> Result<(), Past>
         requires { length v.old ≡ length self.now.basic }
         ensures run { GivesRun (btran_run (Some number_limit) (length self.now.basic) self.now.pairs v.old) v.new result }
@@ -87,8 +88,8 @@ impl Factors {
         backward_all(&self.etas, v)
     }
 
-    /// Puts column `col`, whose solution by `ftran` is `solved`, in a place, where that is not 0. After a
-    /// stop the factors are spent.
+    // Puts column `col`, whose solution by `ftran` is `solved`, in a place at which `solved` is not 0, and adds its pair.
+    // After a stop the factors are spent.
     pub fn replace_solved(
         &mut self,
         alloc: Global,

@@ -5,7 +5,7 @@ ghost use Rattle.spec_exact.specs.Run as run;
 
 use lp_frac::{Frac, Fracs, Past, den, is_zero, less_product, num};
 
-/// The same fraction. It does nothing: proofs call it for the fact that its parts have at most 127 bits.
+// The same fraction. The call does nothing: proofs take from it that the fraction's parts have at most 127 bits.
 pub fn narrow(v: Frac) -> Frac
     ensures value { result ≡ v }
     ensures narrow { IsNarrow result }
@@ -14,7 +14,7 @@ pub fn narrow(v: Frac) -> Frac
     v
 }
 
-/// `s` less `v * w`, where `v` is often 0: then nothing is taken off.
+// `s` less `v * w`. `v` is often 0: then nothing is computed.
 #[inline(always)]
 pub(crate) fn less_part(v: Frac, w: Frac, s: Frac) -> Result<Frac, Past>
     requires w_narrow { IsNarrow w }
@@ -27,7 +27,7 @@ pub(crate) fn less_part(v: Frac, w: Frac, s: Frac) -> Result<Frac, Past>
     less_product(v, w, s)
 }
 
-/// `narrow` for each fraction of a list.
+// Does nothing: proofs take from the call that the parts of each fraction of `v` have at most 127 bits.
 pub fn tell_narrow(v: &Fracs)
     ensures { All IsNarrow v.now }
 {

@@ -13,7 +13,7 @@ use lp_frac::{Frac, Past, less_product, sub};
 use lp_tableau::{directed, flip_way, is_place, or_zero, other_bound, stand};
 
 impl Revised {
-    // The column at position `i` moves with the entering one, which is `solved` by places.
+    // Moves the basic column at position `i` as the entering one, which is `solved` by places, moves by `theta`.
     fn move_at(
         &mut self,
         starts: &[RowStart],
@@ -34,7 +34,7 @@ impl Revised {
         Ok(())
     }
 
-    // All basic columns move, but for the one at a position, if one is named.
+    // Moves all basic columns as the entering one moves by `theta`, but for the column at position `but`.
     pub(crate) fn move_values(
         &mut self,
         starts: &[RowStart],
@@ -56,7 +56,7 @@ impl Revised {
         Ok(())
     }
 
-    // Column `col` is at the bound `to`.
+    // Makes column `col` nonbasic at the bound `to`, with that bound as its value.
     fn put_at(&mut self, col: u32, to: Status)
         requires { col < all_columns self.old.bare }
         ensures { self.new ≡ record self.old { bare = flipped self.old.bare col to self.old.bare.value } }
@@ -66,8 +66,8 @@ impl Revised {
         self.status[col as usize] = to;
     }
 
-    /// Moves column `col`, which is `solved` by places, to its other bound, and the basic columns with
-    /// it. After a refusal the state is spent.
+    // Moves column `col`, which is `solved` by places, to its other bound, and the basic columns with
+    // it. After a refusal the state is spent.
     pub fn flip(&mut self, starts: &[RowStart], solved: &[Frac], col: u32) -> Result<(), Past>
         requires starts { length starts.now ≡ self.old.bare.rows }
         requires solved { length solved.now ≡ self.old.bare.rows }

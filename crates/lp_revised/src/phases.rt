@@ -10,13 +10,14 @@ use crate::state::Revised;
 use lp_frac::{Frac, are_same, zero};
 
 impl Revised {
+    // Whether column `k` is an artificial one: it is behind the columns of the form.
     fn is_artificial(&self, k: u32) -> bool
         ensures { result ≡ tableaus.is_artificial self.now.bare k }
     {
         self.form_columns() <= k
     }
 
-    // The column's value, 0 where none stands.
+    // The value of column `k`, 0 where there is no such column.
     fn value_or_zero(&self, k: u32) -> Frac
         ensures { result ≡ tableaus.value_at self.now.bare k }
     {
@@ -26,6 +27,7 @@ impl Revised {
         }
     }
 
+    // Whether the value of column `k` is 0.
     fn is_at_zero(&self, k: u32) -> bool
         ensures { result ≡ eq_ℚ (tableaus.value_at self.now.bare k) 0ℚ }
     {
@@ -40,21 +42,21 @@ impl Revised {
         self.is_artificial(k) && !self.is_at_zero(k)
     }
 
-    // Whether some artificial is basic.
+    // Whether phase one is wanted: some artificial is basic.
     pub(crate) fn wants_phase_one(&self) -> bool
         ensures { result ≡ phases.wants_phase_one self.now.bare }
     {
         self.basic.iter().any(|k| self.is_artificial(*k))
     }
 
-    // Whether some artificial is basic and not 0.
+    // Whether phase one ended without a feasible point: some artificial is basic and not 0.
     pub(crate) fn is_stuck(&self) -> bool
         ensures { result ≡ phases.is_stuck self.now.bare }
     {
         self.basic.iter().any(|k| self.is_wanting(*k))
     }
 
-    // Column `k` has the bounds 0 and 0.
+    // Sets both bounds of column `k` to 0.
     fn fix(&mut self, k: u32)
         requires { k < tableaus.all_columns self.old.bare }
         ensures { self.new ≡ fixed_at self.old (slice_set self.old.bare.lower k (Some 0ℚ))
@@ -64,7 +66,7 @@ impl Revised {
         self.upper[k as usize] = Some(zero());
     }
 
-    // All artificials have the bounds 0 and 0.
+    // Sets both bounds of each artificial to 0, as phase two has them.
     pub(crate) fn fix_artificials(&mut self)
         ensures { self.new ≡ second_state self.old }
     {

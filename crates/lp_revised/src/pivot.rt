@@ -22,7 +22,7 @@ use lp_tableau::stand;
 use std::alloc::{AllocError, Global};
 
 impl Revised {
-    // Column `col`, which is not basic, moves by `theta`.
+    // Adds `theta` to the value of column `col`, which is not basic.
     #[tactic(auto, unfolding(spec_simplex::specs::Step::shifted_run))]
     fn shift(&mut self, col: u32, theta: Frac) -> Result<(), Past>
         requires { col < all_columns self.old.bare }
@@ -35,7 +35,7 @@ impl Revised {
         Ok(())
     }
 
-    // The factors get column `col`, which is `solved` by places, in a place.
+    // Puts column `col`, which is `solved` by places, in a place of the factors, and counts the replacement.
     fn replace(
         &mut self,
         alloc: Global,
@@ -60,8 +60,8 @@ impl Revised {
         Ok(())
     }
 
-    // The column at a position goes to the bound `to`, and column `col` takes the position. An
-    // artificial that leaves is at 0 for good.
+    // Makes column `col` basic at a position. The column that leaves becomes nonbasic at the bound `to`; an artificial
+    // gets both bounds 0, so that it never enters again.
     fn exchange(&mut self, place: u32, col: u32, to: Status)
         requires place { place < self.old.bare.rows }
         requires column { col < all_columns self.old.bare }
@@ -80,8 +80,8 @@ impl Revised {
         }
     }
 
-    // A column of the form moves by `theta`, and the basic columns with it, and then it takes the
-    // place, whose column goes to the bound `to`. The form is not read: the column is solved.
+    // Makes the pivot without the renewal of factors: the entering column moves by `theta`, the basic columns move with
+    // it, and it takes the place of the column that goes to the bound `to`.
     fn exchange_values(
         &mut self,
         alloc: Global,
@@ -111,9 +111,9 @@ impl Revised {
         Ok(())
     }
 
-    /// Moves the column that enters by `theta` and the basic columns with it, and puts it in place of
-    /// the one at a position, which goes to the bound `to`. Then the factors are taken anew, if it is
-    /// time. After a refusal the state is spent.
+    // Moves the entering column by `theta` and the basic columns with it, and makes it basic in place of
+    // the column at a position, which goes to the bound `to`. After 64 replacements the factors are taken anew.
+    // After a refusal the state is spent.
     pub fn pivot(
         &mut self,
         alloc: Global,

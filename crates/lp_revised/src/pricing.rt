@@ -55,7 +55,7 @@ fn price(form: &Form, costs: &[Frac], y: &[Frac], k: u32) -> Result<Frac, Past>
 }
 
 impl Revised {
-    // Whether column `k` rises or falls, if it may enter.
+    // Whether column `k` rises (true) or falls when it enters; nothing where it may not enter.
     fn way(&self, form: &Form, costs: &[Frac], y: &[Frac], k: u32) -> Result<Option<bool>, Past>
         requires column { k < all_columns self.now.bare }
         requires all { length y.now ≡ form.now.rows }
@@ -69,7 +69,7 @@ impl Revised {
         Ok(way(status, price(form, costs, y, k)?))
     }
 
-    // The least column that may enter. Those behind it are not priced.
+    // The entering column by Bland's rule: the least one that may enter. Those behind it are not priced.
     pub(crate) fn entering(
         &self,
         form: &Form,

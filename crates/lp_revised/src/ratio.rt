@@ -11,7 +11,7 @@ use lp_simplex::primal::{Best, Position, best_at, range};
 use spec_simplex::Entering;
 
 impl Revised {
-    // What stands at a position in the entering column, which is `solved` by places.
+    // The tableau's entry at a position in the entering column, which is `solved` by places.
     pub(crate) fn entry(&self, starts: &[RowStart], solved: &[Frac], place: u32) -> Frac
         requires starts { length starts.now ≡ self.now.bare.rows }
         requires solved { length solved.now ≡ self.now.bare.rows }
@@ -21,7 +21,7 @@ impl Revised {
         self.signed(starts, self.basic(place), solved[place as usize])
     }
 
-    // The best so far, with position `i`.
+    // The better of `best`, the least ratio so far, and position `i`.
     fn best_with(
         &self,
         starts: &[RowStart],
@@ -47,7 +47,7 @@ impl Revised {
         best_at(e.up, at, best)
     }
 
-    // The least ratio of all, if anything stops the column.
+    // The ratio test: the least ratio of all, or nothing where the entering column may move without end.
     pub(crate) fn best(
         &self,
         starts: &[RowStart],

@@ -33,7 +33,7 @@ fn factors_of(alloc: Global, form: &Form, basis: &StatusList) -> Result<Factors,
 }
 
 impl Revised {
-    // Whether column `k` is a logical in whose stead its row's artificial is basic.
+    // Whether column `k` is a logical whose row's artificial is basic in its stead.
     fn is_stood_for(&self, k: u32) -> bool
         requires { k < form_columns_of self.now.bare }
         ensures { result ≡ (nat_le self.now.bare.cols k && is_basic_of
@@ -42,7 +42,7 @@ impl Revised {
         self.cols <= k && is_basic(self.status(k + self.rows))
     }
 
-    // The status of column `k` in the basis of the factors.
+    // The status of column `k` for the factors, in which a logical counts as basic where its row's artificial is.
     fn basis_status(&self, k: u32) -> Status
         requires { k < form_columns_of self.now.bare }
         ensures { result ≡ basis_status_of self.now.bare k }
@@ -54,7 +54,7 @@ impl Revised {
         }
     }
 
-    // The column that stands in the factors as column `k`.
+    // The column of the run that the factors hold as column `k`: the artificial of the row where that is basic.
     fn standing(&self, k: u32) -> u32
         requires { k < form_columns_of self.now.bare }
         ensures value { result ≡ standing_of self.now.bare k }
@@ -67,7 +67,7 @@ impl Revised {
         }
     }
 
-    // The statuses of the factors' columns.
+    // The statuses of the form's columns for the factors, with artificials counted as their rows' logicals.
     pub(crate) fn factor_basis(&self, alloc: Global) -> Result<StatusList, AllocError>
         ensures { IfOk result (λ b. b ≡ factor_basis self.now.bare) }
     {
@@ -78,7 +78,7 @@ impl Revised {
         Ok(StatusList::from_vec(list))
     }
 
-    // The columns of the positions, which are the places of these factors.
+    // The basic column of each position, where the positions are the places of these factors.
     fn positions(&self, alloc: Global, factors: &Factors) -> Result<Vec<u32>, AllocError>
         requires all { length factors.now.basic ≡ self.now.bare.rows }
         requires inside { All (λ k. k < form_columns_of self.now.bare) factors.now.basic }
@@ -92,7 +92,7 @@ impl Revised {
         Ok(basic)
     }
 
-    // Factors of the basic columns.
+    // New factors of the state's basic columns. The state stays.
     fn new_factors(&self, alloc: Global, form: &Form) -> Result<Factors, RevisedStop>
         requires rows { form.now.rows ≡ self.now.bare.rows }
         requires cols { form.now.cols ≡ self.now.bare.cols }
@@ -106,7 +106,7 @@ impl Revised {
         factors_of(alloc, form, &basis)
     }
 
-    // Takes factors anew: the positions are then the places of the factors.
+    // Takes factors anew. The basic columns change their positions to the places of the new factors.
     pub(crate) fn refactor(&mut self, alloc: Global, form: &Form) -> Result<(), RevisedStop>
         requires rows { form.now.rows ≡ self.old.bare.rows }
         requires cols { form.now.cols ≡ self.old.bare.cols }
@@ -123,7 +123,7 @@ impl Revised {
         Ok(())
     }
 
-    // The same after so many replacements; before that nothing changes.
+    // Takes factors anew after 64 replacements; before that nothing changes.
     #[tactic(auto, unfolding(spec_factor::specs::Revised::refreshed_run))]
     pub(crate) fn refresh(&mut self, alloc: Global, form: &Form) -> Result<(), RevisedStop>
         requires rows { form.now.rows ≡ self.old.bare.rows }

@@ -17,27 +17,27 @@ use lp_tableau::PrimalEnd;
 use spec_simplex::Entering;
 use std::alloc::Global;
 
-/// What a step does.
+// What a step does: it ends the run, flips a column, or pivots.
 pub type Choice = spec_simplex::Choice<Frac>;
 
-/// A column that enters, and its solution by places.
+// The entering column, and its solution by places.
 #[derive(Drop)]
 pub struct Column {
     pub number: u32,
     pub solved: Fracs,
 }
 
-/// What a step saw, and what it does.
+// What a step saw, and what it does.
 #[derive(Drop)]
 pub struct Selected {
     pub multipliers: Fracs,
-    /// The column that enters, if one may.
+    // The column that enters, if one may.
     pub column: Option<Column>,
     pub choice: Choice,
 }
 
 impl Revised {
-    // The solution of column `k`, by places.
+    // Column `k` of the tableau: ftran of its column of the form, by places.
     fn solve_column(&self, alloc: Global, form: &Form, k: u32) -> Result<Fracs, RevisedStop>
         requires { form.now.rows ≡ self.now.bare.rows }
         ensures run { TellsRevised (ftran_run (Some number_limit) self.now.bare.rows self.now.pairs (column_by form.now
@@ -50,7 +50,7 @@ impl Revised {
         Ok(column)
     }
 
-    // What is done with the column that enters.
+    // What the ratio test does with the entering column, which is `solved` by places.
     fn chosen(&self, starts: &[RowStart], solved: &[Frac], e: Entering) -> Result<Choice, Past>
         requires starts { length starts.now ≡ self.now.bare.rows }
         requires solved { length solved.now ≡ self.now.bare.rows }
@@ -61,7 +61,7 @@ impl Revised {
         Ok(chosen(e, self.best(starts, solved, e)?))
     }
 
-    /// The multipliers, the column that enters, and what is done with it.
+    // Chooses the next step: the multipliers, the entering column, and what the ratio test does with it.
     pub fn select(
         &self,
         alloc: Global,

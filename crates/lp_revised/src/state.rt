@@ -10,14 +10,14 @@ use lp_form::Status;
 use lp_frac::{Frac, neg};
 use std::marker::Model;
 
-/// How a row began: the sign of its artificial column is told by it.
+// How a row began, which fixes the sign of its artificial column.
 pub type RowStart = spec_simplex::RowStart<Frac>;
 
-/// A state of the run: for each position its basic column, for each column its value, its status and
-/// its bounds, and factors of the basic columns.
-///
-/// The columns are the structural ones, then the logical and then the artificial ones of the rows. An
-/// artificial stands in the factors as its row's logical.
+// A state of the run: for each position its basic column, for each column its value, its status and
+// its bounds, and factors of the basic columns.
+//
+// The columns are the structural ones, then the logical and then the artificial ones of the rows. The factors hold an
+// artificial as its row's logical.
 #[derive(Drop)]
 pub struct Revised {
     pub(crate) rows: u32,
@@ -46,7 +46,7 @@ impl Model for Revised {
 }
 
 impl Revised {
-    /// How many positions there are.
+    // How many positions there are, one for each row.
     pub fn rows(&self) -> u32
         ensures value { result ≡ self.now.bare.rows }
         ensures bound { result ≤ 256 }
@@ -54,7 +54,7 @@ impl Revised {
         self.rows
     }
 
-    /// How many columns the form has.
+    // How many columns the form has, structural and logical.
     pub fn form_columns(&self) -> u32
         ensures value { result ≡ form_columns_of self.now.bare }
         ensures bound { result ≤ 768 }
@@ -62,7 +62,7 @@ impl Revised {
         self.cols + self.rows
     }
 
-    /// How many columns there are.
+    // How many columns there are with the artificial ones.
     pub fn width(&self) -> u32
         ensures value { result ≡ all_columns self.now.bare }
         ensures bound { result ≤ 1024 }
@@ -70,7 +70,7 @@ impl Revised {
         self.cols + 2 * self.rows
     }
 
-    /// The basic column of a position.
+    // The basic column of a position.
     pub fn basic(&self, place: u32) -> u32
         requires { place < self.now.bare.rows }
         ensures value { result ≡ basic_at self.now.bare place }
@@ -79,6 +79,7 @@ impl Revised {
         self.basic[place as usize]
     }
 
+    // The value of a column.
     pub fn value(&self, col: u32) -> Frac
         requires { col < all_columns self.now.bare }
         ensures { result ≡ value_at self.now.bare col }
@@ -86,6 +87,7 @@ impl Revised {
         self.value[col as usize]
     }
 
+    // The status of a column: basic, or at which bound it is.
     pub fn status(&self, col: u32) -> Status
         requires { col < all_columns self.now.bare }
         ensures { result ≡ status_at self.now.bare col }
@@ -93,6 +95,7 @@ impl Revised {
         self.status[col as usize]
     }
 
+    // The lower bound of a column, if it has one.
     pub fn lower(&self, col: u32) -> Option<Frac>
         requires { col < all_columns self.now.bare }
         ensures { result ≡ lower_at self.now.bare col }
@@ -100,6 +103,7 @@ impl Revised {
         self.lower[col as usize]
     }
 
+    // The upper bound of a column, if it has one.
     pub fn upper(&self, col: u32) -> Option<Frac>
         requires { col < all_columns self.now.bare }
         ensures { result ≡ upper_at self.now.bare col }
@@ -107,7 +111,7 @@ impl Revised {
         self.upper[col as usize]
     }
 
-    // `v` times the sign of a column: that of an artificial is turned where its row began too low.
+    // `v` times the sign of a column, which is -1 for the artificial of a row that began too low, and else 1.
     pub(crate) fn signed(&self, starts: &[RowStart], col: u32, v: Frac) -> Frac
         requires all { length starts.now ≡ self.now.bare.rows }
         requires column { col < all_columns self.now.bare }

@@ -15,7 +15,7 @@ use lp_frac::{Frac, Fracs, Stop};
 use lp_tableau::PrimalEnd;
 use std::alloc::Global;
 
-// How steps ended: with the last multipliers, and the column that nothing stops, if there is one.
+// How the steps of a phase ended, the last multipliers, and the entering column that nothing stops, if there is one.
 #[derive(Drop)]
 pub(crate) struct StepsEnd {
     pub(crate) end: PrimalEnd,
@@ -24,7 +24,7 @@ pub(crate) struct StepsEnd {
 }
 
 impl Revised {
-    // The flip or the pivot of a column that enters; an end changes nothing.
+    // Makes the flip or the pivot of the entering column; an end changes nothing. After a refusal the state is spent.
     fn make_with(
         &mut self,
         alloc: Global,
@@ -58,7 +58,7 @@ impl Revised {
         }
     }
 
-    // The same where no column may enter.
+    // Makes the step that was selected. Where no column may enter nothing changes.
     fn make(
         &mut self,
         alloc: Global,
@@ -83,7 +83,7 @@ impl Revised {
         }
     }
 
-    // Steps until no column may enter, nothing stops the column that enters, an operation is past 127
+    // Steps until no column may enter, nothing stops the entering column, an operation is past 127
     // bits, or `budget` pivots and flips were made. `used` counts them.
     pub(crate) fn run(
         &mut self,
