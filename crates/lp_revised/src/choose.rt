@@ -59,7 +59,7 @@ fn put_one(form: &Form, k: u32, column: &mut Fracs)
 }
 
 // Column `k` of the form's equations, by rows: its coefficients' negatives where it is structural, else 1 in its row.
-pub fn column_of(alloc: Global, form: &Form, k: u32) -> Result<Fracs, AllocError>
+pub(crate) fn column_of(alloc: Global, form: &Form, k: u32) -> Result<Fracs, AllocError>
     ensures value { IfOk result (λ c. c ≡ column_by form.now k) }
     ensures all { IfOk result (λ c. length c ≡ form.now.rows) }
 {
@@ -181,7 +181,7 @@ fn basic_of(alloc: Global, columns: &[Option<u32>]) -> Result<Vec<u32>, AllocErr
 }
 
 // Factors of the columns that are basic by `basis`, the statuses of the form's structural and logical columns.
-pub fn factor(alloc: Global, form: &Form, basis: &StatusList) -> Result<Factors, BasisStop>
+pub(crate) fn factor(alloc: Global, form: &Form, basis: &StatusList) -> Result<Factors, BasisStop>
     requires { length basis.now ≡ form.now.cols + form.now.rows }
     ensures run { MakesFactors (factor_run (Some number_limit) form.now basis.now) result }
     ensures all { IfOk result (λ s. length s.basic ≡ form.now.rows) }

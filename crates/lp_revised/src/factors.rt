@@ -15,7 +15,7 @@ use std::marker::Model;
 
 // Factors of a basis in product form: a list of pairs, each held as the items of its column that
 // are not 0, and the basic column of each place.
-pub struct Factors {
+pub(crate) struct Factors {
     etas: Vec<Eta>,
     basic: Vec<u32>,
 }
@@ -49,7 +49,7 @@ impl Factors {
     }
 
     // No pairs, and column 0 in each of `rows` places: a stand-in until factors are made.
-    pub fn empty(alloc: Global, rows: u32) -> Result<Factors, AllocError>
+    pub(crate) fn empty(alloc: Global, rows: u32) -> Result<Factors, AllocError>
         requires { rows ≤ 256 }
         ensures { IfOk result (λ s. s ≡ record { pairs = []; basic = replicate rows 0 }) }
     {
@@ -61,7 +61,7 @@ impl Factors {
     }
 
     // The basic column of a place.
-    pub fn basic(&self, place: u32) -> u32
+    pub(crate) fn basic(&self, place: u32) -> u32
         requires { place < length self.now.basic }
         ensures { result ≡ get_or self.now.basic place 0 }
     {
@@ -70,7 +70,7 @@ impl Factors {
 
     // Solves for the basis's columns: `v`, by rows, becomes the list z, by places, with
     // basis * z = v. After a refusal `v` is open.
-    pub fn ftran(&self, v: &mut Fracs) -> Result<(), Past>
+    pub(crate) fn ftran(&self, v: &mut Fracs) -> Result<(), Past>
         requires { length v.old ≡ length self.now.basic }
         ensures run { GivesRun (ftran_run (Some number_limit) (length self.now.basic) self.now.pairs v.old) v.new result }
         ensures all { length v.new ≡ length v.old }
@@ -80,7 +80,7 @@ impl Factors {
 
     // Solves for the basis's rows: `v`, by places, becomes the list y, by rows, with y * basis = v.
     // After a refusal `v` is open.
-    pub fn btran(&self, v: &mut Fracs) -> Result<(), Past>
+    pub(crate) fn btran(&self, v: &mut Fracs) -> Result<(), Past>
         requires { length v.old ≡ length self.now.basic }
         ensures run { GivesRun (btran_run (Some number_limit) (length self.now.basic) self.now.pairs v.old) v.new result }
         ensures all { length v.new ≡ length v.old }
@@ -90,7 +90,7 @@ impl Factors {
 
     // Puts column `col`, whose solution by `ftran` is `solved`, in a place at which `solved` is not 0, and adds its pair.
     // After a stop the factors are spent.
-    pub fn replace_solved(
+    pub(crate) fn replace_solved(
         &mut self,
         alloc: Global,
         place: u32,

@@ -6,7 +6,7 @@ ghost use Rattle.spec_exact.specs.Run as run;
 use lp_frac::{Frac, Fracs, Past, den, is_zero, less_product, num};
 
 // The same fraction. The call does nothing: proofs take from it that the fraction's parts have at most 127 bits.
-pub fn narrow(v: Frac) -> Frac
+pub(crate) fn narrow(v: Frac) -> Frac
     ensures value { result ≡ v }
     ensures narrow { IsNarrow result }
 {
@@ -28,7 +28,7 @@ pub(crate) fn less_part(v: Frac, w: Frac, s: Frac) -> Result<Frac, Past>
 }
 
 // Does nothing: proofs take from the call that the parts of each fraction of `v` have at most 127 bits.
-pub fn tell_narrow(v: &Fracs)
+pub(crate) fn tell_narrow(v: &Fracs)
     ensures { All IsNarrow v.now }
 {
     for i in 0..v.len() {

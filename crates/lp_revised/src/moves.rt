@@ -68,7 +68,12 @@ impl Revised {
 
     // Moves column `col`, which is `solved` by places, to its other bound, and the basic columns with
     // it. After a refusal the state is spent.
-    pub fn flip(&mut self, starts: &[RowStart], solved: &[Frac], col: u32) -> Result<(), Past>
+    pub(crate) fn flip(
+        &mut self,
+        starts: &[RowStart],
+        solved: &[Frac],
+        col: u32,
+    ) -> Result<(), Past>
         requires starts { length starts.now ≡ self.old.bare.rows }
         requires solved { length solved.now ≡ self.old.bare.rows }
         requires column { col < all_columns self.old.bare }

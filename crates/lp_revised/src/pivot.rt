@@ -114,7 +114,7 @@ impl Revised {
     // Moves the entering column by `theta` and the basic columns with it, and makes it basic in place of
     // the column at a position, which goes to the bound `to`. After 64 replacements the factors are taken anew.
     // After a refusal the state is spent.
-    pub fn pivot(
+    pub(crate) fn pivot(
         &mut self,
         alloc: Global,
         form: &Form,

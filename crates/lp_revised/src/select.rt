@@ -18,22 +18,22 @@ use spec_simplex::Entering;
 use std::alloc::Global;
 
 // What a step does: it ends the run, flips a column, or pivots.
-pub type Choice = spec_simplex::Choice<Frac>;
+pub(crate) type Choice = spec_simplex::Choice<Frac>;
 
 // The entering column, and its solution by places.
 #[derive(Drop)]
-pub struct Column {
-    pub number: u32,
-    pub solved: Fracs,
+pub(crate) struct Column {
+    pub(crate) number: u32,
+    pub(crate) solved: Fracs,
 }
 
 // What a step saw, and what it does.
 #[derive(Drop)]
-pub struct Selected {
-    pub multipliers: Fracs,
+pub(crate) struct Selected {
+    pub(crate) multipliers: Fracs,
     // The column that enters, if one may.
-    pub column: Option<Column>,
-    pub choice: Choice,
+    pub(crate) column: Option<Column>,
+    pub(crate) choice: Choice,
 }
 
 impl Revised {
@@ -62,7 +62,7 @@ impl Revised {
     }
 
     // Chooses the next step: the multipliers, the entering column, and what the ratio test does with it.
-    pub fn select(
+    pub(crate) fn select(
         &self,
         alloc: Global,
         form: &Form,

@@ -11,7 +11,7 @@ use lp_frac::{Frac, neg};
 use std::marker::Model;
 
 // How a row began, which fixes the sign of its artificial column.
-pub type RowStart = spec_simplex::RowStart<Frac>;
+pub(crate) type RowStart = spec_simplex::RowStart<Frac>;
 
 // A state of the run: for each position its basic column, for each column its value, its status and
 // its bounds, and factors of the basic columns.
@@ -19,7 +19,7 @@ pub type RowStart = spec_simplex::RowStart<Frac>;
 // The columns are the structural ones, then the logical and then the artificial ones of the rows. The factors hold an
 // artificial as its row's logical.
 #[derive(Drop)]
-pub struct Revised {
+pub(crate) struct Revised {
     pub(crate) rows: u32,
     pub(crate) cols: u32,
     pub(crate) basic: Vec<u32>,
@@ -47,7 +47,7 @@ impl Model for Revised {
 
 impl Revised {
     // How many positions there are, one for each row.
-    pub fn rows(&self) -> u32
+    pub(crate) fn rows(&self) -> u32
         ensures value { result ≡ self.now.bare.rows }
         ensures bound { result ≤ 256 }
     {
@@ -55,7 +55,7 @@ impl Revised {
     }
 
     // How many columns the form has, structural and logical.
-    pub fn form_columns(&self) -> u32
+    pub(crate) fn form_columns(&self) -> u32
         ensures value { result ≡ form_columns_of self.now.bare }
         ensures bound { result ≤ 768 }
     {
@@ -63,7 +63,7 @@ impl Revised {
     }
 
     // How many columns there are with the artificial ones.
-    pub fn width(&self) -> u32
+    pub(crate) fn width(&self) -> u32
         ensures value { result ≡ all_columns self.now.bare }
         ensures bound { result ≤ 1024 }
     {
@@ -71,7 +71,7 @@ impl Revised {
     }
 
     // The basic column of a position.
-    pub fn basic(&self, place: u32) -> u32
+    pub(crate) fn basic(&self, place: u32) -> u32
         requires { place < self.now.bare.rows }
         ensures value { result ≡ basic_at self.now.bare place }
         ensures inside { result < all_columns self.now.bare }
@@ -80,7 +80,7 @@ impl Revised {
     }
 
     // The value of a column.
-    pub fn value(&self, col: u32) -> Frac
+    pub(crate) fn value(&self, col: u32) -> Frac
         requires { col < all_columns self.now.bare }
         ensures { result ≡ value_at self.now.bare col }
     {
@@ -88,7 +88,7 @@ impl Revised {
     }
 
     // The status of a column: basic, or at which bound it is.
-    pub fn status(&self, col: u32) -> Status
+    pub(crate) fn status(&self, col: u32) -> Status
         requires { col < all_columns self.now.bare }
         ensures { result ≡ status_at self.now.bare col }
     {
@@ -96,7 +96,7 @@ impl Revised {
     }
 
     // The lower bound of a column, if it has one.
-    pub fn lower(&self, col: u32) -> Option<Frac>
+    pub(crate) fn lower(&self, col: u32) -> Option<Frac>
         requires { col < all_columns self.now.bare }
         ensures { result ≡ lower_at self.now.bare col }
     {
@@ -104,7 +104,7 @@ impl Revised {
     }
 
     // The upper bound of a column, if it has one.
-    pub fn upper(&self, col: u32) -> Option<Frac>
+    pub(crate) fn upper(&self, col: u32) -> Option<Frac>
         requires { col < all_columns self.now.bare }
         ensures { result ≡ upper_at self.now.bare col }
     {
