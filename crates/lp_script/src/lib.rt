@@ -13,7 +13,7 @@
 //! | `IsOpen`, `HasServed` | a part before its turn and after it | specs/Parts |
 //! | `AreDealt`, `HoldReplies` | the asks and the replies of each part, of those of the script | specs/Dealt |
 //! | `Moves`, `Runs` | what a run reads and writes, and what its end says of that | specs/Run |
-//! | `Turn`, `IsSoFar` | where a run by one worker stands between two asks | proofs/Turns, proofs/SoFar |
+//! | `Turn`, `IsSoFar` | where a run by one worker stands between two asks | proofs/Turns, proofs/ExchangesSoFar |
 //!
 //! By one worker each reply is written before the next command is read; by more, the script is read to its end first. A
 //! session is one worker's, by its number. A worker answers its asks one after the other, in the order of the script, by
