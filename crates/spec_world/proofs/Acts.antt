@@ -1,4 +1,7 @@
 -- Each act of a session, at each of its stages.
+--
+-- `front_front`: the words in front of the words in front are the same.
+-- `shown_all`: words that are read with the shape that is looked for are all words of their place.
 use Rattle.std.proofs.Common.{◌≡◌, ℕ, zero, suc, ◌≤◌, Bool, true, false, List, [], ◌∷◌, ◌++◌, length, Some, None}
 use Rattle.std.proofs.Common.{refl, sym, ap, ◌∙◌, subst, inl, inr, cond, arith}
 use Rattle.std.proofs.lemmas.List.{append-nil, take-take}

@@ -1,4 +1,11 @@
 -- What one event does in a world that events have led to.
+--
+-- `step_reads`: where a world is good, an event adds at most one read, which the places answer as they are then.
+-- `reads_now`: in a run from the opening, an event adds at most one read, which the places answer as they are then.
+-- `done_stays`: a place that is done stays so, with its words, whatever events follow.
+-- `end_fits`: in a run from the opening, an event ends with the reply of the ask that it ends, or quietly where it ends
+--   none.
+-- `not_where_disabled`: an event ends with `Not` exactly where it is not enabled.
 use Rattle.std.proofs.Common.{◌≡◌, ℕ, Bool, true, false, List, [], ◌∷◌, ◌++◌, Option, Some, None, refl, sym, ap}
 use Rattle.std.proofs.Common.{◌∙◌, subst, nat_eq, eqb-true, ◌↔◌, arith}
 use Rattle.std.proofs.lemmas.Bool.{eqb-false}

@@ -1,4 +1,7 @@
 -- An event that is enabled can happen.
+--
+-- `act_taken`: where an act leaves a session and the places so, its event takes the world to the one with these.
+-- `events_happen`: each event has an end and a world after it.
 use Rattle.std.proofs.Common.{◌≡◌, ℕ, Bool, true, false, List, [], ◌∷◌, ◌++◌, Some, refl, sym, ap, subst, inl, inr, nat_eq, cond}
 use Rattle.std.proofs.lemmas.Bool.{eq-eqb, ne_eqb, and_parts}
 use Rattle.spec_board.specs.Places.{ExactPlace, place_at}

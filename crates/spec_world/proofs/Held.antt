@@ -1,4 +1,8 @@
 -- Worlds in which one session moves and the others stay.
+--
+-- `run_append`: events from world a to b, and then from b to c, are a run from a to c.
+-- `holds_own`: where one session is replaced, its number has the new one.
+-- `holds_other`: where one session is replaced, the other numbers have theirs.
 use Rattle.std.proofs.Common.{◌≡◌, ℕ, true, List, [], ◌∷◌, ◌++◌, map, refl, sym, ap, ◌∙◌, subst, cond}
 use Rattle.std.proofs.lemmas.Bool.{eq-eqb, ne_eqb, and_from}
 use Rattle.std.proofs.lemmas.List.{append_assoc, append-nil}
@@ -49,7 +53,7 @@ module _ (server : Server) (old : World) (me : ℕ) (there : has_session server 
       })
 
   -- a later one
-  pub next_act : (s : Session) (now : List ExactPlace) (more : List ExactEvent) (a : ExactAct) (left : Left) →
+  next_act : (s : Session) (now : List ExactPlace) (more : List ExactEvent) (a : ExactAct) (left : Left) →
       fits_stage s.stage a ≡ true → Leaves server me now s s.stage a left →
       WorldStep server (holding old me s now more) (by_session me a) (end_of me left.replied)
       (holding old me left.session left.places (more ++ by_session me a ∷ []))

@@ -120,7 +120,7 @@ module _ (server : Server) (old : World) (me : ℕ) (there : has_session server 
       (ne_eqb (length now) server.places (λ e. omega arith)) refl refl
       (claim_leads now pending (looked ++ read.Count (length now) ∷ [])))
 
-  pub put_leads : (now last : List ExactPlace) (pending : Pending) (looked tried : List ExactRead) (result : Put) →
+  put_leads : (now last : List ExactPlace) (pending : Pending) (looked tried : List ExactRead) (result : Put) →
       PutReads server.places pending.words result tried →
       Plays server.places now (log tried) last →
       Goes (Puts pending looked) now (put_ended pending (looked ++ tried) result) last
@@ -192,7 +192,7 @@ module _ (server : Server) (old : World) (me : ℕ) (there : has_session server 
             (subst (λ rs. Goes (Solving found (reads ++ read.Seen k words ∷ rs)) now new next) c.1 l)
         by false c = more c.1
 
-    pub sees_lead : (k : ℕ) (reads rest : List ExactRead) (last : List ExactPlace) → SeesDown shape k rest found →
+    sees_lead : (k : ℕ) (reads rest : List ExactRead) (last : List ExactPlace) → SeesDown shape k rest found →
         Plays server.places now (log rest) last → Goes (Solving found (reads ++ rest)) now new next →
         Goes (looking shape k reads) now new next
     sees_lead zero reads rest last d plays l =

@@ -1,4 +1,12 @@
--- What a session's stage says of the ask that is being answered.
+-- What holds of a session at each stage of its ask: the look, the solve and the put.
+--
+-- `looks_begin`: a count of n places is the first read of a look that goes on below place n.
+-- `looks_past`: where place k is read and is not what is looked for, the look goes on below it.
+-- `looks_find`: where place k has the words of a basis with the shape, the look ends and has found it.
+-- `looks_over`: a look passes over a place whose words have another shape.
+-- `stage_keeps`: what holds of a session's stage stays while the places grow and its claimed place is its own.
+-- `looking_fits`: a look that has come down to place k, or to the end, has a stage that fits its reads.
+-- `run_on`: a run of a session and one more step are a run.
 use Rattle.std.proofs.Common.{◌≡◌, ℕ, zero, suc, ◌<◌, ◌≤◌, true, false, List, [], ◌∷◌, ◌++◌, length, Some, None, refl}
 use Rattle.std.proofs.Common.{sym, subst, arith}
 use Rattle.std.proofs.lemmas.List.{append_assoc, append-nil}

@@ -1,4 +1,10 @@
 -- Each event keeps what holds of the world, so it holds after every list of events.
+--
+-- `opening_good`: the opening world is good.
+-- `taken`: in a good world, what an event's act leaves fits the session, its reads and the places.
+-- `step_good`: an event leads from a good world to a good world.
+-- `run_good`: a list of events leads from a good world to a good world.
+-- `worlds_sound`: each world that events lead to from the opening is sound.
 use Rattle.std.proofs.Common.{◌≡◌, ℕ, ◌≤◌, Bool, true, false, List, [], ◌∷◌, ◌++◌, length, Some, refl, sym, ap}
 use Rattle.std.proofs.Common.{◌∙◌, subst, ◌⊎◌, inl, inr, nat_eq, eqb-true, cond, arith}
 use Rattle.std.proofs.lemmas.Bool.{eqb-false, eq-eqb, ne_eqb}
@@ -205,7 +211,7 @@ module _ (server : Server) (old : World) (event : ExactEvent) (end : ExactEnd) (
             (moved.published k words e),
       )
 
-  pub taken_good : IsGood server new
+  taken_good : IsGood server new
   taken_good = record {
     run = each (λ i s. AloneRun server.places opening s.finished s.state) moved.run (λ other apart. good.run other);
     stage = subst (λ ps. (session : ℕ) →

@@ -31,6 +31,7 @@ abbrev pub going : Stage → List ExactAsk
 going Idle = []
 going other = solve ∷ []
 
+-- the reads of the ask that is being answered
 abbrev pub reads_so_far : Stage → List ExactRead
 reads_so_far Idle = []
 reads_so_far (Counts shape) = []
@@ -40,9 +41,11 @@ reads_so_far (Puts pending reads) = reads
 reads_so_far (Claims pending c reads) = reads
 reads_so_far (Writes pending k reads) = reads
 
+-- the asks of a session: those that have ended, and the one that is being answered
 abbrev pub asks_of : Session → List ExactAsk
 asks_of s = map (λ x. x.ask) s.finished ++ going s.stage
 
+-- the reads of a session so far
 abbrev pub reads_of : Session → List ExactRead
 reads_of s = flat_map (λ x. x.reads) s.finished ++ reads_so_far s.stage
 
@@ -51,6 +54,7 @@ abbrev pub asks_by : ExactAct → List ExactAsk
 asks_by (act.Ask asked) = asked ∷ []
 asks_by other = []
 
+-- the asks of a session in a list of events
 abbrev pub asks_in : ℕ → List ExactEvent → List ExactAsk
 asks_in session events = flat_map (λ e. if e.session == session then asks_by e.act else []) events
 
@@ -115,6 +119,7 @@ abbrev pub IsKeptAct : ExactAct → Type 0
 IsKeptAct (act.Ask asked) = IsKeptAsk asked
 IsKeptAct other = Unit {0}
 
+-- the models and edits that events ask for may be kept
 abbrev pub AreKeptEvents : List ExactEvent → Type 0
 AreKeptEvents events = AllByRecursion (λ e. IsKeptAct e.act) events
 

@@ -19,12 +19,15 @@ use Rattle.spec_world.specs.declared.event.Event.{Event}
 use Rattle.spec_world.specs.declared.event.StepEnd.{StepEnd}
 use Rattle.spec_world.specs.declared.event.StepEnd.TheVariants.{Quiet, Replied, Not}
 
+-- an act, with exact asks
 abbrev pub ExactAct : Type 0
 ExactAct = Act ExactAsk
 
+-- an event, with exact asks
 abbrev pub ExactEvent : Type 0
 ExactEvent = Event ExactAsk
 
+-- what comes of an event, with exact replies
 abbrev pub ExactEnd : Type 0
 ExactEnd = StepEnd ExactReply
 
@@ -62,14 +65,17 @@ pub record World : Type 0 where
   pub places : List ExactPlace
   pub events : List ExactEvent
 
+-- a session that was asked nothing yet
 abbrev pub opening_session : Session
 opening_session = record { state = opening; stage = Idle; finished = [] }
 
+-- the world before all events
 abbrev pub opening_world : World
 opening_world = record { sessions = λ session. opening_session; places = []; events = [] }
 
 -- ---- where an event is enabled
 
+-- whether an act is the next one at a stage
 abbrev pub fits_stage : Stage → ExactAct → Bool
 fits_stage Idle (act.Ask asked) = true
 fits_stage (Counts shape) act.Count = true
@@ -80,9 +86,11 @@ fits_stage (Claims pending c reads) act.Claim = true
 fits_stage (Writes pending k reads) act.Done = true
 fits_stage stage other = false
 
+-- whether a server has a session of this number
 abbrev pub has_session : Server → ℕ → Bool
 has_session server session = nat_lt 0 session && nat_le session server.sessions
 
+-- whether an event can be taken: the session exists, and the act fits its stage
 abbrev pub is_enabled : Server → World → ExactEvent → Bool
 is_enabled server world event =
     has_session server event.session && fits_stage (world.sessions event.session).stage event.act
@@ -96,6 +104,7 @@ pub record Left : Type 0 where
   pub reads : List ExactRead
   pub replied : Option ExactReply
 
+-- the ask to solve
 abbrev pub solve : ExactAsk
 solve = ask.Plain command.Solve
 
@@ -107,9 +116,11 @@ ended me s asked reads replied next = record {
   finished = s.finished ++ record { session = me; ask = asked; reads = reads; reply = replied } ∷ [];
 }
 
+-- the session at another stage
 abbrev pub at_stage : Session → Stage → Session
 at_stage s stage = record s { stage = stage }
 
+-- what the begin of an ask leaves: its reply, or a look that begins
 abbrev pub begun_left : ℕ → List ExactPlace → Session → ExactAsk → Begun → Left
 begun_left me now s asked (Answers replied next) =
     record { session = ended me s asked [] replied next; places = now; reads = []; replied = Some replied }
@@ -121,6 +132,7 @@ abbrev pub looking : Words → ℕ → List ExactRead → Stage
 looking shape zero reads = Solving None reads
 looking shape (suc k) reads = Sees shape k reads
 
+-- what the count of a look leaves
 abbrev pub counted_left : List ExactPlace → Session → Words → Left
 counted_left now s shape = record {
   session = at_stage s (looking shape (length now) (read.Count (length now) ∷ []));
@@ -140,6 +152,7 @@ seen_stage shape k reads (read.Seen j words) =
     if has_shape shape words then Solving (Some (record { place = k; words = words })) reads else looking shape k reads
 seen_stage shape k reads other = looking shape k reads
 
+-- what the read of place k leaves
 abbrev pub seen_left : List ExactPlace → Session → Words → ℕ → List ExactRead → ExactRead → Left
 seen_left now s shape k reads made = record {
   session = at_stage s (seen_stage shape k (reads ++ made ∷ []) made);
@@ -148,6 +161,7 @@ seen_left now s shape k reads made = record {
   replied = None;
 }
 
+-- what a solve leaves: its reply, or a put that begins
 abbrev pub worked_left : ℕ → List ExactPlace → Session → List ExactRead → Worked → Left
 worked_left me now s reads (Ends replied next) =
     record { session = ended me s solve reads replied next; places = now; reads = []; replied = Some replied }
@@ -164,6 +178,7 @@ put_left me now s pending reads made put = record {
   replied = Some (answered s.state pending.end);
 }
 
+-- what the count of a put leaves: a claim, or the reply where all places are claimed
 abbrev pub put_counted_left : Server → ℕ → List ExactPlace → Session → Pending → List ExactRead → Left
 put_counted_left server me now s pending reads =
     if length now == server.places
@@ -175,6 +190,7 @@ put_counted_left server me now s pending reads =
       replied = None;
     }
 
+-- what the claim of a place leaves: the place, or the reply where another session was quicker
 abbrev pub claimed_left : ℕ → List ExactPlace → Session → Pending → ℕ → List ExactRead → Left
 claimed_left me now s pending c reads =
     if length now == c
@@ -186,6 +202,7 @@ claimed_left me now s pending c reads =
     }
     else put_left me now s pending reads (read.Lost (length now)) (Raced (length now))
 
+-- what the write of place k leaves
 abbrev pub done_left : ℕ → List ExactPlace → Session → Pending → ℕ → List ExactRead → Left
 done_left me now s pending k reads =
     put_left me (with_place now k (place.Done pending.words)) s pending reads (read.Done k pending.words) (Published k)
@@ -206,6 +223,7 @@ Leaves server me now s stage other left = ⊥
 
 -- ---- steps and runs
 
+-- what comes of an act, by the reply that it ended an ask with
 abbrev pub end_of : ℕ → Option ExactReply → ExactEnd
 end_of session None = Quiet
 end_of session (Some replied) = Replied session replied
@@ -226,6 +244,7 @@ abbrev pub StepBy : Bool → Server → World → ExactEvent → ExactEnd → Wo
 StepBy true server old event end new = Takes server old event end new
 StepBy false server old event end new = (end ≡ Not) × (new ≡ old)
 
+-- one event: it is taken where it is enabled, and else changes nothing
 abbrev pub WorldStep : Server → World → ExactEvent → ExactEnd → World → Type 0
 WorldStep server old event end new = StepBy (is_enabled server old event) server old event end new
 
