@@ -1,4 +1,13 @@
--- What the lines of a text and of a basis file behind it say is what both are judged to be.
+-- What is said of the lines of a text with a basis file behind it is what the readers of both judge these lines to be.
+--
+-- `said_handed`: where a model and a basis are said of lines, the lines spell a model and behind it no file or one of
+--   this basis.
+-- `handed_said`: where lines spell a model, and behind it no file or one of a basis, these are said of the lines.
+-- `said_text_refused`: where a fault of the text is said of lines, the reader of texts refuses them at this line for
+--   it.
+-- `said_file_refused`: where a fault of the file is said of lines, a text is behind which the file is wrong at this
+--   line.
+-- `said_both_cut`: where nothing is said of lines, the text is cut off, or the file behind it is.
 use Rattle.std.proofs.Common.{◌≡◌, ℕ, ◌+◌, List, [], ◌∷◌, ◌++◌, Option, Some, None, Result, Ok, Err, refl, sym, ◌∙◌, ap}
 use Rattle.std.proofs.Common.{subst, ◌⊎◌, inl, inr}
 use Rattle.spec_text.specs.declared.line.Line.{Line}

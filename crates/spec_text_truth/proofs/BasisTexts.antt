@@ -1,4 +1,14 @@
 -- What `basis` writes of a model with a basis begins with the line of an answer that is shown of the model.
+--
+-- `handed_spells`: where a model is said of lines with a basis or without, the lines begin with a text that spells it.
+-- `basis_begins`: what `basis` writes of a solve begins with the line of its answer.
+-- `out_answered`: what `basis` writes of a model begins with the line of an answer that is shown of it.
+-- `no_fault`: what begins with another letter than E is not the line of a fault.
+-- `answer_begins`: what `basis` writes of a text's model begins with the line of an answer that is true of it.
+-- `optimal_begins`: where `basis` writes `OPTIMAL` and a text, the lines spell a model whose optimal value the text
+--   reads as.
+-- `infeasible_begins`: where `basis` writes `INFEASIBLE`, the lines spell a model that is infeasible.
+-- `unbounded_begins`: where `basis` writes `UNBOUNDED`, the lines spell a model that is unbounded.
 use Rattle.std.proofs.Common.{◌≡◌, ℕ, nat_eq, false, List, [], ◌∷◌, ◌++◌, Some, Ok, Err, refl, sym, ap}
 use Rattle.std.proofs.Common.{◌∙◌, append_assoc}
 use Rattle.std.specs.Prelude.{codes}

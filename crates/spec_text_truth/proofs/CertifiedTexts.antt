@@ -1,5 +1,10 @@
 -- Where `check` says yes, its input spells a model and, after it, a certificate that shows what the yes says. It is so of
 -- any reading of the certificate's numbers.
+--
+-- `certified`: where `check` says yes, the lines spell a model and a certificate, and what follows for each model of
+--   which the yes is shown holds of this one.
+-- `yes_holds`: where `check` says yes, the lines spell a model, and what the yes says holds of it.
+-- `wide_yes_is`: where `check --wide` says yes, the lines spell a model, and what the yes says holds of it.
 use Rattle.std.proofs.Common.{◌≡◌, ℕ, ◌+◌, List, [], ◌∷◌, ◌++◌, Option, Some, None, Ok, Err, refl, sym, ◌∙◌, ap}
 use Rattle.spec_text.specs.declared.line.Line.{Line}
 use Rattle.spec_exact.specs.Fraction.{ℚ}

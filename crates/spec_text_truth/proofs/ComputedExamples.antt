@@ -1,4 +1,10 @@
 -- What the texts of the examples spell, and what their lines ask, as it is computed.
+--
+-- `ended_is`: the text of the examples spells the model whose objective has the right side -5.
+-- `cut_is`: with one byte more in its last line the text is refused for an unknown section in line 7.
+-- `asked_is`: the lines of `asked_twice` load the model, keep it twice, set the objective's right side to -6, and keep
+--   it from then on.
+-- `widely_is`: the lines of `asked_widely` load the model, and keep it.
 use Rattle.std.proofs.Common.{◌≡◌, ◌++◌, ◌∷◌, ℤ, [], List, pos, negsuc, None, map, refl}
 use Rattle.std.specs.Prelude.{codes}
 use Rattle.spec_model.specs.declared.parts.Sense.TheVariants.{Min}

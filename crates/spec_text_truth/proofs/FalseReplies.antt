@@ -1,4 +1,7 @@
 -- An answer that was true before an edit is refuted behind a certificate whose lines are counted.
+--
+-- `told_is`: what was told for an ask, with a line, is this ask and this line, with the lines behind it.
+-- `before_refuted`: an output is not true in which the answer before an edit is repeated after it.
 use Rattle.std.proofs.Common.{◌≡◌, ℕ, ℤ, pos, negsuc, List, [], ◌∷◌, ◌++◌, length, map, Option, Some, refl, sym, ap, ap₂}
 use Rattle.std.proofs.Common.{◌∙◌, subst, inl, inr, append_assoc, append-nil}
 use Rattle.std.specs.Prelude.{All, codes}

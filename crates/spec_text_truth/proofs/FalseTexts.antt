@@ -1,4 +1,8 @@
 -- A range that is too wide, and an answer to a text that is not all read, are refuted.
+--
+-- `wide_range_refuted`: the output of `range` with ends that are too wide is not true of the text.
+-- `wide_ranges_refuted`: the output of `range` of all numbers with ends that are too wide is not true of the text.
+-- `unended_refuted`: the output `OPTIMAL 5` is not true where the bytes that are left behind the text begin with an X.
 use Rattle.std.proofs.Common.{◌≡◌, ℕ, negsuc, List, [], ◌∷◌, ◌++◌, Option, Some, None, refl, sym, ap, ◌∙◌}
 use Rattle.std.proofs.Common.{subst, inl, inr, append-nil, arith}
 use Rattle.std.specs.Prelude.{IfSome, codes}

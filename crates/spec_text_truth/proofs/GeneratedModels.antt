@@ -1,4 +1,7 @@
 -- What `gen` writes: the line of a size and the line of an answer that is shown of the model.
+--
+-- `size_is`: the first line of what `gen` writes has the numbers of rows, columns and entries.
+-- `answer_follows`: what `gen` writes is the line of the size, and then one of an answer that is true of the model.
 use Rattle.std.proofs.Common.{◌≡◌, ℕ, false, List, [], ◌∷◌, ◌++◌, refl, sym, ap, ◌∙◌, append_assoc}
 use Rattle.std.specs.Prelude.{codes, decimal, replicate}
 use Rattle.spec_exact.specs.Fraction.{ℚ, 0ℚ}

@@ -1,4 +1,8 @@
 -- The lines of bytes, and their words, have no line feed.
+--
+-- `printed_no_feed`: a text of printed bytes has no line feed.
+-- `words_plain`: the words of bytes without a line feed have none.
+-- `lines_plain`: the lines of any bytes have no line feed in them.
 use Rattle.std.proofs.Common.{◌≡◌, ◌≢◌, ◌≤◌, ℕ, ◌-◌, ◌&&◌, nat_le, leb-true, arith, Bool, true, false, cond, nat_eq, List, [], ◌∷◌, take, length, slice_index, get_or}
 use Rattle.std.proofs.Common.{refl, sym, ap, ◌∙◌, subst, ◌⊎◌, inl, inr}
 use Rattle.std.specs.Prelude.{All}

@@ -1,5 +1,10 @@
 -- What `presolve` writes of a text that spells a model: the line of the model that was solved, and the line of an answer
 -- that is shown of the model.
+--
+-- `presolved_begins`: what `presolve` writes is the line of its way, the line of its answer, and the certificate's
+--   lines.
+-- `out_answered`: what `presolve` writes of a model is the line of its way, and then one of an answer that is shown of
+--   it.
 use Rattle.std.proofs.Common.{◌≡◌, ℕ, List, [], ◌∷◌, ◌++◌, Option, Some, Ok, refl, sym, ap, ◌∙◌, subst, append_assoc}
 use Rattle.std.specs.Prelude.{codes, decimal}
 use Rattle.spec_text.specs.declared.line.Line.{Line}

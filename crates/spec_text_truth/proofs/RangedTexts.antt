@@ -1,4 +1,9 @@
 -- What `range` writes of a text that spells a model is true of the model.
+--
+-- `cut_at`: texts that are the same up to the first byte d of each are the same before it, and behind it.
+-- `printed_has_no`: a printed text has no byte of 32 or less.
+-- `texts_said`: where the line of a range is made of three texts, these read as its two ends and its slope.
+-- `range_is`: a range found at the limit of 127 bits has such numbers, and is the range of the number by definition.
 use Rattle.std.proofs.Common.{◌≡◌, ◌≢◌, ◌≤◌, ℕ, true, List, [], ◌∷◌, ◌++◌, Option}
 use Rattle.std.proofs.Common.{Some, None, Result, Ok, Err, refl, sym, ◌∙◌, ap, subst, append_assoc, arith}
 use Rattle.std.specs.Prelude.{All, codes, nat_le}

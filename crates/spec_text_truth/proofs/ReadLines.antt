@@ -1,5 +1,9 @@
 -- The lines of all bytes begin with those that end among the first ones, and a model that the lines say is one that they
 -- spell.
+--
+-- `lines_begin`: the lines of bytes, with others behind them, begin with the lines that end among the first n bytes.
+-- `spells_more`: lines that spell a model spell it with any lines behind them.
+-- `said_of_read`: what is said of the bytes that were read is said of lines, whose model the input spells.
 use Rattle.std.proofs.Common.{◌≡◌, ◌≢◌, ℕ, ◌+◌, Bool, true, false, nat_eq, eqb-true, List, [], ◌∷◌, ◌++◌, Some, Ok, Err}
 use Rattle.std.proofs.Common.{refl, sym, ◌∙◌, ap, subst, append_assoc, append-nil, take, drop, inl, inr}
 use Rattle.std.specs.Prelude.{All, Option}

@@ -1,4 +1,10 @@
 -- What was told is read off an output line by line.
+--
+-- `first_told`: where an output begins with a line without a line feed, this is the line of the first reply.
+-- `alone_told`: where the first line begins with a letter that announces no lines, the next replies follow at once.
+-- `is_four`: a number whose decimal text is 4 is 4.
+-- `four_behind`: behind the line `CERT 4` stand four lines.
+-- `behind_lines`: where two outputs of the same bytes begin with as many lines, the same bytes stand behind these.
 use Rattle.std.proofs.Common.{◌≡◌, ◌≤◌, ℕ, zero, suc, ◌+◌, ◌/◌, ◌%◌, Bool, true, false, cond, nat_eq, List, [], ◌∷◌, ◌++◌, length}
 use Rattle.std.proofs.Common.{refl, sym, ap, ◌∙◌, ◌⊎◌, inl, inr, append_assoc, arith, eqb-true}
 use Rattle.std.specs.Prelude.{All, codes, decimal, nat_lt}

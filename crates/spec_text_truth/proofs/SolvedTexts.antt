@@ -1,4 +1,12 @@
 -- What `solve` writes of a text that spells a model begins with the line of an answer that is shown of the model.
+--
+-- `solved_begins`: what `solve` writes of an end is the line of its answer and then those of its certificate.
+-- `out_answered`: what `solve` writes of a model begins with the line of an answer that is shown of it.
+-- `same_said`: two things that are said of the same lines are the same.
+-- `answer_begins`: what `solve` writes of a text's model begins with the line of an answer that is true of it.
+-- `optimal_begins`: where `solve` writes `OPTIMAL` and a text, the text reads as the model's optimal value.
+-- `infeasible_begins`: where `solve` writes `INFEASIBLE`, the model that the lines spell is infeasible.
+-- `unbounded_begins`: where `solve` writes `UNBOUNDED`, the model that the lines spell is unbounded.
 use Rattle.std.proofs.Common.{◌≡◌, ℕ, List, [], ◌∷◌, ◌++◌, Option, Some, Ok, sym, ◌∙◌, subst, append_assoc}
 use Rattle.std.specs.Prelude.{codes}
 use Rattle.spec_text.specs.declared.line.Line.{Line}

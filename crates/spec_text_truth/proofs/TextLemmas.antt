@@ -1,4 +1,9 @@
--- What the lines of a text say is what the text is judged to be.
+-- What is said of the lines of a text is what the reader of texts judges them to be.
+--
+-- `said_spelled`: where a model is said of lines, the lines spell it.
+-- `said_refused`: where a fault is said of lines, the reader refuses them at this line for it.
+-- `said_cut`: where nothing is said of lines, the reader refuses them as cut off.
+-- `spelled_said`: where lines spell a model, it is said of them.
 use Rattle.std.proofs.Common.{◌≡◌, ℕ, ◌+◌, List, [], ◌∷◌, Option, Some, None, Ok, Err, refl, sym, ◌∙◌, subst}
 use Rattle.spec_text.specs.declared.line.Line.{Line}
 use Rattle.spec_model.specs.declared.parts.SizeLimits.{SizeLimits}

@@ -1,4 +1,8 @@
 -- What is written of a reply is its line and the lines behind it, as many as it says.
+--
+-- `announced_first`: a line that announces lines behind it begins with T, C or W.
+-- `reply_lines_told`: what is written of a reply is its line, with its session, and the lines that stand behind it.
+-- `step_listed`: in a good state, the texts and certificates that a step replies are of whole lines.
 use Rattle.std.proofs.Common.{◌≡◌, ◌≢◌, ℕ, suc, Bool, true, false, cond, ◌||◌, nat_eq, List, [], ◌∷◌, ◌++◌, length, map}
 use Rattle.std.proofs.Common.{get_or, Option, Some, None, Ok, Err, refl, sym, ap, ◌∙◌, subst, ◌⊎◌, inl, inr, append_assoc}
 use Rattle.std.proofs.Common.{eqb-true}

@@ -101,7 +101,7 @@ module _ (places : ℕ) (before behind : List Exchange) (x : Exchange) (alone : 
       run_good places opening here.old (of_session x.session before)
       (session_kept x.session before (front_kept before (x ∷ behind) may)) here.run (record { kept = tt; fits = tt })
 
-  pub then_listed : AreKept (map asked_in (before ++ x ∷ behind)) → IsListed x.reply
+  then_listed : AreKept (map asked_in (before ++ x ∷ behind)) → IsListed x.reply
   then_listed may = step_listed places here.old here.new x.ask x.reads x.reply here.step (good may)
 
   pub then_plain : AreKept (map asked_in (before ++ x ∷ behind)) → IsPlainAsk x.ask → IsPlainReply x.reply
@@ -169,7 +169,7 @@ module _ (places : ℕ) (before behind : List Exchange) (x : Exchange) (alone : 
           line_is_true IsThen w.0 line (is_then w.0 w.1)
           (subst (λ (l : List ℕ). IsOpen l ⊎ IsKnownLine w.0 l) same w.2)
 
-  pub then_true : IsTrueReply (map told_of before) (told_of x)
+  then_true : IsTrueReply (map told_of before) (told_of x)
   then_true = (answer_line, yes_line, wide_line)
 
 -- ---- lists of exchanges

@@ -1,4 +1,11 @@
 -- Lines of outputs that are true of a model, by what is known of it.
+--
+-- `tail_no_feed`: where two texts one behind the other have no line feed, the second has none.
+-- `fraction_no_feed`: the text of a fraction has no line feed.
+-- `past_no_feed`: the text of a refused operation has no line feed.
+-- `known_no_feed`: the text of a known answer has no line feed.
+-- `answer_no_feed`: the text of an answer has no line feed.
+-- `wide_known_no_feed`: the text of an answer with numbers of any width has no line feed.
 use Rattle.std.proofs.Common.{◌≡◌, ◌≢◌, ℕ, zero, suc, ◌+◌, ◌*◌, ◌/◌, ◌%◌, ◌^◌, true, false, nat_eq, List, [], ◌∷◌, ◌++◌}
 use Rattle.std.proofs.Common.{cond, Option, Some, None, unsigned_abs, int_lt, pos, refl, sym, ◌∙◌, ap, subst, arith}
 use Rattle.std.specs.Prelude.{codes, decimal, nat_le}

@@ -1,4 +1,9 @@
 -- What the commands that read a text write of it is true of the model that it spells.
+--
+-- `said_true`: what a command may write after something was said of the bytes that were read is true of the input's
+--   model.
+-- `none_true`: an empty output is true of every model.
+-- `no_seed_true`: an empty output is true of what a seed gives.
 use Rattle.std.proofs.Common.{◌≡◌, ◌≢◌, ℕ, false, nat_eq, List, [], ◌∷◌, ◌++◌, Option, Some, Ok, Err, ◌⊎◌, inl, inr}
 use Rattle.std.proofs.Common.{refl, sym, ◌∙◌, ap, subst, append_assoc}
 use Rattle.std.specs.Prelude.{All, codes, decimal}

@@ -1,4 +1,8 @@
 -- What `basis --wide` writes of a model with a basis begins with the line of an answer that is true of the model.
+--
+-- `optimal_begins`: where `basis --wide` writes `OPTIMAL` and a text, the lines spell a model with this optimal value.
+-- `infeasible_begins`: where `basis --wide` writes `INFEASIBLE`, the lines spell a model that is infeasible.
+-- `unbounded_begins`: where `basis --wide` writes `UNBOUNDED`, the lines spell a model that is unbounded.
 use Rattle.std.proofs.Common.{◌≡◌, ◌≤◌, ℕ, List, ◌∷◌, ◌++◌, length, Some, Ok, Err, refl, ap}
 use Rattle.std.specs.Prelude.{codes}
 use Rattle.spec_text.specs.declared.line.Line.{Line}

@@ -1,4 +1,10 @@
 -- What a reader makes of the line that `check --wide` writes of a yes.
+--
+-- `valued_or_same`: a reply is a yes with a value, or has the same text as without `--wide`.
+-- `wide_optimal_line`: where `check --wide` writes `YES OPTIMAL` and a text, the lines spell a model with this optimal
+--   value.
+-- `wide_infeasible_line`: where `check --wide` writes `YES INFEASIBLE`, the lines spell a model that is infeasible.
+-- `wide_unbounded_line`: where `check --wide` writes `YES UNBOUNDED`, the lines spell a model that is unbounded.
 use Rattle.std.proofs.Common.{◌≡◌, ◌≤◌, ℕ, List, [], ◌∷◌, ◌++◌, length, get_or, Some, ◌⊎◌, inl, inr, refl, sym, ◌∙◌, ap, subst}
 use Rattle.std.specs.Prelude.{codes}
 use Rattle.spec_text.specs.declared.line.Line.{Line}

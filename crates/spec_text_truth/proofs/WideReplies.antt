@@ -1,4 +1,8 @@
 -- The lines that an exact solve replies, and what the first of them says.
+--
+-- `known_no_feed`: the text of an answer with numbers of any width has no line feed.
+-- `line_no_feed`: the first line of a wide solve has no line feed in it.
+-- `line_is_true`: the first line of a wide solve is true of the model.
 use Rattle.std.proofs.Common.{◌≡◌, ℕ, zero, suc, ◌<◌, Bool, true, false, cond, List, [], ◌∷◌, ◌++◌, refl, sym, ap, ◌∙◌}
 use Rattle.std.proofs.Common.{arith, ◌⊎◌, inl, inr, get_or, subst}
 use Rattle.std.specs.Prelude.{All, codes}

@@ -1,4 +1,8 @@
 -- What `solve --wide` writes of a text that spells a model begins with the line of an answer that is true of the model.
+--
+-- `optimal_begins`: where `solve --wide` writes `OPTIMAL` and a text, the text is the model's optimal value.
+-- `infeasible_begins`: where `solve --wide` writes `INFEASIBLE`, the model that the lines spell is infeasible.
+-- `unbounded_begins`: where `solve --wide` writes `UNBOUNDED`, the model that the lines spell is unbounded.
 use Rattle.std.proofs.Common.{◌≡◌, ◌≤◌, ℕ, List, [], ◌∷◌, ◌++◌, length, Some, Ok, inl, inr, refl, sym, ◌∙◌, ap, subst}
 use Rattle.std.specs.Prelude.{codes}
 use Rattle.spec_text.specs.declared.line.Line.{Line}

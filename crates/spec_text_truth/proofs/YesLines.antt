@@ -1,4 +1,10 @@
 -- What a reader makes of the line that `check` writes of a yes.
+--
+-- `same_end`: two lines are the same where they are so with a line feed behind each.
+-- `optimal_line`: where `check` writes `YES OPTIMAL` and a text, the text reads as the optimal value of a model that
+--   the lines spell.
+-- `infeasible_line`: where `check` writes `YES INFEASIBLE`, the lines spell a model that is infeasible.
+-- `unbounded_line`: where `check` writes `YES UNBOUNDED`, the lines spell a model that is unbounded.
 use Rattle.std.proofs.Common.{◌≡◌, ℕ, List, [], ◌∷◌, ◌++◌, Some, refl, sym, ◌∙◌, ap}
 use Rattle.std.specs.Prelude.{codes}
 use Rattle.spec_text.specs.declared.line.Line.{Line}

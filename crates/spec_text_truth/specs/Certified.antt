@@ -15,8 +15,8 @@ use Rattle.spec_program.specs.declared.command_line.TextCommand.TheVariants.{Che
 use Rattle.spec_program.specs.TextLimits.{limits_of}
 use Rattle.spec_server.specs.TextSaid.{text_said_within}
 
--- The lines up to the first one that ends the text of a model within limits, the lines of a certificate after it, whose numbers are read
--- so, and what is so of the model.
+-- The lines up to the first one that ends the text of a model within limits; the lines of a certificate after it, whose
+-- numbers are read by `read`; and what is so of the model.
 pub record IsCertifiedBy (read : Reading ℚ) (limits : SizeLimits) (style : Style) (lines : List (Line (List ℕ)))
     (IsSo : Model → Type 0) : Type 0 where
   pub front : List (Line (List ℕ))

@@ -2,12 +2,14 @@
 use Rattle.std.specs.Prelude.{ℕ, List, [], ◌∷◌, ◌++◌, codes}
 use Rattle.spec_server.specs.Output.{ended_lines}
 
--- the text of a model without columns, in which 0 is at most 1 and the value is 5; without the last line feed, and with it
+-- the text of a model without columns whose row asks that 0 is at most 1, and whose objective is the constant 5;
+-- without the last line feed
 abbrev pub unended_text : List ℕ
 unended_text =
     ended_lines (codes "ROWS" ∷ codes " N COST" ∷ codes " L ROW" ∷ codes "COLUMNS" ∷ codes "RHS" ∷ codes " RHS COST -5 ROW 1" ∷ [])
     ++ codes "ENDATA"
 
+-- this text with its last line feed
 abbrev pub ended_text : List ℕ
 ended_text = unended_text ++ 10 ∷ []
 

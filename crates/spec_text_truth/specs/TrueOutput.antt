@@ -51,6 +51,7 @@ HasNoFeed line = All (λ b. b ≢ 10) line
 abbrev pub IsNumber : List ℕ → ℚ → Type 0
 IsNumber text v = number_of text ≡ Is v
 
+-- a text is that of a number of any width
 abbrev pub IsWideNumber : List ℕ → ℚ → Type 0
 IsWideNumber text v = text ≡ wide_text v
 
@@ -61,14 +62,15 @@ pub record IsTrueLine (IsOf : Model → Type 0) (IsText : List ℕ → ℚ → T
   pub infeasible : line ≡ codes "INFEASIBLE" → (m : Model) × IsOf m × IsInfeasible m
   pub unbounded : line ≡ codes "UNBOUNDED" → (m : Model) × IsOf m × IsUnbounded m
 
--- it is so of what stands behind the word YES
+-- IsTrue holds of what stands behind the word `YES` in a line
 abbrev pub BehindYes : (List ℕ → Type 0) → List ℕ → Type 0
 BehindYes IsTrue line = (rest : List ℕ) → line ≡ codes "YES " ++ rest → IsTrue rest
 
--- it is so of the first line of an output, or of the first two
+-- IsTrue holds of the first line of an output
 abbrev pub OfFirst : (List ℕ → Type 0) → List ℕ → Type 0
 OfFirst IsTrue output = (line behind : List ℕ) → HasNoFeed line → output ≡ line ++ 10 ∷ behind → IsTrue line
 
+-- IsTrue holds of the first line of an output, and of the second
 abbrev pub OfFirstTwo : (List ℕ → Type 0) → List ℕ → Type 0
 OfFirstTwo IsTrue output =
     (line behind : List ℕ) → HasNoFeed line → output ≡ line ++ 10 ∷ behind → IsTrue line × OfFirst IsTrue behind
@@ -90,7 +92,7 @@ pub record IsTrueRange (moved : Moved) (name : Name) (m : Model) (value low high
   pub optimal : (t : ℚ) → IsBetween ends t →
       IsOptimal (with_number moved m at t) (optimum +ℚ (t -ℚ number_at moved m at) *ℚ growth)
 
--- It is so of a line with a range, behind that of an optimum and this text.
+-- What an output says of a range, behind the line of an optimum and the text `between`, is true of a model.
 abbrev pub SaysTrueRange : Moved → Name → List ℕ → (Model → Type 0) → List ℕ → Type 0
 SaysTrueRange moved name between IsOf output =
     (value low high slope behind : List ℕ) → HasNoFeed value → All (λ b. b ≢ 32) (low ++ high) → HasNoFeed slope →
@@ -98,7 +100,7 @@ SaysTrueRange moved name between IsOf output =
     ++ 10 ∷ (between ++ (codes "RANGE " ++ low ++ codes " " ++ high ++ codes " SLOPE " ++ slope ++ 10 ∷ behind)) →
     (m : Model) × IsOf m × IsTrueRange moved name m value low high slope
 
--- It is so of each number whose line stands there, whatever lines stand before it.
+-- What an output says of each range is true of a model, whatever lines stand before its own.
 abbrev pub SaysTrueRanges : (Model → Type 0) → List ℕ → Type 0
 SaysTrueRanges IsOf output =
     (moved : Moved) (name : Name) (before : List (List ℕ)) → All (λ b. b ≢ 32) name →
@@ -113,6 +115,7 @@ pub record AreTrueSides (m : Model) (count behind : List ℕ) : Type 0 where
   pub contrary : (z : List ℚ) → ¬ (MeetsAll m sides z)
   pub needed : (k : ℕ) → k < length sides → (z : List ℚ) × MeetsAll m (remove sides k) z
 
+-- what an output says of infeasible sides is true of a model
 abbrev pub SaysTrueSides : (Model → Type 0) → List ℕ → Type 0
 SaysTrueSides IsOf output =
     (count behind : List ℕ) → HasNoFeed count → output ≡ codes "INFEASIBLE" ++ 10 ∷ (codes "IIS " ++ count ++ 10 ∷ behind) →
@@ -138,6 +141,7 @@ IsTrueOfText command IsOf output = OfFirst (IsTrueLine IsOf IsNumber) output
 abbrev pub Effect : Type 0
 Effect = Option Model → List ℕ → Option Model
 
+-- an ask as its effect on the model, with its session
 pub record Asking : Type 0 where
   pub session : ℕ
   pub effect : Effect
@@ -157,6 +161,7 @@ abbrev pub effect_of_text : Verdict → Effect
 effect_of_text (Spelled m) = λ held line. Some m
 effect_of_text (Refused n fault) = λ held line. held
 
+-- the asks of one session, by their effects
 abbrev pub asked_of : ℕ → List Effect → List Asking
 asked_of session effects = map (λ effect. record { session = session; effect = effect }) effects
 
@@ -170,6 +175,7 @@ asked_in_line addressing (Text session form body) next =
 asked_in_line addressing (Certificate session body) next =
     asked_of session (if ends_certificate next then (λ held line. held) ∷ [] else [])
 
+-- the asks of lines, from what is pending before them
 abbrev pub asked_from : Addressing → Pending → List (Line (List ℕ)) → List Asking
 asked_from addressing pending [] = []
 asked_from addressing pending (next ∷ lines) =
@@ -195,6 +201,7 @@ pub record IsFramed (x : Told) : Type 0 where
   pub counted : Announces x.line (codes " " ++ decimal (length x.behind))
       ⊎ ((x.behind ≡ []) × ((more : List ℕ) → ¬ (Announces x.line more)))
 
+-- the output of what was told: each line, with its session, and the lines behind it
 abbrev pub told_out : Addressing → List Told → List ℕ
 told_out addressing told = flat_map (λ x. front_of addressing x.asked.session ++ x.line ++ 10 ∷ ended_lines x.behind) told
 
