@@ -1,4 +1,7 @@
--- The lines up to the one at which something is said, and where the reading stops.
+-- Reading an input line by line: what was read at each turn, and what the reading answers where it stops.
+--
+-- `hears_as`: an answer equal to one that tells the truth of the lines read tells it too.
+-- `memory_no_fault`: where memory ran out, the answer is not that the source failed.
 use Rattle.std.proofs.Common.{◌≡◌, ◌≢◌, ℕ, ◌-◌, ◌^◌, ◌≤◌, ◌<◌, List, [], ◌∷◌, ◌++◌, length, Option, Some, None, Result}
 use Rattle.std.proofs.Common.{Ok, Err, arith, ap, sym, ◌∙◌, append_assoc, append-nil, length-append, refl, inl, inr}
 use Rattle.std.proofs.Common.{subst, ⊎_elim}

@@ -1,4 +1,7 @@
--- The pairs of a new column, as far as they were read.
+-- The pairs of a new column, of which some have been read and words are left.
+--
+-- `one_read`: reading a row's name and a number off the words that are left adds this pair to those read.
+-- `none_left`: where fewer than two words are left, the pairs read are all pairs of the words.
 use Rattle.std.proofs.Common.{◌≡◌, ◌≤◌, ◌<◌, ℕ, ◌-◌, List, [], ◌∷◌, ◌++◌, Option, Some, None, option_map, Ok, Err}
 use Rattle.std.proofs.Common.{length, take, drop, slice_index_or, refl, ap, sym, ◌∙◌, subst, append_assoc, append-nil}
 use Rattle.std.proofs.Common.{arith}

@@ -1,4 +1,14 @@
--- The lines of a script, by what is held of a body.
+-- Where each line of a script leads, between two commands or in the body of one.
+--
+-- `behind_step`: what lines say of a script is what the first line asks, or else what the others say of the next state.
+-- `skips`: a line between two commands that is no command leaves the script between them.
+-- `commands`: a command's line completes its ask, or begins its body.
+-- `text_goes_on`: a line of a model's text that is not its last one leads on in the text.
+-- `text_ends`: the last line of a model's text completes the ask with what the text says.
+-- `certificate_goes_on`: a line of a certificate that is not its last one leads on in the certificate.
+-- `certificate_ends`: the last line of a certificate completes the ask with what its text says.
+-- `ends_so`: the end of the input ends a script between two commands, and cuts one in a body off.
+-- `leads_as`: a step equal to one to which a line leads is one to which the line leads.
 use Rattle.std.proofs.Common.{◌≡◌, ◌≢◌, ℕ, ◌+◌, ◌≤◌, List, [], ◌∷◌, ◌++◌, Option, Some, None, Ok, Err, Bool, true}
 use Rattle.std.proofs.Common.{false, cond, arith, ap, sym, ◌∙◌, append_assoc, refl, subst}
 use Rattle.spec_text.specs.declared.line.Line.{Line}

@@ -1,4 +1,8 @@
--- Where the lines of a text and of a certificate lead.
+-- Where the lines of a model's text and of a certificate's text lead.
+--
+-- `certificate_goes_on`: where the reader takes a line and goes on, the line leads to the reader's next state.
+-- `certificate_spells`: where the reader's step ends the text, the line says the certificate that it spells.
+-- `certificate_is_unfit`: where a line does not fit, it says its number.
 use Rattle.std.proofs.Common.{◌≡◌, ℕ, ◌+◌, Option, Some, Ok, Err, List, ◌∷◌, arith, ap, sym, ◌∙◌}
 use Rattle.spec_text.specs.declared.line.Line.{Line}
 use Rattle.spec_text.specs.declared.line.Line.TheVariants.{End}
