@@ -1,4 +1,8 @@
--- A word is at fault exactly where words are no command line.
+-- A word is at fault exactly where the words are no command line.
+--
+-- `all_fault`: where the first word behind `range` asks for all numbers, the fault is that of the options behind it.
+-- `one_fault`: where it does not, the fault is that of the words for one number.
+-- `no-told_fault`: where the fault found is the definition's, there is none exactly if the words are a command line.
 use Rattle.std.proofs.Common.{◌≡◌, ℕ, Bool, true, false, ◌&&◌, not, cond, List, [], ◌∷◌, Option, Some, None}
 use Rattle.std.proofs.Common.{arith, refl, sym, ap, ◌∙◌}
 use Rattle.std.specs.Prelude.{codes, option_map, option_and_then, is_some, is_none}

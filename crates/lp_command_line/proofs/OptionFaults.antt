@@ -1,4 +1,7 @@
--- The fault of options, option by option.
+-- The first fault of the options, option by option.
+--
+-- `told-by`: where two faults are the definition's, the first of them that there is is the definition's too.
+-- `one-left`: a last word without a value has the fault that it names no option, or that its value is missing.
 use Rattle.std.proofs.Common.{◌≡◌, ℕ, Bool, true, false, cond, ◌≤◌, arith, List, [], ◌∷◌, length, map, get_or}
 use Rattle.std.proofs.Common.{Option, Some, None, refl, sym, ap, ◌∙◌}
 use Rattle.std.specs.Prelude.{is_some}

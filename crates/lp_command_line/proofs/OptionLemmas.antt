@@ -1,4 +1,12 @@
--- The options of a command line, option by option and as a whole.
+-- The options of a command line, read one by one by the code and in pairs by the definition.
+--
+-- `value-look_up`: where the words pair up as options, the value read by a name is the one that the pairs have.
+-- `pairs_are`: the test that there are pairs and all of their options have these names, none given twice.
+-- `options-some`: where the test of the words one by one passes, they are options, which are their pairs.
+-- `options-none`: where the test of the words one by one fails, they are no options.
+-- `are-short`: where the words have no first option, they pass the test exactly if there are none.
+-- `any-bytes`: a word is one of the names as the code holds them exactly if it is one of their texts.
+-- `some-copied`: copying what is behind a reference keeps whether there is something.
 use Rattle.std.proofs.Common.{◌≡◌, ℕ, ◌&&◌, ◌||◌, Bool, true, false, not, cond, ◌<◌, ◌==◌, arith}
 use Rattle.std.proofs.Common.{List, [], ◌∷◌, length, map, Option, Some, None, refl, sym, ap, ◌∙◌}
 use Rattle.std.specs.Prelude.{option_copied, is_some, option_map, option_and_then}
