@@ -4,18 +4,18 @@ use Rattle.spec_text.specs.declared.line.Line.{Line}
 use Rattle.lp_line.specs.declared.body.Body.{Body}
 use Rattle.lp_line.specs.declared.body.Body.TheVariants.{Reading, Read}
 
--- lines that are passed over change nothing
+-- what lines say of a body; behind the line at which something was said they change nothing
 abbrev pub BodySays : {T R : Type 0} → (T → List (Line (List ℕ)) → Option R → Type 0) → Body T R →
     List (Line (List ℕ)) → Option R → Type 0
 BodySays Say (Reading stage) lines answer = Say stage lines answer
 BodySays Say (Read what) lines answer = answer ≡ Some what
 
--- of how many lines it is, as far as they were read
+-- how many lines of a body were read, 0 where something was said of it
 abbrev pub count_in : {T R : Type 0} → (T → ℕ) → Body T R → ℕ
 count_in count (Reading stage) = count stage
 count_in count (Read what) = 0
 
--- after the line lines say what they say after the next body
+-- what more lines say of the next body is what they say of the body behind this line
 pub record PassesTo {T R : Type 0} (Say : T → List (Line (List ℕ)) → Option R → Type 0) (count : T → ℕ)
     (body : Body T R) (here : Line (List ℕ)) (next : Body T R) : Type 0 where
   pub behind : (more : List (Line (List ℕ))) (answer : Option R) → BodySays Say next more answer →

@@ -34,6 +34,7 @@ Leads Say count stage here (step.Says what) = (more : List (Line (List ℕ))) �
 abbrev pub IsGiven : Line (List ℕ) → Type 0
 IsGiven next = (next ≢ line.End) × (next ≢ line.Over)
 
+-- none of the lines stands for the end of an input
 abbrev pub AreGiven : List (Line (List ℕ)) → Type 0
 AreGiven lines = All IsGiven lines
 
@@ -69,6 +70,7 @@ pub record TakesPart (before after : Option (List ℕ)) (old new : LinesState) :
   pub passed : List (Line (List ℕ))
   pub reads : ReadsLines before after old new passed ⊎ ReadsUntil before after old passed (Err stop.NoMemory)
 
+-- what the reading of an input answers: what was said at a line or at the end, or that the input is too long, or what failed
 abbrev pub HearsNext : {R : Type 0} → (List (Line (List ℕ)) → Option R → Type 0) → Option (List ℕ) → Option (List ℕ) →
     LinesState → LinesState → Result (Heard R) LineStop → Type 0
 HearsNext Say before after old new (Ok (heard.Says what)) =

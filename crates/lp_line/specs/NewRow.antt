@@ -5,11 +5,11 @@ use Rattle.spec_edit.specs.declared.edit.Edit.TheVariants.{AddRow}
 use Rattle.spec_edit.specs.Edited.{ExactEdit}
 use Rattle.spec_server.specs.EditCommand.{Reads, ◌>>=◌, kind_in, number_in, new_range_in}
 
--- without a range
+-- the edit for a row without a range
 abbrev pub plain_row : Name → List ℕ → List ℕ → Reads ExactEdit
 plain_row name kind rhs = kind_in kind >>= λ k. number_in rhs >>= λ b. Ok (AddRow name k b None)
 
--- and with one
+-- the edit for a row with a range
 abbrev pub ranged_row : Name → List ℕ → List ℕ → List ℕ → Reads ExactEdit
 ranged_row name kind rhs range =
     kind_in kind >>= λ k. number_in rhs >>= λ b. new_range_in k range >>= λ r. Ok (AddRow name k b (Some r))

@@ -28,6 +28,7 @@ use Rattle.lp_line.specs.Stages.{NarrowRead, TextSays, CertificateSaid, certific
 
 -- ---- the lines of a script, one by one, with all lines of a body
 
+-- what is taken where the input ends
 abbrev pub taken_at : Ending → Taken
 taken_at Ended = taken.End
 taken_at Cut = taken.Cut
@@ -38,6 +39,7 @@ abbrev pub behind_asks : List (Asked ExactAsk) → Pending → Step Pending Take
 behind_asks [] next = On next
 behind_asks (asked ∷ more) next = Says (taken.Ask asked)
 
+-- where a line leads: an ask that it completes, or the next state of the script, or the script's end
 unfoldable pub script_step : Addressing → Pending → Line (List ℕ) → Step Pending Taken
 script_step addressing pending (line.Text bytes) =
     behind_asks (asks_of_line addressing pending (line.Text bytes))
@@ -57,11 +59,13 @@ TextFits form lines body =
     (more : List (Line (List ℕ))) (answer : Option TextSaid) → BodySays TextSays body more answer →
     said_by (text_step usual_limits form) (record { state = start; lines = 0 }) (lines ++ more) ≡ answer
 
+-- the same of a certificate's text
 abbrev pub CertificateFits : List (Line (List ℕ)) → Body NarrowRead CertificateSaid → Type 0
 CertificateFits lines body =
     (more : List (Line (List ℕ))) (answer : Option CertificateSaid) → BodySays CertificateSays body more answer →
     said_by certificate_step (record { raw = None; lines = 0 }) (lines ++ more) ≡ answer
 
+-- the code's stage is the definition's state of the script
 abbrev pub Fits : Addressing → Pending → ScriptStage → Type 0
 Fits addressing Between (stage.Between own) = own ≡ addressing
 Fits addressing (Text session form lines) (stage.Text own body) = (own ≡ session) × TextFits form lines body
@@ -94,19 +98,21 @@ pub record BeginsBody (session : ℕ) (command : ExactCommand) (next : ScriptSta
   pub fits : (addressing : Addressing) → Fits addressing (begun session command) next
   pub counts : lines_in next ≤ 1
 
--- or the command's ask is complete
+-- the command's ask is complete
 abbrev pub Asks : List (Asked ExactAsk) → Taken → Type 0
 Asks asks what = (asked : Asked ExactAsk) × (what ≡ taken.Ask asked) × (asks ≡ asked ∷ [])
 
+-- what a command leads to: a body, or its ask
 abbrev pub Begins : ℕ → ExactCommand → code.Step ScriptStage Taken → Type 0
 Begins session command (step.On next) = BeginsBody session command next
 Begins session command (step.Says what) = Asks (asks_of_command session command) what
 
--- what verdicts and judgements say
+-- what the verdict on a model's text says
 abbrev pub verdict_said : text.Verdict → TextSaid
 verdict_said (text.Spelled m) = Ok m
 verdict_said (text.Refused n code) = Err (record { line = n; code = code })
 
+-- what the judgement of a certificate's text says
 abbrev pub judgement_said : certificate.Judgement → CertificateSaid
 judgement_said (certificate.Spelled raw) = Ok raw
 judgement_said (certificate.Refused n) = Err n

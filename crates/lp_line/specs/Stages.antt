@@ -11,15 +11,16 @@ use Rattle.spec_server.specs.TextSaid.{TextSaid, text_step}
 use Rattle.lp_mps.specs.TextRead as text
 use Rattle.lp_certificate.specs.CertificateRead.{CertificateRead}
 
--- after a reader of a text whose model is within these limits
+-- what lines say behind those that a reader of a model's text has read, within these limits
 abbrev pub TextSaysWithin : SizeLimits → text.TextRead → List (Line (List ℕ)) → Option TextSaid → Type 0
 TextSaysWithin limits reader lines answer =
     said_by (text_step limits reader.style) (record { state = reader.state; lines = reader.lines }) lines ≡ answer
 
+-- within the usual limits
 abbrev pub TextSays : text.TextRead → List (Line (List ℕ)) → Option TextSaid → Type 0
 TextSays reader lines answer = TextSaysWithin usual_limits reader lines answer
 
--- of a model that may be large
+-- within the large limits
 abbrev pub LargeSays : text.TextRead → List (Line (List ℕ)) → Option TextSaid → Type 0
 LargeSays reader lines answer = TextSaysWithin large_limits reader lines answer
 
@@ -31,15 +32,16 @@ NarrowRead = CertificateRead ℚ
 abbrev pub CertificateSaid : Type 0
 CertificateSaid = Result certificate.ExactRaw ℕ
 
--- where line n leads
+-- where line n of a certificate's text leads, by the outcome of its step
 abbrev pub behind_line : ℕ → certificate.Outcome → Step NarrowRead CertificateSaid
 behind_line n (progress.More raw) = On (record { raw = Some raw; lines = n })
 behind_line n (progress.Done raw) = Says (Ok raw)
 behind_line n progress.Unfit = Says (Err n)
 
+-- where a line leads behind those that a reader has read
 unfoldable pub certificate_step : NarrowRead → Line (List ℕ) → Step NarrowRead CertificateSaid
 certificate_step reader line = behind_line (reader.lines + 1) (certificate.step reader.raw line)
 
--- after a reader of a certificate
+-- what lines say behind those that a reader of a certificate's text has read
 abbrev pub CertificateSays : NarrowRead → List (Line (List ℕ)) → Option CertificateSaid → Type 0
 CertificateSays reader lines answer = said_by certificate_step reader lines ≡ answer

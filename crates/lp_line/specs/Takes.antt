@@ -42,6 +42,7 @@ pub record TakesEnd (addressing : Addressing) (before after : Option (List ℕ))
   pub none : TakesNone addressing before after old (Ok line.End)
   pub ends : ending_by (pending_after addressing Between none.passed) ≡ ending
 
+-- what the reading of the next ask answers: the ask, or how the input ended, or what failed
 abbrev pub TakesNext : Addressing → Option (List ℕ) → Option (List ℕ) → LinesState → LinesState →
     Result Taken LineStop →
     Type 0

@@ -12,7 +12,7 @@ use spec_runs::Fall;
 use spec_server::{How, Publication};
 use std::alloc::{AllocError, Global};
 
-/// Writes a number after what is there.
+/// Adds the digits of a number to a text.
 pub(crate) fn push_number(alloc: Global, number: u64, to: &mut Bytes) -> Result<(), AllocError>
     ensures { OnOk result (to.new ≡ to.old ++ decimal number) }
 {
@@ -20,7 +20,7 @@ pub(crate) fn push_number(alloc: Global, number: u64, to: &mut Bytes) -> Result<
     to.extend(digits.as_bytes())
 }
 
-/// Writes a word and a number after what is there.
+/// Adds a word and the digits of a number to a text.
 pub fn push_numbered(
     alloc: Global,
     word: &[u8],
@@ -33,7 +33,7 @@ pub fn push_numbered(
     push_number(alloc, number, to)
 }
 
-// What stands in front of the operands.
+// The text in front of the operands of an operation past 127 bits.
 fn past_front(op: Op) -> &'static [u8]
     ensures { result.now ≡ codes "PAST " ++ output.op_text op ++ codes " " }
 {
@@ -46,6 +46,7 @@ fn past_front(op: Op) -> &'static [u8]
     }
 }
 
+// Adds to a text that an operation is past 127 bits, with its operands.
 fn push_past(alloc: Global, past: &Past, to: &mut Bytes) -> Result<(), AllocError>
     ensures { OnOk result (to.new ≡ to.old ++ output.past_text past.now) }
 {
@@ -55,6 +56,7 @@ fn push_past(alloc: Global, past: &Past, to: &mut Bytes) -> Result<(), AllocErro
     lp_numtext::write(alloc, past.b, to)
 }
 
+// Adds to a text what is known of a model.
 fn push_known(alloc: Global, known: &Known, to: &mut Bytes) -> Result<(), AllocError>
     ensures { OnOk result (to.new ≡ to.old ++ output.known_text known.now) }
 {
@@ -68,7 +70,7 @@ fn push_known(alloc: Global, known: &Known, to: &mut Bytes) -> Result<(), AllocE
     }
 }
 
-/// Writes a verdict after what is there.
+/// Adds a verdict on a certificate to a text.
 pub(crate) fn push_verdict(
     alloc: Global,
     verdict: &Verdict,
@@ -86,7 +88,7 @@ pub(crate) fn push_verdict(
     }
 }
 
-/// Writes an answer after what is there.
+/// Adds a solve's answer to a text.
 pub(crate) fn push_answer(alloc: Global, answer: &Answer, to: &mut Bytes) -> Result<(), AllocError>
     ensures { OnOk result (to.new ≡ to.old ++ output.answer_text answer.now) }
 {
@@ -109,6 +111,7 @@ pub fn fall_suffix(fall: Fall) -> &'static [u8]
     }
 }
 
+// Adds to a text how an answer was found: by a cold solve, or from a basis of the board.
 fn push_how(alloc: Global, how: How, to: &mut Bytes) -> Result<(), AllocError>
     ensures { OnOk result (to.new ≡ to.old ++ (codes "HOW " ++ output.how_text how)) }
 {
@@ -122,7 +125,7 @@ fn push_how(alloc: Global, how: How, to: &mut Bytes) -> Result<(), AllocError>
     }
 }
 
-// A space, and what came of an offer.
+// Adds a space and what came of publishing a basis to a text.
 fn push_put(alloc: Global, put: Put, to: &mut Bytes) -> Result<(), AllocError>
     ensures { OnOk result (to.new ≡ to.old ++ (codes " " ++ output.put_text put)) }
 {
@@ -133,7 +136,7 @@ fn push_put(alloc: Global, put: Put, to: &mut Bytes) -> Result<(), AllocError>
     }
 }
 
-// A space, and what was given of an answer to other sessions.
+// Adds a space and what was published of an answer to a text.
 fn push_publication(
     alloc: Global,
     publication: Publication,
@@ -148,7 +151,7 @@ fn push_publication(
     }
 }
 
-/// Writes a space, the word PIVOTS and their number after what is there.
+/// Adds a space, the word `PIVOTS` and their number, or `-` where there is none, to a text.
 pub fn push_pivots(alloc: Global, pivots: Option<u64>, to: &mut Bytes) -> Result<(), AllocError>
     ensures { OnOk result (to.new ≡ to.old ++ (codes " PIVOTS " ++ output.pivots_text pivots)) }
 {
@@ -158,7 +161,7 @@ pub fn push_pivots(alloc: Global, pivots: Option<u64>, to: &mut Bytes) -> Result
     }
 }
 
-/// Writes how an answer was found after what is there.
+/// Adds to a text how an answer was found, its pivots, and what was published of it.
 #[tactic(auto, unfolding(spec_server::specs::Output::reply_text))]
 pub(crate) fn push_found(
     alloc: Global,

@@ -16,7 +16,7 @@ pub enum Body<T, R> {
     Read(R),
 }
 
-// A line of a body of which nothing was said.
+// Reads a line of a body of which nothing has been said yet.
 fn read_on<T: Stage>(alloc: Global, stage: T, line: &Line) -> Result<Body<T, T::Said>, AllocError>
     requires { T.count stage < 2 ^ 32 - 1 }
     ensures { IfOk result (PassesTo T.says T.count (body.Reading stage) line.now) }
@@ -27,7 +27,7 @@ fn read_on<T: Stage>(alloc: Global, stage: T, line: &Line) -> Result<Body<T, T::
     }
 }
 
-/// Takes the next line of a body.
+/// Reads the next line of a body. Lines behind the one at which something was said change nothing.
 pub(crate) fn pass<T: Stage>(
     alloc: Global,
     body: Body<T, T::Said>,
@@ -42,7 +42,7 @@ pub(crate) fn pass<T: Stage>(
     }
 }
 
-// What is said where the lines end at a stage.
+// What is said of an input that ends at this stage.
 fn said_at_end<T: Stage>(alloc: Global, stage: T) -> Result<T::Said, AllocError>
     requires { T.count stage < 2 ^ 32 - 1 }
     ensures { IfOk result (λ said. T.says stage (line.End ∷ []) (Some said)) }

@@ -13,6 +13,7 @@ use lp_base::{Bytes, Line, words};
 use spec_server::{Addressing, CommandWord, EditWord, LineFault};
 use std::alloc::{AllocError, Global};
 
+// The command `LOAD` with this form of the text, or a bad one where the word is no form.
 fn load(form: &[u8]) -> Command
     ensures { result ≡ commands.load_by (style_of form.now) }
 {
@@ -22,6 +23,7 @@ fn load(form: &[u8]) -> Command
     }
 }
 
+// The command `WRITE` with this form of the text, or a bad one where the word is no form.
 fn write(form: &[u8]) -> Command
     ensures { result ≡ commands.write_by (style_of form.now) }
 {
@@ -31,6 +33,7 @@ fn write(form: &[u8]) -> Command
     }
 }
 
+// The command `BUDGET` with this count, or a bad one where the word is no count.
 fn budget(count: &[u8]) -> Command
     ensures { result ≡ commands.budget_by (budget_of count.now) }
 {
@@ -40,6 +43,7 @@ fn budget(count: &[u8]) -> Command
     }
 }
 
+// The command that asks for an edit, or a bad one where the words are no edit of this kind.
 fn change(alloc: Global, which: EditWord, words: &[Bytes]) -> Result<Command, AllocError>
     ensures { IfOk result (λ command. command ≡ commands.change_by (edit_by which words.now)) }
 {
@@ -50,7 +54,7 @@ fn change(alloc: Global, which: EditWord, words: &[Bytes]) -> Result<Command, Al
     }
 }
 
-// By the command word and the words after it.
+// The command of this word and of the words behind it, which is bad where they do not fit.
 fn command_with(alloc: Global, word: CommandWord, words: &[Bytes]) -> Result<Command, AllocError>
     ensures { IfOk result (λ command. command ≡ commands.command_with word words.now) }
 {
@@ -69,6 +73,7 @@ fn command_with(alloc: Global, word: CommandWord, words: &[Bytes]) -> Result<Com
     }
 }
 
+// The command that the words are, which is bad where they are none.
 fn command_of(alloc: Global, words: &[Bytes]) -> Result<Command, AllocError>
     ensures { IfOk result (λ command. command ≡ commands.command_of words.now) }
 {
@@ -81,7 +86,7 @@ fn command_of(alloc: Global, words: &[Bytes]) -> Result<Command, AllocError>
     }
 }
 
-// A command of this session.
+// The command that the words are, for this session.
 fn addressed(alloc: Global, session: u32, words: &[Bytes]) -> Result<Option<Addressed>, AllocError>
     ensures { IfOk result (λ found. found ≡
         Some (record { session = session; command = commands.command_of words.now })) }
@@ -90,7 +95,7 @@ fn addressed(alloc: Global, session: u32, words: &[Bytes]) -> Result<Option<Addr
     Ok(Some(Addressed { session, command }))
 }
 
-// A command after the word that is to be the number of its session.
+// The command behind the number of its session. A word that is no such number makes it a bad one of session 0.
 fn addressed_to(
     alloc: Global,
     number: &[u8],
@@ -107,6 +112,7 @@ fn addressed_to(
     }
 }
 
+// The command that the words are, by whether their lines name sessions. No words are none.
 fn addressed_by(
     alloc: Global,
     addressing: Addressing,
@@ -123,6 +129,7 @@ fn addressed_by(
     }
 }
 
+// Whether the text is a comment.
 fn begins_with_hash(text: &[u8]) -> bool
     ensures { result ≡ lines.begins_with_hash text.now }
 {
@@ -132,6 +139,7 @@ fn begins_with_hash(text: &[u8]) -> bool
     }
 }
 
+// The command that the text of a line is, or none where the line is blank or a comment.
 #[tactic(auto, unfolding(spec_server::specs::Addressing::addressed_in))]
 fn text_command(
     alloc: Global,
@@ -147,7 +155,7 @@ fn text_command(
     addressed_by(alloc, addressing, words.as_slice())
 }
 
-/// What a line between two commands is: a command of a session, or nothing.
+/// The command that a line between two commands is, or none where it is blank, a comment or the end of the input.
 #[tactic(auto, unfolding(spec_server::specs::Addressing::addressed_in))]
 pub fn read(
     alloc: Global,

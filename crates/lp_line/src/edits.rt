@@ -47,6 +47,7 @@ impl From<AllocError> for EditStop {
     }
 }
 
+// The fault of a line with a word that is no number, or none of 127 bits.
 fn number_fault(fault: NumFault) -> LineFault
     ensures { result ≡ edit_command.number_fault fault }
 {
@@ -56,6 +57,7 @@ fn number_fault(fault: NumFault) -> LineFault
     }
 }
 
+// The number that the word is.
 #[tactic(auto, unfolding(spec_server::specs::EditCommand::number_in))]
 fn number_in(word: &Bytes) -> Result<Frac, LineFault>
     ensures { result ≡ edit_command.number_in word.now }
@@ -66,6 +68,7 @@ fn number_in(word: &Bytes) -> Result<Frac, LineFault>
     }
 }
 
+// The kind of row that the word names.
 #[tactic(auto, unfolding(spec_server::specs::EditCommand::kind_in))]
 fn kind_in(word: &Bytes) -> Result<Kind, LineFault>
     ensures { result ≡ edit_command.kind_in word.now }
@@ -73,6 +76,7 @@ fn kind_in(word: &Bytes) -> Result<Kind, LineFault>
     look_up(word.as_slice(), &KINDS).ok_or(LineFault::Word)
 }
 
+// The sense that the word names.
 #[tactic(auto, unfolding(spec_server::specs::EditCommand::sense_in))]
 fn sense_in(word: &Bytes) -> Result<Sense, LineFault>
     ensures { result ≡ edit_command.sense_in word.now }
@@ -80,6 +84,7 @@ fn sense_in(word: &Bytes) -> Result<Sense, LineFault>
     look_up(word.as_slice(), &SENSES).ok_or(LineFault::Word)
 }
 
+// The range that the word is, or none for `NONE`.
 #[tactic(auto, unfolding(spec_server::specs::EditCommand::range_in))]
 fn range_in(word: &Bytes) -> Result<Option<Frac>, LineFault>
     ensures { result ≡ edit_command.range_in word.now }
@@ -90,6 +95,7 @@ fn range_in(word: &Bytes) -> Result<Option<Frac>, LineFault>
     Ok(Some(number_in(word)?))
 }
 
+// The number or infinity that the word is.
 fn bound_in(word: &Bytes) -> Result<BoundValue<Frac>, LineFault>
     ensures { result ≡ edit_command.as_read (bound_answer (bound_of word.now)) }
 {
@@ -99,6 +105,7 @@ fn bound_in(word: &Bytes) -> Result<BoundValue<Frac>, LineFault>
     }
 }
 
+// The lower bound that the word is, none for minus infinity. Plus infinity is a fault.
 #[tactic(auto, using(crate::proofs::SmallBounds::small_bound), unfolding(spec_server::specs::EditCommand::lower_in))]
 fn lower_in(word: &Bytes) -> Result<Option<Frac>, LineFault>
     ensures value { result ≡ edit_command.lower_in word.now }
@@ -111,6 +118,7 @@ fn lower_in(word: &Bytes) -> Result<Option<Frac>, LineFault>
     }
 }
 
+// The upper bound that the word is, none for plus infinity. Minus infinity is a fault.
 #[tactic(auto, using(crate::proofs::SmallBounds::small_bound), unfolding(spec_server::specs::EditCommand::upper_in))]
 fn upper_in(word: &Bytes) -> Result<Option<Frac>, LineFault>
     ensures value { result ≡ edit_command.upper_in word.now }
@@ -123,13 +131,14 @@ fn upper_in(word: &Bytes) -> Result<Option<Frac>, LineFault>
     }
 }
 
+// The word as a name, which may be a bad one.
 fn name_in(alloc: Global, word: &Bytes) -> Result<Name, AllocError>
     ensures { IfOk result (λ name. name ≡ word.now) }
 {
     Name::from_slice(alloc, word.as_slice())
 }
 
-// The names of rows, each with the number after it. The words are as many of these as of those.
+// The pairs of a new column: the name of a row and a number, by turns. There is an even number of words.
 fn pairs_in(alloc: Global, words: &[Bytes]) -> Result<Pairs, EditStop>
     ensures { IfSome (edit_command.two_by_two words.now) (λ pairs. GivesWords (edit_command.numbers_in pairs) result) }
 {
@@ -143,7 +152,7 @@ fn pairs_in(alloc: Global, words: &[Bytes]) -> Result<Pairs, EditStop>
     Ok(pairs)
 }
 
-// The range of a new row, which a free one has none of.
+// The range of a new row of this kind. A free row may have none.
 #[tactic(auto, unfolding(spec_server::specs::EditCommand::new_range_in))]
 fn new_range_in(kind: Kind, word: &Bytes) -> Result<Frac, LineFault>
     ensures { result ≡ edit_command.new_range_in kind word.now }
@@ -154,7 +163,7 @@ fn new_range_in(kind: Kind, word: &Bytes) -> Result<Frac, LineFault>
     number_in(word)
 }
 
-// A new row without a range.
+// The edit that adds a row without a range.
 fn plain_row(alloc: Global, name: &Bytes, kind: &Bytes, rhs: &Bytes) -> Result<Edit, EditStop>
     ensures { GivesWords (new_row.plain_row name.now kind.now rhs.now) result }
 {
@@ -168,6 +177,7 @@ fn plain_row(alloc: Global, name: &Bytes, kind: &Bytes, rhs: &Bytes) -> Result<E
     })
 }
 
+// The edit that adds a row with a range.
 fn ranged_row(
     alloc: Global,
     name: &Bytes,
@@ -188,6 +198,7 @@ fn ranged_row(
     })
 }
 
+// The edit that adds the row which the words behind `ADDROW` say.
 #[tactic(auto, unfolding(spec_server::specs::EditCommand::edit_by))]
 fn add_row(alloc: Global, words: &[Bytes]) -> Result<Edit, EditStop>
     ensures { GivesWords (edit_command.edit_by word.AddRow words.now) result }
@@ -199,6 +210,7 @@ fn add_row(alloc: Global, words: &[Bytes]) -> Result<Edit, EditStop>
     }
 }
 
+// The edit that takes out the row which the word behind `DELROW` names.
 #[tactic(auto, unfolding(spec_server::specs::EditCommand::edit_by))]
 fn delete_row(alloc: Global, words: &[Bytes]) -> Result<Edit, EditStop>
     ensures { GivesWords (edit_command.edit_by word.DelRow words.now) result }
@@ -209,7 +221,7 @@ fn delete_row(alloc: Global, words: &[Bytes]) -> Result<Edit, EditStop>
     Ok(Edit::DelRow(name_in(alloc, name)?))
 }
 
-// The words of a new column are counted before its numbers are read.
+// The edit that adds a column. A pair that lacks its number is found before any number is read.
 fn column_in(alloc: Global, name: &Bytes, cost: &Bytes, pairs: &[Bytes]) -> Result<Edit, EditStop>
     ensures { GivesWords (edit_command.column_in name.now cost.now (edit_command.two_by_two pairs.now)) result }
 {
@@ -222,6 +234,7 @@ fn column_in(alloc: Global, name: &Bytes, cost: &Bytes, pairs: &[Bytes]) -> Resu
     Ok(Edit::AddCol { name, cost, pairs })
 }
 
+// The edit that adds the column which the words behind `ADDCOL` say.
 #[tactic(auto, unfolding(spec_server::specs::EditCommand::edit_by))]
 fn add_column(alloc: Global, words: &[Bytes]) -> Result<Edit, EditStop>
     ensures { GivesWords (edit_command.edit_by word.AddCol words.now) result }
@@ -232,6 +245,7 @@ fn add_column(alloc: Global, words: &[Bytes]) -> Result<Edit, EditStop>
     }
 }
 
+// The edit that takes out the column which the word behind `DELCOL` names.
 #[tactic(auto, unfolding(spec_server::specs::EditCommand::edit_by))]
 fn delete_column(alloc: Global, words: &[Bytes]) -> Result<Edit, EditStop>
     ensures { GivesWords (edit_command.edit_by word.DelCol words.now) result }
@@ -242,6 +256,7 @@ fn delete_column(alloc: Global, words: &[Bytes]) -> Result<Edit, EditStop>
     Ok(Edit::DelCol(name_in(alloc, name)?))
 }
 
+// The edit that gives a column a cost, by the words behind `SETCOST`.
 #[tactic(auto, unfolding(spec_server::specs::EditCommand::edit_by))]
 fn set_cost(alloc: Global, words: &[Bytes]) -> Result<Edit, EditStop>
     ensures { GivesWords (edit_command.edit_by word.SetCost words.now) result }
@@ -253,6 +268,7 @@ fn set_cost(alloc: Global, words: &[Bytes]) -> Result<Edit, EditStop>
     Ok(Edit::SetCost(name_in(alloc, name)?, value))
 }
 
+// The edit that gives a column a coefficient in a row, by the words behind `SETCOEF`.
 #[tactic(auto, unfolding(spec_server::specs::EditCommand::edit_by))]
 fn set_coefficient(alloc: Global, words: &[Bytes]) -> Result<Edit, EditStop>
     ensures { GivesWords (edit_command.edit_by word.SetCoef words.now) result }
@@ -266,6 +282,7 @@ fn set_coefficient(alloc: Global, words: &[Bytes]) -> Result<Edit, EditStop>
     Ok(Edit::SetCoef { row, column, value })
 }
 
+// The edit that gives a row a right side, by the words behind `SETRHS`.
 #[tactic(auto, unfolding(spec_server::specs::EditCommand::edit_by))]
 fn set_right_side(alloc: Global, words: &[Bytes]) -> Result<Edit, EditStop>
     ensures { GivesWords (edit_command.edit_by word.SetRhs words.now) result }
@@ -277,6 +294,7 @@ fn set_right_side(alloc: Global, words: &[Bytes]) -> Result<Edit, EditStop>
     Ok(Edit::SetRhs(name_in(alloc, name)?, value))
 }
 
+// The edit that gives a row a range or takes it away, by the words behind `SETRANGE`.
 #[tactic(auto, unfolding(spec_server::specs::EditCommand::edit_by))]
 fn set_range(alloc: Global, words: &[Bytes]) -> Result<Edit, EditStop>
     ensures { GivesWords (edit_command.edit_by word.SetRange words.now) result }
@@ -288,6 +306,7 @@ fn set_range(alloc: Global, words: &[Bytes]) -> Result<Edit, EditStop>
     Ok(Edit::SetRange(name_in(alloc, name)?, range))
 }
 
+// The edit that gives a column bounds, by the words behind `SETBOUND`.
 #[tactic(auto, unfolding(spec_server::specs::EditCommand::edit_by))]
 fn set_bounds(alloc: Global, words: &[Bytes]) -> Result<Edit, EditStop>
     ensures { GivesWords (edit_command.edit_by word.SetBound words.now) result }
@@ -302,6 +321,7 @@ fn set_bounds(alloc: Global, words: &[Bytes]) -> Result<Edit, EditStop>
     Ok(Edit::SetBound { column, bounds })
 }
 
+// The edit that gives the objective a sense, by the word behind `SENSE`.
 #[tactic(auto, unfolding(spec_server::specs::EditCommand::edit_by))]
 fn set_sense(words: &[Bytes]) -> Result<Edit, EditStop>
     ensures { GivesWords (edit_command.edit_by word.Sense words.now) result }

@@ -7,6 +7,7 @@ use lp_base::{Line, Texts, are_same, is_blank, words};
 use lp_certificate::is_end;
 use std::alloc::{AllocError, Global};
 
+// Whether the line is a data card of a text. An empty line counts as one.
 fn begins_with_blank(text: &[u8]) -> bool
     ensures { result ≡ cards.begins_with_blank text.now }
 {
@@ -16,6 +17,7 @@ fn begins_with_blank(text: &[u8]) -> bool
     }
 }
 
+// Whether the first of the words is this one.
 fn begins_with_word(words: &Texts, word: &[u8]) -> bool
     ensures { result ≡ script.begins_with_word word.now words.now }
 {

@@ -10,7 +10,7 @@ use lp_base::{Bytes, Texts};
 use spec_server::Addressing;
 use std::alloc::{AllocError, Global};
 
-// Each line ends in a line feed.
+// How many lines the text has, each of which ends in a line feed.
 #[tactic(auto, unfolding(spec_server::specs::Output::count_of_lines))]
 fn count_of_lines(text: &[u8]) -> usize
     ensures { result ≡ output.count_of_lines text.now }
@@ -18,7 +18,7 @@ fn count_of_lines(text: &[u8]) -> usize
     text.iter().filter(|byte| **byte == b'\n').count()
 }
 
-// The first line of a reply, without its session and its end.
+// Adds the first line of a reply to a text, without its session and its line feed.
 #[tactic(auto, unfolding(spec_server::specs::Output::reply_text))]
 fn push_reply(alloc: Global, reply: &Reply, to: &mut Bytes) -> Result<(), AllocError>
     ensures { OnOk result (to.new ≡ to.old ++ output.reply_text reply.now) }
@@ -50,7 +50,7 @@ fn push_reply(alloc: Global, reply: &Reply, to: &mut Bytes) -> Result<(), AllocE
     }
 }
 
-// A reply's first line.
+// Adds the first line of a reply and a line feed to a text.
 fn push_line(alloc: Global, reply: &Reply, to: &mut Bytes) -> Result<(), AllocError>
     ensures { OnOk result (to.new ≡ to.old ++ (output.reply_text reply.now ++ 10 ∷ [])) }
 {
@@ -58,7 +58,7 @@ fn push_line(alloc: Global, reply: &Reply, to: &mut Bytes) -> Result<(), AllocEr
     to.extend(b"\n")
 }
 
-/// Writes lines after what is there, each with a line feed after it. After an `Err` a part of them may stand there.
+/// Adds lines to a text, each with a line feed behind it. After an `Err` a part of them may have been added.
 #[tactic(auto, unfolding(spec_server::specs::Output::ended_lines))]
 pub fn print_lines(lines: &Texts, to: &mut Bytes) -> Result<(), AllocError>
     ensures ok { OnOk result (to.new ≡ to.old ++ output.ended_lines lines.now) }
@@ -71,6 +71,7 @@ pub fn print_lines(lines: &Texts, to: &mut Bytes) -> Result<(), AllocError>
     Ok(())
 }
 
+// Adds the lines of a reply behind its first one to a text.
 fn push_lines_behind(reply: &Reply, to: &mut Bytes) -> Result<(), AllocError>
     ensures { OnOk result (to.new ≡ to.old ++ output.lines_behind reply.now) }
 {
@@ -88,7 +89,7 @@ fn push_lines_behind(reply: &Reply, to: &mut Bytes) -> Result<(), AllocError>
     }
 }
 
-// What stands in front of a reply.
+// Adds the session's number and a space to a text, where lines name sessions.
 fn push_front(
     alloc: Global,
     addressing: Addressing,
@@ -106,6 +107,7 @@ fn push_front(
     }
 }
 
+// Adds all lines of a session's reply to a text. After an `Err` a part of them may have been added.
 #[tactic(auto, unfolding(spec_server::specs::Output::reply_lines))]
 fn push_reply_lines(
     alloc: Global,
@@ -121,7 +123,7 @@ fn push_reply_lines(
     push_lines_behind(reply, to)
 }
 
-/// Writes the lines of a session's reply after what is there, all of them or none.
+/// Adds the lines of a session's reply to a text, all of them or none.
 pub fn print(
     alloc: Global,
     addressing: Addressing,
@@ -137,7 +139,7 @@ pub fn print(
     to.extend(lines.as_slice())
 }
 
-/// Appends the line that the commands `check` and `solve` end with. Where memory runs out, `to` stays as it was.
+/// Adds the line that the commands `check` and `solve` end with to a text. Where memory runs out, `to` stays as it was.
 #[tactic(auto, unfolding(spec_server::specs::Output::check_line))]
 pub fn print_said(alloc: Global, reply: &Reply, to: &mut Bytes) -> Result<(), AllocError>
     ensures ok { OnOk result (to.new ≡ to.old ++ output.check_line reply.now) }

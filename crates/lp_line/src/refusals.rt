@@ -11,6 +11,7 @@ use spec_mps::{Code, MpsFault};
 use spec_server::LineFault;
 use std::alloc::{AllocError, Global};
 
+// The number and the word of a line's fault.
 fn line_fault_name(fault: LineFault) -> &'static [u8]
     ensures { result.now ≡ output.line_fault_text fault }
 {
@@ -22,7 +23,7 @@ fn line_fault_name(fault: LineFault) -> &'static [u8]
     }
 }
 
-// The number of what is wrong with a text.
+// The number that the code of a text's fault has in replies.
 fn code_number(code: Code) -> u64
     ensures { result ≡ checks.code_number code }
 {
@@ -49,7 +50,7 @@ fn code_number(code: Code) -> u64
     }
 }
 
-// A fault of a text.
+// Adds the fault of a model's text and its line to a text.
 #[tactic(auto, unfolding(spec_server::specs::Output::fault_text))]
 fn push_fault(alloc: Global, fault: MpsFault, to: &mut Bytes) -> Result<(), AllocError>
     ensures { OnOk result (to.new ≡ to.old ++ (codes "8 " ++ output.fault_text fault)) }
@@ -58,7 +59,7 @@ fn push_fault(alloc: Global, fault: MpsFault, to: &mut Bytes) -> Result<(), Allo
     push_numbered(alloc, b" M", code_number(fault.code), to)
 }
 
-// What stands in front of how many there may be.
+// The text in front of how many rows or columns there may be.
 fn limit_front(which: Which) -> &'static [u8]
     ensures { result.now ≡ codes "7 LIMIT " ++ output.which_text which ++ codes " " }
 {
@@ -68,6 +69,7 @@ fn limit_front(which: Which) -> &'static [u8]
     }
 }
 
+// Adds to a text that there may be no more than `count` rows or columns.
 fn push_limit(alloc: Global, which: Which, count: u32, to: &mut Bytes) -> Result<(), AllocError>
     ensures { OnOk result (to.new ≡ to.old ++
         (codes "7 LIMIT " ++ output.which_text which ++ codes " " ++ decimal count)) }
@@ -75,7 +77,7 @@ fn push_limit(alloc: Global, which: Which, count: u32, to: &mut Bytes) -> Result
     push_numbered(alloc, limit_front(which), u64::from(count), to)
 }
 
-// Words, and the name of which they speak.
+// Adds words and a name to a text.
 fn push_named(words: &[u8], name: &[u8], to: &mut Bytes) -> Result<(), AllocError>
     ensures { OnOk result (to.new ≡ to.old ++ (words.now ++ name.now)) }
 {
@@ -83,7 +85,7 @@ fn push_named(words: &[u8], name: &[u8], to: &mut Bytes) -> Result<(), AllocErro
     to.extend(name)
 }
 
-/// Writes a refusal after what is there.
+/// Adds a refusal to a text.
 #[tactic(auto, unfolding(spec_server::specs::Output::repeated_text, spec_server::specs::Output::item_text))]
 pub(crate) fn push_refusal(
     alloc: Global,

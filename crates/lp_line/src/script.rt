@@ -61,7 +61,7 @@ impl Stage for ScriptStage {
     }
 }
 
-// How a script ends, at the end of its input.
+// How a script ends that the input's end finds at this stage: it is cut off in a body.
 fn end_of(stage: &ScriptStage) -> Taken
     ensures { IsEndOf stage.now result }
 {
@@ -71,6 +71,7 @@ fn end_of(stage: &ScriptStage) -> Taken
     }
 }
 
+// Reads a line of a script, which is not the input's end.
 fn line_in(
     alloc: Global,
     stage: ScriptStage,
@@ -89,7 +90,7 @@ fn line_in(
     }
 }
 
-// What a command asks, or the body that it begins.
+// What a command leads to: an ask that is complete, or a body that begins.
 fn begin(alloc: Global, addressed: Addressed) -> Step<ScriptStage, Taken>
     ensures { Begins addressed.session addressed.command result }
 {
@@ -108,13 +109,14 @@ fn begin(alloc: Global, addressed: Addressed) -> Step<ScriptStage, Taken>
     }
 }
 
+// The step that says this ask of this session.
 fn asked(session: u32, ask: Ask) -> Step<ScriptStage, Taken>
     ensures { result ≡ step.Says (taken.Ask (record { session = session; ask = ask })) }
 {
     Step::Says(Taken::Ask(Asked { session, ask }))
 }
 
-// A line between two commands.
+// Reads a line between two commands.
 fn line_between(
     alloc: Global,
     addressing: Addressing,
@@ -129,6 +131,7 @@ fn line_between(
     }
 }
 
+// The ask that what a model's text says completes.
 fn ask_of_text(said: TextSaid) -> Ask
     ensures { (verdict : Verdict) → verdict_said verdict ≡ said → ask_of_verdict verdict ≡ result }
 {
@@ -138,6 +141,7 @@ fn ask_of_text(said: TextSaid) -> Ask
     }
 }
 
+// The ask that what a certificate's text says completes.
 fn ask_of_certificate(said: CertificateSaid) -> Ask
     ensures { (judgement : Judgement) → judgement_said judgement ≡ said → ask_of_judgement judgement ≡ result }
 {
@@ -147,7 +151,7 @@ fn ask_of_certificate(said: CertificateSaid) -> Ask
     }
 }
 
-// A line in the text of a model.
+// Reads a line of a model's text.
 fn line_of_text(
     alloc: Global,
     session: u32,
@@ -170,7 +174,7 @@ fn line_of_text(
     Ok(asked(session, ask_of_text(said)))
 }
 
-// A line in a certificate.
+// Reads a line of a certificate's text.
 fn line_of_certificate(
     alloc: Global,
     session: u32,

@@ -13,7 +13,7 @@ use std::alloc::{AllocError, Global};
 
 type End = spec_check::SolveEnd<Frac, Fracs, Basis>;
 
-/// What is answered of a solve within a budget.
+/// The answer of a solve within a budget.
 pub fn answer_of(budget: u32, solved: &End) -> Answer<Frac>
     ensures { result ≡ machine.answer_of budget solved.now }
 {
@@ -34,7 +34,7 @@ pub fn pivots_of(solved: &End) -> Option<u64>
     }
 }
 
-/// The lines of the certificate of a solve. There are none where it knows nothing of the model.
+/// The lines of the certificate of a solve, none where the solve has no answer.
 pub fn certificate_lines(alloc: Global, model: &Model, solved: &End) -> Result<Texts, AllocError>
     requires { (budget : ℕ) × MayAnswer model.now budget solved.now }
     ensures { IfOk result (λ lines. lines ≡ machine.lines_of_solved model.now solved.now) }

@@ -9,7 +9,7 @@ use lp_check::check;
 use lp_model::Model;
 use std::alloc::{AllocError, Global};
 
-/// What is said of a certificate for a model.
+/// The reply to a certificate for a model: the verdict, or the name in it that does not fit.
 pub fn verdict_on(alloc: Global, model: &Model, raw: &RawCertificate) -> Result<Reply, AllocError>
     ensures { IfOk result (λ reply. reply ≡ machine.verdict_on model.now (certificate_for model.now raw.now)) }
 {

@@ -20,7 +20,7 @@ type ExactEnd = spec_solve::ExactEnd<Ratio, Ratios, Basis>;
 
 type ExactAnswer = spec_solve::ExactAnswer<Ratio, Ratios, Basis>;
 
-/// Writes an answer whose value may have any width after what is there.
+/// Adds to a text what is known of a model, with a value of any width.
 pub fn push_wide_known(alloc: Global, known: &Known, to: &mut Bytes) -> Result<(), AllocError>
     ensures { OnOk result (to.new ≡ to.old ++ wide.wide_known_text known.now) }
 {
@@ -35,7 +35,7 @@ pub fn push_wide_known(alloc: Global, known: &Known, to: &mut Bytes) -> Result<(
     }
 }
 
-// Of an answer.
+// The line of an exact solve's answer, and the lines of its certificate.
 fn answer_lines(alloc: Global, model: &Model, answer: &ExactAnswer) -> Result<Texts, AllocError>
     requires { IsFor model.now answer.now.certificate }
     ensures { IfOk result (λ lines. lines ≡ wide.wide_lines model.now (ends.Answered answer.now)) }
@@ -47,7 +47,7 @@ fn answer_lines(alloc: Global, model: &Model, answer: &ExactAnswer) -> Result<Te
     Ok(lines)
 }
 
-// That nothing is known.
+// The line that an exact solve found no answer.
 fn open_lines(alloc: Global) -> Result<Texts, AllocError>
     ensures { (m : model) → IfOk result (λ lines. lines ≡ wide.wide_lines m ends.Open) }
 {
@@ -58,7 +58,7 @@ fn open_lines(alloc: Global) -> Result<Texts, AllocError>
     Ok(lines)
 }
 
-/// The line of the answer of an exact solve, and the lines of its certificate; or the line that nothing is known.
+/// The lines of an exact solve: its answer and its certificate, or that it found no answer.
 pub fn wide_lines(alloc: Global, model: &Model, end: &ExactEnd) -> Result<Texts, AllocError>
     requires { HasFit model.now end.now }
     ensures { IfOk result (λ lines. lines ≡ wide.wide_lines model.now end.now) }

@@ -6,12 +6,14 @@ use lp_base::look_up;
 use spec_mps::Style;
 use spec_server::{CommandWord, EditWord};
 
+// Whether the byte is a decimal digit.
 fn is_digit(byte: u8) -> bool
     ensures { result ≡ commands.is_digit byte }
 {
     b'0' <= byte && byte <= b'9'
 }
 
+// Whether the first byte is the digit 0.
 fn begins_with_zero(text: &[u8]) -> bool
     ensures { result ≡ commands.begins_with_zero text.now }
 {
@@ -21,7 +23,7 @@ fn begins_with_zero(text: &[u8]) -> bool
     }
 }
 
-/// A number from 1 to the last one, of at most this many digits.
+/// The number that the text is, from 1 to `last`, without zeros in front and with at most `digits` digits.
 pub fn number_to(last: u32, digits: usize, text: &[u8]) -> Option<u32>
     requires { last ≤ 1000000 }
     ensures { result ≡ commands.number_to last digits text.now }
@@ -42,7 +44,7 @@ pub fn number_to(last: u32, digits: usize, text: &[u8]) -> Option<u32>
     Some(number)
 }
 
-/// The number of a session, 1 to 64.
+/// The number of a session that the word is, from 1 to 64.
 #[tactic(auto, unfolding(spec_server::specs::Command::session_of))]
 pub(crate) fn session_of(word: &[u8]) -> Option<u32>
     ensures { result ≡ commands.session_of word.now }
@@ -50,7 +52,7 @@ pub(crate) fn session_of(word: &[u8]) -> Option<u32>
     number_to(64, 2, word)
 }
 
-/// How many pivots and flips a budget has, 1 to 1,000,000.
+/// The budget that the word is, from 1 to 1,000,000 pivots and flips.
 #[tactic(auto, unfolding(spec_server::specs::Command::budget_of))]
 pub(crate) fn budget_of(word: &[u8]) -> Option<u32>
     ensures { result ≡ commands.budget_of word.now }
