@@ -15,6 +15,7 @@ use Rattle.lp_command_line.specs.declared.fault.WordFault.{WordFault}
 use Rattle.lp_command_line.specs.declared.fault.WordFault.TheVariants.{NoWord, NoCommand, TooFew, NotPlain}
 use Rattle.lp_command_line.specs.declared.fault.WordFault.TheVariants.{NoOption, Twice, NoValue, NotValue}
 
+-- a fault with the word that is at fault
 abbrev pub Fault : Type 0
 Fault = WordFault Word
 
@@ -29,10 +30,11 @@ spelled (Twice word) = Twice word.now
 spelled (NoValue word) = NoValue word.now
 spelled (NotValue option value) = NotValue option.now value.now
 
+-- the same where there may be none
 abbrev pub told : Option (WordFault (Bor (List ℕ))) → Option Fault
 told = option_map spelled
 
--- the last word, where it stands alone in place of an option
+-- the fault of the last word, which has no value behind it: its value is missing, or it names no option
 abbrev pub lone_fault : OptionNames → Word → Fault
 lone_fault names option = if is_one_of option names then NoValue option else NoOption option
 
@@ -63,6 +65,8 @@ abbrev pub plain_fault : Plain → Word → Bool → Option Fault
 plain_fault plain word true = None
 plain_fault plain word false = Some (NotPlain plain word)
 
+-- ---- the values of options
+
 abbrev pub workers_fault : List Word → Option Fault
 workers_fault words = value_fault [] (codes "--workers") words (is_some (workers_given (value_in [] (codes "--workers") words)))
 
@@ -75,6 +79,8 @@ places_fault words = value_fault [] (codes "--places") words (is_some (places_gi
 abbrev pub form_fault : OptionNames → List Word → Option Fault
 form_fault switches words =
     value_fault switches (codes "--form") words (is_some (form_given (value_in switches (codes "--form") words)))
+
+-- ---- the words behind each command's word
 
 abbrev pub run_fault : List Word → Option Fault
 run_fault words =
@@ -121,7 +127,7 @@ serve_fault (address ∷ words) =
     (links_fault words))
     (places_fault words)
 
--- each command's own; in the order of the table of commands
+-- the commands' words, each with the fault of the words behind it
 abbrev pub faults : List (Word × (List Word → Option Fault))
 faults =
     (codes "run", run_fault)
@@ -135,11 +141,12 @@ faults =
     ∷ (codes "serve", serve_fault)
     ∷ []
 
+-- the fault of the words behind a command's word, or that it names no command
 abbrev pub fault_by : Word → List Word → Option (List Word → Option Fault) → Option Fault
 fault_by word words None = Some (NoCommand word)
 fault_by word words (Some fault) = fault words
 
--- nothing where the words are a command line
+-- the first fault of the words; none where they are a command line
 unfoldable pub word_fault : List Word → Option Fault
 word_fault [] = Some NoWord
 word_fault (word ∷ words) = fault_by word words (look_up word faults)

@@ -11,6 +11,7 @@ use Rattle.spec_program.specs.CommandLine.{Address, ExactLine, OptionNames, Row,
 use Rattle.spec_program.specs.CommandLine.{serve_by, workers_given, links_given, places_given, form_given}
 use Rattle.lp_command_line.specs.declared.listening.Serving.{Serving}
 
+-- the texts of names that the code holds behind references
 abbrev pub bytes_of : List (Bor (List ℕ)) → List (List ℕ)
 bytes_of names = map (λ name. name.now) names
 
@@ -41,7 +42,7 @@ value_in switches name (option ∷ value ∷ words) =
     then (if same name option then Some [] else value_in switches name (value ∷ words))
     else (if same name option then Some value else value_in switches name words)
 
--- it has one of these names, and this is what stands behind it under the same name: nothing
+-- an option has one of these names, and no value is given again under its name behind it
 abbrev pub is_new_option : OptionNames → List ℕ → Option (List ℕ) → Bool
 is_new_option names option again = is_one_of option names && not (is_some again)
 
@@ -67,7 +68,7 @@ planned (Some serving) = Some (record { address = string_bytes serving.address.n
 abbrev pub wide_switch : OptionNames
 wide_switch = codes "--wide" ∷ []
 
--- the range of one number, whatever word stands before its name
+-- how the words for the range of one number are read: a word for the kind of number and a name, then options
 abbrev pub number_row : Row
 number_row = record {
   plain = λ words. 2;
@@ -76,11 +77,11 @@ number_row = record {
   asks = range_row.asks;
 }
 
--- the range of a number, by options
+-- the command line for the range of one number, by its options
 abbrev pub range_in : Moved → List ℕ → List (List ℕ) → Option ExactLine
 range_in moved name options = option_map (Read (Range moved name)) (form_given (value_in [] (codes "--form") options))
 
--- the numbers of a server, by options
+-- the command line of a server, by its options
 abbrev pub serve_in : List (List ℕ) → Option ExactLine
 serve_in options =
     serve_by (workers_given (value_in [] (codes "--workers") options)) (links_given (value_in [] (codes "--each") options))

@@ -13,7 +13,7 @@ use crate::line::{
 use lp_base::look_up;
 use lp_line::number_to;
 
-// The last word, if there is one, where an option is due.
+// The fault of the last word, where no option with its value is left: it names no option, or its value is missing.
 fn lone_fault<'a>(
     words: &'a [String],
     names: &[&str],
@@ -34,7 +34,7 @@ fn lone_fault<'a>(
     }
 }
 
-// The first word that is none of these options where one is due, is given again, or has no value.
+// The fault of the first word that is no option with one of these names, is given again, or has no value.
 fn option_fault<'a>(
     words: &'a [String],
     names: &[&str],
@@ -56,7 +56,7 @@ fn option_fault<'a>(
     lone_fault(rest, names, switches)
 }
 
-// The value of an option, unless it is right.
+// The fault that the value of the option with this name is none it may have, unless `is_right`.
 fn value_fault<'a>(
     words: &'a [String],
     name: &'a [u8],
@@ -73,7 +73,7 @@ fn value_fault<'a>(
     Some(WordFault::NotValue(name, value))
 }
 
-// A plain word, unless it is right.
+// The fault that the word may not stand at its place, unless `is_right`.
 fn plain_fault(plain: Plain, word: &[u8], is_right: bool) -> Option<WordFault<&[u8]>>
     ensures { told result ≡ faults.plain_fault plain word.now is_right }
 {
@@ -83,24 +83,28 @@ fn plain_fault(plain: Plain, word: &[u8], is_right: bool) -> Option<WordFault<&[
     Some(WordFault::NotPlain(plain, word))
 }
 
+// The fault of the value of `--workers`.
 fn workers_fault(options: &[String]) -> Option<WordFault<&[u8]>>
     ensures { told result ≡ faults.workers_fault (map string_bytes options.now) }
 {
     value_fault(options, b"--workers", &[], workers_in(options).is_some())
 }
 
+// The fault of the value of `--each`.
 fn links_fault(options: &[String]) -> Option<WordFault<&[u8]>>
     ensures { told result ≡ faults.links_fault (map string_bytes options.now) }
 {
     value_fault(options, b"--each", &[], links_in(options).is_some())
 }
 
+// The fault of the value of `--places`.
 fn places_fault(options: &[String]) -> Option<WordFault<&[u8]>>
     ensures { told result ≡ faults.places_fault (map string_bytes options.now) }
 {
     value_fault(options, b"--places", &[], places_in(options).is_some())
 }
 
+// The first fault of the words behind `run`.
 fn run_fault(words: &[String]) -> Option<WordFault<&[u8]>>
     ensures { told result ≡ faults.run_fault (map string_bytes words.now) }
 {
@@ -109,6 +113,7 @@ fn run_fault(words: &[String]) -> Option<WordFault<&[u8]>>
         .or(places_fault(words))
 }
 
+// The fault of the value of `--form`.
 fn form_fault<'a>(words: &'a [String], switches: &[&str]) -> Option<WordFault<&'a [u8]>>
     ensures { told result ≡ faults.form_fault (bytes_of switches.now) (map string_bytes words.now) }
 {
@@ -116,18 +121,21 @@ fn form_fault<'a>(words: &'a [String], switches: &[&str]) -> Option<WordFault<&'
     value_fault(words, b"--form", switches, is_form)
 }
 
+// The first fault of the words behind a command that reads a text.
 fn text_fault(words: &[String]) -> Option<WordFault<&[u8]>>
     ensures { told result ≡ faults.text_fault (map string_bytes words.now) }
 {
     option_fault(words, &["--form"], &[]).or(form_fault(words, &[]))
 }
 
+// The first fault of the words behind a command that reads a text and may take `--wide`.
 fn wide_fault(words: &[String]) -> Option<WordFault<&[u8]>>
     ensures { told result ≡ faults.wide_fault (map string_bytes words.now) }
 {
     option_fault(words, &["--form", "--wide"], &WIDE).or(form_fault(words, &WIDE))
 }
 
+// The first fault of the words behind `range` that ask for one number.
 fn number_fault(words: &[String]) -> Option<WordFault<&[u8]>>
     ensures { told result ≡ faults.number_fault (map string_bytes words.now) }
 {
@@ -140,6 +148,7 @@ fn number_fault(words: &[String]) -> Option<WordFault<&[u8]>>
         .or(text_fault(options))
 }
 
+// The first fault of the words behind `range`.
 fn range_fault(words: &[String]) -> Option<WordFault<&[u8]>>
     ensures { told result ≡ faults.range_fault (map string_bytes words.now) }
 {
@@ -152,6 +161,7 @@ fn range_fault(words: &[String]) -> Option<WordFault<&[u8]>>
     number_fault(words)
 }
 
+// The first fault of the words behind `gen`.
 #[tactic(auto, unfolding(spec_program::specs::CommandLine::row_count_of, spec_program::specs::CommandLine::column_count_of))]
 fn generate_fault(words: &[String]) -> Option<WordFault<&[u8]>>
     ensures { told result ≡ faults.generate_fault (map string_bytes words.now) }
@@ -170,6 +180,7 @@ fn generate_fault(words: &[String]) -> Option<WordFault<&[u8]>>
     seed.or(rows).or(columns).or(option_fault(behind, &[], &[]))
 }
 
+// The first fault of the words behind `serve`.
 fn serve_fault(words: &[String]) -> Option<WordFault<&[u8]>>
     ensures { told result ≡ faults.serve_fault (map string_bytes words.now) }
 {
@@ -184,6 +195,7 @@ fn serve_fault(words: &[String]) -> Option<WordFault<&[u8]>>
         .or(places_fault(options))
 }
 
+// The first fault of the words, that of their command included.
 #[tactic(auto, unfolding(crate::specs::WordFaults::word_fault))]
 fn first_fault(words: &[String]) -> Option<WordFault<&[u8]>>
     ensures { told result ≡ faults.word_fault (map string_bytes words.now) }
@@ -203,7 +215,7 @@ fn first_fault(words: &[String]) -> Option<WordFault<&[u8]>>
     }
 }
 
-/// Which word is at fault; none exactly where the words are a command line.
+/// The word that is at fault, and why. There is none exactly where the words are a command line.
 pub fn word_fault(words: &[String]) -> Option<WordFault<&[u8]>>
     ensures fault { told result ≡ faults.word_fault (map string_bytes words.now) }
     ensures none { is_none result ≡ is_some (command_line_of (map string_bytes words.now)) }

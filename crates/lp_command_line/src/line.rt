@@ -76,13 +76,14 @@ const USUAL_PLACES: u32 = 256;
 // How many links each worker of a server serves, unless it is said.
 const USUAL_LINKS: u32 = 1;
 
+/// Whether the word is one of these names.
 pub(crate) fn is_one_of(word: &[u8], names: &[&str]) -> bool
     ensures { result ≡ list_any (λ name. same word.now name.now) names.now }
 {
     names.iter().any(|name| are_same(word, name.as_bytes()))
 }
 
-// The first option and its value, which is empty if it is a switch, and the words after them.
+/// The first option, its value, which is empty for a switch, and the words behind them.
 pub(crate) fn first_option<'a>(
     words: &'a [String],
     switches: &[&str],
@@ -105,7 +106,7 @@ pub(crate) fn first_option<'a>(
     Some((option, value.as_bytes(), behind))
 }
 
-// The value of an option, if its name is given.
+/// The value of the first option with this name, if there is one.
 pub(crate) fn value_of<'a>(words: &'a [String], name: &[u8], switches: &[&str]) -> Option<&'a [u8]>
     ensures { option_copied result ≡ value_in (bytes_of switches.now) name.now (map string_bytes words.now) }
 {
@@ -119,7 +120,7 @@ pub(crate) fn value_of<'a>(words: &'a [String], name: &[u8], switches: &[&str]) 
     None
 }
 
-// Whether the words are options with these names, some of them switches, and none of them given twice.
+// Whether the words are options with these names, none of them given twice. `switches` are those without a value.
 fn are_options(words: &[String], names: &[&str], switches: &[&str]) -> bool
     ensures { result ≡ are_in (bytes_of names.now) (bytes_of switches.now) (map string_bytes words.now) }
 {
@@ -136,7 +137,7 @@ fn are_options(words: &[String], names: &[&str], switches: &[&str]) -> bool
     rest.is_empty()
 }
 
-// How many workers the options give.
+/// The number of workers that the options give, 1 where they give none. None where the value is wrong.
 #[tactic(auto, unfolding(spec_program::specs::CommandLine::workers_of))]
 pub(crate) fn workers_in(options: &[String]) -> Option<u32>
     ensures { result ≡ command_lines.workers_given (value_in [] (codes "--workers") (map string_bytes options.now)) }
@@ -147,7 +148,7 @@ pub(crate) fn workers_in(options: &[String]) -> Option<u32>
     }
 }
 
-// How many places they give.
+/// The number of places that the options give, 256 where they give none. None where the value is wrong.
 #[tactic(auto, unfolding(spec_program::specs::CommandLine::places_of))]
 pub(crate) fn places_in(options: &[String]) -> Option<u32>
     ensures { result ≡ command_lines.places_given (value_in [] (codes "--places") (map string_bytes options.now)) }
@@ -158,7 +159,7 @@ pub(crate) fn places_in(options: &[String]) -> Option<u32>
     }
 }
 
-// How many links for each worker.
+/// The number of links of each worker that the options give, 1 where they give none. None where the value is wrong.
 #[tactic(auto, unfolding(spec_program::specs::CommandLine::links_of))]
 pub(crate) fn links_in(options: &[String]) -> Option<u32>
     ensures { result ≡ command_lines.links_given (value_in [] (codes "--each") (map string_bytes options.now)) }
@@ -169,7 +170,7 @@ pub(crate) fn links_in(options: &[String]) -> Option<u32>
     }
 }
 
-// The form that a text is read in, free unless another is given.
+/// The form of the text that the options give, free where they give none. None where the value is wrong.
 pub(crate) fn form_in(options: &[String], switches: &[&str]) -> Option<Style>
     ensures { result ≡ command_lines.form_given
         (value_in (bytes_of switches.now) (codes "--form") (map string_bytes options.now)) }
@@ -180,7 +181,7 @@ pub(crate) fn form_in(options: &[String], switches: &[&str]) -> Option<Style>
     }
 }
 
-// A script is run by so many workers, and its sessions share so many places.
+// The command line of `run` with these words behind it.
 fn run_line(words: &[String]) -> Option<CommandLine<&[u8]>>
     ensures { told result ≡ asked_by (map string_bytes words.now) run_row }
 {
@@ -192,7 +193,7 @@ fn run_line(words: &[String]) -> Option<CommandLine<&[u8]>>
     Some(CommandLine::Run { workers, places })
 }
 
-// A text is read in a form.
+// The command line of a command that reads a text, with these words behind it.
 fn text_line<'a>(
     command: TextCommand<&'static [u8]>,
     words: &'a [String],
@@ -206,7 +207,7 @@ fn text_line<'a>(
     Some(CommandLine::Read(command, style))
 }
 
-// Which of the two commands the options ask for.
+// The command for numbers of any width where the options have `--wide`, else the one for 127 bits.
 fn command_by_width(
     narrow: TextCommand<&'static [u8]>,
     wide: TextCommand<&'static [u8]>,
@@ -221,7 +222,7 @@ fn command_by_width(
     }
 }
 
-// A text is read in a form by one of the two commands.
+// The command line of a command that reads a text and may take `--wide`, with these words behind it.
 fn wide_line<'a>(
     narrow: TextCommand<&'static [u8]>,
     wide: TextCommand<&'static [u8]>,
@@ -238,14 +239,14 @@ fn wide_line<'a>(
     Some(CommandLine::Read(command, style))
 }
 
-// Which number of a model a word names.
+/// The number of a model that the word names: a cost or a right side.
 pub(crate) fn moved_of(word: &[u8]) -> Option<Moved>
     ensures { result ≡ command_lines.moved_of word.now }
 {
     look_up(word, &MOVED)
 }
 
-// Whether a word may be an address or a name.
+/// Whether the word may be an address or a name: it has bytes, and does not begin with `-`.
 pub(crate) fn is_plain(word: &[u8]) -> bool
     ensures { result ≡ command_lines.is_plain word.now }
 {
@@ -255,7 +256,7 @@ pub(crate) fn is_plain(word: &[u8]) -> bool
     }
 }
 
-// The number of the column or row of this name is ranged, in a text that is read in a form.
+// The command line for the range of one number, with these options.
 fn range_with<'a>(moved: Moved, name: &'a [u8], options: &[String]) -> Option<CommandLine<&'a [u8]>>
     ensures { told result ≡ range_in moved name.now (map string_bytes options.now) }
 {
@@ -263,14 +264,14 @@ fn range_with<'a>(moved: Moved, name: &'a [u8], options: &[String]) -> Option<Co
     Some(CommandLine::Read(TextCommand::Range { moved, name }, style))
 }
 
-// Whether a word names all numbers of a model.
+/// Whether the word asks for the ranges of all numbers of a model.
 pub(crate) fn is_all(word: &[u8]) -> bool
     ensures { result ≡ command_lines.is_all word.now }
 {
     are_same(word, b"all")
 }
 
-// The cost of a column, or the right side of a row, is ranged.
+// The command line for the range of one number, with these words behind `range`.
 fn number_line(words: &[String]) -> Option<CommandLine<&[u8]>>
     ensures { told result ≡ asked_by (map string_bytes words.now) number_row }
 {
@@ -285,7 +286,7 @@ fn number_line(words: &[String]) -> Option<CommandLine<&[u8]>>
     range_with(moved, name, options)
 }
 
-// All numbers are ranged, or one.
+// The command line of `range` with these words behind it.
 fn range_line(words: &[String]) -> Option<CommandLine<&[u8]>>
     ensures { told result ≡ asked_by (map string_bytes words.now) range_row }
 {
@@ -298,7 +299,7 @@ fn range_line(words: &[String]) -> Option<CommandLine<&[u8]>>
     number_line(words)
 }
 
-// The number that a model is made from; 0 is one too.
+/// The seed that the word is, from 0 to 1,000,000.
 #[tactic(auto, unfolding(spec_program::specs::CommandLine::seed_of))]
 pub(crate) fn seed_of(word: &[u8]) -> Option<u32>
     ensures { result ≡ command_lines.seed_of word.now }
@@ -309,7 +310,7 @@ pub(crate) fn seed_of(word: &[u8]) -> Option<u32>
     number_to(1_000_000, 7, word)
 }
 
-// A model is made from these numbers, if each is there.
+// The command line of `gen` for these numbers, none where one is missing.
 fn generate_by<'a>(
     seed: Option<u32>,
     rows: Option<u32>,
@@ -327,7 +328,7 @@ fn generate_by<'a>(
     })
 }
 
-// A model is made from a seed, with so many rows and columns.
+// The command line of `gen` with these words behind it.
 fn generate_line(words: &[String]) -> Option<CommandLine<&[u8]>>
     ensures { told result ≡ asked_by (map string_bytes words.now) generate_row }
 {
@@ -343,7 +344,7 @@ fn generate_line(words: &[String]) -> Option<CommandLine<&[u8]>>
     generate_by(seed, rows, columns)
 }
 
-// The numbers of a server, by the options that are given.
+// The command line of `serve` with these options.
 fn serve_with(options: &[String]) -> Option<CommandLine<&[u8]>>
     ensures { told result ≡ serve_in (map string_bytes options.now) }
 {
@@ -357,7 +358,7 @@ fn serve_with(options: &[String]) -> Option<CommandLine<&[u8]>>
     })
 }
 
-// Sessions are served at an address, by so many workers, which serve so many links each, over so many places.
+// The command line of `serve` with these words behind it.
 fn serve_line(words: &[String]) -> Option<CommandLine<&[u8]>>
     ensures { told result ≡ asked_by (map string_bytes words.now) serve_row }
 {
@@ -372,7 +373,7 @@ fn serve_line(words: &[String]) -> Option<CommandLine<&[u8]>>
     serve_with(options)
 }
 
-/// What the words ask, if they are a command line.
+/// The command line that the words are, if they are one.
 #[tactic(auto, unfolding(spec_program::specs::CommandLine::command_line_of))]
 pub fn command_line_of(words: &[String]) -> Option<CommandLine<&[u8]>>
     ensures { told result ≡ command_lines.command_line_of (map string_bytes words.now) }
