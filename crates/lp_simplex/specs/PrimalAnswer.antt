@@ -25,7 +25,7 @@ pub record IsStep (t u : Tableau) : Type 0 where
   pub no_end : (end : PrimalEnd) → choice ≢ End end
   pub done : done_run (Some number_limit) t choice ≡ Ok u
 
--- n of them do
+-- n flips or pivots make u of t
 abbrev pub Steps : ℕ → Tableau → Tableau → Type 0
 Steps zero t u = t ≡ u
 Steps (suc n) t u = (v : Tableau) × Steps n t v × IsStep v u

@@ -23,7 +23,7 @@ pub record IsSeated (t : Tableau) : Type 0 where
   pub all_statuses : length t.status ≡ all_columns t
   pub places : (k : ℕ) → k < all_columns t → status_at t k ≡ Basic → HasPlace t k
 
--- and each column that needs its other bound has both
+-- each basic column has a position, and each column that needs its other bound may flip
 pub record IsDualStart (t : Tableau) : Type 0 where
   pub seated : IsSeated t
   pub flips : (k : ℕ) → k < all_columns t → needs_flip_at t k ≡ true → CanFlip t k

@@ -5,7 +5,7 @@
 //! | `primal` | the primal run, with the tests of one column and of one position that other methods use too | src/primal |
 //! | `dual` | whether a tableau is primal or dual feasible, and the dual run | src/dual |
 //!
-//! Each run takes steps up to an end, the first operation that is past 127 bits, or a spent budget. They take no memory.
+//! Each run takes steps up to an end, the first operation that overflows, or a spent budget. They take no memory.
 #![tactic(auto)]
 
 pub mod dual;

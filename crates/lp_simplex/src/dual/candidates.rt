@@ -13,7 +13,7 @@ use std::cmp::Ordering;
 // The least ratio so far.
 pub(crate) type Cheapest = spec_simplex::Cheapest<Frac>;
 
-// Whether column `k` rises or falls as it enters, if it may bring back the one at position `p`.
+// Whether column `k` rises or falls as it enters, if it may bring the column at position `p` back to its bound.
 fn column_way(tab: &Tableau, p: u32, below: bool, k: u32) -> Option<bool>
     requires place { p < tab.now.rows }
     requires column { k < all_columns tab.now }
@@ -25,7 +25,7 @@ fn column_way(tab: &Tableau, p: u32, below: bool, k: u32) -> Option<bool>
     way(tab.status(k), directed(below, tab.entry(p, k)))
 }
 
-// The one with the lesser ratio, and of equal ones the first.
+// The better of two columns: the one with the lesser ratio, and of equal ones the first.
 fn cheaper(new: Cheapest, best: Option<Cheapest>) -> Result<Option<Cheapest>, Past>
     ensures { result ≡ dual.cheaper_run (Some number_limit) new best }
 {
@@ -38,7 +38,7 @@ fn cheaper(new: Cheapest, best: Option<Cheapest>) -> Result<Option<Cheapest>, Pa
     }
 }
 
-// The best so far, with column `k`.
+// The best column so far, with column `k` compared too.
 fn cheapest_with(
     tab: &Tableau,
     p: u32,
@@ -59,7 +59,7 @@ fn cheapest_with(
     }
 }
 
-// The least ratio of all, if any column may enter.
+// The column with the least ratio, if any may enter.
 pub(crate) fn cheapest(tab: &Tableau, p: u32, below: bool) -> Result<Option<Cheapest>, Past>
     requires { p < tab.now.rows }
     ensures { result ≡ dual.cheapest_run (Some number_limit) tab.now p below }

@@ -1,4 +1,4 @@
-// What a dual step does.
+// Which pivot a dual step makes, or how the run ends.
 ghost use Rattle.std.specs.Prelude.{◌≡◌, IfOk, Some};
 ghost use Rattle.spec_exact.specs.Narrow.{number_limit};
 ghost use Rattle.spec_simplex.specs.Dual as dual;
@@ -35,7 +35,7 @@ fn passed_bound(below: bool) -> Status
     }
 }
 
-// The pivot that comes next, or the end.
+// The next dual pivot, or the end of the run.
 #[tactic(auto, unfolding(spec_simplex::specs::Dual::dual_choice_run))]
 pub(crate) fn choice(tab: &Tableau) -> Result<DualChoice, Past>
     requires { IsSeated tab.now }

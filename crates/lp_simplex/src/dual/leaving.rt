@@ -42,7 +42,7 @@ fn outside(lower: Option<Frac>, upper: Option<Frac>, v: Frac) -> Result<Option<b
     Ok(None)
 }
 
-// Column `col`, if it is outside its bounds.
+// Column `col` as the one that leaves, if its value is outside its bounds.
 fn leaving_at(tab: &Tableau, col: u32) -> Result<Option<Leaving>, Past>
     requires { col < all_columns tab.now }
     ensures { result ≡ fit.leaving_at (Some number_limit) tab.now col }
@@ -53,7 +53,7 @@ fn leaving_at(tab: &Tableau, col: u32) -> Result<Option<Leaving>, Past>
     }
 }
 
-// The first so far, with column `col`. Nothing is compared after the first.
+// The first basic column outside its bounds up to column `col`. Nothing is compared after the first.
 fn leaving_with(tab: &Tableau, col: u32, first: Option<Leaving>) -> Result<Option<Leaving>, Past>
     requires { col < all_columns tab.now }
     ensures { result ≡ fit.leaving_with (Some number_limit) tab.now col first }

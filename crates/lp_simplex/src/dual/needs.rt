@@ -12,12 +12,14 @@ use lp_frac::{Frac, Past, are_same, is_negative, is_positive, zero};
 use lp_tableau::Tableau;
 use spec_simplex::{Fit, Leaving};
 
+// Whether the fraction is 0.
 fn is_zero(v: Frac) -> bool
     ensures { result ≡ eq_ℚ v 0ℚ }
 {
     are_same(v, zero())
 }
 
+// Whether there is a bound.
 fn is_there(bound: Option<Frac>) -> bool
     ensures { result ≡ spec.is_there bound }
 {
@@ -38,7 +40,7 @@ fn needs_flip(status: Status, reduced: Frac) -> bool
     }
 }
 
-// Whether it has that bound. A column without bounds needs the reduced cost 0.
+// Whether a column has the other bound, if it needs it. A column without bounds needs the reduced cost 0.
 fn meets_need(status: Status, reduced: Frac, lower: Option<Frac>, upper: Option<Frac>) -> bool
     ensures { result ≡ spec.meets_need status reduced lower upper }
 {
@@ -50,7 +52,7 @@ fn meets_need(status: Status, reduced: Frac, lower: Option<Frac>, upper: Option<
     }
 }
 
-// Whether column `k` needs its other bound. A fixed one needs nothing.
+// Whether column `k` needs its other bound, so that its reduced cost has the right sign. A fixed one needs nothing.
 pub(crate) fn needs_flip_at(tab: &Tableau, k: u32) -> bool
     requires { k < all_columns tab.now }
     ensures { result ≡ spec.needs_flip_at tab.now k }
@@ -58,6 +60,7 @@ pub(crate) fn needs_flip_at(tab: &Tableau, k: u32) -> bool
     !is_fixed(tab.lower(k), tab.upper(k)) && needs_flip(tab.status(k), tab.reduced(k))
 }
 
+// Whether column `k` has the bound that it needs. A fixed one needs nothing.
 fn meets_need_at(tab: &Tableau, k: u32) -> bool
     requires { k < all_columns tab.now }
     ensures { result ≡ spec.meets_need_at tab.now k }
@@ -77,6 +80,7 @@ fn all_meet(tab: &Tableau) -> bool
     met
 }
 
+// The method that a tableau is fit for, where `outside` is its first basic column outside its bounds.
 fn fit_by(tab: &Tableau, outside: Option<Leaving>) -> Fit
     ensures { result ≡ spec.fit_by tab.now outside }
 {

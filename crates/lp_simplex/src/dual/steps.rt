@@ -13,7 +13,7 @@ use lp_frac::{Past, div, sub};
 use lp_tableau::{RunStop, Tableau, stand};
 use spec_simplex::{DualChoice, DualEnd};
 
-// Column `col` moves by what brings the one at the position to its bound `to`, and takes the position.
+// Moves column `col` so far that the column at the position comes to its bound `to`, and makes `col` basic there.
 #[tactic(auto, unfolding(spec_simplex::specs::Dual::dual_pivot_run))]
 fn pivot(tab: &mut Tableau, place: u32, col: u32, to: Status) -> Result<(), Past>
     requires { CanEnter tab.old place col to }
@@ -25,7 +25,7 @@ fn pivot(tab: &mut Tableau, place: u32, col: u32, to: Status) -> Result<(), Past
     tab.pivot(place, col, theta, to)
 }
 
-// Steps up to an end.
+// Takes dual steps up to an end, and counts them.
 fn steps(tab: &mut Tableau, used: &mut u64, budget: u64) -> Result<DualEnd, RunStop>
     requires { IsSeated tab.old }
     ensures runs { DualRuns (dual.dual_from (Some number_limit) (budget - used.old) used.old tab.old)

@@ -1,4 +1,4 @@
-// What a step does.
+// Which step the primal method takes, or how the run ends.
 ghost use Rattle.std.specs.Prelude.{◌≡◌, IfOk, Some};
 ghost use Rattle.spec_exact.specs.Narrow.{number_limit};
 ghost use Rattle.spec_simplex.specs.Step.{choice_by, choice_run, CanMake};
@@ -9,10 +9,10 @@ use lp_frac::{Frac, Past};
 use lp_tableau::{PrimalEnd, Tableau, directed};
 use spec_simplex::Entering;
 
-/// What a step does.
+/// A flip, a pivot, or the end of the run.
 pub type Choice = spec_simplex::Choice<Frac>;
 
-/// The step that the entering column takes, where this is the least ratio.
+/// The step for the entering column, where `best` is the least ratio of the ratio test.
 pub fn chosen(e: Entering, best: Option<Best>) -> Choice
     ensures { result ≡ choice_by e best }
 {
@@ -31,7 +31,7 @@ pub fn chosen(e: Entering, best: Option<Best>) -> Choice
     }
 }
 
-// The flip or the pivot that comes next, or the end.
+// The next flip or pivot, or the end of the run.
 #[tactic(auto, unfolding(spec_simplex::specs::Step::choice_run))]
 pub(crate) fn choice(tab: &Tableau) -> Result<Choice, Past>
     ensures value { result ≡ choice_run (Some number_limit) tab.now }

@@ -1,4 +1,4 @@
-// Which column enters.
+// Which column enters, by Bland's rule.
 ghost use Rattle.std.specs.Prelude.{◌≡◌, ◌<◌, IfSome};
 ghost use Rattle.spec_exact.specs.Fraction.{lt_ℚ, 0ℚ};
 ghost use Rattle.spec_simplex.specs.Tableau.{all_columns, is_fixed as is_fixed_of};

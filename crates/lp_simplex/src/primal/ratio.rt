@@ -30,7 +30,7 @@ pub fn range(e: Entering, lower: Option<Frac>, upper: Option<Frac>) -> Result<Op
     }
 }
 
-// How far the value may rise.
+// How far a basic value may rise, and the bound that it comes to, if there is one.
 fn rise(upper: Option<Frac>, value: Frac) -> Result<Option<(Frac, Status)>, Past>
     ensures { result ≡ step.rise_run (Some number_limit) upper value }
 {
@@ -40,7 +40,7 @@ fn rise(upper: Option<Frac>, value: Frac) -> Result<Option<(Frac, Status)>, Past
     }
 }
 
-// How far the value may fall.
+// How far a basic value may fall, and the bound that it comes to, if there is one.
 fn fall(lower: Option<Frac>, value: Frac) -> Result<Option<(Frac, Status)>, Past>
     ensures { result ≡ step.fall_run (Some number_limit) lower value }
 {
@@ -50,7 +50,7 @@ fn fall(lower: Option<Frac>, value: Frac) -> Result<Option<(Frac, Status)>, Past
     }
 }
 
-// The gap of a basic column with these bounds, whose position has this entry.
+// How far a basic column may move, whose position has this entry, and the bound that it comes to.
 #[inline(always)]
 fn gap(
     up: bool,
@@ -68,7 +68,7 @@ fn gap(
     }
 }
 
-// The better of two: the lesser ratio, and of equal ones the lesser column.
+// The better of two ratios: the lesser, and of equal ones that of the lesser column.
 fn better(new: Best, best: Option<Best>) -> Result<Option<Best>, Past>
     ensures { result ≡ step.better_run (Some number_limit) new best }
 {
@@ -88,7 +88,7 @@ pub struct Position {
     pub place: u32,
     /// Its basic column.
     pub col: u32,
-    /// What stands there in the entering column.
+    /// The entry of its row in the entering column.
     pub entry: Frac,
     /// The basic column's bounds and value.
     pub lower: Option<Frac>,
@@ -119,7 +119,7 @@ pub fn best_at(up: bool, at: Position, best: Option<Best>) -> Result<Option<Best
     }
 }
 
-// The best so far, with position `i`.
+// The best ratio so far, with that of position `i` compared too.
 fn best_with(tab: &Tableau, e: Entering, i: u32, best: Option<Best>) -> Result<Option<Best>, Past>
     requires column { e.col < all_columns tab.now }
     requires place { i < tab.now.rows }
@@ -137,7 +137,7 @@ fn best_with(tab: &Tableau, e: Entering, i: u32, best: Option<Best>) -> Result<O
     best_at(e.up, at, best)
 }
 
-// The least ratio of all, if anything stops the column.
+// The least ratio of all positions and of the column's own range, if anything stops it.
 pub(crate) fn best(tab: &Tableau, e: Entering) -> Result<Option<Best>, Past>
     requires { e.col < all_columns tab.now }
     ensures { result ≡ step.best_run (Some number_limit) tab.now e }

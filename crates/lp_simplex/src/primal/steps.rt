@@ -1,4 +1,4 @@
-// Steps up to an end.
+// Runs of primal steps up to an end.
 ghost use Rattle.std.specs.Prelude.{◌≡◌, ◌<◌, ◌≤◌, ◌-◌, IfErr, Some};
 ghost use Rattle.spec_exact.specs.Narrow.{number_limit};
 ghost use Rattle.spec_simplex.specs.Step.{CanMake};
@@ -10,7 +10,7 @@ use crate::primal::choice::{Choice, choice};
 use lp_frac::Past;
 use lp_tableau::{PrimalEnd, RunStop, Tableau};
 
-// The flip or the pivot; an end changes nothing.
+// Makes the flip or the pivot of a choice. An end changes nothing.
 fn make(tab: &mut Tableau, choice: Choice) -> Result<(), Past>
     requires { CanMake tab.old choice }
     ensures { GivesRun (done_run (Some number_limit) tab.old choice) tab.new result }
