@@ -10,16 +10,19 @@ use Rattle.lp_rows.specs.declared.tableau.tableau.RowTableau.{RowTableau}
 use Rattle.lp_rows.specs.Shows.{IsWhole, width, all_width}
 use Rattle.lp_rows.specs.Moves.{AreMoved, AreTurned}
 
--- the bounds, the status and the basic column, by their numbers
+-- the lower bound of column k
 abbrev pub lower_in : {T : Type 0} → (T → ℕ) → RowTableau T → ℕ → Option ℚ
 lower_in value r k = bound_of value (value r.denominator) (get_or r.lower.items k None)
 
+-- the upper bound of column k
 abbrev pub upper_in : {T : Type 0} → (T → ℕ) → RowTableau T → ℕ → Option ℚ
 upper_in value r k = bound_of value (value r.denominator) (get_or r.upper.items k None)
 
+-- the status of column k
 abbrev pub status_in : {T : Type 0} → RowTableau T → ℕ → Status
 status_in r k = get_or r.status.items k Basic
 
+-- the basic column of position i
 abbrev pub basic_in : {T : Type 0} → RowTableau T → ℕ → ℕ
 basic_in r i = get_or r.basic.items i 0
 

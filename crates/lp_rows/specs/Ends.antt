@@ -13,12 +13,15 @@ use Rattle.lp_rows.specs.declared.tableau.tableau.RowTableau.{RowTableau}
 use Rattle.lp_rows.specs.Shows.{width}
 
 -- ---- the lists of spec_runs, of another kind of numbers
+-- the values of the structural columns
 abbrev pub point_as : {N : Type 0} → (ℚ → N) → Tableau → List N
 point_as of t = made t.cols (λ j. of (value_at t j))
 
+-- the reduced costs of the rows' logicals
 abbrev pub multipliers_as : {N : Type 0} → (ℚ → N) → Tableau → List N
 multipliers_as of t = made t.rows (λ i. of (reduced_at t (t.cols + i)))
 
+-- how the structural columns move as column j enters
 abbrev pub direction_as : {N : Type 0} → (ℚ → N) → Tableau → ℕ → Bool → List N
 direction_as of t j up = made t.cols (λ k. of (moves_by t j up k))
 
@@ -28,13 +31,14 @@ certificate_as of t None = certificate.Infeasible (multipliers_as of t)
 certificate_as of t (Some Optimal) = certificate.Optimal (point_as of t) (multipliers_as of t)
 certificate_as of t (Some (Unbounded j up)) = certificate.Unbounded (point_as of t) (direction_as of t j up)
 
--- this holds of all its numbers
+-- `fits` holds of all numbers of a certificate
 abbrev pub AllFit : {N : Type 0} → (N → Type 0) → Certificate (List N) → Type 0
 AllFit fits (certificate.Optimal x y) = All fits x × All fits y
 AllFit fits (certificate.Infeasible y) = All fits y
 AllFit fits (certificate.Clash j) = Unit {0}
 AllFit fits (certificate.Unbounded x r) = All fits x × All fits r
 
+-- the basis of an end: none where phase one leaves an artificial that is not 0
 abbrev pub basis_by : Tableau → Option PrimalEnd → Option (List Status)
 basis_by t None = None
 basis_by t (Some end) = basis_at t end

@@ -20,7 +20,7 @@ pub record IsRowOf {T : Type 0} (value : T → ℕ) (list : List ℚ) (last : �
       fraction_at value row.numbers.items (value row.denominator) k ≡ get_or list k 0ℚ
   pub value_last : fraction_at value row.numbers.items (d * value row.denominator) (length list) ≡ last
 
--- the same of the numbers of a row, on a denominator of their own and another one for the last
+-- the numbers are these fractions on the denominator `own`, and the last one this value on `both`
 pub record IsRowWith {T : Type 0} (value : T → ℕ) (list : List ℚ) (last : ℚ) (own both : ℕ)
     (numbers : List (Signed T)) :
     Type 0 where
@@ -48,15 +48,19 @@ pub record HoldsParts {T : Type 0} (value : T → ℕ) (t : Tableau) (r : RowTab
   pub positive : 0 < value r.denominator
 
 -- ---- whole numbers
+-- a sign and a magnitude as a whole number
 abbrev pub whole_of : {T : Type 0} → (T → ℕ) → Signed T → ℤ
 whole_of value n = whole n.negative (value n.size)
 
+-- the numbers of a list, as whole numbers
 abbrev pub wholes : {T : Type 0} → (T → ℕ) → List (Signed T) → List ℤ
 wholes value ns = map (whole_of value) ns
 
+-- the bounds of a list, as whole numbers where they are there
 abbrev pub whole_bounds : {T : Type 0} → (T → ℕ) → List (Option (Signed T)) → List (Option ℤ)
 whole_bounds value bounds = map (option_map (whole_of value)) bounds
 
+-- the numbers of a row, and its denominator
 abbrev pub whole_row : {T : Type 0} → (T → ℕ) → Row T → List ℤ × ℕ
 whole_row value row = (wholes value row.numbers.items, value row.denominator)
 

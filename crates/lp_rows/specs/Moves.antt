@@ -7,10 +7,11 @@ use Rattle.lp_rows.specs.declared.fractions.Row.{Row}
 use Rattle.lp_rows.specs.Row.{fraction_at}
 use Rattle.lp_rows.specs.Shows.{IsRow}
 
+-- the number of column k of a row, as a fraction
 abbrev pub number_at : {T : Type 0} → (T → ℕ) → Row T → ℕ → ℚ
 number_at value row k = fraction_at value row.numbers.items (value row.denominator) k
 
--- 0 where there is no such row
+-- the number of column k of row i, as a fraction, and 0 where there is no such row
 abbrev pub number_in : {T : Type 0} → (T → ℕ) → List (Row T) → ℕ → ℕ → ℚ
 number_in value [] i k = 0ℚ
 number_in value (row ∷ rows) zero k = number_at value row k
@@ -28,13 +29,13 @@ pub record IsScaled {T : Type 0} (value : T → ℕ) (n j : ℕ) (v : ℚ) (old 
   pub others : (k : ℕ) → k < n → number_at value new k ≡ number_at value old k *ℚ inverse (number_at value old j)
   pub last : number_at value new n ≡ (number_at value old n -ℚ v) *ℚ inverse (number_at value old j)
 
--- as much of another row is off as the number of column j says
+-- the row `own` is taken off as often as the row's number of column j says
 pub record IsCleared {T : Type 0} (value : T → ℕ) (n j : ℕ) (own old new : Row T) : Type 0 where
   pub row : IsRow value n new
   pub each : (k : ℕ) → k < n + 1 →
       number_at value new k ≡ number_at value old k -ℚ number_at value old j *ℚ number_at value own k
 
--- the same of each row
+-- the row `own` is taken off each row as often as that row's number of column j says
 pub record AreCleared {T : Type 0} (value : T → ℕ) (n j : ℕ) (own : Row T) (old new : List (Row T)) : Type 0 where
   pub len : length new ≡ length old
   pub rows : All (IsRow value n) new

@@ -12,7 +12,7 @@ use Rattle.lp_rows.specs.declared.ratio.Stopper.{Stopper}
 use Rattle.lp_rows.specs.declared.ratio.Gap.{Gap}
 use Rattle.spec_pivot.specs.declared.status.Status.{Status}
 
--- d is the denominator of all bounds
+-- the ratio and the position of a stop, as the ratio test has them; d is the denominator of all bounds
 abbrev pub best_of : {T : Type 0} → (T → ℕ) → ℕ → Stopper T → Best ℚ
 best_of value d s =
     record {

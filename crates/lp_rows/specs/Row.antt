@@ -4,17 +4,18 @@ use Rattle.spec_exact.specs.Fraction.{ℚ, 0ℚ, over}
 use Rattle.lp_natural.specs.Whole.{whole}
 use Rattle.lp_natural.specs.declared.words.signed.Signed.{Signed}
 
--- that of column k, and 0 past the end
+-- the whole number of column k, and 0 past the end
 abbrev pub at : {T : Type 0} → (T → ℕ) → List (Signed T) → ℕ → ℤ
 at value [] k = pos 0
 at value (x ∷ xs) zero = whole x.negative (value x.size)
 at value (x ∷ xs) (suc k) = at value xs k
 
--- each over d
+-- the fractions of a list of numbers on d
 unfoldable pub fractions : {T : Type 0} → (T → ℕ) → List (Signed T) → ℕ → List ℚ
 fractions value [] d = []
 fractions value (x ∷ xs) d = over (whole x.negative (value x.size)) d ∷ fractions value xs d
 
+-- the fraction of column k on d, and 0 past the end
 abbrev pub fraction_at : {T : Type 0} → (T → ℕ) → List (Signed T) → ℕ → ℕ → ℚ
 fraction_at value xs d k = get_or (fractions value xs d) k 0ℚ
 

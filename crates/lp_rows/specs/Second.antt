@@ -12,10 +12,11 @@ use Rattle.lp_rows.specs.declared.tableau.tableau.RowTableau.{RowTableau}
 use Rattle.lp_rows.specs.Shows.{IsRow, Shows, row_at, width}
 
 -- ---- costs
+-- the number of column k of a row, as a fraction
 abbrev pub fraction_of : {T : Type 0} → (T → ℕ) → Row T → ℕ → ℚ
 fraction_of value row k = fraction_at value row.numbers.items (value row.denominator) k
 
--- 0 from column n on
+-- the number of column k of a row, as a fraction, and 0 from column n on
 abbrev pub cost_in : {T : Type 0} → (T → ℕ) → ℕ → Row T → ℕ → ℚ
 cost_in value n row k = if nat_lt k n then fraction_of value row k else 0ℚ
 

@@ -14,13 +14,15 @@ use Rattle.lp_rows.specs.Row.{fraction_at}
 use Rattle.lp_rows.specs.Ratio.{bound_of}
 use Rattle.lp_rows.specs.declared.tableau.tableau.RowTableau.{RowTableau}
 
--- how many positions, structural and logical columns, and columns there are
+-- how many positions there are
 abbrev pub height : {T : Type 0} → RowTableau T → ℕ
 height r = length r.rows.items
 
+-- how many structural and logical columns there are
 abbrev pub width : {T : Type 0} → RowTableau T → ℕ
 width r = r.cols + height r
 
+-- how many columns there are, with the artificial ones
 abbrev pub all_width : {T : Type 0} → RowTableau T → ℕ
 all_width r = r.cols + height r + height r
 

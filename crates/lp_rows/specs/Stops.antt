@@ -6,7 +6,7 @@ use Rattle.spec_simplex.specs.declared.ends.Best.{Best}
 use Rattle.spec_simplex.specs.Step.{gap_run, with_gap}
 use Rattle.lp_rows.specs.declared.ratio.Stopper.{Stopper}
 
--- its entry is not 0, and its place, where it has one, is one of n
+-- the entry of a stop is not 0, and its position, where it has one, is one of n
 abbrev pub IsStop : {T : Type 0} → (T → ℕ) → ℕ → Option (Stopper T) → Type 0
 IsStop value n None = Unit {0}
 IsStop value n (Some s) = (0 < value s.entry) × IfSome s.place (λ p. p < n)

@@ -1,4 +1,4 @@
-// Which column enters.
+// Which column enters, by a row of reduced costs.
 ghost use Rattle.std.specs.Prelude.{◌≡◌, ◌<◌, ◌≤◌, pos, length, IfSome};
 ghost use Rattle.std.specs.Ordering.{int_cmp};
 ghost use Rattle.spec_simplex.specs.Tableau as tableaus;
@@ -12,7 +12,7 @@ use spec_pivot::Status;
 use spec_simplex::Entering;
 use std::cmp::Ordering;
 
-// How a number stands to 0.
+// The sign of a number, as its order to 0.
 pub(crate) fn sign<T: Words>(n: Signed<T>) -> Ordering
     ensures { result ≡ int_cmp (whole n.negative (T.value n.size)) (pos 0) }
 {
@@ -49,7 +49,7 @@ fn way(status: Status, sign: Ordering) -> Option<bool>
     }
 }
 
-// The same, where a fixed column goes none.
+// Which way a column goes, by its status and reduced cost. A fixed column goes none.
 fn way_if_free<T: Words>(cost: Signed<T>, status: Status, is_fixed: bool) -> Option<bool>
     ensures { result ≡ way_with is_fixed status (int_cmp (whole cost.negative (T.value cost.size)) (pos 0)) }
 {

@@ -30,7 +30,7 @@ pub(crate) struct Shares<T> {
     pub(crate) common: T,
 }
 
-// Both numbers over a divisor that they have in common. There is none where what is found divides one of them not.
+// Both numbers over a divisor that they have in common. There is none where the divisor found does not divide both.
 pub(crate) fn share_common<T: Words>(a: T, b: T) -> Option<Shares<T>>
     ensures { IfSome result (λ s. (T.value s.first * T.value s.common ≡ T.value a)
         × (T.value s.second * T.value s.common ≡ T.value b)) }
@@ -53,8 +53,8 @@ pub(crate) fn share_common<T: Words>(a: T, b: T) -> Option<Shares<T>>
     }
 }
 
-/// Takes the other row off as often as the entry in column `j` says. Where it is false a number is past the width, and
-/// the row is spent.
+/// Takes the multiple of the other row off that the row's entry in column `j` says. Where it is false a number
+/// overflows the width, and the row is spent.
 pub fn clear<T: Words>(row: &mut Row<T>, other: &Row<T>, j: usize) -> bool
     requires same { length other.now.numbers.items ≡ length row.old.numbers.items }
     requires column { j < length row.old.numbers.items }
@@ -88,7 +88,7 @@ pub fn clear<T: Words>(row: &mut Row<T>, other: &Row<T>, j: usize) -> bool
     }
 }
 
-// Whether a number with a sign is 0.
+// Whether the number is 0.
 fn is_none<T: Words>(n: Signed<T>) -> bool
     ensures { result ≡ false → 0 < T.value n.size }
 {
@@ -136,6 +136,7 @@ fn divisor<T: Words>(numbers: &[Signed<T>], denominator: T) -> T {
     found
 }
 
+// Whether the number is 1. Nothing is promised of it.
 fn is_one<T: Words>(n: T) -> bool {
     n.is(T::one())
 }

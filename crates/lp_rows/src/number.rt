@@ -29,7 +29,7 @@ pub trait Listed: Drop {
         ensures fits { IfOk result (λ o. IfSome o fits) };
 }
 
-/// 0.
+/// The fraction 0.
 pub fn zero<T: Words>() -> RowFraction<T>
     ensures { fraction_of T.value result ≡ 0ℚ }
 {
@@ -42,7 +42,7 @@ pub fn zero<T: Words>() -> RowFraction<T>
     }
 }
 
-/// 1.
+/// The fraction 1.
 pub fn one<T: Words>() -> RowFraction<T>
     ensures { fraction_of T.value result ≡ 1ℚ }
 {
@@ -55,7 +55,7 @@ pub fn one<T: Words>() -> RowFraction<T>
     }
 }
 
-/// The negative.
+/// The negative of a fraction.
 pub fn negated<T: Words>(v: RowFraction<T>) -> RowFraction<T>
     ensures { fraction_of T.value result ≡ neg_ℚ (fraction_of T.value v) }
 {
@@ -68,7 +68,7 @@ pub fn negated<T: Words>(v: RowFraction<T>) -> RowFraction<T>
     }
 }
 
-/// The fraction as a column moves that rises or falls by 1.
+/// The fraction, or its negative where the entering column falls.
 pub fn directed<T: Words>(up: bool, v: RowFraction<T>) -> RowFraction<T>
     ensures { fraction_of T.value result ≡ step.directed up (fraction_of T.value v) }
 {

@@ -36,7 +36,7 @@ fn are_none<T: Words>(a: T, m: T, b: T, n: T) -> bool
     if a.is_zero() { b.is_zero() } else { false }
 }
 
-/// How `a m` stands to `b n`.
+/// The order of `a m` to `b n`.
 pub fn order<T: Words>(a: Signed<T>, m: T, b: Signed<T>, n: T) -> Ordering
     requires first { 0 < T.value m }
     requires second { 0 < T.value n }
@@ -62,7 +62,7 @@ pub fn order<T: Words>(a: Signed<T>, m: T, b: Signed<T>, n: T) -> Ordering
     }
 }
 
-/// The better of two: the lesser ratio, and of equal ones the lesser column.
+/// The better of two stops: the lesser ratio, and of equal ones the lesser column.
 pub fn better<T: Words>(new: Stopper<T>, best: Stopper<T>) -> Stopper<T>
     requires first { 0 < T.value new.entry }
     requires second { 0 < T.value best.entry }
@@ -84,7 +84,7 @@ pub struct Gap<T> {
     pub to: Status,
 }
 
-// A column that rises up to its upper bound, or falls down to its lower one.
+// How far a value is below a bound, or above it, both over the row's denominator.
 fn room<T: Words>(
     rises: bool,
     bound: Signed<T>,
@@ -111,7 +111,7 @@ fn room<T: Words>(
     }
 }
 
-// That, where the bound is there.
+// The gap between a value and a bound, if there is such a bound.
 fn gap_to<T: Words>(
     rises: bool,
     bound: Option<Signed<T>>,
@@ -132,9 +132,9 @@ fn gap_to<T: Words>(
 }
 
 /// The gap between the value of a basic column and the bound toward which it moves: its upper bound where it rises
-/// (`Less`), its lower bound where it falls (`Greater`). There is no gap where it stays, or has no such bound. `value` is
-/// over the row's denominator times that of all bounds; `lower` and `upper` are over the latter. There is no answer where
-/// a number is past the width.
+/// (`Less`), its lower bound where it falls (`Greater`). There is no gap where it stays, or has no such bound. `value`
+/// is over the row's denominator times that of all bounds; `lower` and `upper` are over the latter. There is no answer
+/// where a number overflows the width.
 pub fn gap_for<T: Words>(
     goes: Ordering,
     lower: Option<Signed<T>>,
@@ -180,7 +180,7 @@ pub fn stopper_at<T: Words>(
     }
 }
 
-/// Whether a basic column rises (`Less`), stands or falls, whose position has this entry, as the entering column rises
+/// Whether a basic column rises (`Less`), stays or falls, whose position has this entry, as the entering column rises
 /// (`up`) or falls.
 pub fn goes<T: Words>(up: bool, entry: Signed<T>) -> Ordering
     ensures { (e : ℕ) → 0 < e → (lower upper : Option ℚ) (v : ℚ) →

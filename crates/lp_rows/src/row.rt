@@ -1,11 +1,11 @@
-// Eliminations.
+// Elimination of one row by another, over whole numbers.
 ghost use Rattle.std.specs.Prelude.{◌≡◌, ◌<◌, ℕ, IsTrue, length, ◌*ℤ◌, ◌-ℤ◌, pos};
 ghost use Rattle.lp_natural.specs.Whole.{whole};
 ghost use Rattle.lp_rows.specs.Row.{at, turned_if};
 
 use lp_natural::words::{Divisor, Signed, Words, less_products, quotient_by};
 
-// Whether a number with a sign is 1.
+// Whether the number is 1.
 fn is_unit<T: Words>(a: Signed<T>) -> bool
     ensures { IsTrue result → whole a.negative (T.value a.size) ≡ pos 1 }
 {

@@ -8,7 +8,7 @@ use lp_natural::words::{Signed, Words, natural};
 use lp_ratio::Ratio;
 use std::alloc::{AllocError, Global};
 
-// The same fraction without what both numbers have in common, as far as that is found.
+// The same fraction over a divisor of both numbers, as far as one is found.
 fn shared<T: Words>(v: RowFraction<T>) -> RowFraction<T>
     requires { 0 < T.value v.denominator }
     ensures value { fraction_of T.value result ≡ fraction_of T.value v }
@@ -30,7 +30,7 @@ fn shared<T: Words>(v: RowFraction<T>) -> RowFraction<T>
     }
 }
 
-// The fraction on the heap.
+// The fraction as a number of any width.
 fn ratio<T: Words>(alloc: Global, v: RowFraction<T>) -> Result<Ratio, AllocError>
     requires { 0 < T.value v.denominator }
     ensures { IfOk result (λ r. r ≡ fraction_of T.value v) }

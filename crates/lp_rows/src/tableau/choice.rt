@@ -1,4 +1,4 @@
-// What a step of the primal method does.
+// Which step the primal method takes next.
 ghost use Rattle.std.specs.Prelude.{◌≡◌, ◌<◌, ℕ, IfSome, Ok, Some, None, option_map};
 ghost use Rattle.spec_exact.specs.Fraction.{ℚ};
 ghost use Rattle.spec_simplex.specs.declared.ends.Choice.{Choice};
@@ -24,11 +24,11 @@ pub enum Step {
     End(PrimalEnd),
     /// The column goes to its other bound.
     Flip(u32),
-    /// The column enters at the place, whose basic column goes to this bound.
+    /// The column enters at the position `place`, whose basic column goes to the bound `to`.
     Pivot { place: u32, col: u32, to: Status },
 }
 
-// What is done with the column that enters, where this stops it first.
+// The step for the entering column, where `stop` is what stops it first.
 fn step_by<T: Words>(e: Entering, stop: Option<Stopper<T>>) -> Step
     ensures value { (d : ℕ) → step_of (choice_by e (option_map (best_of T.value d) stop)) ≡ result }
     ensures inside { (m n : ℕ) → e.col < n → IsStop T.value m stop → IsInReach m n result }
@@ -49,7 +49,7 @@ fn step_by<T: Words>(e: Entering, stop: Option<Stopper<T>>) -> Step
     }
 }
 
-// That, where the column is there.
+// The step for the entering column. There is none where a number overflows the width.
 fn step_in<T: Words>(tab: &RowTableau<T>, e: Entering) -> Option<Step>
     requires whole { IsWhole T.value tab.now }
     requires column { e.col < width tab.now }
@@ -63,8 +63,7 @@ fn step_in<T: Words>(tab: &RowTableau<T>, e: Entering) -> Option<Step>
     }
 }
 
-/// What the next step does, by the rule of the least index (Bland 1977). There is none where a number is past the
-/// width.
+/// The next step, by the rule of the least index (Bland 1977). There is none where a number overflows the width.
 pub fn next_step<T: Words>(tab: &RowTableau<T>) -> Option<Step>
     requires { IsWhole T.value tab.now }
     ensures chosen { (t : tableaus.Tableau) → IsReached t → Shows T.value tab.now t →

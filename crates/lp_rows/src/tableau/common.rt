@@ -81,7 +81,7 @@ pub fn denominator_with<T: Words>(so_far: T, bounds: &[Option<Frac>]) -> Option<
     if_positive(found)
 }
 
-// How often the denominator's reciprocal is in the fraction, where it is a whole number of times within the width.
+// The fraction as a whole number on a denominator, if there is one within the width.
 fn on<T: Words>(f: Frac, denominator: T) -> Option<Signed<T>>
     requires { 0 < T.value denominator }
     ensures { IfSome result (λ n. over (whole n.negative (T.value n.size)) (T.value denominator) ≡ f) }
@@ -101,7 +101,7 @@ fn on<T: Words>(f: Frac, denominator: T) -> Option<Signed<T>>
     }
 }
 
-// The same of each fraction of a list.
+// The fractions of a list as whole numbers on a denominator.
 fn numbers_on<T: Words>(
     alloc: Global,
     list: &[Frac],
@@ -120,7 +120,7 @@ fn numbers_on<T: Words>(
     Ok(Some(numbers))
 }
 
-// The same of a bound.
+// A bound as a whole number on a denominator.
 fn bound_on<T: Words>(bound: Option<Frac>, denominator: T) -> Option<Option<Signed<T>>>
     requires { 0 < T.value denominator }
     ensures { IfSome result (λ b. bound_of T.value (T.value denominator) b ≡ bound) }
@@ -173,7 +173,7 @@ pub fn row_of<T: Words>(
     }
 }
 
-// That row, by its denominator and the product of both.
+// The row of some fractions on the denominator `own`, with the value `last` on `both`.
 fn row_on<T: Words>(
     alloc: Global,
     list: &[Frac],

@@ -15,7 +15,7 @@ use lp_natural::words::Words;
 use lp_tableau::Tableau;
 use std::alloc::{AllocError, Global};
 
-// The list of what stands for each `i` of a range.
+// The list of an item for each `i` of a range.
 macro_rules! listed {
     ($alloc:expr, $i:ident in $range:expr => $item:expr) => {{
         let mut list = Vec::new($alloc);
@@ -34,31 +34,35 @@ fn entries(alloc: Global, tab: &Tableau, place: u32) -> Result<Vec<Frac>, AllocE
     listed!(alloc, k in 0..tab.cols() + tab.rows() => tab.entry(place, k))
 }
 
-// The reduced costs of the same columns.
+// The reduced costs of the structural and the logical columns.
 fn reduced(alloc: Global, tab: &Tableau) -> Result<Vec<Frac>, AllocError>
     ensures { IfOk result (λ v. v.items ≡ made (tableaus.form_columns tab.now) (tableaus.reduced_at tab.now)) }
 {
     listed!(alloc, k in 0..tab.cols() + tab.rows() => tab.reduced(k))
 }
 
+// The lower bounds of all columns.
 fn lowers(alloc: Global, tab: &Tableau) -> Result<Vec<Option<Frac>>, AllocError>
     ensures { IfOk result (λ v. v.items ≡ made (tableaus.all_columns tab.now) (tableaus.lower_at tab.now)) }
 {
     listed!(alloc, k in 0..tab.width() => tab.lower(k))
 }
 
+// The upper bounds of all columns.
 fn uppers(alloc: Global, tab: &Tableau) -> Result<Vec<Option<Frac>>, AllocError>
     ensures { IfOk result (λ v. v.items ≡ made (tableaus.all_columns tab.now) (tableaus.upper_at tab.now)) }
 {
     listed!(alloc, k in 0..tab.width() => tab.upper(k))
 }
 
+// The statuses of all columns.
 fn statuses(alloc: Global, tab: &Tableau) -> Result<Vec<Status>, AllocError>
     ensures { IfOk result (λ v. v.items ≡ made (tableaus.all_columns tab.now) (tableaus.status_at tab.now)) }
 {
     listed!(alloc, k in 0..tab.width() => tab.status(k))
 }
 
+// The basic columns of all positions.
 fn basics(alloc: Global, tab: &Tableau) -> Result<Vec<u32>, AllocError>
     ensures { IfOk result (λ v. v.items ≡ made tab.now.rows (tableaus.basic_at tab.now)) }
 {
@@ -83,7 +87,7 @@ fn fixed(alloc: Global, tab: &Tableau) -> Result<Vec<bool>, AllocError>
     listed!(alloc, k in 0..tab.cols() + tab.rows() => is_fixed(tab.lower(k), tab.upper(k)))
 }
 
-// A position's row.
+// The row of a position, with the value of its basic column behind.
 fn row<T: Words>(
     alloc: Global,
     tab: &Tableau,
@@ -148,7 +152,7 @@ pub fn from_tableau<T: Words>(
     parts(alloc, tab)
 }
 
-// The same, with what each part is.
+// The rows that show a tableau, with what is known of each part.
 fn parts<T: Words>(alloc: Global, tab: &Tableau) -> Result<Option<RowTableau<T>>, AllocError>
     ensures { IfOk result (λ o. IfSome o (HoldsParts T.value tab.now)) }
 {
@@ -163,7 +167,7 @@ fn parts<T: Words>(alloc: Global, tab: &Tableau) -> Result<Option<RowTableau<T>>
     }
 }
 
-// The same, with the denominator of all bounds.
+// The rows that show a tableau, where `denominator` is that of all bounds.
 fn parts_on<T: Words>(
     alloc: Global,
     tab: &Tableau,

@@ -64,7 +64,7 @@ fn last_number<T: Words>(row: &Row<T>, last: usize, denominator: T) -> Option<Ro
     }
 }
 
-// A number of a row.
+// The number of a row in column `k`, as a fraction.
 fn number<T: Words>(row: &Row<T>, columns: usize, k: usize) -> RowFraction<T>
     requires row { IsRow T.value columns row.now }
     requires inside { k < columns }
@@ -77,7 +77,7 @@ fn number<T: Words>(row: &Row<T>, columns: usize, k: usize) -> RowFraction<T>
     }
 }
 
-// A bound, as 0 where there is none.
+// A bound as a fraction, and 0 where there is none.
 fn bound_or_zero<T: Words>(bound: Option<Signed<T>>, denominator: T) -> RowFraction<T>
     ensures { fraction_of T.value result ≡ tableaus.or_zero (bound_of T.value (T.value denominator) bound) }
 {
@@ -90,7 +90,7 @@ fn bound_or_zero<T: Words>(bound: Option<Signed<T>>, denominator: T) -> RowFract
     }
 }
 
-// Where a column stands that is not basic.
+// The value of a nonbasic column, and none for a basic one.
 fn stand<T: Words>(
     status: Status,
     lower: Option<Signed<T>>,
@@ -146,7 +146,7 @@ fn basic_move<T: Words>(tab: &RowTableau<T>, i: usize, j: u32, up: bool) -> RowF
     negated(directed(up, entry))
 }
 
-// How column `k` moves then by this position and what it does by those before.
+// How column `k` moves by the positions up to `i`, where `so_far` is how it moves by those before.
 fn move_by<T: Words>(
     tab: &RowTableau<T>,
     i: usize,
@@ -169,14 +169,14 @@ fn move_by<T: Words>(
     }
 }
 
-// How the entering column itself moves, and each other one but for the positions.
+// How column `k` moves before any position is counted: by 1 up or down if it enters, else not at all.
 fn own_move<T: Words>(j: u32, up: bool, k: u32) -> RowFraction<T>
     ensures { (t : tableaus.Tableau) → fraction_of T.value result ≡ cold.moves_below t j up k 0 }
 {
     if k == j { directed(up, one()) } else { zero() }
 }
 
-// How column `k` moves then.
+// How column `k` moves while column `j` enters and rises or falls by 1.
 fn move_of<T: Words>(tab: &RowTableau<T>, j: u32, up: bool, k: u32) -> RowFraction<T>
     requires whole { IsWhole T.value tab.now }
     requires column { j < width tab.now }
@@ -277,6 +277,7 @@ fn direction<T: Words, N: Listed>(
 
 // ---- certificates
 
+// The certificate of an infeasible model: the reduced costs of the rows' logicals.
 fn infeasible<T: Words, N: Listed>(
     alloc: Global,
     tab: &RowTableau<T>,
@@ -292,6 +293,7 @@ fn infeasible<T: Words, N: Listed>(
     }
 }
 
+// The certificate of an optimum: the point, and the multipliers.
 fn optimal<T: Words, N: Listed>(
     alloc: Global,
     tab: &RowTableau<T>,
@@ -310,6 +312,7 @@ fn optimal<T: Words, N: Listed>(
     }
 }
 
+// The certificate of an unbounded model: the point, and the ray along column `col`.
 fn unbounded<T: Words, N: Listed>(
     alloc: Global,
     tab: &RowTableau<T>,
@@ -370,6 +373,7 @@ pub fn certificate<T: Words, N: Listed>(
 
 // ---- bases
 
+// The status of a column.
 fn status_at<T: Words>(tab: &RowTableau<T>, k: usize) -> Status
     requires whole { IsWhole T.value tab.now }
     requires inside { k < all_width tab.now }

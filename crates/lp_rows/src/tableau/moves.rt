@@ -11,7 +11,7 @@ use crate::tableau::ratio::is_zero;
 use lp_natural::words::{Signed, Words, less_products};
 use std::mem::swap;
 
-// The last number less a product. Where it is false a number is past the width, here and below.
+// Takes a product off the last number. Where it is false a number overflows the width, here and below.
 fn less_last<T: Words>(row: &mut Row<T>, n: usize, a: Signed<T>, b: Signed<T>) -> bool
     requires { IsRow T.value n row.old }
     ensures { IsTrue result → IsLess T.value n (over
@@ -31,7 +31,7 @@ fn less_last<T: Words>(row: &mut Row<T>, n: usize, a: Signed<T>, b: Signed<T>) -
     }
 }
 
-// The last number less a whole number.
+// Takes a whole number off the value of the row's basic column.
 fn take_off<T: Words>(row: &mut Row<T>, n: usize, by: Signed<T>) -> bool
     requires { IsRow T.value n row.old }
     ensures { IsTrue result → IsLess T.value n (over (whole by.negative (T.value by.size)) 1) row.old row.new }
@@ -53,7 +53,7 @@ fn negated<T: Words>(n: Signed<T>) -> Signed<T>
     }
 }
 
-// The last number less a whole number times that of column `j`.
+// Moves the value of the row's basic column as column `j` moves by `by`.
 fn move_last<T: Words>(row: &mut Row<T>, n: usize, j: usize, by: Signed<T>) -> bool
     requires row { IsRow T.value n row.old }
     requires column { j < n }
@@ -64,7 +64,7 @@ fn move_last<T: Words>(row: &mut Row<T>, n: usize, j: usize, by: Signed<T>) -> b
     less_last(row, n, entry, by)
 }
 
-/// Each value as column `j` moves by a number on the denominator of all bounds.
+/// Moves each basic value as column `j` moves by a number on the denominator of all bounds.
 pub fn move_all<T: Words>(rows: &mut [Row<T>], n: usize, j: usize, by: Signed<T>) -> bool
     requires rows { All (IsRow T.value n) rows.old }
     requires column { j < n }
@@ -79,7 +79,7 @@ pub fn move_all<T: Words>(rows: &mut [Row<T>], n: usize, j: usize, by: Signed<T>
     true
 }
 
-// The last number less a whole number, and then all over that of column `j`.
+// Takes a whole number off the basic value, and then divides the row by its entry in column `j`.
 fn scale<T: Words>(row: &mut Row<T>, n: usize, j: usize, by: Signed<T>) -> bool
     requires row { IsRow T.value n row.old }
     requires column { j < n }
@@ -95,7 +95,7 @@ fn scale<T: Words>(row: &mut Row<T>, n: usize, j: usize, by: Signed<T>) -> bool
     reduce(row)
 }
 
-// A row without as much of another as its number of column `j` says.
+// Takes the multiple of another row off a row with which its entry in column `j` becomes 0.
 fn clear_one<T: Words>(row: &mut Row<T>, own: &Row<T>, n: usize, j: usize) -> bool
     requires row { IsRow T.value n row.old }
     requires own { IsRow T.value n own.now }
@@ -111,7 +111,7 @@ fn clear_one<T: Words>(row: &mut Row<T>, own: &Row<T>, n: usize, j: usize) -> bo
     reduce(row)
 }
 
-// Each row so.
+// Clears column `j` in each row.
 fn clear_all<T: Words>(rows: &mut [Row<T>], own: &Row<T>, n: usize, j: usize) -> bool
     requires rows { All (IsRow T.value n) rows.old }
     requires own { IsRow T.value n own.now }
@@ -136,8 +136,8 @@ pub struct Turn<T> {
     pub enters_from: Signed<T>,
 }
 
-/// The rows and the reduced costs after a pivot. The costs stand in the place of row `place` meanwhile, so that each
-/// row of the list is cleared.
+/// Turns the rows and the reduced costs as a pivot does. The costs are in the list of rows at `place` meanwhile, so
+/// that each row of the list is cleared.
 pub fn turn_rows<T: Words>(rows: &mut [Row<T>], costs: &mut Row<T>, n: usize, turn: Turn<T>) -> bool
     requires rows { All (IsRow T.value n) rows.old }
     requires costs { IsRow T.value n costs.old }

@@ -1,4 +1,4 @@
-// What the phases ask of a tableau, and how the second begins.
+// Whether phase one is wanted, whether it has driven all artificials to 0, and the change to phase two.
 ghost use Rattle.std.specs.Prelude.{◌≡◌, ◌<◌, IfOk, IsTrue, Ok, None, false, length, not, ◌&&◌, nat_le};
 ghost use Rattle.std.specs.List.{list_any};
 ghost use Rattle.spec_exact.specs.Fraction.{0ℚ, eq_ℚ};
@@ -12,7 +12,7 @@ use lp_form::Form;
 use lp_natural::words::Words;
 use std::alloc::{AllocError, Global};
 
-// Whether some column is at this one or past it.
+// Whether some column of the list is not below `first`.
 fn any_from(cols: &[u32], first: usize) -> bool
     ensures { result ≡ list_any (λ k. nat_le first k) cols.now }
 {
@@ -61,8 +61,8 @@ pub fn is_stuck<T: Words>(tab: &RowTableau<T>) -> bool
     false
 }
 
-/// Fixes the artificial columns at 0, and has the reduced costs of the form's costs. Where it is false a number is past
-/// the width, and the tableau is as before. Where memory is wanting, nothing is promised of it.
+/// Fixes the artificial columns at 0, and sets the reduced costs of the form's costs. Where it is false a number
+/// overflows the width, and the tableau is as before. Where memory runs out, nothing is promised of it.
 pub fn phase_two<T: Words>(
     alloc: Global,
     tab: &mut RowTableau<T>,

@@ -20,6 +20,7 @@ use lp_form::Status;
 use lp_natural::words::{Signed, Words, minus};
 use lp_tableau::{flip_way, other_bound};
 
+// The number 0.
 fn zero<T: Words>() -> Signed<T>
     ensures { (d : ℕ) → 0 < d → over (whole result.negative (T.value result.size)) d ≡ 0ℚ }
 {
@@ -40,7 +41,7 @@ fn or_zero<T: Words>(bound: Option<Signed<T>>) -> Signed<T>
     }
 }
 
-/// Where a column of this status stands, between these bounds; a basic one counts as at 0.
+/// The value of a nonbasic column of this status with these bounds, and 0 for a basic one.
 pub fn stand<T: Words>(
     status: Status,
     lower: Option<Signed<T>>,
@@ -56,7 +57,7 @@ pub fn stand<T: Words>(
     }
 }
 
-// Column `col` goes to its other bound.
+// Moves column `col` to its other bound. Where it is false a number overflows the width, and the tableau is spent.
 fn flip<T: Words>(tab: &mut RowTableau<T>, col: usize) -> bool
     requires whole { IsWhole T.value tab.old }
     requires column { col < width tab.old }
@@ -74,7 +75,8 @@ fn flip<T: Words>(tab: &mut RowTableau<T>, col: usize) -> bool
     true
 }
 
-// Column `col` takes the place, whose column goes to the bound `to`. An artificial that leaves is at 0 for good.
+// Makes column `col` basic at the position, whose column goes to the bound `to`. An artificial that leaves is at 0 for
+// good.
 fn exchange<T: Words>(tab: &mut RowTableau<T>, place: usize, col: u32, to: Status)
     requires rows { length tab.old.rows.items ≤ 256 }
     requires cols { tab.old.cols ≤ 512 }
@@ -100,7 +102,7 @@ fn exchange<T: Words>(tab: &mut RowTableau<T>, place: usize, col: u32, to: Statu
     }
 }
 
-// The pivot at a position in column `col`.
+// Pivots at a position in column `col`. Where it is false a number overflows the width, and the tableau is spent.
 fn pivot<T: Words>(tab: &mut RowTableau<T>, place: usize, col: u32, to: Status) -> bool
     requires whole { IsWhole T.value tab.old }
     requires place { place < height tab.old }
@@ -122,7 +124,7 @@ fn pivot<T: Words>(tab: &mut RowTableau<T>, place: usize, col: u32, to: Status) 
     true
 }
 
-/// The flip or the pivot of a step. Where it is false a number is past the width, and the tableau is spent.
+/// Makes the flip or the pivot of a step. Where it is false a number overflows the width, and the tableau is spent.
 pub fn make<T: Words>(tab: &mut RowTableau<T>, step: Step) -> bool
     requires whole { IsWhole T.value tab.old }
     requires inside { MayMake tab.old step }

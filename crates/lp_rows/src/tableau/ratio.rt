@@ -21,7 +21,7 @@ struct Position<T> {
     place: u32,
     // Its basic column.
     col: u32,
-    // What stands in the entering column, on the row's denominator.
+    // The entry in the entering column, on the row's denominator.
     entry: Signed<T>,
     denominator: T,
     // The basic column's bounds, and its value on the row's denominator times that of all bounds.
@@ -30,7 +30,7 @@ struct Position<T> {
     value: Signed<T>,
 }
 
-// Whether a number with a sign is 0.
+// Whether the number is 0.
 pub(crate) fn is_zero<T: Words>(n: Signed<T>) -> bool
     ensures { IsTrue result ↔ (T.value n.size ≡ 0) }
 {
@@ -56,7 +56,7 @@ fn stop_between<T: Words>(e: Entering, lower: Signed<T>, upper: Signed<T>) -> Op
     }
 }
 
-// The same, where it has both bounds.
+// What stops the entering column between its own bounds, if it has both.
 fn range<T: Words>(
     e: Entering,
     lower: Option<Signed<T>>,
@@ -76,7 +76,7 @@ fn range<T: Words>(
     }
 }
 
-// What stops it in a position, if anything does.
+// What stops the entering column in a position, if anything does.
 fn stop_at<T: Words>(up: bool, at: Position<T>) -> Option<Option<Stopper<T>>>
     requires { 0 < T.value at.denominator }
     ensures value { IfSome result (λ s. (d : ℕ) → 0 < d → (best : Option (Best ℚ)) →
@@ -104,7 +104,7 @@ fn stop_at<T: Words>(up: bool, at: Position<T>) -> Option<Option<Stopper<T>>>
     }
 }
 
-// The first of two, as far as they are there.
+// The first of two stops, as far as there are any.
 fn first<T: Words>(new: Option<Stopper<T>>, best: Option<Stopper<T>>) -> Option<Stopper<T>>
     requires new { (n : ℕ) × IsStop T.value n new }
     requires best { (n : ℕ) × IsStop T.value n best }
@@ -142,7 +142,7 @@ fn stop_in<T: Words>(tab: &RowTableau<T>, e: Entering, i: usize) -> Option<Optio
     stop_at(e.up, at)
 }
 
-// The first so far, with position `i`.
+// The first stop so far, with that in position `i` compared too.
 fn first_with<T: Words>(
     tab: &RowTableau<T>,
     e: Entering,
@@ -164,7 +164,7 @@ fn first_with<T: Words>(
     }
 }
 
-/// What stops the entering column first, if anything does. There is none where a number is past the width.
+/// What stops the entering column first, if anything does. There is no answer where a number overflows the width.
 pub(crate) fn first_stop<T: Words>(tab: &RowTableau<T>, e: Entering) -> Option<Option<Stopper<T>>>
     requires whole { IsWhole T.value tab.now }
     requires column { e.col < width tab.now }

@@ -8,19 +8,22 @@ use crate::tableau::choice::Step;
 use crate::tableau::tableau::RowTableau;
 use lp_natural::words::{Signed, Words};
 
-// Whether a product of numbers of so many bits, and a sum with another, is within the width.
+// Whether a product of numbers of so many bits, and a sum with another product, is within the width.
 fn fits<T: Words>(a: u32, b: u32) -> bool {
     a.wrapping_add(b).wrapping_add(2) <= T::width()
 }
 
+// The greater of two counts.
 fn more(a: u32, b: u32) -> u32 {
     if a < b { b } else { a }
 }
 
+// How many bits a number has in use.
 fn bits_of_number<T: Words>(n: Signed<T>) -> u32 {
     n.size.bits()
 }
 
+// How many bits a bound has in use, and 0 where there is none.
 fn bits_of_bound<T: Words>(bound: Option<Signed<T>>) -> u32 {
     match bound {
         Some(bound) => bits_of_number(bound),
@@ -46,6 +49,7 @@ fn has_room<T: Words>(row: &Row<T>, j: usize, a: u32, other: u32) -> bool
     entry == 0 || (fits::<T>(entry, other) && fits::<T>(bits_of_row(row), a))
 }
 
+// Whether all rows and the reduced costs have room for a step in column `j`, with multipliers of so many bits.
 fn all_have_room<T: Words>(tab: &RowTableau<T>, j: usize, a: u32, other: u32) -> bool
     requires whole { IsWhole T.value tab.now }
     requires column { j < width tab.now }
@@ -58,7 +62,7 @@ fn all_have_room<T: Words>(tab: &RowTableau<T>, j: usize, a: u32, other: u32) ->
     has_room(&tab.costs, j, a, other)
 }
 
-// The bits of both bounds of a column.
+// The most bits that either bound of a column has in use.
 fn bits_of_bounds<T: Words>(tab: &RowTableau<T>, k: usize) -> u32
     requires lower { k < length tab.now.lower.items }
     requires upper { k < length tab.now.upper.items }
@@ -66,6 +70,7 @@ fn bits_of_bounds<T: Words>(tab: &RowTableau<T>, k: usize) -> u32
     more(bits_of_bound(tab.lower[k]), bits_of_bound(tab.upper[k]))
 }
 
+// Whether a flip of column `j` is likely to stay within the width.
 fn flip_has_room<T: Words>(tab: &RowTableau<T>, j: usize) -> bool
     requires whole { IsWhole T.value tab.now }
     requires column { j < width tab.now }
@@ -73,6 +78,7 @@ fn flip_has_room<T: Words>(tab: &RowTableau<T>, j: usize) -> bool
     all_have_room(tab, j, 0, bits_of_bounds(tab, j))
 }
 
+// Whether a pivot at a position in column `j` is likely to stay within the width.
 fn pivot_has_room<T: Words>(tab: &RowTableau<T>, place: usize, j: usize) -> bool
     requires whole { IsWhole T.value tab.now }
     requires place { place < height tab.now }

@@ -1,4 +1,4 @@
-// The beginning of the second phase.
+// The change to phase two: the reduced costs of the form's costs, and the bounds of the artificial columns.
 ghost use Rattle.std.specs.Prelude.{◌≡◌, ◌<◌, IfOk, IfSome, IsTrue, length};
 ghost use Rattle.lp_rows.specs.Row.{AreNow, fraction_at};
 ghost use Rattle.spec_exact.specs.Fraction.{◌-ℚ◌, ◌*ℚ◌};
@@ -15,8 +15,8 @@ use std::alloc::{AllocError, Global};
 
 // ---- costs
 
-// Takes the other row off as often as the entry in column `j` says. Where it is false a number is past the width, and
-// the row is spent.
+// Takes the multiple of the other row off that the entry in column `j` says, and takes out a common divisor. Where it
+// is false a number overflows the width, and the row is spent.
 fn clear_reduced<T: Words>(row: &mut Row<T>, other: &Row<T>, j: usize) -> bool
     requires same { length other.now.numbers.items ≡ length row.old.numbers.items }
     requires column { j < length row.old.numbers.items }
@@ -51,7 +51,7 @@ fn take_off<T: Words>(tab: &RowTableau<T>, costs: &mut Row<T>, i: usize) -> bool
     }
 }
 
-// The same of all positions.
+// Takes the rows of all positions off the costs so. Where it is false a number overflows the width.
 fn take_off_all<T: Words>(tab: &RowTableau<T>, costs: &mut Row<T>) -> bool
     requires whole { IsWhole T.value tab.now }
     requires row { IsRow T.value (width tab.now) costs.old }
@@ -65,7 +65,7 @@ fn take_off_all<T: Words>(tab: &RowTableau<T>, costs: &mut Row<T>) -> bool
     true
 }
 
-// The costs less all rows, if no number is past the width.
+// The costs less all rows, if no number overflows the width.
 fn reduced<T: Words>(tab: &RowTableau<T>, costs: Row<T>) -> Option<Row<T>>
     requires whole { IsWhole T.value tab.now }
     requires row { IsRow T.value (width tab.now) costs }
@@ -79,7 +79,7 @@ fn reduced<T: Words>(tab: &RowTableau<T>, costs: Row<T>) -> Option<Row<T>>
     }
 }
 
-/// The reduced costs of the form's costs, if no number is past the width.
+/// The reduced costs of the form's costs, if no number overflows the width.
 pub fn priced<T: Words>(
     alloc: Global,
     tab: &RowTableau<T>,
@@ -99,7 +99,7 @@ pub fn priced<T: Words>(
 
 // ---- bounds
 
-// The bounds from that of column `first` on are 0.
+// Sets the bounds from that of column `first` on to 0.
 fn zero_from<T: Words>(bounds: &mut [Option<Signed<T>>], first: usize)
     ensures { AreZeroed T.value first (length bounds.old) bounds.old bounds.new }
 {
@@ -111,7 +111,7 @@ fn zero_from<T: Words>(bounds: &mut [Option<Signed<T>>], first: usize)
     }
 }
 
-// Other costs, and the artificial columns fixed at 0.
+// Replaces the row of costs, and fixes the artificial columns at 0.
 pub(crate) fn begin<T: Words>(tab: &mut RowTableau<T>, costs: Row<T>)
     requires { IsWhole T.value tab.old }
     ensures { IsBegun T.value tab.old costs tab.new }

@@ -1,4 +1,4 @@
-// Wider words.
+// The same rows in words of another width.
 ghost use Rattle.std.specs.Prelude.{◌≡◌, IfOk, IfSome, map, option_map};
 ghost use Rattle.spec_simplex.specs.Tableau as tableaus;
 ghost use Rattle.lp_rows.specs.Held.{whole_of, wholes, whole_bounds, whole_row, AreSameNumbers};
@@ -22,6 +22,7 @@ fn number<T: Words, U: Words>(n: Signed<T>) -> Option<Signed<U>>
     }
 }
 
+// The same numbers, if none overflows the other width.
 fn numbers<T: Words, U: Words>(
     alloc: Global,
     from: &[Signed<T>],
@@ -38,6 +39,7 @@ fn numbers<T: Words, U: Words>(
     Ok(Some(list))
 }
 
+// The same bound, if it does not overflow the other width.
 fn bound<T: Words, U: Words>(b: Option<Signed<T>>) -> Option<Option<Signed<U>>>
     ensures { IfSome result (λ c. option_map (whole_of U.value) c ≡ option_map (whole_of T.value) b) }
 {
@@ -50,6 +52,7 @@ fn bound<T: Words, U: Words>(b: Option<Signed<T>>) -> Option<Option<Signed<U>>>
     }
 }
 
+// The same bounds, if none overflows the other width.
 fn bounds<T: Words, U: Words>(
     alloc: Global,
     from: &[Option<Signed<T>>],
@@ -66,12 +69,14 @@ fn bounds<T: Words, U: Words>(
     Ok(Some(list))
 }
 
+// A copy of a list.
 fn copied<X: Copy>(alloc: Global, from: &[X]) -> Result<Vec<X>, AllocError>
     ensures { IfOk result (λ v. v.items ≡ from.now) }
 {
     from.iter().copied().collect(alloc)
 }
 
+// The same row, if no number overflows the other width.
 fn row<T: Words, U: Words>(alloc: Global, from: &Row<T>) -> Result<Option<Row<U>>, AllocError>
     ensures { IfOk result (λ o. IfSome o (λ r. whole_row U.value r ≡ whole_row T.value from.now)) }
 {
@@ -87,6 +92,7 @@ fn row<T: Words, U: Words>(alloc: Global, from: &Row<T>) -> Result<Option<Row<U>
     }
 }
 
+// The same rows, if no number overflows the other width.
 fn rows<T: Words, U: Words>(
     alloc: Global,
     from: &[Row<T>],
@@ -118,7 +124,7 @@ pub fn widened<T: Words, U: Words>(
     made(alloc, tab)
 }
 
-// The same, with the equations of all numbers.
+// The same rows, with equations of all their numbers.
 fn made<T: Words, U: Words>(
     alloc: Global,
     tab: &RowTableau<T>,
