@@ -24,10 +24,11 @@ Start = Run Tableau
 abbrev pub IsKept : Form → List Status → Type 0
 IsKept f basis = (m : Model) × (form_of (Some number_limit) m ≡ Ok f) × Keeps m basis
 
+-- this is the start from the basis
 abbrev pub IsStart : Form → List Status → Start → Type 0
 IsStart f basis start = start_from (Some number_limit) f basis ≡ refused_as stop.Past start
 
--- the basis keeps this model, and that is its start
+-- the basis keeps this model, and `start` is the start from it
 pub record IsFrom (m : Model) (f : Form) (basis : List Status) (start : Start) : Type 0 where
   pub formed : form_of (Some number_limit) m ≡ Ok f
   pub keeps : Keeps m basis

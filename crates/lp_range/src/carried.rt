@@ -12,7 +12,7 @@ use lp_form::is_basic;
 use lp_frac::{Frac, Past, add, div, is_positive, sub};
 use lp_tableau::Tableau;
 
-// The right side with which the bound, as it moves along, comes to `value`.
+// The right side with which a bound that moves with it comes to `value`, if there is such a bound.
 fn shifted(rhs: Frac, value: Frac, bound: Option<Frac>) -> Result<Option<Frac>, Past>
     ensures { result ≡ rule.shifted_run (Some number_limit) rhs value bound }
 {
@@ -33,7 +33,7 @@ fn still(rhs: Frac, value: Frac, lower: Option<Frac>, upper: Option<Frac>) -> Re
     Ok(Ends { low, high })
 }
 
-// The ends with the one at which a basic value comes to a bound.
+// The ends with the right side at which a basic value comes to a bound, if it has that bound.
 fn bounded(
     rhs: Frac,
     value: Frac,
@@ -54,7 +54,7 @@ fn bounded(
     at_side(upper, x, ends)
 }
 
-// The ends with those at which a basic value comes to either bound.
+// The ends with the right sides at which a basic value comes to either bound.
 fn carried(
     rhs: Frac,
     value: Frac,
@@ -71,7 +71,7 @@ fn carried(
     bounded(rhs, value, entry, upper, !falls, ends)
 }
 
-// The ends with those that column `k` asks for, where the logical `s` is not basic.
+// The ends with those that column `k` asks for, if it is basic and moves with the nonbasic logical `s`.
 fn carried_if(tab: &Tableau, rhs: Frac, s: u32, k: u32, ends: Ends) -> Result<Ends, Past>
     requires logical { s < all_columns tab.now }
     requires column { k < all_columns tab.now }
@@ -88,7 +88,7 @@ fn carried_if(tab: &Tableau, rhs: Frac, s: u32, k: u32, ends: Ends) -> Result<En
     carried(rhs, tab.value(k), entry, tab.lower(k), tab.upper(k), ends)
 }
 
-// The ends for the right side of a row whose logical is not basic and has a bound.
+// The ends for the right side of a row whose logical is nonbasic and has a bound.
 fn nonbasic(tab: &Tableau, rhs: Frac, s: u32) -> Result<Ends, Past>
     requires logical { s < all_columns tab.now }
     requires seated { IsSeated tab.now }

@@ -1,4 +1,4 @@
-// What is asked of single columns and numbers.
+// The signs of costs, and the positions and logicals of a tableau.
 ghost use Rattle.std.specs.Prelude.{◌≡◌, ◌+◌, ◌<◌};
 ghost use Rattle.spec_exact.specs.Fraction.{0ℚ, eq_ℚ};
 ghost use Rattle.spec_simplex.specs.Dual.{place_of};
@@ -10,7 +10,7 @@ use lp_frac::{Frac, are_same, neg, zero};
 use lp_model::Sense;
 use lp_tableau::Tableau;
 
-// The number with the sign of a cost that is to be made least.
+// The cost of a minimization: as it is, or its negative where the model maximizes.
 pub(crate) fn least_cost(sense: Sense, cost: Frac) -> Frac
     ensures { result ≡ forms.least_cost sense cost }
 {
@@ -20,12 +20,14 @@ pub(crate) fn least_cost(sense: Sense, cost: Frac) -> Frac
     }
 }
 
+// Whether the fraction is 0.
 pub(crate) fn is_zero(v: Frac) -> bool
     ensures { result ≡ eq_ℚ v 0ℚ }
 {
     are_same(v, zero())
 }
 
+// Whether there is a bound.
 pub(crate) fn is_there(bound: Option<Frac>) -> bool
     ensures { result ≡ fit.is_there bound }
 {

@@ -12,7 +12,7 @@ pub type Ends = spec_range::Ends<Frac>;
 /// A range, and by how much the optimal value grows with each unit of the number.
 pub type Range = spec_range::Range<Frac>;
 
-// Every number.
+// The ends of a range that has none: every number is in it.
 pub(crate) fn no_ends() -> Ends
     ensures { result ≡ rule.no_ends }
 {
@@ -22,6 +22,7 @@ pub(crate) fn no_ends() -> Ends
     }
 }
 
+// The greater of two numbers, of which the second may be missing.
 fn greater(new: Frac, kept: Option<Frac>) -> Result<Frac, Past>
     ensures { result ≡ rule.greater_run (Some number_limit) new kept }
 {
@@ -34,6 +35,7 @@ fn greater(new: Frac, kept: Option<Frac>) -> Result<Frac, Past>
     }
 }
 
+// The lesser of two numbers, of which the second may be missing.
 fn lesser(new: Frac, kept: Option<Frac>) -> Result<Frac, Past>
     ensures { result ≡ rule.lesser_run (Some number_limit) new kept }
 {
@@ -46,7 +48,7 @@ fn lesser(new: Frac, kept: Option<Frac>) -> Result<Frac, Past>
     }
 }
 
-// With `v` as a lower end too.
+// The ends with `v` as a lower end too, of which the greater is kept.
 pub(crate) fn at_least(v: Frac, ends: Ends) -> Result<Ends, Past>
     ensures { result ≡ rule.at_least (Some number_limit) v ends }
 {
@@ -57,7 +59,7 @@ pub(crate) fn at_least(v: Frac, ends: Ends) -> Result<Ends, Past>
     })
 }
 
-// With `v` as an upper end too.
+// The ends with `v` as an upper end too, of which the lesser is kept.
 pub(crate) fn at_most(v: Frac, ends: Ends) -> Result<Ends, Past>
     ensures { result ≡ rule.at_most (Some number_limit) v ends }
 {
@@ -68,6 +70,7 @@ pub(crate) fn at_most(v: Frac, ends: Ends) -> Result<Ends, Past>
     })
 }
 
+// The ends with `v` as an upper end too, or as a lower one.
 pub(crate) fn at_side(upper: bool, v: Frac, ends: Ends) -> Result<Ends, Past>
     ensures { result ≡ rule.at_side (Some number_limit) upper v ends }
 {

@@ -36,7 +36,7 @@ fn falls(sense: Sense, entry: Frac) -> bool
     is_positive(least_cost(sense, entry))
 }
 
-// Where the cost of a column that is not basic makes its own reduced cost 0.
+// The cost with which the reduced cost of a nonbasic column is 0, and the present one where it has no bound.
 fn own_number(sense: Sense, cost: Frac, status: Status, reduced: Frac) -> Result<Frac, Past>
     ensures { result ≡ rule.own_number (Some number_limit) sense cost status reduced }
 {
@@ -46,7 +46,7 @@ fn own_number(sense: Sense, cost: Frac, status: Status, reduced: Frac) -> Result
     }
 }
 
-// The ends for the cost of a column that is not basic.
+// The ends for the cost of a nonbasic column.
 fn own(tab: &Tableau, sense: Sense, cost: Frac, col: u32) -> Result<Ends, Past>
     requires { col < all_columns tab.now }
     ensures { result ≡ rule.own_ends (Some number_limit) sense cost tab.now col }
@@ -68,7 +68,7 @@ fn is_moved(tab: &Tableau, p: u32, k: u32) -> bool
     !(is_basic(tab.status(k)) || (is_fixed(tab.lower(k), tab.upper(k)) || is_zero(tab.entry(p, k))))
 }
 
-// The ends with those that column `k` asks for.
+// The ends with those at which the reduced cost of column `k` is 0, as the cost of the column at position `p` moves.
 fn moved(tab: &Tableau, sense: Sense, cost: Frac, p: u32, k: u32, ends: Ends) -> Result<Ends, Past>
     requires place { p < tab.now.rows }
     requires column { k < all_columns tab.now }
@@ -81,7 +81,7 @@ fn moved(tab: &Tableau, sense: Sense, cost: Frac, p: u32, k: u32, ends: Ends) ->
     ends_by(tab.status(k), falls(sense, entry), v, ends)
 }
 
-// The same of a column that may ask for none.
+// The ends with those that column `k` asks for, if it does.
 fn moved_if(
     tab: &Tableau,
     sense: Sense,

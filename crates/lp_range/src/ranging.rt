@@ -38,6 +38,7 @@ impl std::marker::Model for Ranging {
     ghost view = { λ ranging. ranging.start };
 }
 
+// The range of the cost of column `col`, read off the tableau of the basis.
 #[tactic(auto, unfolding(spec_range::specs::Rule::cost_run))]
 fn cost_at(tab: &Tableau, model: &Model, col: u32) -> Result<Range, Past>
     requires column { col < width model.now }
@@ -52,6 +53,7 @@ fn cost_at(tab: &Tableau, model: &Model, col: u32) -> Result<Range, Past>
     })
 }
 
+// The range of the right side of a row, read off the tableau of the basis.
 #[tactic(auto, unfolding(spec_range::specs::Rule::side_run))]
 fn side_at(tab: &Tableau, model: &Model, row: u32) -> Result<Range, Past>
     requires row { row < height model.now }
