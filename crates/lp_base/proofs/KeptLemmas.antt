@@ -1,4 +1,12 @@
 -- What is kept of a line, run by run.
+--
+-- `take-append`: the first `k` items of two lists are those of the first, and of the second as many as are wanting.
+-- `run_kept`: the first `k` bytes of a line are kept, after a run too, of which those are added for which there is
+--   room.
+-- `last_of_run`: the last byte of a run that is not empty is the last of the line with the run.
+-- `stripped`: without its last byte, which is a carriage return, a line is what `strip_carriage_return` gives.
+-- `not_stripped`: where its last byte is no carriage return, `strip_carriage_return` leaves a line as it is.
+-- `cut_kept`: the first `n` of the `k` bytes that were kept are the line's first `n`, where `n` is at most `k`.
 use Rattle.std.proofs.Common.{◌≡◌, ℕ, ◌+◌, ◌-◌, ◌<◌, ◌≤◌, List, [], ◌∷◌, ◌++◌, length, take, min, get_or}
 use Rattle.std.proofs.Common.{slice_index, Some, arith, refl, ap, sym, ◌∙◌, ⊎_elim, length-append, append-nil}
 use Rattle.std.proofs.lemmas.List.{take_all, take_min, take-append-le, get_or-append_right}

@@ -1,4 +1,20 @@
--- The line as far as it was read.
+-- The line as far as it was read. `SoFar` says which bytes the call read, and that those taken are kept in the part.
+--
+-- `SoFar-read`: `SoFar` holds on after a read of the source, whose bytes come behind those ahead.
+-- `SoFar-run`: `SoFar` holds on after a run was taken that no line feed ends.
+-- `gives_ended`: a run with a line feed behind it makes the answer of `next` the line that the part holds.
+-- `gives_over`: where 2^26 bytes were given and more are ahead, `Over` is a right answer of `next`.
+-- `none_left`: a list of length 0 is empty.
+-- `state_is`: a state of a reader of lines is given by its three fields.
+-- `breaks_off`: where the source fails with no byte ahead, the error `Read` is a right answer of `next`.
+-- `gives_last`: at the end of the input the last line, or `End` where no byte is left, is a right answer of `next`.
+-- `still_ahead`: while no line feed was taken, one that was ahead at the start is still ahead.
+-- `has_some`: `HasMore` with an answer that is `true`, with `true` put in.
+-- `has_none`: `HasMore` with an answer that is `false`, with `false` put in.
+-- `gives_no_memory`: where memory runs out before the input ends, the error `NoMemory` is a right answer of `next`.
+-- `gives_err`: what `GivesNext` says of an error holds of a result that is equal to it.
+-- `stays`: two equations each hold over two steps where they hold over each.
+-- `run_with`: `TakesRun` with the answer on the line feed put in.
 use Rattle.std.proofs.Common.{◌≡◌, ◌≢◌, ℕ, ◌+◌, ◌^◌, ◌≤◌, ◌<◌, List, [], ◌∷◌, ◌++◌, All, length}
 use Rattle.std.proofs.Common.{Option, Result, Ok, Err, arith, ap, sym, ◌∙◌, append_assoc, length-append}
 use Rattle.std.proofs.Common.{append-nil, refl, inl, inr, ⊎_elim, Bool, true, false, subst}

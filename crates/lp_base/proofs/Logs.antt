@@ -1,4 +1,9 @@
--- What listeners tell of their links, event by event.
+-- The logs of listeners: how they grow, and how many links are out.
+--
+-- `grows_none`: each log grows by no event to itself.
+-- `grows_more`: a log that grows by some events and then by others grows by both.
+-- `out-append`: the links out after two lists of events are those after the second, begun with those after the first.
+-- `one_out`: where the last event gave a link, at least one link is out.
 use Rattle.std.proofs.Common.{◌≡◌, ℕ, ◌+◌, ◌-◌, List, [], ◌∷◌, ◌++◌, Option, Some, None}
 use Rattle.std.proofs.Common.{refl, sym, ap, ◌∙◌, subst, arith, append-nil}
 use Rattle.std.proofs.lemmas.List.{append_assoc}

@@ -1,4 +1,7 @@
--- A run of bytes with no line feed, at the start of what is ahead.
+-- A run of bytes with no line feed, at the start of the bytes ahead, is taken.
+--
+-- `run_found`: `TakesRun` holds with `true` where the bytes up to the first line feed are kept and it is passed over.
+-- `run_plain`: `TakesRun` holds with `false` where no byte ahead is a line feed and all that may be given are kept.
 use Rattle.std.proofs.Common.{◌≡◌, ◌≢◌, ℕ, ◌+◌, ◌-◌, ◌^◌, ◌<◌, ◌≤◌, List, ◌∷◌, ◌++◌, All}
 use Rattle.std.proofs.Common.{length, take, drop, min, get_or, slice_index, true, false, arith}
 use Rattle.std.proofs.Common.{ap, ap₂, sym, subst, ◌∙◌, length-take, length-drop, get_or-take}

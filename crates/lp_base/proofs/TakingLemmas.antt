@@ -4,6 +4,26 @@
 -- adds a line, `ReadsLines-append` the lines of a call that reads several. At an exit `reads_until` joins the last
 -- answer to it, and from the start of an input on `stops_at_end`, `stops_over`,
 -- `stops_with` and `stops_now` say what was read in all.
+--
+-- `takes_end`: the end of the input adds no line to those that were taken.
+-- `told_all`: from the start of the input to its end, the lines taken are all of its at most 2^26 bytes.
+-- `told_at_fault`: where the source fails, all lines that end within the limit were taken.
+-- `told_over`: past the limit, all lines that end within it were taken, and more than 2^26 bytes were read.
+-- `gives_as`: `GivesNext` with a line that is equal to another, with the other put in.
+-- `given_line`: an answer that is neither `End` nor `Over` gives a line.
+-- `reads_none`: `ReadsLines` holds with no line where nothing was read.
+-- `reads_start`: `ReadsLines` holds with no line for a reader that has just been made.
+-- `ReadsLines-append`: lines read by one call and then by others are together the lines read.
+-- `reads_line`: a line that `next` gives is added to the lines read.
+-- `reads_end`: where `next` gives `End`, the lines read are as before, and the reader has ended.
+-- `reads_until`: the lines read and the answer after them make `ReadsUntil`.
+-- `ReadsUntil-append`: lines read before others come before them in `ReadsUntil` too.
+-- `from_start`: a reader that began at the start had not ended then.
+-- `stops_at_end`: a reader from the start that comes to `End` has read the whole input, and all its lines.
+-- `stops_over`: a reader from the start that comes to `Over` has taken the lines that end within the limit, and read
+--   past it.
+-- `stops_with`: a reader from the start that comes to an error has read as `StopsWith` says for this error.
+-- `stops_now`: a reader from the start that stops between calls has read a part of the input, or all of it.
 use Rattle.std.proofs.Common.{◌≡◌, ◌≢◌, ℕ, ◌+◌, ◌-◌, ◌^◌, ◌≤◌, ◌<◌, ◌⊎◌, List, [], ◌∷◌, ◌++◌, All, length}
 use Rattle.std.proofs.Common.{take, Option, Result, Ok, Err, Bool, true, false, arith, ap, sym, ◌∙◌}
 use Rattle.std.proofs.Common.{append_assoc, length-append, append-nil, refl, inl, inr, ⊎_elim, subst}
