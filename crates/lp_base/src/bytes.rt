@@ -29,6 +29,7 @@ impl Drop for Name {
 }
 
 impl Name {
+    /// Makes a name of a copy of the bytes.
     pub fn from_slice(alloc: Global, text: &[u8]) -> Result<Self, AllocError>
         ensures { IfOk result (λ name. name ≡ text.now) }
     {
@@ -36,12 +37,14 @@ impl Name {
         Ok(Name { text })
     }
 
+    /// The bytes of the name.
     pub fn as_slice(&self) -> &[u8]
         ensures { result.now ≡ self.now }
     {
         self.text.as_slice()
     }
 
+    /// A second name with the same bytes.
     pub fn copy(&self, alloc: Global) -> Result<Self, AllocError>
         ensures { IfOk result (λ copy. copy ≡ self.now) }
     {

@@ -88,6 +88,7 @@ impl Drop for Lines {
 }
 
 impl Lines {
+    /// A reader with an empty buffer, at the start of its input. It takes the memory of the buffer.
     pub fn new(alloc: Global) -> Result<Self, AllocError>
         ensures { IfOk result (λ lines. lines ≡ at_start) }
     {

@@ -24,6 +24,7 @@ pub struct MemLink {
 }
 
 impl MemLink {
+    /// A link that gives these pieces. The reads and the writes with the listed numbers will fail, counted from 1 each.
     pub fn new(alloc: Global, pieces: Texts, read_fails: Vec<u64>, write_fails: Vec<u64>) -> Self
         ensures pieces { unread_pieces result.source ≡ filled pieces }
         ensures left { unread result.source ≡ bytes_of pieces }
@@ -41,6 +42,7 @@ impl MemLink {
         }
     }
 
+    /// The bytes that were written to the link so far.
     pub fn written(&self) -> &[u8]
         ensures { result.now ≡ bytes_taken self.now.sink }
     {
@@ -55,6 +57,7 @@ impl Source for MemLink {
 
     ghost beside_reads = { λ l. sink_of (Some (bytes_taken l.sink)) (sink_faults l.sink) };
 
+    // Reads the next bytes of the pieces into the buffer and counts the read. What was written is left as it is.
     fn read(&mut self, buf: &mut [u8]) -> Result<usize, Failed>
         ensures bound { ReadsAtMost result buf.new }
         ensures bytes { ReadConsumes (Some (unread self.old.source)) (Some (unread self.new.source)) result buf.new }
@@ -80,6 +83,7 @@ impl Sink for MemLink {
 
     ghost beside_writes = { λ l. source_of (Some (unread l.source)) (source_faults l.source) };
 
+    // Keeps all bytes of the piece and counts the write. The pieces still to be read are left as they are.
     fn write(&mut self, piece: &[u8]) -> Result<usize, Failed>
         ensures bound { WritesAtMost result piece.now }
         ensures all { IfOk result (λ n. n ≡ length piece.now) }

@@ -75,6 +75,7 @@ impl Listen for MemListen {
 
     ghost accept_faults = { listen_faults };
 
+    // Gives the first link that waits and logs this. It fails at a listed number, and where no link waits.
     fn accept(&mut self) -> Result<MemLink, Failed>
         ensures log { HandsOver mem_link_state (Some (link_log self.old)) (Some (link_log self.new)) result }
         ensures cause { HasCause (listen_faults self.old) (listen_faults self.new) result }
@@ -94,6 +95,7 @@ impl Listen for MemListen {
         Ok(link)
     }
 
+    // Keeps the link behind those that came back, and logs this. The report is dropped.
     fn give_back(&mut self, link: MemLink, _report: LinkReport)
         requires { 0 < links_out 0 (link_log self.old) }
         ensures log { link_log self.new ≡ link_log self.old ++ Returned (mem_link_state link) ∷ [] }

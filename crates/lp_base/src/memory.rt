@@ -25,6 +25,7 @@ pub struct MemSource {
 }
 
 impl MemSource {
+    /// A source of these pieces. The reads with the listed numbers will fail, counted from 1.
     pub fn new(pieces: Texts, fails: Vec<u64>) -> Self
         ensures pieces { unread_pieces result ≡ filled pieces }
         ensures left { unread result ≡ bytes_of pieces }
@@ -82,6 +83,7 @@ impl Source for MemSource {
 
     ghost beside_reads = { λ _. no_sink };
 
+    // Counts the read, and copies bytes of the next piece into the buffer unless the read's number is listed.
     fn read(&mut self, buf: &mut [u8]) -> Result<usize, Failed>
         ensures bound { ReadsAtMost result buf.new }
         ensures bytes { ReadConsumes (Some (unread self.old)) (Some (unread self.new)) result buf.new }
@@ -106,6 +108,7 @@ pub struct MemSink {
 }
 
 impl MemSink {
+    /// A sink that holds no byte. The writes with the listed numbers will fail, counted from 1.
     pub fn new(alloc: Global, fails: Vec<u64>) -> Self
         ensures taken { bytes_taken result ≡ [] }
         ensures next { next_write result ≡ 1 }
@@ -118,6 +121,7 @@ impl MemSink {
         }
     }
 
+    /// The bytes that were written so far.
     pub fn written(&self) -> &[u8]
         ensures { result.now ≡ bytes_taken self.now }
     {
@@ -132,6 +136,7 @@ impl Sink for MemSink {
 
     ghost beside_writes = { λ _. no_source };
 
+    // Counts the write, and keeps all bytes of the piece unless the write's number is listed or memory runs out.
     fn write(&mut self, piece: &[u8]) -> Result<usize, Failed>
         ensures bound { WritesAtMost result piece.now }
         ensures all { IfOk result (λ n. n ≡ length piece.now) }

@@ -22,6 +22,7 @@ pub struct Part {
 }
 
 impl Part {
+    /// The part of a line of which nothing was read yet. It takes no memory.
     pub fn new(alloc: Global) -> Self
         ensures { IsKept result [] }
     {
@@ -32,6 +33,7 @@ impl Part {
         }
     }
 
+    /// Adds bytes to the line: those that fit are kept, and all are counted.
     pub fn extend(&mut self, run: &[u8]) -> Result<(), AllocError>
         requires { self.old.len + length run.now < 2 ^ 64 }
         ensures { IfOk result (λ _. (raw : List ℕ) → IsKept self.old raw → IsKept self.new (raw ++ run.now)) }
@@ -70,6 +72,7 @@ impl Part {
         self.cut(len)
     }
 
+    // The line of the first `len` bytes that were read, or `Long` where these are more than a line may have.
     fn cut(self, len: u64) -> Line
         requires { len ≤ self.len }
         ensures { (raw : List ℕ) → IsKept self raw → result ≡ line_of (take len raw) }
