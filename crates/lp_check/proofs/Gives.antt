@@ -15,8 +15,8 @@
 -- `no_third`: where a reduced cost does not suit its column, the check of an optimum ends with refusal 3.
 -- `no_fourth`: where a multiplier does not suit its row, the check of an optimum ends with refusal 4.
 -- `all_pass`: where all four conditions hold, the check of an optimum ends with the point's value.
--- `missing`: where a sum is absent, its run ends with refusal n.
--- `there`: where a sum is present, its run ends with the sum.
+-- `missing`: where the answer is none, the run ends with refusal n.
+-- `there`: where the answer is a number, the run ends with it.
 -- `no_rows`: where the rows' sum is refused, the check of Farkas multipliers ends with refusal 1.
 -- `no_columns`: where the columns' sum is refused, the check of Farkas multipliers ends with refusal 2.
 -- `compared`: where both sums are given, the check of Farkas multipliers is the test that the columns give less than
@@ -25,7 +25,7 @@
 -- `crossed_bounds`: a test that the bounds of column j cross is one of the bounds that the definition reads at j.
 -- `crossed_is`: bounds that are both present cross where the comparison says that the lower one is greater.
 -- `by_test`: a test in the check of infeasibility may be replaced by an equal one.
--- `better_above`: v is above 0 where its negative is below 0.
+-- `better_above`: testing that v is above 0 is testing that its negative is below 0.
 -- `ray_first`: where a column of the point is outside its bounds, the check of a ray ends with refusal 1.
 -- `ray_second`: where a row of the point is outside its limits, the check of a ray ends with refusal 2.
 -- `ray_third`: where a column does not allow the ray, the check of the ray ends with refusal 3.

@@ -4,9 +4,9 @@
 -- `less_times`: multiplying two numbers by t keeps which of them is less.
 -- `sums_are`: dividing the rows' sums of the t-fold numbers by t gives the rows' sums of the numbers.
 -- `cost_is`: dividing the cost of the t-fold point by t gives the cost of the point.
--- `reduced_is`: a number is column j's reduced cost if t times it is the one at the t-fold multipliers and cost.
+-- `reduced_is`: where t d is the t-fold cost less the price at the t-fold multipliers, d is column j's reduced cost.
 -- `reduced_all`: the run without a limit of column j's reduced cost ends with that reduced cost.
--- `priced_is`: the run without a limit of what the multipliers price column j at ends with that number.
+-- `priced_is`: the run without a limit of column j's price at the multipliers ends with that price.
 -- `says_times`: a verdict on the t-fold Farkas multipliers is true of the multipliers themselves.
 use Rattle.std.proofs.Common.{◌≡◌, ℕ, zero, suc, ◌<◌, List, [], ◌∷◌, length, map, Ok, Err, None, Option, Some, Bool, true, false, cond}
 use Rattle.std.proofs.Common.{refl, sym, ap, ap₂, ◌∙◌, subst, arith, pos}

@@ -1,13 +1,13 @@
 -- Sums taken entry by entry over the columns of a model, and lists built number by number.
 --
 -- `inside_at`: the row of an entry of a column is below the number of rows.
--- `column_step`: adding an entry's coefficient times x to its row's sum keeps that sums and open entries come to the
---   same.
+-- `column_step`: adding an entry's coefficient times x to its row's sum leaves each sum with its remaining entry as it
+--   was.
 -- `column_end`: when no entry is left, each row's sum has grown by its coefficient times x.
 -- `sums_more`: adding column j to the rows' sums over the first j columns gives those over j + 1.
 -- `cost_more`: adding column j's cost times its number to the cost of the first j columns gives that of j + 1.
--- `weigh_step`: adding an entry's coefficient times its row's multiplier keeps that sum and open entries come to the
---   same.
+-- `weigh_step`: adding an entry's coefficient times its multiplier leaves the sum with the remaining products as it
+--   was.
 -- `weigh_end`: when no entry is left, the sum of coefficients times multipliers is complete.
 -- `pushed`: where a fact holds at each place of a list, it holds after a number for which it holds is pushed.
 -- `part_is`: a number read inside a list is the definition's `part` of the list there.

@@ -1,6 +1,6 @@
 -- The computational form of a model from its parts, and the faults for which it has none.
 --
--- `column_more`: pushing what belongs to column j onto a list for the first j columns gives that for j + 1.
+-- `column_more`: pushing f of column j onto a list of f of the first j columns gives that of the first j + 1.
 -- `row_more`: pushing the limits of row i onto the bounds of the columns and the first i rows gives those with row i.
 -- `usual_form`: the form of a usual model is within the usual limits.
 use Rattle.std.proofs.Common.{◌≡◌, ℕ, ◌+◌, ◌<◌, ◌≤◌, List, [], ◌∷◌, ◌++◌, length, take, get_or, map}

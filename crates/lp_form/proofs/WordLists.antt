@@ -1,12 +1,12 @@
 -- Words are made from the last column to the first, and lists of words from the first to the last.
 --
--- `code_small`: the code of each column is below 4, two bits.
--- `column_more`: four times a word and the code of the column before its first is the word from that column on.
+-- `code_small`: the code of each column is below 4, so it has two bits.
+-- `column_more`: four times a word with the code of the column before it added is the word from that column on.
 -- `has_room`: before the last column is put, a word is below 2^62, so that two more bits fit.
--- `word_more`: setting word n + k where the first k are put makes the first k + 1 put.
+-- `word_more`: where k words are put behind a front, setting the next one puts k + 1 behind it.
 -- `copied_more`: copying the word at place i where the first i are copied makes the first i + 1 copied.
 -- `all_put`: where as many words are put as the list is long, the list is those words.
--- `whole_word`: a word that starts at column c and misses none holds the codes of all its columns.
+-- `whole_word`: a word that is made down to its first column is the word of all its 32 columns.
 -- `count_step`: counting column c, one more if basic, gives the number of basic columns among the first c + 1.
 -- `basics_unpacked`: the statuses of all columns of packed words have as many basic ones as the words have rows.
 use Rattle.std.proofs.Common.{◌≡◌, ℕ, suc, ◌+◌, ◌-◌, ◌*◌, ◌^◌, ◌<◌, ◌≤◌, List, [], ◌∷◌, ◌++◌, length}

@@ -70,7 +70,8 @@ pub record TakesPart (before after : Option (List ℕ)) (old new : LinesState) :
   pub passed : List (Line (List ℕ))
   pub reads : ReadsLines before after old new passed ⊎ ReadsUntil before after old passed (Err stop.NoMemory)
 
--- what the reading of an input answers: what was said at a line or at the end, or that the input is too long, or what failed
+-- what the reading of an input answers: what was said at a line or at the end, or that the input is too long, or what
+-- failed
 abbrev pub HearsNext : {R : Type 0} → (List (Line (List ℕ)) → Option R → Type 0) → Option (List ℕ) → Option (List ℕ) →
     LinesState → LinesState → Result (Heard R) LineStop → Type 0
 HearsNext Say before after old new (Ok (heard.Says what)) =

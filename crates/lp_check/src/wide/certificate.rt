@@ -14,7 +14,7 @@ pub type Known = spec_check::Known<Ratio>;
 /// What a check of a certificate says.
 #[derive(Drop)]
 pub enum Verdict {
-    /// It shows this.
+    /// The certificate shows this.
     Yes(Known),
     /// The number of the first condition that fails.
     No(u32),
