@@ -2,7 +2,7 @@
 //!
 //! | Item | What it is | Where |
 //! |---|---|---|
-//! | `eliminate` | a row's multiple less that of another row, or none where a number is past the width | src/row |
+//! | `eliminate` | a row's multiple less that of another row, or none where a number overflows the width | src/row |
 //! | `Row` | a row with its denominator and the value of its basic column | src/fractions |
 //! | `clear` | a row less another one, as often as an entry says | src/fractions |
 //! | `divide`, `reduce` | a row over one of its entries; a row without what its numbers have in common | src/fractions |

@@ -11,14 +11,14 @@ use lp_frac::{Frac, LARGEST, den, num};
 use lp_natural::words::{Signed, Words, to_whole};
 use std::alloc::{AllocError, Global};
 
-// The whole number, if it is not past 127 bits.
+// The whole number, if it does not overflow 127 bits.
 fn whole_of<T: Words>(negative: bool, size: T) -> Option<i128>
     ensures { IfSome result (λ n. n ≡ whole negative (T.value size)) }
 {
     to_whole(Signed { negative, size })
 }
 
-// The fraction of two whole numbers, if it is not past 127 bits.
+// The fraction of two whole numbers, if it does not overflow 127 bits.
 fn made(a: i128, b: i128) -> Option<Frac>
     ensures { (n : ℕ) → 0 < n → b ≡ pos n → IfSome result (λ f. f ≡ over a n) }
 {
@@ -28,7 +28,7 @@ fn made(a: i128, b: i128) -> Option<Frac>
     }
 }
 
-// The fraction of both numbers, if it is not past 127 bits.
+// The fraction of both numbers, if it does not overflow 127 bits.
 fn fraction<T: Words>(v: RowFraction<T>) -> Option<Frac>
     requires { 0 < T.value v.denominator }
     ensures { IfSome result (λ f. f ≡ fraction_of T.value v) }

@@ -20,7 +20,7 @@ fn are_none<T: Words>(x: Signed<T>, y: Signed<T>) -> bool
     x.size.is_zero() && y.size.is_zero()
 }
 
-// Takes the other row `b` times off a row. Where it is false a number is past the width, and the row is spent.
+// Takes the other row `b` times off a row. Where it is false a number overflows the width, and the row is spent.
 fn take_off<T: Words>(row: &mut [Signed<T>], other: &[Signed<T>], b: Signed<T>) -> bool
     requires { length other.now ≡ length row.old }
     ensures each { IsTrue result → (k : ℕ) → k < length row.old → at T.value row.new k ≡

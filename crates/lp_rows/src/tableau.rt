@@ -2,7 +2,7 @@
 //! two, and the certificate and the basis of an end.
 //!
 //! Contracts speak of each tableau of exact fractions that the rows show (specs/Shows): no number has a limit there.
-//! What is past the width of the words is no answer, and then nothing is promised.
+//! Where a number overflows the width of the words there is no answer, and then nothing is promised.
 //!
 //! | Item | What it is | Where |
 //! |---|---|---|

@@ -7,7 +7,7 @@
 //! | `Fit`, `DualEnd` | what they answer | `spec_simplex`, `spec_simplex` |
 //! | `fit_tableaus_can_run` | that a dual feasible tableau may be run | here |
 //!
-//! Each is exactly spec_simplex's `fit_run` or `dual_run`, up to the operation that is past 127 bits and
+//! Each is exactly spec_simplex's `fit_run` or `dual_run`, up to the operation that overflows and
 //! the budget that is spent. They take no memory.
 
 mod candidates;

@@ -23,14 +23,14 @@ fn common_multiple<T: Words>(a: T, b: T) -> Option<T> {
     }
 }
 
-// The numerator, unless it is past the width.
+// The numerator, unless it overflows the width.
 fn numerator<T: Words>(f: Frac) -> Option<Signed<T>>
     ensures { IfSome result (λ n. whole_of T.value n ≡ f.num) }
 {
     from_whole(num(f))
 }
 
-// The denominator, unless it is past the width.
+// The denominator, unless it overflows the width.
 fn own_denominator<T: Words>(f: Frac) -> Option<T>
     ensures { IfSome result (λ d. T.value d ≡ f.den) }
 {
@@ -66,7 +66,7 @@ fn denominator_of<T: Words>(list: &[Frac]) -> Option<T>
     if_positive(found)
 }
 
-/// A common denominator of a number's reciprocal and some bounds. There is none where it is past the width.
+/// A common denominator of a number's reciprocal and some bounds. There is none where it overflows the width.
 pub fn denominator_with<T: Words>(so_far: T, bounds: &[Option<Frac>]) -> Option<T>
     ensures { IfSome result (λ d. 0 < T.value d) }
 {
@@ -134,7 +134,7 @@ fn bound_on<T: Words>(bound: Option<Frac>, denominator: T) -> Option<Option<Sign
     }
 }
 
-/// The bounds as whole numbers on a denominator. There are none where one is past the width.
+/// The bounds as whole numbers on a denominator. There are none where one overflows the width.
 pub fn bounds_on<T: Words>(
     alloc: Global,
     bounds: &[Option<Frac>],
@@ -154,7 +154,7 @@ pub fn bounds_on<T: Words>(
 }
 
 /// The row of some fractions on a denominator of their own, and last a value on that times a further denominator.
-/// There is none where a number is past the width.
+/// There is none where a number overflows the width.
 pub fn row_of<T: Words>(
     alloc: Global,
     list: &[Frac],

@@ -138,7 +138,7 @@ fn costs<T: Words>(
     row_of(alloc, &list, zero(), denominator)
 }
 
-/// The rows that show a tableau. There are none where a number is past the width.
+/// The rows that show a tableau. There are none where a number overflows the width.
 pub fn from_tableau<T: Words>(
     alloc: Global,
     tab: &Tableau,

@@ -353,7 +353,7 @@ fn certificate_at<T: Words, N: Listed>(
 }
 
 /// The certificate of an end: that of phase two, or of phase one where it leaves an artificial column that is not 0.
-/// There is none where a number is past the width of its kind, or past that of the words.
+/// There is none where a number overflows the width of its kind, or that of the words.
 pub fn certificate<T: Words, N: Listed>(
     alloc: Global,
     tab: &RowTableau<T>,

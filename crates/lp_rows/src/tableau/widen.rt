@@ -109,7 +109,7 @@ fn rows<T: Words, U: Words>(
     Ok(Some(list))
 }
 
-/// The same rows in words of another width. There are none where a number is past that width.
+/// The same rows in words of another width. There are none where a number overflows that width.
 pub fn widened<T: Words, U: Words>(
     alloc: Global,
     tab: &RowTableau<T>,

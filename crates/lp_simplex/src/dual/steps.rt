@@ -48,7 +48,7 @@ fn steps(tab: &mut Tableau, used: &mut u64, budget: u64) -> Result<DualEnd, RunS
 
 /// Gives each reduced cost the sign that it needs by flips, and then takes dual steps. It ends `Optimal` where each
 /// value is within its bounds, and `Infeasible` where one is not and no column can bring it back. It ends `Past` where
-/// an operation is past 127 bits, and `Spent` where `budget` flips and pivots were made. `used` counts them. After
+/// an operation overflows, and `Spent` where `budget` flips and pivots were made. `used` counts them. After
 /// `Past` the tableau is spent.
 ///
 /// `IsDualStart` holds of the tableau of a dual feasible basis.
