@@ -60,9 +60,13 @@ fn way_if_free<T: Words>(cost: Signed<T>, status: Status, is_fixed: bool) -> Opt
     }
 }
 
-/// The least column that may enter, by a row of reduced costs, the columns' statuses and which of them are fixed.
-/// `fixed` has one for each structural and logical column: the artificial ones behind them never enter.
-pub fn entering<T: Words>(costs: &Row<T>, status: &[Status], fixed: &[bool]) -> Option<Entering>
+// The least column that may enter, by a row of reduced costs, the columns' statuses and which of them are fixed.
+// `fixed` has one for each structural and logical column: the artificial ones behind them never enter.
+pub(crate) fn entering<T: Words>(
+    costs: &Row<T>,
+    status: &[Status],
+    fixed: &[bool],
+) -> Option<Entering>
     requires positive { 0 < T.value costs.now.denominator }
     requires numbers { length fixed.now ≤ length costs.now.numbers.items }
     requires statuses { length fixed.now ≤ length status.now }

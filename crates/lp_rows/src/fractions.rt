@@ -53,9 +53,9 @@ pub(crate) fn share_common<T: Words>(a: T, b: T) -> Option<Shares<T>>
     }
 }
 
-/// Takes the multiple of the other row off that the row's entry in column `j` says. Where it is false a number
-/// overflows the width, and the row is spent.
-pub fn clear<T: Words>(row: &mut Row<T>, other: &Row<T>, j: usize) -> bool
+// Takes the multiple of the other row off that the row's entry in column `j` says. Where it is false a number
+// overflows the width, and the row is spent.
+pub(crate) fn clear<T: Words>(row: &mut Row<T>, other: &Row<T>, j: usize) -> bool
     requires same { length other.now.numbers.items ≡ length row.old.numbers.items }
     requires column { j < length row.old.numbers.items }
     requires positive { 0 < T.value row.old.denominator }
@@ -95,8 +95,8 @@ fn is_none<T: Words>(n: Signed<T>) -> bool
     n.size.is_zero()
 }
 
-/// Divides a row by its entry in column `j`. Where it is false that entry is 0, and the row as it was.
-pub fn divide<T: Words>(row: &mut Row<T>, j: usize) -> bool
+// Divides a row by its entry in column `j`. Where it is false that entry is 0, and the row as it was.
+pub(crate) fn divide<T: Words>(row: &mut Row<T>, j: usize) -> bool
     requires column { j < length row.old.numbers.items }
     requires positive { 0 < T.value row.old.denominator }
     ensures rest { IsTrue result → AreNow T.value (λ k.
@@ -141,8 +141,8 @@ fn is_one<T: Words>(n: T) -> bool {
     n.is(T::one())
 }
 
-/// Takes out what a row's numbers have in common with its denominator. Where it is false the row is spent.
-pub fn reduce<T: Words>(row: &mut Row<T>) -> bool
+// Takes out what a row's numbers have in common with its denominator. Where it is false the row is spent.
+pub(crate) fn reduce<T: Words>(row: &mut Row<T>) -> bool
     requires positive { 0 < T.value row.old.denominator }
     ensures rest { IsTrue result → AreNow T.value
         (fraction_at T.value row.old.numbers.items (T.value row.old.denominator))

@@ -29,8 +29,8 @@ pub trait Listed: Drop {
         ensures fits { IfOk result (λ o. IfSome o fits) };
 }
 
-/// The fraction 0.
-pub fn zero<T: Words>() -> RowFraction<T>
+// The fraction 0.
+pub(crate) fn zero<T: Words>() -> RowFraction<T>
     ensures { fraction_of T.value result ≡ 0ℚ }
 {
     RowFraction {
@@ -42,8 +42,8 @@ pub fn zero<T: Words>() -> RowFraction<T>
     }
 }
 
-/// The fraction 1.
-pub fn one<T: Words>() -> RowFraction<T>
+// The fraction 1.
+pub(crate) fn one<T: Words>() -> RowFraction<T>
     ensures { fraction_of T.value result ≡ 1ℚ }
 {
     RowFraction {
@@ -55,8 +55,8 @@ pub fn one<T: Words>() -> RowFraction<T>
     }
 }
 
-/// The negative of a fraction.
-pub fn negated<T: Words>(v: RowFraction<T>) -> RowFraction<T>
+// The negative of a fraction.
+pub(crate) fn negated<T: Words>(v: RowFraction<T>) -> RowFraction<T>
     ensures { fraction_of T.value result ≡ neg_ℚ (fraction_of T.value v) }
 {
     RowFraction {
@@ -68,8 +68,8 @@ pub fn negated<T: Words>(v: RowFraction<T>) -> RowFraction<T>
     }
 }
 
-/// The fraction, or its negative where the entering column falls.
-pub fn directed<T: Words>(up: bool, v: RowFraction<T>) -> RowFraction<T>
+// The fraction, or its negative where the entering column falls.
+pub(crate) fn directed<T: Words>(up: bool, v: RowFraction<T>) -> RowFraction<T>
     ensures { fraction_of T.value result ≡ step.directed up (fraction_of T.value v) }
 {
     if up { v } else { negated(v) }

@@ -13,17 +13,17 @@ use lp_natural::words::{Signed, Words, minus, times};
 use spec_pivot::Status;
 use std::cmp::Ordering;
 
-/// What stops the entering column: its ratio is the gap over the entry, and over what all bounds have as their
-/// denominator.
+// What stops the entering column: its ratio is the gap over the entry, and over what all bounds have as their
+// denominator.
 #[derive(Clone, Copy)]
-pub struct Stopper<T> {
-    pub gap: Signed<T>,
-    pub entry: T,
-    pub col: u32,
-    /// The column's position, which the entering column itself has none of.
-    pub place: Option<u32>,
-    /// The bound that the column goes to.
-    pub to: Status,
+pub(crate) struct Stopper<T> {
+    pub(crate) gap: Signed<T>,
+    pub(crate) entry: T,
+    pub(crate) col: u32,
+    // The column's position, which the entering column itself has none of.
+    pub(crate) place: Option<u32>,
+    // The bound that the column goes to.
+    pub(crate) to: Status,
 }
 
 // Whether both products are 0, of which the second factors are not.
@@ -62,8 +62,8 @@ pub fn order<T: Words>(a: Signed<T>, m: T, b: Signed<T>, n: T) -> Ordering
     }
 }
 
-/// The better of two stops: the lesser ratio, and of equal ones the lesser column.
-pub fn better<T: Words>(new: Stopper<T>, best: Stopper<T>) -> Stopper<T>
+// The better of two stops: the lesser ratio, and of equal ones the lesser column.
+pub(crate) fn better<T: Words>(new: Stopper<T>, best: Stopper<T>) -> Stopper<T>
     requires first { 0 < T.value new.entry }
     requires second { 0 < T.value best.entry }
     ensures value { (d : ℕ) → 0 < d → step.better_run None (best_of T.value d new) (Some (best_of T.value d best)) ≡
@@ -77,11 +77,11 @@ pub fn better<T: Words>(new: Stopper<T>, best: Stopper<T>) -> Stopper<T>
     }
 }
 
-/// How far a basic column is from the bound that stops it, and which bound that is.
+// How far a basic column is from the bound that stops it, and which bound that is.
 #[derive(Clone, Copy)]
-pub struct Gap<T> {
-    pub size: Signed<T>,
-    pub to: Status,
+pub(crate) struct Gap<T> {
+    pub(crate) size: Signed<T>,
+    pub(crate) to: Status,
 }
 
 // How far a value is below a bound, or above it, both over the row's denominator.
@@ -131,11 +131,11 @@ fn gap_to<T: Words>(
     }
 }
 
-/// The gap between the value of a basic column and the bound toward which it moves: its upper bound where it rises
-/// (`Less`), its lower bound where it falls (`Greater`). There is no gap where it stays, or has no such bound. `value`
-/// is over the row's denominator times that of all bounds; `lower` and `upper` are over the latter. There is no answer
-/// where a number overflows the width.
-pub fn gap_for<T: Words>(
+// The gap between the value of a basic column and the bound toward which it moves: its upper bound where it rises
+// (`Less`), its lower bound where it falls (`Greater`). There is no gap where it stays, or has no such bound. `value`
+// is over the row's denominator times that of all bounds; `lower` and `upper` are over the latter. There is no answer
+// where a number overflows the width.
+pub(crate) fn gap_for<T: Words>(
     goes: Ordering,
     lower: Option<Signed<T>>,
     upper: Option<Signed<T>>,
@@ -154,8 +154,8 @@ pub fn gap_for<T: Words>(
     }
 }
 
-/// What stops the column in a position with this entry, whose basic column has this gap.
-pub fn stopper_at<T: Words>(
+// What stops the column in a position with this entry, whose basic column has this gap.
+pub(crate) fn stopper_at<T: Words>(
     place: u32,
     col: u32,
     entry: Signed<T>,
@@ -180,9 +180,9 @@ pub fn stopper_at<T: Words>(
     }
 }
 
-/// Whether a basic column rises (`Less`), stays or falls, whose position has this entry, as the entering column rises
-/// (`up`) or falls.
-pub fn goes<T: Words>(up: bool, entry: Signed<T>) -> Ordering
+// Whether a basic column rises (`Less`), stays or falls, whose position has this entry, as the entering column rises
+// (`up`) or falls.
+pub(crate) fn goes<T: Words>(up: bool, entry: Signed<T>) -> Ordering
     ensures { (e : ℕ) → 0 < e → (lower upper : Option ℚ) (v : ℚ) →
         step.gap_run None up (over (whole entry.negative (T.value entry.size)) e) lower upper v ≡
         gap_by result lower upper v }
@@ -190,8 +190,8 @@ pub fn goes<T: Words>(up: bool, entry: Signed<T>) -> Ordering
     sign(toward(up, entry))
 }
 
-/// The number, or its negative where the entering column falls.
-pub fn toward<T: Words>(up: bool, n: Signed<T>) -> Signed<T>
+// The number, or its negative where the entering column falls.
+pub(crate) fn toward<T: Words>(up: bool, n: Signed<T>) -> Signed<T>
     ensures { whole result.negative (T.value result.size) ≡ turned_if (not up) (whole n.negative (T.value n.size)) }
 {
     Signed {

@@ -66,9 +66,9 @@ fn combine<T: Words>(row: &mut [Signed<T>], other: &[Signed<T>], a: Signed<T>, b
     true
 }
 
-/// Makes of each number of a row `a` times it, less `b` times that of the other row. Where it is false a number is past
-/// the width, and the row is spent. Where `a` is 1, it passes over what the other row has none of.
-pub fn eliminate<T: Words>(
+// Makes of each number of a row `a` times it, less `b` times that of the other row. Where it is false a number is past
+// the width, and the row is spent. Where `a` is 1, it passes over what the other row has none of.
+pub(crate) fn eliminate<T: Words>(
     row: &mut [Signed<T>],
     other: &[Signed<T>],
     a: Signed<T>,
