@@ -10,7 +10,7 @@ mod entering;
 mod ratio;
 mod steps;
 
-pub use choice::{Choice, chosen};
+pub use choice::chosen;
 pub use entering::{is_fixed, way};
 pub use ratio::{Best, Position, best_at, range};
 pub use steps::run;
