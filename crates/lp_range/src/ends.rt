@@ -6,8 +6,8 @@ ghost use Rattle.spec_range.specs.Rule as rule;
 use lp_frac::{Frac, Past, cmp};
 use std::cmp::Ordering;
 
-/// The ends of a range, as far as they are there.
-pub type Ends = spec_range::Ends<Frac>;
+// The ends of a range, as far as they are there.
+pub(crate) type Ends = spec_range::Ends<Frac>;
 
 /// A range, and by how much the optimal value grows with each unit of the number.
 pub type Range = spec_range::Range<Frac>;

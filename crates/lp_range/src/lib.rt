@@ -3,7 +3,7 @@
 //! | Item | What it is | Where |
 //! |---|---|---|
 //! | `Ranging` | a basis of which the range of each column's cost, and of each row's right side, is read off one tableau | src/ranging |
-//! | `Range`, `Ends` | a range, with the slope of the optimal value; its ends, as far as they are there | src/ends |
+//! | `Range` | a range, with its ends as far as they are there, and the slope of the optimal value | src/ends |
 //!
 //! Each is exactly spec_range's `cost_range` or `side_range`, up to the first operation that overflows, and by
 //! its laws the whole span.
@@ -15,5 +15,5 @@ mod ends;
 mod moved;
 mod ranging;
 
-pub use ends::{Ends, Range};
+pub use ends::Range;
 pub use ranging::Ranging;
