@@ -1,4 +1,7 @@
 -- What reads change of the places that the words of a board spell.
+--
+-- `spelled_with`: with place k replaced, the spelled places are as before but for place k.
+-- `reads_change`: places that answer a read change as the spelled places of a board do.
 use Rattle.std.proofs.Common.{◌≡◌, ℕ, zero, suc, List, [], ◌∷◌, map, refl, ap, ◌∙◌}
 use Rattle.std.specs.Prelude.{slice_set}
 use Rattle.std.proofs.lemmas.List.{map-append}

@@ -1,4 +1,8 @@
 -- Each kind of step keeps the whole rule, and notes what is so when it is taken.
+--
+-- `only_so`: a read that a step notes, and leaves its word as it was, is so of the words if the rule holds before and
+--   after.
+-- `allowed_so`: a kind of load that notes one read is allowed only where that read is so of the words.
 use Rattle.std.proofs.Common.{◌≡◌, ◌≢◌, ℕ, zero, suc, ◌+◌, ◌-◌, ◌*◌, ◌/◌, ◌<◌, List, [], ◌∷◌, ◌++◌, length}
 use Rattle.std.proofs.Common.{get_or, set}
 use Rattle.std.proofs.Common.{Some, None, eqb, map, sym, refl, ap, ◌∙◌, subst, ⊎_elim, inl, inr, arith}

@@ -1,4 +1,10 @@
--- What a look and a meeting come to.
+-- What a look of a pass finds, word by word.
+--
+-- `each_both`: where two properties of an element give a third, all elements that have the two have the third.
+-- `reads_on`: once i words of a place are read and the next one is, i + 1 are, and they agree with all seen before.
+-- `rest_on`: the same for a word behind the shape, where the shape is the one looked for.
+-- `other_at`: a pass that read 25 words which are not the shape has passed by the place.
+-- `differ`: two lists that a comparison finds unequal are not the same.
 use Rattle.basis_board.specs.Rule.{Consistent}
 use Rattle.std.proofs.Common.{◌≡◌, ◌≢◌, ℕ, ◌*◌, ◌+◌, ◌-◌, ◌/◌, ◌%◌, ◌<◌, List, [], ◌∷◌, ◌++◌}
 use Rattle.std.proofs.Common.{length, take, set, get_or, refl, sym, ap, ◌∙◌, subst, ⊎_elim}

@@ -1,4 +1,10 @@
--- Views stay neat, and what the rule says of a view by itself.
+-- That views stay neat: their own places are those of their reads, and what they read they have seen.
+--
+-- `fits_noted`: a view still fits the words when it notes a read that fits, publishes nothing and has been seen.
+-- `neat_finished`: a neat view that publishes the place which it holds is neat.
+-- `neat_opening`: a neat view that reads a place as done, and none of its words yet, is neat.
+-- `neat_reading`: a neat view that reads one word more of the place that it read last is neat.
+-- `neat_met`: two neat views met into one are neat.
 use Rattle.std.proofs.Common.{◌≡◌, ℕ, zero, suc, ◌+◌, ◌*◌, ◌<◌, ◌≤◌, List, [], ◌∷◌, ◌++◌}
 use Rattle.std.proofs.Common.{length, get_or, set, Some, refl, sym, ap, ◌∙◌, subst, ⊎_elim}
 use Rattle.std.proofs.Common.{inl, inr, arith, length-append, append_assoc, append-nil}

@@ -1,4 +1,10 @@
--- How often a number stands in a list.
+-- How often a number occurs in a list.
+--
+-- `times-append`: a number occurs in two lists together as often as in one and in the other.
+-- `times_contains`: a number that occurs in a list is contained in it.
+-- `contains_times`: a number that a list contains occurs in it.
+-- `once_times`: in a list without repetitions each number occurs at most once.
+-- `times_once`: a list in which each number occurs at most once has no repetitions.
 use Rattle.std.proofs.Common.{◌≡◌, ℕ, zero, suc, ◌+◌, ◌<◌, ◌≤◌, List, [], ◌∷◌, ◌++◌, eqb, sym, ap, ◌∙◌, ⊎_elim, arith}
 use Rattle.std.specs.List.{AllByRecursion, Contains}
 use Rattle.std.proofs.lemmas.Bool.{cases_eq}

@@ -1,4 +1,22 @@
 -- The rule of moments: what a step, a split and a meeting keep of it.
+--
+-- `grows_same`: words grow to themselves.
+-- `set_here`: a seat that has a view has the new one once its view is replaced.
+-- `notes_none`: moments that stay the same note nothing more.
+-- `note`: a step that notes one read, which is so and is what befell the places, keeps the rule of moments.
+-- `hush`: a step that notes nothing and changes neither the count nor a done word keeps the rule of moments.
+-- `same_notes`: each note of the same reads is one that was there, of the same kind.
+-- `notes_on`: noting more twice is noting more.
+-- `later_on`: a pass that is later than a later one is later.
+-- `timed_splits`: cutting a pass in two keeps the rule of moments.
+-- `true_join`: reads that were so when they were noted are so too behind others that were.
+-- `notes_join`: the notes of two passes together are those of one behind those of the other.
+-- `true_long`: where each read was so at its moment, there are as many moments as reads.
+-- `notes_nothing`: a pass with the same reads has the same moments.
+-- `timed_joins`: meeting two passes into one keeps the rule of moments.
+-- `timed_first`: the rule of moments holds of a new board, whose only pass has noted nothing.
+-- `one_log`: when one pass is left, its notes are one log: numbered in order, and each of them was so.
+-- `made_then`: a note that a step made is of words between those before the step and those after it.
 use Rattle.std.proofs.Common.{◌≡◌, ◌≢◌, ◌⊎◌, ℕ, zero, suc, ◌+◌, ◌-◌, ◌<◌, ◌≤◌, List, [], ◌∷◌, ◌++◌, set, eqb}
 use Rattle.std.proofs.Common.{sym, refl, ap, ◌∙◌, subst, ⊎_elim, inl, inr, arith, append_assoc, length, length-append}
 use Rattle.std.proofs.lemmas.Bool.{cases_lt, cases_eq}
