@@ -1,4 +1,12 @@
--- The parts of a step over a board are a whole one.
+-- The parts of a session's step over a board are a whole step.
+--
+-- `found_fits_form`: what a look for a form's shape finds has that shape and is well formed.
+-- `begins_with`: a step that begins so and goes on begins with the form with which it goes on.
+-- `works_with`: a step that works so and goes on has its words to publish, well formed and of an end of its model.
+-- `replies_so`: a step that breaks off when it begins is a whole step without reads.
+-- `rests_fit`: a session that awaits nothing keeps neither a form nor an answer to fit.
+-- `calls_look`: one look is all that a step calls.
+-- `calls_both`: a look and a publication of well-formed words are all that a step calls.
 use Rattle.std.proofs.Common.{◌≡◌, List, [], ◌++◌, Option, IfSome, ControlFlow, Continue, Break}
 use Rattle.std.proofs.Common.{refl, sym, ap, ◌∙◌, subst}
 use Rattle.std.proofs.Common.{inl, inr, append-nil}

@@ -1,4 +1,8 @@
--- What a solve ends with, and from where it starts.
+-- What a solve of a session ends with, and from which basis it starts.
+--
+-- `end_of`: an end that answers the model within some budget is an end of the model that is held.
+-- `found_fits`: the basis in words that fit a form is a basis of that form.
+-- `left_formed`: the words of the basis that an end leaves are well formed.
 use Rattle.std.proofs.Common.{◌≡◌, ℕ, List, Option, Some, None, Result, IfOk, sym, ap, ◌∙◌, subst, subst₂}
 use Rattle.spec_model.specs.Model.{Model}
 use Rattle.spec_check.specs.declared.certificate.Known.TheVariants as known
