@@ -1,4 +1,7 @@
--- The calls that a session makes in a step: of the places, and of the order of what is read.
+-- What the calls of a session's step keep of a pass.
+--
+-- `calls_places`: the calls of a step leave the number of places as it is.
+-- `calls_orderly`: the calls of a step leave the reads of a consistent pass in order, if they were.
 use Rattle.std.proofs.Common.{◌≡◌, ap, sym, ◌∙◌, subst, inl, inr}
 use Rattle.spec_board.specs.Reads.{Words}
 use Rattle.basis_board.specs.declared.seats.View.{View}

@@ -1,4 +1,12 @@
--- Passes as they are cut off, and passes that are met into one.
+-- Passes that are cut off a first one, and met into it again.
+--
+-- `cut_is_fresh`: a pass that was cut off one of the board's has read and noted nothing.
+-- `gathered_notes`: when the last pass of a list is met into a first one, no note is lost and none is added.
+-- `one_log`: the notes of all passes are one log if those of the pass that they were met into are.
+-- `map_reverse`: mapping a function over a reversed list gives the reversed list of its values.
+-- `split_next`: an element that is moved from the end of a list to the ones set aside leaves the whole as it was.
+-- `split_all`: when all elements are set aside, they are the whole list in reverse.
+-- `none_left`: a list of length 0 is empty.
 use Rattle.std.proofs.Common.{◌≡◌, ℕ, List, [], ◌∷◌, ◌++◌, length, map, reverse}
 use Rattle.std.proofs.Common.{refl, ap, sym, ◌∙◌, subst, arith, append-nil}
 use Rattle.std.specs.List.Sorted.{IsPermutation}

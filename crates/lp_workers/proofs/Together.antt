@@ -1,4 +1,7 @@
 -- All workers take their turns, and what their passes know together.
+--
+-- `written_back`: a list written over one of the same length takes its place.
+-- `all_backed`: what passes read is backed if all of them were met into one that knows the whole board.
 use Rattle.std.proofs.Common.{◌≡◌, ℕ, suc, List, [], ◌∷◌, ◌++◌, length, map, reverse, take, drop}
 use Rattle.std.proofs.Common.{ap, sym, ◌∙◌, subst, arith, append-nil}
 use Rattle.std.specs.List.{All, AllByRecursion}
