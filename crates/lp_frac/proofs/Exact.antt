@@ -1,4 +1,14 @@
 -- A product and a difference whose parts are short are not refused, and what they give.
+--
+-- `in_lowest`: a numerator and a denominator divided by their greatest common divisor are lowest terms, no larger than
+--   before.
+-- `scaled_same`: factors that bring two denominators to the same one give the same difference as cross products.
+-- `product_of_short`: the products of the parts of short fractions, where both fit 64 bits, are parts of the product.
+-- `less_short`: where parts of the product and of `s` are short, `s` less the product is not refused, and is as
+--   computed.
+-- `less_small`: where the parts of all three fractions are small, `s` less the product is not refused, and is as
+--   computed.
+-- `nothing_over`: 0 over a positive denominator is 0 over 1.
 use Rattle.std.proofs.Common.{◌≡◌, ◌<◌, ◌≤◌, zero, suc, Some, Ok, ℕ, ◌+◌, ◌*◌, ◌/◌, ℤ, pos}
 use Rattle.std.proofs.Common.{neg_ℤ, ◌+ℤ◌, ◌-ℤ◌, ◌*ℤ◌, int_div, unsigned_abs, true}
 use Rattle.std.proofs.Common.{[], ◌∷◌, le-leb, refl, sym, ap, ap₂, subst, ◌∙◌, arith, SFits}

@@ -1,4 +1,16 @@
 -- Products and differences of signed numbers as the code computes them, where their sizes show that they fit.
+--
+-- `fitted_size`: a number that fits a width with a sign has at most the magnitude of its least number.
+-- `cast_fits`: a number that fits a width fits a larger one after a cast.
+-- `cast_is`: a number that fits a width stays the same in a cast to a larger one.
+-- `cast_product`: the product of two numbers cast to a width that holds it is computed exactly.
+-- `cast_scaled`: the product of a number so cast and of an unsigned one is computed exactly where the sizes fit.
+-- `scaled`: the product of a number and an unsigned one of one width is computed exactly where the sizes fit.
+-- `difference`: the difference of two numbers of one width is computed exactly where the sizes fit.
+-- `narrow_fits`: `narrow` gives a number of at most the limit.
+-- `narrow_unfit`: `narrow` refuses a number that does not fit 128 bits.
+-- `narrow_least`: `narrow` refuses -2^127, the least number of 128 bits.
+-- `narrow_other`: `narrow` gives each number of 128 bits but the least.
 use Rattle.std.proofs.Common.{◌≡◌, ◌<◌, ◌≤◌, ℕ, ◌+◌, ◌*◌, ◌^◌, ℤ, pos, negsuc, ◌-ℤ◌, ◌*ℤ◌, unsigned_abs}
 use Rattle.std.proofs.Common.{Bool, true, false, T, Option, Some, None, if◌then◌else◌, le-leb, leb→le}
 use Rattle.std.proofs.Common.{SFits, to_z, of_z, to_z-of_z}
