@@ -8,7 +8,7 @@ use crate::operations::{add, mul, sub};
 use crate::short::short_less;
 use crate::small::small_less;
 
-/// `s` and `v * w`. Refused at the product or else at the sum, with that operation and its operands.
+/// `s + v * w`. Refused at the product or else at the sum, with that operation and its operands.
 pub fn plus_product(v: Frac, w: Frac, s: Frac) -> Result<Frac, Past>
     ensures { result ≡ run.plus_product (Some number_limit) v w s }
 {
@@ -16,7 +16,7 @@ pub fn plus_product(v: Frac, w: Frac, s: Frac) -> Result<Frac, Past>
     add(s, product)
 }
 
-// The product, and then the difference.
+// `s - v * w`, by the product and then the difference.
 fn long_less(v: Frac, w: Frac, s: Frac) -> Result<Frac, Past>
     ensures { result ≡ run.less_product (Some number_limit) v w s }
 {
@@ -24,7 +24,7 @@ fn long_less(v: Frac, w: Frac, s: Frac) -> Result<Frac, Past>
     sub(s, product)
 }
 
-// `s` less `v * w`, where some number on the way is past 32 bits.
+// `s - v * w`, where some number on the way is past 32 bits.
 #[inline(never)]
 fn wide_less(v: Frac, w: Frac, s: Frac) -> Result<Frac, Past>
     ensures { result ≡ run.less_product (Some number_limit) v w s }
@@ -35,7 +35,7 @@ fn wide_less(v: Frac, w: Frac, s: Frac) -> Result<Frac, Past>
     }
 }
 
-// The same. Its operands are copied on this way alone, since `wide_less` is not inlined.
+// `s - v * w`, as `wide_less` gives it. The operands are copied on this way alone, since `wide_less` is not inlined.
 #[inline(always)]
 fn else_wide_less(v: Frac, w: Frac, s: Frac) -> Result<Frac, Past>
     ensures { result ≡ run.less_product (Some number_limit) v w s }
@@ -43,7 +43,7 @@ fn else_wide_less(v: Frac, w: Frac, s: Frac) -> Result<Frac, Past>
     wide_less(v, w, s)
 }
 
-/// `s` less `v * w`. Refused at the product or else at the difference, with that operation and its
+/// `s - v * w`. Refused at the product or else at the difference, with that operation and its
 /// operands. Its result is not copied, since it is inlined.
 #[inline(always)]
 pub fn less_product(v: Frac, w: Frac, s: Frac) -> Result<Frac, Past>

@@ -25,6 +25,7 @@ pub fn den(v: Frac) -> i128
     v.bottom() as i128
 }
 
+// Whether the numerator is 0.
 fn has_top_zero(v: Frac) -> bool
     ensures { IsTrue result ↔ (v.num ≡ pos 0) }
 {
@@ -45,7 +46,7 @@ pub fn within(v: Frac)
     let (_, _) = (v.top(), v.bottom());
 }
 
-/// The same of each fraction of a list.
+/// Both parts of each fraction of a list are within the limit. It does nothing: proofs call it for this fact.
 pub fn all_within(vs: &[Frac])
     ensures { All (IsWithin number_limit) vs.now }
 {
@@ -54,14 +55,14 @@ pub fn all_within(vs: &[Frac])
     }
 }
 
-/// The negative.
+/// The negative of `v`.
 pub fn neg(v: Frac) -> Frac
     ensures { result ≡ neg_ℚ v }
 {
     Frac::make(-v.top(), v.bottom())
 }
 
-/// The magnitude.
+/// The magnitude of `v`.
 pub fn abs(v: Frac) -> Frac
     ensures { result ≡ abs_ℚ v }
 {

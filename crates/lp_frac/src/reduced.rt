@@ -6,6 +6,7 @@ use crate::divisors::common;
 use crate::frac::{Frac, FracFault, LARGEST};
 use crate::limited::{are_opposite, signed};
 
+// The fraction `a / b` in lowest terms, or why there is none.
 fn fraction(a: i128, b: i128) -> Result<Frac, FracFault>
     ensures { result ≡ fraction_of a b }
 {
