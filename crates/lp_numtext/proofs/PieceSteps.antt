@@ -1,4 +1,10 @@
 -- What follows the first byte that passes a test.
+--
+-- `behind_some`: where a byte passes the test first at a place, the bytes behind the place are what follows it.
+-- `behind_none`: where no byte passes the test, nothing follows.
+-- `after`: what follows the first such byte, or else nothing, is the text after it.
+-- `unwrapped`: taking the default of an option of slices commutes with taking their bytes.
+-- `decimal_is`: digits around a point with at least one of them, and an exponent, are a decimal by the text's rule.
 use Rattle.std.proofs.Common.{◌++◌, ℤ, ap₂, Bor, ◌≡◌, ℕ, suc, ◌+◌, ◌-◌, Bool, true, false, cond, not, ◌||◌, ltb, Option}
 use Rattle.std.proofs.Common.{Some, None, List, [], ◌∷◌, length, take, drop, length-drop, refl, sym, ap, ◌∙◌, arith}
 use Rattle.std.specs.List.{list_any, position, position_or_len, before_first, after_first}

@@ -1,4 +1,13 @@
 -- The bound that a text is, by the size of its number.
+--
+-- `IsProper`: a number's parts are proper where they are no quotient by 0.
+-- `infinite_word`: a text that is a word for infinity is an infinite bound of its sign.
+-- `no_bound`: a text that is neither a number nor a word for infinity is no bound.
+-- `infinite_number`: a proper number of size 10^20 or more is an infinite bound of its sign.
+-- `finite_number`: a proper number of a smaller size is the bound that it is read as.
+-- `finite_answer`: a number that is read as a fraction is a finite bound, by this fraction.
+-- `fault_answer`: a number that is refused is refused as a bound, by the same fault.
+-- `seen_proper`: the parts that the code holds are proper.
 use Rattle.std.proofs.Common.{◌≡◌, ℕ, suc, ◌*◌, ◌^◌, ◌<◌, ◌≤◌, Bool, true, false, not, cond}
 use Rattle.std.proofs.Common.{List, [], ◌∷◌, refl, sym, ap, ◌∙◌, arith, Some, None, leb}
 use Rattle.std.proofs.Common.{leb-true, ℤ, pos, negsuc, neg_ℤ, ◌≤ℤ◌, ◌<ℤ◌, ◌*ℤ◌, subst, subst₂}
