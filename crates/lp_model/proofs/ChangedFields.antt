@@ -1,4 +1,4 @@
--- What a change of a field leaves, as the fields say it: a model that may be kept.
+-- Changing one field of a row or a column leaves a model that may be kept.
 use Rattle.std.proofs.Common.{◌≡◌, ℕ, ◌<◌, List, Option, Result, Ok, Err, get_or, set, IfSome}
 use Rattle.std.proofs.Common.{refl, sym, ap, ap₂, ◌∙◌, subst}
 use Rattle.std.specs.Prelude.{OnOk, OnErr}

@@ -1,4 +1,4 @@
--- Where the entry of a row stands or belongs, by a binary search.
+-- A binary search among a column's entries finds where that of a row stands or belongs.
 use Rattle.std.proofs.Common.{◌≡◌, ℕ, ◌+◌, ◌<◌, ◌≤◌, List, length, get_or, take, drop, Ok, Err, Result}
 use Rattle.std.proofs.Common.{sym, ap, subst, arith, length-take, length-drop, get_or-take, get_or-drop}
 use Rattle.std.specs.List.{AllPairs, All, HoldsAt}

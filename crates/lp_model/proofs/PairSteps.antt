@@ -1,4 +1,4 @@
--- What a pair of a new column does to the entries of those before it.
+-- Reading one more pair of a new column: a fault of its row's name, or one more entry.
 use Rattle.std.proofs.Common.{◌≡◌, ℕ, ◌+◌, ◌<◌, Bool, true, false, cond, Option, Some, None, Err, List, []}
 use Rattle.std.proofs.Common.{◌∷◌, ◌++◌, length, get_or, take, drop, IfSome, sym, ap, ap₂, ◌∙◌, subst, add-one}
 use Rattle.std.specs.List.{slice_get}

@@ -1,4 +1,4 @@
--- A column's entries split at a row, and what changes of them leave.
+-- A column's entries before, at and behind a row, and what setting the row's entry or taking the row out makes of them.
 use Rattle.std.proofs.Common.{◌≡◌, ◌≢◌, ℕ, ◌+◌, ◌-◌, ◌<◌, Bool, true, false, not, cond, eqb, ltb, List}
 use Rattle.std.proofs.Common.{[], ◌∷◌, ◌++◌, map, length, get_or, set, take, drop, All, refl, sym, ap, ap₂}
 use Rattle.std.proofs.Common.{◌∙◌, arith, eq-eqb, ne_eqb, add-one, drop-cons, append_assoc, append-nil}
