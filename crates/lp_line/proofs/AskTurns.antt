@@ -1,4 +1,4 @@
--- The asks that lines complete, by what they say.
+-- The asks that lines of a script complete, from what the lines say of it.
 use Rattle.std.proofs.Common.{◌≡◌, ◌≢◌, ℕ, ◌≤◌, ◌<◌, ◌^◌, List, [], ◌∷◌, ◌++◌, Option, Some, None, Result, Ok, Err}
 use Rattle.std.proofs.Common.{Bool, true, false, cond, ap, sym, ◌∙◌, append-nil, refl, inl, inr, subst}
 use Rattle.std.proofs.lemmas.List.Elements.{All-head, All-tail, All-push}

@@ -1,4 +1,4 @@
--- What reading an edit answers, where it stops.
+-- Where reading an edit stops at the fault of its words, the answer is that fault.
 use Rattle.std.proofs.Common.{◌≡◌, Result, Err, sym, subst, ap, ◌∙◌}
 use Rattle.spec_server.specs.declared.command.LineFault.{LineFault}
 use Rattle.spec_server.specs.EditCommand.{Reads}

@@ -1,4 +1,4 @@
--- Lines one after the other.
+-- The text of the first lines of a list with one more line is their text and that line's.
 use Rattle.std.proofs.Common.{◌≡◌, ℕ, ◌+◌, List, [], ◌∷◌, ◌++◌, take, Some, ap, ◌∙◌, append-nil, add-one}
 use Rattle.std.specs.List.{flat_map, slice_get}
 use Rattle.std.proofs.Math.Seq.{take-suc}

@@ -1,4 +1,4 @@
--- The words of a new column.
+-- What the words of a new column are read as: its name, its cost and pairs, or the first fault.
 use Rattle.std.proofs.Common.{◌≡◌, ◌≢◌, ◌%◌, ℕ, List, [], ◌∷◌, Option, Some, None, option_map, Result, Ok, Err, length}
 use Rattle.std.proofs.Common.{refl, ap, sym, ◌∙◌, subst, arith}
 use Rattle.std.specs.Prelude.{IfSome}

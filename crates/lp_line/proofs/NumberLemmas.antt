@@ -1,4 +1,4 @@
--- Numbers in digits.
+-- Digits that come to more than the last number are no number, whatever follows.
 use Rattle.std.proofs.Common.{◌≡◌, ℕ, suc, ◌+◌, ◌-◌, ◌*◌, ◌<◌, List, length, drop, get_or, Some, None}
 use Rattle.std.proofs.Common.{Bool, true, false, ◌&&◌, not, cond, nat_le, nat_lt, arith, ap, ◌∙◌, refl}
 use Rattle.std.proofs.Math.Seq.{drop-cons}

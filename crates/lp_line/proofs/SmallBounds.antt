@@ -1,4 +1,4 @@
--- Finite bounds of a line are small.
+-- A finite bound that is read is less than 10^20 from 0.
 use Rattle.std.proofs.Common.{◌≡◌, ℕ, List, Ok, refl, ap, ◌∙◌}
 use Rattle.spec_exact.specs.Fraction.{ℚ, abs_ℚ, ◌<ℚ◌}
 use Rattle.spec_mps.specs.declared.number.BoundValue.TheVariants as value
