@@ -3,3 +3,4 @@ pub mod PackedPlaces
 pub mod PackedBases
 pub mod Back
 pub mod SharedPlaces
+pub mod Newest

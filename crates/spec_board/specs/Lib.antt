@@ -2,3 +2,4 @@ pub mod Words
 pub mod Reads
 pub mod Places
 pub mod Orders
+pub mod Newest

@@ -1,5 +1,7 @@
 -- Places, and how they answer what is read of them.
-use Rattle.std.specs.Prelude.{ℕ, suc, zero, ◌≡◌, ◌⊎◌, ◌<◌, ◌++◌, Option, Some, None, List, [], ◌∷◌, length, map}
+use Rattle.std.specs.Prelude.{ℕ, suc, zero, ◌≡◌, ◌==◌, ◌⊎◌, ◌<◌, ◌++◌, Option, Some, None, List, [], ◌∷◌, length, map}
+use Rattle.std.specs.Prelude.{if◌then◌else◌}
+use Rattle.std.specs.List.{flat_map}
 use Rattle.spec_board.specs.declared.place.Place.{Place}
 use Rattle.spec_board.specs.declared.place.Place.TheVariants as place
 use Rattle.spec_board.specs.declared.read.Read.TheVariants.{Count, NotDone, Seen, Claim, Lost, Done}
@@ -46,6 +48,10 @@ pub record Logged : Type 0 where
 -- the reads of one session, each with the session's number
 abbrev pub logged : ℕ → List ExactRead → List Logged
 logged session reads = map (λ read. record { session = session; read = read }) reads
+
+-- the reads of a session among those of all
+abbrev pub reads_in : ℕ → List Logged → List ExactRead
+reads_in session log = flat_map (λ x. if x.session == session then x.read ∷ [] else []) log
 
 -- the reads of all sessions in one order, each answered by the places as they are then
 abbrev pub Plays : ℕ → List ExactPlace → List Logged → List ExactPlace → Type 0

@@ -16,6 +16,7 @@
 //! | `Answers`, `Plays` | reads that the places answer, one and all in one order | specs/Places |
 //! | `AreInOrder`, `AreBacked` | what the reads of one say of each other, and those of all | specs/Orders |
 //! | `HaveOneOrder` | that the reads of all stand in one order, which the places answer | specs/Orders |
+//! | `LooksFindTheNewest` | what a look finds while others publish | specs/Newest |
 //!
 //! The functions here have the laws as their contracts.
 //!
@@ -34,6 +35,7 @@ ghost use Rattle.spec_simplex.specs.Form.{Form, IsForm};
 ghost use Rattle.spec_simplex.specs.Eliminate.{IsBasisOf};
 ghost use Rattle.spec_board.specs.Words.{shape_of, packed, unpacked, IsWellFormed, SameShape, places};
 ghost use Rattle.spec_board.specs.Words.{rows_of, cols_of, bounds_at, form_code, basis_code, code_at};
+ghost use Rattle.spec_board.specs.Newest.{LooksFindTheNewest};
 
 pub use place::Place;
 pub use read::{Found, Put, Read};
@@ -79,4 +81,10 @@ pub fn bits_stand_at_their_columns()
         c < places → bounds_at (packed f basis) c ≡ form_code f c }
     ensures statuses { (f : Form) (basis : List Status) (c : ℕ) →
         c < places → code_at 25 (packed f basis) c ≡ basis_code basis c }
+{}
+
+/// A look finds a place that is done with its shape when it begins, or a newer one, whatever other sessions do
+/// meanwhile.
+pub fn looks_find_the_newest()
+    ensures { LooksFindTheNewest }
 {}

@@ -10,8 +10,8 @@ use Rattle.spec_board.specs.declared.read.Read.TheVariants.{Count, NotDone, Seen
 use Rattle.spec_board.specs.Reads.{ExactRead}
 use Rattle.spec_board.specs.Places.{ExactPlace, place_at, Answers, Logged, Plays}
 use Rattle.spec_board.specs.Orders.{InPairs, AreInOrder, published_by}
-use Rattle.spec_board.proofs.SharedPlaces.{with_same, some_same}
-use Rattle.spec_serve.proofs.LeftPlaces.{place_below, answers_keep, answers_grow}
+use Rattle.spec_board.proofs.SharedPlaces.{with_same, some_same, place_below, answers_keep}
+use Rattle.spec_serve.proofs.LeftPlaces.{answers_grow}
 
 -- ---- what a later read is, once so many places are claimed
 

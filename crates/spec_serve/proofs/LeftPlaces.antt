@@ -1,7 +1,6 @@
 -- What reads and writes leave of the places.
 --
 -- `place_some`: each number below that of the claimed places has a place.
--- `place_below`: a number that has a place is below the number of places.
 -- `logged-append`: the log of two lists of reads of a session is that of the first and then that of the second.
 -- `plays_keep_done`: a place that is done stays so, with its words, over all reads that the places answer.
 -- `Plays-split`: where the places answer two lists of reads in order, they answer the first, and then the second.
@@ -13,7 +12,7 @@ use Rattle.spec_board.specs.declared.place.Place.TheVariants.{Claimed, Done}
 use Rattle.spec_board.specs.declared.read.Read.TheVariants as read
 use Rattle.spec_board.specs.Reads.{ExactRead}
 use Rattle.spec_board.specs.Places.{ExactPlace, place_at, with_place, Answers, Logged, logged, Plays}
-use Rattle.spec_board.proofs.SharedPlaces.{place_more, some_same, place_before, length_with, with_same, with_other}
+use Rattle.spec_board.proofs.SharedPlaces.{some_same, place_before, length_with, with_same, with_other, answers_keep}
 pub use Rattle.spec_server.proofs.RunLemmas.{Plays-append}
 
 -- ---- one more place
@@ -23,27 +22,9 @@ place_some [] k h = absurd (omega arith)
 place_some (p ∷ ps) zero h = (p, refl)
 place_some (p ∷ ps) (suc k) h = place_some ps k (omega arith)
 
-pub place_below : (ps : List ExactPlace) (k : ℕ) (p : ExactPlace) → place_at ps k ≡ Some p → k < length ps
-place_below [] k p h = cc
-place_below (q ∷ ps) zero p h = omega arith
-place_below (q ∷ ps) (suc k) p h = let l = place_below ps k p h in omega arith
-
 -- ---- reads
 
 module _ (places : ℕ) (session : ℕ) where
-  -- a place stays as it is, unless it is the one that the session has claimed
-  pub answers_keep : (now next : List ExactPlace) (r : ExactRead) (k : ℕ) (p : ExactPlace) →
-      Answers places now session r next → (p ≡ Claimed session → ⊥) → place_at now k ≡ Some p → place_at next k ≡ Some p
-  answers_keep now next (read.Count c) k p a other h = subst (λ ps. place_at ps k ≡ Some p) (sym a.1) h
-  answers_keep now next (read.NotDone j) k p a other h = subst (λ ps. place_at ps k ≡ Some p) (sym a.2) h
-  answers_keep now next (read.Seen j words) k p a other h = subst (λ ps. place_at ps k ≡ Some p) (sym a.3) h
-  answers_keep now next (read.Claim j) k p a other h =
-      subst (λ ps. place_at ps k ≡ Some p) (sym a.2) (place_more now k p (Claimed session) h)
-  answers_keep now next (read.Lost c) k p a other h = subst (λ ps. place_at ps k ≡ Some p) (sym a.1) h
-  answers_keep now next (read.Done j words) k p a other h =
-      let apart : j ≡ k → ⊥ = λ e. other (some_same p (Claimed session) (sym h ∙ sym (ap (place_at now) e) ∙ a.0)) in
-      subst (λ ps. place_at ps k ≡ Some p) (sym a.1) (with_other now j k (Done words) apart ∙ h)
-
   pub answers_grow : (now next : List ExactPlace) (r : ExactRead) → Answers places now session r next →
       length now ≤ length next
   answers_grow now next (read.Count c) a = let e : length next ≡ length now = ap length a.1 in omega arith

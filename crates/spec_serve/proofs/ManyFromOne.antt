@@ -16,7 +16,8 @@ use Rattle.spec_board.specs.Orders.{InPairs, AreInOrder, published_by, published
 use Rattle.spec_server.specs.Machine.{opening}
 use Rattle.spec_server.specs.Exchanges.{Exchange, log_of, RunFits}
 use Rattle.spec_serve.specs.Workers.{reads_in_all, reads_of_worker, exchanges_of_worker, logs_of, ManyFits, RunsBy}
-use Rattle.spec_serve.proofs.LeftPlaces.{place_some, place_below, answers_grow, answers_before}
+use Rattle.spec_board.proofs.SharedPlaces.{place_below}
+use Rattle.spec_serve.proofs.LeftPlaces.{place_some, answers_grow, answers_before}
 use Rattle.spec_serve.proofs.InOrder.{served, served_in_order, published, published_once}
 use Rattle.spec_serve.proofs.AllDone.{NoneClaimed, all_done}
 

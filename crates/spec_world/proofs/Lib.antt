@@ -18,4 +18,3 @@ pub mod FromTogether
 pub mod FormWords
 pub mod FormedWords
 pub mod FormedWorlds
-pub mod Newest

@@ -11,16 +11,17 @@ use Rattle.std.proofs.lemmas.Bool.{eqb-false, eq-eqb, ne_eqb}
 use Rattle.std.proofs.lemmas.List.{append-nil}
 use Rattle.std.proofs.lemmas.Grind.{flat_map-append}
 use Rattle.spec_board.proofs.PackedPlaces.{packed_length}
+use Rattle.spec_board.proofs.SharedPlaces.{answers_keep}
 use Rattle.spec_board.specs.declared.place.Place.TheVariants as place
 use Rattle.spec_board.specs.declared.read.Read.TheVariants as read
 use Rattle.spec_board.specs.Reads.{ExactRead, basis_words}
-use Rattle.spec_board.specs.Places.{ExactPlace, place_at, Logged, Plays, logged}
+use Rattle.spec_board.specs.Places.{ExactPlace, place_at, Logged, reads_in, Plays, logged}
 use Rattle.spec_server.specs.Machine.{opening}
 use Rattle.spec_server.specs.Exchanges.{AloneRun}
-use Rattle.spec_serve.proofs.LeftPlaces.{answers_keep, answers_grow, answers_bounded, answers_before, Plays-append}
+use Rattle.spec_serve.proofs.LeftPlaces.{answers_grow, answers_bounded, answers_before, Plays-append}
 use Rattle.spec_world.specs.World.{Server, ExactEvent, ExactEnd, Session, World, opening_world, is_enabled, Takes}
 use Rattle.spec_world.specs.World.{StepBy, WorldStep, WorldRun}
-use Rattle.spec_world.specs.Sound.{asks_of, reads_of, asks_by, asks_in, reads_in, IsPublisher, IsSound}
+use Rattle.spec_world.specs.Sound.{asks_of, reads_of, asks_by, asks_in, IsPublisher, IsSound}
 use Rattle.spec_world.proofs.Stages.{StageFits, stage_keeps}
 use Rattle.spec_world.proofs.OneAct.{Moved}
 use Rattle.spec_world.proofs.Acts.{act_moved}

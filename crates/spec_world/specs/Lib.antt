@@ -1,4 +1,3 @@
 pub mod World
 pub mod Sound
 pub mod Together
-pub mod Newest

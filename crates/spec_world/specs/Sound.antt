@@ -15,7 +15,7 @@ use Rattle.spec_board.specs.Words.{packed}
 use Rattle.spec_board.specs.declared.place.Place.TheVariants as place
 use Rattle.spec_board.specs.declared.read.Read.TheVariants as read
 use Rattle.spec_board.specs.Reads.{Words, ExactRead, Looked, LookReads}
-use Rattle.spec_board.specs.Places.{place_at, Logged, logged, Plays}
+use Rattle.spec_board.specs.Places.{place_at, Logged, logged, reads_in, Plays}
 use Rattle.spec_server.specs.Machine.{ExactAsk, ExactReply, IsKeptAsk, State, opening}
 use Rattle.spec_server.specs.Step.{Looks, Begins, handed_by}
 use Rattle.spec_server.specs.Exchanges.{Exchange, AloneRun}
@@ -57,10 +57,6 @@ asks_by other = []
 -- the asks of a session in a list of events
 abbrev pub asks_in : ℕ → List ExactEvent → List ExactAsk
 asks_in session events = flat_map (λ e. if e.session == session then asks_by e.act else []) events
-
--- the reads of a session among those of all
-abbrev pub reads_in : ℕ → List Logged → List ExactRead
-reads_in session log = flat_map (λ x. if x.session == session then x.read ∷ [] else []) log
 
 -- ---- who published what
 

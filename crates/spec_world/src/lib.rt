@@ -11,7 +11,6 @@
 //! | `PutsBasis` | that a session published the basis of its solve | specs/Sound |
 //! | `AreKeptEvents` | events whose models and edits may be kept | specs/Sound |
 //! | `ReadsNow`, `EndFits` | what holds of each event | specs/Sound |
-//! | `LooksFindTheNewest` | what a look finds while others publish | specs/Newest |
 //! | `Together` | worlds in which the events of each ask stand together | specs/Together |
 //!
 //! An event is what one session does while no other does anything: it is asked, reads how many places are claimed,
@@ -31,7 +30,6 @@ ghost use Rattle.spec_world.specs.World.{Server, ExactEvent, ExactEnd, World, op
 ghost use Rattle.spec_world.specs.World.{WorldStep, WorldRun};
 ghost use Rattle.spec_world.specs.Sound.{IsSound, AreKeptEvents, ReadsNow, EndFits};
 ghost use Rattle.spec_world.specs.Together.{Together, HaveSessions};
-ghost use Rattle.spec_world.specs.Newest.{LooksFindTheNewest};
 
 mod event;
 
@@ -99,10 +97,4 @@ pub fn one_worker_is_a_world()
         (world : World) × Together server opening_world xs world }
     ensures fits { (server : Server) (xs : List Exchange) (world : World) → Together server opening_world xs world →
         RunFits server.places xs }
-{}
-
-/// A look finds a place that is done with its shape when it begins, or a newer one, whatever other sessions do
-/// meanwhile.
-pub fn looks_find_the_newest()
-    ensures { LooksFindTheNewest }
 {}

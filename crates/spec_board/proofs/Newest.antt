@@ -5,12 +5,10 @@ use Rattle.std.proofs.lemmas.Bool.{cases_eq}
 use Rattle.spec_board.specs.declared.place.Place.TheVariants as place
 use Rattle.spec_board.specs.declared.read.Read.TheVariants.{Count, NotDone, Seen, Claim, Lost, Done}
 use Rattle.spec_board.specs.Reads.{Words, ExactRead, Looked, front, has_shape, SeenBy, SeesDown, LookReads}
-use Rattle.spec_board.specs.Places.{ExactPlace, place_at, IsShown, Answers, Logged, Plays}
-use Rattle.spec_board.proofs.SharedPlaces.{some_same}
+use Rattle.spec_board.specs.Places.{ExactPlace, place_at, IsShown, Answers, Logged, reads_in, Plays}
+use Rattle.spec_board.proofs.SharedPlaces.{some_same, place_below, answers_keep}
 use Rattle.spec_text.specs.Words.{same}
-use Rattle.spec_serve.proofs.LeftPlaces.{place_below, answers_keep}
-use Rattle.spec_world.specs.Sound.{reads_in}
-use Rattle.spec_world.specs.Newest.{FindsFrom}
+use Rattle.spec_board.specs.Newest.{FindsFrom}
 
 -- ---- words in front
 

@@ -1,10 +1,9 @@
--- What a look finds of the places that others claim and write at the same time.
+-- What a look finds of the places that other sessions claim and write at the same time.
 use Rattle.std.specs.Prelude.{ℕ, ◌≡◌, ◌≤◌, true, Some, List}
 use Rattle.spec_board.specs.declared.place.Place.TheVariants as place
 use Rattle.spec_board.specs.declared.read.Found.{Found}
 use Rattle.spec_board.specs.Reads.{Words, Looked, LookReads, has_shape}
-use Rattle.spec_board.specs.Places.{ExactPlace, place_at, Logged, Plays}
-use Rattle.spec_world.specs.Sound.{reads_in}
+use Rattle.spec_board.specs.Places.{ExactPlace, place_at, Logged, reads_in, Plays}
 
 -- a place was found, this one or a newer one
 abbrev pub FindsFrom : ℕ → Looked → Type 0
