@@ -8,10 +8,10 @@ mod search;
 use crate::factors::active::{Active, active_of};
 use crate::factors::buckets::Buckets;
 pub use crate::factors::by_steps::{Marked, Ordered, Sparse, order_factors};
-use crate::factors::elimination::{Steps, eliminate};
+use crate::factors::elimination::eliminate;
 use crate::factors::search::next_pivot;
 use crate::field::Field;
-use crate::lines::{Entry, Lines, at};
+use crate::lines::{Entry, Lines, at, turned};
 use crate::matrix::Matrix;
 use std::alloc::{AllocError, Global};
 
@@ -29,6 +29,29 @@ pub struct Factors<F: Field> {
     pub(crate) upper: Lines<F>,
     /// Of each column what the pivots' rows before have in it, by the pivot's row.
     pub(crate) upper_turned: Lines<F>,
+}
+
+impl<F: Field> Factors<F> {
+    /// No steps yet.
+    pub(crate) fn new(alloc: Global) -> Self {
+        Factors {
+            rows: Vec::new(alloc),
+            columns: Vec::new(alloc),
+            inverses: Vec::new(alloc),
+            lower: Lines::new(alloc),
+            lower_turned: Lines::new(alloc),
+            upper: Lines::new(alloc),
+            upper_turned: Lines::new(alloc),
+        }
+    }
+
+    // Turns both factors, once all steps are noted.
+    fn turn(&mut self, alloc: Global) -> Result<(), AllocError> {
+        let len = self.rows.len();
+        self.lower_turned = turned(alloc, &self.lower, &self.rows, len, F::zero())?;
+        self.upper_turned = turned(alloc, &self.upper, &self.rows, len, F::zero())?;
+        Ok(())
+    }
 }
 
 impl<F: Field> Drop for Factors<F> {
@@ -182,18 +205,21 @@ impl<F: Field> Factors<F> {
     }
 }
 
-// The steps of an elimination, until there is no pivot.
-fn eliminated<F: Field>(alloc: Global, active: &mut Active<F>) -> Result<Steps<F>, AllocError> {
-    let mut steps = Steps::new(alloc);
+// Notes the steps of an elimination, until there is no pivot.
+fn eliminate_all<F: Field>(
+    alloc: Global,
+    active: &mut Active<F>,
+    factors: &mut Factors<F>,
+) -> Result<(), AllocError> {
     for _ in 0..active.rows.len() {
         let Some(pivot) = next_pivot(active) else {
-            return Ok(steps);
+            return Ok(());
         };
-        if !eliminate(alloc, active, pivot, &mut steps)? {
-            return Ok(steps);
+        if !eliminate(alloc, active, pivot, factors)? {
+            return Ok(());
         }
     }
-    Ok(steps)
+    Ok(())
 }
 
 // Those that are left.
@@ -207,16 +233,35 @@ fn left(alloc: Global, buckets: &Buckets, len: usize) -> Result<Vec<usize>, Allo
     Ok(list)
 }
 
+// What is left without a pivot.
+fn singular<F: Field>(alloc: Global, active: &Active<F>) -> Result<Factored<F>, AllocError> {
+    let rows = left(alloc, &active.by_row, active.rows.len())?;
+    let columns = left(alloc, &active.by_column, active.columns.len())?;
+    Ok(Factored::Singular { rows, columns })
+}
+
+// Factors a matrix. Whether each row and column has a pivot.
+fn has_factors<F: Field>(
+    alloc: Global,
+    active: &mut Active<F>,
+    factors: &mut Factors<F>,
+) -> Result<bool, AllocError> {
+    let (rows, columns) = (active.rows.len(), active.columns.len());
+    eliminate_all(alloc, active, factors)?;
+    if rows != columns || factors.rows.len() != rows {
+        return Ok(false);
+    }
+    factors.turn(alloc)?;
+    Ok(true)
+}
+
 /// The factors of a matrix, or a largest regular part of it.
 pub fn factorize<F: Field>(alloc: Global, matrix: &Matrix<F>) -> Result<Factored<F>, AllocError> {
-    let (rows, columns) = (matrix.rows(), matrix.columns());
     let mut active = active_of(alloc, matrix)?;
-    let steps = eliminated(alloc, &mut active)?;
-    if rows == columns && steps.rows.len() == rows {
-        return Ok(Factored::Regular(steps.into_factors(alloc)?));
+    let mut factors = Factors::new(alloc);
+    if has_factors(alloc, &mut active, &mut factors)? {
+        Ok(Factored::Regular(factors))
+    } else {
+        singular(alloc, &active)
     }
-    Ok(Factored::Singular {
-        rows: left(alloc, &active.by_row, rows)?,
-        columns: left(alloc, &active.by_column, columns)?,
-    })
 }

@@ -35,13 +35,16 @@ impl<F: Field> Drop for Active<F> {
     }
 }
 
-// So many rows with no numbers.
-fn no_rows<F: Field>(alloc: Global, len: usize) -> Result<Vec<Vec<Entry<F>>>, AllocError> {
-    let mut list = Vec::new(alloc);
+// Puts so many rows with no numbers.
+fn put_rows<F: Field>(
+    alloc: Global,
+    rows: &mut Vec<Vec<Entry<F>>>,
+    len: usize,
+) -> Result<(), AllocError> {
     for _ in 0..len {
-        list.push(Vec::new(alloc))?;
+        rows.push(Vec::new(alloc))?;
     }
-    Ok(list)
+    Ok(())
 }
 
 // Puts the numbers of a column into their rows, and gives the rows.
@@ -64,30 +67,11 @@ fn spread<F: Field>(
     Ok(places)
 }
 
-// The counts of rows.
-fn buckets_of_rows<F: Field>(
-    alloc: Global,
-    rows: &[Vec<Entry<F>>],
-    most: usize,
-) -> Result<Buckets, AllocError> {
-    let mut buckets = Buckets::new(alloc, rows.len(), most)?;
-    for (i, row) in rows.iter().enumerate() {
-        buckets.insert(i, row.len());
+// Counts rows or columns.
+fn count<T>(buckets: &mut Buckets, lists: &[Vec<T>]) {
+    for (k, list) in lists.iter().enumerate() {
+        buckets.insert(k, list.len());
     }
-    Ok(buckets)
-}
-
-// The counts of columns.
-fn buckets_of_columns(
-    alloc: Global,
-    columns: &[Vec<usize>],
-    most: usize,
-) -> Result<Buckets, AllocError> {
-    let mut buckets = Buckets::new(alloc, columns.len(), most)?;
-    for (j, column) in columns.iter().enumerate() {
-        buckets.insert(j, column.len());
-    }
-    Ok(buckets)
 }
 
 /// A whole matrix.
@@ -95,24 +79,39 @@ pub(crate) fn active_of<F: Field>(
     alloc: Global,
     matrix: &Matrix<F>,
 ) -> Result<Active<F>, AllocError> {
-    let mut rows = no_rows(alloc, matrix.rows())?;
-    let mut columns = Vec::new(alloc);
-    for j in 0..matrix.columns() {
-        columns.push(spread(alloc, &mut rows, matrix.column(j), j)?)?;
-    }
-    let by_row = buckets_of_rows(alloc, &rows, matrix.columns())?;
-    let by_column = buckets_of_columns(alloc, &columns, matrix.rows())?;
-    let marks = Vec::from_elem(alloc, 0usize, matrix.columns())?;
-    Ok(Active {
-        rows,
-        columns,
-        by_row,
-        by_column,
-        marks,
-    })
+    let mut active = Active {
+        rows: Vec::new(alloc),
+        columns: Vec::new(alloc),
+        by_row: Buckets::new(alloc),
+        by_column: Buckets::new(alloc),
+        marks: Vec::new(alloc),
+    };
+    active.put_matrix(alloc, matrix)?;
+    active.note_counts(matrix.rows(), matrix.columns())?;
+    Ok(active)
 }
 
 impl<F: Field> Active<F> {
+    // Puts the numbers of a matrix in.
+    fn put_matrix(&mut self, alloc: Global, matrix: &Matrix<F>) -> Result<(), AllocError> {
+        put_rows(alloc, &mut self.rows, matrix.rows())?;
+        for j in 0..matrix.columns() {
+            self.columns
+                .push(spread(alloc, &mut self.rows, matrix.column(j), j)?)?;
+        }
+        Ok(())
+    }
+
+    // Notes how many numbers each row and column has.
+    fn note_counts(&mut self, rows: usize, columns: usize) -> Result<(), AllocError> {
+        self.by_row.lengthen(rows, columns)?;
+        self.by_column.lengthen(columns, rows)?;
+        self.marks.resize(columns, 0)?;
+        count(&mut self.by_row, &self.rows);
+        count(&mut self.by_column, &self.columns);
+        Ok(())
+    }
+
     /// Takes the numbers of a row out.
     pub(crate) fn take_row(&mut self, alloc: Global, i: usize) -> Vec<Entry<F>> {
         match self.rows.get_mut(i) {

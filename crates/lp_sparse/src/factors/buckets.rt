@@ -29,14 +29,23 @@ impl Drop for Buckets {
 }
 
 impl Buckets {
-    /// Nothing yet of so many rows or columns, whose counts are at most `most`.
-    pub(crate) fn new(alloc: Global, len: usize, most: usize) -> Result<Self, AllocError> {
-        Ok(Buckets {
-            firsts: Vec::from_elem(alloc, NONE, most.saturating_add(1))?,
-            nexts: Vec::from_elem(alloc, NONE, len)?,
-            previous: Vec::from_elem(alloc, NONE, len)?,
-            counts: Vec::from_elem(alloc, NONE, len)?,
-        })
+    /// No rows or columns.
+    pub(crate) fn new(alloc: Global) -> Self {
+        Buckets {
+            firsts: Vec::new(alloc),
+            nexts: Vec::new(alloc),
+            previous: Vec::new(alloc),
+            counts: Vec::new(alloc),
+        }
+    }
+
+    /// Makes room for so many rows or columns, whose counts are at most `most`.
+    pub(crate) fn lengthen(&mut self, len: usize, most: usize) -> Result<(), AllocError> {
+        self.firsts.resize(most.saturating_add(1), NONE)?;
+        self.nexts.resize(len, NONE)?;
+        self.previous.resize(len, NONE)?;
+        self.counts.resize(len, NONE)?;
+        Ok(())
     }
 
     /// The first one with this count.

@@ -201,13 +201,13 @@ impl<F: Field> Drop for Ordered<F> {
     }
 }
 
-// The step of each row or column.
-fn steps_of(alloc: Global, names: &[usize]) -> Result<Vec<usize>, AllocError> {
-    let mut steps = Vec::from_elem(alloc, 0usize, names.len())?;
+// Puts the step of each row or column into an empty list.
+fn put_steps(steps: &mut Vec<usize>, names: &[usize]) -> Result<(), AllocError> {
+    steps.resize(names.len(), 0)?;
     for (step, name) in names.iter().enumerate() {
-        put(&mut steps, *name, step);
+        put(steps, *name, step);
     }
-    Ok(steps)
+    Ok(())
 }
 
 // Puts a line's numbers into lines, by the steps of their places.
@@ -222,27 +222,74 @@ fn put_line<F: Field>(
     lines.end()
 }
 
-// The lines of these names, by the steps of their places.
-fn lines_by_steps<F: Field>(
-    alloc: Global,
+// Puts lines, by the steps of their places.
+fn put_lines<F: Field>(
+    list: &mut Lines<F>,
+    lines: &Lines<F>,
+    steps: &[usize],
+) -> Result<(), AllocError> {
+    for k in 0..lines.len() {
+        put_line(list, lines.line(k), steps)?;
+    }
+    Ok(())
+}
+
+// Puts the lines of these names, by the steps of their places.
+fn put_named<F: Field>(
+    list: &mut Lines<F>,
     lines: &Lines<F>,
     names: &[usize],
     steps: &[usize],
-) -> Result<Lines<F>, AllocError> {
-    let mut list = Lines::new(alloc);
+) -> Result<(), AllocError> {
     for name in names {
-        put_line(&mut list, lines.line(*name), steps)?;
+        put_line(list, lines.line(*name), steps)?;
     }
-    Ok(list)
+    Ok(())
 }
 
-// The numbers below so many.
-fn numbers_below(alloc: Global, len: usize) -> Result<Vec<usize>, AllocError> {
-    let mut list = Vec::with_capacity(alloc, len)?;
-    for k in 0..len {
-        list.push(k)?;
+impl<F: Field> Ordered<F> {
+    // No steps yet.
+    fn new(alloc: Global) -> Self {
+        Ordered {
+            rows: Vec::new(alloc),
+            columns: Vec::new(alloc),
+            row_steps: Vec::new(alloc),
+            column_steps: Vec::new(alloc),
+            inverses: Vec::new(alloc),
+            lower: Lines::new(alloc),
+            lower_turned: Lines::new(alloc),
+            upper: Lines::new(alloc),
+            upper_turned: Lines::new(alloc),
+        }
     }
-    Ok(list)
+
+    // Notes the rows and the columns of the steps.
+    fn note_names(&mut self, factors: &Factors<F>) -> Result<(), AllocError> {
+        self.rows.extend_from_slice(&factors.rows)?;
+        self.columns.extend_from_slice(&factors.columns)?;
+        self.inverses.extend_from_slice(&factors.inverses)?;
+        put_steps(&mut self.row_steps, &factors.rows)?;
+        put_steps(&mut self.column_steps, &factors.columns)
+    }
+
+    // Notes the numbers of the factors.
+    fn note_lines(&mut self, factors: &Factors<F>) -> Result<(), AllocError> {
+        let (rows, columns) = (&self.row_steps, &self.column_steps);
+        put_lines(&mut self.lower, &factors.lower, rows)?;
+        put_named(
+            &mut self.lower_turned,
+            &factors.lower_turned,
+            &factors.rows,
+            rows,
+        )?;
+        put_lines(&mut self.upper, &factors.upper, columns)?;
+        put_named(
+            &mut self.upper_turned,
+            &factors.upper_turned,
+            &factors.columns,
+            rows,
+        )
+    }
 }
 
 /// The factors by their steps.
@@ -250,21 +297,10 @@ pub fn order_factors<F: Field>(
     alloc: Global,
     factors: &Factors<F>,
 ) -> Result<Ordered<F>, AllocError> {
-    let (rows, columns) = (&factors.rows, &factors.columns);
-    let row_steps = steps_of(alloc, rows)?;
-    let column_steps = steps_of(alloc, columns)?;
-    let order = numbers_below(alloc, rows.len())?;
-    Ok(Ordered {
-        rows: Vec::from_slice(alloc, rows)?,
-        columns: Vec::from_slice(alloc, columns)?,
-        inverses: Vec::from_slice(alloc, &factors.inverses)?,
-        lower: lines_by_steps(alloc, &factors.lower, &order, &row_steps)?,
-        lower_turned: lines_by_steps(alloc, &factors.lower_turned, rows, &row_steps)?,
-        upper: lines_by_steps(alloc, &factors.upper, &order, &column_steps)?,
-        upper_turned: lines_by_steps(alloc, &factors.upper_turned, columns, &row_steps)?,
-        row_steps,
-        column_steps,
-    })
+    let mut ordered = Ordered::new(alloc);
+    ordered.note_names(factors)?;
+    ordered.note_lines(factors)?;
+    Ok(ordered)
 }
 
 // The first step of 64 that is marked, of those whose bits are in `left`, which are those after it then.

@@ -3,79 +3,24 @@ use crate::factors::Factors;
 use crate::factors::active::Active;
 use crate::factors::search::Pivot;
 use crate::field::Field;
-use crate::lines::{Entry, Lines, at, put, turned};
+use crate::lines::{Entry, at, put};
 use std::alloc::{AllocError, Global};
 
-/// The steps of an elimination: where each pivot stands, what makes 1 with it, the multiples of its row that were taken off
-/// other rows, and the other numbers of its row.
-pub(crate) struct Steps<F: Field> {
-    pub(crate) rows: Vec<usize>,
-    pub(crate) columns: Vec<usize>,
-    pub(crate) inverses: Vec<F>,
-    pub(crate) lower: Lines<F>,
-    pub(crate) upper: Lines<F>,
-}
-
-impl<F: Field> Drop for Steps<F> {
-    fn drop(self) {
-        let Steps {
-            rows,
-            columns,
-            inverses,
-            lower,
-            upper,
-        } = self;
-        drop(rows);
-        drop(columns);
-        drop(inverses);
-        drop(lower);
-        drop(upper);
-    }
-}
-
-impl<F: Field> Steps<F> {
-    pub(crate) fn new(alloc: Global) -> Self {
-        Steps {
-            rows: Vec::new(alloc),
-            columns: Vec::new(alloc),
-            inverses: Vec::new(alloc),
-            lower: Lines::new(alloc),
-            upper: Lines::new(alloc),
-        }
-    }
-
-    // Notes a step whose multiples are noted already.
-    fn end(&mut self, pivot: Pivot, inverse: F, row: &[Entry<F>]) -> Result<(), AllocError> {
-        self.rows.push(pivot.row)?;
-        self.columns.push(pivot.column)?;
-        self.inverses.push(inverse)?;
-        self.lower.end()?;
+impl<F: Field> Factors<F> {
+    // Notes the numbers of a pivot's row without the pivot.
+    fn note_row(&mut self, row: &[Entry<F>]) -> Result<(), AllocError> {
         for entry in row {
             self.upper.put(entry.place, entry.value)?;
         }
         self.upper.end()
     }
 
-    /// The factors that the steps come to.
-    pub(crate) fn into_factors(self, alloc: Global) -> Result<Factors<F>, AllocError> {
-        let lower_turned = turned(alloc, &self.lower, &self.rows, self.rows.len(), F::zero())?;
-        let upper_turned = turned(alloc, &self.upper, &self.rows, self.rows.len(), F::zero())?;
-        let Steps {
-            rows,
-            columns,
-            inverses,
-            lower,
-            upper,
-        } = self;
-        Ok(Factors {
-            rows,
-            columns,
-            inverses,
-            lower,
-            lower_turned,
-            upper,
-            upper_turned,
-        })
+    // Notes a step whose multiples are noted already.
+    fn note_step(&mut self, pivot: Pivot, inverse: F) -> Result<(), AllocError> {
+        self.rows.push(pivot.row)?;
+        self.columns.push(pivot.column)?;
+        self.inverses.push(inverse)?;
+        self.lower.end()
     }
 }
 
@@ -223,18 +168,18 @@ fn clear<F: Field>(
     Ok(times)
 }
 
-// Clears the pivot's column in all rows that are left, and notes the multiples.
+// Clears the pivot's column in those of these rows that are left, and notes the multiples.
 fn clear_all<F: Field>(
     alloc: Global,
     active: &mut Active<F>,
     pivot: &mut PivotRow<F>,
-    steps: &mut Steps<F>,
+    rows: &[usize],
+    factors: &mut Factors<F>,
 ) -> Result<(), AllocError> {
-    let rows = active.take_column(alloc, pivot.column);
-    for i in &rows {
+    for i in rows {
         if active.by_row.has(*i) {
             let times = clear(alloc, active, *i, pivot)?;
-            steps.lower.put(*i, times)?;
+            factors.lower.put(*i, times)?;
         }
     }
     Ok(())
@@ -250,27 +195,53 @@ fn settle<F: Field>(active: &mut Active<F>, pivot: Pivot, row: &[Entry<F>]) {
     }
 }
 
+// Takes the pivot's row out, but for the pivot, if that is one.
+fn take_pivot_row<F: Field>(
+    alloc: Global,
+    active: &mut Active<F>,
+    pivot: Pivot,
+) -> Result<Option<PivotRow<F>>, AllocError> {
+    let mut numbers = active.take_row(alloc, pivot.row);
+    match take_number(&mut numbers, pivot.column) {
+        Some(number) => Ok(Some(PivotRow {
+            column: pivot.column,
+            inverse: number.inverse(),
+            met: Vec::from_elem(alloc, 0usize, numbers.len())?,
+            numbers,
+        })),
+        None => Ok(None),
+    }
+}
+
+// Eliminates with a pivot that is not 0, and notes the step.
+fn eliminate_with<F: Field>(
+    alloc: Global,
+    active: &mut Active<F>,
+    pivot: Pivot,
+    row: &mut PivotRow<F>,
+    factors: &mut Factors<F>,
+) -> Result<(), AllocError> {
+    settle(active, pivot, &row.numbers);
+    active.mark(&row.numbers, true);
+    let rows = active.take_column(alloc, pivot.column);
+    clear_all(alloc, active, row, &rows, factors)?;
+    active.mark(&row.numbers, false);
+    factors.note_step(pivot, row.inverse)?;
+    factors.note_row(&row.numbers)
+}
+
 /// Eliminates with a pivot, and notes the step. Where the pivot is 0 there is none.
 pub(crate) fn eliminate<F: Field>(
     alloc: Global,
     active: &mut Active<F>,
     pivot: Pivot,
-    steps: &mut Steps<F>,
+    factors: &mut Factors<F>,
 ) -> Result<bool, AllocError> {
-    let mut numbers = active.take_row(alloc, pivot.row);
-    let Some(number) = take_number(&mut numbers, pivot.column) else {
-        return Ok(false);
-    };
-    settle(active, pivot, &numbers);
-    active.mark(&numbers, true);
-    let mut row = PivotRow {
-        column: pivot.column,
-        inverse: number.inverse(),
-        met: Vec::from_elem(alloc, 0usize, numbers.len())?,
-        numbers,
-    };
-    clear_all(alloc, active, &mut row, steps)?;
-    active.mark(&row.numbers, false);
-    steps.end(pivot, row.inverse, &row.numbers)?;
-    Ok(true)
+    match take_pivot_row(alloc, active, pivot)? {
+        Some(mut row) => {
+            eliminate_with(alloc, active, pivot, &mut row, factors)?;
+            Ok(true)
+        }
+        None => Ok(false),
+    }
 }
