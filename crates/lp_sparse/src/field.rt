@@ -2,12 +2,16 @@
 
 /// A field, or floats in its place.
 pub trait Field: Copy {
+    /// What added to a number leaves it as it is.
     fn zero() -> Self;
 
+    /// What multiplied with a number leaves it as it is.
     fn one() -> Self;
 
+    /// Whether it is 0, and no number that is only near it.
     fn is_zero(self) -> bool;
 
+    /// The product of both.
     fn times(self, other: Self) -> Self;
 
     /// `self - a b`
@@ -27,46 +31,55 @@ pub trait Field: Copy {
 }
 
 impl Field for f64 {
+    // The float 0.
     #[inline(always)]
     fn zero() -> Self {
         0.0
     }
 
+    // The float 1.
     #[inline(always)]
     fn one() -> Self {
         1.0
     }
 
+    // Whether it is 0 or -0.
     #[inline(always)]
     fn is_zero(self) -> bool {
         self == 0.0
     }
 
+    // The product, rounded.
     #[inline(always)]
     fn times(self, other: Self) -> Self {
         self * other
     }
 
+    // `self - a b`, rounded twice.
     #[inline(always)]
     fn less_product(self, a: Self, b: Self) -> Self {
         self - a * b
     }
 
+    // The quotient of 1 by it, rounded: infinite for 0.
     #[inline(always)]
     fn inverse(self) -> Self {
         1.0 / self
     }
 
+    // No: a small pivot makes errors large.
     #[inline(always)]
     fn is_exact() -> bool {
         false
     }
 
+    // Its absolute value.
     #[inline(always)]
     fn magnitude(self) -> f64 {
         self.abs()
     }
 
+    // Whether rounding alone may have left it.
     #[inline(always)]
     fn is_negligible(self) -> bool {
         self.abs() < NEGLIGIBLE

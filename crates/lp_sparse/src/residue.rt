@@ -82,21 +82,25 @@ fn inverted(a: Residue) -> Residue {
 }
 
 impl Field for Residue {
+    // The residue 0.
     #[inline(always)]
     fn zero() -> Self {
         Residue { word: 0 }
     }
 
+    // The residue 1.
     #[inline(always)]
     fn one() -> Self {
         Residue { word: 1 }
     }
 
+    // Whether the prime divides the number that it stands for.
     #[inline(always)]
     fn is_zero(self) -> bool {
         self.word == 0
     }
 
+    // The product modulo the prime.
     #[inline(always)]
     fn times(self, other: Self) -> Self {
         Residue {
@@ -104,6 +108,7 @@ impl Field for Residue {
         }
     }
 
+    // `self - a b` modulo the prime.
     #[inline(always)]
     fn less_product(self, a: Self, b: Self) -> Self {
         let product = reduced((a.word as u128).wrapping_mul(b.word as u128));
@@ -118,19 +123,23 @@ impl Field for Residue {
         }
     }
 
+    // The inverse modulo the prime, by a power: 0 for 0.
     fn inverse(self) -> Self {
         inverted(self)
     }
 
+    // Yes: no residue is rounded.
     #[inline(always)]
     fn is_exact() -> bool {
         true
     }
 
+    // The same for each residue but 0.
     fn magnitude(self) -> f64 {
         if self.word == 0 { 0.0 } else { 1.0 }
     }
 
+    // Whether it is 0.
     #[inline(always)]
     fn is_negligible(self) -> bool {
         self.word == 0
