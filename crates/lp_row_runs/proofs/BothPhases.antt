@@ -1,4 +1,7 @@
--- Both phases over rows, part by part.
+-- Both phases over rows, part by part: what each ends with, and what is left of it.
+--
+-- `is_end`: an end with the certificate and the basis of a tableau's end is the row end of that end.
+-- `few_costs`: a tableau that shows rows of the form's size has as many columns as the form has costs, or more.
 use Rattle.std.proofs.Common.{◌≡◌, ℕ, ◌+◌, ◌-◌, ◌≤◌, List, length, Option, Some, None}
 use Rattle.std.proofs.Common.{Result, Ok, IfOk, true, false, cond}
 use Rattle.std.proofs.Common.{sym, ap, ap₂, ◌∙◌, subst, arith}

@@ -1,4 +1,8 @@
--- The end of phase two from the tableau of a basis is that of the run from the basis.
+-- The end of phase two from the tableau of a basis is that of the warm start from the basis.
+--
+-- `same_at`: the certificate of an end of phase two in exact fractions is the stated certificate of that end.
+-- `rows_of`: what holds where there are rows holds of rows that are there.
+-- `ready_of`: a beginning that keeps ready where it has a state gives a ready state.
 use Rattle.std.proofs.Common.{◌≡◌, ℕ, ◌-◌, List, Option, Some, None, IfSome, IfOk, Result, Ok, Err, refl, sym, ap}
 use Rattle.std.proofs.Common.{subst, subst₂, ◌∙◌, ◌+◌, ◌≤◌, length, arith}
 use Rattle.std.proofs.lemmas.Result.{IfOk-weaker}

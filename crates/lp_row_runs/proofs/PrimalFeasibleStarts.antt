@@ -1,4 +1,9 @@
--- The tableau of a basis whose values are within their bounds is primal feasible, and reached.
+-- The tableau of a basis whose basic values are within their bounds is primal feasible, and reached.
+--
+-- `from_bound`: where the order of a value and a lower bound is equal or greater, the value is at least the bound.
+-- `up_to_bound`: where the order of a value and an upper bound is less or equal, the value is at most the bound.
+-- `inside_read`: where the value that a row holds is within the bounds that are read, the position's basic column of
+--   the tableau is within its bounds.
 use Rattle.std.proofs.Common.{◌≡◌, ℕ, ◌+◌, ◌*◌, ◌<◌, ◌⊎◌, ⊎_elim, List, get_or, ℤ, pos, ◌*ℤ◌, int_cmp, Option, Some, None, IfSome, Ok, Err}
 use Rattle.std.proofs.Common.{Ordering, Bool, true, false, refl, sym, ap, ap₂, subst, subst₂, ◌∙◌, arith}
 use Rattle.std.specs.declared.cmp.Ordering.TheVariants.{Less, Equal, Greater}

@@ -1,4 +1,11 @@
--- Without a limit nothing is refused, and what is made of a reached tableau is one too.
+-- Without a limit nothing is refused, and what a step makes of a reached tableau is reached.
+--
+-- `done_given`: without a limit each choice gives a tableau.
+-- `second_given`: without a limit the change to phase two gives a tableau.
+-- `start_without`: a start that a limit does not refuse is the start without a limit.
+-- `start_reached`: the start of a proper form is a reached tableau.
+-- `step_reached`: the tableau after a chosen step from a reached tableau is reached.
+-- `second_reached`: the change to phase two makes a reached tableau of a reached one, unless an artificial is not 0.
 use Rattle.std.proofs.Common.{◌≡◌, ℕ, ◌+◌, ◌≤◌, length, Option, None, Ok, Err, false, refl, sym}
 use Rattle.std.proofs.Common.{◌∙◌, subst, subst₂, ⊎_elim}
 use Rattle.spec_exact.specs.Fraction.{ℚ}

@@ -1,4 +1,13 @@
--- Rows that are solved for one column more.
+-- Rows that are solved for one basic column more.
+--
+-- `solving_begins`: the unsolved equations with no position taken are solved for the columns below 0.
+-- `open_is`: a position that is not taken and has an entry that is not 0 is open, and no other is.
+-- `entry_none`: whether the size of a row's number is 0 says whether the row's entry in that column is 0.
+-- `column_passed`: equations that are solved below a nonbasic column are solved below the next column.
+-- `done_of`: what holds where solving is done holds after a solving that is done.
+-- `if_done`: what follows from a fact of solving that is done holds where the fact does.
+-- `none_over`: a whole number that is 0 makes the fraction 0.
+-- `turned_here`: rows that were turned as they were lent are turned rows of the elimination before and after.
 use Rattle.std.proofs.Common.{◌≡◌, ℕ, ◌+◌, ◌<◌, List, length, get_or, set, replicate, map}
 use Rattle.std.proofs.Common.{Some, None, Result, Ok, Bool, true, false, not, ◌&&◌, cond, IsTrue}
 use Rattle.std.proofs.Common.{◌↔◌, All, ℤ, pos, refl, sym, ap, ap₂, subst, subst₂, ◌∙◌, arith}

@@ -1,4 +1,9 @@
--- The equations of a form as rows.
+-- The equations of a form as rows of whole numbers.
+--
+-- `unsolved_at`: an entry of the stated equations is the start's entry of its row and column.
+-- `rows_more`: one more row that holds equation i makes rows of the first i equations rows of the first i + 1.
+-- `zeros_more`: one more number that is 0 makes n zeros n + 1 zeros.
+-- `unsolved_is`: rows of the form's equations, with its bounds and the basis's statuses, are the unsolved equations.
 use Rattle.std.proofs.Common.{◌≡◌, ℕ, zero, suc, map, Option, Some, ◌+◌, ◌*◌, ◌<◌, List, [], ◌∷◌, ◌++◌, length, get_or}
 use Rattle.std.proofs.Common.{replicate, pos, All, refl, sym, ap, subst, ◌∙◌, arith}
 use Rattle.std.proofs.lemmas.List.{length-append, length-replicate, length-map, get_or-replicate}

@@ -1,4 +1,11 @@
--- One width after the other, and the start.
+-- One width of words after the other, and the start.
+--
+-- `pause_ready`: a run that pauses for wider words leaves a ready state.
+-- `then_ends`: a result that ends one run ends every run that is equal to it.
+-- `start_size`: the start of a form has the form's rows and columns.
+-- `whole_ends`: a result that ends both phases from the start of a model's form ends the cold run of the form.
+-- `as_stated`: an end with exact fractions in its certificate ends the stated run.
+-- `as_narrow`: an end whose numbers all fit 127 bits has a narrow certificate.
 use Rattle.std.proofs.Common.{◌≡◌, ℕ, List, Option, None, Result, Ok, Err, IfOk, refl, sym}
 use Rattle.std.proofs.Common.{ap, ◌∙◌, subst}
 use Rattle.std.proofs.lemmas.Result.{IfOk-weaker}
