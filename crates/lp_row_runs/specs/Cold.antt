@@ -16,21 +16,22 @@ use Rattle.lp_row_runs.specs.declared.phases.RowEnd.{RowEnd}
 abbrev pub start_run : ℕ → Form → Tableau → Result PhasesEnd (RunStop ℚ)
 start_run budget f t = phase_one None budget t >>= after_one budget f
 
--- an end is that of the stated run, with no limit on numbers, and its certificate in this kind of numbers
+-- where there is an end it is that of the stated run without a limit on numbers, its certificate in a kind of numbers
 abbrev pub EndsAs : {N : Type 0} → (ℚ → N) → Result PhasesEnd (RunStop ℚ) → Option (RowEnd N) → Type 0
 EndsAs of whole result = IfSome result (λ e. row_end_in of whole ≡ Ok e)
 
--- this holds of all numbers of its certificate
+-- where there is an end this holds of all numbers of its certificate
 abbrev pub IsFitEnd : {N : Type 0} → (N → Type 0) → Option (RowEnd N) → Type 0
 IsFitEnd fits result = IfSome result (λ e. AllFit fits e.certificate)
 
+-- an end over rows as an end of the definitions
 abbrev pub over_end : RowEnd ℚ → OverEnd
 over_end e = record { certificate = e.certificate; basis = e.basis; pivots = e.pivots }
 
--- an end is that of the stated run, with no limit on numbers
+-- where there is an end it is that of the stated run without a limit on numbers
 abbrev pub EndsAsStated : Result PhasesEnd (RunStop ℚ) → Option (RowEnd ℚ) → Type 0
 EndsAsStated whole result = IfSome result (λ e. answer_in whole ≡ Ok (over_end e))
 
--- the numbers of a certificate are of at most 127 bits
+-- where there is an end the numbers of its certificate have at most 127 bits
 abbrev pub IsNarrowEnd : Option (RowEnd ℚ) → Type 0
 IsNarrowEnd result = IfSome result (λ e. IsNarrowCertificate e.certificate)

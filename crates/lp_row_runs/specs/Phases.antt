@@ -20,7 +20,7 @@ use Rattle.lp_row_runs.specs.declared.phases.RowEnd.{RowEnd}
 use Rattle.lp_row_runs.specs.declared.phases.PhasesPause.{PhasesPause}
 use Rattle.lp_row_runs.specs.declared.phases.PhasesPause.TheVariants.{Ended, Narrow, GaveUp}
 
--- what follows phase one
+-- what follows phase one: an infeasible end where an artificial is not 0, else phase two
 abbrev pub after_one : ℕ → Form → PrimalEnded → Result PhasesEnd (RunStop ℚ)
 after_one budget f one =
     if is_stuck one.tableau then Ok (Infeasible one.tableau one.used) else phase_two None budget f one
@@ -31,10 +31,12 @@ rest_run budget f One used t = steps_from budget used t >>= after_one budget f
 rest_run budget f Between used t = after_one budget f (record { end = Optimal; tableau = t; used = used })
 rest_run budget f Two used t = steps_from budget used t >>= λ two. Ok (Finished two)
 
+-- the end of both phases at this tableau and count; without an end of phase two it is infeasible
 abbrev pub end_by : Tableau → ℕ → Option PrimalEnd → PhasesEnd
 end_by t used None = Infeasible t used
 end_by t used (Some end) = Finished (record { end = end; tableau = t; used = used })
 
+-- the certificate of an end of both phases, in a kind of numbers
 abbrev pub certificate_in : {N : Type 0} → (ℚ → N) → PhasesEnd → Certificate (List N)
 certificate_in of (Infeasible t used) = certificate_as of t None
 certificate_in of (Finished e) = certificate_as of e.tableau (Some e.end)
@@ -43,6 +45,7 @@ certificate_in of (Finished e) = certificate_as of e.tableau (Some e.end)
 abbrev pub row_end : {N : Type 0} → (ℚ → N) → PhasesEnd → RowEnd N
 row_end of end = record { certificate = certificate_in of end; basis = basis_of end; pivots = pivots_of end }
 
+-- the same for what both phases give: an end, or why there is none
 abbrev pub row_end_in : {N : Type 0} → (ℚ → N) → Result PhasesEnd (RunStop ℚ) → Result (RowEnd N) (RunStop ℚ)
 row_end_in of (Ok end) = Ok (row_end of end)
 row_end_in of (Err stop) = Err stop
@@ -57,7 +60,7 @@ pub record IsReady {T : Type 0} (value : T → ℕ) (f : Form) (s : State T) : T
   pub rows : f.rows ≡ height s.tab
   pub cols : f.cols ≡ s.tab.cols
 
--- this is what is left from a reached tableau that the rows are
+-- what is left of the run is the rest of it from a reached tableau that the state's rows show
 pub record IsLeft {T : Type 0} (value : T → ℕ) (budget : ℕ) (f : Form) (whole : Result PhasesEnd (RunStop ℚ))
     (s : State T) : Type 0 where
   pub tableau : Tableau
@@ -65,31 +68,32 @@ pub record IsLeft {T : Type 0} (value : T → ℕ) (budget : ℕ) (f : Form) (wh
   pub shown : Shows value s.tab tableau
   pub same : whole ≡ rest_run budget f s.phase s.used tableau
 
--- both phases end so, or are what is left
+-- both phases end so, or go on from the state in wider words
 abbrev pub PausesWith : {N T : Type 0} → (ℚ → N) → (T → ℕ) → ℕ → Form → Result PhasesEnd (RunStop ℚ) → State T →
     PhasesPause N → Type 0
 PausesWith of value budget f whole s (Ended e) = row_end_in of whole ≡ Ok e
 PausesWith of value budget f whole s Narrow = IsLeft value budget f whole s
 PausesWith of value budget f whole s GaveUp = Unit {0}
 
+-- where the run goes on in wider words, the state is ready
 abbrev pub StaysReady : {N T : Type 0} → (T → ℕ) → Form → State T → PhasesPause N → Type 0
 StaysReady value f s (Ended e) = Unit {0}
 StaysReady value f s Narrow = IsReady value f s
 StaysReady value f s GaveUp = Unit {0}
 
--- this holds of all numbers of the certificate
+-- where the pause is an end this holds of all numbers of its certificate
 abbrev pub HasFit : {N : Type 0} → (N → Type 0) → PhasesPause N → Type 0
 HasFit fits (Ended e) = AllFit fits e.certificate
 HasFit fits Narrow = Unit {0}
 HasFit fits GaveUp = Unit {0}
 
--- the end is that of this tableau and this count
+-- the pause is the end at this tableau and this count, or the run gave up
 abbrev pub EndsWith : {N : Type 0} → (ℚ → N) → Tableau → ℕ → Option PrimalEnd → PhasesPause N → Type 0
 EndsWith of t used end (Ended e) = e ≡ row_end of (end_by t used end)
 EndsWith of t used end Narrow = ⊥
 EndsWith of t used end GaveUp = Unit {0}
 
--- nothing is left
+-- the pause is for good: no wider words are asked for
 abbrev pub IsOver : {N : Type 0} → PhasesPause N → Type 0
 IsOver (Ended e) = Unit {0}
 IsOver Narrow = ⊥

@@ -73,7 +73,7 @@ pub record IsComplete {T : Type 0} (value : T → ℕ) (e : Elimination T) : Typ
   pub whole : IsWhole value e.tab
   pub each : length e.taken.items ≡ length e.tab.rows.items
 
--- where it is done, this holds
+-- where the solving is done, this holds
 abbrev pub IfDone : Progress → Type 0 → Type 0
 IfDone Done P = P
 IfDone Narrow P = Unit {0}
@@ -85,7 +85,7 @@ pub record ShowsBasis {T : Type 0} (value : T → ℕ) (f : Form) (basis : List 
   pub starts : start_from None f basis ≡ Ok tableau
   pub shown : Shows value r (with_reduced tableau (replicate (f.cols + f.rows + f.rows) 0ℚ))
 
--- and with its reduced costs
+-- the rows show the tableau that the form has for a basis, with its reduced costs
 pub record ShowsStart {T : Type 0} (value : T → ℕ) (f : Form) (basis : List Status) (r : RowTableau T) : Type 0 where
   pub tableau : Tableau
   pub starts : start_from None f basis ≡ Ok tableau

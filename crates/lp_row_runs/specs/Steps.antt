@@ -48,23 +48,26 @@ pub record Keeps {T : Type 0} (value : T → ℕ) (r s : RowTableau T) : Type 0 
   pub rows : height s ≡ height r
   pub cols : s.cols ≡ r.cols
 
--- but where a run gives up; and a column that is never stopped is structural or logical
+-- at each pause but a giving up the rows are whole and as many as before; a column that nothing stops is structural or
+-- logical
 abbrev pub KeepsAt : {T : Type 0} → (T → ℕ) → RowTableau T → RowTableau T → StepsPause → Type 0
 KeepsAt value r s (Ended end) = Keeps value r s × IsInside s (Some end)
 KeepsAt value r s Narrow = Keeps value r s
 KeepsAt value r s GaveUp = Unit {0}
 
+-- a step that is made, or a pause, keeps the rows so
 abbrev pub KeepsStep : {T : Type 0} → (T → ℕ) → RowTableau T → RowTableau T → Option StepsPause → Type 0
 KeepsStep value r s None = Keeps value r s
 KeepsStep value r s (Some pause) = KeepsAt value r s pause
 
--- the rows are u, which the step makes of t; or still t
+-- where the step was made the rows show u, the tableau after it; where it was left to wider words they show t still
 abbrev pub Advances : {T : Type 0} → (T → ℕ) → Tableau → Tableau → RowTableau T → Option StepsPause → Type 0
 Advances value t u r None = Shows value r u
 Advances value t u r (Some (Ended end)) = ⊥
 Advances value t u r (Some Narrow) = Shows value r t
 Advances value t u r (Some GaveUp) = Unit {0}
 
+-- making a step, or leaving it to wider words, keeps the rows whole and as many as before
 abbrev pub KeepsAdvance : {T : Type 0} → (T → ℕ) → RowTableau T → RowTableau T → Option StepsPause → Type 0
 KeepsAdvance value r s None = Keeps value r s
 KeepsAdvance value r s (Some (Ended end)) = ⊥

@@ -34,11 +34,13 @@ pub record StandsAtBasis {T : Type 0} (value : T → ℕ) (f : Form) (basis : Li
   pub phase : s.phase ≡ Two
   pub used : s.used ≡ 0
 
+-- where the run begins, it begins with the primal feasible tableau of the basis
 abbrev pub BeginsAtBasis : {T : Type 0} → (T → ℕ) → Form → List Status → Begun T → Type 0
 BeginsAtBasis value f basis (Ready s) = StandsAtBasis value f basis s
 BeginsAtBasis value f basis Narrow = Unit {0}
 BeginsAtBasis value f basis Stopped = Unit {0}
 
+-- where the run begins, its state is ready
 abbrev pub BeginsReady : {T : Type 0} → (T → ℕ) → Form → Begun T → Type 0
 BeginsReady value f (Ready s) = IsReady value f s
 BeginsReady value f Narrow = Unit {0}

@@ -23,14 +23,15 @@ pub(crate) enum Based<T: Words> {
     Stopped,
 }
 
-// No position has a column.
+// For each position that it has no basic column yet.
 fn none_taken(alloc: Global, form: &Form) -> Result<Vec<bool>, AllocError>
     ensures { IfOk result (λ v. v.items ≡ replicate form.now.rows false) }
 {
     Vec::from_elem(alloc, false, form.rows() as usize)
 }
 
-// The equations with the values of the columns that are not basic. No position has a column yet.
+// The form's equations before any is solved, with the values of the nonbasic columns; nothing where a number is past
+// the width.
 fn begun<T: Words>(
     alloc: Global,
     form: &Form,
@@ -51,7 +52,8 @@ fn begun<T: Words>(
     Ok(Some(Elimination { tab, taken }))
 }
 
-// The equations solved for the columns of the basis, without the reduced costs.
+// The rows of the basis: the form's equations solved for the basic columns, still without reduced costs. Takes its work
+// off `work`.
 fn solved<T: Words>(
     alloc: Global,
     form: &Form,
@@ -77,7 +79,7 @@ fn solved<T: Words>(
     }
 }
 
-// The same rows with the reduced costs.
+// These rows of a basis with the reduced costs of the form.
 fn with_costs<T: Words>(
     alloc: Global,
     form: &Form,
@@ -100,7 +102,7 @@ fn with_costs<T: Words>(
 }
 
 /// The rows of the tableau that the form has for a basis: its equations solved for the basic columns, with their values
-/// and the reduced costs.
+/// and the reduced costs. Takes its work off `work`.
 pub(crate) fn from_basis<T: Words>(
     alloc: Global,
     form: &Form,

@@ -1,4 +1,4 @@
-// The run of a form from its start, with the certificate of its end in one kind of numbers or the other.
+// The cold run of a form, with a certificate in numbers of 127 bits or of any width.
 ghost use Rattle.std.specs.Prelude.{◌≡◌, IfOk, Ok, Some, None};
 ghost use Rattle.spec_exact.specs.Narrow.{number_limit};
 ghost use Rattle.spec_model.specs.Model.{Model};
@@ -15,7 +15,7 @@ use lp_rows::Listed;
 use lp_tableau::start_cold;
 use std::alloc::{AllocError, Global};
 
-// The cold run over rows of whole numbers, with the certificate in one kind of numbers.
+// The cold run over the integer-row tableau, with a certificate in numbers of the kind `N`.
 fn cold_run<N: Listed>(
     alloc: Global,
     form: &Form,
@@ -37,14 +37,14 @@ fn cold_run<N: Listed>(
     }
 }
 
-/// The cold run over rows of whole numbers, from the form's start through both phases, with the certificate of the end.
-/// It has a budget of pivots and flips, and the caller's bound on the work. Each number that is changed counts for the
-/// square of its words.
+/// The cold run over the integer-row tableau, from the form's start through both phases, with the certificate of its
+/// end. It has a budget of pivots and flips, and the caller's bound on the work. Each number that is changed counts for
+/// the square of its words.
 ///
 /// For the form of a model it ends as the stated run with no limit on numbers, or has no end: where the start is past
-/// 127 bits, a number of a row past 2,048, or one of the certificate past 127, or where the budget is spent, or the bound
-/// on the work. Which of these it is, is not said, and nothing is promised of when they come. Only want of memory is an
-/// error.
+/// 127 bits, a number of a row past 2,048, or one of the certificate past 127, or where the budget is spent, or the
+/// bound on the work. Which of these it is, is not said, and nothing is promised of when they come. Running out of
+/// memory is the only error.
 pub fn cold_over_rows(
     alloc: Global,
     form: &Form,
@@ -58,7 +58,8 @@ pub fn cold_over_rows(
     cold_run(alloc, form, budget, work)
 }
 
-/// The same run with a certificate whose numbers have any width.
+/// The cold run over the integer-row tableau as `cold_over_rows` makes it, with a certificate whose numbers have any
+/// width.
 pub fn wide_cold(
     alloc: Global,
     form: &Form,

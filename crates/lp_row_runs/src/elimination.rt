@@ -31,7 +31,7 @@ pub(crate) enum Progress {
     Stopped,
 }
 
-// 0.
+// The number 0.
 fn none<T: Words>() -> Signed<T>
     ensures { whole result.negative (T.value result.size) ≡ pos 0 }
 {
@@ -41,7 +41,7 @@ fn none<T: Words>() -> Signed<T>
     }
 }
 
-// Whether what a step takes is within the work that is left, off which it is taken.
+// Takes the work of a step off the work that is left. Where that is less, it stays and the answer is false.
 fn spend(work: &mut u64, takes: u64) -> bool {
     match work.checked_sub(takes) {
         Some(left) => {
@@ -77,7 +77,7 @@ impl<T: Words> Elimination<T> {
         !self.has_none(j, i)
     }
 
-    // The least such position.
+    // The least position that is open for column `j`.
     fn open(&self, j: usize) -> Option<usize>
         requires complete { IsComplete T.value self.now }
         requires column { j < width self.now.tab }
@@ -93,7 +93,7 @@ impl<T: Words> Elimination<T> {
         None
     }
 
-    // Position `p` has the basic column `j`.
+    // Notes that position `p` has the basic column `j`. The rows stay.
     fn mark(&mut self, p: usize, j: u32)
         requires basic { p < length self.old.tab.basic.items }
         requires taken { p < length self.old.taken.items }
@@ -105,7 +105,8 @@ impl<T: Words> Elimination<T> {
         self.taken[p] = true;
     }
 
-    // Column `j` takes the position `p`: the rows change as in a pivot there, and their last numbers as the others.
+    // Solves the equations for column `j` at position `p`: all rows change as in a pivot there, with their values.
+    // False where a number is past the width.
     fn solve_at(&mut self, p: usize, j: usize) -> bool
         requires complete { IsComplete T.value self.old }
         requires place { p < height self.old.tab }
@@ -130,7 +131,7 @@ impl<T: Words> Elimination<T> {
         true
     }
 
-    // Column `j` takes the least open position.
+    // Solves the equations for column `j` at the least position that is open for it.
     fn solve(&mut self, j: usize, work: &mut u64) -> Progress
         requires complete { IsComplete T.value self.old }
         requires column { j < width self.old.tab }
@@ -157,7 +158,7 @@ impl<T: Words> Elimination<T> {
         }
     }
 
-    // The same, where column `j` is basic.
+    // Solves the equations for column `j` if it is basic; another column changes nothing.
     fn take(&mut self, basis: &[Status], j: usize, work: &mut u64) -> Progress
         requires complete { IsComplete T.value self.old }
         requires all { length basis.now ≡ width self.old.tab }
@@ -174,7 +175,8 @@ impl<T: Words> Elimination<T> {
         }
     }
 
-    /// Each basic column takes a position, in order: the least that has none and where its entry is not 0.
+    /// Solves the equations for the basic columns in order, each at the least position that has no column and where its
+    /// entry is not 0.
     pub(crate) fn run(&mut self, basis: &[Status], work: &mut u64) -> Progress
         requires complete { IsComplete T.value self.old }
         requires all { length basis.now ≡ width self.old.tab }

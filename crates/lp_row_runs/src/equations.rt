@@ -1,9 +1,9 @@
-// The equations of a form as rows of whole numbers, and the values of the columns that are not basic.
+// The equations of a form as rows of whole numbers, and the values of the nonbasic columns.
 ghost use Rattle.std.specs.Prelude.{◌≡◌, ◌<◌, ◌+◌, ◌++◌, ℕ, IfOk, IfSome, IsTrue, Some, List, length, replicate};
 ghost use Rattle.spec_exact.specs.Fraction.{0ℚ};
 ghost use Rattle.spec_exact.specs.Run.{made};
 ghost use Rattle.spec_simplex.specs.declared.ends.RowStart.TheVariants.{Within};
-ghost use Rattle.spec_simplex.specs.Form.{IsForm, Form as forms, form_lower, form_upper};
+ghost use Rattle.spec_simplex.specs.Form.{Form as forms, form_lower, form_upper};
 ghost use Rattle.spec_simplex.specs.Start.{start_entry};
 ghost use Rattle.spec_simplex.specs.Tableau as tableaus;
 ghost use Rattle.spec_simplex.specs.Tableau.{at_place};
@@ -25,7 +25,7 @@ use std::alloc::{AllocError, Global};
 
 // ---- rows
 
-// What stands in the equation of row `i` at a structural or logical column: its logical, less the row's sum.
+// The entry of a structural or logical column in the equation of row `i`, which is its logical less the row's sum.
 fn entry(form: &Form, i: u32, k: u32) -> Frac
     requires row { i < form.now.rows }
     requires column { k < form.now.cols + form.now.rows }
@@ -37,6 +37,7 @@ fn entry(form: &Form, i: u32, k: u32) -> Frac
     if form.logical(i) == k { one() } else { zero() }
 }
 
+// The entries of all structural and logical columns in the equation of row `i`.
 fn entries(alloc: Global, form: &Form, i: u32) -> Result<Vec<Frac>, AllocError>
     requires { i < form.now.rows }
     ensures { IfOk result
@@ -49,7 +50,7 @@ fn entries(alloc: Global, form: &Form, i: u32) -> Result<Vec<Frac>, AllocError>
     Ok(list)
 }
 
-// The equation of row `i`, in which no column has a value.
+// The equation of row `i` as a row of whole numbers, whose value is still 0; nothing where a number is past the width.
 fn equation<T: Words>(
     alloc: Global,
     form: &Form,
@@ -65,7 +66,7 @@ fn equation<T: Words>(
     row_of(alloc, &list, zero(), denominator)
 }
 
-// The equations of all rows so.
+// The equations of all rows as rows of whole numbers; nothing where a number is past the width.
 fn equations<T: Words>(
     alloc: Global,
     form: &Form,
@@ -114,13 +115,14 @@ fn zero_row<T: Words>(alloc: Global, n: usize) -> Result<Row<T>, AllocError>
 
 // ---- lists by positions and columns
 
-// No position has a basic column: 0 stands for it.
+// Column 0 for each position, as long as none has a basic column.
 fn no_columns(alloc: Global, form: &Form) -> Result<Vec<u32>, AllocError>
     ensures { IfOk result (λ v. v.items ≡ replicate form.now.rows 0) }
 {
     Vec::from_elem(alloc, 0, form.rows() as usize)
 }
 
+// The statuses of a basis, with those of the artificial columns: nonbasic at the lower bound.
 fn statuses(alloc: Global, form: &Form, basis: &[Status]) -> Result<Vec<Status>, AllocError>
     ensures { IfOk result (λ v. v.items ≡ elimination.basis_status form.now basis.now) }
 {
@@ -129,7 +131,7 @@ fn statuses(alloc: Global, form: &Form, basis: &[Status]) -> Result<Vec<Status>,
     Ok(statuses)
 }
 
-// The bounds of structural and logical columns, and 0 for each artificial one.
+// These bounds of structural and logical columns, and the bound 0 for each artificial column.
 fn with_artificials(
     alloc: Global,
     bounds: &[Option<Frac>],
@@ -142,7 +144,7 @@ fn with_artificials(
     Ok(all)
 }
 
-// Which structural and logical columns are fixed.
+// For each structural and logical column whether its bounds are the same.
 fn fixed(alloc: Global, form: &Form) -> Result<Vec<bool>, AllocError>
     ensures { IfOk result (λ v. v.items ≡ made (form.now.cols + form.now.rows)
         (λ k. tableaus.is_fixed (form_lower form.now k) (form_upper form.now k))) }
@@ -177,7 +179,7 @@ pub(crate) fn unsolved<T: Words>(
     }
 }
 
-// The same, with the denominator of all bounds.
+// The form's equations with the statuses of a basis, and with these bounds on the common denominator `denominator`.
 fn unsolved_on<T: Words>(
     alloc: Global,
     form: &Form,
@@ -214,8 +216,8 @@ fn unsolved_on<T: Words>(
     }))
 }
 
-// Gives column `k` its value, if it is not basic: each row's last number has the entry times it less. Where it is false
-// a number is past the width, here and below.
+// Gives column `k` its value, if it is nonbasic: the entry times the value goes off each row's last number. False where
+// a number is past the width.
 fn place_value<T: Words>(tab: &mut RowTableau<T>, k: usize) -> bool
     requires whole { IsWhole T.value tab.old }
     requires column { k < width tab.old }
@@ -229,7 +231,7 @@ fn place_value<T: Words>(tab: &mut RowTableau<T>, k: usize) -> bool
     move_all(&mut tab.rows, n, k, value)
 }
 
-/// Gives each column that is not basic its value.
+/// Gives each nonbasic column its value. False where a number is past the width.
 pub(crate) fn place_values<T: Words>(tab: &mut RowTableau<T>) -> bool
     requires { IsWhole T.value tab.old }
     ensures whole { IsTrue result → IsWhole T.value tab.new }

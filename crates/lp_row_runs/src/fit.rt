@@ -31,7 +31,7 @@ fn is_from<T: Words>(lower: Option<Signed<T>>, value: Signed<T>, denominator: T)
     }
 }
 
-// Whether it is not above an upper bound.
+// Whether a value is not above an upper bound: the value is on the row's denominator times that of the bound.
 fn is_up_to<T: Words>(upper: Option<Signed<T>>, value: Signed<T>, denominator: T) -> bool
     requires { 0 < T.value denominator }
     ensures { IsTrue result → (d : ℕ) → 0 < d → IfSome (bound_of T.value d upper)
@@ -46,7 +46,7 @@ fn is_up_to<T: Words>(upper: Option<Signed<T>>, value: Signed<T>, denominator: T
     }
 }
 
-// Whether it is within both.
+// Whether a value is within both bounds: the value is on the row's denominator times that of the bounds.
 fn is_between<T: Words>(
     lower: Option<Signed<T>>,
     upper: Option<Signed<T>>,
@@ -78,8 +78,7 @@ fn is_inside<T: Words>(tab: &RowTableau<T>, i: usize) -> bool
     is_between(tab.lower[k], tab.upper[k], value, row.denominator)
 }
 
-/// Whether the value of each basic column is within its bounds. Where it is true, the tableau of a basis is fit for the
-/// primal method.
+/// Whether the value of each basic column is within its bounds, which makes the tableau of a basis primal feasible.
 pub(crate) fn is_fit<T: Words>(tab: &RowTableau<T>) -> bool
     requires { IsWhole T.value tab.now }
     ensures { IsTrue result → (f : forms) (t : tableaus.Tableau) → BeginsFrom f t → Shows T.value tab.now t →

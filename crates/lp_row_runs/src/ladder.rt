@@ -34,7 +34,7 @@ pub(crate) struct NoMore;
 
 /// Words of some widths, the narrowest first.
 pub(crate) trait Widths {
-    /// Whether there are any.
+    /// Whether there are any words of these widths.
     const ANY: bool;
 
     /// Goes on with a run from where it stands in narrower words.
@@ -164,7 +164,7 @@ impl<T: Words, W: Widths> Widths for Then<T, W> {
     }
 }
 
-// Both phases from where they stand. Where a number does not fit, they go on in the wider words, if there are any.
+// Goes on with both phases from `state`. Where a number does not fit, they go on in the wider words, if there are any.
 fn run<T: Words, W: Widths, N: Listed>(
     alloc: Global,
     form: &Form,
@@ -183,7 +183,7 @@ fn run<T: Words, W: Widths, N: Listed>(
     }
 }
 
-// The same state in wider words. There is none where a number is past their width.
+// The state in words of another width; nothing where a number is past their width.
 fn wider<T: Words, U: Words>(
     alloc: Global,
     state: &State<T>,

@@ -4,17 +4,19 @@
 //!
 //! | Item | What it is | Where |
 //! |---|---|---|
-//! | `cold_over_rows`, `wide_cold`, `RowEnd` | the run of a form within a budget, with numbers of 127 bits or of any width in the certificate, and what it ends with | src/cold_run, src/phases |
+//! | `cold_over_rows` | the cold run of a form within a budget, with a certificate in numbers of 127 bits | src/cold_run |
+//! | `wide_cold` | the cold run with a certificate in numbers of any width | src/cold_run |
+//! | `RowEnd` | what a run ends with | src/phases |
 //! | `wide_warm` | the run from a basis of a form within a budget | src/warm_run |
 //! | `AllWidths`, `Widths` | the widths of words, and a run in words of one width after the other | src/ladder |
 //! | `at_start`, `at_basis` | where a run begins, in words of one width | src/start |
-//! | `State`, `Phase` | where a run stands | src/phases |
-//! | `go_on` | both phases at one width, from where they stand | src/phases |
+//! | `State`, `Phase` | how far a run is | src/phases |
+//! | `go_on` | both phases at one width, from a state on | src/phases |
 //! | `run` | steps at one width | src/steps |
 //! | `from_basis` | the rows of the tableau that a form has for a basis | src/based |
 //! | `is_fit` | whether each basic value is within its bounds | src/fit |
 //! | `Elimination` | equations that are solved for one column after the other | src/elimination |
-//! | `unsolved`, `place_values` | the form's equations, and the values of the columns that are not basic | src/equations |
+//! | `unsolved`, `place_values` | the form's equations, and the values of the nonbasic columns | src/equations |
 //! | `EndsFromBasis` | what the run from a basis ends with | specs/Warm |
 //! | `IsSolvedBelow` | which elimination of exact fractions the rows are | specs/Rows |
 //!

@@ -1,11 +1,10 @@
 // Both phases at one width.
-ghost use Rattle.std.specs.Prelude.{◌≡◌, IfOk, IfSome, Ok, Some, None};
+ghost use Rattle.std.specs.Prelude.{◌≡◌, IfOk};
 ghost use Rattle.spec_simplex.specs.Tableau.{Tableau};
-ghost use Rattle.spec_factor.specs.Over.{answer_of};
 ghost use Rattle.lp_rows.specs.Shows.{IsWhole, IsReached, Shows};
 ghost use Rattle.lp_rows.specs.Ends.{IsInside};
 ghost use Rattle.lp_row_runs.specs.declared.phases.Phase.TheVariants as phase;
-ghost use Rattle.lp_row_runs.specs.Phases.{rest_run, end_by, HasCosts, IsReady, PausesWith, StaysReady};
+ghost use Rattle.lp_row_runs.specs.Phases.{rest_run, HasCosts, IsReady, PausesWith, StaysReady};
 ghost use Rattle.lp_row_runs.specs.Phases.{HasFit, EndsWith, IsOver};
 
 use crate::steps::{StepsPause, run};
@@ -37,14 +36,14 @@ pub(crate) enum Phase {
     Two,
 }
 
-/// Where a run stands.
+/// How far a run is: its tableau, its phase, and what is counted.
 #[derive(Drop)]
 pub(crate) struct State<T: Words> {
     pub tab: RowTableau<T>,
     pub phase: Phase,
     /// How many pivots and flips were made.
     pub used: u64,
-    /// How many words may still be changed.
+    /// The work that is left.
     pub work: u64,
 }
 
@@ -58,8 +57,8 @@ pub(crate) enum PhasesPause<N> {
     GaveUp,
 }
 
-// The certificate and the basis of an end; there is no end of phase two where phase one leaves an artificial that is
-// not 0.
+// What the run ends with: the certificate and the basis of `end`. Without an end of phase two the model is infeasible:
+// phase one left an artificial that is not 0.
 fn ended<T: Words, N: Listed>(
     alloc: Global,
     state: &State<T>,
@@ -86,7 +85,7 @@ fn ended<T: Words, N: Listed>(
     }
 }
 
-// Steps of phase two.
+// Takes the steps of phase two, up to an end or a pause.
 fn second<T: Words, N: Listed>(
     alloc: Global,
     form: &Form,
@@ -114,7 +113,7 @@ fn second<T: Words, N: Listed>(
     }
 }
 
-// What follows phase one. Where it leaves an artificial that is not 0, no point is feasible.
+// Goes on from the end of phase one: where an artificial is not 0 the model is infeasible, else phase two begins.
 fn between<T: Words, N: Listed>(
     alloc: Global,
     form: &Form,
@@ -139,7 +138,7 @@ fn between<T: Words, N: Listed>(
     second(alloc, form, state, budget, may_widen)
 }
 
-// Steps of phase one, and what follows them.
+// Takes the steps of phase one, and goes on where they end.
 fn first<T: Words, N: Listed>(
     alloc: Global,
     form: &Form,
@@ -170,7 +169,7 @@ fn first<T: Words, N: Listed>(
     }
 }
 
-/// Goes on with both phases from where they stand, up to an end or to what is past the width.
+/// Goes on with both phases from `state`, up to an end or a pause.
 pub(crate) fn go_on<T: Words, N: Listed>(
     alloc: Global,
     form: &Form,

@@ -58,7 +58,7 @@ pub(crate) enum Begun<T: Words> {
     Stopped,
 }
 
-// The state of phase two at these rows, if they are fit for it.
+// The state of phase two at these rows, if the basic values are within their bounds.
 fn if_fit<T: Words>(tab: RowTableau<T>, work: u64) -> Begun<T>
     requires { IsWhole T.value tab }
     ensures run { (f : forms) (basis : List statuses) → IsProper f → IsBasisOf f basis → HasCosts f →

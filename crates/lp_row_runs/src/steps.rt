@@ -1,5 +1,5 @@
 // Steps at one width.
-ghost use Rattle.std.specs.Prelude.{◌≡◌, ◌≢◌, ◌<◌, IsNone, IfSome, Some, None, Ok, Option};
+ghost use Rattle.std.specs.Prelude.{◌≡◌, ◌<◌, IsNone, None, Ok};
 ghost use Rattle.spec_exact.specs.Fraction.{ℚ};
 ghost use Rattle.spec_simplex.specs.Tableau.{Tableau};
 ghost use Rattle.spec_simplex.specs.declared.ends.Choice.{Choice};
@@ -17,13 +17,13 @@ use lp_tableau::PrimalEnd;
 #[derive(Clone, Copy)]
 pub(crate) enum StepsPause {
     Ended(PrimalEnd),
-    /// A number is past the width, or may be in the next step. The tableau stands before that step.
+    /// A number is past the width, or may be in the next step. The tableau is as before that step.
     Narrow,
     /// The budget or the work is spent, or a number is past the widest words.
     GaveUp,
 }
 
-// Whether the step is left to wider words.
+// Whether the step is left to wider words, since a number of it may be past the width.
 fn is_too_narrow<T: Words>(tab: &RowTableau<T>, step: Step, may_widen: bool) -> bool
     requires whole { IsWhole T.value tab.now }
     requires inside { MayMake tab.now step }
@@ -35,7 +35,7 @@ fn is_too_narrow<T: Words>(tab: &RowTableau<T>, step: Step, may_widen: bool) -> 
     }
 }
 
-// Whether what a step takes is within the work that is left, off which it is taken.
+// Takes the work of a step off the work that is left. Where that is less, it stays and the answer is false.
 fn spend(work: &mut u64, takes: u64) -> bool {
     match work.checked_sub(takes) {
         Some(left) => {
@@ -46,7 +46,7 @@ fn spend(work: &mut u64, takes: u64) -> bool {
     }
 }
 
-// The flip or the pivot of a step, or a pause. There is none where it is made.
+// Makes the flip or the pivot of a step and answers nothing, or answers with the pause that keeps it from being made.
 fn advance<T: Words>(
     tab: &mut RowTableau<T>,
     step: Step,
@@ -73,7 +73,7 @@ fn advance<T: Words>(
     }
 }
 
-// The next step, or a pause. There is none where it is made.
+// Chooses and makes the next step and answers nothing, or answers with the end or the pause instead.
 fn step<T: Words>(
     tab: &mut RowTableau<T>,
     used: u64,

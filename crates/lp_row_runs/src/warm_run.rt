@@ -1,4 +1,4 @@
-// The run of a form from a basis.
+// The warm start: the run of a form from a basis.
 ghost use Rattle.std.specs.Prelude.{◌≡◌, IfOk, IfSome, Ok, Some};
 ghost use Rattle.spec_exact.specs.Narrow.{number_limit};
 ghost use Rattle.spec_model.specs.Model.{Model};
@@ -15,13 +15,13 @@ use std::alloc::{AllocError, Global};
 // The bound on the work, some minutes of it: each number that is changed counts for the square of its words.
 const WORK: u64 = 64_000_000_000;
 
-/// The run from a basis over rows of whole numbers, within a budget of pivots and flips. The form's equations are
+/// The warm start over the integer-row tableau, within a budget of pivots and flips. The form's equations are
 /// solved for the basic columns. Where each of these is within its bounds, phase two goes on from there.
 ///
 /// For the form of a model it ends as the stated run with no limit on numbers, or has no end: where the basis is
 /// singular or not primal feasible, where a number of a row is past 2,048 bits, or where the budget is spent,
-/// or a bound on the work. Which of these it is, is not said, and nothing is promised of when the latter come. Only want
-/// of memory is an error.
+/// or a bound on the work. Which of these it is, is not said, and nothing is promised of when the latter come. Running
+/// out of memory is the only error.
 pub fn wide_warm(
     alloc: Global,
     form: &Form,
