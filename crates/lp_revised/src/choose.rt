@@ -1,9 +1,8 @@
 // Factoring the basic columns of a basis, one by one in the order of their numbers.
-ghost use Rattle.std.specs.Prelude.{◌≡◌, ◌≢◌, ◌+◌, ◌<◌, ◌≤◌, ℕ, List, Some, None, [], length, get_or};
+ghost use Rattle.std.specs.Prelude.{◌≡◌, ◌≢◌, ◌+◌, ◌<◌, ◌≤◌, Some, None, [], length, get_or};
 ghost use Rattle.std.specs.Prelude.{replicate, IfOk, IfSome, OnOk, map, unwrap_or, slice_set};
-ghost use Rattle.spec_exact.specs.Fraction.{ℚ, 0ℚ};
+ghost use Rattle.spec_exact.specs.Fraction.{0ℚ};
 ghost use Rattle.spec_exact.specs.Narrow.{number_limit};
-ghost use Rattle.spec_simplex.specs.Eliminate.{basics_below};
 ghost use Rattle.spec_factor.specs.Factors.{ftran_run, column_of as column_by, is_open as is_open_of};
 ghost use Rattle.spec_factor.specs.Factors.{open_place as open_place_of, with_pair, choose_run, factor_run};
 ghost use Rattle.lp_revised.specs.FactorAnswer.{GivesRun, Chooses, MakesFactors};
