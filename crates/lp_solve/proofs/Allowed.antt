@@ -1,4 +1,9 @@
--- What a solve ends with may be answered.
+-- What a solve ends with may be answered, by the route that it took.
+--
+-- `after_stop`: an end of the cold solve may follow a warm start that stopped so.
+-- `cold_is_solved`: without a starting basis a solve may end as the cold solve does.
+-- `formless_solved`: a solve of a model without a form may end as without a starting basis, since it has no basis.
+-- `starting_fits`: a starting basis of the form is one by its statuses too.
 use Rattle.std.proofs.Common.{◌≡◌, ℕ, List, Option, Some, None, IfSome, Result, Ok, Err, IfOk, option_map}
 use Rattle.std.proofs.Common.{refl, sym, subst, ◌∙◌}
 use Rattle.spec_exact.specs.Fraction.{ℚ}

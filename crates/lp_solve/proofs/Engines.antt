@@ -1,4 +1,8 @@
--- One engine after the other.
+-- One engine after the other, until one has an answer.
+--
+-- `from_factors`: the order that begins with factors contains each engine.
+-- `from_tableaus`: the order that begins with tableaus contains each engine.
+-- `from_rows`: the order that begins with rows contains each engine.
 use Rattle.std.proofs.Common.{◌≡◌, ◌⊎◌, inl, inr, ℕ, ◌<◌, ◌+◌, List, [], ◌∷◌, arith, length, take, get_or, Option, Some, Ok, Result, All, Contains}
 use Rattle.std.proofs.Common.{refl, sym, ◌∙◌, subst}
 use Rattle.std.proofs.lemmas.List.Elements.{All-contains, All-more, All-weaker}

@@ -1,4 +1,8 @@
--- What an exact solve answers.
+-- What an exact solve answers, and where it may give up.
+--
+-- `clash_answers`: bounds that clash are an exact answer: the model is infeasible.
+-- `refusal_gives_up`: where an operation is refused while the form is made, an exact solve may give up.
+-- `formless_exactly`: an exact solve of a model without a form may end as without a starting basis.
 use Rattle.std.proofs.Common.{◌≡◌, ℕ, List, Option, Some, None, Result, Ok, Err, IfSome, IfOk, option_map, refl, sym, subst, ◌∙◌}
 use Rattle.spec_exact.specs.Fraction.{ℚ}
 use Rattle.spec_exact.specs.Narrow.{number_limit}

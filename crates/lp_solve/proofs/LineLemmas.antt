@@ -1,4 +1,10 @@
 -- Numbers of which the numerator and the denominator take at most half a line.
+--
+-- `below_from`: where comparing two numbers says less, the first is below the second.
+-- `first_is`: a word is the word to the power 2 ^ 0.
+-- `square_is`: the square of a word to the power 2 ^ i is the word to the power 2 ^ (i + 1).
+-- `power_is`: 10 ^ 15, squared nine times, is the power of half a line.
+-- `fits_of`: a fraction fits a line where its numerator and its denominator are below the power of half a line.
 use Rattle.std.proofs.Common.{◌≡◌, ◌<◌, ◌^◌, ℕ, Bool, IsTrue, Ordering, nat_cmp, is_lt, unsigned_abs}
 use Rattle.std.proofs.Common.{refl, sym, subst, ap, ◌∙◌, suc, ◌+◌, ◌*◌, arith, List, Result, IfOk, All}
 use Rattle.std.proofs.lemmas.Nat.{pow-add}

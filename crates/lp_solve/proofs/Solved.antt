@@ -1,4 +1,11 @@
 -- The cold solve by its form, and certificates that fit their model.
+--
+-- `start_stop`: a start that stops past 127 bits is refused that operation by the definition.
+-- `form_stop`: making a form that stops past 127 bits is refused that operation by the definition.
+-- `form_clash`: making a form that stops at a clash stops at that column by the definition.
+-- `finishes`: the answer by the certificate of both phases' end is what the cold solve makes of that end.
+-- `end_never_no`: the checker never says no to the certificate of both phases' end.
+-- `clash_never_no`: the checker never says no to the certificate of bounds that clash.
 use Rattle.std.proofs.Common.{◌≡◌, ◌≢◌, ℕ, ◌<◌, Option, Some, None, Result, Ok, Err, refl, sym, subst, ap, ◌∙◌}
 use Rattle.spec_exact.specs.Fraction.{ℚ}
 use Rattle.spec_exact.specs.declared.past.Past.{Past}

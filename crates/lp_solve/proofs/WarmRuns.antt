@@ -1,4 +1,13 @@
 -- The warm start part by part, from the tableau of a basis.
+--
+-- `is_singular`: a start from a basis that stops for its cause finds the basis singular by the definition.
+-- `is_past`: a start from a basis that stops past 127 bits is refused that operation by the definition.
+-- `no_starting`: a model without a form has no starting basis.
+-- `fits_form`: a starting basis of the model is one of the form that the model has.
+-- `primal_fits`: the certificate of the primal method's end is one for the model.
+-- `primal_never_no`: the checker never says no to the certificate of the primal method's end.
+-- `dual_fits`: the certificate of the dual method's end is one for the model.
+-- `dual_never_no`: the checker never says no to the certificate of the dual method's end.
 use Rattle.std.proofs.Common.{◌≡◌, ◌≢◌, ℕ, List, Option, Some, None, IfSome, Result, Ok, Err}
 use Rattle.std.proofs.Common.{refl, ap, sym, subst, ◌∙◌}
 use Rattle.spec_exact.specs.Fraction.{ℚ}
