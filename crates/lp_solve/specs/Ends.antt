@@ -8,10 +8,12 @@ use Rattle.spec_simplex.specs.Tableau.{Tableau, all_columns}
 use Rattle.spec_simplex.specs.Phases.{PhasesEnd, Infeasible, Finished}
 use Rattle.lp_solve.specs.declared.phases.Ended.{Ended}
 
+-- the end of both phases at this tableau and count; without an end of phase two it is infeasible
 abbrev pub end_by : Tableau → ℕ → Option PrimalEnd → PhasesEnd
 end_by t used None = Infeasible t used
 end_by t used (Some end) = Finished (record { end = end; tableau = t; used = used })
 
+-- an end of both phases as the definitions have it
 abbrev pub end_of : Ended → PhasesEnd
 end_of e = end_by e.tab e.used e.end
 
@@ -25,7 +27,7 @@ abbrev pub Ends : Result PhasesEnd (RunStop ℚ) → Result Ended (RunStop ℚ) 
 Ends answer (Ok e) = answer ≡ Ok (end_of e)
 Ends answer (Err stop) = answer ≡ Err stop
 
--- a column that is never stopped is one of the tableau's
+-- the column of an unbounded end is one of the tableau
 abbrev pub IsInside : Tableau → Option PrimalEnd → Type 0
 IsInside t None = Unit {0}
 IsInside t (Some Optimal) = Unit {0}

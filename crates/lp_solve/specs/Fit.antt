@@ -10,13 +10,13 @@ use Rattle.spec_runs.specs.Cold.{ExactSolveEnd}
 use Rattle.spec_runs.specs.declared.ends.Warm.TheVariants as warm
 use Rattle.spec_runs.specs.Warm.{WarmResult}
 
--- it is one for the model, and its numbers are of at most 127 bits
+-- the certificate of an answer is one for the model, and its numbers have at most 127 bits
 abbrev pub IsFit : Model → ExactSolveEnd → Type 0
 IsFit m (Ended answer certificate basis pivots) = IsFor m certificate × IsNarrowCertificate certificate
 IsFit m (Past p) = Unit {0}
 IsFit m Spent = Unit {0}
 
--- the same of a warm start
+-- the certificate of a warm start's answer is one for the model, and its numbers have at most 127 bits
 abbrev pub IsWarmFit : Model → WarmResult → Type 0
 IsWarmFit m (warm.Ended answer certificate basis pivots) = IsFor m certificate × IsNarrowCertificate certificate
 IsWarmFit m (warm.Stopped stop) = Unit {0}

@@ -1,4 +1,4 @@
--- How a column stands whose reduced cost is given, and a row whose sum is.
+-- When a column is at a basis by its reduced cost, and a row by its sum.
 use Rattle.std.specs.Prelude.{◌≡◌, ℕ, List, Some, None, Ok}
 use Rattle.spec_exact.specs.Fraction.{ℚ, 0ℚ}
 use Rattle.spec_model.specs.Model.{Model, bounds, row, part}
@@ -6,14 +6,14 @@ use Rattle.spec_check.specs.Run.{lower_run, upper_run}
 use Rattle.spec_pivot.specs.declared.status.Status.{Status}
 use Rattle.spec_pivot.specs.declared.status.Status.TheVariants.{Basic, AtLower, AtUpper, AtZero}
 
--- column j, whose reduced cost is d
+-- column j, whose reduced cost is d, is as its status says
 abbrev pub ColumnStandsWith : Model → List ℚ → ℕ → ℚ → Status → Type 0
 ColumnStandsWith m x j d Basic = d ≡ 0ℚ
 ColumnStandsWith m x j d AtLower = (bounds m j).lower ≡ Some (part x j)
 ColumnStandsWith m x j d AtUpper = (bounds m j).upper ≡ Some (part x j)
 ColumnStandsWith m x j d AtZero = part x j ≡ 0ℚ
 
--- row i, whose sum is s
+-- row i, whose sum is s, is as its logical's status says
 abbrev pub RowStandsWith : Model → List ℚ → ℕ → ℚ → Status → Type 0
 RowStandsWith m y i s Basic = part y i ≡ 0ℚ
 RowStandsWith m y i s AtLower = lower_run None (row m i) ≡ Ok (Some s)

@@ -1,4 +1,4 @@
--- How a solve ends where the start from the basis has stopped.
+-- How a solve ends where the warm start has stopped.
 use Rattle.std.specs.Prelude.{◌≡◌, ℕ, List, Some, Ok}
 use Rattle.spec_exact.specs.Fraction.{ℚ}
 use Rattle.spec_exact.specs.Narrow.{number_limit}
@@ -12,7 +12,7 @@ use Rattle.spec_runs.specs.Warm.{after_form}
 use Rattle.spec_runs.specs.Solve.{SolveEnd}
 use Rattle.spec_solve.specs.Answers.{IsSolved}
 
--- the start from a basis of the form stops so
+-- the warm start from a basis of the form stops so
 abbrev pub StopsFrom : ℕ → Model → Form → List Status → WarmStop ℚ → Type 0
 StopsFrom budget m f basis stop = after_form (Some number_limit) budget m basis (Ok f) ≡ warm.Stopped stop
 

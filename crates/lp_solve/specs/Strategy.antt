@@ -16,7 +16,7 @@ GaveUp budget m f refused Factors = GivesUp (over_factors (Some number_limit) bu
 GaveUp budget m f refused Tableaus = GivesUp refused × (refused ≡ cold (Some number_limit) budget m)
 GaveUp budget m f refused Rows = Unit {0}
 
--- it ends with an answer with which the cold solve may end, or it gives up
+-- the engine ends with an answer with which the cold solve may end, or it gives up
 abbrev pub IsRunOf : ℕ → Model → Form → Engine → ExactSolveEnd → Type 0
 IsRunOf budget m f engine (Ended known certificate basis pivots) =
     MayEndCold (Some number_limit) budget m (Ended known certificate basis pivots)

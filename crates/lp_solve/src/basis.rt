@@ -11,7 +11,7 @@ use lp_simplex::dual::DualEnd;
 use lp_tableau::{PrimalEnd, Tableau};
 use std::alloc::{AllocError, Global};
 
-// The status of column `k`. A logical whose row's artificial is basic counts as basic in its place.
+// The status of column `k` in a basis. A logical whose row's artificial is basic counts as basic in its place.
 fn basis_status(tab: &Tableau, k: u32) -> Status
     requires { k < form_columns tab.now }
     ensures { result ≡ cold.basis_status tab.now k }
@@ -34,7 +34,7 @@ fn statuses(alloc: Global, tab: &Tableau) -> Result<StatusList, AllocError>
     Ok(statuses)
 }
 
-// The statuses of the basis of an end by the primal method, which an optimal one has.
+// The statuses of the basis of an optimal end by the primal method; another end has none.
 pub(crate) fn basis_at(
     alloc: Global,
     tab: &Tableau,
@@ -48,7 +48,7 @@ pub(crate) fn basis_at(
     }
 }
 
-// The statuses of the basis of an end by the dual method.
+// The statuses of the basis of an optimal end by the dual method; another end has none.
 pub(crate) fn dual_basis(
     alloc: Global,
     tab: &Tableau,
@@ -62,7 +62,7 @@ pub(crate) fn dual_basis(
     }
 }
 
-// The basis of the form that these statuses are.
+// These statuses as a basis of the form, if there are any.
 pub(crate) fn basis_of(form: &Form, statuses: Option<StatusList>) -> Option<Basis>
     requires { IfSome statuses (λ basis. IsBasisOf form.now basis) }
     ensures { result ≡ statuses }

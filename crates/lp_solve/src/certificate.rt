@@ -15,7 +15,7 @@ use lp_simplex::dual::DualEnd;
 use lp_tableau::{PrimalEnd, Tableau, directed};
 use std::alloc::{AllocError, Global};
 
-// Puts a fraction at the end, whose parts have at most 127 bits as those of each one.
+// Pushes `v` on the list, and tells proofs that its parts have at most 127 bits.
 fn push(fracs: &mut Fracs, v: Frac) -> Result<(), AllocError>
     ensures pushed { OnOk result (fracs.new ≡ fracs.old ++ v ∷ []) }
     ensures narrow { IsNarrow v }
@@ -38,7 +38,7 @@ fn point(alloc: Global, tab: &Tableau) -> Result<Fracs, AllocError>
     Ok(point)
 }
 
-// The reduced costs of the rows' logicals.
+// The multipliers of an optimal end: the reduced costs of the rows' logicals.
 fn multipliers(alloc: Global, tab: &Tableau) -> Result<Fracs, AllocError>
     ensures value { IfOk result (λ y. y ≡ cold.multipliers tab.now) }
     ensures narrow { IfOk result (All IsNarrow) }
@@ -50,7 +50,7 @@ fn multipliers(alloc: Global, tab: &Tableau) -> Result<Fracs, AllocError>
     Ok(multipliers)
 }
 
-// How column `k` moves while column `j` enters and rises or falls by 1.
+// How far column `k` moves when the entering column `j` rises or falls by 1.
 fn move_of(tab: &Tableau, j: u32, up: bool, k: u32) -> Frac
     requires { j < all_columns tab.now }
     ensures { result ≡ cold.moves_by tab.now j up k }
@@ -64,7 +64,7 @@ fn move_of(tab: &Tableau, j: u32, up: bool, k: u32) -> Frac
     moved
 }
 
-// The same of the model's columns.
+// The ray of an unbounded end: how far each of the model's columns moves when the entering column `j` moves by 1.
 fn direction(alloc: Global, tab: &Tableau, j: u32, up: bool) -> Result<Fracs, AllocError>
     requires { j < all_columns tab.now }
     ensures value { IfOk result (λ r. r ≡ cold.direction tab.now j up) }
@@ -77,7 +77,8 @@ fn direction(alloc: Global, tab: &Tableau, j: u32, up: bool) -> Result<Fracs, Al
     Ok(direction)
 }
 
-// The entries of a position's row in the rows' logicals, or their negatives where its column is above its upper bound.
+// Farkas multipliers by a position's row: its entries in the rows' logicals, negated where its column is above its
+// upper bound.
 fn row_multipliers(
     alloc: Global,
     tab: &Tableau,
@@ -98,7 +99,7 @@ fn row_multipliers(
     Ok(multipliers)
 }
 
-// The certificate that no point is feasible, by the reduced costs.
+// The certificate of an infeasible end of phase one, whose Farkas multipliers are the reduced costs.
 pub(crate) fn infeasible(alloc: Global, tab: &Tableau) -> Result<Certificate, AllocError>
     ensures value { IfOk result (λ c. c ≡ certificates.Infeasible (cold.multipliers tab.now)) }
     ensures narrow { IfOk result IsNarrowCertificate }
@@ -108,7 +109,7 @@ pub(crate) fn infeasible(alloc: Global, tab: &Tableau) -> Result<Certificate, Al
     })
 }
 
-// The certificate of an end by the primal method.
+// The certificate of an end by the primal method, optimal or unbounded.
 pub(crate) fn certificate_at(
     alloc: Global,
     tab: &Tableau,
@@ -131,7 +132,7 @@ pub(crate) fn certificate_at(
     }
 }
 
-// The certificate of an end by the dual method.
+// The certificate of an end by the dual method, optimal or infeasible.
 pub(crate) fn dual_certificate(
     alloc: Global,
     tab: &Tableau,

@@ -1,4 +1,4 @@
-// The cold solve of a model from its form.
+// The cold solve of a model over whole tableaus, from its form.
 ghost use Rattle.std.specs.Prelude.{◌≡◌, ◌≢◌, ℕ, Err, IfOk, IfSome, Ok, Some};
 ghost use Rattle.spec_exact.specs.Narrow.{number_limit};
 ghost use Rattle.spec_check.specs.Certificate.{IsFor, IsNarrowCertificate};
@@ -24,7 +24,8 @@ use std::alloc::{AllocError, Global};
 /// is spent (`Spent`).
 pub type End = spec_check::SolveEnd<Frac, Fracs, Basis>;
 
-/// The certificate with what the checker says of it. It never says no to that of an end (`ends_are_accepted` of spec_runs).
+/// The certificate with what the checker says of it. It never says no to that of an end (`ends_are_accepted` of
+/// spec_runs).
 pub(crate) fn checked_cold(
     model: &Model,
     certificate: Certificate,
@@ -53,7 +54,7 @@ pub(crate) fn checked_cold(
     }
 }
 
-// The certificate of what both phases ended with.
+// The certificate of the end of both phases.
 fn certificate(alloc: Global, ended: &Ended) -> Result<Certificate, AllocError>
     requires { IsInside ended.now.tab ended.now.end }
     ensures value { IfOk result (λ c. c ≡ cold.certificate_of (end_of ended.now)) }
@@ -65,7 +66,7 @@ fn certificate(alloc: Global, ended: &Ended) -> Result<Certificate, AllocError>
     }
 }
 
-// The statuses of the basis of what both phases ended with, which an optimal end has.
+// The statuses of the basis of both phases' end, if this is optimal.
 fn statuses(alloc: Global, ended: &Ended) -> Result<Option<StatusList>, AllocError>
     ensures { IfOk result (λ b. b ≡ cold.basis_of (end_of ended.now)) }
 {
@@ -75,7 +76,7 @@ fn statuses(alloc: Global, ended: &Ended) -> Result<Option<StatusList>, AllocErr
     }
 }
 
-// The answer of what both phases ended with.
+// The answer of both phases' end: its certificate with the checker's verdict, and its basis.
 fn finished(alloc: Global, model: &Model, form: &Form, ended: &Ended) -> Result<End, AllocError>
     requires inside { IsInside ended.now.tab ended.now.end }
     requires fits { IsFor model.now (cold.certificate_of (end_of ended.now)) }

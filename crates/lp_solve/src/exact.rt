@@ -35,14 +35,14 @@ pub type ExactAnswer = spec_solve::ExactAnswer<Ratio, Ratios, Basis>;
 /// How an exact solve ends.
 pub type ExactEnd = spec_solve::ExactEnd<Ratio, Ratios, Basis>;
 
-// Whether it is within the limits of forms of which tableaus are made.
+// Whether the model is a usual one: within the limits of forms of which tableaus are made.
 fn is_usual(model: &Model) -> bool
     ensures { IsTrue result ↔ IsUsual model.now }
 {
     model.rows() <= USUAL_LIMITS.rows && model.cols() <= USUAL_LIMITS.columns
 }
 
-// The answer of a solve at 127 bits, of which the certificate was checked.
+// The exact answer of a solve at 127 bits, whose certificate was checked there, without a basis.
 fn settled(
     alloc: Global,
     known: Known,
@@ -62,7 +62,7 @@ fn settled(
     })
 }
 
-// The same with the basis of its end.
+// An exact answer with the basis of its end, if the certificate stands at that.
 fn settled_at(
     alloc: Global,
     model: &Model,
@@ -91,7 +91,7 @@ fn settled_at(
     })
 }
 
-// How it ends by what was found, where a solve at 127 bits may give up if the model is usual.
+// The exact end by what was found: an answer, or else open.
 fn or_open(found: Option<ExactAnswer>) -> ExactEnd
     ensures { (m : model) (budget : ℕ) (starting : Option (List status)) → (IsUsual m → MayGiveUp m budget starting) →
         IfSome found (IsExactAnswer m) → IsExactEnd m budget starting result }
@@ -102,7 +102,8 @@ fn or_open(found: Option<ExactAnswer>) -> ExactEnd
     }
 }
 
-// What is found where a solve at 127 bits is refused an operation.
+// Looks for an answer where a solve at 127 bits is refused an operation: over rows from the starting basis, by a float
+// run, and over rows from the start that each model has.
 fn beyond(
     alloc: Global,
     model: &Model,
@@ -126,7 +127,8 @@ fn beyond(
     over_rows(alloc, model, form, budget, Route::Fell(Fall::Past))
 }
 
-// What is found where its budget is spent. Without a starting basis the run in floats was asked before.
+// Looks for an answer where the budget of a solve at 127 bits is spent: by a float run, unless one was asked before,
+// which is so without a starting basis.
 fn beside(
     alloc: Global,
     model: &Model,
@@ -140,7 +142,7 @@ fn beside(
     }
 }
 
-// At 127 bits, and without a limit where an operation is refused there.
+// Solves the form's model at 127 bits, and looks for an answer without a limit where that gives up.
 fn by_runs(
     alloc: Global,
     model: &Model,
@@ -169,7 +171,7 @@ fn by_runs(
     }
 }
 
-// The answer of an unproved engine: that of the starting basis or of one a few steps on, or that of a float run.
+// Guesses an answer, which is checked: that of the starting basis or of one a few steps on, or that of a float run.
 fn guessed(
     alloc: Global,
     model: &Model,
@@ -183,7 +185,7 @@ fn guessed(
     }
 }
 
-// By the form of the model.
+// Solves a model exactly by its form: by a guess, or else by runs.
 fn by_form(
     alloc: Global,
     model: &Model,
@@ -201,7 +203,8 @@ fn by_form(
     }
 }
 
-// Of a model that has no form: bounds that clash are their own certificate. Memory is wanting only where the form's was.
+// The exact end of a model that has no form: bounds that clash are their own certificate. It is out of memory only
+// where the making of the form was.
 fn formless(model: &Model, stop: FormStop) -> Result<ExactEnd, AllocError>
     requires { IsFaultOf (form_of (Some number_limit) model.now) stop }
     ensures end { (budget : ℕ) → IfOk result (IsExactEnd model.now budget None) }
@@ -220,7 +223,7 @@ fn formless(model: &Model, stop: FormStop) -> Result<ExactEnd, AllocError>
     }
 }
 
-// Of a usual model.
+// Solves a usual model exactly: makes its form and goes on by it, or ends as a model without a form.
 fn usual_exactly(
     alloc: Global,
     model: &Model,
@@ -241,7 +244,8 @@ fn usual_exactly(
     }
 }
 
-// Of a model past the usual limits: bounds that clash are found without a run.
+// Solves a model past the usual limits without a starting basis: bounds that clash are found without a run, else a
+// float run is asked.
 fn large_cold(alloc: Global, model: &Model) -> Result<ExactEnd, AllocError>
     requires { ¬ (IsUsual model.now) }
     ensures { (budget : ℕ) → IfOk result (IsExactEnd model.now budget None) }
@@ -255,8 +259,8 @@ fn large_cold(alloc: Global, model: &Model) -> Result<ExactEnd, AllocError>
     }
 }
 
-// By a short run in floats from the basis, by the basis itself, by a long run from there, and by one from the start that
-// each model has. Of a large model an exact step takes longer than many steps in floats.
+// Looks for an answer of a large model from a basis: by a short float run from there, by the basis itself, by a long
+// run from there, and by one from the start that each model has. An exact step takes longer than many steps in floats.
 fn large_from(
     alloc: Global,
     model: &Model,
@@ -276,7 +280,7 @@ fn large_from(
     at_float_end_beside(alloc, model)
 }
 
-// Of a model past the usual limits.
+// Solves a model past the usual limits exactly, from a starting basis if there is one.
 fn large_exactly(
     alloc: Global,
     model: &Model,
@@ -295,13 +299,13 @@ fn large_exactly(
 /// Solves the model, and has the certificate of its answer checked without a limit, unless it is that of a solve at 127
 /// bits, which was checked there.
 ///
-/// Without a starting basis it asks first for what the end of a run in floating point leads to: the answer of a basis, or
-/// that there is no optimum. From a starting basis it asks first for the answer of this basis, or of one that is reached
-/// from it in a few steps; of a model past the usual limits it begins with what a short run in floating point from there
-/// leads to. Where that comes to nothing, it solves a usual model at 127 bits, and where an operation is refused there over
-/// rows of whole numbers without a limit: from the starting basis, then to what the end of a run in floating point leads
-/// to, and at last from the start that each model has. Of a larger model it goes on from the basis to what a long run in
-/// floating point from there leads to, and then one without it.
+/// Without a starting basis it asks first for what the end of a run in floating point leads to: the answer of a basis,
+/// or that there is no optimum. From a starting basis it asks first for the answer of this basis, or of one that is
+/// reached from it in a few steps; of a model past the usual limits it begins with what a short run in floating point
+/// from there leads to. Where that comes to nothing, it solves a usual model at 127 bits, and where an operation is
+/// refused there over rows of whole numbers without a limit: from the starting basis, then to what the end of a run in
+/// floating point leads to, and at last from the start that each model has. Of a larger model it goes on from the basis
+/// to what a long run in floating point from there leads to, and then one without it.
 ///
 /// Of a usual model it ends open only where a solve at 127 bits gives up. The basis of an answer is one at which its
 /// certificate stands.

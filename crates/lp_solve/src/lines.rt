@@ -1,5 +1,5 @@
 // Whether the numbers of a certificate fit their lines.
-ghost use Rattle.std.specs.Prelude.{◌≡◌, ◌<◌, ◌^◌, ◌*◌, ℕ, length, IfOk, IsTrue, All};
+ghost use Rattle.std.specs.Prelude.{◌≡◌, ◌<◌, ◌^◌, IfOk, IsTrue, All};
 ghost use Rattle.spec_solve.specs.Exact.{FitsLine, FitsLines};
 ghost use Rattle.lp_solve.specs.Lines as lines;
 
@@ -8,12 +8,13 @@ use lp_natural::Natural;
 use lp_ratio::{Lowest, Ratio};
 use std::alloc::{AllocError, Global};
 
-// 10^15, and how often it is squared to have as many zeros as a numerator and a denominator may have digits, each.
+// 10^15, from which the power of ten is made by squaring.
 const STEP: u64 = 1_000_000_000_000_000;
 
+// How often 10^15 is squared to have as many zeros as a numerator and a denominator may have digits, each.
 const SQUARINGS: u32 = 9;
 
-// A word, squared so many times.
+// The word, squared `times` times.
 fn squared(alloc: Global, word: u64, times: u32) -> Result<Natural, AllocError>
     ensures { IfOk result (λ n. n ≡ word ^ (2 ^ times)) }
 {
@@ -40,7 +41,7 @@ fn is_below(number: &Natural, power: &Natural) -> bool
     number.compare(power).is_lt()
 }
 
-// Whether the numerator and the denominator both are.
+// Whether the numerator and the denominator are both below the power.
 fn both_below(lowest: &Lowest, power: &Natural) -> bool
     ensures { IsTrue result → (lowest.now.top < power.now) × (lowest.now.bottom < power.now) }
 {
@@ -58,7 +59,7 @@ fn fits(alloc: Global, number: &Ratio, power: &Natural) -> Result<bool, AllocErr
     Ok(is_short)
 }
 
-// Whether each of them does.
+// Whether each number of the list takes no more than a line.
 fn all_fit(alloc: Global, list: &[Ratio], power: &Natural) -> Result<bool, AllocError>
     requires { power.now ≡ lines.line_power }
     ensures { IfOk result (λ b. IsTrue b → All FitsLine list.now) }
@@ -71,7 +72,7 @@ fn all_fit(alloc: Global, list: &[Ratio], power: &Natural) -> Result<bool, Alloc
     Ok(true)
 }
 
-// Whether those of both lists do.
+// Whether each number of both lists takes no more than a line.
 fn both_fit(
     alloc: Global,
     first: &[Ratio],
@@ -88,7 +89,7 @@ fn both_fit(
     }
 }
 
-// Whether those of the certificate do.
+// Whether each number of the certificate takes no more than a line, by the power of half a line.
 fn numbers_fit(
     alloc: Global,
     certificate: &Certificate,
@@ -105,8 +106,8 @@ fn numbers_fit(
     }
 }
 
-/// Whether each number of the certificate fits its line: by its numerator and its denominator alone, of which each may take
-/// half of it.
+/// Whether each number of the certificate fits its line: by its numerator and its denominator alone, of which each may
+/// take half of it.
 pub(crate) fn fits_lines(alloc: Global, certificate: &Certificate) -> Result<bool, AllocError>
     ensures { IfOk result (λ b. IsTrue b → FitsLines certificate.now) }
 {

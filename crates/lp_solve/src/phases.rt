@@ -1,4 +1,4 @@
-// Both phases.
+// Both phases of a cold solve over whole tableaus.
 ghost use Rattle.std.specs.Prelude.{◌≡◌, IfOk, Ok, Some};
 ghost use Rattle.spec_exact.specs.Narrow.{number_limit};
 ghost use Rattle.spec_simplex.specs.Start.{start_of};
@@ -15,11 +15,11 @@ use lp_tableau::{PrimalEnd, RunStop, Tableau};
 pub(crate) struct Ended {
     pub(crate) tab: Tableau,
     pub(crate) used: u64,
-    /// That of phase two. There is none where phase one leaves an artificial that is not 0.
+    /// The end of phase two. There is none where phase one leaves an artificial that is not 0.
     pub(crate) end: Option<PrimalEnd>,
 }
 
-// Phase one, where it is wanted.
+// Runs phase one on the tableau, where an artificial is basic.
 fn phase_one(tab: &mut Tableau, used: &mut u64, budget: u64) -> Result<PrimalEnd, RunStop>
     requires { used.old ≡ 0 }
     ensures { Runs (phases.phase_one (Some number_limit) budget tab.old) tab.new used.new result }
@@ -31,7 +31,7 @@ fn phase_one(tab: &mut Tableau, used: &mut u64, budget: u64) -> Result<PrimalEnd
     }
 }
 
-// Both phases from the tableau that the form begins with. They share the budget.
+// Runs both phases on the tableau that the form begins with. They share the budget, which `used` counts.
 fn both_phases(
     tab: &mut Tableau,
     used: &mut u64,
@@ -52,7 +52,7 @@ fn both_phases(
     Ok(Some(end))
 }
 
-/// Both phases from the tableau that the form begins with, and the tableau that they left.
+/// Runs both phases from the tableau that the form begins with, and tells their end with the tableau that they left.
 pub(crate) fn phases(mut tab: Tableau, form: &Form, budget: u64) -> Result<Ended, RunStop>
     requires { start_of (Some number_limit) form.now ≡ Ok tab }
     ensures answer { Ends (phases.phases_run (Some number_limit) budget form.now) result }

@@ -23,17 +23,18 @@ use spec_runs::Route;
 use spec_solve::Origin;
 use std::alloc::{AllocError, Global};
 
-// How many steps, each with systems of its own, an answer may be from the basis that a run in floats ends with, or from the
-// starting basis: where floats end at a basis that is not optimal exactly, it is mostly within a dozen.
+// How many steps, each with systems of its own, an answer may be from the basis that a run in floats ends with, or from
+// the starting basis: where floats end at a basis that is not optimal exactly, it is mostly within a dozen.
 const MOST_STEPS: u32 = 20;
 
-// How many steps more there may be, times the columns and rows: of small models more, since a step of them takes little.
+// How many steps more there may be, times the columns and rows: of small models more, since a step of them takes
+// little.
 const MORE_STEPS: u32 = 10_000;
 
 // The effort of a run without a limit on the numbers of its certificate, some minutes of it.
 const WIDE_WORK: u64 = 64_000_000_000;
 
-// What the certificate shows, if the checker without a limit says yes to it, and its numbers fit their lines.
+// What the checker without a limit says of the certificate, if it says yes and the numbers fit their lines.
 fn accepted(
     alloc: Global,
     model: &Model,
@@ -80,7 +81,8 @@ fn answered(
     }
 }
 
-// Whether the certificate is that of the basis: nonbasic columns and rows at their bounds, basic ones with reduced cost 0.
+// Whether the certificate is that of the basis: nonbasic columns and rows at their bounds, basic ones with reduced cost
+// 0.
 fn is_at_basis(
     alloc: Global,
     model: &Model,
@@ -146,7 +148,7 @@ fn based_at(
     }
 }
 
-// The same, by the form of the model, if it has one.
+// The basis with these statuses, if the model has a form of which it is one, and the certificate is that of the basis.
 fn basis_of_statuses(
     alloc: Global,
     model: &Model,
@@ -228,7 +230,7 @@ fn lifted_at(
     Ok(lifted)
 }
 
-// That of a run from these statuses, or from the start that each model has.
+// The answer of the basis that a float run ends with, from these statuses or from the start that each model has.
 fn lifted_end(
     alloc: Global,
     model: &Model,
@@ -298,7 +300,7 @@ pub(crate) fn at_near_end(
     }
 }
 
-/// That of a run in floats from a basis.
+/// The answer that a run in floats from a basis leads to.
 pub(crate) fn at_float_end_from(
     alloc: Global,
     model: &Model,
@@ -315,7 +317,7 @@ pub(crate) fn at_float_end_from(
     }
 }
 
-/// That of a run in floats without the starting basis.
+/// The answer that a run in floats without the starting basis leads to.
 pub(crate) fn at_float_end_beside(
     alloc: Global,
     model: &Model,
@@ -331,7 +333,7 @@ pub(crate) fn at_float_end_beside(
     }
 }
 
-/// From where an answer is that was found on this route.
+/// The origin of an answer that was found on this route, cold or from a basis.
 pub(crate) fn origin_of(route: Route, pivots: u64) -> Origin {
     match route {
         Route::Cold => Origin::Cold,
@@ -340,7 +342,7 @@ pub(crate) fn origin_of(route: Route, pivots: u64) -> Origin {
     }
 }
 
-// The answer of a run over rows on this route.
+// The answer of a run over rows on this route, if its certificate is accepted without a limit.
 fn at_row_end(
     alloc: Global,
     model: &Model,
@@ -363,7 +365,7 @@ fn at_row_end(
     answered(alloc, model, certificate, basis, origin_of(route, pivots))
 }
 
-/// That of the run over rows from the start that each model has, without a limit on their numbers.
+/// The answer of the run over rows from the start that each model has, without a limit on their numbers.
 pub(crate) fn over_rows(
     alloc: Global,
     model: &Model,
@@ -380,7 +382,7 @@ pub(crate) fn over_rows(
     }
 }
 
-/// That of the run over rows from the basis.
+/// The answer of the run over rows from the basis, without a limit on their numbers.
 pub(crate) fn over_rows_from(
     alloc: Global,
     model: &Model,

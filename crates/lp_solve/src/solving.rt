@@ -29,7 +29,7 @@ pub const OPENING_BUDGET: u64 = 10_000;
 /// How a solve ends.
 pub type Solved = spec_runs::Solved<Frac, Fracs, Basis>;
 
-// Why the warm start was given up.
+// Why a warm start that stopped so was given up, as a solve tells it.
 fn fall(stop: WarmStop) -> Fall
     ensures { result ≡ solve.fall_of stop }
 {
@@ -41,7 +41,7 @@ fn fall(stop: WarmStop) -> Fall
     }
 }
 
-// From the start that each model has, where the one from a basis has stopped so.
+// The cold solve after a warm start that stopped so.
 fn cold_after(
     alloc: Global,
     budget: u64,
@@ -58,7 +58,7 @@ fn cold_after(
     })
 }
 
-// From the basis, and where that stops from the start that each model has.
+// The warm start from the basis, and where that stops the cold solve.
 fn warm_first(
     alloc: Global,
     budget: u64,
@@ -86,7 +86,7 @@ fn warm_first(
     }
 }
 
-// From a basis.
+// The end of a warm start as that of a solve.
 fn ended_warm(end: End) -> Solved
     ensures { result ≡ record { end = end; route = route.Warm } }
 {
@@ -96,7 +96,7 @@ fn ended_warm(end: End) -> Solved
     }
 }
 
-// From the start that each model has.
+// The end of a cold solve as that of a solve.
 fn ended_cold(end: End) -> Solved
     ensures { result ≡ record { end = end; route = route.Cold } }
 {
@@ -106,7 +106,7 @@ fn ended_cold(end: End) -> Solved
     }
 }
 
-/// The same solve of a model whose form is at hand. The basis of an optimum is one of this form.
+/// Solves a model whose form is at hand, as `solve` does. The basis of an optimum is one of this form.
 pub fn solve_formed(
     alloc: Global,
     model: &Model,
@@ -125,8 +125,8 @@ pub fn solve_formed(
     }
 }
 
-/// The same solve of a model that has no form, by why it has none: bounds that clash are their own certificate. Memory
-/// is wanting only where the form's was.
+/// Solves a model that has no form, by why it has none: bounds that clash are their own certificate. It is out of
+/// memory only where the making of the form was.
 pub fn solve_formless(model: &Model, stop: FormStop) -> Result<Solved, AllocError>
     requires { IsFaultOf (form_of (Some number_limit) model.now) stop }
     ensures solved { IfOk result (λ s. (budget : ℕ) → IsSolved model.now budget None s) }

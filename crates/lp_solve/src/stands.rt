@@ -1,6 +1,6 @@
-// Whether a point and multipliers stand as a basis says.
-ghost use Rattle.std.specs.Prelude.{◌≡◌, ◌<◌, ◌+◌, ℕ, List, IfOk, IsTrue, length};
-ghost use Rattle.spec_exact.specs.Fraction.{ℚ};
+// Whether a point and multipliers are those of a basis: nonbasic columns at their bounds, basic ones with reduced cost
+// 0.
+ghost use Rattle.std.specs.Prelude.{◌≡◌, ◌<◌, ◌+◌, ℕ, IfOk, IsTrue, length};
 ghost use Rattle.spec_model.specs.Model.{width, height, part as part_of};
 ghost use Rattle.spec_simplex.specs.Eliminate.{basis_at};
 ghost use Rattle.spec_solve.specs.OfBasis.{StandsAt};
@@ -24,7 +24,7 @@ fn status_at(basis: &[Status], k: usize) -> Status
     }
 }
 
-// Whether column `j` stands as its status says, by its reduced cost.
+// Whether column `j` is as its status says: basic with the reduced cost 0, or nonbasic at its bound.
 fn column_stands(
     alloc: Global,
     model: &Model,
@@ -53,7 +53,7 @@ fn column_stands(
     }
 }
 
-// Whether each column does.
+// Whether each column is as its status says, by the reduced costs.
 fn columns_stand(
     alloc: Global,
     model: &Model,
@@ -75,7 +75,7 @@ fn columns_stand(
     Ok(true)
 }
 
-// Whether row `i` stands as its logical's status says, by its sum.
+// Whether row `i` is as its logical's status says: basic with the multiplier 0, or its sum at its limit.
 fn row_stands(
     alloc: Global,
     model: &Model,
@@ -104,7 +104,7 @@ fn row_stands(
     }
 }
 
-// Whether each row does.
+// Whether each row is as its logical's status says, by the sums.
 fn rows_stand(
     alloc: Global,
     model: &Model,

@@ -15,7 +15,7 @@ use lp_revised::cold_over_factors;
 use lp_row_runs::cold_over_rows;
 use std::alloc::{AllocError, Global};
 
-/// What runs both phases. Each one has the whole budget.
+/// An engine: what runs both phases of a cold solve. Each one has the whole budget.
 #[derive(Clone, Copy)]
 pub(crate) enum Engine {
     /// Revised simplex over factors of the basis.
@@ -66,8 +66,9 @@ fn suits_factors(form: &Form) -> bool {
 // How many rows for each column a tall model has.
 const TALL: u32 = 4;
 
-// Whether the tableaus are likely quicker than the rows of whole numbers, of which a step looks at each number: in a row
-// the basic columns are 0, one for each row of the model, and a tableau passes over them (docs/performance/rows.md).
+// Whether the tableaus are likely quicker than the rows of whole numbers, of which a step looks at each number: in a
+// row the basic columns are 0, one for each row of the model, and a tableau passes over them
+// (docs/performance/rows.md).
 fn is_tall(form: &Form) -> bool {
     form.rows() / TALL >= form.cols()
 }
@@ -85,11 +86,11 @@ fn engines(form: &Form) -> [Engine; 3]
     }
 }
 
-/// The effort of a run over rows whose certificate has numbers of 127 bits, some seconds of it: each number that is changed
-/// counts for the square of its words.
+/// The effort of a run over rows whose certificate has numbers of 127 bits, some seconds of it: each number that is
+/// changed counts for the square of its words.
 pub(crate) const WORK: u64 = 512_000_000;
 
-// What one engine ends with, and the check of its certificate at 127 bits. The rows give up where their effort passes
+// Runs one engine, and has the certificate of its end checked at 127 bits. The rows give up where their effort passes
 // `work`.
 fn run(
     alloc: Global,
@@ -128,7 +129,7 @@ fn run(
     }
 }
 
-// What the tableaus were refused, where this engine has given up too.
+// The refusal that is kept after this engine ended with `end`: that of the tableaus.
 fn refusal(engine: Engine, refused: End, end: End) -> End
     ensures { KeepsRefusal engine refused end result }
 {
@@ -144,9 +145,9 @@ fn refusal(engine: Engine, refused: End, end: End) -> End
     }
 }
 
-/// A solve from the start that each model has: one engine after the other, until one has an answer. It is that of the cold
-/// solve without a limit, and the checker says yes to its certificate at 127 bits. Where all give up, it is what the
-/// tableaus are refused. The rows give up where their effort passes `work`.
+/// A solve from the start that each model has: one engine after the other, until one has an answer. It is that of the
+/// cold solve without a limit, and the checker says yes to its certificate at 127 bits. Where all give up, it is what
+/// the tableaus are refused. The rows give up where their effort passes `work`.
 pub(crate) fn cold_solve(
     alloc: Global,
     budget: u64,

@@ -25,7 +25,7 @@ use std::alloc::{AllocError, Global};
 /// How a warm start ends.
 pub(crate) type Warm = spec_runs::Warm<Frac, Fracs, Basis>;
 
-/// Why it stops without an answer.
+/// Why a warm start stops without an answer.
 pub(crate) type WarmStop = spec_simplex::WarmStop<Frac>;
 
 // A stop of the run as one of the warm start.
@@ -63,7 +63,7 @@ fn checked_warm(model: &Model, certificate: Certificate, basis: Option<Basis>, p
     }
 }
 
-// The primal method from a primal feasible tableau.
+// Runs the primal method from a primal feasible tableau, and has the certificate of its end checked.
 fn by_primal(
     alloc: Global,
     budget: u64,
@@ -89,7 +89,7 @@ fn by_primal(
     }
 }
 
-// The dual method from a dual feasible tableau.
+// Runs the dual method from a dual feasible tableau, and has the certificate of its end checked.
 fn by_dual(
     alloc: Global,
     budget: u64,
@@ -115,7 +115,8 @@ fn by_dual(
     }
 }
 
-// The method that suits the tableau of the basis, and the check of the certificate that this ended with.
+// Runs the method for which the tableau of the basis is feasible, or stops where it is neither primal nor dual
+// feasible.
 fn from_tableau(
     alloc: Global,
     budget: u64,
@@ -138,7 +139,8 @@ fn from_tableau(
     }
 }
 
-/// The tableau of the basis, the method that suits it, and the check of the certificate that this ended with.
+/// The warm start: makes the tableau of the basis, runs the method for which it is feasible, and has the certificate of
+/// its end checked.
 pub(crate) fn from_basis(
     alloc: Global,
     budget: u64,
