@@ -1,4 +1,8 @@
--- What is found first, by a loop.
+-- What a loop finds first, among rows or columns in order.
+--
+-- `first_stops`: where nothing is found before k and the run at k is refused, the whole search is refused so.
+-- `first_found`: where nothing is found before k and something at k, that is what the whole search finds.
+-- `more_stays`: a row with more than one entry among the first k columns has more than one among more columns.
 use Rattle.std.proofs.Common.{◌≡◌, ℕ, zero, suc, ◌<◌, ◌≤◌, Bool, true, false, cond, Option, Some, None, Ok, Err, ap, ◌∙◌, subst, arith}
 use Rattle.std.proofs.Common.{⊎_elim}
 use Rattle.std.proofs.lemmas.Bool.{cases_eq}

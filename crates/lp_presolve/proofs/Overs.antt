@@ -1,4 +1,11 @@
--- Over one reduction, by what is kept of it.
+-- A certificate carried back over one reduction, by what is kept of it, and over all of them.
+--
+-- `carried_empty`: over a row without entries the certificate is carried as `over_empty` says.
+-- `carried_fixed`: over a fixed column the certificate is carried as `over_fixed` says.
+-- `carried_single`: over a row with one entry the certificate is carried by the kept step as by the model.
+-- `parted`: kept steps that are not none are a first step and the others, each of its reduction.
+-- `carried_stops`: a stop over the other reductions stops the carrying over all of them.
+-- `carried_on`: the certificate over the others, carried over the first one, is carried over all of them.
 use Rattle.std.proofs.Common.{◌≡◌, ℕ, ◌-◌, ◌≤◌, Option, Some, Result, Ok, Err}
 use Rattle.std.proofs.Common.{List, [], ◌∷◌, length, take, drop, get_or, refl, sym, ap, ◌∙◌, subst, arith}
 use Rattle.std.proofs.Math.Seq.{take-length}

@@ -1,4 +1,11 @@
--- The reductions so far.
+-- The reductions so far, and what the remaining ones make of them.
+--
+-- `has_column`: the column to which a chosen reduction gives new bounds is one of the smaller model.
+-- `reached_more`: one more chosen reduction leads from the first model to the next smaller one.
+-- `reached_end`: where as many reductions were made as may be, the reductions are done.
+-- `reached_halt`: where a rule ends the reductions, they end so for the first model.
+-- `reached_refused`: where the choice is refused an operation, the reductions of the first model are.
+-- `reached_stop`: where a chosen reduction stops, the reductions of the first model stop so.
 use Rattle.std.proofs.Common.{◌≡◌, ℕ, suc, ◌+◌, ◌-◌, ◌<◌, Some, Ok, Err, List, [], ◌∷◌, ◌++◌, refl, sym, ap, ◌∙◌}
 use Rattle.std.proofs.Common.{subst, arith}
 use Rattle.std.proofs.lemmas.List.{append_assoc, append-nil, map-append}

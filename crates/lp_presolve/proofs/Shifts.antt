@@ -1,4 +1,11 @@
--- The right sides, moved one after the other.
+-- The right sides less what a fixed column adds to the rows, one row after the other.
+--
+-- `term_is`: the right side that is computed of the model so far is that of the first model.
+-- `shift_stops`: where a right side is refused, the shift of all right sides is.
+-- `fixed_refused₁`: where the shift is refused, so is the reduction of a fixed column.
+-- `fixed_refused₂`: where the new offset is refused, so is the reduction of a fixed column.
+-- `fixed_done`: the shifted model with the new offset and without the column is the model after the reduction.
+-- `cost_is`: the offset that is computed of the read column and offset is the stated one.
 use Rattle.std.proofs.Common.{◌≡◌, ℕ, ◌<◌, ◌≤◌, List, length, get_or, Some, Ok, Err, refl, sym, ap, ap₂, ◌∙◌, arith}
 use Rattle.spec_exact.specs.Fraction.{ℚ}
 use Rattle.spec_exact.specs.declared.past.Past.{Past}

@@ -1,4 +1,9 @@
--- What is known of a reduction that was chosen, and the model after it.
+-- A reduction that was chosen, and the model after it.
+--
+-- `goes_as`: a chosen reduction that is s is one that may go.
+-- `after_empty`: the model without the row is the model after the reduction of a row without entries.
+-- `after_single`: the model with tighter bounds and without the row is the model after the reduction of a row with one
+--   entry.
 use Rattle.std.proofs.Common.{◌≡◌, ℕ, Option, Some, Ok, refl, subst}
 use Rattle.spec_exact.specs.Fraction.{ℚ}
 use Rattle.spec_exact.specs.Narrow.{number_limit}

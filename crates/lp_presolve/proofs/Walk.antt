@@ -1,4 +1,7 @@
 -- A walk over the entries of a column.
+--
+-- `entry_here`: where entry k is of row i, the entries from k on read as its value at i.
+-- `entry_on`: where entry k is of another row, the entries from k on read at i as those behind it.
 use Rattle.std.proofs.Common.{◌≡◌, ℕ, ◌+◌, ◌<◌, cond, eqb, List, length, drop, get_or, sym, ap, ◌∙◌}
 use Rattle.std.proofs.lemmas.Bool.{eq-eqb, ne_eqb}
 use Rattle.std.proofs.lemmas.List.{drop_more}
