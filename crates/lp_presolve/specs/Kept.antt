@@ -6,23 +6,25 @@ use Rattle.spec_presolve.specs.declared.reduction.Reduction.TheVariants.{Empty, 
 use Rattle.spec_presolve.specs.Choose.{ExactReduction}
 use Rattle.lp_presolve.specs.declared.step.Step.{Step}
 
--- the column that has new bounds is one of the model's
+-- the column to which a reduction gives new bounds is one of the model
 abbrev pub HasColumn : ExactReduction → Model → Type 0
 HasColumn (Empty i) m = Unit {0}
 HasColumn (Single i j a lower upper) m = j < width m
 HasColumn (Fixed j v) m = Unit {0}
 
+-- the cost of the column to which a reduction gives new bounds, 0 without one
 abbrev pub column_cost : ExactReduction → Model → ℚ
 column_cost (Empty i) m = 0ℚ
 column_cost (Single i j a lower upper) m = cost m j
 column_cost (Fixed j v) m = 0ℚ
 
+-- the entries of the column to which a reduction gives new bounds, none without one
 abbrev pub column_entries : ExactReduction → Model → List (ℕ × ℚ)
 column_entries (Empty i) m = []
 column_entries (Single i j a lower upper) m = (column m j).entries
 column_entries (Fixed j v) m = []
 
--- of a reduction and the model that it leads to
+-- what is kept of a reduction and the model that it leads to
 abbrev pub kept : ExactReduction → Model → Step
 kept r m =
     record {
@@ -33,5 +35,6 @@ kept r m =
       entries = column_entries r m;
     }
 
+-- what is kept of all reductions
 abbrev pub all_kept : List (ExactReduction × Model) → List Step
 all_kept steps = map (λ s. kept s.0 s.1) steps

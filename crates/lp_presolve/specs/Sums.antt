@@ -9,19 +9,21 @@ use Rattle.spec_check.specs.Checks.{signed}
 use Rattle.spec_presolve.specs.Carry.{ExactCertificate, is_given, taken_over, apart, or_clash}
 use Rattle.lp_presolve.specs.declared.step.Step.{Step}
 
+-- the reduced cost of the step's column
 abbrev pub reduced_by : Option ℕ → Step → List ℚ → Run ℚ
 reduced_by limit s y = steps s.rows (λ i d. less_product limit (part y i) (entry_of s.entries i) d) (signed s.sense s.cost)
 
+-- the sum of the multipliers times the entries of the step's column
 abbrev pub priced_by : Option ℕ → Step → List ℚ → Run ℚ
 priced_by limit s y = steps s.rows (λ i g. plus_product limit (part y i) (entry_of s.entries i) g) 0ℚ
 
--- the multiplier of the row where its bound and the other one of the column are apart
+-- the multiplier of the row where its bound clashes with the other one of the column
 abbrev pub apart_by : Option ℕ → ℚ → Option ℚ → Option ℚ → Run (Option ℚ)
 apart_by limit a (Some l) upper = quotient_run limit 1ℚ a >>= λ v. Ok (Some v)
 apart_by limit a None (Some u) = quotient_run limit (neg_ℚ 1ℚ) a >>= λ v. Ok (Some v)
 apart_by limit a None None = Ok None
 
--- where the bounds of column k clash
+-- the certificate that is carried back where the bounds of column k clash
 abbrev pub clash_by : Option ℕ → ℕ → ℕ → ℕ → ℚ → Option ℚ → Option ℚ → ℕ → Run ExactCertificate
 clash_by limit n i j a lower upper k =
     if k == j then (apart limit n i a lower upper >>= λ c. Ok (or_clash k c)) else Ok (Clash k)

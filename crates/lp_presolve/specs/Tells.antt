@@ -10,7 +10,7 @@ use Rattle.spec_exact.specs.Run.{Run}
 use Rattle.lp_frac.specs.declared.stop.Stop.{Stop}
 use Rattle.lp_frac.specs.declared.stop.Stop.TheVariants.{Cause, Past, NoMemory}
 
--- it is the run's, or memory was wanting; there is no other cause
+-- the result is that of the run, or memory was wanting; there is no other cause
 abbrev pub Tells : {A C : Type 0} → Run A → Result A (Stop C) → Type 0
 Tells run (Ok a) = run ≡ Ok a
 Tells run (Err (Cause c)) = ⊥

@@ -7,7 +7,7 @@ ghost use Rattle.spec_presolve.specs.Choose as choose;
 use lp_frac::{Frac, Past, cmp, den, div, num};
 use std::cmp::Ordering;
 
-// The limit over the entry, if there is a limit.
+// The limit divided by the entry, if there is a limit.
 pub(crate) fn quotient(limit: Option<Frac>, entry: Frac) -> Result<Option<Frac>, Past>
     requires { entry ≢ 0ℚ }
     ensures { result ≡ choose.quotient (Some number_limit) limit entry }
@@ -18,7 +18,7 @@ pub(crate) fn quotient(limit: Option<Frac>, entry: Frac) -> Result<Option<Frac>,
     }
 }
 
-// Whether it is 10 ^ 20 or more from 0: as many times its denominator fit into its numerator.
+// Whether a bound is 10 ^ 20 or more from 0: its denominator fits as many times into its numerator.
 pub(crate) fn is_far(bound: &Option<Frac>) -> bool
     ensures { result ≡ choose.is_far bound.now }
 {

@@ -1,7 +1,6 @@
 // A certificate carried back over reductions.
-ghost use Rattle.std.specs.Prelude.{◌≡◌, ◌<◌, ◌≤◌, ◌+◌, ◌^◌, ℕ, List, length, Some, IfOk, OnOk};
+ghost use Rattle.std.specs.Prelude.{◌≡◌, ◌<◌, ◌≤◌, ◌+◌, ◌^◌, List, length, Some, IfOk, OnOk};
 ghost use Rattle.std.specs.List.{insert};
-ghost use Rattle.spec_exact.specs.Fraction.{ℚ};
 ghost use Rattle.spec_exact.specs.Run.{quotient_run};
 ghost use Rattle.spec_exact.specs.Narrow.{number_limit};
 ghost use Rattle.spec_model.specs.Model.{Model, entry_of};
@@ -25,7 +24,7 @@ use lp_frac::{
 use lp_model::Sense;
 use std::alloc::{AllocError, Global};
 
-// The number at `i`, and 0 past the end.
+// The number of the list at `i`, and 0 past the end.
 fn part(list: &Fracs, i: u32) -> Frac
     ensures { result ≡ models.part list.now i }
 {
@@ -33,7 +32,7 @@ fn part(list: &Fracs, i: u32) -> Frac
     if i < list.len() { list.at(i) } else { zero() }
 }
 
-// What stands in row `i`, 0 where nothing does.
+// The value of the entry in row `i`, 0 where there is none.
 fn entry(entries: &[(u32, Frac)], i: u32) -> Frac
     ensures { result ≡ entry_of entries.now i }
 {
@@ -45,7 +44,7 @@ fn entry(entries: &[(u32, Frac)], i: u32) -> Frac
     zero()
 }
 
-// Puts `v` at `place`, or at the end if it comes before.
+// Inserts `v` in the list at `place`, or at the end of a shorter list.
 fn put(list: &mut Fracs, place: u32, v: Frac) -> Result<(), AllocError>
     ensures { OnOk result (list.new ≡ insert list.old place v) }
 {
@@ -57,7 +56,7 @@ fn put(list: &mut Fracs, place: u32, v: Frac) -> Result<(), AllocError>
     }
 }
 
-// The cost to be made least.
+// The cost as of a minimum: its negative where the model is maximized.
 fn signed(sense: Sense, cost: Frac) -> Frac
     ensures { result ≡ checks.signed sense cost }
 {
@@ -78,7 +77,7 @@ fn reduced(step: &Step, y: &Fracs) -> Result<Frac, Past>
     Ok(d)
 }
 
-// The multipliers' part in the step's column.
+// The sum of the multipliers times the entries of the step's column.
 fn priced(step: &Step, y: &Fracs) -> Result<Frac, Past>
     ensures { result ≡ priced_by (Some number_limit) step.now y.now }
 {
@@ -97,7 +96,8 @@ fn over_entry(d: Frac, a: Frac) -> Result<Frac, Past>
     if is_zero(a) { Ok(zero()) } else { div(d, a) }
 }
 
-// Whether the bound that a multiplier of this sign needs is one that the row gave.
+// Whether the row gave the bound that a reduced cost `d` needs: the lower one where it is positive, the upper one where
+// it is negative.
 fn is_given(lower: Option<Frac>, upper: Option<Frac>, d: Frac) -> bool
     ensures { result ≡ carry.is_given lower upper d }
 {
@@ -110,14 +110,14 @@ fn is_given(lower: Option<Frac>, upper: Option<Frac>, d: Frac) -> bool
     }
 }
 
-// What the row takes over of the column.
+// The multiplier that the row takes over from the column: `d / a` where the row gave the bound, else 0.
 fn taken_over(t: bool, d: Frac, a: Frac) -> Result<Frac, Past>
     ensures { result ≡ carry.taken_over (Some number_limit) t d a }
 {
     if t { over_entry(d, a) } else { Ok(zero()) }
 }
 
-/// `v` at `i`, among `n` others that are 0.
+// A list with `v` at `i` and `n` other numbers, which are 0.
 pub fn alone_at(alloc: Global, n: u32, i: u32, v: Frac) -> Result<Fracs, AllocError>
     ensures { IfOk result (λ list. list ≡ carry.alone_at n i v) }
 {
@@ -126,7 +126,7 @@ pub fn alone_at(alloc: Global, n: u32, i: u32, v: Frac) -> Result<Fracs, AllocEr
     Ok(list)
 }
 
-// The row's bound and the other one of the column are apart: its multiplier, if the row gave a bound.
+// The multiplier of a row whose bound clashes with the column's other one, if the row gave a bound.
 fn apart(a: Frac, lower: Option<Frac>, upper: Option<Frac>) -> Result<Option<Frac>, Past>
     ensures { result ≡ apart_by (Some number_limit) a lower upper }
 {
@@ -137,7 +137,7 @@ fn apart(a: Frac, lower: Option<Frac>, upper: Option<Frac>) -> Result<Option<Fra
     }
 }
 
-// Over a row without entries.
+// Carries a certificate back over a row without entries, whose multiplier is 0.
 fn over_empty(row: u32, certificate: Certificate) -> Result<Certificate, AllocError>
     ensures { IfOk result (λ c. c ≡ carry.over_empty row certificate) }
 {
@@ -154,7 +154,7 @@ fn over_empty(row: u32, certificate: Certificate) -> Result<Certificate, AllocEr
     }
 }
 
-// Over a column that is at `value`.
+// Carries a certificate back over a fixed column, which is at `value`.
 fn over_fixed(column: u32, value: Frac, certificate: Certificate) -> Result<Certificate, AllocError>
     requires { clash_of certificate + 1 < 2 ^ 32 }
     ensures { IfOk result (λ c. c ≡ carry.over_fixed column value certificate) }
@@ -174,7 +174,8 @@ fn over_fixed(column: u32, value: Frac, certificate: Certificate) -> Result<Cert
     }
 }
 
-// Over a row with the entry `a`, of the `rows` others, where the bounds of column `k` clash.
+// Carries a clash of column `k` back over a row with one entry `a`, beside `rows` others: where the row gave a bound of
+// this column, its multiplier shows that no point is feasible.
 fn over_clash(
     alloc: Global,
     rows: u32,
@@ -199,7 +200,7 @@ fn over_clash(
     }
 }
 
-// Over a row with the entry `a`.
+// Carries a certificate back over a row with one entry `a`.
 fn over_single(
     alloc: Global,
     step: &Step,
@@ -230,7 +231,7 @@ fn over_single(
     }
 }
 
-// Over one reduction.
+// Carries a certificate back over one reduction.
 fn over(alloc: Global, step: &Step, certificate: Certificate) -> Result<Certificate, Stop<Spent>>
     requires { clash_of certificate + 1 < 2 ^ 32 }
     ensures clash { IfOk result (λ c. clash_of c ≤ clash_of certificate + 1) }
@@ -259,7 +260,7 @@ fn over(alloc: Global, step: &Step, certificate: Certificate) -> Result<Certific
     }
 }
 
-/// Over all of them, from the last one.
+/// Carries a certificate of the last model back over all reductions, from the last one to the first.
 pub fn carry(
     alloc: Global,
     steps: &[Step],

@@ -1,6 +1,5 @@
 // The row or column that goes next.
-ghost use Rattle.std.specs.Prelude.{◌≡◌, ◌<◌, ◌||◌, ◌≢◌, Some, Ok, IfSome};
-ghost use Rattle.spec_exact.specs.Fraction.{0ℚ};
+ghost use Rattle.std.specs.Prelude.{◌≡◌, ◌<◌, ◌||◌, Some, Ok};
 ghost use Rattle.spec_exact.specs.Narrow.{number_limit};
 ghost use Rattle.spec_model.specs.Model.{width, height};
 ghost use Rattle.spec_presolve.specs.Choose as choose;
@@ -15,9 +14,10 @@ use std::cmp::Ordering;
 /// One step to a smaller model.
 pub type Reduction = spec_presolve::Reduction<Frac>;
 
+/// What comes next: a reduction, or the end of all.
 pub(crate) type Choice = spec_presolve::Choice<Frac>;
 
-// Whether there is no number between both.
+// Whether the lower bound is above the upper one.
 fn crossed(lower: Option<Frac>, upper: Option<Frac>) -> Result<bool, Past>
     ensures { result ≡ choose.crossed (Some number_limit) lower upper }
 {
@@ -30,7 +30,7 @@ fn crossed(lower: Option<Frac>, upper: Option<Frac>) -> Result<bool, Past>
     }
 }
 
-// Whether the bounds of column `j` clash.
+// The end of the reductions by column `j`, if its bounds clash.
 fn clash_at(model: &Model, j: u32) -> Result<Option<Choice>, Past>
     requires { j < width model.now }
     ensures { result ≡ choose.clash_at (Some number_limit) model.now j }
@@ -43,6 +43,7 @@ fn clash_at(model: &Model, j: u32) -> Result<Option<Choice>, Past>
     }
 }
 
+// Whether there is a lower limit above 0.
 fn is_above(lower: Option<Frac>) -> bool
     ensures { result ≡ choose.is_above lower }
 {
@@ -52,6 +53,7 @@ fn is_above(lower: Option<Frac>) -> bool
     }
 }
 
+// Whether there is an upper limit below 0.
 fn is_below(upper: Option<Frac>) -> bool
     ensures { result ≡ choose.is_below upper }
 {
@@ -61,7 +63,7 @@ fn is_below(upper: Option<Frac>) -> bool
     }
 }
 
-// What comes next of a row without entries.
+// What comes next by a row without entries: no point is feasible where 0 is beyond its limits, else the row goes.
 fn empty_row(row: u32, lower: Option<Frac>, upper: Option<Frac>) -> Choice
     ensures { result ≡ choose.empty_row row lower upper }
 {
@@ -74,7 +76,7 @@ fn empty_row(row: u32, lower: Option<Frac>, upper: Option<Frac>) -> Choice
     }
 }
 
-// Row `i`, if it has no entries.
+// What comes next by row `i`, if it has no entries.
 fn empty_at(model: &Model, i: u32) -> Result<Option<Choice>, Past>
     requires { i < height model.now }
     ensures { result ≡ choose.empty_at (Some number_limit) model.now i }
@@ -88,7 +90,7 @@ fn empty_at(model: &Model, i: u32) -> Result<Option<Choice>, Past>
     }
 }
 
-// Row `row` goes, which has one entry, and whose sum over that entry is between these two.
+// Row `row` goes, which has one entry `value` and holds its column between these two bounds.
 fn given(
     model: &Model,
     row: u32,
@@ -112,14 +114,14 @@ fn given(
     })))
 }
 
-// Whether one of them is too far from 0.
+// Whether one of these bounds is too far from 0.
 fn are_far(least: &Option<Frac>, most: &Option<Frac>) -> bool
     ensures { result ≡ choose.is_far least.now || choose.is_far most.now }
 {
     if is_far(least) { true } else { is_far(most) }
 }
 
-// The same, unless one of them is too far from 0.
+// Row `row` goes as by `given`, unless one of its bounds is too far from 0.
 fn near(
     model: &Model,
     row: u32,
@@ -140,7 +142,7 @@ fn near(
     }
 }
 
-// Row `i`, if it has one entry.
+// What comes next by row `i`, if it has one entry.
 fn single_at(model: &Model, i: u32) -> Result<Option<Choice>, Past>
     requires { i < height model.now }
     ensures { result ≡ choose.single_at (Some number_limit) model.now i }
@@ -156,6 +158,7 @@ fn single_at(model: &Model, i: u32) -> Result<Option<Choice>, Past>
     }
 }
 
+// The reduction of a column, if both of its bounds are the same.
 fn fixed_by(column: u32, lower: Option<Frac>, upper: Option<Frac>) -> Option<Choice>
     ensures { result ≡ choose.fixed_by column lower upper }
 {
@@ -170,6 +173,7 @@ fn fixed_by(column: u32, lower: Option<Frac>, upper: Option<Frac>) -> Option<Cho
     }
 }
 
+// What comes next by the first column whose bounds clash.
 fn first_clash(model: &Model) -> Result<Option<Choice>, Past>
     ensures { result ≡ choose.first (width model.now) (choose.clash_at (Some number_limit) model.now) }
 {
@@ -181,6 +185,7 @@ fn first_clash(model: &Model) -> Result<Option<Choice>, Past>
     Ok(None)
 }
 
+// What comes next by the first row without entries.
 fn first_empty(model: &Model) -> Result<Option<Choice>, Past>
     ensures { result ≡ choose.first (height model.now) (choose.empty_at (Some number_limit) model.now) }
 {
@@ -192,6 +197,7 @@ fn first_empty(model: &Model) -> Result<Option<Choice>, Past>
     Ok(None)
 }
 
+// What comes next by the first row with one entry.
 fn first_single(model: &Model) -> Result<Option<Choice>, Past>
     ensures { result ≡ choose.first (height model.now) (choose.single_at (Some number_limit) model.now) }
 {
@@ -203,6 +209,7 @@ fn first_single(model: &Model) -> Result<Option<Choice>, Past>
     Ok(None)
 }
 
+// The reduction of the first column that is fixed.
 fn first_fixed(model: &Model) -> Option<Choice>
     ensures { Ok result ≡ choose.first (width model.now) (choose.fixed_at model.now) }
 {

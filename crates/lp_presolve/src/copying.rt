@@ -6,6 +6,7 @@ use lp_frac::Entries;
 use lp_model::{Column, Model, Row};
 use std::alloc::{AllocError, Global};
 
+// A copy of the row.
 fn copied_row(alloc: Global, row: &Row) -> Result<Row, AllocError>
     ensures { IfOk result (λ copy. copy ≡ row.now) }
 {
@@ -17,6 +18,7 @@ fn copied_row(alloc: Global, row: &Row) -> Result<Row, AllocError>
     })
 }
 
+// A copy of the column.
 fn copied_column(alloc: Global, column: &Column) -> Result<Column, AllocError>
     ensures { IfOk result (λ copy. copy ≡ column.now) }
 {
@@ -29,6 +31,7 @@ fn copied_column(alloc: Global, column: &Column) -> Result<Column, AllocError>
     })
 }
 
+// Copies of all rows.
 fn copied_rows(alloc: Global, model: &Model) -> Result<Vec<Row>, AllocError>
     ensures { IfOk result (λ rows. rows.items ≡ model.now.rows) }
 {
@@ -39,6 +42,7 @@ fn copied_rows(alloc: Global, model: &Model) -> Result<Vec<Row>, AllocError>
     Ok(rows)
 }
 
+// Copies of all columns.
 fn copied_columns(alloc: Global, model: &Model) -> Result<Vec<Column>, AllocError>
     ensures { IfOk result (λ columns. columns.items ≡ model.now.columns) }
 {
@@ -49,7 +53,7 @@ fn copied_columns(alloc: Global, model: &Model) -> Result<Vec<Column>, AllocErro
     Ok(columns)
 }
 
-/// A copy of the model.
+/// A copy of the model, to be made smaller.
 pub fn copied(alloc: Global, model: &Model) -> Result<Model, AllocError>
     requires { IsModel model.now }
     ensures { IfOk result (λ copy. copy ≡ model.now) }

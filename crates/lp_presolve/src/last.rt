@@ -13,7 +13,7 @@ use lp_solve::{End, solve};
 use spec_presolve::Halt;
 use std::alloc::{AllocError, Global};
 
-// The certificate that no point is feasible, where the reductions ended for that.
+// The certificate that the model is infeasible, where the reductions ended for that.
 fn halted(alloc: Global, model: &Model, halt: Halt) -> Result<Option<Certificate>, AllocError>
     ensures { IfOk result (λ certificate. certificate ≡ carry.halted model.now halt) }
 {
@@ -32,7 +32,7 @@ fn halted(alloc: Global, model: &Model, halt: Halt) -> Result<Option<Certificate
     }
 }
 
-// The certificate of a solve of the model, with the count of pivots.
+// The certificate of a solve of the model within the budget, with the count of pivots.
 fn solved(alloc: Global, model: &Model, budget: u64) -> Result<(Certificate, u64), Stop<Spent>>
     requires { IsUsual model.now }
     ensures { LastTells model.now budget None result }

@@ -30,14 +30,14 @@ pub type Way = spec_presolve::Way<Frac>;
 /// What a solve by a smaller model ends with.
 pub type Presolved = spec_presolve::Presolved<Frac, Fracs, Basis>;
 
-// The numbers of a list are of at most 127 bits. It does nothing: proofs call it for this fact.
+// Does nothing: proofs take from the call that the numbers of the list have at most 127 bits.
 fn are_narrow(numbers: &Fracs)
     ensures { All IsNarrow numbers.now }
 {
     all_within(numbers.as_slice());
 }
 
-// The same of a certificate.
+// Does nothing: proofs take from the call that the numbers of the certificate have at most 127 bits.
 fn is_narrow(certificate: &Certificate)
     ensures { IsNarrowCertificate certificate.now }
 {
@@ -84,7 +84,7 @@ fn accepted(
     }
 }
 
-// By the last model, to which the steps lead.
+// Solves the model by the last one, to which the steps lead, and carries the certificate back.
 fn from_last(
     alloc: Global,
     model: &Model,
@@ -103,7 +103,7 @@ fn from_last(
     Ok(accepted(model, last, certificate, pivots)?)
 }
 
-// By a smaller model.
+// Makes a smaller model and solves the model by it.
 fn by_smaller(alloc: Global, model: &Model, budget: u64) -> Result<Presolved, Stop<Spent>>
     requires { IsUsualModel model.now }
     ensures { Tries model.now budget result }
@@ -114,7 +114,7 @@ fn by_smaller(alloc: Global, model: &Model, budget: u64) -> Result<Presolved, St
     from_last(alloc, model, &last, steps.as_slice(), halt, budget)
 }
 
-// The model as it is.
+// Solves the model as it is, for this reason.
 fn plain(alloc: Global, model: &Model, budget: u64, why: Why) -> Result<Presolved, AllocError>
     requires { IsUsual model.now }
     ensures { IfOk result (IsPlain model.now budget why) }

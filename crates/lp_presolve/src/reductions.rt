@@ -1,5 +1,5 @@
 // All reductions of a model.
-ghost use Rattle.std.specs.Prelude.{◌≡◌, ◌<◌, [], ◌∷◌, ◌++◌, Some, Ok, IfOk, IfErr, OnOk};
+ghost use Rattle.std.specs.Prelude.{◌≡◌, [], ◌∷◌, ◌++◌, Some, Ok, IfOk, IfErr, OnOk};
 ghost use Rattle.spec_exact.specs.Narrow.{number_limit};
 ghost use Rattle.spec_model.specs.Kept.{IsModel};
 ghost use Rattle.spec_presolve.specs.declared.reduction.Choice.TheVariants.{Reduce};
@@ -17,12 +17,12 @@ use spec_presolve::Halt;
 use std::alloc::Global;
 use thiserror::Error;
 
-/// The budget is spent.
+/// The budget of a solve is spent. Callers put it beside a refusal.
 #[derive(Clone, Copy, Debug, Error)]
 #[error("the budget of pivots and flips is spent")]
 pub struct Spent;
 
-// The model after a reduction that was chosen for it, which goes behind the steps so far.
+// Makes the reduction that was chosen for the model, and puts it behind the steps so far.
 fn go_on(
     alloc: Global,
     model: &mut Model,
@@ -41,8 +41,8 @@ fn go_on(
     Ok(())
 }
 
-/// Makes the model smaller by at most `left` reductions, and puts them behind those of `steps`. What is left of the model
-/// after a refusal is of no use.
+/// Makes the model smaller by at most `left` reductions, and puts them behind those of `steps`. What is left of the
+/// model after a refusal is of no use.
 pub fn reduce(
     alloc: Global,
     model: &mut Model,

@@ -1,4 +1,4 @@
-// What stands in a row, and between which limits its sum is.
+// The entries of a row, and between which limits its sum is.
 ghost use Rattle.std.specs.Prelude.{◌≡◌, ◌<◌, Some};
 ghost use Rattle.spec_exact.specs.Narrow.{number_limit};
 ghost use Rattle.spec_model.specs.Model.{height};
@@ -8,9 +8,10 @@ ghost use Rattle.spec_presolve.specs.Choose as choose;
 use lp_frac::{Frac, Past, are_same, zero};
 use lp_model::{Model, Row, lower_limit, upper_limit};
 
+// The entries of a row: none, one, or more.
 pub(crate) type InRow = spec_presolve::InRow<Frac>;
 
-// One entry more.
+// What was found in a row, with one entry more.
 fn and_next(found: InRow, column: u32, value: Frac) -> InRow
     ensures { result ≡ choose.and_next found column value }
 {
@@ -24,7 +25,7 @@ fn and_next(found: InRow, column: u32, value: Frac) -> InRow
     }
 }
 
-// What stands in row `i`.
+// What entries row `i` has: none, one, or more.
 pub(crate) fn in_row(model: &Model, i: u32) -> InRow
     requires { i < height model.now }
     ensures { result ≡ choose.in_row model.now i }

@@ -1,7 +1,7 @@
 // The model without the row or column that goes.
 ghost use Rattle.std.specs.Prelude.{◌≡◌, ◌<◌, Some, Ok, Err, OnOk, IfErr};
 ghost use Rattle.spec_exact.specs.Narrow.{number_limit};
-ghost use Rattle.spec_model.specs.Model.{Limits, width, height, bounds};
+ghost use Rattle.spec_model.specs.Model.{width, height, bounds};
 ghost use Rattle.spec_edit.specs.Changes as changes;
 ghost use Rattle.spec_presolve.specs.declared.reduction.Choice.TheVariants.{Reduce};
 ghost use Rattle.spec_presolve.specs.declared.reduction.Reduction.TheVariants.{Fixed};
@@ -13,7 +13,7 @@ use crate::choosing::Reduction;
 use lp_frac::{Frac, Past, less_product, plus_product};
 use lp_model::Model;
 
-// The bound that is given, or else the one that was there.
+// The new bound if there is one, or else the old one.
 fn or_old(bound: Option<Frac>, old: Option<Frac>) -> Option<Frac>
     ensures { result ≡ reduce.or_old bound old }
 {
@@ -23,7 +23,7 @@ fn or_old(bound: Option<Frac>, old: Option<Frac>) -> Option<Frac>
     }
 }
 
-// Column `j` has the bounds that are given, and row `i` goes.
+// Gives column `j` these bounds, where there are any, and removes row `i`.
 fn without_single(model: &mut Model, i: u32, j: u32, lower: Option<Frac>, upper: Option<Frac>)
     requires kept { IsModel model.old }
     requires i_in_range { i < height model.old }
@@ -40,7 +40,7 @@ fn without_single(model: &mut Model, i: u32, j: u32, lower: Option<Frac>, upper:
     model.remove_row(i);
 }
 
-// The right sides less what column `j` adds to the rows where it is at `value`.
+// Takes off each right side what column `j` adds to the row where it is at `value`.
 fn shift(model: &mut Model, j: u32, value: Frac) -> Result<(), Past>
     requires { j < width model.old }
     ensures ok { OnOk result (reduce.shifted (Some number_limit) model.old j value ≡ Ok model.new) }
@@ -53,7 +53,7 @@ fn shift(model: &mut Model, j: u32, value: Frac) -> Result<(), Past>
     Ok(())
 }
 
-// Column `j` goes, which is at `value`.
+// Removes column `j`, which is at `value`: right sides and offset change by its part.
 fn without_fixed(model: &mut Model, j: u32, value: Frac) -> Result<(), Past>
     requires { j < width model.old }
     ensures ok { OnOk result (reduce.after (Some number_limit) model.old (Fixed j value) ≡ Ok model.new) }
@@ -68,7 +68,7 @@ fn without_fixed(model: &mut Model, j: u32, value: Frac) -> Result<(), Past>
     Ok(())
 }
 
-/// The model after the reduction that was chosen for it. Where an operation is refused, it is left as it is then.
+/// Makes the model smaller by the reduction that was chosen for it. After a refusal the model is open.
 pub(crate) fn shrink(model: &mut Model, reduction: &Reduction) -> Result<(), Past>
     requires kept { IsModel model.old }
     requires chosen { chosen (Some number_limit) model.old ≡ Ok (Reduce reduction.now) }
