@@ -118,7 +118,7 @@ fn taken_over(t: bool, d: Frac, a: Frac) -> Result<Frac, Past>
 }
 
 // A list with `v` at `i` and `n` other numbers, which are 0.
-pub fn alone_at(alloc: Global, n: u32, i: u32, v: Frac) -> Result<Fracs, AllocError>
+pub(crate) fn alone_at(alloc: Global, n: u32, i: u32, v: Frac) -> Result<Fracs, AllocError>
     ensures { IfOk result (λ list. list ≡ carry.alone_at n i v) }
 {
     let mut list = zeros(alloc, n as usize)?;
@@ -261,7 +261,7 @@ fn over(alloc: Global, step: &Step, certificate: Certificate) -> Result<Certific
 }
 
 /// Carries a certificate of the last model back over all reductions, from the last one to the first.
-pub fn carry(
+pub(crate) fn carry(
     alloc: Global,
     steps: &[Step],
     certificate: Certificate,

@@ -12,7 +12,7 @@ use spec_presolve::Halt;
 use std::cmp::Ordering;
 
 /// One step to a smaller model.
-pub type Reduction = spec_presolve::Reduction<Frac>;
+pub(crate) type Reduction = spec_presolve::Reduction<Frac>;
 
 /// What comes next: a reduction, or the end of all.
 pub(crate) type Choice = spec_presolve::Choice<Frac>;

@@ -54,7 +54,7 @@ fn copied_columns(alloc: Global, model: &Model) -> Result<Vec<Column>, AllocErro
 }
 
 /// A copy of the model, to be made smaller.
-pub fn copied(alloc: Global, model: &Model) -> Result<Model, AllocError>
+pub(crate) fn copied(alloc: Global, model: &Model) -> Result<Model, AllocError>
     requires { IsModel model.now }
     ensures { IfOk result (λ copy. copy ≡ model.now) }
 {

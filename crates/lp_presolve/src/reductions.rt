@@ -20,7 +20,7 @@ use thiserror::Error;
 /// The budget of a solve is spent. Callers put it beside a refusal.
 #[derive(Clone, Copy, Debug, Error)]
 #[error("the budget of pivots and flips is spent")]
-pub struct Spent;
+pub(crate) struct Spent;
 
 // Makes the reduction that was chosen for the model, and puts it behind the steps so far.
 fn go_on(
@@ -43,7 +43,7 @@ fn go_on(
 
 /// Makes the model smaller by at most `left` reductions, and puts them behind those of `steps`. What is left of the
 /// model after a refusal is of no use.
-pub fn reduce(
+pub(crate) fn reduce(
     alloc: Global,
     model: &mut Model,
     steps: &mut Steps,

@@ -11,7 +11,7 @@ use std::alloc::{AllocError, Global};
 /// A reduction, and of the model that it leads to how many rows it has, its sense, and the cost and the entries of the
 /// column that has new bounds.
 #[derive(Drop)]
-pub struct Step {
+pub(crate) struct Step {
     pub reduction: Reduction,
     pub rows: u32,
     pub sense: Sense,
@@ -20,10 +20,14 @@ pub struct Step {
 }
 
 /// Reductions in their order.
-pub type Steps = Items<Step>;
+pub(crate) type Steps = Items<Step>;
 
 /// The record of one reduction step, for carrying a certificate back.
-pub fn step_of(alloc: Global, model: &Model, reduction: Reduction) -> Result<Step, AllocError>
+pub(crate) fn step_of(
+    alloc: Global,
+    model: &Model,
+    reduction: Reduction,
+) -> Result<Step, AllocError>
     requires { HasColumn reduction model.now }
     ensures { IfOk result (λ step. step ≡ kept reduction model.now) }
 {
