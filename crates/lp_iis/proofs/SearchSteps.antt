@@ -1,4 +1,11 @@
--- The steps of a search.
+-- The steps of a search: one side after the other is left out or kept.
+--
+-- `ahead_first`: before the first step no side is kept, all are ahead, and all together clash.
+-- `ahead_at`: the sides ahead from i on are the side that is read at i and those behind it.
+-- `begun`: where the model's cold solve ends infeasible, the search begins with its certificate.
+-- `begun_else`: where the model's cold solve ends otherwise, the search ends as it does, and not infeasible.
+-- `certified_all`: the kept sides with an accepted certificate and their points are certified.
+-- `ahead_same`: a way with equal kept sides, points and clashing sides is still ahead.
 use Rattle.std.proofs.Common.{◌≡◌, ℕ, ◌+◌, ◌<◌, List, length, drop, [], ◌∷◌, ◌++◌, All, Some, Ok}
 use Rattle.std.proofs.Common.{inl, inr, refl, sym, ap, ◌∙◌, subst}
 use Rattle.std.proofs.lemmas.List.{append_assoc, drop_more}
