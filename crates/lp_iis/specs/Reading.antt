@@ -17,7 +17,7 @@ IsReadable upper r = end_run upper (Some number_limit) r ≡ Ok (end_of upper (l
 abbrev pub place_by : (ℕ → Bool) → ℕ → Option ℕ
 place_by p i = if p i then Some (rank p i) else None
 
--- an entry at a place, if there is one
+-- an entry at a place, if there is a place
 abbrev pub entry_by : Option ℕ → ℚ → List (ℕ × ℚ)
 entry_by None v = []
 entry_by (Some k) v = (k, v) ∷ []

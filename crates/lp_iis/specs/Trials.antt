@@ -13,17 +13,20 @@ use Rattle.spec_iis.specs.Found.{EndsCold, ShowsInfeasible}
 use Rattle.lp_iis.specs.declared.trial.Trial.{Trial}
 use Rattle.lp_iis.specs.declared.trial.Trial.TheVariants.{Infeasible, Point, Stopped}
 
+-- what a certificate says of its model
 abbrev pub trial_by : Certificate (List ℚ) → Trial
 trial_by (Optimal x y) = Point x
 trial_by (Unbounded x r) = Point x
 trial_by (certificates.Infeasible y) = Infeasible (certificates.Infeasible y)
 trial_by (Clash j) = Infeasible (Clash j)
 
+-- what the end of a solve says of its model
 abbrev pub trial_of : ExactSolveEnd → Trial
 trial_of (Ended known certificate basis pivots) = trial_by certificate
 trial_of (Past p) = Stopped (Past p)
 trial_of Spent = Stopped Spent
 
+-- what is read of a solve is true of the model
 abbrev pub IsTried : ℕ → Model → Trial → Type 0
 IsTried budget m (Infeasible cert) = ShowsInfeasible m cert
 IsTried budget m (Point z) = IsFeasible m z

@@ -33,7 +33,7 @@ IsSeen budget m sides (LookStopped end) = EndsCold (only m sides) budget end × 
 
 -- ---- the begin
 
--- by the end of the model's solve
+-- what the search begins with, by the end of the model's solve
 abbrev pub begin_by : ExactSolveEnd → First
 begin_by (Ended known.Infeasible cert basis pivots) = Infeasible cert
 begin_by (Ended (known.Optimal v) cert basis pivots) = Else (Ended (known.Optimal v) cert basis pivots)
@@ -62,6 +62,7 @@ pub record GivesUpAt (budget : ℕ) (m : Model) (end : ExactSolveEnd) (IsReached
   pub ends : EndsCold (only m sides) budget end
   pub gives_up : GivesUp end
 
+-- the sides that are left are all looked at; or the solve of some of them gives up
 abbrev pub IsLeft : ℕ → Model → List Side → Left → Type 0
 IsLeft budget m all (Kept kept points) = IsOnWay m all kept [] points
 IsLeft budget m all (Stopped end) = GivesUpAt budget m end (λ s. Reaches m [] all s)
@@ -76,7 +77,7 @@ pub record IsCertified (m : Model) (kept sides : List Side) (cert : Certificate 
   pub certificate : ShowsInfeasible (only m sides) cert
   pub without : ArePointsWithout m sides points
 
--- with the kept sides
+-- the search may end so with the kept sides
 abbrev pub MayEnd : ℕ → Model → List Side → ExactIis → Type 0
 MayEnd budget m kept (Found sides cert points) = IsCertified m kept sides cert points
 MayEnd budget m kept (Other end) = ⊥

@@ -16,9 +16,10 @@ use lp_model::Model;
 use spec_iis::Side;
 use std::alloc::{AllocError, Global};
 
+// Why a checker's sum stops.
 type CheckStop = spec_check::CheckStop<Frac>;
 
-// `v * w` onto `s`.
+// `s` with `v * w` added, as the checker computes it.
 fn plus_product(v: Frac, w: Frac, s: Frac) -> Result<Frac, CheckStop>
     ensures { result ≡ run.plus_product (Some number_limit) v w s }
 {
@@ -26,7 +27,7 @@ fn plus_product(v: Frac, w: Frac, s: Frac) -> Result<Frac, CheckStop>
     Ok(sum)
 }
 
-// The multipliers' part in column `j`.
+// The sum of the multipliers times the entries of column `j`.
 fn priced(model: &Model, y: &Fracs, j: u32) -> Result<Frac, CheckStop>
     requires inside { j < width model.now }
     requires multipliers { length y.now ≡ height model.now }
@@ -39,7 +40,7 @@ fn priced(model: &Model, y: &Fracs, j: u32) -> Result<Frac, CheckStop>
     Ok(sum)
 }
 
-// Adds the side, if it is used.
+// Adds the side to the list, if it is used.
 pub(crate) fn push_if(used: bool, side: Side, to: &mut Sides) -> Result<(), AllocError>
     ensures { OnOk result (to.new ≡ to.old ++ rule.side_if used side) }
 {
@@ -49,7 +50,7 @@ pub(crate) fn push_if(used: bool, side: Side, to: &mut Sides) -> Result<(), Allo
     Ok(())
 }
 
-// Adds the lower one of the row or column, if it is used, and then the upper one.
+// Adds the lower side of the row or column `at` to the list, if it is used, and then the upper one.
 fn push_sides(
     row: bool,
     at: u32,
@@ -81,7 +82,7 @@ fn push_sides(
     )
 }
 
-// Adds those of all rows.
+// Adds the sides of all rows that the multipliers use.
 fn push_rows(model: &Model, y: &Fracs, to: &mut Sides) -> Result<(), AllocError>
     requires { length y.now ≡ height model.now }
     ensures { OnOk result (to.new ≡ to.old ++ rule.gathered (λ i. rule.row_sides i (part_of y.now i)) (height model.now)) }
@@ -99,7 +100,7 @@ fn push_rows(model: &Model, y: &Fracs, to: &mut Sides) -> Result<(), AllocError>
     Ok(())
 }
 
-// Adds those of column `j`.
+// Adds the side of column `j` that the multipliers use.
 fn push_column(model: &Model, y: &Fracs, j: u32, to: &mut Sides) -> Result<(), AllocError>
     requires inside { j < width model.now }
     requires multipliers { length y.now ≡ height model.now }
@@ -112,7 +113,7 @@ fn push_column(model: &Model, y: &Fracs, j: u32, to: &mut Sides) -> Result<(), A
     }
 }
 
-// Adds those of all columns.
+// Adds the sides of all columns that the multipliers use.
 fn push_columns(model: &Model, y: &Fracs, to: &mut Sides) -> Result<(), AllocError>
     requires multipliers { length y.now ≡ height model.now }
     requires accepted { run.check_run (Some number_limit) model.now (certificates.Infeasible y.now) ≡ Ok

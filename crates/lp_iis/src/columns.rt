@@ -19,7 +19,7 @@ fn place_at(places: &[Option<u32>], i: u32) -> Option<u32>
     places[i as usize]
 }
 
-// Adds an entry at a place, if there is one.
+// Adds an entry at a place to the list, if there is a place.
 fn push_at(to: &mut Entries, place: Option<u32>, v: Frac) -> Result<(), AllocError>
     ensures { OnOk result (to.new ≡ to.old ++ entry_by place v) }
 {
@@ -29,7 +29,7 @@ fn push_at(to: &mut Entries, place: Option<u32>, v: Frac) -> Result<(), AllocErr
     Ok(())
 }
 
-// The entries in the rows that stay, with their numbers among these.
+// The entries of a column in the rows that stay, by the rows' numbers among these.
 fn entries_left(
     alloc: Global,
     entries: &[(u32, Frac)],
@@ -56,7 +56,7 @@ fn if_listed(listed: bool, bound: Option<Frac>) -> Option<Frac>
     if listed { bound } else { None }
 }
 
-// Column `j`, with its sides that are listed.
+// Column `j` with the bounds that are listed, without a cost, and its entries in the rows that stay.
 fn column_with(
     alloc: Global,
     model: &Model,

@@ -1,4 +1,4 @@
-// Those of some sides that a certificate uses which is of the model with them alone.
+// Which of some sides a certificate uses, where the certificate is of the model with these sides alone.
 ghost use Rattle.std.specs.Prelude.{◌≡◌, ◌<◌, ◌++◌, true, All, IfOk, OnOk, length};
 ghost use Rattle.std.specs.List.{filter};
 ghost use Rattle.spec_iis.specs.Sides.{IsSide, is_listed};
@@ -16,7 +16,7 @@ use lp_model::Model;
 use spec_iis::Side;
 use std::alloc::{AllocError, Global};
 
-// The number of the row or column, that of a row by the place that it has.
+// The number of the row or column in the model with the sides alone: that of a row by its place.
 fn place_of(places: &[Option<u32>], row: bool, at: u32) -> u32
     requires { row ≡ true → at < length places.now }
     ensures { result ≡ (placed places.now (record { row = row; at = at; upper = true })).at }
@@ -28,7 +28,7 @@ fn place_of(places: &[Option<u32>], row: bool, at: u32) -> u32
     }
 }
 
-// The same side of the model in which the rows have these places.
+// The side as one of the model in which the rows have these places.
 fn moved(places: &[Option<u32>], side: Side) -> Side
     requires { side.row ≡ true → side.at < length places.now }
     ensures { result ≡ placed places.now side }
@@ -40,7 +40,7 @@ fn moved(places: &[Option<u32>], side: Side) -> Side
     }
 }
 
-// Adds the side, if in the model in which the rows have these places it is one of those that are used.
+// Adds the side to `few`, if it is used in the model in which the rows have these places.
 fn push_used(
     used: &Sides,
     places: &[Option<u32>],
@@ -54,7 +54,7 @@ fn push_used(
     push_if(is_used, side, few)
 }
 
-// Those of the sides that are used, where these places give each the number that it has among those that stay.
+// Those of the sides that are used, where `places` gives each row its number among those that stay.
 fn used_of(
     alloc: Global,
     used: &Sides,

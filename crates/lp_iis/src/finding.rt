@@ -25,7 +25,7 @@ use std::alloc::{AllocError, Global};
 /// Which sides are left of some.
 #[derive(Drop)]
 pub(crate) enum Left {
-    /// These, with a point for each that meets the others.
+    /// These sides, with a point for each that meets the others.
     Kept(Sides, Points),
     /// The solve of some of them gives up.
     Stopped(End),
@@ -80,7 +80,7 @@ fn filter(alloc: Global, model: &Model, budget: u64, sides: &Sides) -> Result<Le
     Ok(Left::Kept(kept, points))
 }
 
-// What a solve says of these sides alone.
+// Solves the model with these sides alone, and tells what that says of them.
 fn try_alone(alloc: Global, model: &Model, budget: u64, sides: &[Side]) -> Result<Trial, AllocError>
     requires model { IsUsualModel model.now }
     requires read { All (IsRead (Some number_limit) model.now) sides.now }
@@ -92,7 +92,7 @@ fn try_alone(alloc: Global, model: &Model, budget: u64, sides: &[Side]) -> Resul
     trial
 }
 
-// The kept sides with a certificate.
+// The end of the search: the kept sides with a certificate, which a last solve gives, and their points.
 fn certified(
     alloc: Global,
     model: &Model,
@@ -116,7 +116,7 @@ fn certified(
     }
 }
 
-// From the certificate that no point of the model is feasible.
+// Searches among the sides that the certificate of the model's infeasibility uses.
 fn reduced(
     alloc: Global,
     model: &Model,

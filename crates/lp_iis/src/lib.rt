@@ -3,7 +3,7 @@
 //! | Item | What it is | Where |
 //! |---|---|---|
 //! | `find` | such a set of a model that has no feasible point, with a certificate and points | src/finding |
-//! | `Iis` | what it ends with | src/lists |
+//! | `Iis` | what a search ends with | src/lists |
 //! | `Sides`, `Points` | lists of sides, and of points | src/lists |
 //! | `only` | the model with some of its sides alone | src/alone |
 //!

@@ -1,10 +1,11 @@
 // Sides that are listed.
-ghost use Rattle.std.specs.Prelude.{◌≡◌, ◌||◌};
+ghost use Rattle.std.specs.Prelude.{◌≡◌};
 ghost use Rattle.spec_iis.specs.Sides.{same_side, is_listed};
 ghost use Rattle.spec_iis.specs.Only as only;
 
 use spec_iis::Side;
 
+// Whether both are the same side of the same row or column.
 fn is_same(a: Side, b: Side) -> bool
     ensures { result ≡ same_side a b }
 {
@@ -19,7 +20,7 @@ pub(crate) fn is_listed(sides: &[Side], side: Side) -> bool
     sides.iter().any(|other| is_same(side, *other))
 }
 
-/// Whether the lower one of the row or column `at` is.
+/// Whether the lower side of the row or column `at` is listed.
 pub(crate) fn has_lower(sides: &[Side], row: bool, at: u32) -> bool
     ensures { result ≡ only.has_lower sides.now row at }
 {
@@ -33,7 +34,7 @@ pub(crate) fn has_lower(sides: &[Side], row: bool, at: u32) -> bool
     )
 }
 
-/// Whether the upper one is.
+/// Whether the upper side of the row or column `at` is listed.
 pub(crate) fn has_upper(sides: &[Side], row: bool, at: u32) -> bool
     ensures { result ≡ only.has_upper sides.now row at }
 {
@@ -47,7 +48,7 @@ pub(crate) fn has_upper(sides: &[Side], row: bool, at: u32) -> bool
     )
 }
 
-/// Whether either one of row `i` is.
+/// Whether a side of row `i` is listed, so that the row stays.
 pub(crate) fn stays(sides: &[Side], i: u32) -> bool
     ensures { result ≡ only.stays sides.now i }
 {

@@ -30,7 +30,7 @@ pub(crate) enum Look {
     Stopped(End),
 }
 
-// By the model with the sides alone.
+// Looks at the sides by a solve of `alone`, the model with them alone.
 fn look_into(
     alloc: Global,
     model: &Model,
@@ -54,7 +54,7 @@ fn look_into(
     }
 }
 
-// By a solve.
+// Looks at the sides: makes the model with them alone, and solves it.
 fn look_at(alloc: Global, model: &Model, budget: u64, sides: &Sides) -> Result<Look, AllocError>
     requires model { IsUsualModel model.now }
     requires present { All (IsSide model.now) sides.now }
@@ -67,7 +67,7 @@ fn look_at(alloc: Global, model: &Model, budget: u64, sides: &Sides) -> Result<L
     look
 }
 
-// The first ones, and the others behind them.
+// One list of the first sides and the others behind them.
 fn joined(alloc: Global, first: &Sides, others: &[Side]) -> Result<Sides, AllocError>
     ensures { IfOk result (λ sides. sides ≡ first.now ++ others.now) }
 {
@@ -76,7 +76,7 @@ fn joined(alloc: Global, first: &Sides, others: &[Side]) -> Result<Sides, AllocE
     Ok(sides)
 }
 
-// The same of the kept sides and the others together.
+// Looks at the kept sides and the others together, by a solve.
 fn look_at_both(
     alloc: Global,
     model: &Model,
@@ -95,7 +95,7 @@ fn look_at_both(
     look
 }
 
-// That the same few clash.
+// What is seen where the few that are known to clash are still there.
 fn as_before(alloc: Global, clash: &Sides) -> Result<Look, AllocError>
     ensures { IfOk result (λ look. look ≡ looks.Clash clash.now) }
 {

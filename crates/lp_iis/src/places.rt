@@ -1,5 +1,5 @@
 // The numbers of the rows that stay.
-ghost use Rattle.std.specs.Prelude.{◌≡◌, IfOk, Some, None};
+ghost use Rattle.std.specs.Prelude.{◌≡◌, IfOk};
 ghost use Rattle.spec_exact.specs.Run.{made};
 ghost use Rattle.spec_model.specs.Model.{height};
 ghost use Rattle.spec_iis.specs.Only.{stays};

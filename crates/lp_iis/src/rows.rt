@@ -14,7 +14,7 @@ use lp_model::{Kind, Model, Row};
 use spec_iis::Side;
 use std::alloc::{AllocError, Global};
 
-// The same fraction, whose parts have at most 127 bits as those of each one.
+// The same fraction. The call does nothing: proofs take from it that the fraction's parts have at most 127 bits.
 fn narrow(v: Frac) -> Frac
     ensures value { result ≡ v }
     ensures narrow { IsNarrow v }
@@ -37,6 +37,7 @@ fn single(alloc: Global, kind: Kind, row: &Row, rhs: Frac) -> Result<Row, AllocE
     })
 }
 
+// The same range, of which proofs know by the call that its parts have at most 127 bits.
 fn narrow_range(range: Option<Frac>) -> Option<Frac>
     ensures value { result ≡ range }
     ensures narrow { IfSome range IsNarrow }
@@ -47,7 +48,7 @@ fn narrow_range(range: Option<Frac>) -> Option<Frac>
     }
 }
 
-// The row as it is.
+// A copy of the row with both of its sides.
 fn copy(alloc: Global, row: &Row) -> Result<Row, AllocError>
     ensures value { IfOk result (λ r. r ≡ row.now) }
     ensures narrow { IfOk result IsNarrowRow }
@@ -92,7 +93,7 @@ fn upper_alone(alloc: Global, row: &Row) -> Result<Row, AllocError>
     }
 }
 
-// The row with these of its sides.
+// The row with its lower side, its upper side, or both.
 #[tactic(auto, unfolding(spec_iis::specs::Only::only_row))]
 fn row_with(alloc: Global, row: &Row, lower: bool, upper: bool) -> Result<Row, AllocError>
     requires lower { lower ≡ true → IsReadable false row.now }

@@ -21,7 +21,7 @@ pub(crate) enum Trial {
     Stopped(End),
 }
 
-// What a certificate says.
+// What a certificate says of its model: a feasible point, or that there is none.
 fn said(certificate: Certificate) -> Trial
     ensures { result ≡ trials.trial_by certificate }
 {
@@ -38,7 +38,7 @@ fn said(certificate: Certificate) -> Trial
     }
 }
 
-// What the end of a solve says.
+// What the end of a solve says of its model.
 fn said_by(end: End) -> Trial
     ensures { result ≡ trials.trial_of end }
 {
@@ -57,7 +57,7 @@ fn said_by(end: End) -> Trial
     }
 }
 
-/// What the cold solve says of the model.
+/// Solves the model cold, and tells what that says of it.
 pub(crate) fn try_model(alloc: Global, model: &Model, budget: u64) -> Result<Trial, AllocError>
     requires { IsUsual model.now }
     ensures { IfOk result (IsTried budget model.now) }
