@@ -5,7 +5,7 @@ use Rattle.basis_board.specs.declared.seats.View.{View}
 use Rattle.basis_board.specs.declared.seats.RawRead.{RawRead}
 use Rattle.basis_board.specs.declared.seats.RawRead.TheVariants.{Count, See, Claim, Lost, Done}
 
--- P of each element, by recursion
+-- each element has the property P, by recursion
 abbrev pub Each : {X : Type 0} → (X → Type 0) → List X → Type 0
 Each P [] = Unit {0}
 Each P (x ∷ xs) = P x × Each P xs
@@ -20,10 +20,12 @@ abbrev pub total : {X : Type 0} → (X → ℕ) → List X → ℕ
 total f [] = 0
 total f (x ∷ xs) = f x + total f xs
 
+-- 1 for true and 0 for false
 abbrev pub one_if : Bool → ℕ
 one_if true = 1
 one_if false = 0
 
+-- how often k occurs in the list
 abbrev pub times : ℕ → List ℕ → ℕ
 times k xs = total (λ x. one_if (x == k)) xs
 
@@ -32,6 +34,7 @@ times k xs = total (λ x. one_if (x == k)) xs
 abbrev pub count : List ℕ → ℕ
 count ws = slice_index ws 0
 
+-- 1 where place k is done, and else 0
 abbrev pub done : List ℕ → ℕ → ℕ
 done ws k = slice_index ws (50 * k + 50)
 
@@ -40,6 +43,7 @@ pub record Shows (ws : List ℕ) (k : ℕ) (xs : List ℕ) : Type 0 where
   pub short : length xs ≤ 49
   pub same : (i : ℕ) → i < length xs → slice_index ws (50 * k + 1 + i) ≡ slice_index xs i
 
+-- 1 where this is place k with its words
 abbrev pub holding_in : ℕ → Option (ℕ × List ℕ) → ℕ
 holding_in k None = 0
 holding_in k (Some p) = one_if (p.0 == k)
@@ -48,9 +52,11 @@ holding_in k (Some p) = one_if (p.0 == k)
 abbrev pub holding : ℕ → View → ℕ
 holding k v = holding_in k v.held
 
+-- how often the view published place k: at most once while the rule holds
 abbrev pub owning : ℕ → View → ℕ
 owning k v = times k v.own
 
+-- how many of the 64 parts the view has
 abbrev pub share_of : View → ℕ
 share_of v = v.share
 
@@ -58,38 +64,48 @@ share_of v = v.share
 abbrev pub spent : View
 spent = record { places = 0; share = 0; held = None; seen = []; own = []; reads = [] }
 
+-- the view of a new board's only pass: it has all 64 parts, and has read nothing
 abbrev pub first_view : ℕ → View
 first_view places = record { places = places; share = 64; held = None; seen = []; own = []; reads = [] }
 
+-- the view with one read more
 abbrev pub noted : View → RawRead → View
 noted v r = record v { reads = r ∷ v.reads }
 
+-- the view that claimed place k, of which it has stored no word
 abbrev pub claiming : View → ℕ → View
 claiming v k = record v { held = Some (k, []); reads = Claim k ∷ v.reads }
 
+-- the held place with one stored word more
 abbrev pub grown_held : Option (ℕ × List ℕ) → ℕ → Option (ℕ × List ℕ)
 grown_held None b = None
 grown_held (Some p) b = Some (p.0, p.1 ++ b ∷ [])
 
+-- the view that stored one word more of the place that it holds
 abbrev pub writing : View → ℕ → View
 writing v b = record v { held = grown_held v.held b }
 
+-- the view that published the place which it held, with the words that it stored there
 abbrev pub finished : Option (ℕ × List ℕ) → View → View
 finished None v = v
 finished (Some p) v =
     record v { held = None; seen = p ∷ v.seen; own = v.own ++ p.0 ∷ []; reads = Done p.0 p.1 ∷ v.reads }
 
+-- the view that read place k as done, and has read none of its words
 abbrev pub opening_place : View → ℕ → View
 opening_place v k = record v { seen = (k, []) ∷ v.seen; reads = See k [] ∷ v.reads }
 
+-- the place that was seen last, with one word more
 abbrev pub grown_seen : List (ℕ × List ℕ) → ℕ → List (ℕ × List ℕ)
 grown_seen [] b = []
 grown_seen (p ∷ ps) b = (p.0, p.1 ++ b ∷ []) ∷ ps
 
+-- a read of words of a place, with one word more; any other read as it is
 abbrev pub grown_read : RawRead → ℕ → RawRead
 grown_read (See k xs) b = See k (xs ++ b ∷ [])
 grown_read r b = r
 
+-- the reads whose newest one has one word more
 abbrev pub grown_reads : List RawRead → ℕ → List RawRead
 grown_reads [] b = []
 grown_reads (r ∷ rs) b = grown_read r b ∷ rs
@@ -98,23 +114,26 @@ grown_reads (r ∷ rs) b = grown_read r b ∷ rs
 abbrev pub reading : View → ℕ → View
 reading v b = record v { seen = grown_seen v.seen b; reads = grown_reads v.reads b }
 
--- a Count or Lost gave at most n
+-- where the read is one of the count, it gave at most n
 abbrev pub IsAtMost : ℕ → RawRead → Type 0
 IsAtMost n (Count c) = c ≤ n
 IsAtMost n (Lost c) = c ≤ n
 IsAtMost n r = Unit {0}
 
+-- the words of the place that was seen last
 abbrev pub head_words : List (ℕ × List ℕ) → List ℕ
 head_words [] = []
 head_words (p ∷ ps) = p.1
 
--- what is left to a pass, and what a new one gets
+-- the view of a pass from which another was cut off: it keeps all but one part
 abbrev pub cut_left : View → View
 cut_left v = record v { share = v.share - 1 }
 
+-- the view of a pass that was cut off: it has one part, and has seen what the other had
 abbrev pub cut_right : View → View
 cut_right v = record { places = v.places; share = 1; held = None; seen = v.seen; own = []; reads = [] }
 
+-- the view that has both shares, and knows what either does; the second one's reads are the newer ones
 abbrev pub met : View → View → View
 met v w =
     record {
@@ -134,6 +153,7 @@ seeing v k xs = record v { seen = (k, xs) ∷ v.seen; reads = See k xs ∷ v.rea
 abbrev pub storing : View → ℕ → List ℕ → View
 storing v k xs = record v { held = Some (k, xs) }
 
+-- the view that read the count k, claimed place k, stored these words and published them
 abbrev pub publishing : View → ℕ → List ℕ → View
 publishing v k xs =
     record v {

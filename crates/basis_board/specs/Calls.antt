@@ -14,22 +14,27 @@ use Rattle.basis_board.specs.Board.{Each, noted, seeing, publishing, met}
 use Rattle.basis_board.specs.Rule.{OwnsBelow, Consistent}
 pub use Rattle.basis_board.specs.Rule.{CountTells}
 
+-- what the pass of this seat knows
 abbrev pub known : Seat ℕ Sight → View
 known s = s.me.0.view
 
+-- they are one seat of one table, and hold the same words of it
 abbrev pub IsSameSeat : Seat ℕ Sight → Seat ℕ Sight → Type 0
 IsSameSeat s t = (t.table_id ≡ s.table_id) × (t.id ≡ s.id) × (t.me.1 ≡ s.me.1)
 
+-- a publication that stored the words in place k, which was the first free one
 pub record IsPublished (v : View) (xs : List ℕ) (k : ℕ) (w : View) : Type 0 where
   pub view : w ≡ publishing v k xs
   pub inside : k < v.places
   pub tells : CountTells v k
 
+-- a publication that found no free place
 pub record IsFull (v : View) (c : ℕ) (w : View) : Type 0 where
   pub view : w ≡ noted v (Count c)
   pub all : c ≡ v.places
   pub tells : CountTells v c
 
+-- a publication that read a count, and lost place `count` to another pass: then e places were claimed
 pub record IsRaced (v : View) (e : ℕ) (w : View) : Type 0 where
   pub count : ℕ
   pub view : w ≡ noted (noted v (Count count)) (Lost e)
@@ -38,6 +43,7 @@ pub record IsRaced (v : View) (e : ℕ) (w : View) : Type 0 where
   pub tells_then : CountTells v e
   pub not_whole : v.share ≢ 64
 
+-- a publication of the words xs that came to this, by what the pass knew before and knows after
 abbrev pub Puts : View → List ℕ → Put → View → Type 0
 Puts v xs (Published k) w = IsPublished v xs k w
 Puts v xs (Full c) w = IsFull v c w
@@ -72,7 +78,7 @@ pub record IsReading (k i : ℕ) (words : List ℕ) (v w : View) : Type 0 where
   pub consistent : Consistent w
   pub agrees : Each (AgreesWith k (take i words)) v.seen
 
--- the same of the rest of a place whose shape is known
+-- the first i words of place k were read into words, and the first 25 of them are the shape
 pub record IsReadingRest (shape : List ℕ) (k i : ℕ) (words : List ℕ) (v w : View) : Type 0 where
   pub read : IsReading k i words v w
   pub late : 25 ≤ i
@@ -90,9 +96,11 @@ abbrev pub Passed : List ℕ → ℕ → ℕ → List RawRead → Type 0
 Passed shape c k [] = k ≡ c
 Passed shape c k (r ∷ rs) = SeesOther shape k r × Passed shape c (k + 1) rs
 
+-- the words of the place were read at least as far as their shape, which is this one
 abbrev pub HasShape : List ℕ → ℕ × List ℕ → Type 0
 HasShape shape p = (25 ≤ length p.1) × (take 25 p.1 ≡ shape)
 
+-- the view that read the count c, then made these newer reads, and saw these places more
 abbrev pub looked : View → ℕ → List RawRead → List (ℕ × List ℕ) → View
 looked v c added more = record v { seen = more ++ v.seen; reads = added ++ Count c ∷ v.reads }
 
@@ -118,6 +126,7 @@ pub record IsFound (shape : List ℕ) (v : View) (k : ℕ) (xs : List ℕ) (w : 
   pub down : IsDownTo shape count (k + 1) v before
   pub finds : Finds shape k xs before w
 
+-- a look for the shape that came to this, by what the pass knew before and knows after
 abbrev pub Looks : List ℕ → View → Look → View → Type 0
 Looks shape v (Found k xs) w = IsFound shape v k xs w
 Looks shape v (NoneReady c) w = IsDownTo shape c 0 v w

@@ -16,6 +16,7 @@ pub record JustOne (f : View → ℕ) (views : List View) : Type 0 where
   pub one : f view ≡ 1
   pub others : (j : ℕ) (u : View) → j ≢ seat → get_elem? views j ≡ some u → f u ≡ 0
 
+-- f is 0 of each view
 abbrev pub NoView : (View → ℕ) → List View → Type 0
 NoView f views = (j : ℕ) (u : View) → get_elem? views j ≡ some u → f u ≡ 0
 
@@ -39,10 +40,12 @@ pub record Remembers (s : State ℕ View) (v : View) : Type 0 where
   pub seen : (k : ℕ) (xs : List ℕ) → Has v.seen (k, xs) → (done s.words k ≡ 1) × Shows s.words k xs
   pub own : (k : ℕ) → Has v.own k → (xs : List ℕ) × Has v.seen (k, xs) × (length xs ≡ 49)
 
+-- what the rule says: each place below the count is taken or shown, none from there on is, and each view remembers
 pub record Means (s : State ℕ View) : Type 0 where
   pub below : (k : ℕ) → k < count s.words → IsTaken s k ⊎ IsShown s k
   pub beyond : (k : ℕ) → count s.words ≤ k → (done s.words k ≡ 0) × NoView (holding k) s.views
   pub views : (j : ℕ) (v : View) → get_elem? s.views j ≡ some v → Remembers s v
 
+-- each state that keeps the rule is so
 abbrev pub AllMeans : Type 0
 AllMeans = (places : ℕ) (s : State ℕ View) → Kept places s → Means s

@@ -27,9 +27,11 @@ notes [] rs = []
 notes (m ∷ ms) [] = []
 notes (m ∷ ms) (r ∷ rs) = record { number = m.0; words = m.1; read = r } ∷ notes ms rs
 
+-- the notes of a pass, the newest first
 abbrev pub notes_in : Sight → List Note
 notes_in v = notes v.moments v.view.reads
 
+-- a view with these moments
 abbrev pub sight : View → List Moment → Sight
 sight v ms = record { view = v; moments = ms }
 
@@ -86,6 +88,7 @@ Turns other ws us = IsLike ws us
 abbrev pub stamped_in : ℕ → List Moment → ℕ
 stamped_in t ms = total (λ m. one_if (m.0 == t)) ms
 
+-- 1 where the pass with this sight made note number t
 abbrev pub stamped : ℕ → Sight → ℕ
 stamped t v = stamped_in t v.moments
 
@@ -113,6 +116,7 @@ pub record Timed (ws : List ℕ) (sights : List Sight) : Type 0 where
       Turns n.read m.1 n.words
   pub were_true : (j : ℕ) (v : Sight) → get_elem? sights j ≡ some v → WereTrue v.moments v.view.reads
 
+-- the state without its moments
 abbrev pub viewed : State ℕ Sight → State ℕ View
 viewed s = record { words = s.words; homes = s.homes; views = map (λ v. v.view) s.views }
 
@@ -134,10 +138,12 @@ pub record NotesMore (old new : List Moment) : Type 0 where
   pub all : new ≡ more ++ old
   pub later : ComeAfter more old
 
+-- what the pass noted since comes after what it had noted, and each read was so at its moment
 pub record Later (v w : Sight) : Type 0 where
   pub notes : NotesMore v.moments w.moments
   pub were_true : WereTrue w.moments w.view.reads
 
+-- a seat's view and its held slots, without its moments
 abbrev pub seen_of : Me ℕ Sight → Me ℕ View
 seen_of m = (m.0.view, m.1)
 
@@ -147,6 +153,7 @@ in_time told st m n m' = told st (seen_of m) n (seen_of m') × Later m.0 m'.0
 
 -- ---- the notes of all passes, when one has them all
 
+-- how many of these notes have number t
 abbrev pub numbered : ℕ → List Note → ℕ
 numbered t all = total (λ n. one_if (n.number == t)) all
 
@@ -169,18 +176,23 @@ learned_in_time st m n m' =
 
 -- ---- passes as they begin, are cut in two, and meet
 
+-- the sight of a new board's only pass
 abbrev pub first_sight : ℕ → Sight
 first_sight places = sight (first_view places) []
 
+-- the sight of a pass from which another was cut off
 abbrev pub left_sight : Sight → Sight
 left_sight v = sight (cut_left v.view) v.moments
 
+-- the sight of a pass that was cut off: it has noted nothing
 abbrev pub right_sight : Sight → Sight
 right_sight v = sight (cut_right v.view) []
 
+-- the sight of two passes that were met into one
 abbrev pub met_sight : Sight → Sight → Sight
 met_sight v w = sight (met v.view w.view) (w.moments ++ v.moments)
 
+-- the sight of a pass that was met into another
 abbrev pub spent_sight : Sight
 spent_sight = sight spent []
 

@@ -9,6 +9,7 @@ use Rattle.basis_board.specs.declared.seats.RawRead.TheVariants.{Count, Open, Se
 use Rattle.basis_board.specs.declared.board.Look.{Look}
 use Rattle.basis_board.specs.declared.board.Look.TheVariants.{Found, NoneReady}
 
+-- a read of a pass, as a read of places that sessions share
 abbrev pub exact_read : RawRead → ExactRead
 exact_read (Count c) = read.Count c
 exact_read (Open k) = read.NotDone k
@@ -21,6 +22,7 @@ exact_read (Done k words) = read.Done k words
 abbrev pub reads_of : View → List ExactRead
 reads_of v = map exact_read (reverse v.reads)
 
+-- what a look found, as sessions are told it
 abbrev pub looked_by : Look → Looked
 looked_by (Found k words) = Some (record { place = k; words = words })
 looked_by (NoneReady c) = None

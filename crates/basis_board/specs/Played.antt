@@ -11,6 +11,7 @@ use Rattle.basis_board.specs.PassReads.{reads_of}
 
 -- ---- the reads of one who serves sessions, each with its session
 
+-- a read with the session that made it
 abbrev pub of_read : ℕ → ExactRead → Logged
 of_read session read = record { session = session; read = read }
 
@@ -28,6 +29,7 @@ abbrev pub AreFounded : ℕ → List Logged → List Logged → Type 0
 AreFounded places made [] = Unit {0}
 AreFounded places made (x ∷ log) = Supposes places made x.session x.read × AreFounded places (x ∷ made) log
 
+-- the read is of a session that this worker serves
 abbrev pub IsOfWorker : ℕ → ℕ → Logged → Type 0
 IsOfWorker workers worker x = x.session % workers ≡ worker
 

@@ -11,6 +11,7 @@ use Rattle.spec_board.specs.Words.{IsWellFormed}
 use Rattle.basis_board.specs.Board.{Each, Has, total, times, count, done, Shows, holding, owning, share_of, spent}
 use Rattle.basis_board.specs.Board.{noted, claiming, writing, finished, opening_place, reading, head_words, IsAtMost}
 
+-- the held place shows the words that were stored in it
 abbrev pub HeldFits : List ℕ → Option (ℕ × List ℕ) → Type 0
 HeldFits ws None = Unit {0}
 HeldFits ws (Some p) = Shows ws p.0 p.1
@@ -23,6 +24,7 @@ SeenFits ws p = (done ws p.0 ≡ 1) × Shows ws p.0 p.1
 abbrev pub OwnFits : List (ℕ × List ℕ) → ℕ → Type 0
 OwnFits seen k = (xs : List ℕ) × Has seen (k, xs) × (length xs ≡ 49)
 
+-- a count that was read is no larger than the count now, and what was seen or published is there
 abbrev pub ReadFits : List ℕ → RawRead → Type 0
 ReadFits ws (Count c) = c ≤ count ws
 ReadFits ws (Lost c) = c ≤ count ws
@@ -68,7 +70,7 @@ pub record PlaceFits (ws : List ℕ) (views : List View) (k : ℕ) : Type 0 wher
   pub owned : total (owning k) views ≡ done ws k
   pub formed : done ws k ≡ 1 → (xs : List ℕ) × Shows ws k xs × IsWellFormed xs
 
--- the rule
+-- the rule of a board of so many places: of its words, of each place, of each view, and of the shares of all
 pub record Kept (places : ℕ) (s : State ℕ View) : Type 0 where
   pub wide : length s.words ≡ 50 * places + 1
   pub bounded : count s.words ≤ places
@@ -76,6 +78,7 @@ pub record Kept (places : ℕ) (s : State ℕ View) : Type 0 where
   pub each_seat : (j : ℕ) (v : View) → get_elem? s.views j ≡ some v → Fits places s.words v
   pub shares : total share_of s.views ≡ 64
 
+-- words that were read or published agree with all that was seen of their place
 abbrev pub ReadAgrees : List (ℕ × List ℕ) → RawRead → Type 0
 ReadAgrees seen (See k xs) = Each (Agree (k, xs)) seen
 ReadAgrees seen (Done k xs) = Each (Agree (k, xs)) seen
@@ -112,15 +115,19 @@ pub record Claimed (c : ℕ) (v : View) (n : ℕ) (w : View) : Type 0 where
   pub lost : n ≢ c → (w ≡ noted v (Lost n)) × (c < n)
   pub tells : CountTells v n
 
+-- a load of the count, as the rule tells it of a seat
 abbrev pub counted : Step ℕ → Me ℕ View → ℕ → Me ℕ View → Type 0
 counted st m n m' = Counted m.0 n m'.0 × (m'.1 ≡ m.1) × Consistent m'.0
 
+-- a compare-exchange of the count, as the rule tells it of a seat
 abbrev pub claimed : Step ℕ → Me ℕ View → ℕ → Me ℕ View → Type 0
 claimed st m n m' = Claimed st.first m.0 n m'.0 × (m'.1 ≡ m.1) × Consistent m'.0
 
+-- a store of a word of the held place, as the rule tells it of a seat
 abbrev pub wrote : Step ℕ → Me ℕ View → ℕ → Me ℕ View → Type 0
 wrote st m n m' = (m'.0 ≡ writing m.0 n) × (m'.1 ≡ m.1)
 
+-- a store of the held place's done word, as the rule tells it of a seat
 abbrev pub published : Step ℕ → Me ℕ View → ℕ → Me ℕ View → Type 0
 published st m n m' = (m'.0 ≡ finished m.0.held m.0) × (m'.1 ≡ m.1) × Consistent m'.0
 
@@ -146,11 +153,14 @@ pub record Learned (v : View) (n : ℕ) (w : View) : Type 0 where
   pub view : w ≡ v
   pub tells : CountTells v n
 
+-- a load of a done word, as the rule tells it of a seat
 abbrev pub saw : Step ℕ → Me ℕ View → ℕ → Me ℕ View → Type 0
 saw st m n m' = Saw (st.word / 50 - 1) m.0 n m'.0 × (m'.1 ≡ m.1) × Consistent m'.0
 
+-- a load of a word of a place, as the rule tells it of a seat
 abbrev pub word_read : Step ℕ → Me ℕ View → ℕ → Me ℕ View → Type 0
 word_read st m n m' = WordRead ((st.word - 1) / 50) ((st.word - 1) % 50) m.0 n m'.0 × (m'.1 ≡ m.1) × Consistent m'.0
 
+-- the load of the count after a meeting, as the rule tells it of a seat
 abbrev pub learned : Step ℕ → Me ℕ View → ℕ → Me ℕ View → Type 0
 learned st m n m' = Learned m.0 n m'.0 × (m'.1 ≡ m.1) × Consistent m'.0
