@@ -45,9 +45,11 @@ reply_unapplied edits.NoMemory = reply.Memory
 
 -- ---- what a session awaits
 
+-- an answer whose basis is to be published, as the definitions have it
 abbrev pub pending_of : Pending → step.Pending
 pending_of p = record { end = p.end; how = p.how; words = p.words }
 
+-- what a session awaits, as the definitions have it
 abbrev pub awaits_of : Awaited → Awaits
 awaits_of awaited.Nothing = Nothing
 awaits_of (awaited.WhatIsFound form) = WhatIsFound (shape_of form)

@@ -26,8 +26,8 @@ use std::alloc::{AllocError, Global};
 use std::ops::ControlFlow;
 use std::{marker, mem};
 
-/// What a session keeps of its last solve.
-pub type LastAnswer = spec_server::LastAnswer<Frac, Fracs, Basis>;
+// What a session keeps of its last solve.
+type LastAnswer = spec_server::LastAnswer<Frac, Fracs, Basis>;
 
 /// What a session holds: its model once one is loaded, its budget and what its last solve ended with.
 #[derive(Drop)]
@@ -77,6 +77,7 @@ impl Holding {
         }
     }
 
+    // Replaces the model, and forgets the last answer.
     fn load(&mut self, model: UsualModel) -> Reply
         ensures { step.Begins self.old (asks.Loaded model) (step.Answers result self.new) }
     {
@@ -199,7 +200,7 @@ impl Holding {
         }
     }
 
-    /// Both. If memory runs out the reply is `Memory`, and all is as it was.
+    /// Solves with what was found, and concludes. If memory runs out the reply is `Memory`, and all is as it was.
     pub(crate) fn work(
         &mut self,
         alloc: Global,
@@ -241,6 +242,7 @@ impl Holding {
         }
     }
 
+    // The lines of the last answer's certificate.
     fn certify(&self, alloc: Global) -> Reply
         ensures { (result ≡ machine.cert_reply self.now.model self.now.last) ⊎ (result ≡ replies.Memory) }
     {
@@ -275,6 +277,7 @@ impl Holding {
         }
     }
 
+    // How the last answer was found, its pivots, and what became of its basis.
     fn how(&self) -> Reply
         ensures { result ≡ machine.how_reply self.now.last }
     {
@@ -288,6 +291,7 @@ impl Holding {
         }
     }
 
+    // The text of the model in the style. The session is left as it was.
     fn write(&self, alloc: Global, style: Style) -> Reply
         ensures { (result ≡ machine.write_reply self.now.model style) ⊎ (result ≡ replies.Memory) }
     {
@@ -307,6 +311,7 @@ impl Holding {
         }
     }
 
+    // The verdict on a certificate of the model. The session is left as it was.
     fn check(&self, alloc: Global, raw: &RawCertificate) -> Reply
         ensures { (result ≡ machine.check_reply self.now.model raw.now) ⊎ (result ≡ replies.Memory) }
     {

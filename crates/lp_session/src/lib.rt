@@ -4,7 +4,7 @@
 //! |---|---|---|
 //! | `Session` | steps as the one-session machine, at once or in parts | src/session |
 //! | `AddsStep`, `StepCalls` | what a step reads more by a pass of a board, and by which calls | specs/Boarding |
-//! | `Holding`, `LastAnswer` | what a session holds, and what it keeps of a solve | src/holding |
+//! | `Holding` | what a session holds, and what it keeps of its last solve | src/holding |
 //! | `Awaited`, `AwaitedFits` | what a session awaits in its ask, and what holds of that | src/awaited, specs/Parts |
 //! | `how_by`, `words_of_end` | how an answer was found, and the words of its basis | src/working |
 #![tactic(auto)]
@@ -15,5 +15,4 @@ mod holding;
 mod session;
 mod working;
 
-pub use holding::LastAnswer;
 pub use session::Session;
