@@ -12,7 +12,7 @@ use Rattle.basis_board.specs.Rule.{Consistent, OwnsBelow}
 use Rattle.basis_board.specs.Orderly.{IsOrderly}
 use Rattle.basis_board.specs.PassReads.{reads_of}
 
--- It is one of the board's, with one of the 64 parts, and has read and noted nothing.
+-- The pass is one of the board's, has one of the 64 parts, and has read and noted nothing.
 pub record IsFresh (board : Board) (pass : Known) : Type 0 where
   pub of_board : pass.board ≡ id_of board
   pub places : pass.view.places ≡ board.places
@@ -21,7 +21,7 @@ pub record IsFresh (board : Board) (pass : Known) : Type 0 where
   pub unnoted : pass.moments ≡ []
   pub consistent : Consistent pass.view
 
--- It is one of the board's, with one of the parts; each of its notes was so, and is later than those before; and what
+-- The pass is one of the board's, and has one of the 64 parts; each of its notes was so, and is later than those before; and what
 -- it read stands in order.
 pub record IsUsed (board : Board) (pass : Known) : Type 0 where
   pub of_board : pass.board ≡ id_of board

@@ -7,24 +7,27 @@ use Rattle.basis_board.specs.Moments.{IsOneLog}
 use Rattle.lp_workers.specs.declared.hiring.Worker.{Worker}
 use Rattle.lp_workers.specs.Passes.{IsFresh, IsUsed, notes_of_all, reads_of_all}
 
+-- the jobs of workers, in their order
 abbrev pub jobs_of : {T : Type 0} → List (Worker T) → List T
 jobs_of {T} workers = map (λ (w : Worker T). w.job) workers
 
+-- the passes of workers, in their order
 abbrev pub passes_of : {T : Type 0} → List (Worker T) → List Known
 passes_of {T} workers = map (λ (w : Worker T). w.pass) workers
 
 module _ {C T : Type 0} (is_ready : C → T → Type 0) (took : C → Board → T → Known → T → Known → Type 0) (shared : C) where
-  -- before its turn
+  -- a worker before its turn: its job is ready, and its pass is fresh
   pub record IsReady (board : Board) (w : Worker T) : Type 0 where
     pub job : is_ready shared w.job
     pub pass : IsFresh board w.pass
 
-  -- before and after its turn
+  -- a worker before its turn and after it
   pub record TookTurn (board : Board) (old new : Worker T) : Type 0 where
     pub ready : IsReady board old
     pub turn : took shared board old.job old.pass new.job new.pass
     pub used : IsUsed board new.pass
 
+  -- each worker took its turn, and stands where it stood in the list
   abbrev pub TakeTurns : Board → List (Worker T) → List (Worker T) → Type 0
   TakeTurns board olds news =
       (i : ℕ) (d : Worker T) → i < length olds →

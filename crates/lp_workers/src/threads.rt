@@ -49,7 +49,7 @@ fn take_turns<R: Threads + Wait + Sync, C: Sync, T: Turn<C> + Send + Drop>(
     );
 }
 
-// The same of workers in a list of their own.
+// Each worker of a vector takes its turn, in a thread of its own. The workers stay in their order.
 fn take_all_turns<R: Threads + Wait + Sync, C: Sync, T: Turn<C> + Send + Drop>(
     rt: &R,
     alloc: Global,

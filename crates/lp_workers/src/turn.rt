@@ -15,6 +15,7 @@ pub trait Turn<C> {
     /// What a turn makes of it and of the pass.
     ghost took: { C → exact_board → Self → Known → Self → Known → Type 0 };
 
+    /// Does the job by the pass, which no other worker has.
     fn turn<R: Wait>(&mut self, rt: &R, alloc: Global, shared: &C, board: &Board, pass: &mut Pass)
         requires ready { is_ready shared.now self.old }
         requires fresh { IsFresh board.now pass.old }
