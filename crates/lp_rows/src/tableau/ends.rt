@@ -22,6 +22,7 @@ use lp_form::{Status, StatusList, is_basic};
 use lp_natural::words::{Signed, Words};
 use lp_tableau::PrimalEnd;
 use spec_check::Certificate;
+use spec_simplex::Entering;
 use std::alloc::{AllocError, Global};
 
 // ---- one number
@@ -133,59 +134,62 @@ fn multiplier<T: Words>(tab: &RowTableau<T>, i: usize) -> RowFraction<T>
     number(&tab.costs, columns, tab.cols as usize + i)
 }
 
-// How the basic column of a position moves while column `j` enters and rises or falls by 1.
-fn basic_move<T: Words>(tab: &RowTableau<T>, i: usize, j: u32, up: bool) -> RowFraction<T>
+// How the basic column of a position moves while the entering column rises or falls by 1.
+fn basic_move<T: Words>(tab: &RowTableau<T>, i: usize, e: Entering) -> RowFraction<T>
     requires whole { IsWhole T.value tab.now }
     requires place { i < height tab.now }
-    requires column { j < width tab.now }
+    requires column { e.col < width tab.now }
     ensures { (t : tableaus.Tableau) → Shows T.value tab.now t →
-        fraction_of T.value result ≡ neg_ℚ (step.directed up (tableaus.entry_at t i j)) }
+        fraction_of T.value result ≡ neg_ℚ (step.directed e.up (tableaus.entry_at t i e.col)) }
 {
     let columns = tab.width();
-    let entry = number(&tab.rows[i], columns, j as usize);
-    negated(directed(up, entry))
+    let entry = number(&tab.rows[i], columns, e.col as usize);
+    negated(directed(e.up, entry))
 }
 
 // How column `k` moves by the positions up to `i`, where `so_far` is how it moves by those before.
 fn move_by<T: Words>(
     tab: &RowTableau<T>,
     i: usize,
-    j: u32,
-    up: bool,
+    e: Entering,
     k: u32,
     so_far: RowFraction<T>,
 ) -> RowFraction<T>
     requires whole { IsWhole T.value tab.now }
     requires place { i < height tab.now }
-    requires column { j < width tab.now }
+    requires column { e.col < width tab.now }
     ensures { (t : tableaus.Tableau) → Shows T.value tab.now t →
-        fraction_of T.value so_far ≡ cold.moves_below t j up k i →
-        fraction_of T.value result ≡ cold.moves_below t j up k (i + 1) }
+        fraction_of T.value so_far ≡ cold.moves_below t e.col e.up k i →
+        fraction_of T.value result ≡ cold.moves_below t e.col e.up k (i + 1) }
 {
     if tab.basic[i] == k {
-        basic_move(tab, i, j, up)
+        basic_move(tab, i, e)
     } else {
         so_far
     }
 }
 
 // How column `k` moves before any position is counted: by 1 up or down if it enters, else not at all.
-fn own_move<T: Words>(j: u32, up: bool, k: u32) -> RowFraction<T>
-    ensures { (t : tableaus.Tableau) → fraction_of T.value result ≡ cold.moves_below t j up k 0 }
+fn own_move<T: Words>(e: Entering, k: u32) -> RowFraction<T>
+    ensures { (t : tableaus.Tableau) → fraction_of T.value result ≡ cold.moves_below t e.col e.up k 0 }
 {
-    if k == j { directed(up, one()) } else { zero() }
+    if k == e.col {
+        directed(e.up, one())
+    } else {
+        zero()
+    }
 }
 
-// How column `k` moves while column `j` enters and rises or falls by 1.
-fn move_of<T: Words>(tab: &RowTableau<T>, j: u32, up: bool, k: u32) -> RowFraction<T>
+// How column `k` moves while the entering column rises or falls by 1.
+fn move_of<T: Words>(tab: &RowTableau<T>, e: Entering, k: u32) -> RowFraction<T>
     requires whole { IsWhole T.value tab.now }
-    requires column { j < width tab.now }
+    requires column { e.col < width tab.now }
     ensures { (t : tableaus.Tableau) → Shows T.value tab.now t →
-        fraction_of T.value result ≡ cold.moves_by t j up k }
+        fraction_of T.value result ≡ cold.moves_by t e.col e.up k }
 {
-    let mut moved = own_move(j, up, k);
+    let mut moved = own_move(e, k);
     for i in 0..tab.rows.len() {
-        moved = move_by(tab, i, j, up, k, moved);
+        moved = move_by(tab, i, e, k, moved);
     }
     moved
 }
@@ -252,22 +256,21 @@ fn multipliers<T: Words, N: Listed>(
     Ok(Some(multipliers))
 }
 
-// How the model's columns move while column `j` enters and rises or falls by 1.
+// How the model's columns move while the entering column rises or falls by 1.
 fn direction<T: Words, N: Listed>(
     alloc: Global,
     tab: &RowTableau<T>,
-    j: u32,
-    up: bool,
+    e: Entering,
 ) -> Result<Option<Items<N>>, AllocError>
     requires whole { IsWhole T.value tab.now }
-    requires column { j < width tab.now }
+    requires column { e.col < width tab.now }
     ensures value { (t : tableaus.Tableau) → Shows T.value tab.now t →
-        IfOk result (λ o. IfSome o (λ r. r ≡ direction_as N.of t j up)) }
+        IfOk result (λ o. IfSome o (λ r. r ≡ direction_as N.of t e.col e.up)) }
     ensures fits { IfOk result (λ o. IfSome o (All N.fits)) }
 {
     let mut direction: Items<N> = Items::new(alloc);
     for k in 0..tab.cols {
-        match listed(alloc, Some(move_of(tab, j, up, k)))? {
+        match listed(alloc, Some(move_of(tab, e, k)))? {
             Some(v) => direction.push(v)?,
             None => return Ok(None),
         }
@@ -312,23 +315,22 @@ fn optimal<T: Words, N: Listed>(
     }
 }
 
-// The certificate of an unbounded model: the point, and the ray along column `col`.
+// The certificate of an unbounded model: the point, and the ray of the entering column.
 fn unbounded<T: Words, N: Listed>(
     alloc: Global,
     tab: &RowTableau<T>,
-    col: u32,
-    up: bool,
+    e: Entering,
 ) -> Result<Option<Certificate<Items<N>>>, AllocError>
     requires whole { IsWhole T.value tab.now }
-    requires column { col < width tab.now }
+    requires column { e.col < width tab.now }
     ensures value { (t : tableaus.Tableau) → Shows T.value tab.now t →
-        IfOk result (λ o. IfSome o (λ c. c ≡ certificate_as N.of t (Some (primal.Unbounded col up)))) }
+        IfOk result (λ o. IfSome o (λ c. c ≡ certificate_as N.of t (Some (primal.Unbounded e.col e.up)))) }
     ensures fits { IfOk result (λ o. IfSome o (AllFit N.fits)) }
 {
     let Some(x) = point(alloc, tab)? else {
         return Ok(None);
     };
-    match direction(alloc, tab, col, up)? {
+    match direction(alloc, tab, e)? {
         Some(r) => Ok(Some(Certificate::Unbounded { x, r })),
         None => Ok(None),
     }
@@ -348,7 +350,7 @@ fn certificate_at<T: Words, N: Listed>(
 {
     match end {
         PrimalEnd::Optimal => optimal(alloc, tab),
-        PrimalEnd::Unbounded { col, up } => unbounded(alloc, tab, col, up),
+        PrimalEnd::Unbounded { col, up } => unbounded(alloc, tab, Entering { col, up }),
     }
 }
 
