@@ -13,16 +13,26 @@ use std::cmp::Ordering;
 // The least ratio so far.
 pub(crate) type Cheapest = spec_simplex::Cheapest<Frac>;
 
-// Whether column `k` rises or falls as it enters, if it may bring the column at position `p` back to its bound.
-fn column_way(tab: &Tableau, p: u32, below: bool, k: u32) -> Option<bool>
-    requires place { p < tab.now.rows }
+// A position whose basic column is outside its bounds: below the lower one, or above the upper one.
+#[derive(Clone, Copy)]
+pub(crate) struct Outside {
+    pub(crate) position: u32,
+    pub(crate) below: bool,
+}
+
+// Whether column `k` rises or falls as it enters, if it may bring the column that is outside back to its bound.
+fn column_way(tab: &Tableau, out: Outside, k: u32) -> Option<bool>
+    requires place { out.position < tab.now.rows }
     requires column { k < all_columns tab.now }
-    ensures { result ≡ dual.dual_way_at tab.now p below k }
+    ensures { result ≡ dual.dual_way_at tab.now out.position out.below k }
 {
     if is_fixed(tab.lower(k), tab.upper(k)) {
         return None;
     }
-    way(tab.status(k), directed(below, tab.entry(p, k)))
+    way(
+        tab.status(k),
+        directed(out.below, tab.entry(out.position, k)),
+    )
 }
 
 // The better of two columns: the one with the lesser ratio, and of equal ones the first.
@@ -41,32 +51,31 @@ fn cheaper(new: Cheapest, best: Option<Cheapest>) -> Result<Option<Cheapest>, Pa
 // The best column so far, with column `k` compared too.
 fn cheapest_with(
     tab: &Tableau,
-    p: u32,
-    below: bool,
+    out: Outside,
     k: u32,
     best: Option<Cheapest>,
 ) -> Result<Option<Cheapest>, Past>
-    requires place { p < tab.now.rows }
+    requires place { out.position < tab.now.rows }
     requires column { k < all_columns tab.now }
-    ensures { result ≡ dual.cheapest_with (Some number_limit) tab.now p below k best }
+    ensures { result ≡ dual.cheapest_with (Some number_limit) tab.now out.position out.below k best }
 {
-    match column_way(tab, p, below, k) {
+    match column_way(tab, out, k) {
         None => Ok(best),
         Some(_) => {
-            let ratio = div(abs(tab.reduced(k)), abs(tab.entry(p, k)))?;
+            let ratio = div(abs(tab.reduced(k)), abs(tab.entry(out.position, k)))?;
             cheaper(Cheapest { ratio, col: k }, best)
         }
     }
 }
 
 // The column with the least ratio, if any may enter.
-pub(crate) fn cheapest(tab: &Tableau, p: u32, below: bool) -> Result<Option<Cheapest>, Past>
-    requires { p < tab.now.rows }
-    ensures { result ≡ dual.cheapest_run (Some number_limit) tab.now p below }
+pub(crate) fn cheapest(tab: &Tableau, out: Outside) -> Result<Option<Cheapest>, Past>
+    requires { out.position < tab.now.rows }
+    ensures { result ≡ dual.cheapest_run (Some number_limit) tab.now out.position out.below }
 {
     let mut best = None;
     for k in 0..tab.width() {
-        best = cheapest_with(tab, p, below, k, best)?;
+        best = cheapest_with(tab, out, k, best)?;
     }
     Ok(best)
 }

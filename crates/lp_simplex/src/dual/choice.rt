@@ -4,24 +4,24 @@ ghost use Rattle.spec_exact.specs.Narrow.{number_limit};
 ghost use Rattle.spec_simplex.specs.Dual as dual;
 ghost use Rattle.lp_simplex.specs.Starts.{IsSeated, CanTake};
 
-use crate::dual::candidates::cheapest;
+use crate::dual::candidates::{Outside, cheapest};
 use crate::dual::leaving::leaving;
 use lp_form::Status;
 use lp_frac::Past;
 use lp_tableau::Tableau;
 use spec_simplex::{DualChoice, DualEnd};
 
-// The position of column `k`: the last at which it is basic.
-pub(crate) fn place(tab: &Tableau, k: u32) -> u32
+/// The position of column `k`: the last at which it is basic, and 0 where there is none.
+pub fn position_of(tab: &Tableau, k: u32) -> u32
     ensures { result ≡ dual.place_of tab.now k }
 {
-    let mut place = 0;
+    let mut position = 0;
     for i in 0..tab.rows() {
         if tab.basic(i) == k {
-            place = i;
+            position = i;
         }
     }
-    place
+    position
 }
 
 // The bound that the leaving column has passed.
@@ -45,11 +45,14 @@ pub(crate) fn choice(tab: &Tableau) -> Result<DualChoice, Past>
     let Some(out) = leaving(tab)? else {
         return Ok(DualChoice::End(DualEnd::Optimal));
     };
-    let (place, below) = (place(tab, out.col), out.below);
-    match cheapest(tab, place, below)? {
-        None => Ok(DualChoice::End(DualEnd::Infeasible { place, below })),
+    let (position, below) = (position_of(tab, out.col), out.below);
+    match cheapest(tab, Outside { position, below })? {
+        None => Ok(DualChoice::End(DualEnd::Infeasible {
+            place: position,
+            below,
+        })),
         Some(best) => Ok(DualChoice::Pivot {
-            place,
+            place: position,
             col: best.col,
             to: passed_bound(below),
         }),

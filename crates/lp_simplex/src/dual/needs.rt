@@ -12,15 +12,15 @@ use lp_frac::{Frac, Past, are_same, is_negative, is_positive, zero};
 use lp_tableau::Tableau;
 use spec_simplex::{Fit, Leaving};
 
-// Whether the fraction is 0.
-fn is_zero(v: Frac) -> bool
+/// Whether the fraction is 0.
+pub fn is_zero(v: Frac) -> bool
     ensures { result ≡ eq_ℚ v 0ℚ }
 {
     are_same(v, zero())
 }
 
-// Whether there is a bound.
-fn is_there(bound: Option<Frac>) -> bool
+/// Whether there is a bound.
+pub fn is_there(bound: Option<Frac>) -> bool
     ensures { result ≡ spec.is_there bound }
 {
     match bound {
