@@ -6,10 +6,10 @@ ghost use Rattle.spec_simplex.specs.Tableau.{all_columns};
 ghost use Rattle.spec_range.specs.Rule as rule;
 ghost use Rattle.lp_range.specs.Answer.{IsSeated};
 
-use crate::columns::{is_there, is_zero, place};
 use crate::ends::{Ends, at_side, no_ends};
 use lp_form::is_basic;
 use lp_frac::{Frac, Past, add, div, is_positive, sub};
+use lp_simplex::dual::{is_there, is_zero, position_of};
 use lp_tableau::Tableau;
 
 // The right side with which a bound that moves with it comes to `value`, if there is such a bound.
@@ -81,7 +81,7 @@ fn carried_if(tab: &Tableau, rhs: Frac, s: u32, k: u32, ends: Ends) -> Result<En
     if !is_basic(tab.status(k)) {
         return Ok(ends);
     }
-    let entry = tab.entry(place(tab, k), s);
+    let entry = tab.entry(position_of(tab, k), s);
     if is_zero(entry) {
         return Ok(ends);
     }

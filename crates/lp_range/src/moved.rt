@@ -6,11 +6,12 @@ ghost use Rattle.spec_simplex.specs.Tableau.{all_columns, entry_at};
 ghost use Rattle.spec_range.specs.Rule as rule;
 ghost use Rattle.lp_range.specs.Answer.{IsSeated};
 
-use crate::columns::{is_zero, least_cost, place};
+use crate::columns::least_cost;
 use crate::ends::{Ends, at_least, at_most, at_side, no_ends};
 use lp_form::{Status, is_basic};
 use lp_frac::{Frac, Past, add, div, is_positive, neg, one, sub};
 use lp_model::Sense;
+use lp_simplex::dual::{is_zero, position_of};
 use lp_simplex::primal::is_fixed;
 use lp_tableau::Tableau;
 
@@ -120,7 +121,7 @@ pub(crate) fn cost_ends(tab: &Tableau, sense: Sense, cost: Frac, col: u32) -> Re
     ensures { result ≡ rule.cost_ends (Some number_limit) sense cost tab.now col }
 {
     if is_basic(tab.status(col)) {
-        basic(tab, sense, cost, place(tab, col))
+        basic(tab, sense, cost, position_of(tab, col))
     } else {
         own(tab, sense, cost, col)
     }

@@ -1,8 +1,0 @@
--- The loop over the positions.
-use Rattle.std.proofs.Common.{◌≡◌}
-use Rattle.spec_simplex.specs.Dual.{place_below}
-use Rattle.lp_range.proofs.columns.place.Given as goal
-
--- the last so far
-abbrev pub invariant-loop-i : goal.invariant-loop-i
-invariant-loop-i l = l.place ≡ place_below l.tab l.k l.i
