@@ -1,4 +1,7 @@
 -- The words of places stay well formed.
+--
+-- `claim_formed`: one claimed place more leaves the words of done places well formed.
+-- `done_formed`: a place that becomes done with well-formed words leaves all words well formed.
 use Rattle.std.proofs.Common.{◌≡◌, ℕ, zero, suc, List, [], ◌∷◌, ◌++◌, Some, sym, subst, ◌⊎◌, inl, inr}
 use Rattle.spec_board.specs.Words.{IsWellFormed}
 use Rattle.spec_board.specs.declared.place.Place.TheVariants as place

@@ -1,4 +1,8 @@
 -- Sessions that hold nothing.
+--
+-- `none_formed`: where there are no places, all words are well formed.
+-- `all_below`: sessions that have just opened claim no place beyond the limit.
+-- `shows_opening`: sessions that have just opened, without claimed places, are held of the opening world.
 use Rattle.std.proofs.Common.{◌≡◌, ℕ, ◌-◌, List, [], length, Some, sym, ap, subst, arith}
 use Rattle.std.specs.Prelude.{get_or}
 use Rattle.std.specs.List.{All}

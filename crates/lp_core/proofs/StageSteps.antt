@@ -1,4 +1,9 @@
--- The same, by the stage of the code and by what its session awaits.
+-- Each act of a session fits the definitions, by the stage of the code and by what the session awaits.
+--
+-- `sees_agree`: a session that reads places for a shape awaits what is found of that shape.
+-- `seen_agrees`: a session that has read one place more awaits what its next stage is about.
+-- `writes_agree`: a session that writes its place awaits what becomes of those words.
+-- `pending_formed`: words of which a session awaits what becomes are well formed.
 use Rattle.std.proofs.Common.{◌≡◌, ℕ, ◌-◌, Bool, true, false, nat_eq, cond, List, [], ◌∷◌, ◌++◌, length, Option, Some}
 use Rattle.std.proofs.Common.{None, refl, sym, ap, ◌∙◌, subst}
 use Rattle.spec_text.proofs.WordLemmas.{same_is_equal}

@@ -1,4 +1,8 @@
 -- Places by their numbers, as the code reads and writes them.
+--
+-- `no_words_past`: past the last place there are no words.
+-- `words_there`: the words in the place that a list has at k are those at place k.
+-- `past_stays`: writing past the last place changes no place.
 use Rattle.std.proofs.Common.{◌≡◌, ℕ, zero, suc, ◌<◌, ◌≤◌, List, [], ◌∷◌, length, Some, None, refl, sym, ap, ◌∙◌, arith}
 use Rattle.std.specs.Prelude.{get_or, set}
 use Rattle.spec_board.specs.Places.{ExactPlace, place_at, with_place}

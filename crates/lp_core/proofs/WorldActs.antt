@@ -1,4 +1,8 @@
 -- One act of a session in the whole world.
+--
+-- `first_part`: a number from 1 to n is above 0.
+-- `last_part`: a number from 1 to n is at most n.
+-- `reads_fit`: an act that only reads fits the same places if it fits an equal list of them.
 use Rattle.std.proofs.Common.{◌≡◌, ℕ, ◌<◌, ◌≤◌, ◌-◌, Bool, true, false, List, length, refl, sym, ap, ◌∙◌, subst}
 use Rattle.std.proofs.Common.{nat_eq, eqb-true, cond, arith}
 use Rattle.std.specs.Prelude.{get_or, set, ◌&&◌, nat_lt, nat_le}
