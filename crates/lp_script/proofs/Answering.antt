@@ -1,4 +1,8 @@
--- The exchange of one ask.
+-- The exchange of one ask: its run, its reads and its lines.
+--
+-- `one_run_to`: after one step of the asked session, each session has run alone to its new state.
+-- `one_log`: the log of one exchange is its reads, each with the session that was asked.
+-- `one_line`: the output of one exchange is the lines of its reply.
 use Rattle.std.proofs.Common.{◌≡◌, ℕ, List, [], ◌∷◌, Bool, true, false, nat_eq, cond, eqb-true}
 use Rattle.std.proofs.Common.{append-nil, refl, subst}
 use Rattle.spec_board.specs.Reads.{ExactRead}

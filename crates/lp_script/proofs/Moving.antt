@@ -1,4 +1,9 @@
--- What the run of a script is where it halts, by the exchanges of the lines that were read.
+-- What the run of a script has read and written where it halts, by the exchanges of the lines that were read.
+--
+-- `whole_front`: the output of exchanges is a prefix of itself.
+-- `stops_so`: a run that a write or want of memory halts ends so, whatever it has moved.
+-- `nothing`: a run that reads nothing and writes nothing is a run of no exchanges.
+-- `ends_as`: a run ends with a result that equals the one it ends with.
 use Rattle.std.proofs.Common.{◌≡◌, ℕ, ◌^◌, ◌<◌, ◌⊎◌, take, List, [], ◌++◌, length, map, Result, Err}
 use Rattle.std.proofs.Common.{ap, sym, ◌∙◌, append_assoc, append-nil, refl, inl, inr}
 use Rattle.std.proofs.Common.{Option, subst, ⊎_elim}

@@ -1,4 +1,11 @@
 -- What the only pass of a board has published.
+--
+-- `only_first`: the first pass of a board is its only one.
+-- `stands_at`: each place below the number of publications was published, with as many words as a basis.
+-- `owns_all`: a neat view owns as many places as it published.
+-- `all_published`: if a view owns just the places below n, it published n times.
+-- `look_rests`: a look publishes nothing, and leaves the publications in order.
+-- `rests_own`: a view that published nothing since still owns as many places as it published.
 use Rattle.std.proofs.Common.{◌≡◌, ℕ, ◌+◌, ◌<◌, ◌≤◌, List, [], ◌∷◌, ◌++◌, length, get_or, refl, sym, ap, ap₂, ◌∙◌}
 use Rattle.std.proofs.Common.{subst, ⊎_elim, inl, inr, arith, length-append}
 use Rattle.std.proofs.lemmas.Bool.{cases_lt}

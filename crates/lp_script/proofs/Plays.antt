@@ -1,4 +1,9 @@
 -- Reads of a pass that places which are all done answer one after the other.
+--
+-- `reads_since`: the reads that a pass noted since are those that stand behind the older ones.
+-- `has_newest`: the newest read is among the reads put in order.
+-- `played_on`: places that answer some reads and then others answer both, one after the other.
+-- `played_each`: places that answer each read and stay as they are answer all of them, and stay.
 use Rattle.std.proofs.Common.{◌≡◌, ℕ, List, [], ◌∷◌, ◌++◌, map, refl, sym, ap, ◌∙◌, subst, inl}
 use Rattle.std.specs.Prelude.{reverse}
 use Rattle.std.proofs.lemmas.List.{map-append, reverse-append, append_cancel_left}

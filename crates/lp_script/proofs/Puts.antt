@@ -1,4 +1,7 @@
--- What the only pass of a board reads of a put, which places that are all done answer.
+-- What the only pass of a board reads of a put, and that places which are all done answer it.
+--
+-- `put_reads`: a put adds to the reads of a view those of its outcome, and no others.
+-- `put_places`: a put leaves the number of places as it is.
 use Rattle.std.proofs.Common.{◌≡◌, ℕ, ◌<◌, Some, List, [], ◌∷◌, ◌++◌, length, refl, sym, ap, ◌∙◌, subst}
 use Rattle.std.proofs.lemmas.List.{length-map}
 use Rattle.spec_board.specs.declared.place.Place.TheVariants as place

@@ -1,4 +1,8 @@
 -- What is written of the replies of many workers, and what the run is then.
+--
+-- `unanswered`: a run that has only read lines has moved these bytes, and has had no exchange.
+-- `reads_some_of`: a script that was read to some end was read as far as some lines.
+-- `one-more-read`: a list that is read item by item is its first items mapped, also after one item more.
 use Rattle.std.proofs.Common.{◌≡◌, ◌≢◌, ℕ, ◌<◌, ◌+◌, List, [], ◌∷◌, ◌++◌, length}
 use Rattle.std.proofs.Common.{map, take, drop, get_or, min, Option, Result, Ok, Err, refl}
 use Rattle.std.proofs.Common.{sym, ap, ◌∙◌, append_assoc, append-nil, inl, inr, subst, arith}
