@@ -1,4 +1,9 @@
 -- What a server has done when all its workers have.
+--
+-- `ended_write`: a service that ends with a failed write, whether or not a listener failed, had one when it wrote its
+--   ends.
+-- `not_write`: want of memory is no failed write.
+-- `unserved`: a server that runs out of memory first has served no link, and has left its listeners as they were.
 use Rattle.std.proofs.Common.{◌≡◌, ℕ, ◌<◌, ◌⊎◌, List, [], ◌∷◌, suc, length, map, true, false}
 use Rattle.std.proofs.Common.{Option, Ok, Err, Result}
 use Rattle.std.proofs.Common.{refl, sym, ap, ◌∙◌, subst, inl, inr, arith}

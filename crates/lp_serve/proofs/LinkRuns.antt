@@ -1,4 +1,10 @@
--- The steps of links, one after the other: their places, their reads, and the runs of their sessions.
+-- The steps of connections, one after the other: their places, their reads, and the runs of their sessions.
+--
+-- `links_places`: the steps of connections leave the number of places as it is.
+-- `links_read`: the pass reads what the sessions of the connections read, in their order, and nothing else.
+-- `links_orderly`: the steps of connections leave the reads of a consistent pass in order, if they were.
+-- `links_run`: the session of each connection runs alone from its opening.
+-- `links_more`: the steps of one connection more come after those of the ones before.
 use Rattle.std.proofs.Common.{◌≡◌, ℕ, List, [], ◌∷◌, ◌++◌, map, refl, sym, ap, ◌∙◌, subst, append-nil}
 use Rattle.std.specs.List.{flat_map, AllByRecursion}
 use Rattle.std.proofs.lemmas.List.{append_assoc}

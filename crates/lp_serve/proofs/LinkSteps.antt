@@ -1,4 +1,8 @@
 -- The steps of a session, one after the other.
+--
+-- `step_by`: a session's step by a pass, with its calls, is a step of its exchange.
+-- `steps_more`: one step more after some steps is steps of one exchange more.
+-- `steps_run`: the steps of a session are a run of it alone, and leave the number of places as it is.
 use Rattle.std.proofs.Common.{◌≡◌, ℕ, List, [], ◌∷◌, ◌++◌, refl, ap, ◌∙◌, subst}
 use Rattle.spec_server.specs.Exchanges.{Exchange, AloneRun}
 use Rattle.spec_server.specs.Machine.{ExactAsk, ExactReply, State}

@@ -1,4 +1,7 @@
--- The service of a link, ask by ask.
+-- The service of a connection, ask by ask.
+--
+-- `served_nothing`: a connection on which memory ran out before it was read is served so.
+-- `start`: before anything was read, a new session is in a turn of no lines.
 use Rattle.std.proofs.Common.{◌≡◌, ℕ, ◌⊎◌, List, [], ◌∷◌, ◌++◌, map, true, false, Option, Ok, Err}
 use Rattle.std.proofs.Common.{ap, sym, ◌∙◌, append_assoc, append-nil, refl, inl, inr, subst, ⊎_elim}
 use Rattle.std.specs.Io.KnownBytes.{Consumes, Appends}

@@ -1,4 +1,8 @@
 -- What a pass notes, one step after the other.
+--
+-- `none_noted`: a pass that notes nothing notes on.
+-- `noted_on`: a pass that notes on twice notes on.
+-- `noted_all`: all that a pass has noted since it had noted nothing was so at its moment.
 use Rattle.std.proofs.Common.{◌≡◌, [], refl, sym, subst}
 use Rattle.basis_board.specs.Known.{Known}
 use Rattle.basis_board.specs.Moments.{NotesMore, WereTrue}
