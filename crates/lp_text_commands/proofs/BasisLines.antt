@@ -1,4 +1,7 @@
--- Where the lines of a text and of a basis file after it lead.
+-- How the lines of a text, and of a basis file after it, lead from stage to stage.
+--
+-- `said_within`: reading by steps with the limits says what the definition of the reading says.
+-- `leads_from`: a line leads to the stage, or to what is said, that one step of the reading gives.
 use Rattle.std.proofs.Common.{◌≡◌, ℕ, ◌+◌, ◌≤◌, Some, Result, Ok, Err, List, [], ◌∷◌, arith, refl, subst}
 use Rattle.std.specs.Prelude.{IfOk}
 use Rattle.spec_text.specs.declared.line.Line.{Line}

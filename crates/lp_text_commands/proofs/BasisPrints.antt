@@ -1,4 +1,8 @@
 -- What is written of a solve from the basis of a file.
+--
+-- `whole_lines`: the lines of the end and the text of the final basis are what `basis` writes of a solve.
+-- `start_has`: the basis that a solve starts from is a basis of the model's form.
+-- `solve_leaves`: a solve from a basis of a form leaves a basis of that form, where it leaves one.
 use Rattle.std.proofs.Common.{◌≡◌, ℕ, List, ◌++◌, Option, Some, None, option_map, Result, Ok, Err, OnOk, ap, sym, subst, refl, ◌∙◌}
 use Rattle.std.proofs.Common.{append-nil}
 use Rattle.std.proofs.lemmas.Result.{on_ok_weaker}

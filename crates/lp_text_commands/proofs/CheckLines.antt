@@ -1,4 +1,7 @@
--- Where the lines of a text and of a certificate after it lead.
+-- How the lines of a text, and of a certificate after it, lead from stage to stage.
+--
+-- `text_counts`: behind a text, the next stage has read no more lines than were read.
+-- `leads_from`: a line leads to the stage, or to what is said, that one step of the reading gives.
 use Rattle.std.proofs.Common.{◌≡◌, ℕ, ◌+◌, ◌≤◌, Result, Ok, Err, List, arith, refl, subst}
 use Rattle.std.specs.Prelude.{IfOk}
 use Rattle.spec_text.specs.declared.line.Line.{Line}

@@ -1,4 +1,7 @@
 -- What is known of the sides and points that a search finds.
+--
+-- `found_read`: the limit of each row among the sides that a search finds is read without a refusal.
+-- `points_fit`: each point that a search finds has as many values as the model has columns.
 use Rattle.std.proofs.Common.{◌≡◌, ℕ, ◌<◌, List, [], ◌∷◌, ◌++◌, All, Some, length, sym, ◌∙◌}
 use Rattle.std.proofs.Common.{append-nil, ap, subst, ⊎_elim}
 use Rattle.std.proofs.lemmas.List.{append_assoc, get_or_default}

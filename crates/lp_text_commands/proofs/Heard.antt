@@ -1,4 +1,7 @@
 -- What was heard of an input that was read from its start on, and where the reading stopped.
+--
+-- `reads_none`: a command that has no memory before it reads has heard nothing, and has left the input as it was.
+-- `no_write`: what stops a reading is no failed write.
 use Rattle.std.proofs.Common.{◌≡◌, ℕ, ◌+◌, ◌-◌, ◌^◌, ◌≤◌, List, [], ◌∷◌, ◌++◌, length, take, Option, Some, None}
 use Rattle.std.proofs.Common.{Result, Ok, Err, Bool, true, false, arith, ap, sym, ◌∙◌, append_assoc, append-nil}
 use Rattle.std.proofs.Common.{length-append, inl, inr, subst, ⊎_elim}

@@ -1,4 +1,12 @@
--- What numbers are ranged from, and what is written of that behind an answer.
+-- From which basis numbers are ranged, and what is written of the ranges behind an answer.
+--
+-- `keeps_at_end`: the basis that a cold solve leaves keeps the model, where it leaves one.
+-- `behind`: where numbers are ranged from a basis, what is written of one and of all of them is ranged from it.
+-- `none_behind`: where numbers are ranged from no basis, nothing is written behind the answer.
+-- `with_range`: what `range` writes of one number is the answer, and the text of the range behind it.
+-- `with_ranges`: what `range all` writes is the answer, and the texts of all ranges behind it.
+-- `line_of`: the line of a number is its name and the text of its range.
+-- `lines_more`: the lines of one number more are those of the ones before and its own.
 use Rattle.std.proofs.Common.{◌≡◌, ℕ, suc, ◌+◌, List, [], ◌∷◌, ◌++◌, Some, None, Result, Ok, Err, refl, ap, ◌∙◌, append-nil, arith}
 use Rattle.std.proofs.lemmas.Grind.{flat_map-append}
 use Rattle.spec_exact.specs.Fraction.{ℚ}

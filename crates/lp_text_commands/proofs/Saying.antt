@@ -1,4 +1,7 @@
 -- What is written of what is said of an input.
+--
+-- `basis_reads`: what `basis` says and writes, by its parts, is what the command reads and writes.
+-- `wide_basis_reads`: what `basis --wide` says and writes, by its parts, is what the command reads and writes.
 use Rattle.std.proofs.Common.{◌≡◌, ℕ, List, [], ◌++◌, Option, Result, Ok, Err, ap, sym, ◌∙◌, subst}
 use Rattle.std.specs.Io.KnownBytes.{Appends}
 use Rattle.std.proofs.KnownBytes.{Appends-nil}

@@ -1,4 +1,8 @@
--- The model that is said of a text may be kept.
+-- A model that is said of a text is within the usual limits.
+--
+-- `heard_kept`: a model that was heard of a text is usual.
+-- `start_agrees`: a reader of a text that has read nothing says what the definition of the text says.
+-- `may_take`: where one property implies another, what may be taken for the one may be taken for the other.
 use Rattle.std.proofs.Common.{◌≡◌, ℕ, ◌+◌, List, [], ◌∷◌, ◌++◌, take, Option, Some, Result, Ok, Err, ap, subst₂, ⊎_elim}
 use Rattle.spec_text.specs.declared.line.Line.{Line}
 use Rattle.spec_text.specs.declared.line.Line.TheVariants as line

@@ -1,4 +1,8 @@
--- Where the lines of a text and of a certificate with wide numbers after it lead.
+-- How the lines of a text, and of a certificate with wide numbers after it, lead from stage to stage.
+--
+-- `leads_from`: a line leads to the stage, or to what is said, that one step of the reading gives.
+-- `same_line`: where a reply has the same text with wide numbers, it has the same line.
+-- `optimal_line`: the words `YES OPTIMAL` and the value are the line of an accepted optimum.
 use Rattle.std.proofs.Common.{◌≡◌, ℕ, ◌+◌, ◌≤◌, Result, List, [], ◌∷◌, ◌++◌, ap, ◌∙◌, arith, refl, subst}
 use Rattle.std.proofs.Common.{append_assoc}
 use Rattle.std.specs.Prelude.{IfOk, codes}
