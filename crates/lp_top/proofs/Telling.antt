@@ -1,4 +1,8 @@
--- What the top call tells.
+-- What the status of the top call tells of the streams.
+--
+-- `text_done`: a command whose output was written whole tells so by its status.
+-- `text_halted`: a command that was halted tells by its status what halted it.
+-- `does_as`: a command line that equals another one does the same.
 use Rattle.std.proofs.Common.{◌≡◌, ◌⊎◌, ℕ, List, [], Option, Some, None, Ok, Err, arith, refl, sym, inl, inr, subst}
 use Rattle.std.specs.Io.KnownBytes.{Consumes}
 use denote.Ref.{Bor}

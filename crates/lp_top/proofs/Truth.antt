@@ -1,4 +1,7 @@
--- What the top call does is true.
+-- What the top call writes, to its output and to connections, is true.
+--
+-- `output_true`: what the call writes to its output is a prefix of a true output of what it read.
+-- `links_true`: what the call writes to each connection is a prefix of a true output of what it read there.
 use Rattle.std.proofs.Common.{◌≡◌, ◌<◌, ℕ, true, false, Bool, cond, List, [], ◌∷◌, ◌++◌, length, map, slice_index_or}
 use Rattle.std.proofs.Common.{Option, Some, None, Result, Ok, Err, refl, sym, ap, ◌∙◌, subst, ◌⊎◌, inl, inr, append_assoc, append-nil}
 use Rattle.std.specs.Io.KnownBytes.{Consumes, Appends}
