@@ -25,6 +25,7 @@ pub data Step : Type 0 where
   Claims : (pending : Pending) → (count : ℕ) → Step
   Writes : (pending : Pending) → (place : ℕ) → Step
 
+-- the stage of a session without what it read
 abbrev pub shown_step : world.Stage → Step
 shown_step world.Idle = Idle
 shown_step (world.Counts shape) = Counts shape
@@ -42,6 +43,7 @@ with_pending Nothing step = Idle
 with_pending (WhatIsFound shape) step = Idle
 with_pending (WhatBecameOf pending) step = step pending
 
+-- where a session is in its ask, by the code's stage and by what the session awaits
 abbrev pub step_of : Stage → Awaits → Step
 step_of stage.Idle awaits = Idle
 step_of (stage.Counts shape) awaits = Counts shape
@@ -72,10 +74,11 @@ pub record Kept : Type 0 where
   pub state : State
   pub step : Step
 
+-- a session that has just opened
 abbrev pub opening_kept : Kept
 opening_kept = record { state = opening; step = Idle }
 
--- it is held of this session
+-- the code holds this of the session
 pub record Keeps (kept : Kept) (s : Session) : Type 0 where
   pub state_so : s.state ≡ kept.state
   pub step_so : shown_step s.stage ≡ kept.step
@@ -102,6 +105,7 @@ pub record Acted (server : Server) (me : ℕ) (now : List ExactPlace) (s : Sessi
   pub places_so : next ≡ left.places
   pub end_so : end ≡ end_of me left.replied
 
+-- the act is taken if the session's stage allows it; if not, nothing changes and nothing is replied
 abbrev pub ActBy : Bool → Server → ℕ → Kept → List ExactPlace → Session → ExactAct → ExactEnd → Kept →
     List ExactPlace → Type 0
 ActBy true server me old now s a end new next = Acted server me now s a end new next
@@ -121,10 +125,11 @@ pub record Core : Type 0 where
   pub places : List ExactPlace
   pub limit : ℕ
 
+-- a server of so many sessions and places
 abbrev pub server_of : Core → Server
 server_of core = record { sessions = length core.held; places = core.limit }
 
--- it is held of this world
+-- the code holds this of the world
 pub record Shows (core : Core) (w : World) : Type 0 where
   pub each : (session : ℕ) → has_session (server_of core) session ≡ true →
       Keeps (get_or core.held (session - 1) opening_kept) (w.sessions session)

@@ -12,9 +12,11 @@ abbrev pub words_in : Option ExactPlace → Option Words
 words_in (Some (place.Done words)) = Some words
 words_in other = None
 
+-- the words of place k, if it is done
 abbrev pub words_at : List ExactPlace → ℕ → Option Words
 words_at now k = words_in (place_at now k)
 
+-- where a look goes on after it read place k: it has found the place, or goes on below it
 abbrev pub seen_at : Words → ℕ → Option Words → Stage
 seen_at shape k None = looking_at shape k
 seen_at shape k (Some words) =

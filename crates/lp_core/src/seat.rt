@@ -59,6 +59,7 @@ fn write(places: &mut Vec<Place<BasisWords>>, place: u32, words: BasisWords)
     }
 }
 
+// Whether the words begin with the shape.
 fn has_shape(shape: &ShapeWords, words: &BasisWords) -> bool
     ensures { result ≡ reads.has_shape shape.now words.now }
 {
@@ -115,7 +116,7 @@ impl Seat {
         }
     }
 
-    // It is asked.
+    // The session is asked, if it is in no ask. It replies, or goes on with a look for its shape.
     fn ask(
         &mut self,
         alloc: Global,
@@ -140,7 +141,7 @@ impl Seat {
         }
     }
 
-    // It reads how many places are claimed.
+    // The session reads how many places are claimed, to look or to publish.
     fn count(&mut self, me: u32, limit: u32, places: &[Place<BasisWords>]) -> StepEnd<Reply>
         requires { length places.now ≤ limit }
         ensures fits { ActFits limit me self.old places.now acts.Count result self.new places.now }
@@ -165,7 +166,7 @@ impl Seat {
         }
     }
 
-    // It reads this place.
+    // The session reads the place, if its look has come down to that one.
     fn see(&mut self, me: u32, limit: u32, places: &[Place<BasisWords>], at: u32) -> StepEnd<Reply>
         requires formed { AreFormed places.now }
         ensures fits { ActFits limit me self.old places.now (acts.See at) result self.new places.now }
@@ -181,7 +182,7 @@ impl Seat {
         StepEnd::Quiet
     }
 
-    // It solves.
+    // The session solves, if its look has ended. It replies, or goes on with words to publish.
     fn work(
         &mut self,
         alloc: Global,
@@ -207,7 +208,7 @@ impl Seat {
         }
     }
 
-    // It claims a place.
+    // The session claims the next place, or replies that another was quicker.
     fn claim(&mut self, me: u32, limit: u32, places: &mut Vec<Place<BasisWords>>) -> StepEnd<Reply>
         requires below { IsBelow limit self.old.step }
         requires few { length places.old.items ≤ limit }
@@ -233,7 +234,7 @@ impl Seat {
         StepEnd::Quiet
     }
 
-    // It writes its place.
+    // The session writes the words into the place that it claimed, and replies.
     fn done(&mut self, me: u32, limit: u32, places: &mut Vec<Place<BasisWords>>) -> StepEnd<Reply>
         requires room { limit ≤ vec_capacity places.old }
         requires few { length places.old.items ≤ limit }

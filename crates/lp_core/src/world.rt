@@ -60,6 +60,7 @@ impl World {
         self.act(alloc, event)
     }
 
+    // The step itself, for one world of the definitions. `step` shows what follows for all events so far.
     fn act(&mut self, alloc: Global, event: Event<Ask>) -> StepEnd<Reply>
         ensures fits { StepFits self.old event result self.new }
         ensures size { (length self.new.held ≡ length self.old.held) × (self.new.limit ≡ self.old.limit) }
