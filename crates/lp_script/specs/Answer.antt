@@ -14,6 +14,7 @@ pub record Together : Type 0 where
   pub states : List State
   pub sharing : Sharing
 
+-- the states of sessions, in their order
 abbrev pub states_of : List Standing → List State
 states_of all = map (λ session. session.state) all
 

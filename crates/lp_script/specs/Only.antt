@@ -22,6 +22,7 @@ AreInOrder (Done k words ∷ reads) =
     (k ≡ length (published_words reads)) × (length words ≡ basis_words) × AreInOrder reads
 AreInOrder (r ∷ reads) = AreInOrder reads
 
+-- the places that a pass knows, where each claimed one is done
 abbrev pub sharing_of : View → Sharing
 sharing_of v = record { places = v.places; done = published_words v.reads }
 

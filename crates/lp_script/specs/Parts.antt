@@ -51,10 +51,11 @@ pub record HaveHad (asks : List (Asked ExactAsk)) (replies : List ExactReply) (v
   pub reads : reads_of view ≡ reads_in_all exchanges
   pub orderly : IsOrderly view
 
+-- the worker has had these asks, with these replies
 abbrev pub HasHad : List (Asked ExactAsk) → List ExactReply → Worker Part → Type 0
 HasHad asks replies w = HaveHad asks replies w.pass.view w.job.sessions.items
 
--- It has had these asks, and has room for the replies to those that it still holds.
+-- The worker has had these asks, and has room for the replies to those that it still holds.
 pub record IsServing (board : Board) (asks : List (Asked ExactAsk)) (w : Worker Part) : Type 0 where
   pub hired : IsHired board w
   pub had : HasHad asks w.job.replies.items w
@@ -65,7 +66,7 @@ pub record IsServing (board : Board) (asks : List (Asked ExactAsk)) (w : Worker 
 abbrev pub HasServed : Board → Worker Part → Worker Part → Type 0
 HasServed board old new = IsServing board (reverse old.job.asks.items) new
 
--- the same of a part and a pass
+-- the turn of a part by a pass: it has had the asks that it held
 abbrev pub Took : Board → Part → Known → Part → Known → Type 0
 Took board old pass new passed =
     HasServed board (record { job = old; pass = pass }) (record { job = new; pass = passed })

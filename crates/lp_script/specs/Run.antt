@@ -52,6 +52,7 @@ pub record BreaksOff {workers places : ℕ} {s : Streams} (moves : Moves workers
   pub asks : map asked_in moves.exchanges ≡ ended_asks_of Numbered moves.read
   pub whole : IsWhole moves
 
+-- what a run that moved so ended with, by its result
 abbrev pub EndsSo : {workers places : ℕ} {s : Streams} → Moves workers places s → Result (Unit {0}) Halt → Type 0
 EndsSo moves (Ok u) = EndsInput moves Ended
 EndsSo moves (Err halts.Cut) = EndsInput moves Cut
@@ -60,5 +61,6 @@ EndsSo moves (Err halts.Read) = BreaksOff moves
 EndsSo moves (Err halts.Write) = Unit {0}
 EndsSo moves (Err halts.NoMemory) = Unit {0}
 
+-- what a run by so many workers, with so many places, reads, writes and ends with
 abbrev pub Runs : ℕ → ℕ → Streams → Result (Unit {0}) Halt → Type 0
 Runs workers places s result = (moves : Moves workers places s) × EndsSo moves result

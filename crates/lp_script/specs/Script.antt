@@ -38,6 +38,7 @@ abbrev pub ReadsSome : Option (List ℕ) → Option (List ℕ) → Type 0
 ReadsSome before after =
     (lines : List (Line (List ℕ))) × (ReadsPart before after lines ⊎ ReadsAll before after lines)
 
+-- what was read: a script, or some lines where memory ran out
 abbrev pub ReadsScript : Option (List ℕ) → Option (List ℕ) → Result Script AllocError → Type 0
 ReadsScript before after (Ok script) = IsRead before after script.asks.items script.end
 ReadsScript before after (Err why) = ReadsSome before after

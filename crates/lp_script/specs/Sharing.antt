@@ -11,6 +11,7 @@ pub record Sharing : Type 0 where
   pub places : ℕ
   pub done : List Words
 
+-- places that are all done, with these words
 abbrev pub as_places : List Words → List ExactPlace
 as_places done = map place.Done done
 

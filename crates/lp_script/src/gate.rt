@@ -12,5 +12,6 @@ pub trait Gate {
 pub struct NeverHolds;
 
 impl Gate for NeverHolds {
+    // Does nothing.
     fn before<R: Wait>(&self, _rt: &R, _session: u32, _nth: u64) {}
 }
