@@ -15,6 +15,7 @@ use Rattle.lp_serve.specs.Service.{Steps}
 use Rattle.lp_serve.specs.Serving.{Served, Listened}
 use Rattle.lp_serve.specs.declared.desk.Desk.{Desk}
 
+-- the listeners of desks, in their order
 abbrev pub nets_of : {N : Type 0} → List (Desk N) → List N
 nets_of {N} desks = map (λ (desk : Desk N). desk.net) desks
 
@@ -51,12 +52,13 @@ pub record ServedLinks {N : Type 0} (state : N → ListenerState) (board : Board
   pub all : new.job.has_failed ≡ false → length links ≡ each
   pub failed : new.job.has_failed ≡ true → Rose (state old.job.net).accept_faults (state new.job.net).accept_faults
 
+-- a worker before its turn and after it: it has served the connections of its desk
 pub record HasServed {N : Type 0} (state : N → ListenerState) (board : Board) (each : ℕ) (old new : Worker (Desk N)) :
     Type 0 where
   pub links : List Served
   pub served : ServedLinks state board each old new links
 
--- the same of a desk and a pass
+-- the turn of a desk by a pass: it has served the connections of its desk
 abbrev pub Took : {N : Type 0} → (N → ListenerState) → ℕ → Board → Desk N → Known → Desk N → Known → Type 0
 Took state each board old pass new passed =
     HasServed state board each (record { job = old; pass = pass }) (record { job = new; pass = passed })

@@ -26,6 +26,7 @@ pub record Served : Type 0 where
   pub exchanges : List Exchange
   pub ended : LinkEnd
 
+-- the bytes of a connection before and after it was served
 abbrev pub streams_of : Served → Streams
 streams_of x = streams x.given.source.left x.back.source.left x.given.sink.taken x.back.sink.taken
 
@@ -52,9 +53,11 @@ pub record Listened (places each : ℕ) (old new : ListenerState) (links : List 
 
 -- ---- all of them
 
+-- how the connections of each listener ended
 abbrev pub ends_of : List (List Served) → List (List LinkEnd)
 ends_of served = map (λ links. map (λ (x : Served). x.ended) links) served
 
+-- the exchanges of the connections of each listener
 abbrev pub exchanges_of : List (List Served) → List (List (List Exchange))
 exchanges_of served = map (λ links. map (λ (x : Served). x.exchanges) links) served
 
