@@ -3,12 +3,13 @@ use Rattle.std.specs.Prelude.{ℕ, Result, Ok, Err}
 use Rattle.lp_serve.specs.declared.fault.ServeFault.{ServeFault}
 use Rattle.lp_serve.specs.declared.fault.ServeFault.TheVariants as faults
 
--- its code
+-- the status of what went wrong as links were served
 abbrev pub code_of_fault : ServeFault → ℕ
 code_of_fault faults.Accept = 7
 code_of_fault faults.Write = 4
 code_of_fault faults.NoMemory = 5
 
+-- the status of how a service ended
 abbrev pub code_of_service : Result (Unit {0}) ServeFault → ℕ
 code_of_service (Ok u) = 0
 code_of_service (Err fault) = code_of_fault fault

@@ -15,6 +15,7 @@ pub record Lent : Type 0 where
   pub given : LinkState
   pub back : LinkState
 
+-- the bytes of a connection before and after it was lent
 abbrev pub lent_streams : Lent → Streams
 lent_streams x = streams x.given.source.left x.back.source.left x.given.sink.taken x.back.sink.taken
 

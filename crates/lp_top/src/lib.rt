@@ -162,6 +162,7 @@ where
     }
 }
 
+// The status of what went wrong as links were served.
 fn status_of_fault(fault: ServeFault) -> ExitStatus
     ensures { result.code ≡ code_of_fault fault }
 {
