@@ -10,6 +10,7 @@ abbrev pub IsTextOf : Notice → List ℕ → Type 0
 IsTextOf Version text = text ≡ codes "lpd 0.1.0" ++ 10 ∷ []
 IsTextOf Usage text = Unit {0}
 
+-- all of the notice was written
 abbrev pub ShowsAll : Notice → Option (List ℕ) → Option (List ℕ) → Type 0
 ShowsAll notice before after = (text : List ℕ) × IsTextOf notice text × Appends before after text
 

@@ -24,6 +24,7 @@ use std::process::ExitCode;
 use std::{env, io};
 use told::{Ending, tell, tell_reading};
 
+// Reads the words of the command line, runs the command on standard input and output, and ends with its status.
 fn main(rt: HostRuntime) -> ExitCode {
     let alloc = rt.alloc();
     let words = match words_of(&rt, alloc) {

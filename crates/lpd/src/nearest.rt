@@ -23,6 +23,7 @@ pub fn nearest(
     Ok(found)
 }
 
+// The word in lower case, without the dashes before it.
 fn bare(alloc: Global, word: &str) -> Result<String, AllocError> {
     word.trim_start_matches('-').to_ascii_lowercase(alloc)
 }

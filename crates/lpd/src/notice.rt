@@ -12,6 +12,7 @@ use std::alloc::{AllocError, Global};
 // The version is that of the file VERSION at the top of the repository.
 const VERSION: &str = "lpd 0.1.0\n";
 
+// The usage, or the line of the version.
 fn text_of(alloc: Global, notice: Notice) -> Result<String, AllocError>
     ensures { IfOk result (λ text. IsTextOf notice (string_bytes text)) }
 {

@@ -32,6 +32,7 @@ pub struct Opening<K> {
 }
 
 impl<K> Opening<K> {
+    /// A sink that has taken nothing yet.
     pub fn new(inner: K) -> Self {
         let start = Start {
             bytes: [0; KEPT],
@@ -56,6 +57,7 @@ impl<K: Sink> Sink for Opening<K> {
 
     ghost beside_writes = { λ s. K.beside_writes s.inner };
 
+    // Writes to the inner sink, and keeps of what it took as much as there is room for.
     fn write(&mut self, piece: &[u8]) -> Result<usize, Failed> {
         let count = self.inner.write(piece)?;
         self.start.keep(&piece[..count]);

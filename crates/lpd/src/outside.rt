@@ -14,6 +14,7 @@ pub struct Counted<T> {
 }
 
 impl<T> Counted<T> {
+    /// A reader or a writer that has had no fault yet.
     pub fn new(inner: T) -> Self {
         Counted { inner, faults: 0 }
     }
@@ -26,6 +27,7 @@ impl<R: Read> Source for Counted<R> {
 
     ghost beside_reads = { λ _. no_sink };
 
+    // Reads from the reader, and counts a fault.
     fn read(&mut self, buf: &mut [u8]) -> Result<usize, Failed> {
         let read = read_again(&mut self.inner, buf);
         counted(read, &mut self.faults)
@@ -39,6 +41,7 @@ impl<W: Write> Sink for Counted<W> {
 
     ghost beside_writes = { λ _. no_source };
 
+    // Writes to the writer, and counts a fault.
     fn write(&mut self, piece: &[u8]) -> Result<usize, Failed> {
         let written = write_again(&mut self.inner, piece);
         counted(written, &mut self.faults)

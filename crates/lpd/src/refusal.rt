@@ -134,6 +134,7 @@ fn refusal_of<'a>(words: &[String], reply: Option<&'a str>) -> Option<Refusal<'a
     }
 }
 
+// The refusal of a name that the model does not have.
 fn unknown<'a>(command: TextCommand<&[u8]>, name: &'a str) -> Refusal<'a> {
     let why = match command {
         TextCommand::Range {
@@ -146,6 +147,7 @@ fn unknown<'a>(command: TextCommand<&[u8]>, name: &'a str) -> Refusal<'a> {
     Refusal::Name { why, name }
 }
 
+// The refusal of a certificate that has a name twice.
 fn repeated(name: &str) -> Refusal<'_> {
     Refusal::Name {
         why: "the certificate has two lines of one letter for",
@@ -153,6 +155,7 @@ fn repeated(name: &str) -> Refusal<'_> {
     }
 }
 
+// The refusal of a line of the model, from its number and the word of its fault.
 fn of_model<'a>(command: TextCommand<&[u8]>, style: Style, what: &'a str) -> Option<Refusal<'a>> {
     let (number, fault) = what.split_once(' ')?;
     let (why, hint) = match (fault, style) {
@@ -189,6 +192,7 @@ fn limits(command: TextCommand<&[u8]>) -> (&'static str, &'static str) {
     }
 }
 
+// The refusal of a line of the basis file, from its number and the word of its fault.
 fn of_basis(what: &str) -> Option<Refusal<'_>> {
     let (number, fault) = what.split_once(' ')?;
     Some(Refusal::Line {

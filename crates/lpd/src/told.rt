@@ -48,6 +48,7 @@ pub fn tell(rt: &HostRuntime, alloc: Global, ending: Ending<'_>) -> io::Result<(
     }
 }
 
+// What is said of a status that needs no more than its number.
 fn what_happened(status: ExitStatus) -> Option<&'static str> {
     match status {
         ExitStatus::BAD_COMMAND_LINE => Some("bad command line\nlpd: a word is not UTF-8"),
@@ -71,6 +72,7 @@ pub fn tell_reading(rt: &HostRuntime, words: &[String]) {
     }
 }
 
+// What the command of these words reads from standard input, where it reads something.
 fn what_is_read(words: &[String]) -> Option<&'static str> {
     match words.first()?.as_str() {
         "run" => Some("a script, as `1 LOAD FREE`, a model and `1 SOLVE` (docs/PROTOCOL.md)"),

@@ -22,6 +22,7 @@ pub fn tell_unbound(rt: &HostRuntime, unbound: &Unbound<'_>) -> io::Result<()> {
     }
 }
 
+// Why a server cannot listen, in words of this program, where it has some.
 fn why(kind: ErrorKind) -> Option<&'static str> {
     match kind {
         ErrorKind::AddrInUse => Some("it is in use"),

@@ -41,6 +41,7 @@ struct Head {
     plain: &'static str,
 }
 
+// A command line of the usage, parted into its name and its plain words.
 fn head_of(command: &'static str) -> Head {
     match command.split_once(' ') {
         Some((name, plain)) => Head { name, plain },
@@ -51,6 +52,7 @@ fn head_of(command: &'static str) -> Head {
     }
 }
 
+// The command with this name, where there is one.
 fn command_of(word: &str) -> Option<Head> {
     for (command, _) in COMMANDS {
         let head = head_of(command);
@@ -167,6 +169,7 @@ fn text(word: &[u8]) -> &str {
     }
 }
 
+// What a plain word of a command has to be.
 fn wanted(plain: Plain) -> &'static str {
     match plain {
         Plain::Address => "ADDRESS: an IP address or a host, a colon and a port",
@@ -215,6 +218,7 @@ fn hint(
     }
 }
 
+// The question whether this name was meant, or nothing.
 fn meant(alloc: Global, name: Option<&str>) -> Result<String, AllocError> {
     match name {
         Some(name) => format!(in alloc; "; did you mean {name}?"),
@@ -222,6 +226,7 @@ fn meant(alloc: Global, name: Option<&str>) -> Result<String, AllocError> {
     }
 }
 
+// The question whether the command nearest to the word was meant.
 fn meant_command(alloc: Global, word: &str) -> Result<String, AllocError> {
     let mut names = Vec::new(alloc);
     for (command, _) in COMMANDS {
@@ -259,6 +264,7 @@ fn meant_option(alloc: Global, command: &str, word: &str) -> Result<String, Allo
     }
 }
 
+// Whether the command reads standard input.
 fn reads(command: &str) -> bool {
     READERS.iter().any(|reader| *reader == command)
 }
