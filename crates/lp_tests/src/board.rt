@@ -20,6 +20,7 @@ fn words() -> BasisWords {
     words
 }
 
+// The shape of the words.
 fn shape() -> ShapeWords {
     let mut shape = [0u64; 25];
     shape[0] = 65537;
@@ -30,6 +31,7 @@ fn shape() -> ShapeWords {
 // The most turns that the second thread waits for the flag.
 const TURNS: u32 = 100_000_000;
 
+// Publishes the words, and then raises the flag.
 fn first(board: &Board, mut pass: Pass, words: &BasisWords, flag: &AtomicU64) -> (Pass, Put)
     requires board { pass.board ≡ id_of board.now }
     requires formed { IsWellFormed words.now }
@@ -40,6 +42,7 @@ fn first(board: &Board, mut pass: Pass, words: &BasisWords, flag: &AtomicU64) ->
     (pass, put)
 }
 
+// Waits for the flag, looks for the shape, and publishes the words twice.
 fn second(
     board: &Board,
     mut pass: Pass,
@@ -62,6 +65,8 @@ fn second(
     (pass, look, put, full)
 }
 
+// A look finds what another thread published before. A third publication on two places finds them full, and the pass
+// that both passes are met into finds the newer place.
 #[test]
 fn one_thread_finds_what_another_published(rt: HostRuntime) -> Result<(), Fail> {
     let (board, mut pass) = Board::new(rt.alloc(), 2)?;

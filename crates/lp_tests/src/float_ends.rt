@@ -60,12 +60,14 @@ const CORNER: &str = "NAME corner\nROWS\n N cost\n L R1\n L R2\n\
 COLUMNS\n x cost -1 R1 1\n x R2 1\n y cost -2 R1 1\n y R2 3\n\
 RHS\n r R1 5 R2 6\nBOUNDS\n UP b x 3\n UP b y 9\nENDATA\n";
 
+// From the logical basis, a float run ends at the optimal basis.
 #[test]
 fn finds_an_optimum(rt: HostRuntime) -> Result<(), Fail> {
     assert!(rt; ends(rt.alloc(), CORNER, None, "-5")?);
     Ok(())
 }
 
+// A float run ends at the optimal basis from statuses that are a basis, from some that are none, and from none at all.
 #[test]
 fn begins_with_statuses(rt: HostRuntime) -> Result<(), Fail> {
     let alloc = rt.alloc();
@@ -77,6 +79,7 @@ fn begins_with_statuses(rt: HostRuntime) -> Result<(), Fail> {
     Ok(())
 }
 
+// A short float run from a basis ends at the answer, for a model of each of the three kinds.
 #[test]
 fn ends_near_a_basis(rt: HostRuntime) -> Result<(), Fail> {
     let alloc = rt.alloc();
@@ -94,6 +97,7 @@ COLUMNS\n x cost 3 R1 1\n x R2 1\n y cost -1 R1 1\n y R2 -2\n z cost 1 R2 1\n\
 RHS\n r R1 2 R2 4\nRANGES\n g R1 6\n\
 BOUNDS\n FR b x\n MI b y\n UP b y 0\n UP b z 5\nENDATA\n";
 
+// A float run takes free columns, columns below 0, ranges and equations.
 #[test]
 fn takes_bounds_of_each_kind(rt: HostRuntime) -> Result<(), Fail> {
     assert!(rt; ends(rt.alloc(), MIXED, None, "8")?);
@@ -105,6 +109,7 @@ const NOWHERE: &str = "NAME nowhere\nROWS\n N cost\n L R1\n L R2\n\
 COLUMNS\n x cost -1 R1 1\n x R2 1\n y cost -2 R1 1\n y R2 3\n\
 RHS\n r R1 5 R2 6\nBOUNDS\n LO b x 3\n LO b y 2\nENDATA\n";
 
+// Of an infeasible model, a float run ends with statuses and a witness from which lifting shows it.
 #[test]
 fn finds_no_feasible_point(rt: HostRuntime) -> Result<(), Fail> {
     assert!(rt; ends(rt.alloc(), NOWHERE, None, "infeasible")?);
@@ -115,6 +120,7 @@ const RISING: &str =
     "NAME rising\nROWS\n N cost\n L R1\nCOLUMNS\n x cost -1 R1 1\n y cost -1 R1 -1\n\
 RHS\n r R1 3\nENDATA\n";
 
+// Of an unbounded model, a float run ends with statuses and a witness from which lifting shows it.
 #[test]
 fn finds_no_limit(rt: HostRuntime) -> Result<(), Fail> {
     assert!(rt; ends(rt.alloc(), RISING, None, "unbounded")?);

@@ -22,6 +22,7 @@ struct Publisher {
 }
 
 impl Publisher {
+    // A publisher that has done nothing yet.
     fn new(pass: Pass) -> Self
         ensures { result.pass ≡ pass }
     {
@@ -32,6 +33,7 @@ impl Publisher {
         }
     }
 
+    // Publishes the words, and keeps what that came to.
     fn publish(&mut self, board: &Board, words: &BasisWords)
         requires board { self.old.pass.board ≡ id_of board.now }
         requires formed { IsWellFormed words.now }
@@ -50,10 +52,12 @@ impl Publisher {
         self.has_found = board.look(&mut self.pass, &shape) == Look::Found(0, *words);
     }
 
+    // Whether its publication took place 0.
     fn was_first(&self) -> bool {
         self.put == Some(Put::Published(0))
     }
 
+    // Whether its publication found the place taken, before its claim or at it.
     fn was_refused(&self) -> bool {
         self.put == Some(Put::Full(1)) || self.put == Some(Put::Raced(1))
     }
@@ -74,6 +78,7 @@ fn publishers(alloc: Global, board: &Board, mut first: Pass) -> Result<Vec<Publi
     Ok(all)
 }
 
+// Each publisher publishes the words, on a thread of its own.
 fn publish_all<R: Threads + Sync>(rt: &R, board: &Board, words: &BasisWords, all: &mut [Publisher])
     requires boards { All (λ one. one.pass.board ≡ id_of board.now) all.old }
     requires formed { IsWellFormed words.now }
@@ -87,6 +92,7 @@ fn publish_all<R: Threads + Sync>(rt: &R, board: &Board, words: &BasisWords, all
     );
 }
 
+// Each publisher looks for the words, on a thread of its own.
 fn look_all<R: Threads + Sync>(rt: &R, board: &Board, words: &BasisWords, all: &mut [Publisher])
     requires { All (λ one. one.pass.board ≡ id_of board.now) all.old }
 {
@@ -98,6 +104,7 @@ fn look_all<R: Threads + Sync>(rt: &R, board: &Board, words: &BasisWords, all: &
     );
 }
 
+// Of sixteen publications on one place one wins, the others are refused, and then every pass finds the words.
 #[test]
 fn one_of_sixteen_passes_publishes_and_all_find(rt: HostRuntime) -> Result<(), Fail> {
     let alloc = rt.alloc();

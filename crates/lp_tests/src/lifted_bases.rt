@@ -78,6 +78,7 @@ struct Case<'a> {
 }
 
 impl<'a> Case<'a> {
+    // A case of this model and basis.
     fn new(text: &'a str, letters: &'a str, most_steps: u32, wanted: &'a str) -> Case<'a> {
         Case {
             text,
@@ -120,6 +121,7 @@ RHS\n r R1 10000000000000000000000000000000002\n r R2 7\nENDATA\n";
 
 const WIDE_VALUE: &str = "7499999999999999999999999999999992.75";
 
+// The optimal basis of a model with right sides past 64 bits is lifted to its value.
 #[test]
 fn right_sides_past_a_word(rt: HostRuntime) -> Result<(), Fail> {
     let cases = [
@@ -130,6 +132,7 @@ fn right_sides_past_a_word(rt: HostRuntime) -> Result<(), Fail> {
     Ok(())
 }
 
+// Statuses with too many or too few basic columns lead to the optimum within some steps, and some of them without any.
 #[test]
 fn bases_with_columns_too_many_or_too_few(rt: HostRuntime) -> Result<(), Fail> {
     let cases = [
@@ -152,6 +155,7 @@ const DEPENDENT: &str =
     "NAME dependent\nROWS\n N cost\n G R1\n G R2\nCOLUMNS\n x cost 3 R1 1\n x R2 2\n y cost 5 R1 2\n \
 y R2 4\n z cost 4 R1 1\n z R2 1\nRHS\n r R1 4\n r R2 6\nENDATA\n";
 
+// A singular basis gives nothing by itself, and leads to the optimum within some steps.
 #[test]
 fn singular_bases(rt: HostRuntime) -> Result<(), Fail> {
     let cases = [
@@ -173,6 +177,7 @@ const CHEAP: &str =
     "NAME cheap\nROWS\n N cost\n G R1\nCOLUMNS\n f cost -5 R1 1\n z cost 0.5 R1 1\n x cost 1 R1 1\n\
 RHS\n r R1 5\nBOUNDS\n FX b f 2\n FR b z\nENDATA\n";
 
+// A nonbasic fixed column may have any reduced cost, and a nonbasic free one none but 0.
 #[test]
 fn fixed_and_free_columns_that_are_not_basic(rt: HostRuntime) -> Result<(), Fail> {
     let cases = [
@@ -189,6 +194,7 @@ fn fixed_and_free_columns_that_are_not_basic(rt: HostRuntime) -> Result<(), Fail
 const SIDES: &str = "NAME sides\nROWS\n N cost\n G R1\nCOLUMNS\n x cost -1 R1 1\n y cost 2 R1 1\n\
 RHS\n r R1 2\nRANGES\n g R1 6\nBOUNDS\n UP b x 100\n UP b y 3\nENDATA\n";
 
+// Bases with rows and columns at their upper limits are lifted, and lead to the optimum from the lower ones.
 #[test]
 fn rows_and_columns_at_their_other_side(rt: HostRuntime) -> Result<(), Fail> {
     let cases = [
@@ -210,6 +216,7 @@ const NOWHERE: &str =
     "NAME nowhere\nROWS\n N cost\n G R1\n L R2\nCOLUMNS\n x cost 1 R1 1\n x R2 1\n y cost 2 R1 1\n \
 y R2 1\nRHS\n r R1 5\n r R2 3\nENDATA\n";
 
+// Bases of infeasible and of unbounded models lead to certificates that show it.
 #[test]
 fn models_without_an_optimum(rt: HostRuntime) -> Result<(), Fail> {
     let cases = [
@@ -228,6 +235,7 @@ const CHAIN: &str =
     "NAME chain\nROWS\n N cost\n G R1\n G R2\n G R3\n G R4\nCOLUMNS\n x R1 1 R2 -1000000000000000000\n \
 u R2 1 R3 -1000000000000000000\n v R3 1 R4 -1000000000000000000\n w cost 1 R4 1\nRHS\n r R1 9\nENDATA\n";
 
+// A basis whose numbers grow past 127 bits is lifted to its value.
 #[test]
 fn numbers_past_two_words(rt: HostRuntime) -> Result<(), Fail> {
     let value = "9000000000000000000000000000000000000000000000000000000";
@@ -264,6 +272,7 @@ const APART_VALUE: &str =
 const NO_ROWS: &str =
     "NAME none\nROWS\n N cost\nCOLUMNS\n x cost -2\nRHS\nBOUNDS\n UP b x 3\nENDATA\n";
 
+// Rows whose common denominator is past 127 bits are lifted to the right values.
 #[test]
 fn common_denominators_past_127_bits(rt: HostRuntime) -> Result<(), Fail> {
     let cases = [
@@ -277,6 +286,7 @@ fn common_denominators_past_127_bits(rt: HostRuntime) -> Result<(), Fail> {
     Ok(())
 }
 
+// Decimal coefficients give a fraction, and a model without rows is answered by its bounds.
 #[test]
 fn denominators_and_models_without_rows(rt: HostRuntime) -> Result<(), Fail> {
     let cases = [

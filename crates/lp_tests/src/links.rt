@@ -59,6 +59,8 @@ fn listener(alloc: Global, links: Vec<MemLink>) -> Result<Vec<MemListen>, AllocE
     Ok(std::vec![in alloc; net]?)
 }
 
+// Two connections with the same commands are answered, the second from the basis of the first, and their ends are
+// written.
 #[test]
 fn links_are_served(rt: HostRuntime) -> Result<(), Fail> {
     let alloc = rt.alloc();
@@ -79,6 +81,7 @@ fn links_are_served(rt: HostRuntime) -> Result<(), Fail> {
     Ok(())
 }
 
+// A listener that gives no connection makes the server end with the fault, and nothing is written.
 #[test]
 fn no_link_comes(rt: HostRuntime) -> Result<(), Fail> {
     let alloc = rt.alloc();

@@ -1,6 +1,7 @@
 // Words and shapes of one column and one row.
 use lp_form::{same_shape, well_formed};
 
+// Words that spell no basis are not well formed, and shapes with other bounds are not the same.
 #[test]
 fn other_words_and_shapes_are_told_apart(rt: HostRuntime) {
     let mut words = [0u64; 49];

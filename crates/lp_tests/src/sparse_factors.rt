@@ -16,6 +16,7 @@ fn three<F: Field>(alloc: Global, numbers: &[F]) -> Result<Matrix<F>, AllocError
     Ok(matrix)
 }
 
+// The factors of a matrix solve it and its transpose modulo the prime.
 #[test]
 fn solves_modulo_the_prime(rt: HostRuntime) -> Result<(), Fail> {
     let alloc = rt.alloc();
@@ -76,6 +77,7 @@ fn product(
     Ok(sums)
 }
 
+// Of each sparse matrix that is regular, the solution times the matrix is the right side.
 #[test]
 fn solves_sparse_matrices(rt: HostRuntime) -> Result<(), Fail> {
     let alloc = rt.alloc();

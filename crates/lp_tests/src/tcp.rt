@@ -32,6 +32,7 @@ struct Heard {
 }
 
 impl Heard {
+    // A client that has read nothing.
     fn new() -> Self {
         Heard {
             loaded: AtomicU64::new(0),
@@ -98,6 +99,7 @@ where
     Ok((socket, stream))
 }
 
+// Two connections over loopback are served at the same time: each client waits for the other one, and both end.
 #[test]
 fn two_links_are_served_beside_each_other(rt: HostRuntime) -> Result<(), Fail> {
     let alloc = rt.alloc();

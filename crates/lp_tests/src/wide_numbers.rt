@@ -14,6 +14,7 @@ fn is_written(alloc: Global, text: &[u8], wanted: &[u8]) -> bool {
     }
 }
 
+// Numbers past 127 bits are read in each spelling, and written in lowest terms.
 #[test]
 fn wide_numbers(rt: HostRuntime) {
     let alloc = rt.alloc();
@@ -48,6 +49,7 @@ fn wide_numbers(rt: HostRuntime) {
     assert!(rt; is_written(alloc, b"0e99999", b"0"));
 }
 
+// Texts that are no number, or a power of ten too far away, are refused.
 #[test]
 fn no_numbers(rt: HostRuntime) {
     let alloc = rt.alloc();

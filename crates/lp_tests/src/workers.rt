@@ -39,6 +39,7 @@ struct Handshake {
 }
 
 impl Handshake {
+    // Waits until the flag is raised, or gives up after so many turns.
     fn hold(&self, until: &AtomicU64) {
         for _ in 0..TURNS {
             if until.load(Ordering::SeqCst) == 1 {
@@ -51,6 +52,7 @@ impl Handshake {
 }
 
 impl Gate for Handshake {
+    // Holds the solve that is about to begin, as the two sessions wait for each other.
     fn before<R: Wait>(&self, _rt: &R, session: u32, nth: u64) {
         if session == 1 && nth == 1 {
             self.one_began.store(1, Ordering::SeqCst);
@@ -74,6 +76,7 @@ fn script(alloc: Global) -> Result<MemSource, AllocError> {
     Ok(MemSource::new(pieces, Vec::new(alloc)))
 }
 
+// Two workers run a script at the same time, and a session begins with the basis that the other one's worker published.
 #[test]
 fn two_workers_run_beside_each_other(rt: HostRuntime) -> Result<(), Fail> {
     let alloc = rt.alloc();

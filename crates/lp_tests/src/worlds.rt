@@ -8,6 +8,7 @@ use spec_world::{Act, Event, StepEnd};
 use std::alloc::Global;
 use std::test::Fail;
 
+// The world takes one act of the session. What is replied is dropped.
 fn step(alloc: Global, world: &mut World, session: u32, act: Act<Ask>) {
     let _ = world.step(alloc, Event { session, act });
 }
@@ -36,6 +37,7 @@ fn published(alloc: Global, world: &mut World, session: u32) -> Option<Put> {
     }
 }
 
+// Of three sessions that publish at the same time, one is raced for its place, and a later one is done first.
 #[test]
 fn one_session_is_raced_and_one_overtaken(rt: HostRuntime) -> Result<(), Fail> {
     let alloc = rt.alloc();
