@@ -14,20 +14,23 @@ pub record ReadingAt : Type 0 where
   pub limits : SizeLimits
   pub stage : reading.Stage
 
--- the same step within these limits
+-- a step of the reading, with the limits that stay as they are
 abbrev pub step_within : SizeLimits → said.Step reading.Stage reading.BasisSaid →
     said.Step ReadingAt reading.BasisSaid
 step_within limits (said.On next) = said.On (record { limits = limits; stage = next })
 step_within limits (said.Says what) = said.Says what
 
+-- one step of the reading of `basis`, within its limits
 abbrev pub reading_step : ReadingAt → Line (List ℕ) → said.Step ReadingAt reading.BasisSaid
 reading_step at line = step_within at.limits (reading.basis_step at.limits at.stage line)
 
+-- the stage of the code, as the definitions have it
 abbrev pub stage_of : BasisStage → ReadingAt
 stage_of (stage.Text reader) =
     record { limits = reader.limits; stage = reading.InText reader.text.style reader.text.state reader.text.lines }
 stage_of (stage.File at) = record { limits = at.limits; stage = reading.InFile at.model at.form at.state at.lines }
 
+-- a step of the code, as the definitions have it
 abbrev pub step_of : Step BasisStage reading.BasisSaid → said.Step ReadingAt reading.BasisSaid
 step_of made = step_by stage_of made
 
@@ -36,5 +39,6 @@ abbrev pub count_of : BasisStage → ℕ
 count_of (stage.Text reader) = reader.text.lines
 count_of (stage.File at) = at.lines
 
+-- what these lines say after this stage
 abbrev pub BasisSays : BasisStage → List (Line (List ℕ)) → Option reading.BasisSaid → Type 0
 BasisSays stage lines answer = says_by stage_of reading_step stage lines answer

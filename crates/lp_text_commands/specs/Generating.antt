@@ -18,6 +18,7 @@ pub record WritesInPart (Out : List ℕ → Type 0) (before after : Option (List
   pub is_output : Out output
   pub written : Takes before after output
 
+-- what was written, by what halted the command
 abbrev pub Writes : (List ℕ → Type 0) → Option (List ℕ) → Option (List ℕ) → Result (Unit {0}) Halt → Type 0
 Writes Out before after (Ok u) = WritesAll Out before after
 Writes Out before after (Err halts.Write) = WritesInPart Out before after

@@ -9,6 +9,7 @@ use Rattle.spec_simplex.specs.Eliminate.{IsBasisOf}
 use Rattle.spec_commands.specs.BasisOut as reading
 use Rattle.lp_text_commands.specs.declared.basis.starting.Start.{Start}
 
+-- a model and the basis from which it is solved, without the form
 abbrev pub handed_of : Model → Option Start → reading.Handed
 handed_of m start = record { model = m; basis = option_map (λ (s : Start). s.basis) start }
 

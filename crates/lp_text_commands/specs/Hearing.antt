@@ -57,10 +57,12 @@ pub record HearsTooMuch {R : Type 0} (said : List (Line (List ℕ)) → Option R
   pub over : input_limit < length nothing.read
   pub soon : length nothing.read ≤ input_limit + buffer_len
 
+-- some bytes were read
 pub record Reads (before after : Option (List ℕ)) : Type 0 where
   pub read : List ℕ
   pub consumed : Consumes before after read
 
+-- what was read, by what is said of it or by what halted the reading
 abbrev pub HearsSo : {R : Type 0} → (List (Line (List ℕ)) → Option R) → Option (List ℕ) → Option (List ℕ) →
     Result R Halt → Type 0
 HearsSo said before after (Ok what) = Hears said before after what
@@ -91,9 +93,11 @@ pub record SaysInPart {R : Type 0} (said : List (Line (List ℕ)) → Option R) 
   pub is_output : Out what output
   pub written : Takes s.taken_before s.taken_after output
 
+-- nothing was written
 abbrev pub WritesNothing : Streams → Type 0
 WritesNothing s = Appends s.taken_before s.taken_after []
 
+-- what was read and written, by the status or by what halted the command
 abbrev pub SaysSo : {R : Type 0} → (List (Line (List ℕ)) → Option R) → (R → List ℕ → Type 0) → (R → ℕ) → Streams →
     Result ExitStatus Halt → Type 0
 SaysSo said Out code_of s (Ok status) = Says said Out code_of s status.code

@@ -17,9 +17,10 @@ abbrev pub SaidOut : {G F : Type 0} → (G → List ℕ → Type 0) → (F → L
 SaidOut Out line (Ok given) written = Out given written
 SaidOut Out line (Err fault) written = written ≡ line fault
 
+-- the line of a text that is refused
 abbrev pub misspelled_line : MpsFault → List ℕ
 misspelled_line fault = check_line (reply.Refused (refusal.Misspelled fault))
 
--- of a text alone
+-- what may be written of a text: that of its model, or the line of its fault
 abbrev pub TextOut : (Model → List ℕ → Type 0) → TextSaid → List ℕ → Type 0
 TextOut Out said written = SaidOut Out misspelled_line said written

@@ -9,10 +9,12 @@ use Rattle.lp_text_commands.specs.declared.check.stage.CheckStage.{CheckStage}
 use Rattle.lp_text_commands.specs.declared.check.stage.CheckStage.TheVariants as stage
 use Rattle.lp_text_commands.specs.Leading.{step_by, says_by}
 
+-- the stage of the code, as the definitions have it
 abbrev pub stage_of : CheckStage → reading.Stage
 stage_of (stage.Text reader) = reading.InText reader.style reader.state reader.lines
 stage_of (stage.Certificate model reader) = reading.InCertificate model reader.raw reader.lines
 
+-- a step of the code, as the definitions have it
 abbrev pub step_of : Step CheckStage ExactReply → said.Step reading.Stage ExactReply
 step_of made = step_by stage_of made
 
@@ -21,5 +23,6 @@ abbrev pub count_of : CheckStage → ℕ
 count_of (stage.Text reader) = reader.lines
 count_of (stage.Certificate model reader) = reader.lines
 
+-- what these lines say after this stage
 abbrev pub CheckSays : CheckStage → List (Line (List ℕ)) → Option ExactReply → Type 0
 CheckSays stage lines answer = says_by stage_of reading.check_step stage lines answer

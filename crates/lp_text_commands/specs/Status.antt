@@ -3,7 +3,7 @@ use Rattle.std.specs.Prelude.{ℕ}
 use Rattle.lp_line.specs.declared.halt.Halt.{Halt}
 use Rattle.lp_line.specs.declared.halt.Halt.TheVariants as halts
 
--- its code
+-- the status of what halted a command
 abbrev pub code_behind : Halt → ℕ
 code_behind halts.Read = 3
 code_behind halts.Write = 4

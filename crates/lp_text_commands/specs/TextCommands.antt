@@ -8,9 +8,10 @@ use Rattle.lp_text_commands.specs.declared.exit_status.ExitStatus.{ExitStatus}
 use Rattle.lp_text_commands.specs.Hearing.{SaysSo, TellsOf}
 use Rattle.spec_server.specs.Streams.{Streams}
 
+-- what a command on a text reads and writes, by its result
 abbrev pub ReadsText : ExactTextCommand → Style → Streams → Result ExitStatus Halt → Type 0
 ReadsText command style s result = SaysSo (said_of command style) (MayWrite command) (code_of command) s result
 
--- by the status
+-- what a command on a text reads and writes, by its status
 abbrev pub TellsOfText : ExactTextCommand → Style → Streams → ℕ → Type 0
 TellsOfText command style s code = TellsOf (said_of command style) (MayWrite command) (code_of command) s code

@@ -10,10 +10,12 @@ use Rattle.lp_text_commands.specs.declared.check.wide_stage.WideStage.{WideStage
 use Rattle.lp_text_commands.specs.declared.check.wide_stage.WideStage.TheVariants as stage
 use Rattle.lp_text_commands.specs.Leading.{step_by, says_by}
 
+-- the stage of the code, as the definitions have it
 abbrev pub wide_stage_of : WideStage → reading.Stage
 wide_stage_of (stage.Text reader) = reading.InText reader.style reader.state reader.lines
 wide_stage_of (stage.Certificate model reader) = reading.InCertificate model reader.raw reader.lines
 
+-- a step of the code, as the definitions have it
 abbrev pub wide_step_of : Step WideStage ExactReply → said.Step reading.Stage ExactReply
 wide_step_of made = step_by wide_stage_of made
 
@@ -22,5 +24,6 @@ abbrev pub wide_count_of : WideStage → ℕ
 wide_count_of (stage.Text reader) = reader.lines
 wide_count_of (stage.Certificate model reader) = reader.lines
 
+-- what these lines say after this stage
 abbrev pub WideSays : WideStage → List (Line (List ℕ)) → Option ExactReply → Type 0
 WideSays stage lines answer = says_by wide_stage_of wide_step stage lines answer

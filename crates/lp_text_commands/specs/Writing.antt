@@ -19,6 +19,7 @@ pub record WritesInPart (Out : List ℕ → Type 0) (before after : Option (List
   pub is_output : Out output
   pub written : Takes before after output
 
+-- what was written, by the status or by what halted the command
 abbrev pub WritesSo : (List ℕ → Type 0) → ℕ → Option (List ℕ) → Option (List ℕ) → Result ExitStatus Halt → Type 0
 WritesSo Out code before after (Ok status) = WritesAll Out code before after status.code
 WritesSo Out code before after (Err halts.Write) = WritesInPart Out before after

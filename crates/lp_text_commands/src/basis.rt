@@ -22,6 +22,7 @@ use starting::Handed;
 use std::alloc::{AllocError, Global};
 pub(crate) use wide::SolveWideFrom;
 
+/// The command `basis`.
 #[derive(Drop)]
 pub(crate) struct SolveFrom;
 
@@ -40,6 +41,7 @@ impl Command for SolveFrom {
 
     ghost is_written = { λ _ handed solved is. (solved, is, refl) };
 
+    // Solves the model, from its basis if it has one.
     fn run(&self, alloc: Global, handed: &Handed) -> Result<Solved, AllocError> {
         match &handed.start {
             Some(start) => solve(alloc, &handed.model, OPENING_BUDGET, Some(&start.basis)),
@@ -47,6 +49,7 @@ impl Command for SolveFrom {
         }
     }
 
+    // Writes what the solve ended with, and its basis where the model has a form.
     fn write(
         &self,
         alloc: Global,

@@ -39,10 +39,12 @@ impl Command for SolveMade {
 
     ghost is_written = { λ _ m solved is. (solved, is, refl) };
 
+    // Solves the model cold, within the budget of a new session.
     fn run(&self, alloc: Global, model: &Model) -> Result<Solved, AllocError> {
         solve(alloc, model, OPENING_BUDGET, None)
     }
 
+    // Writes the size of the model, what the solve ended with, and its pivots.
     #[tactic(auto, unfolding(spec_commands::specs::GenOut::generated_lines))]
     fn write(
         &self,

@@ -18,6 +18,7 @@ use lp_model::Model;
 use lp_solve::OPENING_BUDGET;
 use std::alloc::{AllocError, Global};
 
+/// The command `iis`.
 #[derive(Drop)]
 pub(crate) struct FindIis;
 
@@ -36,10 +37,12 @@ impl Command for FindIis {
 
     ghost is_written = { λ _ m found is. (found, is, refl) };
 
+    // Seeks an irreducible infeasible subset of the model.
     fn run(&self, alloc: Global, model: &Model) -> Result<Iis, AllocError> {
         find(alloc, model, OPENING_BUDGET)
     }
 
+    // Writes what the search ended with.
     fn write(
         &self,
         alloc: Global,

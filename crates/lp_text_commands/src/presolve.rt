@@ -34,10 +34,12 @@ impl Command for Presolve {
 
     ghost is_written = { λ _ m presolved is. (presolved, is, refl) };
 
+    // Solves the model by a smaller one.
     fn run(&self, alloc: Global, model: &Model) -> Result<Presolved, AllocError> {
         lp_presolve::presolve(alloc, model, OPENING_BUDGET)
     }
 
+    // Writes the size of the smaller model and what the solve ended with.
     #[tactic(auto, unfolding(spec_commands::specs::PresolveOut::presolved_lines))]
     fn write(
         &self,

@@ -43,10 +43,12 @@ impl Command for RangeAt {
 
     ghost is_written = { λ _ m ranged is. (ranged.solved, is.solved, refl) };
 
+    // Solves the model, and ranges the basis of an optimum.
     fn run(&self, alloc: Global, model: &Model) -> Result<Ranged, AllocError> {
         solve_ranging(alloc, model)
     }
 
+    // Writes the answer, and the range of the number behind it.
     fn write(
         &self,
         alloc: Global,

@@ -25,6 +25,7 @@ impl Output for Reply {
 
     ghost code = { check_code };
 
+    // Writes the line of the reply, and tells its status.
     fn print(self, alloc: Global, to: &mut Bytes) -> Result<ExitStatus, AllocError> {
         let status = status_of(&self);
         print_reply(alloc, self, to)?;
@@ -32,6 +33,7 @@ impl Output for Reply {
     }
 }
 
+// The status of a reply: whether it refuses.
 fn status_of(reply: &Reply) -> ExitStatus
     ensures { result.code ≡ check_code reply.now }
 {

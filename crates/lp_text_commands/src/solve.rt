@@ -15,6 +15,7 @@ use lp_model::Model;
 use lp_solve::{OPENING_BUDGET, Solved};
 use std::alloc::{AllocError, Global};
 
+/// The command `solve`.
 #[derive(Drop)]
 pub(crate) struct Solve;
 
@@ -33,10 +34,12 @@ impl Command for Solve {
 
     ghost is_written = { λ _ m solved is. (solved, is, refl) };
 
+    // Solves the model cold, within the budget of a new session.
     fn run(&self, alloc: Global, model: &Model) -> Result<Solved, AllocError> {
         lp_solve::solve(alloc, model, OPENING_BUDGET, None)
     }
 
+    // Writes what the solve ended with, and the certificate of its answer.
     fn write(
         &self,
         alloc: Global,

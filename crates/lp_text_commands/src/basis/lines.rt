@@ -54,6 +54,7 @@ pub(crate) fn print_end(
     print_certificate(alloc, model, &solved.end, to)
 }
 
+// Writes how the answer was found: cold, from the basis, or after the basis was given up.
 fn push_route(route: Route, to: &mut Bytes) -> Result<(), AllocError>
     ensures { OnOk result (to.new ≡ to.old ++ route_text route) }
 {

@@ -39,6 +39,7 @@ impl Stage for BasisStage {
 
     ghost silent = { λ _. refl };
 
+    // Takes one line: of the text, or of the basis file after it.
     fn advance(self, alloc: Global, line: &Line) -> Result<BasisStep, AllocError> {
         match self {
             BasisStage::Text(reader) => text_line(alloc, reader, line),

@@ -43,6 +43,7 @@ impl Command for SolveWideFrom {
 
     ghost is_written = { λ _ handed end is. (end, is, refl) };
 
+    // Solves the model exactly, from its basis if it has one.
     fn run(&self, alloc: Global, handed: &Handed) -> Result<ExactEnd, AllocError> {
         match &handed.start {
             Some(start) => {
@@ -52,6 +53,7 @@ impl Command for SolveWideFrom {
         }
     }
 
+    // Writes what the exact solve ended with, and its basis where the model has a form.
     fn write(
         &self,
         alloc: Global,

@@ -33,6 +33,7 @@ impl Stage for CheckStage {
 
     ghost silent = { λ _. refl };
 
+    // Takes one line: of the text, or of the certificate after it.
     fn advance(self, alloc: Global, line: &Line) -> Result<CheckStep, AllocError> {
         match self {
             CheckStage::Text(reader) => text_line(alloc, reader, line),

@@ -44,6 +44,7 @@ impl WideReply {
     ghost use Rattle.std.specs.Prelude.{◌≡◌};
     ghost use Rattle.lp_text_commands.specs.WideSaid.{reply_of};
 
+    /// The reply that says this.
     pub(crate) fn new(said: WideSaid) -> WideReply
         ensures { result ≡ reply_of said }
     {
@@ -58,6 +59,7 @@ impl Output for WideReply {
 
     ghost code = { check_code };
 
+    // Writes the line of the reply, and tells its status.
     fn print(self, alloc: Global, to: &mut Bytes) -> Result<ExitStatus, AllocError> {
         let WideReply { said } = self;
         match said {

@@ -36,6 +36,7 @@ impl Stage for WideStage {
 
     ghost silent = { λ _. refl };
 
+    // Takes one line: of the text, or of the certificate after it.
     fn advance(self, alloc: Global, line: &Line) -> Result<WideStep, AllocError> {
         match self {
             WideStage::Text(reader) => text_line(alloc, reader, line),

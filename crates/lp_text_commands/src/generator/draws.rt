@@ -31,6 +31,7 @@ impl Model for Draws {
 }
 
 impl Draws {
+    /// Draws from this seed on.
     pub fn new(seed: u32) -> Self
         ensures { result ≡ seed }
     {
@@ -60,6 +61,7 @@ impl Draws {
     }
 }
 
+// The whole number as a fraction.
 fn whole(n: u32) -> Frac
     ensures { result ≡ whole (pos n) }
 {

@@ -23,6 +23,7 @@ pub(crate) fn print_size(alloc: Global, model: &Model, to: &mut Bytes) -> Result
     to.extend(line.as_bytes())
 }
 
+// How many entries the columns of the model have.
 fn count_entries(model: &Model) -> u64
     requires { height model.now ≤ row_limit }
     ensures { result ≡ entry_count model.now }

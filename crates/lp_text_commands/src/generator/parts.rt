@@ -10,6 +10,7 @@ use lp_frac::{Entries, zero};
 use lp_model::{Column, Kind, Model, Row, Sense, UsualModel};
 use std::alloc::{AllocError, Global};
 
+// The name of row i: R1 is the first one.
 #[tactic(auto, unfolding(spec_commands::specs::Generated::row_name))]
 fn row_name(alloc: Global, i: u32) -> Result<Name, AllocError>
     requires { i < row_limit }
@@ -19,6 +20,7 @@ fn row_name(alloc: Global, i: u32) -> Result<Name, AllocError>
     Name::from_slice(alloc, text.as_bytes())
 }
 
+// The name of column j: C1 is the first one.
 #[tactic(auto, unfolding(spec_commands::specs::Generated::column_name))]
 fn column_name(alloc: Global, j: u32) -> Result<Name, AllocError>
     requires { j < column_limit }
@@ -28,7 +30,7 @@ fn column_name(alloc: Global, j: u32) -> Result<Name, AllocError>
     Name::from_slice(alloc, text.as_bytes())
 }
 
-// The entries of a column.
+// Draws the entries of a column, one in three of the rows.
 fn entries(alloc: Global, draws: &mut Draws, rows: u32) -> Result<Entries, AllocError>
     ensures entries { IfOk result (λ entries. entries ≡ generator.entries draws.old rows) }
     ensures state { OnOk result (draws.new ≡ generator.at_row draws.old rows) }
@@ -42,6 +44,7 @@ fn entries(alloc: Global, draws: &mut Draws, rows: u32) -> Result<Entries, Alloc
     Ok(entries)
 }
 
+// Draws column j: its cost, its upper bound, and its entries in so many rows.
 #[tactic(auto, unfolding(spec_commands::specs::Generated::generated_column))]
 fn column(alloc: Global, draws: &mut Draws, rows: u32, j: u32) -> Result<Column, AllocError>
     requires { j < column_limit }
@@ -60,6 +63,7 @@ fn column(alloc: Global, draws: &mut Draws, rows: u32, j: u32) -> Result<Column,
     })
 }
 
+// Draws so many columns, one after the other.
 fn columns(
     alloc: Global,
     draws: &mut Draws,
@@ -77,6 +81,7 @@ fn columns(
     Ok(columns)
 }
 
+// Draws row i: its right side. It is at most that.
 #[tactic(auto, unfolding(spec_commands::specs::Generated::generated_row))]
 fn row(alloc: Global, draws: &mut Draws, i: u32) -> Result<Row, AllocError>
     requires { i < row_limit }
@@ -91,6 +96,7 @@ fn row(alloc: Global, draws: &mut Draws, i: u32) -> Result<Row, AllocError>
     })
 }
 
+// Draws so many rows, one after the other.
 fn rows(alloc: Global, draws: &mut Draws, count: u32) -> Result<Vec<Row>, AllocError>
     requires { count ≤ row_limit }
     ensures { IfOk result (λ rows. rows.items ≡ generator.generated_rows draws.old count) }

@@ -14,7 +14,7 @@ use lp_model::Model;
 use lp_numtext::write;
 use std::alloc::{AllocError, Global};
 
-// The line of a part.
+// Writes the line of one column's value in a point.
 fn print_text(alloc: Global, name: &[u8], value: Frac, to: &mut Bytes) -> Result<(), AllocError>
     ensures { OnOk result (to.new ≡ to.old ++ (written.part_text letter.X name.now value ++ 10 ∷ [])) }
 {
@@ -25,7 +25,7 @@ fn print_text(alloc: Global, name: &[u8], value: Frac, to: &mut Bytes) -> Result
     to.push(b'\n')
 }
 
-// The same, unless the part is 0.
+// Writes that line, unless the value is 0.
 fn print_part(alloc: Global, name: &[u8], value: Frac, to: &mut Bytes) -> Result<(), AllocError>
     ensures { OnOk result (to.new ≡ to.old ++ ended_lines (written.part_lines letter.X name.now value)) }
 {
@@ -35,6 +35,7 @@ fn print_part(alloc: Global, name: &[u8], value: Frac, to: &mut Bytes) -> Result
     print_text(alloc, name, value, to)
 }
 
+// The name of column j.
 fn name_at(model: &Model, j: u32) -> &[u8]
     requires { j < width model.now }
     ensures { result.now ≡ (column model.now j).name }
@@ -42,6 +43,7 @@ fn name_at(model: &Model, j: u32) -> &[u8]
     model.col(j).name.as_slice()
 }
 
+// Writes a line for each column whose value in the point is not 0.
 fn print_parts(
     alloc: Global,
     model: &Model,
@@ -57,6 +59,7 @@ fn print_parts(
     Ok(())
 }
 
+// Writes the line that a point begins with, with its number.
 fn print_number(alloc: Global, number: u64, to: &mut Bytes) -> Result<(), AllocError>
     ensures { OnOk result (to.new ≡ to.old ++ ((codes "POINT " ++ decimal number) ++ 10 ∷ [])) }
 {

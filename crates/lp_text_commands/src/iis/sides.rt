@@ -9,12 +9,14 @@ use lp_iis::{Side, Sides};
 use lp_model::Model;
 use std::alloc::AllocError;
 
+// The word for a row, or for a column.
 fn kind_word(is_row: bool) -> &'static [u8]
     ensures { result.now ≡ iis.kind_word is_row }
 {
     if is_row { b"ROW " } else { b"COLUMN " }
 }
 
+// The word for an upper limit, or for a lower one.
 fn end_word(is_upper: bool) -> &'static [u8]
     ensures { result.now ≡ iis.end_word is_upper }
 {
@@ -33,6 +35,7 @@ fn name_of(model: &Model, side: Side) -> &[u8]
     }
 }
 
+// Writes the line of one side.
 #[tactic(auto, unfolding(spec_commands::specs::IisOut::side_line))]
 fn print_side(model: &Model, side: Side, to: &mut Bytes) -> Result<(), AllocError>
     requires { IsSide model.now side }

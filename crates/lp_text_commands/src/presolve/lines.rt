@@ -29,6 +29,7 @@ fn print_reduced(alloc: Global, rows: u32, columns: u32, to: &mut Bytes) -> Resu
     to.extend(line.as_bytes())
 }
 
+// Writes why the solve of the smaller model gave up: an overflow, or a spent budget.
 fn print_why(alloc: Global, why: &Why, to: &mut Bytes) -> Result<(), AllocError>
     ensures { OnOk result (to.new ≡ to.old ++ out.why_line why.now) }
 {

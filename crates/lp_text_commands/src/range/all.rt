@@ -36,10 +36,12 @@ impl Command for RangeAll {
 
     ghost is_written = { λ _ m ranged is. (ranged.solved, is.solved, refl) };
 
+    // Solves the model, and ranges the basis of an optimum.
     fn run(&self, alloc: Global, model: &Model) -> Result<Ranged, AllocError> {
         solve_ranging(alloc, model)
     }
 
+    // Writes the answer, and the ranges of all costs and right sides behind it.
     fn write(
         &self,
         alloc: Global,
@@ -120,6 +122,7 @@ fn print_words(model: &Model, moved: Moved, at: u32, to: &mut Bytes) -> Result<(
     }
 }
 
+// Writes the word and the name with which the line of a number begins.
 fn print_named(word: &[u8], name: &[u8], to: &mut Bytes) -> Result<(), AllocError>
     ensures { OnOk result (to.new ≡ to.old ++ (word.now ++ name.now ++ codes " ")) }
 {

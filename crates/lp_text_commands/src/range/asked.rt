@@ -37,6 +37,7 @@ impl<'a> Output for RangeAsked<'a> {
 
     ghost code = { λ asked. range_code asked.moved asked.name.now asked.said };
 
+    // Writes the answer and the range of the number, or why the text is refused.
     fn print(self, alloc: Global, to: &mut Bytes) -> Result<ExitStatus, AllocError> {
         let RangeAsked { said, moved, name } = self;
         match said {

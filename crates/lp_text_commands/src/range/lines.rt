@@ -25,6 +25,7 @@ pub(crate) fn print_range(
     }
 }
 
+// Writes the line of a range: its ends, and the slope between them.
 #[tactic(auto, unfolding(spec_commands::specs::RangeOut::range_line))]
 fn print_line(alloc: Global, range: Range, to: &mut Bytes) -> Result<(), AllocError>
     ensures { OnOk result (to.new ≡ to.old ++ ranges.range_line range) }

@@ -33,10 +33,12 @@ impl Command for SolveWide {
 
     ghost is_written = { λ _ m end is. (end, is, refl) };
 
+    // Solves the model exactly.
     fn run(&self, alloc: Global, model: &Model) -> Result<ExactEnd, AllocError> {
         solve_exactly(alloc, model, OPENING_BUDGET, None)
     }
 
+    // Writes the answer and its certificate, or that nothing is known.
     fn write(
         &self,
         alloc: Global,
@@ -56,6 +58,7 @@ impl Output for LargeSaid {
 
     ghost code = { solve_code };
 
+    // Writes what an exact solve of the model ends with, or why the text is refused.
     fn print(self, alloc: Global, to: &mut Bytes) -> Result<ExitStatus, AllocError> {
         match self {
             Ok(model) => {
