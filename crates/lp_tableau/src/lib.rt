@@ -6,6 +6,7 @@
 //! | `start` | the parts of that tableau that need no rows, by columns and by rows of the form | src/start, src/row_starts |
 //! | `start_from` | the tableau of a basis | src/basis |
 //! | `Tableau::pivot`, `flip`, `phase_two` | the changes, each exact or refused as `spec_simplex` has it | src/pivot, src/moves, src/price |
+//! | `Pivot` | the column that enters in a pivot, and the position at which it becomes basic | src/pivot |
 //! | `Tableau::wants_phase_one`, `is_stuck` | whether an artificial is basic, and whether a basic one is not 0 | src/phases |
 //! | `or_zero`, `stand`, `directed`, `flip_way`, `other_bound`, `is_place` | the values of nonbasic columns, and which way a column goes in a flip | src/steps, src/moves |
 //! | `PrimalEnd`, `RunStop` | how a run of steps ends, and why it does not | src/ends |
@@ -35,6 +36,7 @@ mod twins;
 pub use basis::start_from;
 pub use ends::{ColdStop, PrimalEnd, RunStop};
 pub use moves::{directed, flip_way, is_place, other_bound};
+pub use pivot::Pivot;
 pub use start::start_cold;
 pub use steps::{or_zero, stand};
 pub use tableau::Tableau;

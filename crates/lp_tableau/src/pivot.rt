@@ -13,15 +13,23 @@ use crate::twins::Twins;
 use lp_form::Status;
 use lp_frac::{Frac, Past, add, is_zero, less_product, within};
 
-// Takes the multiple of row `p` off the reduced costs with which that of column `j` becomes 0.
-fn reprice(reduced: &mut [Frac], grid: &Twins, height: u32, p: u32, j: u32) -> Result<(), Past>
+/// Where a pivot is: the column that enters, and the position at which it becomes basic.
+#[derive(Clone, Copy)]
+pub struct Pivot {
+    pub position: u32,
+    pub column: u32,
+}
+
+// Takes the multiple of the pivot's row off the reduced costs with which that of its column becomes 0.
+fn reprice(reduced: &mut [Frac], grid: &Twins, height: u32, at: Pivot) -> Result<(), Past>
     requires shape { IsGrid height (length reduced.old) grid.now }
-    requires place { p < height }
-    requires column { j < length reduced.old }
-    ensures costs { GivesRun (repriced_run (Some number_limit) (length reduced.old) reduced.old grid.now p j)
-        reduced.new result }
+    requires place { at.position < height }
+    requires column { at.column < length reduced.old }
+    ensures costs { GivesRun (repriced_run (Some number_limit) (length reduced.old) reduced.old grid.now at.position
+        at.column) reduced.new result }
     ensures len { length reduced.new ≡ length reduced.old }
 {
+    let (p, j) = (at.position, at.column);
     let times = reduced[j as usize];
     within(times);
     for k in 0..reduced.len() {
@@ -48,71 +56,71 @@ impl Tableau {
         Ok(())
     }
 
-    // Turns the rows so that column `col` has 1 at the position and 0 at the others.
-    fn turn_rows(&mut self, place: u32, col: u32) -> Result<(), Past>
-        requires place { place < self.old.rows }
-        requires column { col < all_columns self.old }
-        requires entry { entry_at self.old place col ≢ 0ℚ }
+    // Turns the rows so that the pivot's column has 1 at its position and 0 at the others.
+    fn turn_rows(&mut self, at: Pivot) -> Result<(), Past>
+        requires place { at.position < self.old.rows }
+        requires column { at.column < all_columns self.old }
+        requires entry { entry_at self.old at.position at.column ≢ 0ℚ }
         ensures rows { GivesRun (turned_run (Some number_limit) self.old.rows
-            (all_columns self.old) self.old.entries place col) self.new.entries result }
+            (all_columns self.old) self.old.entries at.position at.column) self.new.entries result }
         ensures rest { self.new ≡ record self.old { entries = self.new.entries } }
     {
         let (rows, width) = (self.rows(), self.width());
-        self.grid.turn(rows, width, place, col)
+        self.grid.turn(rows, width, at)
     }
 
-    // Updates the reduced costs so that that of column `col` becomes 0.
-    fn reprice(&mut self, place: u32, col: u32) -> Result<(), Past>
-        requires place { place < self.old.rows }
-        requires column { col < all_columns self.old }
+    // Updates the reduced costs so that that of the pivot's column becomes 0.
+    fn reprice(&mut self, at: Pivot) -> Result<(), Past>
+        requires place { at.position < self.old.rows }
+        requires column { at.column < all_columns self.old }
         ensures costs { GivesRun (repriced_run (Some number_limit)
-            (all_columns self.old) self.old.reduced self.old.entries place col) self.new.reduced result }
+            (all_columns self.old) self.old.reduced self.old.entries at.position at.column) self.new.reduced result }
         ensures rest { self.new ≡ record self.old { reduced = self.new.reduced } }
     {
         let rows = self.rows();
-        reprice(&mut self.reduced, &self.grid, rows, place, col)
+        reprice(&mut self.reduced, &self.grid, rows, at)
     }
 
-    // Makes column `col` basic at a position.
-    fn make_basic(&mut self, place: u32, col: u32)
-        requires place { place < self.old.rows }
-        requires column { col < all_columns self.old }
+    // Makes the pivot's column basic at its position.
+    fn make_basic(&mut self, at: Pivot)
+        requires place { at.position < self.old.rows }
+        requires column { at.column < all_columns self.old }
         ensures { self.new ≡ record self.old {
-          basic = slice_set self.old.basic place col;
-          status = slice_set self.old.status col Basic;
+          basic = slice_set self.old.basic at.position at.column;
+          status = slice_set self.old.status at.column Basic;
         } }
     {
-        self.basic[place as usize] = col;
-        self.status[col as usize] = Status::Basic;
+        self.basic[at.position as usize] = at.column;
+        self.status[at.column as usize] = Status::Basic;
     }
 
-    // Puts the column at a position at the bound `to`, and makes column `col` basic there. An
+    // Puts the column at the pivot's position at the bound `to`, and makes the pivot's column basic there. An
     // artificial that leaves is at 0 for good.
-    fn exchange(&mut self, place: u32, col: u32, to: Status)
-        requires place { place < self.old.rows }
-        requires column { col < all_columns self.old }
-        ensures { self.new ≡ exchanged self.old place col to }
+    fn exchange(&mut self, at: Pivot, to: Status)
+        requires place { at.position < self.old.rows }
+        requires column { at.column < all_columns self.old }
+        ensures { self.new ≡ exchanged self.old at.position at.column to }
     {
-        let leaving = self.basic(place);
+        let leaving = self.basic(at.position);
         let artificials = self.cols() + self.rows();
         self.put_at(leaving, to);
-        self.make_basic(place, col);
+        self.make_basic(at);
         if leaving >= artificials {
             self.fix(leaving);
         }
     }
 
-    /// Moves column `col` by `theta` and the basic columns with it, and puts it in place of the one at
-    /// a position, which goes to the bound `to`. After a refusal the tableau is spent.
-    pub fn pivot(&mut self, place: u32, col: u32, theta: Frac, to: Status) -> Result<(), Past>
-        requires { CanPivot self.old place col theta to }
-        ensures { GivesRun (pivot_run (Some number_limit) self.old place col theta to) self.new result }
+    /// Moves the pivot's column by `theta` and the basic columns with it, and makes it basic in place of the one at the
+    /// position, which goes to the bound `to`. After a refusal the tableau is spent.
+    pub fn pivot(&mut self, at: Pivot, theta: Frac, to: Status) -> Result<(), Past>
+        requires { CanPivot self.old at.position at.column theta to }
+        ensures { GivesRun (pivot_run (Some number_limit) self.old at.position at.column theta to) self.new result }
     {
-        self.move_values(col, theta, Some(place))?;
-        self.shift(col, theta)?;
-        self.turn_rows(place, col)?;
-        self.reprice(place, col)?;
-        self.exchange(place, col, to);
+        self.move_values(at.column, theta, Some(at.position))?;
+        self.shift(at.column, theta)?;
+        self.turn_rows(at)?;
+        self.reprice(at)?;
+        self.exchange(at, to);
         Ok(())
     }
 }

@@ -8,6 +8,7 @@ ghost use Rattle.spec_simplex.specs.Eliminate as elimination;
 ghost use Rattle.lp_tableau.specs.Grid.{IsGrid};
 ghost use Rattle.lp_tableau.specs.Based.{IsOpenAt, AreInside, Solves};
 
+use crate::pivot::Pivot;
 use crate::start::width;
 use crate::twins::Twins;
 use lp_form::{Basis, BasisStop, Form, Singular, is_basic};
@@ -72,7 +73,11 @@ fn solve(grid: &mut Twins, basic: &mut [Option<u32>], form: &Form, j: u32) -> Re
     let Some(p) = open(grid, basic, form, j) else {
         return Err(Stop::Cause(Singular));
     };
-    grid.turn(form.rows(), width(form), p, j)?;
+    let at = Pivot {
+        position: p,
+        column: j,
+    };
+    grid.turn(form.rows(), width(form), at)?;
     basic[p as usize] = Some(j);
     Ok(())
 }

@@ -11,6 +11,7 @@ ghost use Rattle.lp_tableau.specs.Twins.{IsTwinned, twinned};
 
 use crate::elimination::{item, turn};
 use crate::grid::Grid;
+use crate::pivot::Pivot;
 use lp_frac::{Frac, Past};
 use std::marker::Model;
 
@@ -58,15 +59,23 @@ impl Twins {
         item(&self.grid, self.first, self.others, &self.turned, i, k)
     }
 
-    // Turns all rows so that column `j` has 1 in row `p` and 0 in the others.
-    pub(crate) fn turn(&mut self, height: u32, width: u32, p: u32, j: u32) -> Result<(), Past>
+    // Turns all rows so that the pivot's column has 1 in the row of its position and 0 in the others.
+    pub(crate) fn turn(&mut self, height: u32, width: u32, at: Pivot) -> Result<(), Past>
         requires shape { IsGrid height width self.old }
-        requires place { p < height }
-        requires column { j < width }
-        requires entry { at_place self.old p j ≢ 0ℚ }
-        ensures rows { GivesRun (turned_run (Some number_limit) height width self.old p j) self.new result }
+        requires place { at.position < height }
+        requires column { at.column < width }
+        requires entry { at_place self.old at.position at.column ≢ 0ℚ }
+        ensures rows { GivesRun (turned_run (Some number_limit) height width self.old at.position at.column) self.new
+            result }
         ensures shape { IsGrid height width self.new }
     {
-        turn(&mut self.grid, self.first, self.others, &self.turned, p, j)
+        turn(
+            &mut self.grid,
+            self.first,
+            self.others,
+            &self.turned,
+            at.position,
+            at.column,
+        )
     }
 }

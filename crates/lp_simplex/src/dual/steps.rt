@@ -10,19 +10,19 @@ use crate::dual::choice::choice;
 use crate::dual::flips::flips;
 use lp_form::Status;
 use lp_frac::{Past, div, sub};
-use lp_tableau::{RunStop, Tableau, stand};
+use lp_tableau::{Pivot, RunStop, Tableau, stand};
 use spec_simplex::{DualChoice, DualEnd};
 
-// Moves column `col` so far that the column at the position comes to its bound `to`, and makes `col` basic there.
+// Moves the pivot's column so far that the column at its position comes to its bound `to`, and makes it basic there.
 #[tactic(auto, unfolding(spec_simplex::specs::Dual::dual_pivot_run))]
-fn pivot(tab: &mut Tableau, place: u32, col: u32, to: Status) -> Result<(), Past>
-    requires { CanEnter tab.old place col to }
-    ensures { GivesRun (dual.dual_pivot_run (Some number_limit) tab.old place col to) tab.new result }
+fn pivot(tab: &mut Tableau, at: Pivot, to: Status) -> Result<(), Past>
+    requires { CanEnter tab.old at.position at.column to }
+    ensures { GivesRun (dual.dual_pivot_run (Some number_limit) tab.old at.position at.column to) tab.new result }
 {
-    let out = tab.basic(place);
+    let out = tab.basic(at.position);
     let gap = sub(tab.value(out), stand(to, tab.lower(out), tab.upper(out)))?;
-    let theta = div(gap, tab.entry(place, col))?;
-    tab.pivot(place, col, theta, to)
+    let theta = div(gap, tab.entry(at.position, at.column))?;
+    tab.pivot(at, theta, to)
 }
 
 // Takes dual steps up to an end, and counts them.
@@ -39,7 +39,11 @@ fn steps(tab: &mut Tableau, used: &mut u64, budget: u64) -> Result<DualEnd, RunS
                 if *used >= budget {
                     return Err(RunStop::Spent);
                 }
-                pivot(tab, place, col, to)?;
+                let at = Pivot {
+                    position: place,
+                    column: col,
+                };
+                pivot(tab, at, to)?;
                 *used += 1;
             }
         }

@@ -8,7 +8,7 @@ ghost use Rattle.lp_simplex.specs.PrimalAnswer.{Runs, StopsAfter};
 
 use crate::primal::choice::{Choice, choice};
 use lp_frac::Past;
-use lp_tableau::{PrimalEnd, RunStop, Tableau};
+use lp_tableau::{Pivot, PrimalEnd, RunStop, Tableau};
 
 // Makes the flip or the pivot of a choice. An end changes nothing.
 fn make(tab: &mut Tableau, choice: Choice) -> Result<(), Past>
@@ -23,7 +23,13 @@ fn make(tab: &mut Tableau, choice: Choice) -> Result<(), Past>
             col,
             theta,
             to,
-        } => tab.pivot(place, col, theta, to),
+        } => {
+            let at = Pivot {
+                position: place,
+                column: col,
+            };
+            tab.pivot(at, theta, to)
+        }
     }
 }
 

@@ -10,5 +10,5 @@ pivot-requires c =
     rw (c.stand.ensures, c.value.ensures, c.lower.ensures, c.upper.ensures, c.basic-out.ensures.value)
     at c.in_ok-gap.ensures in
     let theta = rw (c.entry.ensures) at c.in_ok-theta.ensures in
-    can_pivot (Some number_limit) c.args.tab.now c.args.place c.args.col c.args.to
+    can_pivot (Some number_limit) c.args.tab.now c.args.at.position c.args.at.column c.args.to
     c.in_ok-gap.gap c.in_ok-theta.theta c.requires (sym gap) (sym theta)
