@@ -18,7 +18,7 @@ use crate::tableau::moves::{Turn, move_all, turn_rows};
 use crate::tableau::tableau::RowTableau;
 use lp_form::Status;
 use lp_natural::words::{Signed, Words, minus};
-use lp_tableau::{flip_way, other_bound};
+use lp_tableau::{Pivot, flip_way, other_bound};
 
 // The number 0.
 fn zero<T: Words>() -> Signed<T>
@@ -75,43 +75,45 @@ fn flip<T: Words>(tab: &mut RowTableau<T>, col: usize) -> bool
     true
 }
 
-// Makes column `col` basic at the position, whose column goes to the bound `to`. An artificial that leaves is at 0 for
-// good.
-fn exchange<T: Words>(tab: &mut RowTableau<T>, place: usize, col: u32, to: Status)
+// Makes the pivot's column basic at its position, whose column goes to the bound `to`. An artificial that leaves is at
+// 0 for good.
+fn exchange<T: Words>(tab: &mut RowTableau<T>, at: Pivot, to: Status)
     requires rows { length tab.old.rows.items ≤ 256 }
     requires cols { tab.old.cols ≤ 512 }
-    requires place { place < length tab.old.basic.items }
-    requires leaving { basic_in tab.old place < length tab.old.status.items }
+    requires place { at.position < length tab.old.basic.items }
+    requires leaving { basic_in tab.old at.position < length tab.old.status.items }
     requires bounds { length tab.old.upper.items ≡ length tab.old.status.items }
-    requires column { col < length tab.old.status.items }
-    ensures basic { tab.new.basic.items ≡ slice_set tab.old.basic.items place col }
+    requires column { at.column < length tab.old.status.items }
+    ensures basic { tab.new.basic.items ≡ slice_set tab.old.basic.items at.position at.column }
     ensures status { tab.new.status.items ≡
-        slice_set (slice_set tab.old.status.items (basic_in tab.old place) to) col Basic }
+        slice_set (slice_set tab.old.status.items (basic_in tab.old at.position) to) at.column Basic }
     ensures upper { (k : ℕ) → 0 < T.value tab.old.denominator → upper_in T.value tab.new k ≡
-        left_upper (width tab.old) (basic_in tab.old place) k (upper_in T.value tab.old k) }
+        left_upper (width tab.old) (basic_in tab.old at.position) k (upper_in T.value tab.old k) }
     ensures len { length tab.new.upper.items ≡ length tab.old.upper.items }
     ensures rest { tab.new ≡
         record tab.old { basic = tab.new.basic; status = tab.new.status; upper = tab.new.upper } }
 {
-    let leaving = tab.basic[place] as usize;
-    tab.basic[place] = col;
+    let position = at.position as usize;
+    let leaving = tab.basic[position] as usize;
+    tab.basic[position] = at.column;
     tab.status[leaving] = to;
-    tab.status[col as usize] = Status::Basic;
+    tab.status[at.column as usize] = Status::Basic;
     if leaving >= tab.width() {
         tab.upper[leaving] = Some(zero());
     }
 }
 
-// Pivots at a position in column `col`. Where it is false a number overflows the width, and the tableau is spent.
-fn pivot<T: Words>(tab: &mut RowTableau<T>, place: usize, col: u32, to: Status) -> bool
+// Makes a pivot. Where it is false a number overflows the width, and the tableau is spent.
+fn pivot<T: Words>(tab: &mut RowTableau<T>, at: Pivot, to: Status) -> bool
     requires whole { IsWhole T.value tab.old }
-    requires place { place < height tab.old }
-    requires column { col < width tab.old }
-    ensures { IsTrue result → IsPivoted T.value place col to tab.old tab.new }
+    requires place { at.position < height tab.old }
+    requires column { at.column < width tab.old }
+    ensures { IsTrue result → IsPivoted T.value at.position at.column to tab.old tab.new }
 {
-    let (q, j) = (tab.basic[place] as usize, col as usize);
+    let (p, j) = (at.position as usize, at.column as usize);
+    let q = tab.basic[p] as usize;
     let turn = Turn {
-        place,
+        place: p,
         col: j,
         leaves_at: stand(to, tab.lower[q], tab.upper[q]),
         enters_from: stand(tab.status[j], tab.lower[j], tab.upper[j]),
@@ -120,7 +122,7 @@ fn pivot<T: Words>(tab: &mut RowTableau<T>, place: usize, col: u32, to: Status) 
     if !turn_rows(&mut tab.rows, &mut tab.costs, n, turn) {
         return false;
     }
-    exchange(tab, place, col, to);
+    exchange(tab, at, to);
     true
 }
 
@@ -137,6 +139,12 @@ pub fn make<T: Words>(tab: &mut RowTableau<T>, step: Step) -> bool
     match step {
         Step::End(_) => true,
         Step::Flip(col) => flip(tab, col as usize),
-        Step::Pivot { place, col, to } => pivot(tab, place as usize, col, to),
+        Step::Pivot { place, col, to } => {
+            let at = Pivot {
+                position: place,
+                column: col,
+            };
+            pivot(tab, at, to)
+        }
     }
 }

@@ -7,6 +7,7 @@ use crate::fractions::Row;
 use crate::tableau::choice::Step;
 use crate::tableau::tableau::RowTableau;
 use lp_natural::words::{Signed, Words};
+use lp_tableau::Pivot;
 
 // Whether a product of numbers of so many bits, and a sum with another product, is within the width.
 fn fits<T: Words>(a: u32, b: u32) -> bool {
@@ -78,14 +79,15 @@ fn flip_has_room<T: Words>(tab: &RowTableau<T>, j: usize) -> bool
     all_have_room(tab, j, 0, bits_of_bounds(tab, j))
 }
 
-// Whether a pivot at a position in column `j` is likely to stay within the width.
-fn pivot_has_room<T: Words>(tab: &RowTableau<T>, place: usize, j: usize) -> bool
+// Whether a pivot is likely to stay within the width.
+fn pivot_has_room<T: Words>(tab: &RowTableau<T>, at: Pivot) -> bool
     requires whole { IsWhole T.value tab.now }
-    requires place { place < height tab.now }
-    requires column { j < width tab.now }
+    requires place { at.position < height tab.now }
+    requires column { at.column < width tab.now }
 {
-    let own = &tab.rows[place];
-    let leaving = bits_of_bounds(tab, tab.basic[place] as usize);
+    let (p, j) = (at.position as usize, at.column as usize);
+    let own = &tab.rows[p];
+    let leaving = bits_of_bounds(tab, tab.basic[p] as usize);
     let entry = bits_of_number(own.numbers[j]);
     let most = more(
         bits_of_row(own),
@@ -104,6 +106,12 @@ pub fn is_roomy<T: Words>(tab: &RowTableau<T>, step: Step) -> bool
     match step {
         Step::End(_) => true,
         Step::Flip(col) => flip_has_room(tab, col as usize),
-        Step::Pivot { place, col, .. } => pivot_has_room(tab, place as usize, col as usize),
+        Step::Pivot { place, col, .. } => {
+            let at = Pivot {
+                position: place,
+                column: col,
+            };
+            pivot_has_room(tab, at)
+        }
     }
 }
