@@ -9,6 +9,7 @@ ghost use Rattle.lp_tableau.specs.Grid.{IsGrid, IsListed};
 ghost use Rattle.lp_tableau.specs.Twins.{signed as signed_of, twinned, scaled_by, cleared_by};
 
 use crate::grid::Grid;
+use crate::pivot::Pivot;
 use lp_frac::{Frac, Past, div, is_zero, less_product, neg, within};
 
 // `v`, or its negative where it is turned.
@@ -112,60 +113,59 @@ fn clear(
     Ok(())
 }
 
-// Takes the multiple of row `p` off row `i` with which its entry in column `j` becomes 0.
+// Takes the multiple of the pivot's row off row `i` with which its entry in the pivot's column becomes 0.
 fn clear_twins(
     grid: &mut Grid,
     first: u32,
     others: u32,
     turned: &[bool],
-    p: u32,
-    j: u32,
+    at: Pivot,
     i: u32,
     spots: &[u32],
 ) -> Result<(), Past>
     requires shape { IsGrid others (first + others) grid.old }
     requires few { first + others ≤ 1024 }
     requires twins { length turned.now ≡ others }
-    requires place { p < others }
-    requires column { j < first + others + others }
+    requires place { at.position < others }
+    requires column { at.column < first + others + others }
     requires row { i < others }
-    requires other { i ≢ p }
-    requires listed { IsListed (get_or grid.old p []) (first + others) spots.now }
-    ensures rows { GivesRun (cleared_run (Some number_limit) (first + others + others) p j i
+    requires other { i ≢ at.position }
+    requires listed { IsListed (get_or grid.old at.position []) (first + others) spots.now }
+    ensures rows { GivesRun (cleared_run (Some number_limit) (first + others + others) at.position at.column i
         (twinned first turned.now grid.old)) (twinned first turned.now grid.new) result }
     ensures shape { IsGrid others (first + others) grid.new }
-    ensures rest { get_or grid.new p [] ≡ get_or grid.old p [] }
+    ensures rest { get_or grid.new at.position [] ≡ get_or grid.old at.position [] }
 {
-    let times = item(grid, first, others, turned, i as usize, j as usize);
-    clear(grid, others, first + others, p, times, i, spots)
+    let times = item(grid, first, others, turned, i as usize, at.column as usize);
+    clear(grid, others, first + others, at.position, times, i, spots)
 }
 
-// Turns all rows so that column `j` has 1 in row `p` and 0 in the others.
+// Turns all rows so that the pivot's column has 1 in the row of its position and 0 in the others.
 pub(crate) fn turn(
     grid: &mut Grid,
     first: u32,
     others: u32,
     turned: &[bool],
-    p: u32,
-    j: u32,
+    at: Pivot,
 ) -> Result<(), Past>
     requires shape { IsGrid others (first + others) grid.old }
     requires few { first + others ≤ 1024 }
     requires twins { length turned.now ≡ others }
-    requires place { p < others }
-    requires column { j < first + others + others }
-    requires entry { at_place (twinned first turned.now grid.old) p j ≢ 0ℚ }
+    requires place { at.position < others }
+    requires column { at.column < first + others + others }
+    requires entry { at_place (twinned first turned.now grid.old) at.position at.column ≢ 0ℚ }
     ensures rows { GivesRun (turned_run (Some number_limit) others (first + others + others)
-        (twinned first turned.now grid.old) p j) (twinned first turned.now grid.new) result }
+        (twinned first turned.now grid.old) at.position at.column) (twinned first turned.now grid.new) result }
     ensures shape { IsGrid others (first + others) grid.new }
 {
+    let (p, j) = (at.position, at.column);
     let by = item(grid, first, others, turned, p as usize, j as usize);
     scale(grid, others, first + others, p, by)?;
     let mut spots = [0; 1024];
     let count = list(&mut spots, grid, others, first + others, p);
     for i in 0..others {
         if i != p {
-            clear_twins(grid, first, others, turned, p, j, i, &spots[..count])?;
+            clear_twins(grid, first, others, turned, at, i, &spots[..count])?;
         }
     }
     Ok(())

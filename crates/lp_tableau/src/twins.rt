@@ -69,13 +69,6 @@ impl Twins {
             result }
         ensures shape { IsGrid height width self.new }
     {
-        turn(
-            &mut self.grid,
-            self.first,
-            self.others,
-            &self.turned,
-            at.position,
-            at.column,
-        )
+        turn(&mut self.grid, self.first, self.others, &self.turned, at)
     }
 }

@@ -60,7 +60,7 @@ loop-i-preserved c =
     elim c.if-i-p.branch [
       | then-i-p+in_ok-clear_twins w ↦
           subst
-          (IsTurning c.args.first c.args.others c.args.turned.now c.args.p c.args.j (c.loop-i.i + 1) c.scale.new.grid)
+          (IsTurning c.args.first c.args.others c.args.turned.now c.args.at.position c.args.at.column (c.loop-i.i + 1) c.scale.new.grid)
           (sym w.grid-is)
           (record {
             done = row_turned _ _ _ _ _ _ _ c.loop-i.invariant.done _ w.if-i-p.true w.in_ok-clear_twins.ensures.rows;
@@ -69,7 +69,7 @@ loop-i-preserved c =
           })
       | else-i-p w ↦
           subst
-          (IsTurning c.args.first c.args.others c.args.turned.now c.args.p c.args.j (c.loop-i.i + 1) c.scale.new.grid)
+          (IsTurning c.args.first c.args.others c.args.turned.now c.args.at.position c.args.at.column (c.loop-i.i + 1) c.scale.new.grid)
           (sym w.grid-is)
           (record {
             done = row_passed _ _ _ _ _ _ _ c.loop-i.invariant.done w.if-i-p.false;
