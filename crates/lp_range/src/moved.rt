@@ -12,8 +12,7 @@ use lp_form::{Status, is_basic};
 use lp_frac::{Frac, Past, add, div, is_positive, neg, one, sub};
 use lp_model::Sense;
 use lp_simplex::dual::{is_zero, position_of};
-use lp_simplex::primal::is_fixed;
-use lp_tableau::Tableau;
+use lp_tableau::{Tableau, is_fixed};
 
 // The ends that a column of this status asks for, whose reduced cost is 0 where the cost is `v`.
 fn ends_by(status: Status, falls: bool, v: Frac, ends: Ends) -> Result<Ends, Past>

@@ -36,9 +36,10 @@ mod widen;
 
 pub use choice::{Step, next_step};
 pub use common::{bounds_on, denominator_with, row_of};
-pub use convert::{from_tableau, is_fixed};
+pub use convert::from_tableau;
 pub use effort::effort_of;
 pub use ends::{basis, certificate};
+pub use lp_tableau::is_fixed;
 pub use moves::{Turn, move_all, turn_rows};
 pub use phases::{is_stuck, phase_two, wants_phase_one};
 pub use pivot::{make, stand};

@@ -11,6 +11,7 @@ mod ratio;
 mod steps;
 
 pub use choice::chosen;
-pub use entering::{is_fixed, way};
+pub use entering::way;
+pub use lp_tableau::is_fixed;
 pub use ratio::{Best, Position, best_at, range};
 pub use steps::run;

@@ -10,9 +10,9 @@ use crate::fractions::Row;
 use crate::tableau::common::{bounds_on, denominator_with, row_of};
 use crate::tableau::tableau::RowTableau;
 use lp_form::Status;
-use lp_frac::{Frac, are_same, zero};
+use lp_frac::{Frac, zero};
 use lp_natural::words::Words;
-use lp_tableau::Tableau;
+use lp_tableau::{Tableau, is_fixed};
 use std::alloc::{AllocError, Global};
 
 // The list of an item for each `i` of a range.
@@ -67,16 +67,6 @@ fn basics(alloc: Global, tab: &Tableau) -> Result<Vec<u32>, AllocError>
     ensures { IfOk result (λ v. v.items ≡ made tab.now.rows (tableaus.basic_at tab.now)) }
 {
     listed!(alloc, i in 0..tab.rows() => tab.basic(i))
-}
-
-/// Whether both bounds are there, and equal.
-pub fn is_fixed(lower: Option<Frac>, upper: Option<Frac>) -> bool
-    ensures { result ≡ tableaus.is_fixed lower upper }
-{
-    match (lower, upper) {
-        (Some(lower), Some(upper)) => are_same(lower, upper),
-        _ => false,
-    }
 }
 
 // Which structural and logical columns are fixed.

@@ -5,9 +5,9 @@ ghost use Rattle.spec_exact.specs.Narrow.{number_limit};
 ghost use Rattle.spec_simplex.specs.Tableau.{all_columns};
 ghost use Rattle.spec_simplex.specs.Dual as dual;
 
-use crate::primal::{is_fixed, way};
+use crate::primal::way;
 use lp_frac::{Frac, Past, abs, cmp, div};
-use lp_tableau::{Tableau, directed};
+use lp_tableau::{Tableau, directed, is_fixed};
 use std::cmp::Ordering;
 
 // The least ratio so far.

@@ -6,10 +6,9 @@ ghost use Rattle.spec_simplex.specs.Tableau.{all_columns};
 ghost use Rattle.spec_simplex.specs.Fit as spec;
 
 use crate::dual::leaving::leaving;
-use crate::primal::is_fixed;
 use lp_form::Status;
 use lp_frac::{Frac, Past, are_same, is_negative, is_positive, zero};
-use lp_tableau::Tableau;
+use lp_tableau::{Tableau, is_fixed};
 use spec_simplex::{Fit, Leaving};
 
 /// Whether the fraction is 0.

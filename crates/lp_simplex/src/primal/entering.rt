@@ -1,24 +1,14 @@
 // Which column enters, by Bland's rule.
 ghost use Rattle.std.specs.Prelude.{◌≡◌, ◌<◌, IfSome};
 ghost use Rattle.spec_exact.specs.Fraction.{lt_ℚ, 0ℚ};
-ghost use Rattle.spec_simplex.specs.Tableau.{all_columns, is_fixed as is_fixed_of};
+ghost use Rattle.spec_simplex.specs.Tableau.{all_columns};
 ghost use Rattle.spec_simplex.specs.Step.{way_by, way_at, entering as entering_of};
 
 use lp_form::Status;
-use lp_frac::{Frac, are_same, sign};
-use lp_tableau::Tableau;
+use lp_frac::{Frac, sign};
+use lp_tableau::{Tableau, is_fixed};
 use spec_simplex::Entering;
 use std::cmp::Ordering;
-
-/// Whether both bounds are there, and equal.
-pub fn is_fixed(lower: Option<Frac>, upper: Option<Frac>) -> bool
-    ensures { result ≡ is_fixed_of lower upper }
-{
-    match (lower, upper) {
-        (Some(lower), Some(upper)) => are_same(lower, upper),
-        _ => false,
-    }
-}
 
 /// Whether a column of this status and reduced cost rises or falls, if it may enter.
 pub fn way(status: Status, reduced: Frac) -> Option<bool>
