@@ -12,7 +12,7 @@ use lp_form::{Status, is_basic};
 use lp_frac::{Frac, Past, add, div, is_positive, neg, one, sub};
 use lp_model::Sense;
 use lp_simplex::dual::{is_zero, position_of};
-use lp_tableau::{Tableau, is_fixed};
+use lp_tableau::{Pivot, Tableau, is_fixed};
 
 // The ends that a column of this status asks for, whose reduced cost is 0 where the cost is `v`.
 fn ends_by(status: Status, falls: bool, v: Frac, ends: Ends) -> Result<Ends, Past>
@@ -59,43 +59,39 @@ fn own(tab: &Tableau, sense: Sense, cost: Frac, col: u32) -> Result<Ends, Past>
     ends_by(status, falls(sense, neg(one())), v, no_ends())
 }
 
-// Whether column `k` asks for an end where the cost of the basic column at position `p` moves.
-fn is_moved(tab: &Tableau, p: u32, k: u32) -> bool
-    requires place { p < tab.now.rows }
-    requires column { k < all_columns tab.now }
-    ensures { result ≡ rule.is_moved tab.now p k }
+// Whether a column asks for an end where the cost of the basic column at the position moves.
+fn is_moved(tab: &Tableau, at: Pivot) -> bool
+    requires place { at.position < tab.now.rows }
+    requires column { at.column < all_columns tab.now }
+    ensures { result ≡ rule.is_moved tab.now at.position at.column }
 {
-    !(is_basic(tab.status(k)) || (is_fixed(tab.lower(k), tab.upper(k)) || is_zero(tab.entry(p, k))))
+    let k = at.column;
+    !(is_basic(tab.status(k))
+        || (is_fixed(tab.lower(k), tab.upper(k)) || is_zero(tab.entry(at.position, k))))
 }
 
-// The ends with those at which the reduced cost of column `k` is 0, as the cost of the column at position `p` moves.
-fn moved(tab: &Tableau, sense: Sense, cost: Frac, p: u32, k: u32, ends: Ends) -> Result<Ends, Past>
-    requires place { p < tab.now.rows }
-    requires column { k < all_columns tab.now }
-    requires entry { entry_at tab.now p k ≢ 0ℚ }
-    ensures { result ≡ rule.moved_ends (Some number_limit) sense cost tab.now p k ends }
+// The ends with those at which the reduced cost of a column is 0, as the cost of the column at the position moves.
+fn moved(tab: &Tableau, sense: Sense, cost: Frac, at: Pivot, ends: Ends) -> Result<Ends, Past>
+    requires place { at.position < tab.now.rows }
+    requires column { at.column < all_columns tab.now }
+    requires entry { entry_at tab.now at.position at.column ≢ 0ℚ }
+    ensures { result ≡ rule.moved_ends (Some number_limit) sense cost tab.now at.position at.column ends }
 {
-    let entry = tab.entry(p, k);
+    let k = at.column;
+    let entry = tab.entry(at.position, k);
     let q = div(least_cost(sense, tab.reduced(k)), entry)?;
     let v = add(cost, q)?;
     ends_by(tab.status(k), falls(sense, entry), v, ends)
 }
 
-// The ends with those that column `k` asks for, if it does.
-fn moved_if(
-    tab: &Tableau,
-    sense: Sense,
-    cost: Frac,
-    p: u32,
-    k: u32,
-    ends: Ends,
-) -> Result<Ends, Past>
-    requires place { p < tab.now.rows }
-    requires column { k < all_columns tab.now }
-    ensures { result ≡ rule.moved_if (Some number_limit) sense cost tab.now p k ends }
+// The ends with those that a column asks for, if it does.
+fn moved_if(tab: &Tableau, sense: Sense, cost: Frac, at: Pivot, ends: Ends) -> Result<Ends, Past>
+    requires place { at.position < tab.now.rows }
+    requires column { at.column < all_columns tab.now }
+    ensures { result ≡ rule.moved_if (Some number_limit) sense cost tab.now at.position at.column ends }
 {
-    if is_moved(tab, p, k) {
-        moved(tab, sense, cost, p, k, ends)
+    if is_moved(tab, at) {
+        moved(tab, sense, cost, at, ends)
     } else {
         Ok(ends)
     }
@@ -108,7 +104,11 @@ fn basic(tab: &Tableau, sense: Sense, cost: Frac, p: u32) -> Result<Ends, Past>
 {
     let mut ends = no_ends();
     for k in 0..tab.width() {
-        ends = moved_if(tab, sense, cost, p, k, ends)?;
+        let at = Pivot {
+            position: p,
+            column: k,
+        };
+        ends = moved_if(tab, sense, cost, at, ends)?;
     }
     Ok(ends)
 }
