@@ -50,7 +50,7 @@ use Rattle.spec_text_truth.proofs.PlainReplies.{fall_no_feed, pivots_no_feed}
 
 -- ---- a text that ends in its last line
 
--- after it the certificate begins
+-- behind a text that ends in its last line, what is said is said of a certificate for the text's model
 text_leads : (style : Style) (s : State) (n : ℕ) (front : List (Line (List ℕ))) (last : Line (List ℕ))
     (behind : List (Line (List ℕ))) (m : Model) →
     said_by (text_step usual_limits style) (record { state = s; lines = n }) front ≡ None →
@@ -159,18 +159,21 @@ module _ (style : Style) (lines : List (Line (List ℕ))) (m : Model) (after : L
 route_front : SolveEnd → List ℕ
 route_front solved = route_text solved.route ++ codes " PIVOTS " ++ pivots_text (pivots_of_solved solved.end)
 
+-- the line of a route is its front and a line feed
 route_ends : (solved : SolveEnd) (rest : List ℕ) → route_line solved ++ rest ≡ route_front solved ++ 10 ∷ rest
 unfolding route_front
 route_ends solved rest =
     append_assoc (route_text solved.route ++ codes " PIVOTS " ++ pivots_text (pivots_of_solved solved.end)) (10 ∷ [])
     rest
 
+-- the text of a route has no line feed
 route_no_feed : (r : Route) → HasNoFeed (route_text r)
 route_no_feed route.Cold = tested_no_feed (codes "COLD") refl
 route_no_feed route.Warm = tested_no_feed (codes "WARM") refl
 route_no_feed (route.Fell why) =
     both_no_feed (codes "FELL ") (fall_text why) (tested_no_feed (codes "FELL ") refl) (fall_no_feed why)
 
+-- the line of a route has no line feed before its end
 front_no_feed : (solved : SolveEnd) → HasNoFeed (route_front solved)
 unfolding route_front
 front_no_feed solved =
@@ -179,6 +182,7 @@ front_no_feed solved =
     (tested_no_feed (codes " PIVOTS ") refl))
     (pivots_no_feed (pivots_of_solved solved.end))
 
+-- `basis` writes an answer's line, one more line, and then lines that `check` accepts for this answer
 pub basis_accepted : (style : Style) (lines : List (Line (List ℕ))) (handed : Handed) (written : List ℕ)
     (h : AreHanded usual_limits style lines handed) → BasisOut (Ok handed) written →
     (a : Answer ℚ) × (how behind : List ℕ)

@@ -47,6 +47,7 @@ effect_of other = keeps
 abbrev pub asking_of : Asked ExactAsk → Asking
 asking_of asked = record { session = asked.session; effect = effect_of asked.ask }
 
+-- the effects of a command are those of the asks that the command makes
 command_effects : (session : ℕ) (c : ExactCommand) →
     asked_of session (effects_of c) ≡ map asking_of (asks_of_command session c)
 command_effects session (commands.Load form) = refl
@@ -61,26 +62,30 @@ command_effects session (commands.Plain (command.Change e)) = refl
 command_effects session (commands.Plain command.Quit) = refl
 command_effects session (commands.Bad fault) = refl
 
+-- the effects of an addressed command, or of none, are those of the asks that the command makes
 by_effects : (o : Option (Addressed ExactEdit)) →
     unwrap_or (option_map (λ a. asked_of a.session (effects_of a.command)) o) [] ≡ map asking_of (asks_by o)
 by_effects None = refl
 by_effects (Some addressed) = command_effects addressed.session addressed.command
 
+-- the effect of a text with a verdict is that of the ask which the verdict makes
 verdict_effect : (v : Verdict) → effect_of_text v ≡ effect_of (ask_of_verdict v)
 verdict_effect (Spelled m) = refl
 verdict_effect (Refused n fault) = refl
 
+-- the ask that a judged certificate makes keeps its session's model
 judgement_effect : (j : certificate.Judgement) → keeps ≡ effect_of (ask_of_judgement j)
 judgement_effect (certificate.Spelled raw) = refl
 judgement_effect (certificate.Refused n) = refl
 
--- the last line of a body
+-- where an effect is that of an ask, both are asked, or neither is, as a line ends its body or not
 if_asked : (t : Bool) (session : ℕ) (effect : Effect) (asked : ExactAsk) → effect ≡ effect_of asked →
     asked_of session (cond t (effect ∷ []) [])
     ≡ map asking_of (cond {A = List (Asked ExactAsk)} t (record { session = session; ask = asked } ∷ []) [])
 if_asked true session effect asked e = ap (λ (f : Effect). asked_of session (f ∷ [])) e
 if_asked false session effect asked e = refl
 
+-- what a line asks of models is what the line's asks do to them
 line_effects : (addressing : Addressing) (p : Pending) (next : Line (List ℕ)) →
     asked_in_line addressing p next ≡ map asking_of (asks_of_line addressing p next)
 line_effects addressing Between next = by_effects (addressed_in addressing next)
@@ -89,6 +94,7 @@ line_effects addressing (Text session form body) next =
 line_effects addressing (Certificate session body) next =
     if_asked (ends_certificate next) session keeps _ (judgement_effect (certificate.judge None 1 (body ++ next ∷ [])))
 
+-- what lines ask of models, from a pending text or certificate on, is what the lines' asks do to them
 pub asked_from-is : (addressing : Addressing) (p : Pending) (lines : List (Line (List ℕ))) →
     asked_from addressing p lines ≡ map asking_of (asks_from addressing p lines)
 asked_from-is addressing p [] = refl

@@ -60,6 +60,7 @@ data TextEnds (limits : SizeLimits) (style : Style) (s : State) (n : ℕ) (lines
       text.judge limits style s (n + 1) (front ++ last ∷ []) ≡ text.Spelled m →
       basis_said_from limits (InText style s n) lines ≡ said_behind limits m behind → TextEnds limits style s n lines
 
+-- lines of a text are cut off, or are refused, or lead through the text of a model to what is behind it
 text_ends : (limits : SizeLimits) (style : Style) (s : State) (n : ℕ) (lines : Lines) → TextEnds limits style s n lines
 unfolding basis_step text_step
 text_ends limits style s n [] = IsCut refl refl
@@ -92,7 +93,7 @@ text_ends limits style s n (line ∷ lines) = by (text.step limits style s line)
     by (Err why) is more =
         IsRefused (record { line = n + 1; code = why }) (ap (λ o. on_text o lines) is) (ap on_basis is)
 
--- a text that ends in its last line leads behind it
+-- behind a text that ends in its last line, what is said is said of a basis file for the text's model
 text_leads : (limits : SizeLimits) (style : Style) (s : State) (n : ℕ) (front : Lines) (last : Line (List ℕ)) (behind : Lines) (m : Model) →
     text_said_from limits style s n front ≡ None → text.judge limits style s (n + 1) (front ++ last ∷ []) ≡ text.Spelled
     m →
@@ -132,6 +133,7 @@ Agrees m (Some (Ok handed)) verdict =
 Agrees m (Some (Err (fault.Text why))) verdict = ⊥
 Agrees m (Some (Err (fault.File why))) verdict = verdict ≡ file.Refused why.line why.code
 
+-- what is said of the lines of a basis file agrees with the verdict of the reader of such files
 agree : (limits : SizeLimits) (m : Model) (f : Form) (s : file.State) (n : ℕ) (lines : Lines) →
     Agrees m (basis_said_from limits (InFile m f s n) lines) (file.judge m f s (n + 1) lines)
 unfolding basis_step
@@ -162,6 +164,7 @@ data SaidOf (limits : SizeLimits) (style : Style) (lines : Lines) (what : Option
       SaidOf limits style lines what
   Behind : EndsText limits style lines what → SaidOf limits style lines what
 
+-- what is said of lines is said of a text that is cut off, or of one that is refused, or behind a text
 said_of : (limits : SizeLimits) (style : Style) (lines : Lines) (what : Option BasisSaid) → basis_said limits style lines ≡ what →
     SaidOf limits style lines what
 said_of limits style lines what is = by (text_ends limits style start 0 lines)
@@ -181,6 +184,7 @@ said_of limits style lines what is = by (text_ends limits style start 0 lines)
 
 -- ---- what is handed
 
+-- where lines behind a text hand on a model and a basis, the model is the text's and the lines are a file of the basis
 file_handed : (limits : SizeLimits) (m : Model) (behind : Lines) (handed : Handed) (form : Result Form (FormFault ℚ)) →
     form_at_limit m ≡ form →
     follow (begun_file m form) (λ stage. basis_said_from limits stage behind) ≡ Some (Ok handed) →
@@ -217,7 +221,7 @@ said_handed limits style lines handed is = by (said_of limits style lines (Some 
               subst (λ (m : Model). IsFileOf m (form_at_limit m) t.behind handed.basis) f.0 f.1;
         }
 
--- the other way round
+-- where lines behind a text are a file of a basis, the text's model and the basis are said of them
 file_says : (limits : SizeLimits) (m : Model) (basis : Option (List Status)) (behind : Lines) (form : Result Form (FormFault ℚ)) →
     form_at_limit m ≡ form → IsFileOf m form behind basis →
     follow (begun_file m form) (λ stage. basis_said_from limits stage behind) ≡ Some (Ok (record { model = m; basis = basis }))

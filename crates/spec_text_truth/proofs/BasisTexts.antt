@@ -42,6 +42,7 @@ use Rattle.spec_text_truth.proofs.BasisLemmas.{said_handed}
 
 -- ---- the text
 
+-- lines that begin with the text of a model spell the model
 begins_spells : (limits : SizeLimits) (style : Style) (lines : List (Line (List ℕ))) (m : Model) (behind : List (Line (List ℕ))) →
     BeginsWithText limits style lines m behind → text.SpellsWithin limits style lines m
 begins_spells limits style lines m behind t =

@@ -36,6 +36,7 @@ use Rattle.spec_truth.proofs.ReplyLines.{yes_to}
 use Rattle.spec_truth.proofs.Shown.{IsShown, shown_holds, yes_shown}
 use Rattle.spec_text_truth.proofs.WideShown.{wide_yes_holds}
 
+-- a refusal is no yes to a certificate
 no_yes : (why : Refusal Name (List ℕ)) (what : Known ℚ) →
     ◌≡◌ {A = Option ExactReply} (Some (reply.Refused why)) (Some (yes_to what)) → ⊥
 no_yes why what e = cc
@@ -173,16 +174,19 @@ module _ (read : Reading ℚ) (limits : SizeLimits) (on : Model → Settled (Cer
 
 -- ---- with numbers of 127 bits
 
+-- behind a line of a certificate `check` goes on as each check does, with the verdict at 127 bits
 narrow_behind : (m : Model) (n : ℕ) (o : Outcome) → behind_certificate m n o ≡ behind_by verdict_on m n o
 narrow_behind m n (progress.More raw) = refl
 narrow_behind m n (progress.Done raw) = refl
 narrow_behind m n progress.Unfit = refl
 
+-- on a line of a text `check` goes on as the reader of texts does, at the usual limits
 narrow_in_text : (style : Style) (s : State) (n : ℕ) (line : Line (List ℕ)) →
     check_step (InText style s n) line ≡ behind_text style (n + 1) (text.step usual_limits style s line)
 unfolding check_step
 narrow_in_text style s n line = refl
 
+-- on a line of a certificate `check` goes on as each check does that reads numbers of 127 bits
 narrow_in_certificate : (m : Model) (so_far : Option ExactRaw) (n : ℕ) (line : Line (List ℕ)) →
     check_step (InCertificate m so_far n) line ≡ behind_by verdict_on m (n + 1) (step_by narrow so_far line)
 unfolding check_step
@@ -200,16 +204,19 @@ yes_holds style lines what h = certified style lines what (λ m. Holds m what) (
 
 -- ---- with numbers of any width
 
+-- behind a line of a certificate `check --wide` goes on as each check does, with the wide verdict
 wide_behind : (m : Model) (n : ℕ) (o : Outcome) → behind_wide m n o ≡ behind_by wide_verdict_on m n o
 wide_behind m n (progress.More raw) = refl
 wide_behind m n (progress.Done raw) = refl
 wide_behind m n progress.Unfit = refl
 
+-- on a line of a text `check --wide` goes on as the reader of texts does, at the large limits
 wide_in_text : (style : Style) (s : State) (n : ℕ) (line : Line (List ℕ)) →
     wide_step (InText style s n) line ≡ behind_text style (n + 1) (text.step large_limits style s line)
 unfolding wide_step
 wide_in_text style s n line = refl
 
+-- on a line of a certificate `check --wide` goes on as each check does that reads wide numbers
 wide_in_certificate : (m : Model) (so_far : Option ExactRaw) (n : ℕ) (line : Line (List ℕ)) →
     wide_step (InCertificate m so_far n) line ≡ behind_by wide_verdict_on m (n + 1) (step_by wide so_far line)
 unfolding wide_step

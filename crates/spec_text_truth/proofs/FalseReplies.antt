@@ -28,10 +28,12 @@ use Rattle.spec_text_truth.proofs.ComputedExamples.{model_with, asked_effects, a
 
 -- ---- the value 6 is not 5
 
+-- where the text `5` reads as a number, the number is 5
 five_is : (v : ℚ) → number_of (codes "5") ≡ Is v → whole (pos 5) ≡ v
 unfolding number_of parts_of unsigned_parts mantissa_of decimal_of exponent_of number_by scaled value_of_parts is_narrow over whole
 five_is v e = cc
 
+-- 5 is not the optimal value of the example's model with the right side -6 of its objective
 not_five : (v : ℚ) → whole (pos 5) ≡ v → IsOptimal (model_with (negsuc 5)) v → ⊥
 unfolding ◌+ℚ◌ over whole neg_ℚ gcd
 not_five v five h =
@@ -54,6 +56,7 @@ told_is x effect line asked is =
 abbrev askings : List Asking
 askings = asked_of 0 asked_effects
 
+-- what is told first of the bytes of the example is told of the example's own asks
 asked_first : (after : Option (List ℕ)) (told : List Told) →
     HoldsOfAll after asked_twice (λ bytes. AreFirstOf (map (λ (x : Told). x.asked) told) (asked_from Alone Between (lines_of bytes))) →
     AreFirstOf (map (λ (x : Told). x.asked) told) askings

@@ -29,7 +29,7 @@ use Rattle.spec_text_truth.proofs.RangedTexts.{printed_has_no}
 
 -- ---- a range that is too wide
 
--- what the text spells, of whatever else is left
+-- a model that the example's text spells, whatever is left behind the text, is the example's model
 spelled_is : (after : Option (List ℕ)) (m : Model) → IsModelOf (Range RightSide (codes "ROW")) style.Free after ended_text m → m ≡ model_with (negsuc 4)
 spelled_is after m h = by (spells h)
   where
@@ -40,11 +40,12 @@ spelled_is after m h = by (spells h)
     by : Spells style.Free (lines_of ended_text) m → m ≡ model_with (negsuc 4)
     by e = let same : ◌≡◌ {A = Verdict} (Spelled m) (Spelled (model_with (negsuc 4))) = sym e ∙ ended_is in cc
 
+-- the text `NONE` reads as no number
 no_number : (v : ℚ) → number_of (codes "NONE") ≡ Is v → ⊥
 unfolding number_of parts_of unsigned_parts mantissa_of decimal_of exponent_of number_by
 no_number v e = cc
 
--- each number lies between ends that are not there
+-- each number lies between ends of which the texts are `NONE`
 endless : (ends : Limits) (v : ℚ) → SaysEnd (codes "NONE") ends.lower → SaysEnd (codes "NONE") ends.upper → IsBetween ends v
 endless ends v low high = record { lower = below ends.lower low; upper = above ends.upper high }
   where
@@ -56,6 +57,7 @@ endless ends v low high = record { lower = below ends.lower low; upper = above e
     above None h = tt
     above (Some w) h = absurd (no_number w h)
 
+-- the row `ROW` of the example's model is in place 0
 place_is : (m : Model) (at : ℕ) → m ≡ model_with (negsuc 4) → place_by RightSide m (codes "ROW") ≡ Some at → at ≡ 0
 unfolding row_place
 place_is m at same e =
@@ -67,6 +69,7 @@ place_is m at same e =
 abbrev HasOptimum : Model → ℕ → Type 0
 HasOptimum m at = (v : ℚ) × IsOptimal (with_number RightSide m at (whole (negsuc 0))) v
 
+-- the example's model with -1 as the right side of its row has no optimal value
 none_below : HasOptimum (model_with (negsuc 4)) 0 → ⊥
 unfolding whole
 none_below h =
@@ -74,6 +77,7 @@ none_below h =
     let low = inside.upper in
     omega (arith, low)
 
+-- no range without ends is true of the right side of the row of the example's model
 range_refuted : (m : Model) → m ≡ model_with (negsuc 4) →
     IsTrueRange RightSide (codes "ROW") m (codes "5") (codes "NONE") (codes "NONE") (codes "0") → ⊥
 range_refuted m same s =
@@ -104,7 +108,7 @@ wide_ranges_refuted after behind h =
 
 -- ---- a text that is not all read
 
--- a byte more in the last line makes it none
+-- with one byte more in its last line the example's text spells no model
 unended_no_model : (left : List ℕ) (m : Model) → IsModelOf Solve style.Free (Some (88 ∷ left)) unended_text m → ⊥
 unended_no_model left m (inl (at_end, e)) = by at_end
   where

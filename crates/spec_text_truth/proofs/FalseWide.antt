@@ -28,10 +28,12 @@ use Rattle.spec_text_truth.proofs.FalseReplies.{told_is}
 
 -- ---- the value 5 is not 6
 
+-- the text of the number 5 is `5`
 five_text : (v : ℚ) → v.num ≡ pos 5 → v.den ≡ 1 → wide_text v ≡ codes "5"
 unfolding wide_text number_text size_text digits
 five_text v top bottom = rw (top, bottom) refl
 
+-- a number of which the text is `6` is not the optimal value of the example's model
 not_six : (v : ℚ) → codes "6" ≡ wide_text v → IsOptimal (model_with (negsuc 4)) v → ⊥
 unfolding ◌+ℚ◌ over whole neg_ℚ gcd
 not_six v six h =
@@ -44,6 +46,7 @@ not_six v six h =
 abbrev askings : List Asking
 askings = asked_of 0 widely_effects
 
+-- what is told first of the bytes of the example is told of the example's own asks
 asked_first : (after : Option (List ℕ)) (told : List Told) →
     HoldsOfAll after asked_widely (λ bytes. AreFirstOf (map (λ (x : Told). x.asked) told) (asked_from Alone Between (lines_of bytes))) →
     AreFirstOf (map (λ (x : Told). x.asked) told) askings
@@ -83,6 +86,7 @@ module _ (loaded solved : Told) (more : List Told)
 
 -- ---- the lines behind the line of the solve
 
+-- behind the line `WIDE 4` of what is told stand four lines
 four_lines : (x : Told) → IsFramed x → x.line ≡ codes "WIDE 4" → length x.behind ≡ 4
 four_lines x framed is = by framed.counted
   where
@@ -96,7 +100,7 @@ four_lines x framed is = by framed.counted
         is_four (length x.behind) digit
     by (inr (e, none)) = absurd (none (codes " 4") (inr (inr is)))
 
--- the first of some lines in an output
+-- where an output of four lines and more begins with a line, this line is the first of the four
 first_behind : (lines : List (List ℕ)) (line out rest : List ℕ) → length lines ≡ 4 → All HasNoFeed lines → HasNoFeed line →
     ended_lines lines ++ out ≡ line ++ 10 ∷ rest → (more : List (List ℕ)) × (lines ≡ line ∷ more)
 first_behind [] line out rest four plain one e = absurd (omega (arith, four))
@@ -105,6 +109,7 @@ first_behind (own ∷ more) line out rest four plain one e =
     (sym (ended_more own more out) ∙ e) in
     (more, ap (λ (l : List ℕ). l ∷ more) same)
 
+-- an output with `OPTIMAL 6` behind the line `WIDE 4` is not one of true replies to the example's asks
 pub wide_refuted : (after : Option (List ℕ)) (behind : List ℕ) →
     AreTrueReplies Alone after asked_widely (answered_widely ++ behind) → ⊥
 unfolding ended_lines

@@ -30,10 +30,12 @@ size_line : Model → List ℕ
 size_line m =
     codes "MODEL " ++ decimal (height m) ++ codes " " ++ decimal (width m) ++ codes " " ++ decimal (entry_count m)
 
+-- the text of a model's size is its line and a line feed
 size_ends : (m : Model) → size_text m ≡ size_line m ++ 10 ∷ []
 unfolding size_text size_line
 size_ends m = refl
 
+-- the line of a model's size has no line feed
 size_no_feed : (m : Model) → HasNoFeed (size_line m)
 unfolding size_line
 size_no_feed m =
@@ -54,10 +56,11 @@ record IsSizeAndAnswer (m : Model) (written : List ℕ) : Type 0 where
   lines : written ≡ size_text m ++ answer_text answer ++ 10 ∷ behind
   shown : IsShownBy m answer
 
--- behind the answer's line
+-- what stands behind the answer's line, of the end of a solve
 pivots_line : ExactSolveEnd → List ℕ
 pivots_line solved = codes "PIVOTS " ++ (pivots_text (pivots_of_solved solved) ++ 10 ∷ [])
 
+-- what `gen` writes of a model is the line of its size, the line of the answer, and what is behind them
 generated_begins : (m : Model) (solved : ExactSolveEnd) →
     generated_lines m solved
     ≡ size_text m ++ answer_text (answer_of opening_budget solved) ++ 10 ∷ pivots_line solved
@@ -72,6 +75,7 @@ generated_begins m solved =
     ∙ ap (λ (bs : List ℕ). bs ++ rest) (sym (append_assoc size answer (10 ∷ [])))
     ∙ append_assoc (size ++ answer) (10 ∷ []) rest
 
+-- what `gen` writes of a model is the line of its size and the line of an answer that is shown of the model
 out_answered : (m : Model) (written : List ℕ) → SolvedOut m written → IsSizeAndAnswer m written
 out_answered m written out = record {
   answer = answer_of opening_budget out.0.end;
@@ -82,6 +86,7 @@ out_answered m written out = record {
 
 -- ---- the first line, and the second
 
+-- the bytes of a size and an answer are two lines, each with its line feed, and what is behind them
 lines_are : (m : Model) (written : List ℕ) (r : IsSizeAndAnswer m written) →
     written ≡ size_line m ++ 10 ∷ (answer_text r.answer ++ 10 ∷ r.behind)
 lines_are m written r =
@@ -91,12 +96,14 @@ lines_are m written r =
     ∙ append_assoc (size_line m ++ 10 ∷ []) answer (10 ∷ r.behind)
     ∙ append_assoc (size_line m) (10 ∷ []) (answer ++ 10 ∷ r.behind)
 
+-- the first line of the bytes of a size and an answer is the line of the size
 first_line : (m : Model) (written size rest : List ℕ) (r : IsSizeAndAnswer m written) → HasNoFeed size →
     written ≡ size ++ 10 ∷ rest → size_line m ≡ size
 first_line m written size rest r no_feed e =
     same_line (size_line m) size (answer_text r.answer ++ 10 ∷ r.behind) rest (size_no_feed m) no_feed
     (sym (lines_are m written r) ∙ e)
 
+-- behind the first line of the bytes of a size and an answer stands the line of the answer
 second_line : (m : Model) (written size rest : List ℕ) (r : IsSizeAndAnswer m written) → HasNoFeed size →
     written ≡ size ++ 10 ∷ rest → answer_text r.answer ++ 10 ∷ r.behind ≡ rest
 second_line m written size rest r no_feed e =

@@ -94,6 +94,7 @@ ArePlainAsks asks = All (λ a. IsPlainAsk a.ask) asks
 abbrev ArePlainTwos : List (List ℕ × List ℕ) → Type 0
 ArePlainTwos twos = All (λ two. HasNoFeed two.0) twos
 
+-- where no word has a line feed, no name in the pairs of words has one
 twos_plain : (words : List (List ℕ)) → All HasNoFeed words → IfSome (two_by_two words) ArePlainTwos
 unfolding two_by_two
 twos_plain [] h = All-nil (λ (two : List ℕ × List ℕ). HasNoFeed two.0)
@@ -108,6 +109,7 @@ twos_plain (name ∷ value ∷ words) h =
     by (Some twos) k =
         All-cons (λ (two : List ℕ × List ℕ). HasNoFeed two.0) (name, value) twos (All-head HasNoFeed name (value ∷ words) h) k
 
+-- where no name in pairs of words has a line feed, no name has one once the numbers are read
 numbers_plain : (twos : List (List ℕ × List ℕ)) → ArePlainTwos twos → IfOk (numbers_in twos) ArePlainPairs
 unfolding numbers_in
 numbers_plain [] h = All-nil (λ (p : Name × ℚ). HasNoFeed p.0)
@@ -118,6 +120,7 @@ numbers_plain (two ∷ twos) h =
     All-cons (λ (p : Name × ℚ). HasNoFeed p.0) (two.0, v) rest
     (All-head (λ (two : List ℕ × List ℕ). HasNoFeed two.0) two twos h) k
 
+-- where no name of a new column and its entries has a line feed, the edit has no name with one
 column_plain : (name : Name) (cost : List ℕ) (twos : Option (List (List ℕ × List ℕ))) → HasNoFeed name →
     IfSome twos ArePlainTwos → IfOk (column_in name cost twos) IsPlainEdit
 column_plain name cost None h k = tt
@@ -125,6 +128,7 @@ column_plain name cost (Some twos) h k =
     any_kept IsPlainEdit (number_in cost) _ λ c.
     then_kept ArePlainPairs IsPlainEdit (numbers_in twos) _ (numbers_plain twos k) λ ps g. (h, g)
 
+-- where no word has a line feed, the edit that the words say has no name with one
 edit_plain : (which : EditWord) (words : List (List ℕ)) → All HasNoFeed words → IfOk (edit_by which words) IsPlainEdit
 unfolding edit_by
 edit_plain AddRow (name ∷ type ∷ rhs ∷ []) h =
@@ -162,22 +166,27 @@ abbrev IsPlainCommand : ExactCommand → Type 0
 IsPlainCommand (Plain asked) = IsPlainPlain asked
 IsPlainCommand other = Unit {0}
 
+-- a command LOAD, or the fault in its place, has no name with a line feed
 load_plain : (form : Option Style) → IsPlainCommand (load_by form)
 load_plain None = tt
 load_plain (Some form) = tt
 
+-- a command WRITE, or a fault in its place, has no name with a line feed
 write_plain : (form : Option Style) → IsPlainCommand (write_by form)
 write_plain None = tt
 write_plain (Some form) = tt
 
+-- a command BUDGET, or a fault in its place, has no name with a line feed
 budget_plain : (n : Option ℕ) → IsPlainCommand (budget_by n)
 budget_plain None = tt
 budget_plain (Some n) = tt
 
+-- where an edit that was read has no name with a line feed, the command of the edit has none
 change_plain : (read : Reads ExactEdit) → IfOk read IsPlainEdit → IsPlainCommand (change_by read)
 change_plain (Ok e) h = h
 change_plain (Err why) h = tt
 
+-- where no word behind a command's word has a line feed, the command has no name with one
 command_with_plain : (which : CommandWord) (behind : List (List ℕ)) → All HasNoFeed behind →
     IsPlainCommand (command_with which behind)
 command_with_plain command_word.Load [] h = tt
@@ -203,11 +212,13 @@ command_with_plain command_word.Quit [] h = tt
 command_with_plain command_word.Quit (other ∷ more) h = tt
 command_with_plain (command_word.Edit which) behind h = change_plain (edit_by which behind) (edit_plain which behind h)
 
+-- where no word behind a first word has a line feed, the command has no name with one, if there is one
 command_at_plain : (which : Option CommandWord) (behind : List (List ℕ)) → All HasNoFeed behind →
     IsPlainCommand (command_at which behind)
 command_at_plain None behind h = tt
 command_at_plain (Some which) behind h = command_with_plain which behind h
 
+-- where no word has a line feed, the command that the words say has no name with one
 command_plain : (words : List (List ℕ)) → All HasNoFeed words → IsPlainCommand (command_of words)
 command_plain [] h = tt
 command_plain (word ∷ behind) h = command_at_plain (command_word_of word) behind (All-tail HasNoFeed word behind h)
@@ -216,24 +227,29 @@ abbrev IsPlainLine : Option (Addressed ExactEdit) → Type 0
 IsPlainLine None = Unit {0}
 IsPlainLine (Some addressed) = IsPlainCommand addressed.command
 
+-- where no word has a line feed, the command to a session that is known or not has no name with one
 to_plain : (found : Option ℕ) (words : List (List ℕ)) → All HasNoFeed words → IsPlainLine (Some (addressed_to found words))
 to_plain None words h = tt
 to_plain (Some session) words h = command_plain words h
 
+-- where no word has a line feed, the command behind a session's word, or without one, has no name with one
 from_plain : (addressing : Addressing) (word : List ℕ) (words : List (List ℕ)) → All HasNoFeed (word ∷ words) →
     IsPlainLine (Some (addressed_from addressing word words))
 from_plain Numbered word words h = to_plain (session_of word) words (All-tail HasNoFeed word words h)
 from_plain Alone word words h = command_plain (word ∷ words) h
 
+-- where no word has a line feed, the addressed command that the words say has no name with one
 by_plain : (addressing : Addressing) (words : List (List ℕ)) → All HasNoFeed words →
     IsPlainLine (addressed_by addressing words)
 by_plain addressing [] h = tt
 by_plain addressing (word ∷ words) h = from_plain addressing word words h
 
+-- where an addressed command has no name with a line feed, it has none, dropped or kept
 choice_plain : (t : Bool) (found : Option (Addressed ExactEdit)) → IsPlainLine found → IsPlainLine (cond t None found)
 choice_plain true found h = tt
 choice_plain false found h = h
 
+-- where a line has no line feed in it, the addressed command that the line says has no name with one
 addressed_plain : (addressing : Addressing) (next : Line (List ℕ)) → IsPlainText next →
     IsPlainLine (addressed_in addressing next)
 unfolding addressed_in
@@ -251,6 +267,7 @@ IsPlainOutcome (progress.More raw) = IsPlainRaw raw
 IsPlainOutcome (progress.Done raw) = IsPlainRaw raw
 IsPlainOutcome progress.Unfit = Unit {0}
 
+-- where each kind of certificate in a table has no name with a line feed, the one at a word has none
 looked_up : (word : List ℕ) (lines : List (List ℕ × ExactKind)) → All (λ line. IsPlainKind line.1) lines →
     IfSome (look_up word lines) IsPlainKind
 looked_up word [] h = tt
@@ -262,6 +279,7 @@ looked_up word (line ∷ lines) h =
     by true k = All-head (λ (line : List ℕ × ExactKind). IsPlainKind line.1) line lines h
     by false k = k
 
+-- where no word has a line feed, the kind of certificate that the words say has no name with one
 kind_plain : (words : List (List ℕ)) → All HasNoFeed words → IfSome (kind_of words) IsPlainKind
 unfolding kind_of
 kind_plain [] h = tt
@@ -280,11 +298,13 @@ kind_plain (word ∷ name ∷ []) h = by (same word (codes "CLASH"))
     by false = tt
 kind_plain (word ∷ name ∷ other ∷ more) h = tt
 
+-- where a name has no line feed, the part of a certificate with this name has no name with one
 valued_plain : (letter : Letter) (name : Name) (value : Option ℚ) → HasNoFeed name →
     IfSome (valued letter name value) IsPlainPart
 valued_plain letter name None h = tt
 valued_plain letter name (Some v) h = h
 
+-- where a name has no line feed, the part of a certificate with a letter and this name has no name with one
 lettered_plain : (of : ExactKind) (letter : Option Letter) (name : Name) (text : List ℕ) → HasNoFeed name →
     IfSome (lettered narrow of letter name text) IsPlainPart
 lettered_plain of None name text h = tt
@@ -294,6 +314,7 @@ lettered_plain of (Some letter) name text h = by (takes of letter)
     by true = valued_plain letter name (narrow text) h
     by false = tt
 
+-- where no word has a line feed, the part of a certificate that the words say has no name with one
 part_plain : (of : ExactKind) (words : List (List ℕ)) → All HasNoFeed words → IfSome (part_by narrow of words) IsPlainPart
 unfolding part_by
 part_plain of [] h = tt
@@ -304,10 +325,12 @@ part_plain of (word ∷ name ∷ text ∷ []) h =
     (All-head HasNoFeed name (text ∷ []) (All-tail HasNoFeed word (name ∷ text ∷ []) h))
 part_plain of (word ∷ name ∷ text ∷ other ∷ more) h = tt
 
+-- where a kind has no name with a line feed, the certificate that is begun with it has none
 opened_plain : (of : Option ExactKind) → IfSome of IsPlainKind → IsPlainOutcome (opened of)
 opened_plain None h = tt
 opened_plain (Some of) h = record { kind = h; parts = All-nil IsPlainPart }
 
+-- where a certificate and a part have no name with a line feed, the certificate with the part has none
 with_part_plain : (raw : ExactRaw) (part : Option ExactPart) → IsPlainRaw raw → IfSome part IsPlainPart →
     IsPlainOutcome (with_part raw part)
 with_part_plain raw None h k = tt
@@ -316,6 +339,7 @@ with_part_plain raw (Some p) h k = record {
   parts = All-append IsPlainPart raw.parts (p ∷ []) h.parts (All-cons IsPlainPart p [] k (All-nil IsPlainPart));
 }
 
+-- where a certificate so far and words have no line feed in a name, what the words lead to has none
 words_step_plain : (so_far : Option ExactRaw) (words : List (List ℕ)) → IfSome so_far IsPlainRaw → All HasNoFeed words →
     IsPlainOutcome (words_step narrow so_far words)
 words_step_plain None words h k = opened_plain (kind_of words) (kind_plain words k)
@@ -325,6 +349,7 @@ words_step_plain (Some raw) words h k = by (is_end words)
     by true = h
     by false = with_part_plain raw (part_by narrow raw.kind words) h (part_plain raw.kind words k)
 
+-- where a certificate so far and a line have no line feed in a name, what the line leads to has none
 certificate_step_plain : (so_far : Option ExactRaw) (next : Line (List ℕ)) → IfSome so_far IsPlainRaw → IsPlainText next →
     IsPlainOutcome (step_by narrow so_far next)
 unfolding step_by
@@ -337,6 +362,7 @@ abbrev IsPlainJudgement : Judgement → Type 0
 IsPlainJudgement (certificate_text.Spelled raw) = IsPlainRaw raw
 IsPlainJudgement (certificate_text.Refused n) = Unit {0}
 
+-- where a certificate so far and lines have no line feed in a name, the certificate that they spell has none
 judged_plain : (so_far : Option ExactRaw) (n : ℕ) (lines : List (Line (List ℕ))) → IfSome so_far IsPlainRaw →
     All IsPlainText lines → IsPlainJudgement (judge_by narrow so_far n lines)
 judged_plain so_far n [] h k = tt
@@ -353,33 +379,40 @@ judged_plain so_far n (next ∷ lines) h k =
 
 -- ---- line by line
 
+-- where nothing is asked, no name has a line feed
 none_plain : ArePlainAsks []
 none_plain = All-nil (λ (a : Asked ExactAsk). IsPlainAsk a.ask)
 
+-- where an ask has no name with a line feed, the list of it alone has none
 one_plain : (session : ℕ) (asked : ExactAsk) → IsPlainAsk asked →
     ArePlainAsks (record { session = session; ask = asked } ∷ [])
 one_plain session asked h =
     All-cons (λ (a : Asked ExactAsk). IsPlainAsk a.ask) (record { session = session; ask = asked }) [] h none_plain
 
+-- where an ask has no name with a line feed, the list of it alone has none, nor has the empty list
 if_plain : (t : Bool) (session : ℕ) (asked : ExactAsk) → IsPlainAsk asked →
     ArePlainAsks (cond t (record { session = session; ask = asked } ∷ []) [])
 if_plain true session asked h = one_plain session asked h
 if_plain false session asked h = none_plain
 
+-- where a command has no name with a line feed, the asks that it makes have none
 command_asks_plain : (session : ℕ) (c : ExactCommand) → IsPlainCommand c → ArePlainAsks (asks_of_command session c)
 command_asks_plain session (Load form) h = none_plain
 command_asks_plain session Check h = none_plain
 command_asks_plain session (Plain asked) h = one_plain session (ask.Plain asked) h
 command_asks_plain session (Bad fault) h = one_plain session (ask.Bad fault) tt
 
+-- where an addressed command has no name with a line feed, the asks that it makes have none
 asks_by_plain : (found : Option (Addressed ExactEdit)) → IsPlainLine found → ArePlainAsks (asks_by found)
 asks_by_plain None h = none_plain
 asks_by_plain (Some addressed) h = command_asks_plain addressed.session addressed.command h
 
+-- the ask that a text with a verdict makes has no name with a line feed
 verdict_plain : (v : Verdict) → IsPlainAsk (ask_of_verdict v)
 verdict_plain (Spelled m) = tt
 verdict_plain (Refused n fault) = tt
 
+-- where a judged certificate has no name with a line feed, the ask that it makes has none
 judgement_plain : (j : Judgement) → IsPlainJudgement j → IsPlainAsk (ask_of_judgement j)
 judgement_plain (certificate_text.Spelled raw) h = h
 judgement_plain (certificate_text.Refused n) h = tt
@@ -389,11 +422,13 @@ abbrev IsPlainPending : Pending → Type 0
 IsPlainPending (Certificate session body) = All IsPlainText body
 IsPlainPending other = Unit {0}
 
+-- where no line of a body has a line feed and one more line has none, the body with this line has none
 with_next : (body : List (Line (List ℕ))) (next : Line (List ℕ)) → All IsPlainText body → IsPlainText next →
     All IsPlainText (body ++ next ∷ [])
 with_next body next h k =
     All-append IsPlainText body (next ∷ []) h (All-cons IsPlainText next [] k (All-nil IsPlainText))
 
+-- where what is pending and a line have no line feed, the asks of the line have no name with one
 line_asks_plain : (addressing : Addressing) (p : Pending) (next : Line (List ℕ)) → IsPlainPending p → IsPlainText next →
     ArePlainAsks (asks_of_line addressing p next)
 line_asks_plain addressing Between next h k =
@@ -405,16 +440,19 @@ line_asks_plain addressing (Certificate session body) next h k =
     (judgement_plain (certificate.judge None 1 (body ++ next ∷ []))
     (judged_plain None 1 (body ++ next ∷ []) tt (with_next body next h k)))
 
+-- what is pending behind a command has no line with a line feed, as its body is empty
 begun_plain : (session : ℕ) (c : ExactCommand) → IsPlainPending (begun session c)
 begun_plain session (Load form) = tt
 begun_plain session Check = All-nil IsPlainText
 begun_plain session (Plain asked) = tt
 begun_plain session (Bad fault) = tt
 
+-- what is pending behind an addressed command, or behind none, has no line with a line feed
 begun_by_plain : (found : Option (Addressed ExactEdit)) → IsPlainPending (begun_by found)
 begun_by_plain None = tt
 begun_by_plain (Some addressed) = begun_plain addressed.session addressed.command
 
+-- where what is pending and a line have no line feed, what is pending behind the line has none
 pending_plain : (addressing : Addressing) (p : Pending) (next : Line (List ℕ)) → IsPlainPending p → IsPlainText next →
     IsPlainPending (pending_after_line addressing p next)
 pending_plain addressing Between next h k = begun_by_plain (addressed_in addressing next)
@@ -429,6 +467,7 @@ pending_plain addressing (Certificate session body) next h k = by (ends_certific
     by true = tt
     by false = with_next body next h k
 
+-- where what is pending and all lines have no line feed, the asks of the lines have no name with one
 from_lines : (addressing : Addressing) (p : Pending) (lines : List (Line (List ℕ))) → IsPlainPending p →
     All IsPlainText lines → ArePlainAsks (asks_from addressing p lines)
 from_lines addressing p [] h k = none_plain
@@ -440,6 +479,7 @@ from_lines addressing p (next ∷ lines) h k =
     (from_lines addressing (pending_after_line addressing p next) lines (pending_plain addressing p next h first)
     (All-tail IsPlainText next lines k))
 
+-- where no line has a line feed, the asks that the lines make from the beginning have no name with one
 pub asks_plain : (addressing : Addressing) (lines : List (Line (List ℕ))) → All IsPlainText lines →
     ArePlainAsks (asks_from addressing Between lines)
 asks_plain addressing lines h = from_lines addressing Between lines tt h

@@ -23,6 +23,7 @@ IsPlainFault (fault.Repeated name) = HasNoFeed name
 IsPlainFault (fault.FreeRow name) = HasNoFeed name
 IsPlainFault other = Unit {0}
 
+-- where a name has no line feed, the fault that it is unknown has no name with one
 known_plain : (place : Option ℕ) (name : Name) → HasNoFeed name → IfErr (known place name) IsPlainFault
 known_plain None name h = h
 known_plain (Some k) name h = tt
@@ -38,6 +39,7 @@ module _ {A : Type 0} where
   choice_plain true a b h k = h
   choice_plain false a b h k = k
 
+-- where the name of a new row has no line feed, the fault of the row has no name with one
 new_row_plain : (m : Model) (r : ExactRow) → HasNoFeed r.name → IfErr (new_row m r) IsPlainFault
 unfolding new_row
 new_row_plain m r h =
@@ -46,6 +48,7 @@ new_row_plain m r h =
     (choice_plain (nat_le row_limit (height m)) _ _ tt
     (choice_plain (is_ranged_free r.kind r.range) _ _ h tt)))
 
+-- where no name in pairs has a line feed, the fault of entries made of the pairs has no name with one
 entries_plain : (m : Model) (before pairs : Pairs) (entries : List (ℕ × ℚ)) →
     All (λ (p : Name × ℚ). HasNoFeed p.0) pairs → IfErr (entries_of m before pairs entries) IsPlainFault
 entries_plain m before [] entries h = tt
@@ -56,6 +59,7 @@ entries_plain m before (p ∷ pairs) entries h =
     (entries_plain m (before ++ p ∷ []) pairs (with_entry i p.1 entries)
     (All-tail (λ (p : Name × ℚ). HasNoFeed p.0) p pairs h))
 
+-- where no name of a new column and its entries has a line feed, the fault of the column has no name with one
 new_column_plain : (m : Model) (name : Name) (cost : ℚ) (pairs : Pairs) → HasNoFeed name →
     All (λ (p : Name × ℚ). HasNoFeed p.0) pairs → IfErr (new_column m name cost pairs) IsPlainFault
 unfolding new_column
@@ -65,6 +69,7 @@ new_column_plain m name cost pairs h k =
     (choice_plain (nat_le column_limit (width m)) _ _ tt
     (then_plain (entries_of m [] pairs []) _ (entries_plain m [] pairs [] k) λ entries. tt)))
 
+-- where an edit has no name with a line feed, the fault of the edit has none
 pub edited_plain : (m : Model) (e : ExactEdit) → IsPlainEdit e → IfErr (edited m e) IsPlainFault
 unfolding edited with_right_side with_new_range
 edited_plain m (edit.AddRow name type rhs range) h =

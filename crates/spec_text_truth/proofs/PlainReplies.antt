@@ -76,19 +76,23 @@ abbrev pub IsPlainReply : ExactReply → Type 0
 IsPlainReply (reply.Refused why) = IsPlainRefusal why
 IsPlainReply other = Unit {0}
 
+-- a space has no line feed
 blank_no_feed : HasNoFeed (codes " ")
 blank_no_feed = tested_no_feed (codes " ") refl
 
+-- the text of why a line is no command has no line feed
 line_fault_no_feed : (why : LineFault) → HasNoFeed (line_fault_text why)
 line_fault_no_feed line_fault.Word = tested_no_feed (codes "1 WORD") refl
 line_fault_no_feed line_fault.Number = tested_no_feed (codes "2 NUMBER") refl
 line_fault_no_feed line_fault.Wide = tested_no_feed (codes "3 WIDE") refl
 line_fault_no_feed line_fault.Long = tested_no_feed (codes "11 LONG") refl
 
+-- the word for rows or for columns has no line feed
 which_no_feed : (which : Which) → HasNoFeed (which_text which)
 which_no_feed Rows = tested_no_feed (codes "ROWS") refl
 which_no_feed Columns = tested_no_feed (codes "COLUMNS") refl
 
+-- the text of a limit of rows or columns has no line feed
 limit_no_feed : (which : Which) (count : ℕ) →
     HasNoFeed (codes "7 LIMIT " ++ which_text which ++ codes " " ++ decimal count)
 limit_no_feed which count =
@@ -98,6 +102,7 @@ limit_no_feed which count =
     blank_no_feed)
     (decimal_no_feed count)
 
+-- where a refusal has no name with a line feed, its text has no line feed
 refusal_no_feed : (why : Refusal Name (List ℕ)) → IsPlainRefusal why → HasNoFeed (refusal_text why)
 unfolding fault_text item_text repeated_text
 refusal_no_feed (refusal.Bad why) h = line_fault_no_feed why
@@ -126,6 +131,7 @@ refusal_no_feed (refusal.FixedWide item) h =
 refusal_no_feed (refusal.FreeRow name) h =
     both_no_feed (codes "16 FREEROW ") name (tested_no_feed (codes "16 FREEROW ") refl) h
 
+-- the text of a checker's verdict has no line feed
 verdict_no_feed : (what : Verdict ℚ) → HasNoFeed (verdict_text what)
 verdict_no_feed (verdict.Yes what) =
     both_no_feed (codes "YES ") _ (tested_no_feed (codes "YES ") refl) (known_no_feed what)
@@ -139,6 +145,7 @@ fall_no_feed fall.Unfit = tested_no_feed (codes "UNFIT") refl
 fall_no_feed fall.Past = tested_no_feed (codes "PAST") refl
 fall_no_feed fall.Spent = tested_no_feed (codes "SPENT") refl
 
+-- the text of how an answer was found has no line feed
 how_no_feed : (how : How) → HasNoFeed (how_text how)
 how_no_feed Cold = tested_no_feed (codes "COLD") refl
 how_no_feed (Basis k) =
@@ -153,6 +160,7 @@ pub pivots_no_feed : (pivots : Option ℕ) → HasNoFeed (pivots_text pivots)
 pivots_no_feed None = tested_no_feed (codes "-") refl
 pivots_no_feed (Some n) = decimal_no_feed n
 
+-- the text of what became of a put has no line feed
 put_no_feed : (put : Put) → HasNoFeed (put_text put)
 put_no_feed (puts.Published k) =
     both_no_feed (codes "PUBLISHED ") (decimal k) (tested_no_feed (codes "PUBLISHED ") refl) (decimal_no_feed k)
@@ -161,11 +169,13 @@ put_no_feed (puts.Raced c) =
 put_no_feed (puts.Full c) =
     both_no_feed (codes "FULL ") (decimal c) (tested_no_feed (codes "FULL ") refl) (decimal_no_feed c)
 
+-- the text of what became of the basis of an answer has no line feed
 publication_no_feed : (publication : Publication) → HasNoFeed (publication_text publication)
 publication_no_feed Nothing = tested_no_feed (codes "NONE") refl
 publication_no_feed Same = tested_no_feed (codes "SAME") refl
 publication_no_feed (Tried put) = put_no_feed put
 
+-- the text of the reply to HOW has no line feed
 found_no_feed : (how : How) (pivots : Option ℕ) (publication : Publication) →
     HasNoFeed (codes "HOW " ++ how_text how ++ codes " PIVOTS " ++ pivots_text pivots ++ codes " " ++ publication_text publication)
 found_no_feed how pivots publication =
@@ -207,6 +217,7 @@ reply_no_feed (reply.Refused why) h =
 
 -- ---- why it is refused
 
+-- where the fault of an edit has no name with a line feed, the reply with it has none
 refusal_plain : (why : EditFault Name) → IsPlainFault why → IsPlainReply (edit_refusal why)
 refusal_plain (fault.UnknownName name) h = h
 refusal_plain (fault.Taken name) h = h
@@ -215,6 +226,7 @@ refusal_plain fault.BadName h = tt
 refusal_plain (fault.Repeated name) h = h
 refusal_plain (fault.FreeRow name) h = h
 
+-- where the fault of a certificate for a model has no name with a line feed, the reply with it has none
 settle_reply_plain : (why : SettleFault Name) → IsPlainSettle why → IsPlainReply (settle_reply why)
 settle_reply_plain (settle.UnknownName name) h = h
 settle_reply_plain (settle.Repeated name) h = h
@@ -224,22 +236,26 @@ settle_reply_plain (settle.Repeated name) h = h
 abbrev IsPlainField : Field → Type 0
 IsPlainField f = HasNoFeed f.text
 
+-- where a data card is short, its fields have no line feed
 data_plain : (fields : Fields) → IsShortCard (Data fields) → All IsPlainField fields
 data_plain [] h = All-nil IsPlainField
 data_plain (f ∷ fields) h =
     let few = h.1 in
     All-cons IsPlainField f fields (printed_no_feed f.text h.0.0.plain) (data_plain fields (h.0.1, omega (arith, few)))
 
+-- where a card is short, its data fields have no line feed
 card_plain : (card : WrittenCard) → IsShortCard card → All IsPlainField (data_fields card)
 card_plain (Head start fields) h = All-nil IsPlainField
 card_plain (Data fields) h = data_plain fields h
 
+-- where cards are short, their data fields have no line feed
 cards_plain : (cards : WrittenCards) → All IsShortCard cards → All IsPlainField (flat_map data_fields cards)
 cards_plain [] h = All-nil IsPlainField
 cards_plain (card ∷ cards) h =
     All-append IsPlainField (data_fields card) (flat_map data_fields cards)
     (card_plain card (All-head IsShortCard card cards h)) (cards_plain cards (All-tail IsShortCard card cards h))
 
+-- where no field has a line feed, the first field that is too wide has none
 found_plain : (fields : Fields) → All IsPlainField fields → IfSome (find is_wide fields) IsPlainField
 found_plain [] h = tt
 found_plain (f ∷ fields) h = by (is_wide f) (found_plain fields (All-tail IsPlainField f fields h))
@@ -249,10 +265,12 @@ found_plain (f ∷ fields) h = by (is_wide f) (found_plain fields (All-tail IsPl
     by true k = All-head IsPlainField f fields h
     by false k = k
 
+-- where a field has no line feed, if there is one, its text has none
 text_of_plain : (o : Option Field) → IfSome o IsPlainField → IfSome (option_map (λ (f : Field). f.text) o) HasNoFeed
 text_of_plain None h = tt
 text_of_plain (Some f) h = h
 
+-- what is too wide for fixed form in a model that may be kept has no line feed
 wide_plain : (m : Model) → IsModel m → IfSome (too_wide m) HasNoFeed
 unfolding too_wide
 wide_plain m kept =
@@ -261,6 +279,7 @@ wide_plain m kept =
 
 -- ---- the reply to an ask
 
+-- where the model of a session is usual, the reply to WRITE has no name with a line feed
 write_plain : (held : Option Model) (form : Style) → IfSome held IsUsualModel → IsPlainReply (write_reply held form)
 write_plain None form kept = tt
 write_plain (Some m) style.Free kept = tt
@@ -270,19 +289,23 @@ write_plain (Some m) style.Fixed kept = by (too_wide m) (wide_plain m kept.0)
     by None h = tt
     by (Some item) h = h
 
+-- the reply to CERT has no name with a line feed
 cert_plain : (held : Option Model) (last : Option ExactLastAnswer) → IsPlainReply (cert_reply held last)
 cert_plain None last = tt
 cert_plain (Some m) None = tt
 cert_plain (Some m) (Some last) = tt
 
+-- the reply to HOW has no name with a line feed
 how_plain : (last : Option ExactLastAnswer) → IsPlainReply (how_reply last)
 how_plain None = tt
 how_plain (Some last) = tt
 
+-- where the fault of a certificate has no name with a line feed, the reply with the verdict has none
 verdict_plain : (m : Model) (r : Settled (Certificate (List ℚ))) → IfErr r IsPlainSettle → IsPlainReply (verdict_on m r)
 verdict_plain m (Ok cert) h = tt
 verdict_plain m (Err why) h = settle_reply_plain why h
 
+-- where a certificate that was read has no name with a line feed, the reply to CHECK has none
 check_plain : (held : Option Model) (raw : ExactRaw) → IsPlainRaw raw → IsPlainReply (check_reply held raw)
 check_plain None raw h = tt
 check_plain (Some m) raw h = verdict_plain m (certificate_for m raw) (certificate_plain m raw h)

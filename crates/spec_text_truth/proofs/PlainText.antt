@@ -34,6 +34,7 @@ both_no_feed a b h k = All-append (λ x. x ≢ 10) a b h k
 
 -- ---- numbers
 
+-- the glyph of a digit is no line feed
 glyph_no_feed : (d : ℕ) → digit_glyph false d ≢ 10
 glyph_no_feed d = by (nat_lt d 10)
   where
@@ -45,6 +46,7 @@ pub either_no_feed : (t : Bool) (a b : List ℕ) → HasNoFeed a → HasNoFeed b
 either_no_feed true a b h k = h
 either_no_feed false a b h k = k
 
+-- where a text has no line feed, it has none with digits before it
 onto_no_feed : (k n : ℕ) (acc : List ℕ) → HasNoFeed acc → HasNoFeed (digits_onto k 10 false n acc)
 onto_no_feed zero n acc h = h
 onto_no_feed (suc k) n acc h =
@@ -58,10 +60,12 @@ decimal_no_feed n = onto_no_feed 64 n [] (All-nil (λ b. b ≢ 10))
 
 -- ---- numbers of any width
 
+-- the decimal digits of a number, however many, have no line feed
 all_no_feed : (n : ℕ) → HasNoFeed (all_digits n)
 unfolding all_digits
 all_no_feed n = onto_no_feed (suc n) n [] (All-nil (λ b. b ≢ 10))
 
+-- the text of a whole number or of a quotient of two, of any width, has no line feed
 past_no_feed : (n den : ℕ) → HasNoFeed (past_text n den)
 unfolding past_text
 past_no_feed n den =

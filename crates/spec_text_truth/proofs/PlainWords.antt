@@ -64,11 +64,13 @@ abbrev pub IsPlainText : Line (List ℕ) → Type 0
 IsPlainText (line.Text bytes) = HasNoFeed bytes
 IsPlainText other = Unit {0}
 
+-- where bytes have no line feed, they have none without the carriage return at their end
 strip_plain : (bytes : List ℕ) → HasNoFeed bytes → HasNoFeed (strip_carriage_return bytes)
 strip_plain bytes h =
     either_no_feed (nat_eq (slice_index bytes (length bytes - 1)) 13) (take (length bytes - 1) bytes) bytes
     (All-take (λ b. b ≢ 10) (length bytes - 1) bytes h) h
 
+-- where no part of bytes has a line feed, no line made of a part has one
 parts_plain : (parts : List (List ℕ)) → All HasNoFeed parts → All HasNoFeed (lines_of_parts parts)
 parts_plain [] h = h
 parts_plain (x ∷ []) h = by (nat_eq (length x) 0)
@@ -80,9 +82,11 @@ parts_plain (x ∷ y ∷ parts) h =
     All-cons HasNoFeed (strip_carriage_return x) (lines_of_parts (y ∷ parts))
     (strip_plain x (All-head HasNoFeed x (y ∷ parts) h)) (parts_plain (y ∷ parts) (All-tail HasNoFeed x (y ∷ parts) h))
 
+-- a byte that a test tells from a line feed is none
 other_byte : (b : ℕ) → nat_eq b 10 ≡ false → b ≢ 10
 other_byte b e is = let z : nat_eq 10 10 ≡ false = sym (ap (λ d. nat_eq d 10) is) ∙ e in cc
 
+-- where bytes have no line feed, the line of them has none
 line_plain : (bytes : List ℕ) → HasNoFeed bytes → IsPlainText (line_of bytes)
 line_plain bytes h = by (line_of_cases bytes)
   where

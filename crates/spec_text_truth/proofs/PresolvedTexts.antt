@@ -57,6 +57,7 @@ out_answered m written out = record {
   shown = answer_shown m opening_budget out.0.end out.1.may_answer;
 }
 
+-- `presolve` writes of a text that spells a model a way's line, and then that of an answer shown of the model
 answered : (style : Style) (lines : List (Line (List ℕ))) (m : Model) (what : TextSaid) (written : List ℕ) →
     text_said style lines ≡ Some what → PresolveOut what written → Spells style lines m → IsWayAndAnswer m written
 answered style lines m what written is out spells =
@@ -66,10 +67,11 @@ answered style lines m what written is out spells =
 
 -- ---- the line behind that of a smaller model
 
--- that line, without its line feed
+-- the line of a smaller model's size behind the word REDUCED, without its line feed
 size_line : ℕ → ℕ → List ℕ
 size_line rows columns = codes "REDUCED " ++ decimal rows ++ codes " " ++ decimal columns
 
+-- the line of a smaller model's size has no line feed
 size_no_feed : (rows columns : ℕ) → HasNoFeed (size_line rows columns)
 unfolding size_line
 size_no_feed rows columns =
@@ -79,6 +81,7 @@ size_no_feed rows columns =
     (tested_no_feed (codes " ") refl))
     (decimal_no_feed columns)
 
+-- where a way's line reads REDUCED and a size, what follows this line is what follows the way's
 behind_size : (way : Way ℚ) (rest size other : List ℕ) → HasNoFeed size →
     way_line way ++ rest ≡ codes "REDUCED " ++ size ++ 10 ∷ other → rest ≡ other
 unfolding size_line

@@ -88,15 +88,18 @@ printed_has_no d l (b ∷ w) h =
     let low : 33 ≤ b = leb-true 33 b q.0 in
     All-cons (λ x. x ≢ d) b w (λ e. omega (arith, e, low, l)) (printed_has_no d l w p.1)
 
+-- the text of a number of at most 127 bits has no byte d, where d is at most 32
 number_has_no : (d : ℕ) → d ≤ 32 → (v : ℚ) → IsNarrow v → HasNo d (number_text v)
 number_has_no d l v h = printed_has_no d l (number_text v) (number_word v h.top h.bottom).printable
 
+-- the text of an end of at most 127 bits has no byte d, where d is at most 32
 end_has_no : (d : ℕ) → d ≤ 32 → (end : Option ℚ) → NarrowBound end → HasNo d (end_text end)
 end_has_no d l None h = printed_has_no d l (codes "NONE") refl
 end_has_no d l (Some v) h = number_has_no d l v h
 
 -- ---- the texts of a range
 
+-- the text of an end of at most 127 bits says the end
 end_said : (end : Option ℚ) (text : List ℕ) → NarrowBound end → end_text end ≡ text → SaysEnd text end
 end_said None text h e = sym e
 end_said (Some v) text h e = ap number_of (sym e) ∙ read_back v h
@@ -114,6 +117,7 @@ line_with low high slope behind = codes "RANGE " ++ low ++ codes " " ++ high ++ 
 abbrev numbers_with : List ℕ → List ℕ → List ℕ → List ℕ → List ℕ
 numbers_with low high slope behind = low ++ codes " " ++ high ++ codes " SLOPE " ++ slope ++ 10 ∷ behind
 
+-- the text of two ends, a slope and more is the same, grouped at its two spaces
 grouped : (low high slope behind : List ℕ) →
     numbers_with low high slope behind ≡ low ++ 32 ∷ (high ++ 32 ∷ (codes "SLOPE " ++ (slope ++ 10 ∷ behind)))
 grouped low high slope behind =
@@ -122,9 +126,11 @@ grouped low high slope behind =
     ∙ append_assoc (low ++ codes " ") high (codes " SLOPE " ++ (slope ++ 10 ∷ behind))
     ∙ append_assoc low (codes " ") (high ++ (codes " SLOPE " ++ (slope ++ 10 ∷ behind)))
 
+-- two texts are the same where they are so behind the word RANGE
 behind_word : (x y : List ℕ) → codes "RANGE " ++ x ≡ codes "RANGE " ++ y → x ≡ y
 behind_word x y e = cc
 
+-- two texts are the same where they are so behind the word SLOPE
 behind_slope : (x y : List ℕ) → codes "SLOPE " ++ x ≡ codes "SLOPE " ++ y → x ≡ y
 behind_slope x y e = cc
 
@@ -160,6 +166,7 @@ texts_said r low high slope more behind n in_low in_high in_slope e =
       says_slope = ap number_of (sym three.0) ∙ read_back r.slope n.slope;
     }
 
+-- where the line of a range is that of three texts, the texts say its ends and its slope
 line_said : (r : Range ℚ) (low high slope behind : List ℕ) → NarrowRange r → HasNo 32 low → HasNo 32 high → HasNo 10 slope →
     range_line r ≡ line_with low high slope behind → SaysNumbers r low high slope
 unfolding range_line
@@ -250,12 +257,14 @@ module _ (moved : Moved) (name : Name) (m : Model) (n : IsNarrowModel m) (at : �
 
 -- ---- what is written
 
+-- what `range` writes of the end of a solve is the line of its answer and then the text of the range
 range_begins : (moved : Moved) (m : Model) (at : ℕ) (solved : ExactSolveEnd) →
     range_lines moved m at solved ≡ answer_text (answer_of opening_budget solved) ++ 10 ∷ range_text moved m at solved
 unfolding range_lines check_line reply_text
 range_begins moved m at solved =
     append_assoc (answer_text (answer_of opening_budget solved)) (10 ∷ []) (range_text moved m at solved)
 
+-- what `range` writes of a model begins with the line of an answer that is shown of the model
 out_answered : (moved : Moved) (m : Model) (at : ℕ) (written : List ℕ) → RangedOut moved m at written →
     IsAnswered m written
 out_answered moved m at written out =

@@ -63,10 +63,12 @@ use Rattle.spec_text_truth.proofs.SidesTexts.{ended_more}
 
 -- ---- whole lines, and what stands behind some of them
 
+-- the text of no lines is empty
 ended_nil : ended_lines [] ≡ []
 unfolding ended_lines
 ended_nil = refl
 
+-- the text of lines is the first line, a line feed, and the text of the other lines
 ended_cons : (line : List ℕ) (lines : List (List ℕ)) → ended_lines (line ∷ lines) ≡ line ++ 10 ∷ ended_lines lines
 unfolding ended_lines
 ended_cons line lines = append_assoc line (10 ∷ []) (ended_lines lines)
@@ -75,10 +77,12 @@ ended_cons line lines = append_assoc line (10 ∷ []) (ended_lines lines)
 abbrev IsSome : List ℕ → Type 0
 IsSome text = text ≡ [] → ⊥
 
+-- a text that is not empty does not end an empty text
 no_text : (before text : List ℕ) → IsSome text → [] ≡ before ++ text → ⊥
 no_text [] text some e = some (sym e)
 no_text (b ∷ before) text some e = let no : ◌≡◌ {A = List ℕ} [] (b ∷ (before ++ text)) = e in cc
 
+-- a text that begins with a line feed is not empty
 fed_some : (text : List ℕ) → IsSome (10 ∷ text)
 fed_some text e = cc
 
@@ -142,16 +146,19 @@ bare (Ok r) =
 bare (Err (stop.Past p)) = past_text p
 bare (Err stop.Singular) = []
 
+-- what is written of a range, unless the basis is singular, is a line and its line feed
 bare_is : (o : Result (Range ℚ) (StartStop ℚ)) → (o ≡ Err stop.Singular → ⊥) → ranged_text o ≡ bare o ++ 10 ∷ []
 unfolding range_line check_line reply_text
 bare_is (Ok r) other = refl
 bare_is (Err (stop.Past p)) other = refl
 bare_is (Err stop.Singular) other = absurd (other refl)
 
+-- the text of an end of a range has no line feed
 end_no_feed : (end : Option ℚ) → HasNo 10 (end_text end)
 end_no_feed None = tested_no_feed (codes "NONE") refl
 end_no_feed (Some v) = fraction_no_feed v
 
+-- the line of a range has no line feed in it
 bare_no_feed : (o : Result (Range ℚ) (StartStop ℚ)) → HasNo 10 (bare o)
 bare_no_feed (Ok r) =
     let low : List ℕ = end_text r.ends.low in
@@ -168,6 +175,7 @@ bare_no_feed (Ok r) =
 bare_no_feed (Err (stop.Past p)) = past_no_feed p
 bare_no_feed (Err stop.Singular) = All-nil (λ b. b ≢ 10)
 
+-- where a name has no line feed, the words of the number with this name have none
 words_no_feed : (moved : Moved) (name : Name) → HasNo 10 name → HasNo 10 (number_words moved name)
 words_no_feed Cost name h =
     both_no_feed (codes "cost " ++ name) (codes " ") (both_no_feed (codes "cost ") name (tested_no_feed (codes "cost ") refl) h)
@@ -176,22 +184,26 @@ words_no_feed RightSide name h =
     both_no_feed (codes "rhs " ++ name) (codes " ") (both_no_feed (codes "rhs ") name (tested_no_feed (codes "rhs ") refl) h)
     (tested_no_feed (codes " ") refl)
 
+-- a text that begins with the words of a number is not empty
 words_some : (moved : Moved) (name text : List ℕ) → IsSome (number_words moved name ++ text)
 words_some Cost name text e = apart 99 0 refl (ap first e)
 words_some RightSide name text e = apart 114 0 refl (ap first e)
 
+-- two texts are the same where they are so behind the word `cost`
 behind_cost : (x y : List ℕ) → codes "cost " ++ x ≡ codes "cost " ++ y → x ≡ y
 behind_cost x y e = cc
 
+-- two texts are the same where they are so behind the word `rhs`
 behind_rhs : (x y : List ℕ) → codes "rhs " ++ x ≡ codes "rhs " ++ y → x ≡ y
 behind_rhs x y e = cc
 
+-- where two names without a space, each with a text behind a space, are the same text, names and texts are the same
 behind_name : (name other x y : List ℕ) → HasNo 32 name → HasNo 32 other →
     (name ++ codes " ") ++ x ≡ (other ++ codes " ") ++ y → (name ≡ other) × (x ≡ y)
 behind_name name other x y h k e =
     cut_at 32 name other x y h k (sym (append_assoc name (codes " ") x) ∙ e ∙ append_assoc other (codes " ") y)
 
--- a name without a blank is read back
+-- where two names without a space begin the same text, each behind a number's word, words and names are the same
 same_words : (moved way : Moved) (name other x y : List ℕ) → HasNo 32 name → HasNo 32 other →
     number_words moved name ++ x ≡ number_words way other ++ y → (moved ≡ way) × (name ≡ other) × (x ≡ y)
 same_words Cost Cost name other x y h k e =
@@ -209,6 +221,7 @@ abbrev count_of : Moved → Model → ℕ
 count_of Cost m = width m
 count_of RightSide m = height m
 
+-- a range, or an operation past its limit, is no singular basis
 never_singular : (o : Result (Range ℚ) (StartStop ℚ)) (r : Range ℚ) →
     (o ≡ Ok r) ⊎ ((p : Past ℚ) × (o ≡ Err (stop.Past p))) → o ≡ Err stop.Singular → ⊥
 never_singular o r (inl e) s = ok_not_err r stop.Singular (sym e ∙ s)
@@ -375,6 +388,7 @@ module _ (m : Model) (h : IsModel m) (n : IsNarrowModel m) (moved : Moved) (valu
   end_says solved is (outcome.Past p) q may e = absurd (apart 80 79 refl (ap first e))
   end_says solved is outcome.Spent q may e = absurd (apart 83 79 refl (ap first e))
 
+-- what `range all` writes of the end of a solve is the line of its answer and then the ranges
 ranges_begin : (m : Model) (end : ExactSolveEnd) →
     ranges_lines m end ≡ answer_text (answer_of opening_budget end) ++ 10 ∷ ranges_text m end
 unfolding ranges_lines check_line reply_text

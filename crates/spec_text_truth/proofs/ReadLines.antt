@@ -29,7 +29,7 @@ Lines = List (Line (List ℕ))
 
 -- ---- the lines of bytes
 
--- those that end among the bytes after this beginning of a line, and others
+-- behind a beginning of a line, a text's ended lines stay the same with more bytes behind the text
 goes_on : (line a c : List ℕ) → All (λ b. b ≢ 10) line →
     (more : Lines) × (lines_of (line ++ (a ++ c)) ≡ ended_lines_of (line ++ a) ++ more)
 goes_on line [] c h = (
@@ -77,7 +77,7 @@ lines_begin n bytes more =
 
 -- ---- what they spell
 
--- what lines spell they spell with others behind them
+-- where lines spell a model, they spell it with more lines behind them
 spelled_more : (limits : SizeLimits) (style : Style) (s : State) (n : ℕ) (lines more : Lines) (m : Model) →
     judge limits style s n lines ≡ Spelled m → judge limits style s n (lines ++ more) ≡ Spelled m
 spelled_more limits style s n [] more m e = cc
@@ -96,7 +96,7 @@ pub spells_more : (limits : SizeLimits) (style : Style) (lines more : Lines) (m 
     SpellsWithin limits style lines m → SpellsWithin limits style (lines ++ more) m
 spells_more limits style lines more m e = spelled_more limits style start 1 lines more m e
 
--- the end of the input ends no text
+-- the end of the input ends no text: what lines spell with it, they spell without it
 spelled_before : (limits : SizeLimits) (style : Style) (s : State) (n : ℕ) (lines : Lines) (m : Model) →
     judge limits style s n (lines ++ End ∷ []) ≡ Spelled m → judge limits style s n lines ≡ Spelled m
 unfolding step

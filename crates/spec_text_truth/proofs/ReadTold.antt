@@ -28,9 +28,11 @@ pub record IsFirst (told : List Told) (line rest : List ℕ) : Type 0 where
   pub later : All IsFramed more
   pub goes_on : ended_lines one.behind ++ told_out Alone more ≡ rest
 
+-- a text that begins with a byte is not empty
 no_byte : (b : ℕ) (bytes : List ℕ) → ◌≡◌ {A = List ℕ} [] (b ∷ bytes) → ⊥
 no_byte b bytes e = cc
 
+-- an empty text does not begin with a line
 no_line : (line rest : List ℕ) → [] ≡ line ++ 10 ∷ rest → ⊥
 no_line [] rest e = no_byte 10 rest e
 no_line (b ∷ line) rest e = no_byte b (line ++ 10 ∷ rest) e
@@ -54,7 +56,7 @@ first_told (x ∷ told) line rest framed plain e =
 
 -- ---- the lines behind it
 
--- none, where its line begins with another letter than such a word
+-- where a line begins with another letter than the words that announce lines, none stand behind it
 none_behind : (x : Told) (line : List ℕ) → IsFramed x → x.line ≡ line → counts (first line) ≡ false → x.behind ≡ []
 none_behind x line framed is other = by framed.counted
   where
@@ -76,6 +78,7 @@ alone_told told line rest other f =
 
 -- ---- as many as a digit says
 
+-- digits put before a text make it no shorter
 longer : (k n : ℕ) (acc : List ℕ) → length acc ≤ length (digits_onto k 10 false n acc)
 longer zero n acc = omega arith
 longer (suc k) n acc = by (nat_eq (n / 10) 0) (longer k (n / 10) (digit_glyph false (n % 10) ∷ acc))
@@ -87,6 +90,7 @@ longer (suc k) n acc = by (nat_eq (n / 10) 0) (longer k (n / 10) (digit_glyph fa
     by true l = omega arith
     by false l = omega (arith, l)
 
+-- at least one digit put before a text makes it longer
 two_digits : (k n : ℕ) (acc : List ℕ) → suc (length acc) ≤ length (digits_onto (suc k) 10 false n acc)
 two_digits k n acc = by (nat_eq (n / 10) 0) (longer k (n / 10) (digit_glyph false (n % 10) ∷ acc))
   where
@@ -97,6 +101,7 @@ two_digits k n acc = by (nat_eq (n / 10) 0) (longer k (n / 10) (digit_glyph fals
     by true l = omega arith
     by false l = l
 
+-- where the glyph of a digit is `4`, the digit is 4
 glyph_four : (d : ℕ) → digit_glyph false d ≡ 52 → d ≡ 4
 glyph_four d = by (nat_lt d 10)
   where

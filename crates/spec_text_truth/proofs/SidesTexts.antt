@@ -58,6 +58,7 @@ abbrev Stands : Model → Bool → ℕ → Type 0
 Stands m true k = k < height m
 Stands m false k = k < width m
 
+-- a number below the count of rows, or of columns, is that of a row, or of a column
 stands : (m : Model) (r : Bool) (k : ℕ) → k < cond r (height m) (width m) → Stands m r k
 stands m true k l = l
 stands m false k l = l
@@ -65,6 +66,7 @@ stands m false k l = l
 abbrev SameWay : Model → Bool → Bool → Bool → Bool → ℕ → ℕ → Type 0
 SameWay m r q u v k j = (r ≡ q) × (u ≡ v) × (name_at m r k ≡ name_at m r j)
 
+-- where the lines of two sides are the same, both are of rows or of columns, at the same end, with the same name
 same_way : (m : Model) (r q u v : Bool) (k j : ℕ) → line_by m r u k ≡ line_by m q v j → SameWay m r q u v k j
 same_way m true true true true k j e = let same : (row m k).name ≡ (row m j).name = cc in (refl, refl, same)
 same_way m true true false false k j e = let same : (row m k).name ≡ (row m j).name = cc in (refl, refl, same)
@@ -77,7 +79,7 @@ same_way m false false false true k j e = absurd (apart 76 85 refl (ap (λ t. ge
 same_way m true false u v k j e = absurd (apart 82 67 refl (ap first e))
 same_way m false true u v k j e = absurd (apart 67 82 refl (ap first e))
 
--- a name stands in one place
+-- in a model that may be kept, two rows or two columns with the same name are in the same place
 same_place : (m : Model) → IsModel m → (r : Bool) (k j : ℕ) → Stands m r k → Stands m r j →
     name_at m r k ≡ name_at m r j → k ≡ j
 same_place m h true k j l i e =
@@ -88,12 +90,14 @@ same_place m h false k j l i e =
 abbrev side : Bool → ℕ → Bool → Side
 side r k u = record { row = r; at = k; upper = u }
 
+-- two sides of the same row or column at the same end are the same
 joined : (s t : Side) → s.row ≡ t.row → s.at ≡ t.at → s.upper ≡ t.upper → s ≡ t
 joined s t a b c = by s.row t.row s.at t.at s.upper t.upper a b c
   where
     by : (r q : Bool) (k j : ℕ) (u v : Bool) → r ≡ q → k ≡ j → u ≡ v → side r k u ≡ side q j v
     by r q k j u v e f g = cc
 
+-- two sides of a model that may be kept are the same where their lines are
 same_side : (m : Model) → IsModel m → (s t : Side) → IsSide m s → IsSide m t → side_line m s ≡ side_line m t → s ≡ t
 unfolding side_line
 same_side m h s t a b e =
@@ -103,6 +107,7 @@ same_side m h s t a b e =
 
 -- ---- it is one line
 
+-- the name of a row or column of a model that may be kept has no line feed
 name_no_feed : (m : Model) → IsModel m → (r : Bool) (k : ℕ) → Stands m r k → HasNo 10 (name_at m r k)
 name_no_feed m h true k l =
     printed_has_no 10 (omega arith) (row m k).name (row_name_word (row m k).name (h.rows k no_row l)).printable
@@ -110,6 +115,7 @@ name_no_feed m h false k l =
     printed_has_no 10 (omega arith) (column m k).name
     (name_word (column m k).name (h.columns k no_column l).name).printable
 
+-- where a name has no line feed, the line of a side with this name has none
 words_no_feed : (r u : Bool) (name : List ℕ) → HasNo 10 name → HasNo 10 (kind_word r ++ end_word u ++ name)
 words_no_feed r u name h =
     both_no_feed (kind_word r ++ end_word u) name (by r u) h
@@ -120,6 +126,7 @@ words_no_feed r u name h =
     by false true = tested_no_feed (codes "COLUMN UPPER ") refl
     by false false = tested_no_feed (codes "COLUMN LOWER ") refl
 
+-- the line of a side of a model that may be kept has no line feed
 side_no_feed : (m : Model) → IsModel m → (s : Side) → IsSide m s → HasNo 10 (side_line m s)
 unfolding side_line
 side_no_feed m h s a =
@@ -128,6 +135,7 @@ side_no_feed m h s a =
 
 -- ---- lines of sides
 
+-- the text of lines with more behind it is the first line, a line feed, and the other lines with more behind them
 pub ended_more : (line : List ℕ) (lines : List (List ℕ)) (more : List ℕ) →
     ended_lines (line ∷ lines) ++ more ≡ line ++ 10 ∷ (ended_lines lines ++ more)
 unfolding ended_lines
@@ -135,7 +143,7 @@ ended_more line lines more =
     append_assoc (line ++ 10 ∷ []) (ended_lines lines) more
     ∙ append_assoc line (10 ∷ []) (ended_lines lines ++ more)
 
--- as many lines are those of no other sides
+-- where as many other sides have the same lines, they are the same sides
 sides_read : (m : Model) → IsModel m → (sides others : List Side) (more rest : List ℕ) → All (IsSide m) sides →
     All (IsSide m) others → length others ≡ length sides →
     ended_lines (map (side_line m) sides) ++ more ≡ ended_lines (map (side_line m) others) ++ rest → others ≡ sides
@@ -168,6 +176,7 @@ behind_sides m sides cert points =
 abbrev counted : List ℕ → List ℕ → List ℕ
 counted count behind = codes "INFEASIBLE" ++ 10 ∷ (codes "IIS " ++ count ++ 10 ∷ behind)
 
+-- the text of sides that were found is `INFEASIBLE`, their count, their lines, and what is behind them
 found_begins : (m : Model) (sides : List Side) (cert : Certificate (List ℚ)) (points : List (List ℚ)) →
     ended_lines (found_lines m sides cert points)
     ≡ counted (decimal (length sides)) (ended_lines (map (side_line m) sides) ++ behind_sides m sides cert points)
@@ -186,12 +195,12 @@ found_begins m sides cert points =
     (append_assoc (decimal (length sides)) (10 ∷ [])
     (ended_lines lines ++ behind_sides m sides cert points))
 
--- no point is feasible, from whose certificate a set of sides is reached
+-- where a set of sides is reached, a certificate shows that no point of the model is feasible
 reached_shown : (m : Model) (sides : List Side) → IsReached m opening_budget sides → IsShown m known.Infeasible
 reached_shown m sides r =
     answer_shown m opening_budget (outcome.Ended known.Infeasible r.certificate r.basis r.pivots) r.ends.may_answer
 
--- its first line is that of an answer
+-- what `iis` writes of what may be found begins with the line of an answer that is shown of the model
 found_answered : (m : Model) (found : ExactIis) (written : List ℕ) → MayFind m opening_budget found →
     written ≡ ended_lines (iis_lines m found) → IsAnswered m written
 unfolding ended_lines found_lines
@@ -217,11 +226,13 @@ found_answered m (Stopped end) written may e =
       shown = reached_shown m may.sides may.reached;
     }
 
+-- what `iis` writes of a model begins with the line of an answer that is shown of the model
 out_answered : (m : Model) (written : List ℕ) → IisOut (Ok m) written → IsAnswered m written
 out_answered m written out = found_answered m out.0 written out.1 out.2
 
 -- ---- the sides
 
+-- two texts are the same where they are so behind the line `INFEASIBLE` and the word IIS
 behind_iis : (x y : List ℕ) →
     codes "INFEASIBLE" ++ 10 ∷ (codes "IIS " ++ x) ≡ codes "INFEASIBLE" ++ 10 ∷ (codes "IIS " ++ y) → x ≡ y
 behind_iis x y e = cc

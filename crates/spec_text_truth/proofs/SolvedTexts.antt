@@ -54,6 +54,7 @@ out_answered m written out =
 pub same_said : (a b : TextSaid) → ◌≡◌ {A = Option TextSaid} (Some a) (Some b) → a ≡ b
 same_said a b e = cc
 
+-- `solve` writes of a text that spells a model first the line of an answer that is shown of the model
 answered : (style : Style) (lines : List (Line (List ℕ))) (m : Model) (what : TextSaid) (written : List ℕ) →
     text_said style lines ≡ Some what → SolveOut what written → Spells style lines m → IsAnswered m written
 answered style lines m what written is out spells =

@@ -28,7 +28,7 @@ told_of x = told_by (asking_of (asked_in x)) x.reply
 
 -- ---- steps
 
--- OK alone has its text
+-- a reply to an edit makes the edit where its text is `OK`, and keeps the session's model otherwise
 change_told : (held : Option Model) (e : ExactEdit) (replied : ExactReply) →
     after_change held e replied ≡ cond (same (reply_text replied) (codes "OK")) (after_edit held e) held
 unfolding reply_text
@@ -50,7 +50,7 @@ change_told held e reply.Bye = refl
 change_told held e reply.Memory = refl
 change_told held e (reply.Refused why) = refl
 
--- for a model of a text, and for QUIT, memory never runs out
+-- after a text that spells a model the session has this model, whatever the reply is
 loaded_told : (places : ℕ) (old new : State) (m : Model) (reads : List ExactRead) (replied : ExactReply) →
     AloneStep places old (ask.Loaded m) reads replied new → new.model ≡ Some m
 loaded_told places old new m reads replied s = by s.begins
@@ -60,6 +60,7 @@ loaded_told places old new m reads replied s = by s.begins
         let g = subst (λ b. GoesOn places old b reads replied new) e s.goes_on in ap (λ (s : State). s.model) g.2
     by (inr e) = let z : false ≡ true = e.0 in cc
 
+-- after QUIT the session has no model
 quit_told : (places : ℕ) (old new : State) (reads : List ExactRead) (replied : ExactReply) →
     AloneStep places old (ask.Plain command.Quit) reads replied new → new.model ≡ None
 quit_told places old new reads replied s = by s.begins
@@ -69,6 +70,7 @@ quit_told places old new reads replied s = by s.begins
         let g = subst (λ b. GoesOn places old b reads replied new) e s.goes_on in ap (λ (s : State). s.model) g.2
     by (inr e) = let z : false ≡ true = e.0 in cc
 
+-- after a step the session has the model that the ask's effect makes by the text of the reply
 step_told : (places : ℕ) (old new : State) (asked : ExactAsk) (reads : List ExactRead) (replied : ExactReply) →
     AloneStep places old asked reads replied new →
     new.model ≡ effect_of asked old.model (reply_text replied)
@@ -93,6 +95,7 @@ step_told places old new (ask.Bad why) reads replied s = step_then places old ne
 abbrev after_lines : Option Model → List Told → Option Model
 after_lines held told = fold (λ held (x : Told). x.asked.effect held x.line) held told
 
+-- after a run the session has the model that the effects make by the lines told of its exchanges
 run_told : (places : ℕ) (old new : State) (xs : List Exchange) (held : Option Model) → old.model ≡ held →
     AloneRun places old xs new → new.model ≡ after_lines held (map told_of xs)
 run_told places old new [] held is run = ap (λ (s : State). s.model) run ∙ is
@@ -102,7 +105,7 @@ run_told places old new (x ∷ xs) held is run =
     ∙ ap (λ h. effect_of x.ask h (reply_text x.reply)) is)
     run.2
 
--- what is told of a session is told of its exchanges
+-- what is told of one session is told of the exchanges of this session
 of_told : (session : ℕ) (xs : List Exchange) →
     filter (λ (x : Told). nat_eq x.asked.session session) (map told_of xs) ≡ map told_of (of_session session xs)
 of_told session [] = refl
@@ -116,6 +119,7 @@ of_told session (x ∷ xs) = by (nat_eq x.session session) (of_told session xs)
     by true e = ap (λ told. told_of x ∷ told) e
     by false e = e
 
+-- after its exchanges of a run a session has the model that is told of it
 pub told_then : (places session : ℕ) (xs : List Exchange) (last : State) →
     AloneRun places opening (of_session session xs) last → last.model ≡ model_told session (map told_of xs)
 told_then places session xs last run =

@@ -65,6 +65,7 @@ abbrev pub lines_in : List ℕ → List (List ℕ)
 lines_in [] = []
 lines_in (b ∷ bs) = cond (nat_eq b 10) ([] ∷ lines_in bs) (onto_first b (lines_in bs))
 
+-- a test tells a byte that is no line feed from one
 not_feed : (b : ℕ) → b ≢ 10 → nat_eq b 10 ≡ false
 not_feed b h = by (nat_eq b 10) refl
   where
@@ -72,6 +73,7 @@ not_feed b h = by (nat_eq b 10) refl
     by true e = absurd (h (eqb-true b 10 e))
     by false e = e
 
+-- the lines in a text that begins with a line are this line and those in the rest
 lines_in_line : (line more : List ℕ) → HasNoFeed line → lines_in (line ++ 10 ∷ more) ≡ line ∷ lines_in more
 lines_in_line [] more h = refl
 lines_in_line (b ∷ line) more h =
@@ -79,6 +81,7 @@ lines_in_line (b ∷ line) more h =
     ap (λ t. cond t ([] ∷ rest) (onto_first b rest)) (not_feed b (All-head (λ b. b ≢ 10) b line h))
     ∙ ap (onto_first b) (lines_in_line line more (All-tail (λ b. b ≢ 10) b line h))
 
+-- the lines in the text of lines without a line feed are these lines
 lines_in_ended : (lines : List (List ℕ)) → All HasNoFeed lines → lines_in (ended_lines lines) ≡ lines
 unfolding ended_lines
 lines_in_ended [] h = refl
@@ -87,6 +90,7 @@ lines_in_ended (line ∷ lines) h =
     ∙ lines_in_line line (ended_lines lines) (All-head HasNoFeed line lines h)
     ∙ ap (λ ls. line ∷ ls) (lines_in_ended lines (All-tail HasNoFeed line lines h))
 
+-- a text that begins with a line has one line more than the rest
 count_line : (line more : List ℕ) → HasNoFeed line → count_of_lines (line ++ 10 ∷ more) ≡ suc (count_of_lines more)
 unfolding count_of_lines
 count_line [] more h = refl
@@ -95,6 +99,7 @@ count_line (b ∷ line) more h =
     ap (λ (t : Bool). length (cond t (b ∷ rest) rest)) (not_feed b (All-head (λ b. b ≢ 10) b line h))
     ∙ count_line line more (All-tail (λ b. b ≢ 10) b line h)
 
+-- the text of lines without a line feed has as many lines
 count_ended : (lines : List (List ℕ)) → All HasNoFeed lines → count_of_lines (ended_lines lines) ≡ length lines
 unfolding ended_lines count_of_lines
 count_ended [] h = refl
@@ -136,6 +141,7 @@ announced_first line more (inl e) = ap (λ (l : List ℕ). counts (first l)) e
 announced_first line more (inr (inl e)) = ap (λ (l : List ℕ). counts (first l)) e
 announced_first line more (inr (inr e)) = ap (λ (l : List ℕ). counts (first l)) e
 
+-- the text of an answer begins with no letter that announces lines
 answer_counts : (what : Answer ℚ) → counts (first (answer_text what)) ≡ false
 answer_counts (answer.Known (known.Optimal v)) = refl
 answer_counts (answer.Known known.Infeasible) = refl
@@ -143,6 +149,7 @@ answer_counts (answer.Known known.Unbounded) = refl
 answer_counts (answer.Past p) = refl
 answer_counts (answer.Spent budget) = refl
 
+-- the text of a verdict begins with no letter that announces lines
 verdict_counts : (what : Verdict ℚ) → counts (first (verdict_text what)) ≡ false
 verdict_counts (verdict.Yes what) = refl
 verdict_counts (verdict.No n) = refl
@@ -201,6 +208,7 @@ module _ (asked : Asking) where
   pub reply_framed : (replied : ExactReply) → IsPlainReply replied → IsListed replied → IsFramed (told_by asked replied)
   reply_framed replied plain h = by_lines replied (reply_no_feed replied plain) h
 
+-- where a reply is of lines, the bytes behind its line are the text of its lines behind that
 behind_is : (replied : ExactReply) → IsListed replied → lines_behind replied ≡ ended_lines (behind_of replied)
 unfolding ended_lines
 behind_is (reply.Written text) h = h.is_of ∙ ap ended_lines (sym (ap lines_in h.is_of ∙ lines_in_ended h.lines h.plain))
@@ -224,10 +232,11 @@ reply_lines_told addressing session replied h =
 
 -- ---- lines of printed bytes
 
+-- lines of printed bytes have no line feed
 plain_no_feed : (lines : List (List ℕ)) → All IsPlainLine lines → All HasNoFeed lines
 plain_no_feed lines h = λ i d l. printed_no_feed (get_or lines i d) (h i d l).plain
 
--- the text of a model that may be kept
+-- the text of a model that may be kept is that of lines without a line feed
 cards_are_lines : (form : Style) (m : Model) → IsModel m → AreOfLines (cards_text form (cards_of m))
 unfolding ended_lines
 cards_are_lines form m kept = record {
@@ -240,6 +249,7 @@ cards_are_lines form m kept = record {
 
 -- ---- the replies of a session
 
+-- where the model of a session is usual, the reply to WRITE is of lines
 write_listed : (held : Option Model) (form : Style) → IfSome held IsUsualModel → IsListed (write_reply held form)
 unfolding free fixed
 write_listed None form kept = tt
@@ -250,6 +260,7 @@ write_listed (Some m) style.Fixed kept = by (too_wide m)
     by None = cards_are_lines style.Fixed m kept.0
     by (Some item) = tt
 
+-- the lines of an answer's certificate for a model that may be kept have no line feed
 solved_listed : (m : Model) (budget : ℕ) (end : ExactSolveEnd) → IsModel m → MayAnswer m budget end →
     All HasNoFeed (lines_of_solved m end)
 solved_listed m budget (outcome.Ended known cert basis pivots) kept may =
@@ -257,12 +268,14 @@ solved_listed m budget (outcome.Ended known cert basis pivots) kept may =
 solved_listed m budget (outcome.Past p) kept may = All-nil HasNoFeed
 solved_listed m budget outcome.Spent kept may = All-nil HasNoFeed
 
+-- where the model of a session is usual and the last answer fits it, the reply to CERT is of lines
 cert_listed : (held : Option Model) (last : Option ExactLastAnswer) → IfSome held IsUsualModel → LastFits held last →
     IsListed (cert_reply held last)
 cert_listed None last kept fits = tt
 cert_listed (Some m) None kept fits = tt
 cert_listed (Some m) (Some last) kept fits = solved_listed m fits.0 last.solved kept.0 fits.1
 
+-- the lines of a wide solve of a model that may be kept have no line feed
 wide_listed : (m : Model) (budget : ℕ) (end : RationalEnd) → IsModel m → IsExactEnd m budget None end →
     All HasNoFeed (wide_lines m end)
 wide_listed m budget (Answered a) kept h =
@@ -271,19 +284,23 @@ wide_listed m budget (Answered a) kept h =
 wide_listed m budget Open kept h =
     All-cons HasNoFeed (codes "OPEN") [] (tested_no_feed (codes "OPEN") refl) (All-nil HasNoFeed)
 
+-- the reply to HOW is of lines
 how_listed : (last : Option ExactLastAnswer) → IsListed (how_reply last)
 how_listed None = tt
 how_listed (Some last) = tt
 
+-- the reply with a verdict on a certificate is of lines
 verdict_listed : (m : Model) (r : Settled (Certificate (List ℚ))) → IsListed (verdict_on m r)
 verdict_listed m (Ok cert) = tt
 verdict_listed m (Err (settle.UnknownName name)) = tt
 verdict_listed m (Err (settle.Repeated name)) = tt
 
+-- the reply to CHECK is of lines
 check_listed : (held : Option Model) (raw : ExactRaw) → IsListed (check_reply held raw)
 check_listed None raw = tt
 check_listed (Some m) raw = verdict_listed m (certificate_for m raw)
 
+-- the reply that refuses an edit is of lines
 refusal_listed : (why : EditFault Name) → IsListed (edit_refusal why)
 refusal_listed (fault.UnknownName name) = tt
 refusal_listed (fault.Taken name) = tt

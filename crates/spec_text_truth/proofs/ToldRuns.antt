@@ -45,6 +45,8 @@ use Rattle.spec_text_truth.proofs.WideReplies.{line_no_feed, line_is_true}
 use Rattle.spec_text_truth.proofs.ToldModels.{told_of, told_then}
 
 -- ---- a session before an exchange
+
+-- where all asks of exchanges may be kept, so may those of the first exchanges
 front_kept : (before behind : List Exchange) → AreKept (map asked_in (before ++ behind)) → AreKept (map asked_in before)
 front_kept [] behind may = All-nil (λ (a : Asked ExactAsk). IsKeptAsk a.ask)
 front_kept (x ∷ before) behind may =
@@ -53,6 +55,7 @@ front_kept (x ∷ before) behind may =
     (front_kept before behind
     (All-tail (λ (a : Asked ExactAsk). IsKeptAsk a.ask) (asked_in x) (map asked_in (before ++ behind)) may))
 
+-- where all asks of exchanges may be kept, so may those of one session
 session_kept : (session : ℕ) (xs : List Exchange) → AreKept (map asked_in xs) →
     AreKept (map asked_in (of_session session xs))
 session_kept session [] may = may
@@ -74,6 +77,7 @@ record IsReached (places : ℕ) (before : List Exchange) (x : Exchange) : Type 0
   run : AloneRun places opening (of_session x.session before) old
   step : AloneStep places old x.ask x.reads x.reply new
 
+-- each exchange of a run of sessions is a step from the state that its session's earlier exchanges lead to
 reached : (places : ℕ) (before behind : List Exchange) (x : Exchange) → RunAlone places (before ++ x ∷ behind) →
     IsReached places before x
 reached places before behind x alone =
@@ -86,6 +90,7 @@ reached places before behind x alone =
     (subst (λ (ys : List Exchange). AloneRun places opening ys run.0) cut run.1) in
     record { old = parts.middle; new = parts.second.0; run = parts.first; step = parts.second.1 }
 
+-- an empty text does not begin with a line
 no_line : (line rest : List ℕ) → [] ≡ line ++ 10 ∷ rest → ⊥
 no_line [] rest e = cc
 no_line (b ∷ line) rest e = cc
@@ -183,6 +188,7 @@ record IsToldAt (xs : List Exchange) (before behind : List Told) (t : Told) : Ty
   before_is : map told_of front ≡ before
   is_told : told_of last ≡ t
 
+-- what is told at a place of exchanges is told one place later with one exchange more before them
 more_at : (x : Exchange) (xs : List Exchange) (u : Told) (before behind : List Told) (t : Told) → told_of x ≡ u →
     IsToldAt xs before behind t → IsToldAt (x ∷ xs) (u ∷ before) behind t
 more_at x xs u before behind t same r = record {
@@ -194,6 +200,7 @@ more_at x xs u before behind t same r = record {
   is_told = r.is_told;
 }
 
+-- where a list of what is told is cut at an element, the exchanges are cut at the one that it is told of
 told_at : (xs : List Exchange) (before behind : List Told) (t : Told) → map told_of xs ≡ before ++ t ∷ behind →
     IsToldAt xs before behind t
 told_at [] [] behind t e = cc
@@ -206,7 +213,7 @@ told_at (x ∷ xs) (u ∷ before) behind t e =
     let more : map told_of xs ≡ before ++ t ∷ behind = cc in
     more_at x xs u before behind t same (told_at xs before behind t more)
 
--- what holds of each exchange behind others
+-- where P holds of each exchange of a list, wherever the list is cut, P holds of all its last exchanges
 each_from : (P : Exchange → Type 0) (all front xs : List Exchange) → all ≡ front ++ xs →
     ((before behind : List Exchange) (x : Exchange) → all ≡ before ++ x ∷ behind → P x) → All P xs
 each_from P all front [] e h = All-nil P
@@ -214,6 +221,7 @@ each_from P all front (x ∷ xs) e h =
     All-cons P x xs (h front xs x e)
     (each_from P all (front ++ x ∷ []) xs (e ∙ sym (append_assoc front (x ∷ []) xs)) h)
 
+-- where replies are of lines, the lines that sessions write are the output of what is told of their exchanges
 out_told : (addressing : Addressing) (xs : List Exchange) → All (λ x. IsListed x.reply) xs →
     flat_map (λ x. reply_lines addressing x.session x.reply) xs ≡ told_out addressing (map told_of xs)
 out_told addressing [] h = refl
@@ -222,16 +230,18 @@ out_told addressing (x ∷ xs) h =
     (reply_lines_told addressing x.session x.reply (All-head (λ (x : Exchange). IsListed x.reply) x xs h))
     (out_told addressing xs (All-tail (λ (x : Exchange). IsListed x.reply) x xs h))
 
+-- what is asked in what is told of exchanges is the effects of the exchanges' asks
 asked_told : (xs : List Exchange) → map (λ (x : Told). x.asked) (map told_of xs) ≡ map asking_of (map asked_in xs)
 asked_told [] = refl
 asked_told (x ∷ xs) = ap (λ asked. asking_of (asked_in x) ∷ asked) (asked_told xs)
 
--- what holds of all holds of the first of them, and of one of them
+-- what holds of all asks of a list holds of its first asks
 first_all : (P : Asked ExactAsk → Type 0) (first later : List (Asked ExactAsk)) → All P (first ++ later) → All P first
 first_all P [] later h = All-nil P
 first_all P (a ∷ first) later h =
     All-cons P a first (All-head P a (first ++ later) h) (first_all P first later (All-tail P a (first ++ later) h))
 
+-- where the asks of a run have no name with a line feed, the ask of one exchange has none
 asked_at : (before behind : List Exchange) (x : Exchange) → ArePlainAsks (map asked_in (before ++ x ∷ behind)) →
     IsPlainAsk x.ask
 asked_at [] behind x h = All-head (λ (a : Asked ExactAsk). IsPlainAsk a.ask) (asked_in x) (map asked_in behind) h
@@ -241,7 +251,7 @@ asked_at (y ∷ before) behind x h =
 
 -- ---- the whole
 
--- what is told of the first asks is told of the first effects
+-- where exchanges are of the first asks of bytes, what is told of them is of the first effects
 first_told : (addressing : Addressing) (xs : List Exchange) (bytes : List ℕ) →
     AreFirstOf (map asked_in xs) (asks_from addressing Between (lines_of bytes)) →
     AreFirstOf (map (λ (x : Told). x.asked) (map told_of xs)) (asked_from addressing Between (lines_of bytes))
@@ -252,6 +262,7 @@ first_told addressing xs bytes (later, asks) = (
       ∙ ap (λ (asked : List Asking). asked ++ map asking_of later) (sym (asked_told xs)),
 )
 
+-- where exchanges are of the first asks of an input, what is told of them is of the input's first effects
 told_of_all : (addressing : Addressing) (after : Option (List ℕ)) (read : List ℕ) (xs : List Exchange) →
     HoldsOfAll after read (λ bytes. AreFirstOf (map asked_in xs) (asks_from addressing Between (lines_of bytes))) →
     HoldsOfAll after read
@@ -259,14 +270,14 @@ told_of_all : (addressing : Addressing) (after : Option (List ℕ)) (read : List
 told_of_all addressing after read xs (inl (at_end, first)) = inl (at_end, first_told addressing xs read first)
 told_of_all addressing after read xs (inr always) = inr λ more. first_told addressing xs (read ++ more) (always more)
 
--- they are the first asks of some bytes
+-- exchanges that are of the first asks of an input are of the first asks of some bytes
 first_of_some : (addressing : Addressing) (after : Option (List ℕ)) (read : List ℕ) (xs : List Exchange) →
     HoldsOfAll after read (λ bytes. AreFirstOf (map asked_in xs) (asks_from addressing Between (lines_of bytes))) →
     (bytes : List ℕ) × AreFirstOf (map asked_in xs) (asks_from addressing Between (lines_of bytes))
 first_of_some addressing after read xs (inl (at_end, first)) = (read, first)
 first_of_some addressing after read xs (inr always) = (read ++ [], always [])
 
--- replies to the first asks of the lines of the input
+-- in a run of the first asks of an input's lines, the replies are true
 pub replies_true : (places : ℕ) (addressing : Addressing) (after : Option (List ℕ)) (read : List ℕ) (xs : List Exchange) →
     RunAlone places xs →
     HoldsOfAll after read (λ bytes. AreFirstOf (map asked_in xs) (asks_from addressing Between (lines_of bytes))) →

@@ -37,23 +37,27 @@ pub tail_no_feed : (a b : List ℕ) → HasNoFeed (a ++ b) → HasNoFeed b
 tail_no_feed [] b h = h
 tail_no_feed (c ∷ a) b h = tail_no_feed a b (All-tail (λ b. b ≢ 10) c (a ++ b) h)
 
+-- the last digits of a number have no line feed
 digits_no_feed : (d n : ℕ) → HasNoFeed (last_digits d n)
 digits_no_feed zero n = All-nil (λ b. b ≢ 10)
 digits_no_feed (suc d) n =
     All-cons (λ b. b ≢ 10) (48 + n / 10 ^ d % 10) (last_digits d n) (λ e. omega (arith, e)) (digits_no_feed d n)
 
+-- the text of a quotient of two whole numbers has no line feed
 quotient_no_feed : (n den : ℕ) → HasNoFeed (quotient_text n den)
 unfolding quotient_text
 quotient_no_feed n den =
     both_no_feed (decimal n) (47 ∷ decimal den) (decimal_no_feed n)
     (both_no_feed (47 ∷ []) (decimal den) (tested_no_feed (47 ∷ []) refl) (decimal_no_feed den))
 
+-- the text of a number with a decimal point has no line feed
 pointed_no_feed : (d n : ℕ) → HasNoFeed (pointed d n)
 unfolding pointed
 pointed_no_feed d n =
     both_no_feed (decimal (n / 10 ^ d)) (46 ∷ last_digits d n) (decimal_no_feed (n / 10 ^ d))
     (both_no_feed (46 ∷ []) (last_digits d n) (tested_no_feed (46 ∷ []) refl) (digits_no_feed d n))
 
+-- the text of a number with decimal places, or as a quotient, has no line feed
 placed_no_feed : (n den : ℕ) (o : Option ℕ) → HasNoFeed (placed n den o)
 unfolding placed
 placed_no_feed n den None = quotient_no_feed n den
@@ -61,6 +65,7 @@ placed_no_feed n den (Some d) =
     either_no_feed (nat_le (n * (10 ^ d / den)) number_limit) (pointed d (n * (10 ^ d / den))) (quotient_text n den)
     (pointed_no_feed d (n * (10 ^ d / den))) (quotient_no_feed n den)
 
+-- the text of a number without its sign has no line feed
 size_no_feed : (n den : ℕ) → HasNoFeed (size_text n den)
 unfolding size_text
 size_no_feed n den =
@@ -74,6 +79,7 @@ fraction_no_feed q =
     (either_no_feed (int_lt q.num (pos 0)) (45 ∷ []) [] (tested_no_feed (45 ∷ []) refl) (All-nil (λ b. b ≢ 10)))
     (size_no_feed (unsigned_abs q.num) q.den)
 
+-- the text of an operation has no line feed
 op_no_feed : (op : Op) → HasNoFeed (op_text op)
 op_no_feed Add = tested_no_feed (codes "ADD") refl
 op_no_feed Sub = tested_no_feed (codes "SUB") refl

@@ -83,10 +83,12 @@ misspelled_first : (fault : MpsFault) → first (check_line (reply.Refused (refu
 unfolding check_line reply_text
 misspelled_first fault = refl
 
+-- the line of a fault in a text does not begin as one of a known answer
 misspelled_other : (fault : MpsFault) → looks_known (reply_text (reply.Refused (refusal.Misspelled fault))) ≡ false
 unfolding reply_text
 misspelled_other fault = refl
 
+-- the line of a fault in a text has no line feed
 misspelled_no_feed : (fault : MpsFault) → HasNoFeed (reply_text (reply.Refused (refusal.Misspelled fault)))
 unfolding reply_text fault_text
 misspelled_no_feed fault =
@@ -102,12 +104,12 @@ misspelled_no_feed fault =
 
 -- ---- the lines behind the words YES
 
--- it is a line that begins with this letter, if it ends before others
+-- where a text and a line feed begin with a byte that is no line feed, the text begins with this byte
 begins : (a x : List ℕ) (letter : ℕ) → (10 ≡ letter → ⊥) → a ++ 10 ∷ [] ≡ letter ∷ x → first a ≡ letter
 begins [] x letter other e = absurd (other (ap first e))
 begins (b ∷ a) x letter other e = ap first e
 
--- the model of a certified text
+-- lines that spell a model and then a certificate spell this model
 certified_spells : (read : Reading ℚ) (limits : SizeLimits) (style : Style) (lines : Lines) (IsSo : Model → Type 0)
     (c : IsCertifiedBy read limits style lines IsSo) → SpellsWithin limits style lines c.model
 certified_spells read limits style lines IsSo c =
@@ -115,15 +117,18 @@ certified_spells read limits style lines IsSo c =
     ∙ sym c.cut)
     (spells_more limits style (c.front ++ c.last ∷ []) c.behind c.model c.spelled)
 
+-- a reply with a text that begins with Y is a yes to a certificate
 yes_is : (is : ExactReply) (rest : List ℕ) → first (reply_text is) ≡ 89 → (what : Known ℚ) × (is ≡ yes_to what)
 yes_is is rest h = yes_reply is (ap (λ b. nat_eq b 89) h)
 
+-- the wide text of a yes is the word YES and the wide text of what is known
 wide_yes_text : (what : Known ℚ) → wide_reply_text (yes_to what) ≡ codes "YES " ++ wide_known_text what
 unfolding reply_text
 wide_yes_text (known.Optimal v) = refl
 wide_yes_text known.Infeasible = refl
 wide_yes_text known.Unbounded = refl
 
+-- a reply with a wide text that begins with Y is a yes to a certificate
 wide_yes_reply : (is : ExactReply) → first (wide_reply_text is) ≡ 89 → (what : Known ℚ) × (is ≡ yes_to what)
 wide_yes_reply is h = by (valued_or_same is)
   where
@@ -141,6 +146,7 @@ both_parts P (x ∷ a) b h =
     let rest = both_parts P a b (All-tail P x (a ++ b) h) in
     (All-cons P x a (All-head P x (a ++ b) h) rest.0, rest.1)
 
+-- what the texts of a range say by a basis that keeps the model is true of the model
 range_true : (moved : Moved) (name : Name) (m : Model) (value low high slope : List ℕ) →
     SaysRange moved name m value low high slope → IsTrueRange moved name m value low high slope
 range_true moved name m value low high slope s = record {
@@ -156,6 +162,7 @@ range_true moved name m value low high slope s = record {
   optimal = λ t inside. s.is_range.value t (record { lower = inside.lower; upper = inside.upper });
 }
 
+-- what lines say of an irreducible set of sides is true of the model
 sides_true : (m : Model) (count behind : List ℕ) → SaysSides m count behind → AreTrueSides m count behind
 sides_true m count behind s = record {
   sides = s.sides;
@@ -408,6 +415,7 @@ module _ (style : Style) (lines : Lines) (IsOf : Model → Type 0)
 
 -- ---- all of them
 
+-- what a command may write after something was said of its lines is true of the model that they spell
 text_true : (command : ExactTextCommand) (style : Style) (lines : Lines) (IsOf : Model → Type 0) →
     ((m : Model) → SpellsWithin (limits_of command) style lines m → IsOf m) → (written : List ℕ)
     (what : SaidBy command) → said_of command style lines ≡ Some what → MayWrite command what written →
@@ -437,9 +445,11 @@ said_true command style after read written what is out =
 
 -- ---- where nothing is written
 
+-- a text that begins with a byte is not empty
 no_byte : (b : ℕ) (bytes : List ℕ) → ◌≡◌ {A = List ℕ} [] (b ∷ bytes) → ⊥
 no_byte b bytes e = cc
 
+-- an empty text does not begin with a line
 no_line : (line behind : List ℕ) → [] ≡ line ++ 10 ∷ behind → ⊥
 no_line [] behind e = no_byte 10 behind e
 no_line (b ∷ line) behind e = no_byte b (line ++ 10 ∷ behind) e

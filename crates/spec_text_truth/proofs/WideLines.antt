@@ -26,6 +26,7 @@ use Rattle.spec_truth.proofs.ReplyLines.{yes_to, optimal_yes, infeasible_yes, un
 use Rattle.spec_truth.proofs.AnswerLines.{apart}
 use Rattle.spec_text_truth.proofs.CertifiedTexts.{wide_yes_is}
 
+-- where `check --wide` writes a text as a line, the text is that of the reply
 line_of : (is : ExactReply) (text : List ℕ) → wide_check_line is ≡ text ++ 10 ∷ [] → wide_reply_text is ≡ text
 unfolding wide_check_line
 line_of is text e = same_end (wide_reply_text is) text e
@@ -49,6 +50,7 @@ valued_or_same reply.Bye = inr refl
 valued_or_same reply.Memory = inr refl
 valued_or_same (reply.Refused why) = inr refl
 
+-- two texts are the same where they are so behind the words YES OPTIMAL
 behind_optimal : (a b : List ℕ) → codes "YES OPTIMAL " ++ a ≡ codes "YES OPTIMAL " ++ b → a ≡ b
 behind_optimal a b e = cc
 
@@ -58,6 +60,7 @@ not_valued : (v : ℚ) (is : ExactReply) (text : List ℕ) → is ≡ yes_to (kn
 not_valued v is text e letter other begins says =
     other (sym (ap (λ (t : ExactReply). get_or (wide_reply_text t) 4 0) e) ∙ ap (λ t. get_or t 4 0) says ∙ begins)
 
+-- a reply whose wide text is YES OPTIMAL and a text is a yes with the value of this text
 valued : (is : ExactReply) (text : List ℕ) → wide_reply_text is ≡ codes "YES OPTIMAL " ++ text →
     (v : ℚ) × (is ≡ yes_to (known.Optimal v)) × (wide_text v ≡ text)
 valued is text e = by (valued_or_same is)
@@ -70,7 +73,7 @@ valued is text e = by (valued_or_same is)
     by (inl (v, h)) = (v, h, value v h)
     by (inr same) = let y = optimal_yes is text (sym same ∙ e) in (y.0, y.1, value y.0 y.1)
 
--- the text of another yes is that of all replies
+-- where the wide text of a reply has another letter than O behind the word YES, its narrow text is the same
 same_text : (is : ExactReply) (text : List ℕ) (letter : ℕ) → (79 ≡ letter → ⊥) → get_or text 4 0 ≡ letter →
     wide_reply_text is ≡ text → reply_text is ≡ text
 same_text is text letter other begins e = by (valued_or_same is)

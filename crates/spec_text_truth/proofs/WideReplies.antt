@@ -40,14 +40,17 @@ known_no_feed (known.Optimal v) =
 known_no_feed known.Infeasible = tested_no_feed (codes "INFEASIBLE") refl
 known_no_feed known.Unbounded = tested_no_feed (codes "UNBOUNDED") refl
 
+-- the text of a letter has no line feed
 letter_no_feed : (letter : Letter) → HasNoFeed (letter_text letter)
 letter_no_feed X = tested_no_feed (codes "x") refl
 letter_no_feed Y = tested_no_feed (codes "y") refl
 letter_no_feed R = tested_no_feed (codes "r") refl
 
+-- where a text has no line feed, it has none behind a space
 behind_blank : (text : List ℕ) → HasNoFeed text → HasNoFeed (32 ∷ text)
 behind_blank text h = both_no_feed (32 ∷ []) text (tested_no_feed (32 ∷ []) refl) h
 
+-- where a name has no line feed, the lines of a part with this name have none
 part_no_feed : (letter : Letter) (name : Name) (v : ℚ) → HasNoFeed name →
     All HasNoFeed (part_lines_by wide_writing letter name v)
 part_no_feed letter name v h = by (eq_ℚ v 0ℚ)
@@ -61,6 +64,7 @@ part_no_feed letter name v h = by (eq_ℚ v 0ℚ)
         (both_no_feed name (32 ∷ wide_text v) h (behind_blank (wide_text v) (wide_no_feed v)))))
         (All-nil HasNoFeed)
 
+-- where the first n names have no line feed, the lines of the first n values have none
 below_no_feed : (letter : Letter) (names : ℕ → Name) (values : List ℚ) (n : ℕ) →
     ((k : ℕ) → k < n → HasNoFeed (names k)) → All HasNoFeed (lines_below_by wide_writing letter names values n)
 below_no_feed letter names values zero h = All-nil HasNoFeed
@@ -113,18 +117,21 @@ module _ (m : Model) (kept : IsModel m) where
 
 -- ---- what the first of them says
 
+-- where a known answer is true and its text is OPTIMAL and a text, this is that of the optimal value
 optimal_known : (m : Model) (what : Known ℚ) (text : List ℕ) → Holds m what →
     wide_known_text what ≡ codes "OPTIMAL " ++ text → (v : ℚ) × IsWideNumber text v × IsOptimal m v
 optimal_known m (known.Optimal v) text h e = let same : wide_text v ≡ text = cc in (v, sym same, h)
 optimal_known m known.Infeasible text h e = absurd (apart 73 79 refl (ap first e))
 optimal_known m known.Unbounded text h e = absurd (apart 85 79 refl (ap first e))
 
+-- where a known answer is true and its text is `INFEASIBLE`, the model is infeasible
 infeasible_known : (m : Model) (what : Known ℚ) → Holds m what → wide_known_text what ≡ codes "INFEASIBLE" →
     IsInfeasible m
 infeasible_known m (known.Optimal v) h e = absurd (apart 79 73 refl (ap first e))
 infeasible_known m known.Infeasible h e = h
 infeasible_known m known.Unbounded h e = absurd (apart 85 73 refl (ap first e))
 
+-- where a known answer is true and its text is `UNBOUNDED`, the model is unbounded
 unbounded_known : (m : Model) (what : Known ℚ) → Holds m what → wide_known_text what ≡ codes "UNBOUNDED" →
     IsUnbounded m
 unbounded_known m (known.Optimal v) h e = absurd (apart 79 85 refl (ap first e))

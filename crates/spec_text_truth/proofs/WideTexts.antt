@@ -36,6 +36,7 @@ abbrev pub IsRead : Model → List ℕ → Type 0
 IsRead m text =
     (v : ℚ) × (text ≡ wide_text v) × (length text ≤ most_zeros → wide_of text ≡ Is v) × IsOptimal m v
 
+-- where the line of a true answer is OPTIMAL and a text, the text reads as the optimal value
 wide_optimal : (m : Model) (what : Known ℚ) (text x y : List ℕ) → Holds m what → HasNoFeed text →
     wide_known_text what ++ 10 ∷ x ≡ codes "OPTIMAL " ++ text ++ 10 ∷ y → IsRead m text
 wide_optimal m (known.Optimal v) text x y h k e =
@@ -45,12 +46,14 @@ wide_optimal m (known.Optimal v) text x y h k e =
 wide_optimal m known.Infeasible text x y h k e = absurd (apart 73 79 refl (ap first e))
 wide_optimal m known.Unbounded text x y h k e = absurd (apart 85 79 refl (ap first e))
 
+-- where the line of a true answer is `INFEASIBLE`, the model is infeasible
 wide_infeasible : (m : Model) (what : Known ℚ) (x y : List ℕ) → Holds m what →
     wide_known_text what ++ 10 ∷ x ≡ codes "INFEASIBLE" ++ 10 ∷ y → IsInfeasible m
 wide_infeasible m (known.Optimal v) x y h e = absurd (apart 79 73 refl (ap first e))
 wide_infeasible m known.Infeasible x y h e = h
 wide_infeasible m known.Unbounded x y h e = absurd (apart 85 73 refl (ap first e))
 
+-- where the line of a true answer is `UNBOUNDED`, the model is unbounded
 wide_unbounded : (m : Model) (what : Known ℚ) (x y : List ℕ) → Holds m what →
     wide_known_text what ++ 10 ∷ x ≡ codes "UNBOUNDED" ++ 10 ∷ y → IsUnbounded m
 wide_unbounded m (known.Optimal v) x y h e = absurd (apart 79 85 refl (ap first e))
@@ -59,14 +62,17 @@ wide_unbounded m known.Unbounded x y h e = h
 
 -- ---- the line of an open end
 
+-- the line `OPEN` is no line of the word OPTIMAL and a text
 open_optimal : (text y : List ℕ) → ended_lines (codes "OPEN" ∷ []) ≡ codes "OPTIMAL " ++ text ++ 10 ∷ y → ⊥
 unfolding ended_lines
 open_optimal text y e = apart 69 84 refl (ap third e)
 
+-- the line `OPEN` is not the line `INFEASIBLE`
 open_infeasible : (y : List ℕ) → ended_lines (codes "OPEN" ∷ []) ≡ codes "INFEASIBLE" ++ 10 ∷ y → ⊥
 unfolding ended_lines
 open_infeasible y e = apart 69 70 refl (ap third e)
 
+-- the line `OPEN` is not the line `UNBOUNDED`
 open_unbounded : (y : List ℕ) → ended_lines (codes "OPEN" ∷ []) ≡ codes "UNBOUNDED" ++ 10 ∷ y → ⊥
 unfolding ended_lines
 open_unbounded y e = apart 69 66 refl (ap third e)
@@ -91,6 +97,7 @@ module _ (m : Model) (written : List ℕ) where
 
 -- ---- the laws
 
+-- `solve --wide` writes of a text that spells a model the line `OPEN`, or first that of a true answer
 either : (style : Style) (lines : List (Line (List ℕ))) (m : Model) (what : TextSaid) (written : List ℕ) →
     text_said_within large_limits style lines ≡ Some what → SolveWideOut what written → SpellsWithin large_limits style lines m → OpenOrTrue m written
 either style lines m what written is out spells =

@@ -34,6 +34,7 @@ same_end (c ∷ a) (d ∷ b) e =
     let same : a ≡ b = same_end a b rest in
     cc
 
+-- where `check` writes a text as a line, the text is that of the reply
 line_of : (is : ExactReply) (text : List ℕ) → check_line is ≡ text ++ 10 ∷ [] → reply_text is ≡ text
 unfolding check_line
 line_of is text e = same_end (reply_text is) text e
