@@ -24,9 +24,11 @@ use Rattle.spec_server.specs.Output.{ended_lines}
 use Rattle.spec_commands.proofs.PlainLines.{both_short, column_named, row_named}
 use Rattle.spec_commands.proofs.WrittenLengths.{model_fits}
 
+-- how many bytes lines take, each with a line feed
 size : List (List ℕ) → ℕ
 size lines = length (ended_lines lines)
 
+-- lines behind other lines take as many bytes as both take
 size-append : (xs ys : List (List ℕ)) → size (xs ++ ys) ≡ size xs + size ys
 unfolding size ended_lines
 size-append [] ys = omega arith
@@ -36,6 +38,7 @@ size-append (x ∷ xs) ys =
     let r = size-append xs ys in
     omega arith
 
+-- a line alone takes its bytes and one for the line feed
 size_one : (line : List ℕ) → size (line ∷ []) ≡ length line + 1
 unfolding size ended_lines
 size_one line =
@@ -43,10 +46,12 @@ size_one line =
     let e = length-append line (10 ∷ []) in
     omega arith
 
+-- no lines take no bytes
 size_none : size [] ≡ 0
 unfolding size ended_lines
 size_none = refl
 
+-- the lines of one part of a certificate, with a name and a number of at most 127 bits, take at most 204 bytes
 part_fits : (letter : Letter) (name : Name) (v : ℚ) → is_name name ≡ true → IsNarrow v →
     size (part_lines letter name v) ≤ 204
 part_fits letter name v h n = by (eq_ℚ v 0ℚ)
@@ -68,6 +73,7 @@ part_fits letter name v h n = by (eq_ℚ v 0ℚ)
         let o = size_one (part_text letter name v) in
         omega arith
 
+-- the lines of the first n values of a certificate take at most 204 bytes each
 below_fit : (letter : Letter) (names : ℕ → Name) (values : List ℚ) (n : ℕ) →
     ((k : ℕ) → k < n → is_name (names k) ≡ true) → ((k : ℕ) → k < n → IsNarrow (part values k))
     → size (lines_below letter names values n) ≤ 204 * n
@@ -136,6 +142,7 @@ module _ (m : Model) (kept : IsUsualModel m) where
       let end = size_one (codes "END") in
       omega arith
 
+-- a usual model's text with a certificate behind it is no longer than an input may be
 pub text_fits : (style : Style) (m : Model) → IsUsualModel m → (cert : Certificate (List ℚ)) → IsFor m cert →
     IsNarrowCertificate cert →
     length (cards_text style (cards_of m) ++ ended_lines (certificate_lines m cert)) ≤ input_limit

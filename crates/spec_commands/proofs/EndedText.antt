@@ -18,12 +18,14 @@ IsPlain line = All (λ b. b ≢ 10) line
 abbrev Splits : List ℕ → List ℕ → Type 0
 Splits text more = ended_lines_of (text ++ more) ≡ ended_lines_of text ++ ended_lines_of more
 
+-- the ended lines of one whole line and more bytes are this line and the ended lines of the bytes
 at_end : (line more : List ℕ) → IsPlain line → Splits (line ++ 10 ∷ []) more
 at_end line more h =
     ap ended_lines_of (append_assoc line (10 ∷ []) more) ∙ ended_lines_of_line line more h
     ∙ sym (ap (λ (ls : Lines). ls ++ ended_lines_of more) (ended_lines_of_line line [] h
     ∙ ap (λ (ls : Lines). line_of (strip_carriage_return line) ∷ ls) (ended_lines_of_last [] (All-nil (λ b. b ≢ 10)))))
 
+-- behind a beginning of a line, the ended lines of a whole text and more bytes are those of both
 goes_on : (line text more : List ℕ) → IsPlain line → Splits (line ++ (text ++ 10 ∷ [])) more
 goes_on line [] more h = at_end line more h
 goes_on line (b ∷ text) more h =
@@ -49,5 +51,6 @@ goes_on line (b ∷ text) more h =
         not_both : b ≡ 10 → nat_eq b 10 ≡ false → ⊥
         not_both is other = let z : nat_eq 10 10 ≡ false = sym (ap (λ d. nat_eq d 10) is) ∙ other in cc
 
+-- the ended lines of a text that ends in a line feed and of more bytes are those of both
 pub ended_behind : (text more : List ℕ) → Splits (text ++ 10 ∷ []) more
 ended_behind text more = goes_on [] text more (All-nil (λ b. b ≢ 10))

@@ -13,7 +13,7 @@ use Rattle.spec_commands.specs.Draws.{next}
 use Rattle.spec_commands.specs.Generated.{number_from, has_entry, at_row, entry, entries}
 use Rattle.spec_commands.proofs.GeneratedNumbers.{number_from_narrow, number_from_not_zero}
 
--- the entries of one row more
+-- where entries are in rows below n, in order and none 0, they are so with one in row n or without it
 more_entries : (b : Bool) (n : ℕ) (q : ℚ) (es : List (ℕ × ℚ)) → q ≢ 0ℚ → AreEntries n es →
     AreEntries (suc n) (es ++ cond b ((n, q) ∷ []) [])
 more_entries false n q es h k =
@@ -46,6 +46,7 @@ entries-kept s (suc n) =
     (number_from_not_zero 1 9 (next (at_row s n)) (omega arith))
     (entries-kept s n)
 
+-- where entries have at most 127 bits, they do so with one more number of at most 127 bits or without it
 more_narrow : (b : Bool) (n : ℕ) (q : ℚ) (es : List (ℕ × ℚ)) → IsNarrow q → All (λ e. IsNarrow e.1) es →
     All (λ e. IsNarrow e.1) (es ++ cond b ((n, q) ∷ []) [])
 more_narrow false n q es h k = subst (All (λ (e : ℕ × ℚ). IsNarrow e.1)) (sym (append-nil es)) k

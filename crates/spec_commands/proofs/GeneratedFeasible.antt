@@ -37,6 +37,7 @@ unfolding generated generated_rows
 height_is seed rows columns =
     length-map-range_with_len (λ i. generated_row i (after i (at_column rows seed columns))) 0 rows
 
+-- column j of a generated model is the one that is made from the seed where column j begins
 column_is : (seed rows columns j : ℕ) → j < columns →
     column (generated seed rows columns) j ≡ generated_column rows j (at_column rows seed j)
 unfolding generated generated_columns
@@ -44,6 +45,7 @@ column_is seed rows columns j h =
     let drawn : ℕ → ExactColumn = λ k. generated_column rows k (at_column rows seed k) in
     get_or-map-range_with_len drawn 0 columns j j no_column h (omega arith)
 
+-- row i of a generated model is the one that is made from the seed where row i begins
 row_is : (seed rows columns i : ℕ) → i < rows →
     row (generated seed rows columns) i ≡ generated_row i (after i (at_column rows seed columns))
 unfolding generated generated_rows
@@ -53,14 +55,17 @@ row_is seed rows columns i h =
 
 -- ---- the point 0
 
+-- 0 is between the bounds of each generated column
 zero_in_bounds : (rows j s : ℕ) → IsBetween (bounds_of (generated_column rows j s)) 0ℚ
 unfolding generated_column
 zero_in_bounds rows j s = record { lower = ≤ℚ_refl 0ℚ; upper = whole_least _ }
 
+-- 0 is between the limits of each generated row
 zero_in_limits : (i s : ℕ) → IsBetween (limits_of (generated_row i s)) 0ℚ
 unfolding generated_row
 zero_in_limits i s = record { lower = tt; upper = whole_least _ }
 
+-- at the point 0 the activity of each row is 0
 zeros_activity : (m : Model) (n i : ℕ) → activity m (replicate n 0ℚ) i ≡ 0ℚ
 zeros_activity m n i =
     sum_below_none (width m) (λ j. coefficient m i j *ℚ part (replicate n 0ℚ) j)
@@ -87,24 +92,28 @@ zero_feasible seed rows columns =
 
 -- ---- an upper limit of the values
 
+-- whole numbers that are in order are so as fractions
 whole_mono : (a b : ℕ) → a ≤ b → whole (pos a) ≤ℚ whole (pos b)
 unfolding whole
 whole_mono a b h = record { at_most = omega (arith, ints) }
 
+-- the cost of a generated column is at least 0
 cost_positive : (rows j s : ℕ) → 0ℚ ≤ℚ (generated_column rows j s).cost
 unfolding generated_column
 cost_positive rows j s = whole_least _
 
+-- a value between the bounds of a generated column is at most 20
 part_most : (rows j s : ℕ) (v : ℚ) → IsBetween (bounds_of (generated_column rows j s)) v → v ≤ℚ whole (pos 20)
 unfolding generated_column
 part_most rows j s v h =
     let upper = 1 + draw (next s) % 20 in
     ≤ℚ_trans v (whole (pos upper)) (whole (pos 20)) h.upper (whole_mono upper 20 (omega arith))
 
--- no value is greater
+-- the value at which each column of a generated model is 20, which no feasible point exceeds
 most : Model → ℚ
 most m = sum_below (width m) (λ j. cost m j *ℚ whole (pos 20))
 
+-- at a feasible point of a generated model the value is at most that with 20 for each column
 value_most : (seed rows columns : ℕ) (z : List ℚ) → IsFeasible (generated seed rows columns) z →
     value_of (generated seed rows columns) z ≤ℚ most (generated seed rows columns)
 unfolding generated most

@@ -19,6 +19,7 @@ use Rattle.spec_commands.proofs.GeneratedNumbers.{number_from_narrow, number_fro
 use Rattle.spec_commands.proofs.GeneratedLists.{All-made, AllPairs-map}
 use Rattle.spec_commands.proofs.GeneratedEntries.{entries-kept, entries_narrow}
 
+-- a generated column below number 512 is one that a model with these rows may have
 column-kept : (rows j s : ℕ) → j < 512 → IsKeptColumn rows (generated_column rows j s)
 unfolding generated_column
 column-kept rows j s h =
@@ -29,6 +30,7 @@ column-kept rows j s h =
       entries = entries-kept (after 2 s) rows;
     }
 
+-- the numbers of a generated column have at most 127 bits
 column_narrow : (rows j s : ℕ) → IsNarrowColumn (generated_column rows j s)
 unfolding generated_column
 column_narrow rows j s =
@@ -39,10 +41,12 @@ column_narrow rows j s =
       entries = entries_narrow (after 2 s) rows;
     }
 
+-- the numbers of a generated row have at most 127 bits
 row_narrow : (i s : ℕ) → IsNarrowRow (generated_row i s)
 unfolding generated_row
 row_narrow i s = record { rhs = number_from_narrow 10 90 s (omega arith) (omega arith) (omega arith); range = tt }
 
+-- a generated model within the limits of rows and columns is usual
 pub generated-kept : (seed rows columns : ℕ) → rows ≤ row_limit → columns ≤ column_limit →
     IsUsualModel (generated seed rows columns)
 unfolding generated generated_rows generated_columns generated_row generated_column is_model_name is_row_name is_name

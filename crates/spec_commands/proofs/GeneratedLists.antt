@@ -12,6 +12,7 @@ All-made P f n h = λ k d l.
     let inside : k < n = omega (arith, length-map-range_with_len f 0 n) in
     subst P (sym (get_or-map-range_with_len f 0 n k k d inside (omega arith))) (h k inside)
 
+-- where R holds of f i and f j for each i < j < n, it holds of all pairs in the list of f 0 to f (n - 1)
 AllPairs-made : {X : Type 0} (R : X → X → Type 0) (f : ℕ → X) (n : ℕ) →
     ((i j : ℕ) → i < j → j < n → R (f i) (f j)) → AllPairs R (map f (range_with_len 0 n))
 AllPairs-made R f n h = λ i j d k l.
@@ -20,6 +21,7 @@ AllPairs-made R f n h = λ i j d k l.
     let other = get_or-map-range_with_len f 0 n j j d inside (omega arith) in
     subst₂ R (sym one) (sym other) (h i j k inside)
 
+-- to map a list by f and then by g is to map it by both at once
 map-map : {X Y Z : Type 0} (g : Y → Z) (f : X → Y) (xs : List X) → map g (map f xs) ≡ map (λ x. g (f x)) xs
 map-map g f [] = refl
 map-map g f (x ∷ xs) = ap (λ ys. g (f x) ∷ ys) (map-map g f xs)

@@ -15,9 +15,11 @@ use borrow.Author.Tests.{le-leb, lt-ltb}
 use Rattle.spec_model.specs.Kept.{is_printable, is_name, is_row_name}
 use Rattle.spec_commands.specs.Generated.{row_name, column_name}
 
+-- the byte of each decimal digit is a printed one
 digit_printed : (d : ℕ) → d < 10 → is_printable (48 + d) ≡ true
 digit_printed d h = rw (le-leb 33 (48 + d) (omega arith), le-leb (48 + d) 126 (omega arith)) refl
 
+-- the decimal digits of a number below 2 ^ 64 are printed bytes
 decimal_printed : (n : ℕ) → n < 2 ^ 64 → list_all is_printable (decimal n) ≡ true
 decimal_printed = decimal_by_steps (λ n ds. list_all is_printable ds ≡ true) one more
   where
@@ -29,7 +31,7 @@ decimal_printed = decimal_by_steps (λ n ds. list_all is_printable ds ≡ true) 
     more n ds l h =
         list_all-append is_printable ds ((48 + n % 10) ∷ []) ∙ rw (h, digit_printed (n % 10) (omega arith)) refl
 
--- a letter and a number of at most three digits
+-- a printed letter and a number below 1,000 make a name that a model may have
 numbered_name : (letter n : ℕ) → is_printable letter ≡ true → n < 1000 → is_name (letter ∷ decimal n) ≡ true
 unfolding is_name
 numbered_name letter n h l =
@@ -46,6 +48,7 @@ pub column_name_is : (j : ℕ) → j < 512 → IsTrue (is_name (column_name j))
 unfolding column_name
 column_name_is j h = numbered_name 67 (j + 1) refl (omega arith)
 
+-- names of the same letter with two different numbers up to 512 are different
 numbered_apart : (letter i j : ℕ) → i < j → j < 512 → letter ∷ decimal (i + 1) ≢ letter ∷ decimal (j + 1)
 numbered_apart letter i j l h = λ e.
     let same : decimal (i + 1) ≡ decimal (j + 1) = cc in

@@ -13,10 +13,12 @@ use Rattle.spec_model.specs.Kept.{IsBound}
 use Rattle.spec_commands.specs.Draws.{draw}
 use Rattle.spec_commands.specs.Generated.{number_from}
 
+-- a whole number of at most 100 has at most 127 bits
 whole_narrow : (n : ℕ) → n ≤ 100 → IsNarrow (whole (pos n))
 unfolding whole
 whole_narrow n h = record { top = omega arith; bottom = omega arith }
 
+-- a whole number of at most 100 may be a bound
 whole_bound : (n : ℕ) → n ≤ 100 → IsBound (Some (whole (pos n)))
 unfolding whole
 whole_bound n h =
@@ -24,10 +26,12 @@ whole_bound n h =
     let below : whole (pos n) <ℚ whole (pos (10 ^ 20)) = record { below = omega (arith, ints) } in
     subst (λ (q : ℚ). q <ℚ whole (pos (10 ^ 20))) (sym (abs_above (whole (pos n)) positive)) below
 
+-- a whole number above 0 is not 0 as a fraction
 whole_not_zero : (n : ℕ) → 0 < n → whole (pos n) ≢ 0ℚ
 unfolding whole
 whole_not_zero n h = λ e. let none : n ≡ 0 = ap (λ (q : ℚ). unsigned_abs q.num) e in omega arith
 
+-- one of at most 90 numbers that is drawn from a least one of at most 10 on is at most 100
 number_from_is : (least many s : ℕ) → 0 < many → many ≤ 90 → least ≤ 10 → least + draw s % many ≤ 100
 number_from_is least many s k l h = omega arith
 

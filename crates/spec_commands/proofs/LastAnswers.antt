@@ -30,12 +30,14 @@ StandsUp m known cert =
     Holds m known
     × IsSaidEarly (said Free) (free m ++ ended_lines (certificate_lines m cert)) (reply.Checked (Yes known))
 
+-- a known answer of a usual model is true, and `check` says yes to its certificate
 answer_stands : (m : Model) (budget : ℕ) (known : Known ℚ) (cert : Certificate (List ℚ)) (basis : Option (List Status))
     (pivots : ℕ) →
     IsUsualModel m → MayAnswer m budget (Ended known cert basis pivots) → StandsUp m known cert
 answer_stands m budget known cert basis pivots kept h =
     (ended_true m budget known cert basis pivots h, free_checks m budget known cert basis pivots kept h)
 
+-- a known last answer of a session's run is true of its model, and `check` says yes to its certificate
 pub last_stands : (places : ℕ) (xs : List Exchange) (state : State) (m : Model) (last : ExactLastAnswer)
     (known : Known ℚ) (cert : Certificate (List ℚ)) (basis : Option (List Status)) (pivots : ℕ) →
     AreKept (map asked_in xs) → AloneRun places opening xs state → state.model ≡ Some m → state.last ≡ Some last →

@@ -52,13 +52,15 @@ pub record NarrowRange (r : Range ℚ) : Type 0 where
 
 -- ---- the ends so far
 
+-- a range without ends has no end wider than 127 bits
 none_narrow : NarrowEnds no_ends
 none_narrow = record { low = tt; high = tt }
 
--- what is there is the same
+-- where a run returns ends as they are, and these have at most 127 bits, so have the returned ones
 same_narrow : (e x : Ends ℚ) → (let r : Run (Ends ℚ) = Ok e in r) ≡ Ok x → NarrowEnds e → NarrowEnds x
 same_narrow e x h n = let same : e ≡ x = cc in subst NarrowEnds same n
 
+-- the greater of a new number and a kept one has at most 127 bits, where both have
 greater_narrow : (new : ℚ) (kept : Option ℚ) (x : ℚ) → greater_run limit new kept ≡ Ok x → IsNarrow new →
     NarrowBound kept → IsNarrow x
 greater_narrow new None x h n k = let e : new ≡ x = cc in subst IsNarrow e n
@@ -72,6 +74,7 @@ greater_narrow new (Some old) x h n k =
     by Equal = k
     by Greater = n
 
+-- the lesser of a new number and a kept one has at most 127 bits, where both have
 lesser_narrow : (new : ℚ) (kept : Option ℚ) (x : ℚ) → lesser_run limit new kept ≡ Ok x → IsNarrow new →
     NarrowBound kept → IsNarrow x
 lesser_narrow new None x h n k = let e : new ≡ x = cc in subst IsNarrow e n
@@ -85,18 +88,21 @@ lesser_narrow new (Some old) x h n k =
     by Equal = k
     by Greater = k
 
+-- ends with one more lower end have at most 127 bits, where this end and the others have
 at_least_narrow : (v : ℚ) (e x : Ends ℚ) → at_least limit v e ≡ Ok x → IsNarrow v → NarrowEnds e → NarrowEnds x
 at_least_narrow v e x h n k =
     let o = then_ok (greater_run limit v e.low) (λ low. Ok (record { low = Some low; high = e.high })) x h in
     same_narrow (record { low = Some o.0; high = e.high }) x o.2
     (record { low = greater_narrow v e.low o.0 o.1 n k.low; high = k.high })
 
+-- ends with one more upper end have at most 127 bits, where this end and the others have
 at_most_narrow : (v : ℚ) (e x : Ends ℚ) → at_most limit v e ≡ Ok x → IsNarrow v → NarrowEnds e → NarrowEnds x
 at_most_narrow v e x h n k =
     let o = then_ok (lesser_run limit v e.high) (λ high. Ok (record { low = e.low; high = Some high })) x h in
     same_narrow (record { low = e.low; high = Some o.0 }) x o.2
     (record { low = k.low; high = lesser_narrow v e.high o.0 o.1 n k.high })
 
+-- ends with one more end of either side have at most 127 bits, where this end and the others have
 at_side_narrow : (upper : Bool) (v : ℚ) (e x : Ends ℚ) → at_side limit upper v e ≡ Ok x → IsNarrow v →
     NarrowEnds e → NarrowEnds x
 at_side_narrow true v e x h n k = at_most_narrow v e x h n k
@@ -104,6 +110,7 @@ at_side_narrow false v e x h n k = at_least_narrow v e x h n k
 
 -- ---- a cost
 
+-- ends with the one that a column's status gives have at most 127 bits, where the number and the others have
 ends_by_narrow : (status : Status) (falls : Bool) (v : ℚ) (e x : Ends ℚ) → ends_by limit status falls v e ≡ Ok x →
     IsNarrow v → NarrowEnds e → NarrowEnds x
 ends_by_narrow Basic falls v e x h n k = same_narrow e x h k
@@ -113,6 +120,7 @@ ends_by_narrow AtZero falls v e x h n k =
     let o = then_ok (at_least limit v e) (λ e. at_most limit v e) x h in
     at_most_narrow v o.0 x o.2 n (at_least_narrow v e o.0 o.1 n k)
 
+-- the cost at which a nonbasic column's own reduced cost is 0 has at most 127 bits, where its cost has
 own_number_narrow : (s : Sense) (c : ℚ) (status : Status) (d v : ℚ) → own_number limit s c status d ≡ Ok v →
     IsNarrow c → IsNarrow v
 own_number_narrow s c Basic d v h n = let e : c ≡ v = cc in subst IsNarrow e n
@@ -161,6 +169,7 @@ module _ (s : Sense) (c : ℚ) (t : Tableau) (n : IsNarrow c) where
           (λ k e y l m r. moved_if_narrow (place_of t j) k e y r m)
       by false q = own_narrow j x q
 
+-- the range of a cost has at most 127 bits, where the cost and the tableau's values have
 cost_run_narrow : (m : Model) (t : Tableau) (j : ℕ) (r : Range ℚ) → cost_run limit m t j ≡ Ok r → IsNarrow (cost m j) →
     All IsNarrow t.value → NarrowRange r
 unfolding cost_run
@@ -172,6 +181,7 @@ cost_run_narrow m t j r h n k =
 
 -- ---- a right side
 
+-- a right side that is moved to where a bound meets the logical's value has at most 127 bits
 shifted_narrow : (b v : ℚ) (bound x : Option ℚ) → shifted_run limit b v bound ≡ Ok x → NarrowBound x
 shifted_narrow b v None x h = let e : None ≡ x = cc in subst NarrowBound e tt
 shifted_narrow b v (Some u) x h =
@@ -180,6 +190,7 @@ shifted_narrow b v (Some u) x h =
     let e : Some y.0 ≡ x = cc in
     subst NarrowBound e (sum_narrow b g.0 y.0 y.1)
 
+-- the ends for the right side of a row with a basic logical have at most 127 bits
 still_narrow : (b v : ℚ) (lower upper : Option ℚ) (x : Ends ℚ) → still_ends limit b v lower upper ≡ Ok x → NarrowEnds x
 still_narrow b v lower upper x h =
     let high = then_ok (shifted_run limit b v lower)
@@ -188,6 +199,7 @@ still_narrow b v lower upper x h =
     same_narrow (record { low = low.0; high = high.0 }) x low.2
     (record { low = shifted_narrow b v upper low.0 low.1; high = shifted_narrow b v lower high.0 high.1 })
 
+-- ends with the one at which a basic column comes to a bound have at most 127 bits, where the others have
 bound_narrow : (b v a : ℚ) (bound : Option ℚ) (upper : Bool) (e x : Ends ℚ) →
     bound_ends limit b v a bound upper e ≡ Ok x → NarrowEnds e → NarrowEnds x
 bound_narrow b v a None upper e x h n = same_narrow e x h n
@@ -198,6 +210,7 @@ bound_narrow b v a (Some u) upper e x h n =
     let y = then_ok (sum_run limit b q.0) (λ y. at_side limit upper y e) x q.2 in
     at_side_narrow upper y.0 e x y.2 (sum_narrow b q.0 y.0 y.1) n
 
+-- ends with those at which a basic column comes to its bounds have at most 127 bits, where the others have
 carried_narrow : (b v a : ℚ) (lower upper : Option ℚ) (e x : Ends ℚ) →
     carried_ends limit b v a lower upper e ≡ Ok x → NarrowEnds e → NarrowEnds x
 carried_narrow b v a lower upper e x h n =
@@ -229,6 +242,7 @@ module _ (b : ℚ) (t : Tableau) (s : ℕ) where
           (λ k e y l m r. carried_if_narrow k e y r m)
       by false false q = same_narrow no_ends x q none_narrow
 
+-- the range of a right side has at most 127 bits, where the tableau's reduced costs have
 side_run_narrow : (m : Model) (t : Tableau) (i : ℕ) (r : Range ℚ) → side_run limit m t i ≡ Ok r →
     All IsNarrow t.reduced → NarrowRange r
 unfolding side_run
@@ -248,6 +262,7 @@ pub record NarrowNumbers (t : Tableau) : Type 0 where
   pub value : All IsNarrow t.value
   pub reduced : All IsNarrow t.reduced
 
+-- the value that is computed for a position of a tableau has at most 127 bits
 position_narrow : (t : Tableau) (i : ℕ) (v : ℚ) → position_run limit t i ≡ Ok v → IsNarrow v
 position_narrow t i v h =
     steps_ok (λ _ s. IsNarrow s) (all_columns t)
@@ -259,6 +274,7 @@ position_narrow t i v h =
     by k x y n true q = let e : x ≡ y = cc in subst IsNarrow e n
     by k x y n false q = less_narrow (entry_at t i k) (value_at t k) x y q
 
+-- the values that are computed for all columns have at most 127 bits, where those of a tableau have
 valued_narrow : (t : Tableau) (values : List ℚ) → valued_run limit t ≡ Ok values → All IsNarrow t.value →
     All IsNarrow values
 unfolding valued_run
@@ -271,6 +287,7 @@ valued_narrow t values h n =
     subst (λ (vs : List ℚ). All IsNarrow vs) e
     (All-set IsNarrow xs (basic_at t i) o.0 (position_narrow t i o.0 o.1) k))
 
+-- the values of a basis' tableau behind elimination have at most 127 bits, where the form's numbers have
 with_basis_narrow : (f : Form) (basis : List Status) (e : Elimination) → IsNarrowForm f →
     All IsNarrow (with_basis f basis e).value
 with_basis_narrow f basis e n =
@@ -285,6 +302,7 @@ with_basis_narrow f basis e n =
     upper = All-append NarrowBound f.upper (replicate f.rows (Some 0ℚ)) n.upper
         (All-replicate NarrowBound f.rows (Some 0ℚ) zero_narrow)
 
+-- a tableau whose values and reduced costs are computed has numbers of at most 127 bits
 filled_narrow : (f : Form) (t u : Tableau) → filled_run limit f t ≡ Ok u → IsNarrowForm f → All IsNarrow t.value →
     NarrowNumbers u
 filled_narrow f t u h n k =
@@ -295,6 +313,7 @@ filled_narrow f t u h n k =
     subst NarrowNumbers e
     (record { value = valued_narrow t a.0 a.1 k; reduced = priced_narrow t f.cost b.0 b.1 n.cost })
 
+-- the tableau that is made of a basis has numbers of at most 127 bits, where the form has
 from_basis_narrow : (f : Form) (basis : List Status) (t : Tableau) → start_from limit f basis ≡ Ok t →
     IsNarrowForm f → NarrowNumbers t
 unfolding start_from

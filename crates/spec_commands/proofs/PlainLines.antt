@@ -39,6 +39,7 @@ use Rattle.spec_certificate.specs.TextRead.{AllNumbers}
 
 -- ---- lines one after the other
 
+-- the ended lines of a plain line, a line feed and more are this line and the ended lines of more
 one_line : (line more : List ℕ) → IsPlainLine line →
     ended_lines_of ((line ++ 10 ∷ []) ++ more) ≡ Text line ∷ ended_lines_of more
 one_line line more h =
@@ -70,6 +71,7 @@ with_cost name v =
           { name = name; cost = v; lower = None; upper = None; entries = [] } ∷ [];
     }
 
+-- a model with one column alone may be kept, where its name may stand and its cost has at most 127 bits
 cost_kept : (name : Name) (v : ℚ) → is_name name ≡ true → IsNarrow v → IsModel (with_cost name v)
 unfolding is_name is_row_name is_model_name
 cost_kept name v h n =
@@ -116,11 +118,13 @@ both_short name v h n =
 
 -- ---- a part
 
+-- the text of a letter is short
 letter_short : (letter : Letter) → IsShort (letter_text letter)
 letter_short X = record { fits = omega arith; plain = refl }
 letter_short Y = record { fits = omega arith; plain = refl }
 letter_short R = record { fits = omega arith; plain = refl }
 
+-- two short words and a text of plain bytes that is short enough make a plain line
 words_plain : (a b c : List ℕ) → IsShort a → IsShort b → length c ≤ 16010 → list_all is_plain c ≡ true →
     IsPlainLine (a ++ 32 ∷ (b ++ 32 ∷ c))
 words_plain a b c h k fits plain =

@@ -26,10 +26,12 @@ use Rattle.spec_server.specs.Script.{begins_with_word, ends_text}
 
 -- ---- what the line's card is
 
+-- a check that leads on to more lines does not end a text
 not_more : (check : Check State) (m : Model) → more check ≡ Ok (Done m) → ⊥
 not_more (Ok s) m h = cc
 not_more (Err c) m h = cc
 
+-- a section whose card ends a text is that of the end
 begins_end : (s : State) (part : Section) (word : List ℕ) (m : Model) → begin s part word ≡ Ok (Done m) →
     part ≡ section.End
 begins_end s section.End word m h = refl
@@ -41,6 +43,7 @@ record IsEndCard (reading : CardReading) : Type 0 where
   is : reading ≡ Is (card.Section fields)
   word : section_of (text_at 1 fields) ≡ Some section.End
 
+-- a section card that ends a text has the word of the end
 card_ends : (s : State) (fields : Fields) (m : Model) → section_card s fields ≡ Ok (Done m) →
     section_of (text_at 1 fields) ≡ Some section.End
 unfolding section_card
@@ -49,6 +52,7 @@ card_ends s fields m h =
     let b = must_ok (may_follow s.seen a.0 && not (has_begun s.seen a.0)) code.SectionOrder _ (Done m) a.2 in
     a.1 ∙ ap Some (begins_end s a.0 (text_at 2 fields) m b.1)
 
+-- what is read of a line that ends a text is the section card of the end
 reading_ends : (limits : SizeLimits) (style : Style) (s : State) (reading : CardReading) (m : Model) →
     on_reading limits style s reading ≡ Ok (Done m) → IsEndCard reading
 reading_ends limits style s (Is card.Skip) m h = absurd (let z : ◌≡◌ {A = Outcome} (Ok (More s)) (Ok (Done m)) = h in cc)
@@ -66,13 +70,16 @@ record IsHeading (bytes : List ℕ) (fields : Fields) : Type 0 where
   first : begins_with_blank bytes ≡ false
   words : word_fields bytes ≡ fields
 
+-- a data card is no section card
 not_given : (a b : Fields) → ◌≡◌ {A = CardReading} (Is (card.Given a)) (Is (card.Section b)) → ⊥
 not_given a b e = cc
 
+-- what fields in their columns give is no section card
 placed_given : (o : Option ℕ) (a b : Fields) → placed o a ≡ Is (card.Section b) → ⊥
 placed_given None a b e = cc
 placed_given (Some column) a b e = cc
 
+-- a section card in free form begins in column 1, and its fields are the line's words
 free_heading : (bytes : List ℕ) (fields : Fields) → free_fields bytes ≡ Is (card.Section fields) →
     IsHeading bytes fields
 unfolding free_fields
@@ -86,6 +93,7 @@ free_heading bytes fields h = by (is_skipped bytes) (begins_with_blank bytes) re
     by false true e h = absurd (not_given (word_fields bytes) fields h)
     by false false e h = record { first = e; words = cc }
 
+-- a section card in fixed form begins in column 1, and its fields are the line's words
 fixed_heading : (bytes : List ℕ) (fields : Fields) → fixed_fields bytes ≡ Is (card.Section fields) →
     IsHeading bytes fields
 unfolding fixed_fields
@@ -99,6 +107,7 @@ fixed_heading bytes fields h = by (is_skipped bytes) (begins_with_blank bytes) r
     by false true e h = absurd (placed_given (misplaced_from 1 bytes) (column_fields bytes) fields h)
     by false false e h = record { first = e; words = cc }
 
+-- a section card in any form begins in column 1, and its fields are the line's words
 heading : (style : Style) (part : Option Section) (bytes : List ℕ) (fields : Fields) →
     reading_of style part bytes ≡ Is (card.Section fields) → IsHeading bytes fields
 heading Free part bytes fields h = free_heading bytes fields h
@@ -130,17 +139,20 @@ is_endata word h =
     by false false false false false false false true h = refl
     by false false false false false false false false h = cc
 
+-- where the first field made of words is the word of the end, the words begin with ENDATA
 words_end : (ws : List (List ℕ)) → section_of (text_at 1 (numbered_from 1 ws)) ≡ Some section.End →
     begins_with_word (codes "ENDATA") ws ≡ true
 words_end [] h = is_endata [] h
 words_end (w ∷ ws) h = is_endata w h
 
+-- a line that is a section card with the word of the end ends a text
 line_ends : (bytes : List ℕ) (fields : Fields) → IsHeading bytes fields →
     section_of (text_at 1 fields) ≡ Some section.End → ends_text (line.Text bytes) ≡ true
 unfolding ends_text word_fields
 line_ends bytes fields h e =
     rw (h.first, words_end (words_of bytes) (ap (λ fs. section_of (text_at 1 fs)) h.words ∙ e)) refl
 
+-- a line at which the reader of texts is done ends a text
 pub done_ends : (limits : SizeLimits) (style : Style) (s : State) (l : Line (List ℕ)) (m : Model) →
     step limits style s l ≡ Ok (Done m) →
     ends_text l ≡ true

@@ -36,9 +36,11 @@ use Rattle.spec_server.proofs.Truth.{checked}
 abbrev pub IsPast : Verdict ℚ → Type 0
 IsPast v = (p : Past ℚ) × (v ≡ verdict.Past p)
 
+-- replies that are the same as what is said are the same
 told : (a b : ExactReply) → Some a ≡ Some b → a ≡ b
 told a b e = cc
 
+-- where a certificate has a verdict at 127 bits, it has the same with wide numbers, or the verdict is PAST
 same_run : (m : Model) (cert : Certificate (List ℚ)) (v : Verdict ℚ) →
     verdict_on m (Ok cert) ≡ reply.Checked v → (wide_verdict_on m (Ok cert) ≡ reply.Checked v) ⊎ IsPast v
 unfolding Agrees
@@ -49,6 +51,7 @@ same_run m cert v e = by (run_agrees (Some number_limit) m cert)
     by (inl same) = inl (ap (λ run. reply.Checked (verdict_of run)) (sym same) ∙ e)
     by (inr (p, is)) = inr (p, sym (checked _ _ e) ∙ ap verdict_of is)
 
+-- where a certificate or its fault has a verdict at 127 bits, it has the same with wide numbers, or it is PAST
 same_verdict : (m : Model) (answer : Settled (Certificate (List ℚ))) (v : Verdict ℚ) →
     verdict_on m answer ≡ reply.Checked v → (wide_verdict_on m answer ≡ reply.Checked v) ⊎ IsPast v
 same_verdict m (Ok cert) v e = same_run m cert v e
@@ -67,6 +70,7 @@ abbrev Keeps : List (Line (List ℕ)) → Stage → Verdict ℚ → Type 0
 Keeps lines stage v =
     says lines stage ≡ Some (reply.Checked v) → (wide_says lines stage ≡ Some (reply.Checked v)) ⊎ IsPast v
 
+-- where a verdict is said at a certificate's end, it is so with wide numbers, or the verdict is PAST
 ended : (m : Model) (answer : Settled (Certificate (List ℚ))) (v : Verdict ℚ) →
     Some (verdict_on m answer) ≡ Some (reply.Checked v) →
     (Some (wide_verdict_on m answer) ≡ Some (reply.Checked v)) ⊎ IsPast v
@@ -77,7 +81,7 @@ ended m answer v e = by (same_verdict m answer v (told _ _ e))
     by (inl same) = inl (ap Some same)
     by (inr past) = inr past
 
--- by where a line of the certificate leads
+-- where a verdict is said from a line of a certificate on, it is so with wide numbers, or the verdict is PAST
 behind : (m : Model) (n : ℕ) (lines : List (Line (List ℕ))) (v : Verdict ℚ) →
     ((raw : ExactRaw) → Keeps lines (InCertificate m (Some raw) n) v) → (o : Outcome) →
     follow (behind_certificate m n o) (says lines) ≡ Some (reply.Checked v) →
@@ -86,10 +90,12 @@ behind m n lines v more (progress.More raw) e = more raw e
 behind m n lines v more (progress.Done raw) e = ended m (certificate_for m raw) v e
 behind m n lines v more progress.Unfit e = cc
 
+-- a refusal of a line is no verdict
 refused : (n : ℕ) (v : Verdict ℚ) →
     ◌≡◌ {A = Option ExactReply} (Some (reply.Refused (refusal.Unfit n))) (Some (reply.Checked v)) → ⊥
 refused n v e = cc
 
+-- where verdicts on a certificate are the same with wide numbers from the next line on, they are so from this one on
 in_certificate : (m : Model) (s : Option ExactRaw) (n : ℕ) (line : Line (List ℕ)) (lines : List (Line (List ℕ)))
     (v : Verdict ℚ) → ((raw : ExactRaw) → Keeps lines (InCertificate m (Some raw) (n + 1)) v) →
     Keeps (line ∷ lines) (InCertificate m s n) v
@@ -104,12 +110,14 @@ in_certificate m s n line lines v more e = by (step_same narrow wide is_read s l
     by (inr unfit) =
         absurd (refused (n + 1) v (sym (ap (λ o. follow (behind_certificate m (n + 1) o) (says lines)) unfit) ∙ e))
 
+-- where a verdict is said of a certificate's lines, it is so with wide numbers, or the verdict is PAST
 from_certificate : (lines : List (Line (List ℕ))) (m : Model) (s : Option ExactRaw) (n : ℕ) (v : Verdict ℚ) →
     Keeps lines (InCertificate m s n) v
 from_certificate [] m s n v e = cc
 from_certificate (line ∷ lines) m s n v e =
     in_certificate m s n line lines v (λ raw. from_certificate lines m (Some raw) (n + 1) v) e
 
+-- where verdicts are the same with wide numbers behind each end of a text's line, they are so from this line on
 in_text : (style : Style) (n : ℕ) (lines : List (Line (List ℕ))) (v : Verdict ℚ) →
     ((s : State) → Keeps lines (InText style s n) v) → ((m : Model) → Keeps lines (InCertificate m None 0) v) →
     (o : text.Outcome) → follow (behind_text style n o) (says lines) ≡ Some (reply.Checked v) →
@@ -118,6 +126,7 @@ in_text style n lines v more done (Ok (text.More s)) e = more s e
 in_text style n lines v more done (Ok (text.Done m)) e = done m e
 in_text style n lines v more done (Err code) e = cc
 
+-- where a verdict is said of the lines of a text, it is so with wide numbers, or the verdict is PAST
 from_text : (lines : List (Line (List ℕ))) (style : Style) (s : State) (n : ℕ) (v : Verdict ℚ) →
     Keeps lines (InText style s n) v
 unfolding check_step wide_step
@@ -138,6 +147,7 @@ from_text (line ∷ lines) style s n v e =
         ⊎ IsPast v) (sym same) (in_text style (n + 1) lines v more done (Ok p) e)
     by (Err code) is e more done = cc
 
+-- a verdict that `check` says of lines is what `check --wide` says, or the verdict is PAST
 pub same_check : (style : Style) (lines : List (Line (List ℕ))) (v : Verdict ℚ) →
     said style lines ≡ Some (reply.Checked v) → (wide_said style lines ≡ Some (reply.Checked v)) ⊎ IsPast v
 same_check style lines v e = from_text lines style start 0 v e

@@ -17,7 +17,7 @@ use Rattle.spec_commands.proofs.PlainLines.{narrow_fitting}
 abbrev onto : ℕ → ℕ → List ℕ → List ℕ
 onto fuel n acc = digits_onto fuel 10 false n acc
 
--- of a number below a power of ten, before others
+-- the digits of a number below 10 ^ (k + 1), put before a text, make it at most k + 1 bytes longer
 digits_few : (k fuel n : ℕ) (acc : List ℕ) → n < 10 ^ suc k → length (onto fuel n acc) ≤ suc k + length acc
 digits_few k zero n acc h = omega arith
 digits_few k (suc fuel) n acc h = by k h (n / 10) refl (λ k below. digits_few k fuel (n / 10) rest below)
@@ -37,6 +37,7 @@ digits_few k (suc fuel) n acc h = by k h (n / 10) refl (λ k below. digits_few k
         let few = more k (front k h) in
         rw (ne_eqb (n / 10) 0 (λ z. omega (arith, z, e))) omega (arith, few)
 
+-- a number below 10 ^ k has at most k + 1 digits
 all_few : (k n : ℕ) → n < 10 ^ k → length (all_digits n) ≤ suc k
 unfolding all_digits
 all_few k n h =
@@ -46,6 +47,7 @@ all_few k n h =
 
 -- ---- a number
 
+-- the text of a quotient of numbers below 10 ^ a and 10 ^ b takes at most a + b + 3 bytes
 past_few : (above below n den : ℕ) → n < 10 ^ above → den < 10 ^ below →
     length (past_text n den) ≤ above + below + 3
 unfolding past_text
@@ -65,6 +67,7 @@ past_few above below n den h k = by (nat_eq den 1)
         let a = length-append (all_digits n) (47 ∷ all_digits den) in
         omega (arith, t, b, a)
 
+-- the text of a number whose digits fit a line has at most 16,010 bytes
 pub wide_few : (v : ℚ) → FitsLine v → length (wide_text v) ≤ 16010
 unfolding wide_text
 wide_few v h = by (is_within v) refl

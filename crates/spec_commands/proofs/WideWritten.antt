@@ -86,7 +86,7 @@ based_true handed written (Open, is, lines) = inl lines
 
 -- ---- lines of a text, and of a certificate
 
--- after the text the certificate begins
+-- behind a text that ends in its last line, what is said is said of a certificate for the text's model
 text_leads : (style : Style) (s : State) (n : ℕ) (front : List (Line (List ℕ))) (last : Line (List ℕ))
     (behind : List (Line (List ℕ))) (m : Model) →
     said_by (text_step large_limits style) (record { state = s; lines = n }) front ≡ None →
@@ -120,10 +120,11 @@ text_leads style s n (line ∷ front) last behind m none spelled =
     by (Ok (text.Done d)) h e go = cc
     by (Err why) h e go = cc
 
+-- two certificates are the same where they are so as what lines spell
 same_spelled : (a b : ExactRaw) → Spelled a ≡ Spelled b → a ≡ b
 same_spelled a b e = cc
 
--- what is said of the certificate that lines spell
+-- where lines spell a certificate, what is said of them is the wide verdict on it for the model
 certificate_said : (m : Model) (lines : List (Line (List ℕ))) (so_far : Option ExactRaw) (n : ℕ) (raw : ExactRaw) →
     judge_by wide so_far (n + 1) lines ≡ Spelled raw →
     said_by wide_step (InCertificate m so_far n) lines ≡ Some (wide_verdict_on m (certificate_for m raw))
@@ -145,24 +146,30 @@ certificate_said m (l ∷ lines) so_far n raw h =
 
 -- ---- the lines that are written
 
+-- the text of a number whose digits fit a line is short enough for one and of plain bytes
 wide_fitting : (v : ℚ) → FitsLine v → IsFitting wide_text v
 wide_fitting v fits = record { fits = wide_few v fits; plain = plain_text (wide_text v) (wide_word v).printable }
 
+-- the texts of numbers whose digits fit a line are short enough for one and of plain bytes
 all_fitting : (xs : List ℚ) → All FitsLine xs → All (IsFitting wide_text) xs
 all_fitting xs h = λ k d l. wide_fitting (get_or xs k d) (h k d l)
 
+-- where a certificate's numbers fit lines, their texts are short enough for one and of plain bytes
 numbers_fitting : (cert : Certificate (List ℚ)) → FitsLines cert → AllNumbers (IsFitting wide_text) cert
 numbers_fitting (Optimal x y) n = (all_fitting x n.0, all_fitting y n.1)
 numbers_fitting (Infeasible y) n = all_fitting y n
 numbers_fitting (Clash j) n = tt
 numbers_fitting (Unbounded x r) n = (all_fitting x n.0, all_fitting r n.1)
 
+-- the text of a number whose digits fit a line is short enough to be read back
 short_one : (v : ℚ) → FitsLine v → IsShortNumber v
 short_one v fits = let few = wide_few v fits in omega (arith, few)
 
+-- the texts of numbers whose digits fit a line are short enough to be read back
 all_short : (xs : List ℚ) → All FitsLine xs → All IsShortNumber xs
 all_short xs h = λ k d l. short_one (get_or xs k d) (h k d l)
 
+-- where a certificate's numbers fit lines, their texts are short enough to be read back
 numbers_short : (cert : Certificate (List ℚ)) → FitsLines cert → AllNumbers IsShortNumber cert
 numbers_short (Optimal x y) n = (all_short x n.0, all_short y n.1)
 numbers_short (Infeasible y) n = all_short y n

@@ -45,11 +45,13 @@ blanks_fit column size line c h w =
     blanks_len (column - 1 - length line) line in
     omega arith
 
+-- a line, padded up to a field, is at most one byte longer than it was, or than 49 bytes
 padded_fits : (style : Style) (n size : ℕ) (line : List ℕ) → length line ≤ size → 49 ≤ size →
     length (padded style n line) ≤ size + 1
 padded_fits Free n size line h w = let a = length-append line (32 ∷ []) in omega arith
 padded_fits Fixed n size line h w = let b = blanks_fit (first_column n) size line (column_small n) h w in omega arith
 
+-- a line with more fields of at most 100 bytes each is at most 101 bytes longer for each field
 fields_fit : (style : Style) (size : ℕ) (line : List ℕ) (fs : Fields) → AllFit fs → length line ≤ size → 49 ≤ size →
     length (with_fields style line fs) ≤ size + 101 * length fs
 fields_fit style size line [] f h w = omega arith
@@ -60,6 +62,7 @@ fields_fit style size line (x ∷ fs) f h w =
     let r = fields_fit style (size + 101) (padded style x.number line ++ x.text) fs f.1 (omega arith) (omega arith) in
     omega arith
 
+-- a line feed makes a line one byte longer
 ended_len : (line : List ℕ) → length (line ++ 10 ∷ []) ≡ length line + 1
 ended_len line = length-append line (10 ∷ [])
 
@@ -68,6 +71,7 @@ abbrev weight : WrittenCard → ℕ
 weight (Head start fields) = 505
 weight (Data fields) = 454
 
+-- the line of a data card with at most four fields of at most 100 bytes takes at most 454 bytes
 data_fits : (style : Style) (fs : Fields) → AllFit fs → length fs ≤ 4 →
     length (line_text style (Data fs) ++ 10 ∷ []) ≤ 454
 data_fits style fs f few =
@@ -75,6 +79,7 @@ data_fits style fs f few =
     let l = fields_fit style 49 [] fs f (omega arith) (omega arith) in
     omega arith
 
+-- the line of a section card with a word and at most four fields of at most 100 bytes takes at most 505 bytes
 head_fits : (style : Style) (start : List ℕ) (fs : Fields) → length start ≤ 100 → AllFit fs → length fs ≤ 4 →
     length (line_text style (Head start fs) ++ 10 ∷ []) ≤ 505
 head_fits style start fs s f few =
@@ -82,6 +87,7 @@ head_fits style start fs s f few =
     let l = fields_fit style 100 start fs f s (omega arith) in
     omega arith
 
+-- the line of a short card takes at most as many bytes as its sort weighs
 card_fits : (style : Style) (card : WrittenCard) → IsShortCard card →
     length (line_text style card ++ 10 ∷ []) ≤ weight card
 card_fits style (Data []) h = data_fits style [] tt h.1
@@ -109,6 +115,7 @@ abbrev weights : WrittenCards → ℕ
 weights [] = 0
 weights (card ∷ cards) = weight card + weights cards
 
+-- the text of short cards takes at most as many bytes as their sorts weigh
 cards_fit : (style : Style) (cards : WrittenCards) → All IsShortCard cards →
     length (cards_text style cards) ≤ weights cards
 cards_fit style [] h = omega arith
@@ -118,15 +125,18 @@ cards_fit style (card ∷ cards) h =
     let r = cards_fit style cards (λ k d l. h (suc k) d (omega arith)) in
     omega arith
 
+-- cards behind other cards weigh as much as both
 weights-append : (xs ys : WrittenCards) → weights (xs ++ ys) ≡ weights xs + weights ys
 weights-append [] ys = omega arith
 weights-append (x ∷ xs) ys = let r = weights-append xs ys in omega arith
 
+-- where f makes cards that weigh at most a bound, the cards of a list weigh at most the bound for each element
 weights-map : {A : Type 0} (f : A → WrittenCard) (bound : ℕ) (xs : List A) → ((x : A) → weight (f x) ≤ bound) →
     weights (map f xs) ≤ bound * length xs
 weights-map f bound [] h = omega arith
 weights-map f bound (x ∷ xs) h = let a = h x in let r = weights-map f bound xs h in omega arith
 
+-- where f makes lists of cards that weigh at most a bound, those of a list weigh at most it for each element
 weights-flat_map : {A : Type 0} (f : A → WrittenCards) (bound : ℕ) (xs : List A) → All (λ x. weights (f x) ≤ bound) xs →
     weights (flat_map f xs) ≤ bound * length xs
 weights-flat_map f bound [] h = omega arith
@@ -136,7 +146,7 @@ weights-flat_map f bound (x ∷ xs) h =
     let r = weights-flat_map f bound xs (λ k d l. h (suc k) d (omega arith)) in
     omega arith
 
--- rows that ascend from one on, below another, are few
+-- entries in rows that ascend, from row `low` on and below row n, are at most n less `low`
 few_entries : (low n : ℕ) (entries : List (ℕ × ℚ)) → low ≤ n → All (λ e. low ≤ e.0) entries →
     All (λ e. e.0 < n) entries → AllPairs (λ d e. d.0 < e.0) entries → low + length entries ≤ n
 few_entries low n [] within from below ascend = omega arith
@@ -151,20 +161,24 @@ few_entries low n (e ∷ entries) within from below ascend =
 
 -- ---- the cards of a model
 
+-- the cards of a model's sense weigh at most 505
 sense_weighs : (sense : Sense) → weights (sense_cards sense) ≤ 505
 sense_weighs Min = omega arith
 sense_weighs Max = omega arith
 
+-- the cards of a model's rows weigh at most 959, and 454 for each row
 rows_weigh : (m : Model) → weights (rows_cards m) ≤ 959 + 454 * length m.rows
 unfolding rows_cards
 rows_weigh m = let r = weights-map row_card 454 m.rows (λ r. omega arith) in omega arith
 
+-- the cards of a column with entries in n rows at most weigh at most 454, and 454 for each of them
 column_weighs : (m : Model) (n : ℕ) (c : ExactColumn) → IsKeptColumn n c → weights (column_cards m c) ≤ 454 + 454 * n
 column_weighs m n c k =
     let w = weights-map (λ (e : ℕ × ℚ). number_card c.name (row m e.0).name e.1) 454 c.entries (λ e. omega arith) in
     let f = few_entries 0 n c.entries (omega arith) (λ k d l. omega arith) k.entries.inside k.entries.ascending in
     omega arith
 
+-- the cards of a model's columns weigh at most 505, and for each column 454 and 454 for each row
 columns_weigh : (m : Model) → IsModel m →
     weights (columns_cards m) ≤ 505 + (454 + 454 * length m.rows) * length m.columns
 unfolding columns_cards
@@ -173,6 +187,7 @@ columns_weigh m kept =
     (λ k d l. column_weighs m (length m.rows) (get_or m.columns k d) (kept.columns k d l)) in
     omega arith
 
+-- the card of one right side weighs at most 454
 side_weighs : (name : Name) (v : ℚ) → weights (side_cards name v) ≤ 454
 side_weighs name v = by (eq_ℚ v 0ℚ)
   where
@@ -180,6 +195,7 @@ side_weighs name v = by (eq_ℚ v 0ℚ)
     by true = omega arith
     by false = omega arith
 
+-- the cards of a model's right sides weigh at most 959, and 454 for each row
 sides_weigh : (m : Model) → weights (sides_cards m) ≤ 959 + 454 * length m.rows
 unfolding sides_cards
 sides_weigh m =
@@ -190,10 +206,12 @@ sides_weigh m =
     (λ k d l. side_weighs (get_or m.rows k d).name (get_or m.rows k d).rhs) in
     omega arith
 
+-- the card of one range weighs at most 454
 range_weighs : (name : Name) (o : Option ℚ) → weights (range_cards name o) ≤ 454
 range_weighs name None = omega arith
 range_weighs name (Some v) = omega arith
 
+-- the cards of a model's ranges weigh at most 505, and 454 for each row
 ranges_weigh : (m : Model) → weights (ranges_cards m) ≤ 505 + 454 * length m.rows
 unfolding ranges_cards
 ranges_weigh m = by (list_any has_range m.rows)
@@ -207,6 +225,7 @@ ranges_weigh m = by (list_any has_range m.rows)
         omega arith
     by false = omega arith
 
+-- the cards of one column's bounds weigh at most 908
 bound_weighs : (name : Name) (lower upper : Option ℚ) → weights (bound_cards name lower upper) ≤ 908
 bound_weighs name None None = omega arith
 bound_weighs name None (Some u) = omega arith
@@ -224,6 +243,7 @@ bound_weighs name (Some l) (Some u) = by (eq_ℚ l u) (eq_ℚ l 0ℚ && lt_ℚ 0
     by false true = omega arith
     by false false = omega arith
 
+-- the cards of a model's bounds weigh at most 505, and 908 for each column
 bounds_weigh : (m : Model) → weights (bounds_cards m) ≤ 505 + 908 * length m.columns
 unfolding bounds_cards
 bounds_weigh m = by (list_any has_bounds m.columns)
@@ -238,12 +258,13 @@ bounds_weigh m = by (list_any has_bounds m.columns)
         omega arith
     by false = omega arith
 
--- the columns of the largest model
+-- the columns' cards of the largest usual model weigh at most 59,739,136 without those of the section
 most : (rows columns : ℕ) → rows ≤ 256 → columns ≤ 512 → (454 + 454 * rows) * columns ≤ 59739136
 most rows columns r c =
     let each : 454 + 454 * rows ≤ 116678 = omega arith in
     mul-le-mul each c
 
+-- the cards of a usual model weigh at most 61,000,000
 cards_weigh : (m : Model) → IsUsualModel m → weights (cards_of m) ≤ 61000000
 unfolding cards_of
 cards_weigh m kept =
