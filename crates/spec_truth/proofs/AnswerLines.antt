@@ -56,6 +56,7 @@ same_rest (d ∷ a) (c ∷ b) x y h k e =
     let more : a ++ 10 ∷ x ≡ b ++ 10 ∷ y = cc in
     same_rest a b x y (All-tail (λ b. b ≢ 10) d a h) (All-tail (λ b. b ≢ 10) c b k) more
 
+-- a text of printed bytes has no line feed
 printed_no_feed : (w : List ℕ) → list_all is_printable w ≡ true → HasNoFeed w
 printed_no_feed [] h = All-nil (λ b. b ≢ 10)
 printed_no_feed (b ∷ w) h =

@@ -20,6 +20,7 @@ use Rattle.spec_truth.specs.ModelThen.{made, after_change, after_exchange, after
 
 -- ---- edits
 
+-- an edit that is refused leaves the model that the session held
 refused_edit : (held : Option Model) (e : ExactEdit) (why : EditFault Name) →
     after_change held e (edit_refusal why) ≡ held
 refused_edit held e (fault.UnknownName name) = refl
@@ -29,6 +30,7 @@ refused_edit held e fault.BadName = refl
 refused_edit held e (fault.Repeated name) = refl
 refused_edit held e (fault.FreeRow name) = refl
 
+-- where a model is held, an edit leaves the model that the edit and its reply say
 edited_then : (old new : State) (m : Model) (e : ExactEdit) (replied : ExactReply) (r : OrFault Model) →
     old.model ≡ Some m → edited m e ≡ r →
     Does old (edit_due old r) replied new → new.model ≡ after_change (Some m) e replied
@@ -37,16 +39,19 @@ edited_then old new m e replied (Ok n) held is d =
 edited_then old new m e replied (Err why) held is d =
     ap (λ s. s.model) d.1 ∙ held ∙ sym (ap (after_change (Some m) e) d.0 ∙ refused_edit (Some m) e why)
 
+-- with a model or without one, an edit leaves the model that the edit and its reply say
 change_then : (old new : State) (held : Option Model) (e : ExactEdit) (replied : ExactReply) → old.model ≡ held →
     Does old (change_due old held e) replied new → new.model ≡ after_change held e replied
 change_then old new None e replied is d = ap (λ s. s.model) d.1 ∙ is ∙ sym (ap (after_change None e) d.0)
 change_then old new (Some m) e replied is d = edited_then old new m e replied (edited m e) is refl d
 
+-- a solve leaves the model that the session held
 solve_then : (old new : State) (held : Option Model) (replied : ExactReply) →
     Does old (solve_due old held) replied new → new.model ≡ old.model
 solve_then old new None replied d = ap (λ s. s.model) d.1
 solve_then old new (Some m) replied d = ap (λ s. s.model) d.kept
 
+-- an exact solve leaves the model that the session held
 wide_then : (old new : State) (held : Option Model) (replied : ExactReply) →
     Does old (wide_due old held) replied new → new.model ≡ old.model
 wide_then old new None replied d = ap (λ s. s.model) d.1
@@ -54,6 +59,7 @@ wide_then old new (Some m) replied d = ap (λ s. s.model) d.stays
 
 -- ---- what is due to an ask
 
+-- what is due to an ask leaves the model that the ask and its reply say
 due_then : (old new : State) (asked : ExactAsk) (replied : ExactReply) → Does old (due old asked) replied new →
     new.model ≡ after_exchange old.model asked replied
 due_then old new (ask.Plain command.Solve) replied d = solve_then old new old.model replied d
@@ -65,6 +71,7 @@ due_then old new (ask.Loaded m) replied d =
     ap (λ s. s.model) d.1 ∙ sym (ap (after_exchange old.model (ask.Loaded m)) d.0)
 due_then old new asked replied d = ap (λ s. s.model) d.1
 
+-- an ask that is answered `MEMORY` leaves the model that the session held
 memory_then : (held : Option Model) (asked : ExactAsk) → after_exchange held asked reply.Memory ≡ held
 memory_then held (ask.Plain (command.Change e)) = refl
 memory_then held (ask.Plain command.Quit) = refl
@@ -83,6 +90,7 @@ step_then places old new asked reads replied s = by (step_simply places old read
 
 -- ---- runs
 
+-- a run leaves the model that its asks and replies say, from the one that was held before it
 run_then : (places : ℕ) (old new : State) (xs : List Exchange) (held : Option Model) → old.model ≡ held →
     AloneRun places old xs new → new.model ≡ after_exchanges held xs
 run_then places old new [] held is run = ap (λ s. s.model) run ∙ is

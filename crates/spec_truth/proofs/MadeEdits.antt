@@ -26,6 +26,7 @@ record IsMade (held : Option Model) (e : ExactEdit) : Type 0 where
   after : Model
   is_edited : edited before e ≡ Ok after
 
+-- the reply `OK` refuses no edit
 not_refused : (why : EditFault Name) → reply.Done ≡ edit_refusal why → ⊥
 not_refused (fault.UnknownName name) h = cc
 not_refused (fault.Taken name) h = cc
@@ -34,16 +35,19 @@ not_refused fault.BadName h = cc
 not_refused (fault.Repeated name) h = cc
 not_refused (fault.FreeRow name) h = cc
 
+-- where an edit of a model is answered OK, the edit is made
 edit_made : (old new : State) (m : Model) (e : ExactEdit) (r : OrFault Model) → edited m e ≡ r →
     Does old (edit_due old r) reply.Done new → IsMade (Some m) e
 edit_made old new m e (Ok n) is d = record { before = m; is_held = refl; after = n; is_edited = is }
 edit_made old new m e (Err why) is d = absurd (not_refused why d.0)
 
+-- where an edit is answered OK, a model is held and the edit is made of it
 change_made : (old new : State) (held : Option Model) (e : ExactEdit) →
     Does old (change_due old held e) reply.Done new → IsMade held e
 change_made old new None e d = let z : ◌≡◌ {A = ExactReply} reply.Done (reply.Refused refusal.NoModel) = d.0 in cc
 change_made old new (Some m) e d = edit_made old new m e (edited m e) refl d
 
+-- a step that answers OK to an edit makes the edit of the model that is held
 step_made : (places : ℕ) (old new : State) (e : ExactEdit) (reads : List ExactRead) →
     AloneStep places old (ask.Plain (command.Change e)) reads reply.Done new → IsMade old.model e
 step_made places old new e reads s = by (step_simply places old reads reply.Done new (ask.Plain (command.Change e)) s)
@@ -54,11 +58,13 @@ step_made places old new e reads s = by (step_simply places old reads reply.Done
 
 -- ---- the model after one more exchange
 
+-- one exchange more leaves the model that its ask and reply say, from the one that the others leave
 after_more : (held : Option Model) (xs : List Exchange) (x : Exchange) →
     after_exchanges held (xs ++ x ∷ []) ≡ after_exchange (after_exchanges held xs) x.ask x.reply
 after_more held [] x = refl
 after_more held (y ∷ xs) x = after_more (after_exchange held y.ask y.reply) xs x
 
+-- the model of a session behind one exchange of its own more is what this exchange leaves of the one before
 then_after : (before : List Exchange) (x : Exchange) →
     model_then x.session (before ++ x ∷ []) ≡ after_exchange (model_then x.session before) x.ask x.reply
 then_after before x =
@@ -68,6 +74,7 @@ then_after before x =
 
 -- ---- in a run
 
+-- an edit that is answered OK in a run is made of the model held then, and its result is held from then on
 pub edit_then : (places : ℕ) (before behind : List Exchange) (x : Exchange) (e : ExactEdit) →
     RunAlone places (before ++ x ∷ behind) →
     x.ask ≡ ask.Plain (command.Change e) → x.reply ≡ reply.Done →

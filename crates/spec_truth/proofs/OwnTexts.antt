@@ -19,12 +19,14 @@ use Rattle.spec_truth.proofs.AnswerLines.{first, apart, read_back}
 use Rattle.spec_truth.proofs.ReplyLines.{answer_to, yes_to}
 use Rattle.spec_truth.proofs.TrueRuns.{answered_then, accepted_then}
 
+-- two optimal values of at most 127 bits are the same where their texts are
 same_value : (v w : ℚ) → IsNarrow v → IsNarrow w → number_text v ≡ number_text w → known.Optimal v ≡ known.Optimal w
 same_value v w h k e =
     let read : Is v ≡ Is w = sym (read_back v h) ∙ ap number_of e ∙ read_back w k in
     let same : v ≡ w = cc in
     ap known.Optimal same
 
+-- two known answers with numbers of at most 127 bits are the same where their texts are
 same_known : (what other : Known ℚ) → IsNarrowKnown what → IsNarrowKnown other → known_text what ≡ known_text other →
     what ≡ other
 same_known (known.Optimal v) (known.Optimal w) h k e = same_value v w h k cc
@@ -44,6 +46,7 @@ different what other h k e = same_known what other h k e
 
 -- ---- their values
 
+-- an answer that is shown of a model has numbers of at most 127 bits
 shown_narrow : (m : Model) (what : Known ℚ) → IsShown m what → IsNarrowKnown what
 shown_narrow m (known.Optimal v) s = value_fits m v s
 shown_narrow m known.Infeasible s = tt

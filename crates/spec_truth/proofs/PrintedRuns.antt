@@ -28,6 +28,7 @@ abbrev IsValueThen : List Exchange → Exchange → List ℕ → Type 0
 IsValueThen before x text =
     (v : ℚ) × (number_of text ≡ Is v) × ((m : Model) × (model_then x.session before ≡ Some m) × IsOptimal m v)
 
+-- where an optimal value is shown of the model held then, its text reads as this value, which is optimal
 value_then : (before : List Exchange) (x : Exchange) (text : List ℕ) (v : ℚ) → number_text v ≡ text →
     IsShownThen before x (known.Optimal v) → IsValueThen before x text
 value_then before x text v same s = (

@@ -38,9 +38,11 @@ yes_to what = reply.Checked (verdict.Yes what)
 abbrev pub looks_known : List ℕ → Bool
 looks_known bytes = (first bytes == 73) || (first bytes == 85) || ((first bytes == 79) && (get_or bytes 1 0 == 80))
 
+-- from that false is true anything follows
 not_so : {P : Type 0} → false ≡ true → P
 not_so e = cc
 
+-- a reply whose text begins as that of a known answer is one
 known_reply : (is : ExactReply) → looks_known (reply_text is) ≡ true → (what : Known ℚ) × (is ≡ answer_to what)
 unfolding reply_text
 known_reply (reply.Loaded rows columns) h = not_so h
@@ -87,6 +89,7 @@ yes_reply (reply.Refused why) h = not_so h
 abbrev looks_wide : List ℕ → Bool
 looks_wide bytes = first bytes == 87
 
+-- a reply whose text begins with W is that of a wide solve
 wide_looks : (is : ExactReply) → looks_wide (reply_text is) ≡ true → (lines : List (List ℕ)) × (is ≡ reply.Wide lines)
 unfolding reply_text
 wide_looks (reply.Loaded rows columns) h = not_so h
@@ -131,6 +134,7 @@ unbounded known.Unbounded e = refl
 
 -- ---- answers
 
+-- the text of a reply that answers what is known is the text of this
 answer_text_is : (is : ExactReply) (what : Known ℚ) → is ≡ answer_to what → reply_text is ≡ known_text what
 unfolding reply_text
 answer_text_is is what e = ap reply_text e

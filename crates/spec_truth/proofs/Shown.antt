@@ -55,9 +55,11 @@ shown_holds m what s =
 
 -- ---- the value
 
+-- a sum that is computed at the limit of the server's numbers has at most 127 bits
 added_narrow : (v w x : ℚ) → step Add v w (add (Some number_limit) v w) ≡ Ok x → IsNarrow x
 added_narrow v w x h = sum_narrow v w x (ap (told Add v w) (step_ok Add v w (add (Some number_limit) v w) x h))
 
+-- the value of a point, computed at the limit of the server's numbers, has at most 127 bits
 value_narrow : (m : Model) (x : List ℚ) (v : ℚ) → value_run (Some number_limit) m x ≡ Ok v → IsNarrow v
 value_narrow m x v h =
     let a =
@@ -65,9 +67,11 @@ value_narrow m x v h =
     h in
     added_narrow a.0 m.offset v a.2
 
+-- two optimal values that make the same known answer are the same
 same_value : (v w : ℚ) → ◌≡◌ {A = Known ℚ} (known.Optimal v) (known.Optimal w) → v ≡ w
 same_value v w e = cc
 
+-- an optimal value to which the checker says yes at the limit has at most 127 bits
 optimal_narrow : (m : Model) (cert : Certificate (List ℚ)) (v : ℚ) → IsFor m cert →
     check_run (Some number_limit) m cert ≡ Ok (known.Optimal v) → IsNarrow v
 unfolding check_run

@@ -50,6 +50,7 @@ due_sort (Replies replied next) = sort replied
 due_sort (Solves m) = 1
 due_sort (SolvesWide m) = 3
 
+-- the reply to WRITE is no answer, no verdict and no reply of a wide solve
 write_sort : (held : Option Model) (form : Style) → sort (write_reply held form) ≡ 0
 write_sort None form = refl
 write_sort (Some m) style.Free = refl
@@ -59,15 +60,18 @@ write_sort (Some m) style.Fixed = by (too_wide m)
     by None = refl
     by (Some item) = refl
 
+-- the reply to CERT is no answer, no verdict and no reply of a wide solve
 cert_sort : (held : Option Model) (last : Option ExactLastAnswer) → sort (cert_reply held last) ≡ 0
 cert_sort None last = refl
 cert_sort (Some m) None = refl
 cert_sort (Some m) (Some last) = refl
 
+-- the reply to HOW is no answer, no verdict and no reply of a wide solve
 how_sort : (last : Option ExactLastAnswer) → sort (how_reply last) ≡ 0
 how_sort None = refl
 how_sort (Some last) = refl
 
+-- the reply that refuses an edit is no answer, no verdict and no reply of a wide solve
 refusal_sort : (why : EditFault Name) → sort (edit_refusal why) ≡ 0
 refusal_sort (fault.UnknownName name) = refl
 refusal_sort (fault.Taken name) = refl
@@ -76,44 +80,54 @@ refusal_sort fault.BadName = refl
 refusal_sort (fault.Repeated name) = refl
 refusal_sort (fault.FreeRow name) = refl
 
+-- what is due to an edit of a model is no answer, no verdict and no reply of a wide solve
 edit_sort : (state : State) (r : OrFault Model) → due_sort (edit_due state r) ≡ 0
 edit_sort state (Ok m) = refl
 edit_sort state (Err why) = refusal_sort why
 
+-- what is due to an edit, with a model or without, is no answer, no verdict and no reply of a wide solve
 change_sort : (state : State) (held : Option Model) (e : ExactEdit) → due_sort (change_due state held e) ≡ 0
 change_sort state None e = refl
 change_sort state (Some m) e = edit_sort state (edited m e)
 
+-- a reply with a verdict on a certificate is no answer
 verdict_sort : (m : Model) (r : Settled (Certificate (List ℚ))) → sort (verdict_on m r) ≡ 1 → ⊥
 verdict_sort m (Ok cert) h = cc
 verdict_sort m (Err (settle.UnknownName name)) h = cc
 verdict_sort m (Err (settle.Repeated name)) h = cc
 
+-- a reply with a verdict on a certificate is none of a wide solve
 verdict_not_wide : (m : Model) (r : Settled (Certificate (List ℚ))) → sort (verdict_on m r) ≡ 3 → ⊥
 verdict_not_wide m (Ok cert) h = cc
 verdict_not_wide m (Err (settle.UnknownName name)) h = cc
 verdict_not_wide m (Err (settle.Repeated name)) h = cc
 
+-- the reply to CHECK is none of a wide solve
 check_not_wide : (held : Option Model) (raw : ExactRaw) → sort (check_reply held raw) ≡ 3 → ⊥
 check_not_wide None raw h = cc
 check_not_wide (Some m) raw h = verdict_not_wide m (certificate_for m raw) h
 
+-- the reply to CHECK is no answer
 check_sort : (held : Option Model) (raw : ExactRaw) → sort (check_reply held raw) ≡ 1 → ⊥
 check_sort None raw h = cc
 check_sort (Some m) raw h = verdict_sort m (certificate_for m raw) h
 
+-- what is due to a solve is no verdict on a certificate
 solve_sort : (state : State) (held : Option Model) → due_sort (solve_due state held) ≡ 2 → ⊥
 solve_sort state None h = cc
 solve_sort state (Some m) h = cc
 
+-- what is due to a solve is no reply of a wide solve
 solve_not_wide : (state : State) (held : Option Model) → due_sort (solve_due state held) ≡ 3 → ⊥
 solve_not_wide state None h = cc
 solve_not_wide state (Some m) h = cc
 
+-- what is due to a wide solve is no answer of a solve
 wide_no_answer : (state : State) (held : Option Model) → due_sort (wide_due state held) ≡ 1 → ⊥
 wide_no_answer state None h = cc
 wide_no_answer state (Some m) h = cc
 
+-- what is due to a wide solve is no verdict on a certificate
 wide_no_yes : (state : State) (held : Option Model) → due_sort (wide_due state held) ≡ 2 → ⊥
 wide_no_yes state None h = cc
 wide_no_yes state (Some m) h = cc
@@ -125,7 +139,7 @@ done_sort old new (Replies stated next) replied d = ap sort d.0
 done_sort old new (Solves m) replied d = ap sort d.answer
 done_sort old new (SolvesWide m) replied d = ap sort d.answer
 
--- memory is not wanting for a reply of these sorts
+-- where a step's reply is an answer, a verdict, or one of a wide solve, the step does what is due
 step_done : (places : ℕ) (old new : State) (asked : ExactAsk) (reads : List ExactRead) (replied : ExactReply) (n : ℕ) →
     AloneStep places old asked reads replied new → sort replied ≡ suc n → Does old (due old asked) replied new
 step_done places old new asked reads replied n s h = by (step_simply places old reads replied new asked s)
@@ -141,6 +155,7 @@ pub record IsShownOfHeld (held : Option Model) (what : Known ℚ) : Type 0 where
   pub is_held : held ≡ Some model
   pub shown : IsShown model what
 
+-- where a solve replies with a known answer, this is shown of the model that is held
 solve_shown : (old new : State) (held : Option Model) (what : Known ℚ) →
     Does old (solve_due old held) (reply.Answered (answer.Known what)) new → IsShownOfHeld held what
 solve_shown old new None what d =
@@ -153,12 +168,13 @@ solve_shown old new (Some m) what d =
       shown = subst (IsShownBy m) (sym same) (answer_shown m old.budget d.end d.may_answer);
     }
 
+-- where the reply to CHECK says yes, what it says is shown of the model that is held
 check_shown : (held : Option Model) (raw : ExactRaw) (what : Known ℚ) →
     reply.Checked (verdict.Yes what) ≡ check_reply held raw → IsShownOfHeld held what
 check_shown None raw what e = cc
 check_shown (Some m) raw what e = record { model = m; is_held = refl; shown = yes_shown m raw what (sym e) }
 
--- nothing but a solve answers
+-- where an ask to which an answer is due is answered, the answer is shown of the model that is held
 answer_by : (old new : State) (asked : ExactAsk) (what : Known ℚ) → 1 ≡ due_sort (due old asked) →
     Does old (due old asked) (reply.Answered (answer.Known what)) new → IsShownOfHeld old.model what
 answer_by old new (ask.Plain command.Solve) what h d = solve_shown old new old.model what d
@@ -178,7 +194,7 @@ answer_is_shown places old new asked reads what s =
     let d = step_done places old new asked reads (reply.Answered (answer.Known what)) 0 s refl in
     answer_by old new asked what (done_sort old new (due old asked) (reply.Answered (answer.Known what)) d) d
 
--- nothing but a certificate is said yes to
+-- where an ask to which a verdict is due is told yes, what the yes says is shown of the model that is held
 yes_by : (old new : State) (asked : ExactAsk) (what : Known ℚ) → 2 ≡ due_sort (due old asked) →
     Does old (due old asked) (reply.Checked (verdict.Yes what)) new → IsShownOfHeld old.model what
 yes_by old new (ask.Checked raw) what h d = check_shown old.model raw what d.0
@@ -206,9 +222,11 @@ pub record IsWideOfHeld (held : Option Model) (lines : List (List ℕ)) : Type 0
   pub is_held : held ≡ Some model
   pub begins : BeginsTrue model lines
 
+-- two replies of a wide solve that are the same have the same lines
 lines_same : (a b : List (List ℕ)) → ◌≡◌ {A = ExactReply} (reply.Wide a) (reply.Wide b) → a ≡ b
 lines_same a b e = cc
 
+-- where a wide solve replies with lines, they begin as is true of the model that is held
 wide_shown : (old new : State) (held : Option Model) (lines : List (List ℕ)) →
     Does old (wide_due old held) (reply.Wide lines) new → IsWideOfHeld held lines
 wide_shown old new None lines d =
@@ -221,7 +239,7 @@ wide_shown old new (Some m) lines d =
           (lines_true m old.budget d.end d.is_end);
     }
 
--- nothing but the command WIDE is answered so
+-- where an ask to which lines of a wide solve are due has lines as its reply, they begin as is true of the model
 wide_by : (old new : State) (asked : ExactAsk) (lines : List (List ℕ)) → 3 ≡ due_sort (due old asked) →
     Does old (due old asked) (reply.Wide lines) new → IsWideOfHeld old.model lines
 wide_by old new (ask.Plain command.Wide) lines h d = wide_shown old new old.model lines d

@@ -42,6 +42,7 @@ split_run places a c (x ∷ xs) ys run =
     let more : Splits places run.0 c xs ys = split_run places run.0 c xs ys run.2 in
     record { middle = more.middle; first = (run.0, run.1, more.first); second = more.second }
 
+-- the number of a session is the same as itself by the test
 same_session : (n : ℕ) → nat_eq n n ≡ true
 same_session n = eq-eqb n n refl
 
@@ -102,7 +103,7 @@ pub accepted_then : (places : ℕ) (before behind : List Exchange) (x : Exchange
     RunAlone places (before ++ x ∷ behind) → x.reply ≡ yes_to what → IsShownThen before x what
 accepted_then = said_then yes_to yes_is_shown
 
--- and true of it
+-- what is shown of the model that a session has then is true of it
 true_then : (before : List Exchange) (x : Exchange) (what : Known ℚ) → IsShownThen before x what →
     (m : Model) × (model_then x.session before ≡ Some m) × Holds m what
 true_then before x what h = (h.model, h.is_held, shown_holds h.model what h.shown)

@@ -39,6 +39,7 @@ lines_true m budget Open h = inl refl
 
 -- ---- two of them
 
+-- two lists of lines that begin as is true of a model have the same first line, or one of these is `OPEN`
 lines_agree : (m : Model) (lines lines' : List (List ℕ)) → BeginsTrue m lines → BeginsTrue m lines' →
     IsWonLine lines lines'
 lines_agree m [] lines' h k = absurd h
@@ -57,11 +58,12 @@ pub ends_agree : (m : Model) (budget other : ℕ) (a b : RationalEnd) → IsExac
 ends_agree m budget other a b h k =
     lines_agree m (wide_lines m a) (wide_lines m b) (lines_true m budget a h) (lines_true m other b k)
 
--- where neither knows nothing, both say the same
+-- the first of some lines, and the empty one where there are none
 first_line : List (List ℕ) → List ℕ
 first_line [] = []
 first_line (line ∷ more) = line
 
+-- the lines of the reply to a wide solve, and none for another reply
 lines_of : ExactReply → List (List ℕ)
 lines_of (reply.Wide lines) = lines
 lines_of other = []
