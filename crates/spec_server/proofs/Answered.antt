@@ -34,6 +34,7 @@ asked_in-answered places states (a ∷ asks) =
 abbrev pub AllKept : (ℕ → State) → Type 0
 AllKept states = (session : ℕ) → IsKeptState (states session)
 
+-- where each session's model may be kept, it may be so with one session in another state whose model may be kept
 updated_kept : (states : ℕ → State) (session : ℕ) (next : State) → AllKept states → IsKeptState next →
     AllKept (updated states session next)
 updated_kept states session next h k other = by (nat_eq session other)

@@ -237,44 +237,54 @@ module _ (places : ℕ) (state : State) (h : IsKeptState state) where
 
 -- ---- no such reply is MEMORY
 
+-- the reply with a verdict on a certificate is not `MEMORY`
 ample_verdict : (m : Model) (r : Settled (Certificate (List ℚ))) → is_memory (verdict_on m r) ≡ false
 ample_verdict m (Ok cert) = refl
 ample_verdict m (Err (settle.UnknownName name)) = refl
 ample_verdict m (Err (settle.Repeated name)) = refl
 
+-- the reply to CHECK is not `MEMORY`
 ample_check : (held : Option Model) (raw : ExactRaw) → is_memory (check_reply held raw) ≡ false
 ample_check None raw = refl
 ample_check (Some m) raw = ample_verdict m (certificate_for m raw)
 
+-- the reply with a model's text in fixed form, or with what is too wide for it, is not `MEMORY`
 ample_fixed : (m : Model) (item : Option (List ℕ)) → is_memory (fixed_reply m item) ≡ false
 ample_fixed m None = refl
 ample_fixed m (Some item) = refl
 
+-- the reply with a model's text in any form is not `MEMORY`
 ample_text : (m : Model) (form : Style) → is_memory (text_reply m form) ≡ false
 ample_text m style.Free = refl
 ample_text m style.Fixed = ample_fixed m (too_wide m)
 
+-- the reply to WRITE is not `MEMORY`
 ample_write : (held : Option Model) (form : Style) → is_memory (write_reply held form) ≡ false
 ample_write None form = refl
 ample_write (Some m) form = ample_text m form
 
+-- the reply to CERT is not `MEMORY`
 ample_cert : (held : Option Model) (last : Option ExactLastAnswer) → is_memory (cert_reply held last) ≡ false
 ample_cert None last = refl
 ample_cert (Some m) None = refl
 ample_cert (Some m) (Some last) = refl
 
+-- the reply to HOW is not `MEMORY`
 ample_how : (last : Option ExactLastAnswer) → is_memory (how_reply last) ≡ false
 ample_how None = refl
 ample_how (Some last) = refl
 
+-- the reply that is due to a solve is not `MEMORY`
 ample_solve : (state : State) (held : Option Model) → is_memory (due_reply state (solve_due state held)) ≡ false
 ample_solve state None = refl
 ample_solve state (Some m) = refl
 
+-- the reply that is due to a wide solve is not `MEMORY`
 ample_wide : (state : State) (held : Option Model) → is_memory (due_reply state (wide_due state held)) ≡ false
 ample_wide state None = refl
 ample_wide state (Some m) = refl
 
+-- the reply that refuses an edit is not `MEMORY`
 ample_refusal : (why : EditFault Name) → is_memory (edit_refusal why) ≡ false
 ample_refusal (fault.UnknownName name) = refl
 ample_refusal (fault.Taken name) = refl
@@ -283,10 +293,12 @@ ample_refusal fault.BadName = refl
 ample_refusal (fault.Repeated name) = refl
 ample_refusal (fault.FreeRow name) = refl
 
+-- the reply that is due to an edit of a model is not `MEMORY`
 ample_edit : (state : State) (r : OrFault Model) → is_memory (due_reply state (edit_due state r)) ≡ false
 ample_edit state (Ok m) = refl
 ample_edit state (Err why) = ample_refusal why
 
+-- the reply that is due to an edit, with a model or without one, is not `MEMORY`
 ample_change : (state : State) (held : Option Model) (e : ExactEdit) →
     is_memory (due_reply state (change_due state held e)) ≡ false
 ample_change state None e = refl

@@ -42,6 +42,7 @@ any_kept Q (Err why) next go = tt
 
 -- ---- one word
 
+-- a number that is read from a word has at most 127 bits
 number_kept : (text : List ℕ) → IfOk (number_in text) IsNarrow
 unfolding number_in
 number_kept text = by (number_of text) refl
@@ -51,6 +52,7 @@ number_kept text = by (number_of text) refl
     by number.Shape e = tt
     by number.Wide e = tt
 
+-- the range of a new row that is read from a word has at most 127 bits
 new_range_kept : (kind : Kind) (text : List ℕ) → IfOk (new_range_in kind text) IsNarrow
 unfolding new_range_in
 new_range_kept kind text = by (is_free kind)
@@ -62,6 +64,7 @@ new_range_kept kind text = by (is_free kind)
 abbrev IsKeptRange : Option ℚ → Type 0
 IsKeptRange range = IfSome range IsNarrow
 
+-- a range that is read from a word has at most 127 bits, if it is not NONE
 range_kept : (text : List ℕ) → IfOk (range_in text) IsKeptRange
 unfolding range_in
 range_kept text = by (same text (codes "NONE"))
@@ -74,6 +77,7 @@ abbrev IsKeptValue : BoundValue ℚ → Type 0
 IsKeptValue (value.Finite v) = IsKeptBound (Some v)
 IsKeptValue other = Unit {0}
 
+-- a finite bound that is read from a word is less than 10 ^ 20 from 0
 value_kept : (text : List ℕ) → IfOk (as_read (bound_answer (bound_of text))) IsKeptValue
 value_kept text = by (bound_of text) refl
   where
@@ -84,18 +88,20 @@ value_kept text = by (bound_of text) refl
     by bound.Shape e = tt
     by bound.Wide e = tt
 
--- as a lower bound, and as an upper one
+-- where a value that is read may be kept, it may be kept as a lower bound and as an upper one
 bound_by_kept : (v : BoundValue ℚ) → IsKeptValue v → IfOk (lower_by v) IsKeptBound × IfOk (upper_by v) IsKeptBound
 bound_by_kept (value.Finite v) h = (h, h)
 bound_by_kept value.MinusInf h = ((tt, tt), tt)
 bound_by_kept value.PlusInf h = (tt, (tt, tt))
 
+-- a lower bound that is read from a word is less than 10 ^ 20 from 0, if it is finite
 lower_kept : (text : List ℕ) → IfOk (lower_in text) IsKeptBound
 unfolding lower_in
 lower_kept text =
     then_kept IsKeptValue IsKeptBound (as_read (bound_answer (bound_of text))) lower_by (value_kept text)
     (λ v h. (bound_by_kept v h).0)
 
+-- an upper bound that is read from a word is less than 10 ^ 20 from 0, if it is finite
 upper_kept : (text : List ℕ) → IfOk (upper_in text) IsKeptBound
 unfolding upper_in
 upper_kept text =
@@ -107,6 +113,7 @@ upper_kept text =
 abbrev AreKeptPairs : Pairs → Type 0
 AreKeptPairs pairs = All (λ p. IsNarrow p.1) pairs
 
+-- the numbers that are read from pairs of words have at most 127 bits
 pairs_kept : (pairs : List (List ℕ × List ℕ)) → IfOk (numbers_in pairs) AreKeptPairs
 unfolding numbers_in
 pairs_kept [] = All-nil (λ (p : Name × ℚ). IsNarrow p.1)
@@ -115,6 +122,7 @@ pairs_kept (p ∷ pairs) =
     then_kept AreKeptPairs AreKeptPairs (numbers_in pairs) _ (pairs_kept pairs) λ rest k.
     All-cons (λ (p : Name × ℚ). IsNarrow p.1) (p.0, v) rest h k
 
+-- the new column that is read from words has numbers of at most 127 bits
 column_kept : (name : Name) (cost : List ℕ) (pairs : Option (List (List ℕ × List ℕ))) →
     IfOk (column_in name cost pairs) IsKeptEdit
 column_kept name cost None = tt

@@ -32,37 +32,45 @@ use Rattle.spec_server.specs.Script.{ended_asks_of, script_of}
 use Rattle.spec_server.proofs.ScriptBytes.{whole_script, long_script, script_by}
 use Rattle.spec_server.proofs.ScriptLemmas.{IsKeptCommand, IsKeptLine, line_is_kept}
 
+-- where nothing is asked, all models and edits of the asks may be kept
 none_kept : AreKept []
 none_kept = All-nil (λ (a : Asked ExactAsk). IsKeptAsk a.ask)
 
+-- where the model or the edit of an ask may be kept, so may those of the list of this ask alone
 one_kept : (a : Asked ExactAsk) → IsKeptAsk a.ask → AreKept (a ∷ [])
 one_kept a h = All-cons (λ (a : Asked ExactAsk). IsKeptAsk a.ask) a [] h none_kept
 
+-- the ask that a text with a verdict makes holds a usual model, or none
 verdict_kept : (style : Style) (lines : List (Line (List ℕ))) (v : Verdict) →
     judge usual_limits style start 1 lines ≡ v →
     IsKeptAsk (ask_of_verdict v)
 verdict_kept style lines (Spelled m) e = usual_from_within m (spelled_kept usual_limits style lines m e)
 verdict_kept style lines (Refused n fault) e = tt
 
+-- the ask that a judged certificate makes holds no model or edit that may not be kept
 judgement_kept : (j : certificate.Judgement) → IsKeptAsk (ask_of_judgement j)
 judgement_kept (certificate.Spelled raw) = tt
 judgement_kept (certificate.Refused n) = tt
 
+-- where the numbers of a command's edit may be kept, so may those of the asks that the command makes
 command_asks_kept : (session : ℕ) (c : ExactCommand) → IsKeptCommand c → AreKept (asks_of_command session c)
 command_asks_kept session (Load form) h = none_kept
 command_asks_kept session Check h = none_kept
 command_asks_kept session (Plain asked) h = one_kept (record { session = session; ask = ask.Plain asked }) h
 command_asks_kept session (Bad fault) h = one_kept (record { session = session; ask = ask.Bad fault }) tt
 
+-- where the numbers of an addressed command's edit may be kept, so may those of the asks that it makes
 asks_kept : (found : Option (Addressed ExactEdit)) → IsKeptLine found → AreKept (asks_by found)
 asks_kept None h = none_kept
 asks_kept (Some addressed) h = command_asks_kept addressed.session addressed.command h.1
 
+-- where the model or the edit of an ask may be kept, so may those of its list, or of the empty one, by a test
 if_kept : (t : Bool) (session : ℕ) (asked : ExactAsk) → IsKeptAsk asked →
     AreKept (cond t (record { session = session; ask = asked } ∷ []) [])
 if_kept true session asked h = one_kept (record { session = session; ask = asked }) h
 if_kept false session asked h = none_kept
 
+-- the asks that a line makes hold models and edits that may be kept
 line_kept : (addressing : Addressing) (p : Pending) (next : Line (List ℕ)) → AreKept (asks_of_line addressing p next)
 line_kept addressing Between next = asks_kept (addressed_in addressing next) (line_is_kept addressing next)
 line_kept addressing (Text session form body) next =

@@ -67,6 +67,7 @@ abbrev pub IsKeptLine : Option (Addressed ExactEdit) → Type 0
 IsKeptLine None = Unit {0}
 IsKeptLine (Some addressed) = (addressed.session ≤ 64) × IsKeptCommand addressed.command
 
+-- where five tests are all true, the last one is
 last_test : (s t u v w : Bool) → s && t && u && v && w ≡ true → w ≡ true
 last_test true true true true w e = e
 last_test true true true false w e = cc
@@ -74,10 +75,12 @@ last_test true true false v w e = cc
 last_test true false u v w e = cc
 last_test false t u v w e = cc
 
+-- where a number is given only if a test is true, and one is given, the test is true and both are the same
 some_number : (t : Bool) (n session : ℕ) → cond t (Some n) None ≡ Some session → (t ≡ true) × (n ≡ session)
 some_number true n session e = (refl, cc)
 some_number false n session e = cc
 
+-- a word that spells the number of a session spells one of at most 64
 session_small : (word : List ℕ) (session : ℕ) → session_of word ≡ Some session → session ≤ 64
 unfolding session_of
 session_small word session e =
@@ -86,23 +89,27 @@ session_small word session e =
     (leb-true (spelled_from 0 word) 64 (last_test (nat_lt 0 (length word)) (nat_le (length word) 2)
     (list_all is_digit word) (not (begins_with_zero word)) (nat_le (spelled_from 0 word) 64) s.0))
 
+-- a command LOAD, or the fault in its place, has no edit with numbers that may not be kept
 load_kept : (form : Option Style) → IsKeptCommand (load_by form)
 load_kept None = tt
 load_kept (Some form) = tt
 
+-- a command WRITE, or the fault in its place, has no edit with numbers that may not be kept
 write_kept : (form : Option Style) → IsKeptCommand (write_by form)
 write_kept None = tt
 write_kept (Some form) = tt
 
+-- a command BUDGET, or the fault in its place, has no edit with numbers that may not be kept
 budget_kept : (n : Option ℕ) → IsKeptCommand (budget_by n)
 budget_kept None = tt
 budget_kept (Some n) = tt
 
+-- where the numbers of an edit that was read may be kept, so may those of its command
 change_kept : (read : Reads ExactEdit) → IfOk read IsKeptEdit → IsKeptCommand (change_by read)
 change_kept (Ok e) kept = kept
 change_kept (Err why) kept = tt
 
--- a command word, and no word, one or more after it
+-- the command of a word with more words behind it has numbers that may be kept, if it is an edit
 command_with_kept : (which : CommandWord) (behind : List (List ℕ)) → IsKeptCommand (command_with which behind)
 command_with_kept command_word.Load [] = tt
 command_with_kept command_word.Load (form ∷ []) = load_kept (style_of form)
@@ -127,28 +134,34 @@ command_with_kept command_word.Quit [] = tt
 command_with_kept command_word.Quit (other ∷ more) = tt
 command_with_kept (command_word.Edit which) behind = change_kept (edit_by which behind) (edit_kept which behind)
 
+-- the command of a first word, known or not, has numbers that may be kept, if it is an edit
 command_at_kept : (which : Option CommandWord) (behind : List (List ℕ)) → IsKeptCommand (command_at which behind)
 command_at_kept None behind = tt
 command_at_kept (Some which) behind = command_with_kept which behind
 
+-- the command that words say has numbers that may be kept, if it is an edit
 command_kept : (words : List (List ℕ)) → IsKeptCommand (command_of words)
 command_kept [] = tt
 command_kept (word ∷ behind) = command_at_kept (command_word_of word) behind
 
+-- where the session that a word says is at most 64, so is that of the line's command, and its edit may be kept
 addressed_to_kept : (found : Option ℕ) (words : List (List ℕ)) → ((session : ℕ) → found ≡ Some session → session ≤ 64) →
     IsKeptLine (Some (addressed_to found words))
 addressed_to_kept None words h = (omega arith, tt)
 addressed_to_kept (Some session) words h = (h session refl, command_kept words)
 
+-- the words of a line address a session of at most 64 with an edit that may be kept
 addressed_from_kept : (addressing : Addressing) (word : List ℕ) (words : List (List ℕ)) →
     IsKeptLine (Some (addressed_from addressing word words))
 addressed_from_kept Numbered word words = addressed_to_kept (session_of word) words (session_small word)
 addressed_from_kept Alone word words = (omega arith, command_kept (word ∷ words))
 
+-- an addressed command that words say is for a session of at most 64, and its edit may be kept
 words_kept : (addressing : Addressing) (words : List (List ℕ)) → IsKeptLine (addressed_by addressing words)
 words_kept addressing [] = tt
 words_kept addressing (word ∷ words) = addressed_from_kept addressing word words
 
+-- of two addressed commands for sessions of at most 64 with edits that may be kept, the one that a test takes is so
 choice : (t : Bool) (a b : Option (Addressed ExactEdit)) → IsKeptLine a → IsKeptLine b → IsKeptLine (cond t a b)
 choice true a b h k = h
 choice false a b h k = k
@@ -162,20 +175,24 @@ line_is_kept addressing (line.Long len) = (omega arith, tt)
 line_is_kept addressing line.End = tt
 line_is_kept addressing line.Over = tt
 
+-- where the session of a command is at most 64, so is that of the text or certificate that is pending behind it
 begun_numbered : (session : ℕ) (c : ExactCommand) → session ≤ 64 → IsNumbered (begun session c)
 begun_numbered session (Load form) h = h
 begun_numbered session Check h = h
 begun_numbered session (Plain asked) h = tt
 begun_numbered session (Bad fault) h = tt
 
+-- where an addressed command is for a session of at most 64, what is pending behind it is so too
 begun_by_numbered : (found : Option (Addressed ExactEdit)) → IsKeptLine found → IsNumbered (begun_by found)
 begun_by_numbered None h = tt
 begun_by_numbered (Some addressed) h = begun_numbered addressed.session addressed.command h.0
 
+-- where what is pending is of a session of at most 64 in both ways, it is so in the one that a test takes
 pending_choice : (t : Bool) (a b : Pending) → IsNumbered a → IsNumbered b → IsNumbered (cond t a b)
 pending_choice true a b h k = h
 pending_choice false a b h k = k
 
+-- where what is pending is of a session of at most 64, what is pending behind one more line is so too
 line_numbered : (addressing : Addressing) (p : Pending) (next : Line (List ℕ)) → IsNumbered p →
     IsNumbered (pending_after_line addressing p next)
 line_numbered addressing Between next h =
@@ -185,18 +202,22 @@ line_numbered addressing (Text session form body) next h =
 line_numbered addressing (Certificate session body) next h =
     pending_choice (ends_certificate next) Between (Certificate session (body ++ next ∷ [])) tt h
 
+-- where what is pending is of a session of at most 64, what is pending behind more lines is so too
 pending_numbered : (addressing : Addressing) (p : Pending) (lines : List (Line (List ℕ))) → IsNumbered p →
     IsNumbered (pending_after addressing p lines)
 pending_numbered addressing p [] h = h
 pending_numbered addressing p (l ∷ ls) h =
     pending_numbered addressing (pending_after_line addressing p l) ls (line_numbered addressing p l h)
 
+-- two lists of one ask are the same in this ask
 first_asked : (a b : Asked ExactAsk) → ◌≡◌ {A = List (Asked ExactAsk)} (a ∷ []) (b ∷ []) → a ≡ b
 first_asked a b e = cc
 
+-- the empty list of asks is no list of one ask
 none_asked : (a : Asked ExactAsk) → ◌≡◌ {A = List (Asked ExactAsk)} [] (a ∷ []) → ⊥
 none_asked a e = cc
 
+-- where a command for a session of at most 64 makes one ask, the ask is of such a session
 command_asked : (session : ℕ) (c : ExactCommand) (a : Asked ExactAsk) → session ≤ 64 →
     asks_of_command session c ≡ a ∷ [] → a.session ≤ 64
 command_asked session (Load form) a h e = absurd (none_asked a e)
@@ -204,17 +225,20 @@ command_asked session Check a h e = absurd (none_asked a e)
 command_asked session (Plain asked) a h e = subst (λ (b : Asked ExactAsk). b.session ≤ 64) (first_asked _ a e) h
 command_asked session (Bad fault) a h e = subst (λ (b : Asked ExactAsk). b.session ≤ 64) (first_asked _ a e) h
 
+-- where an addressed command for a session of at most 64 makes one ask, the ask is of such a session
 addressed_asked : (found : Option (Addressed ExactEdit)) (a : Asked ExactAsk) → IsKeptLine found →
     asks_by found ≡ a ∷ [] → a.session ≤ 64
 addressed_asked None a h e = absurd (none_asked a e)
 addressed_asked (Some addressed) a h e = command_asked addressed.session addressed.command a h.0 e
 
+-- where a line of the body of a session of at most 64 makes one ask, the ask is of such a session
 body_asked : (t : Bool) (session : ℕ) (asked : ExactAsk) (a : Asked ExactAsk) → session ≤ 64 →
     ◌≡◌ {A = List (Asked ExactAsk)} (cond t (record { session = session; ask = asked } ∷ []) []) (a ∷ []) → a.session ≤
     64
 body_asked true session asked a h e = subst (λ (b : Asked ExactAsk). b.session ≤ 64) (first_asked _ a e) h
 body_asked false session asked a h e = absurd (none_asked a e)
 
+-- where what is pending is of a session of at most 64 and a line makes one ask, the ask is of such a session
 line_asked : (addressing : Addressing) (p : Pending) (next : Line (List ℕ)) (a : Asked ExactAsk) → IsNumbered p →
     asks_of_line addressing p next ≡ a ∷ [] → a.session ≤ 64
 line_asked addressing Between next a h e =

@@ -51,6 +51,7 @@ checked a b e = cc
 abbrev yes_to : Known ℚ → ExactReply
 yes_to said = reply.Checked (verdict.Yes said)
 
+-- where the verdict on a certificate for a model is yes, what it says is true of the model
 verdict_true : (m : Model) (said : Known ℚ) (raw : ExactRaw) (r : Settled (Certificate (List ℚ))) →
     certificate_for m raw ≡ r → yes_to said ≡ verdict_on m r → Holds m said
 verdict_true m said raw (Ok cert) is e =
@@ -61,11 +62,13 @@ verdict_true m said raw (Ok cert) is e =
 verdict_true m said raw (Err (settle.UnknownName name)) is e = cc
 verdict_true m said raw (Err (settle.Repeated name)) is e = cc
 
+-- where the reply to CHECK is yes, a model is held of which the yes is true
 reply_true : (held : Option Model) (said : Known ℚ) (raw : ExactRaw) → yes_to said ≡ check_reply held raw →
     (m : Model) × (held ≡ Some m) × Holds m said
 reply_true None said raw e = cc
 reply_true (Some m) said raw e = (m, refl, verdict_true m said raw (certificate_for m raw) refl e)
 
+-- a yes to a certificate is not the reply `MEMORY`
 no_memory : (said : Known ℚ) → yes_to said ≡ reply.Memory → ⊥
 no_memory said e = cc
 
@@ -88,9 +91,11 @@ known_to said = reply.Answered (answer.Known said)
 pub answers_same : (a b : Answer ℚ) → ◌≡◌ {A = ExactReply} (reply.Answered a) (reply.Answered b) → a ≡ b
 answers_same a b e = cc
 
+-- two known answers are the same where they are so as answers
 knowns_same : (a b : Known ℚ) → ◌≡◌ {A = Answer ℚ} (answer.Known a) (answer.Known b) → a ≡ b
 knowns_same a b e = cc
 
+-- where a solve of a model ends with a known answer, this is true of the model
 solved_true : (m : Model) (budget : ℕ) (solved : ExactSolveEnd) (said : Known ℚ) → MayAnswer m budget solved →
     answer.Known said ≡ answer_of budget solved → Holds m said
 solved_true m budget (outcome.Ended known cert basis pivots) said h e =
@@ -98,12 +103,15 @@ solved_true m budget (outcome.Ended known cert basis pivots) said h e =
 solved_true m budget (outcome.Past p) said h e = cc
 solved_true m budget outcome.Spent said h e = cc
 
+-- a known answer is no refusal for want of a model
 refused_unknown : (said : Known ℚ) → known_to said ≡ reply.Refused refusal.NoModel → ⊥
 refused_unknown said e = cc
 
+-- a known answer is not the reply `MEMORY`
 no_memory_known : (said : Known ℚ) → known_to said ≡ reply.Memory → ⊥
 no_memory_known said e = cc
 
+-- where a solve replies with a known answer, a model is held of which the answer is true
 due_true : (old new : State) (held : Option Model) (said : Known ℚ) →
     Does old (solve_due old held) (known_to said) new → (m : Model) × (held ≡ Some m) × Holds m said
 due_true old new None said h = absurd (refused_unknown said h.0)
