@@ -26,6 +26,7 @@ use Rattle.spec_serve.proofs.OwnPart.{own_part, other_part}
 abbrev pub NoneClaimed : List ExactPlace → Type 0
 NoneClaimed now = (k owner : ℕ) → place_at now k ≡ Some (place.Claimed owner) → ⊥
 
+-- where a new place stands behind others, what is at a place was there before, or the place is the new one
 place_earlier : (ps : List ExactPlace) (j : ℕ) (p new : ExactPlace) → place_at (ps ++ new ∷ []) j ≡ Some p →
     (place_at ps j ≡ Some p) ⊎ (j ≡ length ps)
 place_earlier [] zero p new h = inr refl
@@ -37,12 +38,13 @@ place_earlier (q ∷ ps) (suc j) p new h = by (place_earlier ps j p new h)
     by (inl e) = inl e
     by (inr e) = inr (ap suc e)
 
+-- where no place is claimed, a place other than the next one is neither claimed nor the next one
 none_or_last : (now : List ExactPlace) (k j owner : ℕ) → NoneClaimed now → (k ≡ j → ⊥) → k ≡ length now →
     (place_at now j ≡ Some (place.Claimed owner)) ⊎ (j ≡ length now) → ⊥
 none_or_last now k j owner none apart last (inl h) = none j owner h
 none_or_last now k j owner none apart last (inr h) = apart (last ∙ sym h)
 
--- a place is claimed and then done
+-- where no place is claimed, and one is claimed and then done, none is claimed
 claim_done : (now : List ExactPlace) (me k : ℕ) (words : List ℕ) →
     place_at (now ++ place.Claimed me ∷ []) k ≡ Some (place.Claimed me) → k ≡ length now → NoneClaimed now →
     NoneClaimed (with_place (now ++ place.Claimed me ∷ []) k (place.Done words))
@@ -86,6 +88,7 @@ module _ (places me : ℕ) where
       subst NoneClaimed (sym (p.2.2.2 ∙ p.2.2.1.1 ∙ ap (λ ps. with_place ps k (place.Done words)) claimed))
       (claim_done now me k words mine p.1.0 none)
 
+-- where a look changes no place and none is claimed, none is claimed once the solve behind it concludes
 concludes_keeps : (places : ℕ) (me : ℕ) (old : State) (worked : Worked) (looked reads : List ExactRead)
     (replied : ExactReply) (new : State) (now last : List ExactPlace) →
     Concludes places old worked looked reads replied new →
@@ -99,6 +102,7 @@ concludes_keeps places me old (Publishes pending) looked reads replied new now l
     put_keeps places me pending.words c.put c.tried now last c.puts
     (subst (λ ps. Plays places ps (logged me c.tried) last) (stays p.0 p.1) p.2) none
 
+-- where no place is claimed, none is claimed once an ask that has begun goes on to its end
 goes_keeps : (places : ℕ) (me : ℕ) (old : State) (begun : Begun) (reads : List ExactRead) (replied : ExactReply)
     (new : State) (now last : List ExactPlace) →
     GoesOn places old begun reads replied new → Plays places now (logged me reads) last → NoneClaimed now →

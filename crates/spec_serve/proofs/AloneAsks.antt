@@ -40,20 +40,24 @@ abbrev IsLineAlone : Option (Addressed ExactEdit) → Type 0
 IsLineAlone None = Unit {0}
 IsLineAlone (Some addressed) = addressed.session ≡ 0
 
+-- where the asks of two lists are of session 0, so are those of the one behind the other
 AreAlone-append : (xs ys : List (Asked ExactAsk)) → AreAlone xs → AreAlone ys → AreAlone (xs ++ ys)
 AreAlone-append [] ys h k = k
 AreAlone-append (x ∷ xs) ys h k = (h.0, AreAlone-append xs ys h.1 k)
 
 -- ---- a line between two commands
 
+-- words that name no session are an addressed command for session 0, if they are one
 words_alone : (words : List (List ℕ)) → IsLineAlone (addressed_by Alone words)
 words_alone [] = tt
 words_alone (word ∷ words) = refl
 
+-- where an addressed command is for session 0, it is so whether a test drops it or keeps it
 text_alone : (t : Bool) (found : Option (Addressed ExactEdit)) → IsLineAlone found → IsLineAlone (cond t None found)
 text_alone true found h = tt
 text_alone false found h = h
 
+-- a line that names no session is an addressed command for session 0, if it is one
 line_alone : (next : Line (List ℕ)) → IsLineAlone (addressed_in Alone next)
 unfolding addressed_in
 line_alone (line.Text bytes) =
@@ -62,36 +66,43 @@ line_alone (line.Long len) = refl
 line_alone line.End = tt
 line_alone line.Over = tt
 
+-- what is pending behind a command for session 0 is of session 0
 begun_alone : (session : ℕ) (c : ExactCommand) → session ≡ 0 → IsPendingAlone (begun session c)
 begun_alone session (Load form) h = h
 begun_alone session Check h = h
 begun_alone session (Plain asked) h = tt
 begun_alone session (Bad fault) h = tt
 
+-- what is pending behind an addressed command for session 0, or behind none, is of session 0
 begun_by_alone : (found : Option (Addressed ExactEdit)) → IsLineAlone found → IsPendingAlone (begun_by found)
 begun_by_alone None h = tt
 begun_by_alone (Some addressed) h = begun_alone addressed.session addressed.command h
 
+-- the asks of a command for session 0 are of session 0
 command_alone : (session : ℕ) (c : ExactCommand) → session ≡ 0 → AreAlone (asks_of_command session c)
 command_alone session (Load form) h = tt
 command_alone session Check h = tt
 command_alone session (Plain asked) h = (h, tt)
 command_alone session (Bad fault) h = (h, tt)
 
+-- the asks of an addressed command for session 0 are of session 0
 asks_by_alone : (found : Option (Addressed ExactEdit)) → IsLineAlone found → AreAlone (asks_by found)
 asks_by_alone None h = tt
 asks_by_alone (Some addressed) h = command_alone addressed.session addressed.command h
 
 -- ---- any line
 
+-- where what is pending is of session 0, it is so if a test ends it or not
 pending_alone : (t : Bool) (p : Pending) → IsPendingAlone p → IsPendingAlone (cond t Between p)
 pending_alone true p h = tt
 pending_alone false p h = h
 
+-- where an ask is of session 0, the list of it alone, or of none, is of session 0 by a test
 body_alone : (t : Bool) (asked : Asked ExactAsk) → IsAlone asked → AreAlone (cond t (asked ∷ []) [])
 body_alone true asked h = (h, tt)
 body_alone false asked h = tt
 
+-- where what is pending is of session 0, what is pending behind a line that names no session is too
 after_line_alone : (p : Pending) (next : Line (List ℕ)) → IsPendingAlone p →
     IsPendingAlone (pending_after_line Alone p next)
 after_line_alone Between next h = begun_by_alone (addressed_in Alone next) (line_alone next)
@@ -100,12 +111,14 @@ after_line_alone (Text session form body) next h =
 after_line_alone (Certificate session body) next h =
     pending_alone (ends_certificate next) (Certificate session (body ++ next ∷ [])) h
 
+-- where what is pending is of session 0, the asks of a line that names no session are too
 of_line_alone : (p : Pending) (next : Line (List ℕ)) → IsPendingAlone p → AreAlone (asks_of_line Alone p next)
 of_line_alone Between next h = asks_by_alone (addressed_in Alone next) (line_alone next)
 of_line_alone (Text session form body) next h = body_alone (ends_text next) (record { session = session; ask = _ }) h
 of_line_alone (Certificate session body) next h =
     body_alone (ends_certificate next) (record { session = session; ask = _ }) h
 
+-- where what is pending is of session 0, the asks of lines that name no session are too
 asks_alone : (p : Pending) (lines : List (Line (List ℕ))) → IsPendingAlone p → AreAlone (asks_from Alone p lines)
 asks_alone p [] h = tt
 asks_alone p (next ∷ lines) h =

@@ -13,17 +13,19 @@ use Rattle.spec_serve.specs.Links.{session_of_link, as_session, exchanges_of_lin
 
 -- ---- exchanges as those of a session
 
+-- exchanges keep their reads as exchanges of another session
 as_session_reads : (session : ℕ) (xs : List Exchange) → reads_in_all (as_session session xs) ≡ reads_in_all xs
 as_session_reads session [] = refl
 as_session_reads session (x ∷ xs) = ap (λ rs. x.reads ++ rs) (as_session_reads session xs)
 
+-- exchanges that run from one state to another do so as exchanges of another session
 as_session_run : (places session : ℕ) (old last : State) (xs : List Exchange) → AloneRun places old xs last →
     AloneRun places old (as_session session xs) last
 as_session_run places session old last [] run = run
 as_session_run places session old last (x ∷ xs) run =
     (run.0, run.1, as_session_run places session run.0 last xs run.2)
 
--- they are taken all or none
+-- a test of sessions takes all exchanges or none, once they are those of one session
 taken : (p : ℕ → Bool) (session : ℕ) (xs : List Exchange) →
     filter (λ (x : Exchange). p x.session) (as_session session xs) ≡ cond (p session) (as_session session xs) []
 taken p session [] = by (p session)
@@ -40,6 +42,7 @@ taken p session (x ∷ xs) =
     by y ys rest true e = ap (λ zs. y ∷ zs) e
     by y ys rest false e = e
 
+-- a test tells two numbers apart that are different
 not_equal : (a b : ℕ) → a ≢ b → nat_eq a b ≡ false
 not_equal a b other = by (nat_eq a b) refl
   where

@@ -17,17 +17,20 @@ use Rattle.spec_serve.specs.Link.{LinkMoves}
 abbrev pub Asks : Type 0
 Asks = List (Asked ExactAsk)
 
+-- the first of the first elements of a list are the first of the list
 first_trans : {X : Type 0} (xs ys zs : List X) → AreFirstOf xs ys → AreFirstOf ys zs → AreFirstOf xs zs
 first_trans xs ys zs h k =
     (h.0 ++ k.0, k.1 ∙ ap (λ all. all ++ k.0) h.1 ∙ append_assoc xs h.0 k.0)
 
 -- ---- up to QUIT
 
+-- where the asks up to QUIT are the first of some, they are so with one ask before both, QUIT or not
 first_if : (t : Bool) (a : Asked ExactAsk) (asks : Asks) → AreFirstOf (up_to_quit asks) asks →
     AreFirstOf (a ∷ cond t [] (up_to_quit asks)) (a ∷ asks)
 first_if true a asks h = (asks, refl)
 first_if false a asks h = (h.0, ap (λ zs. a ∷ zs) h.1)
 
+-- the asks up to the first QUIT are the first of all asks
 up_to_quit_first : (asks : Asks) → AreFirstOf (up_to_quit asks) asks
 up_to_quit_first [] = ([], refl)
 up_to_quit_first (a ∷ asks) = first_if (is_quit a.ask) a asks (up_to_quit_first asks)
@@ -47,6 +50,7 @@ of_read : (after : Option (List ℕ)) (read : List ℕ) (P : List ℕ → Type 0
 of_read after read P (inl h) = h.1
 of_read after read P (inr h) = subst P (append-nil read) (h [])
 
+-- the asks of a link's exchanges are the first of those that the bytes read of it ask
 served_first : (places : ℕ) (s : Streams) (exchanges : List Exchange) (moves : LinkMoves places s exchanges) →
     AreFirstOf (map asked_in exchanges) (link_asks_of moves.read).asks
 served_first places s exchanges moves =

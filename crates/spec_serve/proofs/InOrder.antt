@@ -31,6 +31,7 @@ RespectsDone k other = Unit {0}
 abbrev HoldsOf : (ExactRead → Type 0) → List Logged → Type 0
 HoldsOf P log = AllByRecursion (λ (x : Logged). P x.read) log
 
+-- where the count of a read, if it has one, is at least n, it is at least each m up to n
 from_less : (m n : ℕ) (r : ExactRead) → m ≤ n → IsFrom n r → IsFrom m r
 from_less m n (Count c) l h = let g : n ≤ c = h in omega arith
 from_less m n (Lost c) l h = let g : n ≤ c = h in omega arith
@@ -39,6 +40,7 @@ from_less m n (Seen k words) l h = tt
 from_less m n (Claim k) l h = tt
 from_less m n (Done k words) l h = tt
 
+-- where the places answer a read with a count, this is at least the number of those claimed before
 first_from : (places session : ℕ) (now next : List ExactPlace) (r : ExactRead) → Answers places now session r next →
     IsFrom (length now) r
 first_from places session now next (Count c) a = let e : c ≡ length now = a.0 in omega arith
@@ -48,6 +50,7 @@ first_from places session now next (Seen k words) a = tt
 first_from places session now next (Claim k) a = tt
 first_from places session now next (Done k words) a = tt
 
+-- where n places or more are claimed, each count in a log that the places answer is at least n
 log_from : (places : ℕ) (now last : List ExactPlace) (log : List Logged) (n : ℕ) → n ≤ length now →
     Plays places now log last → HoldsOf (IsFrom n) log
 log_from places now last [] n l p = tt
@@ -57,6 +60,7 @@ log_from places now last (x ∷ log) n l p =
       log_from places p.0 last log n (omega arith) p.2,
     )
 
+-- where a place is done, a read that the places answer does not leave it uncounted, find it undone or publish it
 first_respects : (places session : ℕ) (now next : List ExactPlace) (r : ExactRead) (k : ℕ) (words : List ℕ) →
     place_at now k ≡ Some (place.Done words) → Answers places now session r next → RespectsDone k r
 first_respects places session now next (Count c) k words at a = let l = place_below now k (place.Done words) at in
@@ -71,6 +75,7 @@ first_respects places session now next (Done j done) k words at a =
     λ e. let z : place.Done words ≡ place.Claimed session =
     some_same (place.Done words) (place.Claimed session) (sym at ∙ ap (place_at now) e ∙ a.0) in cc
 
+-- where a place is done, no read that the places answer leaves it uncounted, finds it undone or publishes it
 log_respects : (places : ℕ) (now last : List ExactPlace) (log : List Logged) (k : ℕ) (words : List ℕ) →
     place_at now k ≡ Some (place.Done words) → Plays places now log last → HoldsOf (RespectsDone k) log
 log_respects places now last [] k words at p = tt
@@ -82,14 +87,17 @@ log_respects places now last (x ∷ log) k words at p = (
 
 -- ---- pairs
 
+-- where P implies Q, and P holds of each read of a log, so does Q
 implied : (P Q : ExactRead → Type 0) (log : List Logged) → ((r : ExactRead) → P r → Q r) → HoldsOf P log → HoldsOf Q log
 implied P Q [] f h = tt
 implied P Q (x ∷ log) f h = (f x.read h.0, implied P Q log f h.1)
 
+-- what is true of each read holds of all reads of a log
 trivially : (log : List Logged) → HoldsOf (λ r. Unit {0}) log
 trivially [] = tt
 trivially (x ∷ log) = (tt, trivially log)
 
+-- a read whose count, if it has one, is at least c is in order behind the count c
 count_in_order : (c : ℕ) (r : ExactRead) → IsFrom c r → AreInOrder (Count c) r
 count_in_order c (Count d) h = h
 count_in_order c (Lost d) h = h
@@ -98,6 +106,7 @@ count_in_order c (Seen k words) h = tt
 count_in_order c (Claim k) h = tt
 count_in_order c (Done k words) h = tt
 
+-- a read whose count, if it has one, is at least c is in order behind a claim lost at the count c
 lost_in_order : (c : ℕ) (r : ExactRead) → IsFrom c r → AreInOrder (Lost c) r
 lost_in_order c (Count d) h = h
 lost_in_order c (Lost d) h = h
@@ -106,6 +115,7 @@ lost_in_order c (Seen k words) h = tt
 lost_in_order c (Claim k) h = tt
 lost_in_order c (Done k words) h = tt
 
+-- a read that does not leave place k uncounted or find it undone is in order behind one that saw it
 seen_in_order : (k : ℕ) (words : List ℕ) (r : ExactRead) → RespectsDone k r → AreInOrder (Seen k words) r
 seen_in_order k words (Count d) h = h
 seen_in_order k words (Lost d) h = tt
@@ -114,6 +124,7 @@ seen_in_order k words (Seen j other) h = tt
 seen_in_order k words (Claim j) h = tt
 seen_in_order k words (Done j other) h = tt
 
+-- a read that does not leave place k uncounted or find it undone is in order behind one that published it
 done_in_order : (k : ℕ) (words : List ℕ) (r : ExactRead) → RespectsDone k r → AreInOrder (Done k words) r
 done_in_order k words (Count d) h = h
 done_in_order k words (Lost d) h = tt
@@ -122,7 +133,7 @@ done_in_order k words (Seen j other) h = tt
 done_in_order k words (Claim j) h = tt
 done_in_order k words (Done j other) h = tt
 
--- what one read says of all later ones
+-- where the places answer a read and then a log, each read of the log is in order behind this read
 later_in_order : (places session : ℕ) (now next last : List ExactPlace) (r : ExactRead) (log : List Logged) →
     Answers places now session r next → Plays places next log last → HoldsOf (AreInOrder r) log
 later_in_order places session now next last (Count c) log a p =
@@ -148,6 +159,7 @@ later_in_order places session now next last (Claim k) log a p = trivially log
 abbrev pub served : (ℕ → Bool) → List Logged → List ExactRead
 served serves log = map (λ (x : Logged). x.read) (filter (λ x. serves x.session) log)
 
+-- what holds of each read of a log holds of each read of the sessions that one worker serves
 served_hold : (serves : ℕ → Bool) (P : ExactRead → Type 0) (log : List Logged) → HoldsOf P log →
     AllByRecursion P (served serves log)
 served_hold serves P [] h = tt
@@ -174,6 +186,7 @@ served_in_order places now last (x ∷ log) serves p =
 
 -- ---- no place is published twice
 
+-- where a read does not publish the done place k and more places are others, all that are published are others
 other_place : (k : ℕ) (r : ExactRead) → RespectsDone k r → (more : List ℕ) → AllByRecursion (λ j. k ≡ j → ⊥) more →
     AllByRecursion (λ j. k ≡ j → ⊥) (published_by r ++ more)
 other_place k (Done j words) h more rest = (h, rest)
@@ -186,11 +199,13 @@ other_place k (Claim j) h more rest = rest
 abbrev pub published : List Logged → List ℕ
 published log = flat_map (λ (x : Logged). published_by x.read) log
 
+-- where the reads of a log do not publish the done place k, the places that the log publishes are others
 other_places : (k : ℕ) (log : List Logged) → HoldsOf (RespectsDone k) log →
     AllByRecursion (λ j. k ≡ j → ⊥) (published log)
 other_places k [] h = tt
 other_places k (x ∷ log) h = other_place k x.read h.0 (published log) (other_places k log h.1)
 
+-- where a log publishes no place twice, nor does it with a read before it, if the places answer both
 publish_once_on : (places session : ℕ) (now next last : List ExactPlace) (r : ExactRead) (log : List Logged) →
     Answers places now session r next → Plays places next log last →
     InPairs (λ (j k : ℕ). j ≡ k → ⊥) (published log) →

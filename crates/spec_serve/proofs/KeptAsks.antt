@@ -20,11 +20,13 @@ use Rattle.spec_serve.proofs.FirstAsks.{Asks, link_asks_first, ended_link_asks_f
 abbrev IsKept : Asked ExactAsk → Type 0
 IsKept a = IsKeptAsk a.ask
 
+-- where what the asks of two lists hold may be kept, so may what those of the first hold
 front_kept : (xs ys : Asks) → AreKept (xs ++ ys) → AreKept xs
 front_kept [] ys h = All-nil IsKept
 front_kept (a ∷ xs) ys h =
     All-cons IsKept a xs (All-head IsKept a (xs ++ ys) h) (front_kept xs ys (All-tail IsKept a (xs ++ ys) h))
 
+-- where what asks hold may be kept, so may what the first of them hold
 first_kept : (first all : Asks) → AreFirstOf first all → AreKept all → AreKept first
 first_kept first all h kept = front_kept first h.0 (subst AreKept h.1 kept)
 

@@ -86,11 +86,13 @@ module _ (raw : List ℕ) (lines : List (Line (List ℕ))) (within : length raw 
 
 -- ---- the first asks up to QUIT
 
+-- where asks are the first of those of bytes, a link asks them and the rest, up to QUIT
 link_asks : {asks : List (Asked ExactAsk)} {bytes : List ℕ} (b : AsksBegin asks bytes) →
     link_asks_of bytes ≡ until_quit (record { asks = asks ++ b.rest; ending = b.ending })
 unfolding link_asks_of
 link_asks b = ap until_quit b.is
 
+-- where asks are the first ones up to QUIT of those of bytes, they are the first that a link of the bytes asks
 as_first : {asks : List (Asked ExactAsk)} {bytes : List ℕ} (b : AsksBegin asks bytes) →
     AreFirstOf asks (up_to_quit (asks ++ b.rest)) → AreFirstOf asks (link_asks_of bytes).asks
 as_first {asks} b first =

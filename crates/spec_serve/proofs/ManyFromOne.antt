@@ -26,6 +26,7 @@ use Rattle.spec_serve.proofs.AllDone.{NoneClaimed, all_done}
 abbrev pub reads_in : List Logged → List ExactRead
 reads_in log = map (λ (x : Logged). x.read) log
 
+-- the reads in the log of one session's reads are these reads
 one_log : (session : ℕ) (rs : List ExactRead) → reads_in (logged session rs) ≡ rs
 one_log session [] = refl
 one_log session (r ∷ rs) = ap (λ qs. r ∷ qs) (one_log session rs)
@@ -36,6 +37,7 @@ log_reads (x ∷ xs) =
     map-append (λ (y : Logged). y.read) (logged x.session x.reads) (log_of xs)
     ∙ ap (λ rs. rs ++ reads_in (log_of xs)) (one_log x.session x.reads) ∙ ap (λ rs. x.reads ++ rs) (log_reads xs)
 
+-- of the log of one session's reads a worker has all, if it serves the session, and else none
 one_served : (serves : ℕ → Bool) (session : ℕ) (rs : List ExactRead) (t : Bool) → serves session ≡ t →
     served serves (logged session rs) ≡ cond t rs []
 one_served serves session [] true e = refl
@@ -51,6 +53,7 @@ one_served serves session (r ∷ rs) false e =
     (filter (λ y. serves y.session) (logged session rs)))) e
     ∙ one_served serves session rs false e
 
+-- what a worker serves of the log of exchanges is the reads of the worker's exchanges
 served_reads : (workers worker : ℕ) (xs : List Exchange) →
     served (λ session. nat_eq (session % workers) worker) (log_of xs) ≡ reads_of_worker workers worker xs
 served_reads workers worker [] = refl
@@ -65,6 +68,7 @@ served_reads workers worker (x ∷ xs) =
     (nat_eq (x.session % workers) worker) refl)
     ∙ ap (λ rs. cond (nat_eq (x.session % workers) worker) x.reads [] ++ rs) (served_reads workers worker xs)
 
+-- of the log of one session's reads the log of a worker has all, if the session is its own, and else none
 one_worker_log : (workers worker session : ℕ) (rs : List ExactRead) (t : Bool) → nat_eq (session % workers) worker ≡ t →
     log_of_worker workers worker (logged session rs) ≡ cond t (logged session rs) []
 one_worker_log workers worker session [] true e = refl
@@ -78,13 +82,14 @@ one_worker_log workers worker session (r ∷ rs) false e =
     (log_of_worker workers worker (logged session rs))) e
     ∙ one_worker_log workers worker session rs false e
 
--- the reads of a worker in the log of all
+-- the log of a worker's exchanges with one more before them, or not, is that one's log, or none, and theirs
 log_more : (workers worker : ℕ) (x : Exchange) (xs : List Exchange) (t : Bool) →
     cond t (logged x.session x.reads) [] ++ logs_of workers xs worker
     ≡ log_of (cond t (x ∷ exchanges_of_worker workers worker xs) (exchanges_of_worker workers worker xs))
 log_more workers worker x xs true = refl
 log_more workers worker x xs false = refl
 
+-- a worker's part of the log of exchanges is the log of the worker's exchanges
 worker_logs : (workers worker : ℕ) (xs : List Exchange) →
     log_of_worker workers worker (log_of xs) ≡ logs_of workers xs worker
 worker_logs workers worker [] = refl
@@ -95,15 +100,18 @@ worker_logs workers worker (x ∷ xs) =
     (one_worker_log workers worker x.session x.reads (nat_eq (x.session % workers) worker) refl)
     ∙ log_more workers worker x xs (nat_eq (x.session % workers) worker)
 
+-- the places that a log publishes are those that its reads publish
 published_log : (log : List Logged) → published log ≡ flat_map published_by (reads_in log)
 published_log [] = refl
 published_log (x ∷ log) = ap (λ ks. published_by x.read ++ ks) (published_log log)
 
+-- the places that the log of exchanges publishes are those that their reads publish
 published_all : (xs : List Exchange) → published (log_of xs) ≡ published_in (reads_in_all xs)
 published_all xs = published_log (log_of xs) ∙ ap (flat_map published_by) (log_reads xs)
 
 -- ---- what is read is backed
 
+-- a log that the places answer leaves at least as many claimed as before
 plays_grow : (places : ℕ) (now last : List ExactPlace) (log : List Logged) → Plays places now log last →
     length now ≤ length last
 plays_grow places now last [] p = let e : length last ≡ length now = ap length p in omega arith
@@ -112,9 +120,11 @@ plays_grow places now last (x ∷ log) p =
     let more = plays_grow places p.0 last log p.2 in
     omega arith
 
+-- a list of reads contains its first one
 here : (r : ExactRead) (rs : List ExactRead) → Contains (r ∷ rs) r
 here r rs = Contains-append_left (r ∷ []) rs r (zero, omega arith, refl)
 
+-- a read that a list contains is contained with one more read before the list
 later : (r q : ExactRead) (rs : List ExactRead) → Contains rs q → Contains (r ∷ rs) q
 later r q rs h = Contains-append_right (r ∷ []) rs q h
 
@@ -122,6 +132,7 @@ later r q rs h = Contains-append_right (r ∷ []) rs q h
 abbrev ArePublished : List ExactRead → List ExactPlace → Type 0
 ArePublished all now = (k : ℕ) (words : List ℕ) → place_at now k ≡ Some (place.Done words) → Contains all (Done k words)
 
+-- where each done place is published in all reads, a read that the places answer is backed by them
 backed_first : (places session : ℕ) (now next : List ExactPlace) (r : ExactRead) (all : List ExactRead)
     (claimed : ℕ) → ArePublished all now → length now ≤ claimed → Answers places now session r next →
     IsBacked all claimed r
@@ -132,6 +143,7 @@ backed_first places session now next (NotDone k) all claimed done l a = tt
 backed_first places session now next (Claim k) all claimed done l a = tt
 backed_first places session now next (Done k words) all claimed done l a = tt
 
+-- where each done place is published in all reads, it is so after one of these that the places answer
 published_on : (places session : ℕ) (now next : List ExactPlace) (r : ExactRead) (all : List ExactRead) →
     ArePublished all now → Contains all r → Answers places now session r next → ArePublished all next
 published_on places session now next r all done there a k words at =
@@ -141,6 +153,7 @@ published_on places session now next r all done there a k words at =
     by (inl e) = done k words e
     by (inr e) = subst (Contains all) e there
 
+-- where each done place is published in all reads, each read of a log among them is backed, if the places answer it
 backed : (places : ℕ) (now last : List ExactPlace) (log : List Logged) (all : List ExactRead) →
     ((r : ExactRead) → Contains (reads_in log) r → Contains all r) → ArePublished all now → Plays places now log last →
     AllByRecursion (IsBacked all (length last)) (reads_in log)
@@ -153,6 +166,7 @@ backed places now last (x ∷ log) all sub done p = (
 
 -- ---- the published places are those below a number
 
+-- where at most n places are claimed and others are below n, so are these and the one that a read publishes
 published_first : (places session : ℕ) (now next : List ExactPlace) (r : ExactRead) (n : ℕ) (more : List ℕ) →
     Answers places now session r next → length now ≤ n → AllByRecursion (λ k. k < n) more →
     AllByRecursion (λ k. k < n) (published_by r ++ more)
@@ -164,6 +178,7 @@ published_first places session now next (NotDone k) n more a l rest = rest
 published_first places session now next (Seen k words) n more a l rest = rest
 published_first places session now next (Claim k) n more a l rest = rest
 
+-- a log that the places answer publishes places below the count of those claimed at its end
 published_below : (places : ℕ) (now last : List ExactPlace) (log : List Logged) → Plays places now log last →
     AllByRecursion (λ k. k < length last) (published log)
 published_below places now last [] p = tt
@@ -171,6 +186,7 @@ published_below places now last (x ∷ log) p =
     published_first places x.session now p.0 x.read (length last) (published log) p.1
     (plays_grow places now last (x ∷ log) p) (published_below places p.0 last log p.2)
 
+-- a place that is done behind a log that the places answer was so before, or the log publishes it
 done_published : (places : ℕ) (now last : List ExactPlace) (log : List Logged) (k : ℕ) (words : List ℕ) →
     Plays places now log last → place_at last k ≡ Some (place.Done words) →
     (place_at now k ≡ Some (place.Done words)) ⊎ Contains (published log) k
@@ -188,6 +204,7 @@ done_published places now last (x ∷ log) k words p at = by (done_published pla
     by (inl e) = now_or (answers_before places x.session now p.0 x.read k words p.1 e)
     by (inr c) = inr (Contains-append_right (published_by x.read) (published log) k c)
 
+-- where the places answer a log from the beginning and none stays claimed, the log publishes each one
 each_published : (places : ℕ) (last : List ExactPlace) (log : List Logged) (k : ℕ) → Plays places [] log last →
     NoneClaimed last → k < length last → Contains (published log) k
 each_published places last log k p none l = let there = place_some last k l in by there.0 there.1
@@ -203,6 +220,7 @@ each_published places last log k p none l = let there = place_some last k l in b
 
 -- ---- all of it
 
+-- exchanges that one worker may have had are ones that any number of workers may have had
 one_is_many : (places : ℕ) (workers : ℕ) (xs : List Exchange) → RunFits places xs → ManyFits places workers xs
 one_is_many places workers xs f =
     let log : List Logged = log_of xs in

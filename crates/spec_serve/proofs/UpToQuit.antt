@@ -14,6 +14,7 @@ use Rattle.spec_serve.specs.Link.{is_quit, quits, up_to_quit, until_quit, AreFir
 
 -- ---- an ask, by whether it is QUIT
 
+-- behind an ask that is not QUIT all others stay, where those up to QUIT are all of them
 first_by : (t u : Bool) (a : Asked ExactAsk) (xs ys : List (Asked ExactAsk)) → (t || u) ≡ false →
     (u ≡ false → xs ≡ ys) → ◌≡◌ {A = List (Asked ExactAsk)} (a ∷ cond t [] xs) (a ∷ ys)
 first_by true u a xs ys none more = absurd (let h = none in cc)

@@ -13,6 +13,7 @@ abbrev asks_of : ℕ → List (Asked ExactAsk) → List ExactAsk
 asks_of session asks =
     map (λ (a : Asked ExactAsk). a.ask) (filter (λ (a : Asked ExactAsk). nat_eq a.session session) asks)
 
+-- what a session is asked in exchanges with one more before them, or not, is what it is asked by their asks
 asked_more : (session : ℕ) (x : Exchange) (xs : List Exchange) (t : Bool) →
     map (λ (y : Exchange). y.ask) (of_session session xs) ≡ asks_of session (map asked_in xs) →
     map (λ (y : Exchange). y.ask) (cond t (x ∷ of_session session xs) (of_session session xs))
@@ -22,11 +23,13 @@ asked_more : (session : ℕ) (x : Exchange) (xs : List Exchange) (t : Bool) →
 asked_more session x xs true more = ap (λ zs. x.ask ∷ zs) more
 asked_more session x xs false more = more
 
+-- what a session is asked in its exchanges is what the asks of all exchanges ask of it
 asked_of : (session : ℕ) (xs : List Exchange) →
     map (λ (x : Exchange). x.ask) (of_session session xs) ≡ asks_of session (map asked_in xs)
 asked_of session [] = refl
 asked_of session (x ∷ xs) = asked_more session x xs (nat_eq x.session session) (asked_of session xs)
 
+-- two runs with the same asks, by any numbers of workers, give a session replies that agree, with memory enough
 pub workers_agree : (workers workers' places places' session : ℕ) (xs ys : List Exchange) →
     RunsBy workers places xs → RunsBy workers' places' ys → map asked_in xs ≡ map asked_in ys →
     HasMemory (of_session session xs) → HasMemory (of_session session ys) →
