@@ -31,7 +31,7 @@ use Rattle.spec_program.specs.Fits.{IsLinks, Fits}
 pub none_is_not : {A : Type 0} (a : A) → ◌≡◌ {A = Option A} None (Some a) → ⊥
 none_is_not a e = cc
 
--- five tests say yes, where a number is given
+-- where a number is given if five tests are true, and one is given, the last three are true and both are the same
 all_five : (s t u v w : Bool) (k n : ℕ) → cond (s && t && u && v && w) (Some k) None ≡ Some n →
     (u ≡ true) × (v ≡ true) × (w ≡ true) × (k ≡ n)
 all_five true true true true true k n e = let same : k ≡ n = cc in (refl, refl, refl, same)
@@ -41,6 +41,7 @@ all_five true true false v w k n e = absurd (none_is_not n e)
 all_five true false u v w k n e = absurd (none_is_not n e)
 all_five false t u v w k n e = absurd (none_is_not n e)
 
+-- a number that is read from a word with a last value is at least 1 and at most the last
 number-within : (last digits : ℕ) (text : List ℕ) (n : ℕ) → number_to last digits text ≡ Some n → (1 ≤ n) × (n ≤ last)
 number-within last digits [] n e = absurd (none_is_not n e)
 number-within last digits (b ∷ bs) n e =
@@ -55,31 +56,37 @@ number-within last digits (b ∷ bs) n e =
     let same = tests.3 in
     (omega (arith, high, more, same), omega (arith, within, same))
 
+-- a number of workers that is read, or stands in for none given, is within its limits
 workers-within : (given : Option Word) (k : ℕ) → workers_given given ≡ Some k → IsWorkers k
 unfolding workers_of
 workers-within None k e = let same : 1 ≡ k = cc in (omega (arith, same), omega (arith, same))
 workers-within (Some word) k e = number-within 16 2 word k e
 
+-- a number of places that is read, or stands in for none given, is within its limits
 places-within : (given : Option Word) (n : ℕ) → places_given given ≡ Some n → IsPlaces n
 unfolding places_of
 places-within None n e = let same : 256 ≡ n = cc in (omega (arith, same), omega (arith, same))
 places-within (Some word) n e = number-within 1024 7 word n e
 
+-- a number of links that is read, or stands in for none given, is within its limits
 links-within : (given : Option Word) (n : ℕ) → links_given given ≡ Some n → IsLinks n
 unfolding links_of
 links-within None n e = let same : 1 ≡ n = cc in (omega (arith, same), omega (arith, same))
 links-within (Some word) n e = number-within 1000 4 word n e
 
+-- a number of rows that is read from a word is at most 256
 rows-within : (word : Word) (n : ℕ) → row_count_of word ≡ Some n → n ≤ 256
 unfolding row_count_of
 rows-within word n e = (number-within 256 3 word n e).1
 
+-- a number of columns that is read from a word is at most 512
 columns-within : (word : Word) (n : ℕ) → column_count_of word ≡ Some n → n ≤ 512
 unfolding column_count_of
 columns-within word n e = (number-within 512 3 word n e).1
 
 -- ---- commands
 
+-- where what a command's row asks for has numbers within limits, so has what words ask of the row
 row-fits : (row : Row) (words : List Word) (command : ExactLine) →
     ((given : Given) → row.asks given ≡ Some command → Fits command) → asked_by words row ≡ Some command →
     Fits command
@@ -89,6 +96,7 @@ row-fits row words command fits e = by (given_in (row.plain words) row.names row
     by None h = absurd (none_is_not command h)
     by (Some given) h = fits given h
 
+-- where numbers of workers and places are within limits, so are those of the command line `run` with them
 run_by-fits : (workers places : Option ℕ) (command : ExactLine) →
     ((k : ℕ) → workers ≡ Some k → IsWorkers k) → ((n : ℕ) → places ≡ Some n → IsPlaces n) →
     run_by workers places ≡ Some command → Fits command
@@ -97,6 +105,7 @@ run_by-fits (Some k) None command w p e = absurd (none_is_not command e)
 run_by-fits (Some k) (Some n) command w p e =
     let same : Run k n ≡ command = cc in subst Fits same (w k refl, p n refl)
 
+-- the numbers of a command line `run` are within their limits
 run-fits : (words : List Word) (command : ExactLine) → asked_by words run_row ≡ Some command → Fits command
 run-fits words command e =
     row-fits run_row words command
@@ -105,17 +114,20 @@ run-fits words command e =
     (workers-within (look_up (codes "--workers") given.options))
     (places-within (look_up (codes "--places") given.options)) h) e
 
+-- the numbers of a command line that reads a text are within their limits
 read-fits : (asked : ExactTextCommand) (style : Option Style) (command : ExactLine) →
     option_map (Read asked) style ≡ Some command → Fits command
 read-fits asked None command e = absurd (none_is_not command e)
 read-fits asked (Some style) command e = let same : Read asked style ≡ command = cc in subst Fits same tt
 
+-- the numbers of what words ask of a text's command are within their limits
 text-fits : (asked : ExactTextCommand) (words : List Word) (command : ExactLine) →
     asked_by words (text_row asked) ≡ Some command → Fits command
 text-fits asked words command e =
     row-fits (text_row asked) words command
     (λ given h. read-fits asked (form_given (look_up (codes "--form") given.options)) command h) e
 
+-- the numbers of what words ask of a command with `--wide` or without are within their limits
 wide-fits : (narrow wide : ExactTextCommand) (words : List Word) (command : ExactLine) →
     asked_by words (wide_row narrow wide) ≡ Some command → Fits command
 wide-fits narrow wide words command e =
@@ -123,12 +135,14 @@ wide-fits narrow wide words command e =
     (λ given h. read-fits (by_width narrow wide (look_up (codes "--wide") given.options))
     (form_given (look_up (codes "--form") given.options)) command h) e
 
+-- the numbers of a command line `range` of a cost or a right side are within their limits
 range_by-fits : (moved : Option Moved) (name : Option Word) (style : Option Style) (command : ExactLine) →
     range_by moved name style ≡ Some command → Fits command
 range_by-fits None name style command e = absurd (none_is_not command e)
 range_by-fits (Some w) None style command e = absurd (none_is_not command e)
 range_by-fits (Some w) (Some n) style command e = read-fits (Range w n) style command e
 
+-- the numbers of what the words behind `range` ask are within their limits
 range_with-fits : (words : List Word) (options : Options) (command : ExactLine) →
     range_with words options ≡ Some command → Fits command
 range_with-fits [] options command e = absurd (none_is_not command e)
@@ -142,10 +156,12 @@ range_with-fits (what ∷ name ∷ []) options command e =
     range_by-fits (moved_of what) (name_of name) (form_given (look_up (codes "--form") options)) command e
 range_with-fits (what ∷ name ∷ word ∷ words) options command e = absurd (none_is_not command e)
 
+-- the numbers of a command line `range` are within their limits
 range-fits : (words : List Word) (command : ExactLine) → asked_by words range_row ≡ Some command → Fits command
 range-fits words command e =
     row-fits range_row words command (λ given h. range_with-fits given.plain given.options command h) e
 
+-- where rows are at most 256 and columns at most 512, the numbers of the command line `gen` are within limits
 generate_by-fits : (seed rows columns : Option ℕ) (command : ExactLine) →
     ((n : ℕ) → rows ≡ Some n → n ≤ 256) → ((n : ℕ) → columns ≡ Some n → n ≤ 512) →
     generate_by seed rows columns ≡ Some command → Fits command
@@ -155,6 +171,7 @@ generate_by-fits (Some s) (Some n) None command r c e = absurd (none_is_not comm
 generate_by-fits (Some s) (Some n) (Some k) command r c e =
     let same : Generate s n k ≡ command = cc in subst Fits same (r n refl, c k refl)
 
+-- the numbers of what the words behind `gen` ask are within their limits
 generate_with-fits : (words : List Word) (command : ExactLine) → generate_with words ≡ Some command → Fits command
 generate_with-fits [] command e = absurd (none_is_not command e)
 generate_with-fits (seed ∷ []) command e = absurd (none_is_not command e)
@@ -164,10 +181,12 @@ generate_with-fits (seed ∷ rows ∷ columns ∷ []) command e =
     (columns-within columns) e
 generate_with-fits (seed ∷ rows ∷ columns ∷ word ∷ words) command e = absurd (none_is_not command e)
 
+-- the numbers of a command line `gen` are within their limits
 generate-fits : (words : List Word) (command : ExactLine) → asked_by words generate_row ≡ Some command → Fits command
 generate-fits words command e =
     row-fits generate_row words command (λ given h. generate_with-fits given.plain command h) e
 
+-- where numbers of workers, links and places are within limits, so are those of the command line `serve`
 serve_by-fits : (workers each places : Option ℕ) (command : ExactLine) →
     ((k : ℕ) → workers ≡ Some k → IsWorkers k) → ((c : ℕ) → each ≡ Some c → IsLinks c) →
     ((n : ℕ) → places ≡ Some n → IsPlaces n) → serve_by workers each places ≡ Some command → Fits command
@@ -177,6 +196,7 @@ serve_by-fits (Some k) (Some c) None command w l p e = absurd (none_is_not comma
 serve_by-fits (Some k) (Some c) (Some n) command w l p e =
     let same : Serve k c n ≡ command = cc in subst Fits same (w k refl, l c refl, p n refl)
 
+-- the numbers of what the words behind `serve` ask are within their limits
 serve_with-fits : (words : List Word) (options : Options) (command : ExactLine) →
     serve_with words options ≡ Some command → Fits command
 serve_with-fits [] options command e = absurd (none_is_not command e)
@@ -199,6 +219,7 @@ serve_with-fits (address ∷ []) options command e =
     by true k c n w l p h = serve_by-fits k c n command w l p h
     by false k c n w l p h = absurd (none_is_not command h)
 
+-- the numbers of a command line `serve` are within their limits
 serve-fits : (words : List Word) (command : ExactLine) → asked_by words serve_row ≡ Some command → Fits command
 serve-fits words command e =
     row-fits serve_row words command (λ given h. serve_with-fits given.plain given.options command h) e
