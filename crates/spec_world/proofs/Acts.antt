@@ -28,14 +28,17 @@ use Rattle.spec_world.proofs.PutActs.{put_counted, claimed_moved, done_moved}
 
 -- ---- looks
 
+-- the reads so far of a look are those that it has made
 looking_reads : (shape : List ℕ) (k : ℕ) (reads : List ExactRead) → reads_so_far (looking shape k reads) ≡ reads
 looking_reads shape zero reads = refl
 looking_reads shape (suc k) reads = refl
 
+-- while a look goes on, a solve is being answered
 looking_going : (shape : List ℕ) (k : ℕ) (reads : List ExactRead) → going (looking shape k reads) ≡ solve ∷ []
 looking_going shape zero reads = refl
 looking_going shape (suc k) reads = refl
 
+-- what is shown of words to a look for a shape is what may be shown of the words
 shown_so : (shape payload : List ℕ) → IsShown payload (shown shape payload)
 shown_so shape payload = by (has_shape shape payload)
   where
@@ -46,6 +49,7 @@ shown_so shape payload = by (has_shape shape payload)
 pub front_front : (payload : List ℕ) → front (front payload) ≡ front payload
 front_front payload = take-take shape_words shape_words payload (omega arith)
 
+-- where what is shown of words has not the shape, it is its own front
 shown_front : (shape payload : List ℕ) → has_shape shape (shown shape payload) ≡ false →
     front (shown shape payload) ≡ shown shape payload
 shown_front shape payload = by (has_shape shape payload) refl

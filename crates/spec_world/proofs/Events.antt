@@ -23,6 +23,7 @@ use Rattle.spec_world.proofs.Worlds.{IsGood, opening_good, taken, step_good, run
 
 -- ---- reads
 
+-- an act that is taken in a good world adds at most one read, which the places answer as they are then
 takes_reads : (server : Server) (old : World) (event : ExactEvent) (end : ExactEnd) (new : World) →
     IsGood server old → Takes server old event end new → ReadsNow server old event new
 takes_reads server old event end new good t =
@@ -35,6 +36,7 @@ takes_reads server old event end new good t =
       others = t.others;
     }
 
+-- an event in a good world, enabled or not, adds at most one read, which the places answer as they are then
 reads_by : (enabled : Bool) (server : Server) (old : World) (event : ExactEvent) (end : ExactEnd) (new : World) →
     IsGood server old → StepBy enabled server old event end new → ReadsNow server old event new
 reads_by true server old event end new good t = takes_reads server old event end new good t
@@ -60,6 +62,7 @@ reads_now server events old event end new run step =
 
 -- ---- places that are done
 
+-- a place that is done in a good world keeps its words in each run of events
 run_keeps : (server : Server) (old : World) (events : List ExactEvent) (new : World) (k : ℕ) (words : List ℕ) →
     IsGood server old → WorldRun server old events new →
     place_at old.places k ≡ Some (place.Done words) → place_at new.places k ≡ Some (place.Done words)
@@ -80,7 +83,7 @@ done_stays server before old events new k words first run at =
 
 -- ---- ends
 
--- the lists of ended asks, after an act that ended none
+-- where an event's session has no more ended asks and other sessions stay, no session has more ended asks
 same_lists : (old new : World) (event : ExactEvent) →
     (new.sessions event.session).finished ≡ (old.sessions event.session).finished →
     ((other : ℕ) → (event.session ≡ other → ⊥) → new.sessions other ≡ old.sessions other) → (session : ℕ) →
@@ -93,6 +96,7 @@ same_lists old new event own others session = by (nat_eq event.session session) 
         (eqb-true event.session session e) own
     by false e = ap (λ (s : Session). s.finished) (others session (eqb-false event.session session e))
 
+-- where a session's ended asks grow as an act's reply says, the end with this reply fits the event
 end_by : (old new : World) (event : ExactEvent) (replied : Option ExactReply) →
     Grows event.session (old.sessions event.session) replied (new.sessions event.session) →
     ((other : ℕ) → (event.session ≡ other → ⊥) → new.sessions other ≡ old.sessions other) →
@@ -101,6 +105,7 @@ end_by old new event None g others events = (events, same_lists old new event g 
 end_by old new event (Some replied) g others events =
     (refl, events, record { exchange = g.0; finished = g.1; is_reply = g.3; is_idle = g.4 })
 
+-- the end of an act that is taken in a good world fits what the act did
 takes_end : (server : Server) (old : World) (event : ExactEvent) (end : ExactEnd) (new : World) → IsGood server old →
     Takes server old event end new → EndFits old event end new
 takes_end server old event end new good t =
@@ -109,6 +114,7 @@ takes_end server old event end new good t =
     (end_by old new event t.left.replied
     (subst (Grows event.session (old.sessions event.session) t.left.replied) (sym t.own) m.grows) t.others t.events)
 
+-- the end of an event in a good world fits what the event did, enabled or not
 ends_by : (enabled : Bool) (server : Server) (old : World) (event : ExactEvent) (end : ExactEnd) (new : World) →
     IsGood server old → StepBy enabled server old event end new → EndFits old event end new
 ends_by true server old event end new good t = takes_end server old event end new good t
@@ -121,10 +127,12 @@ end_fits server events old event end new run step =
     ends_by (is_enabled server old event) server old event end new
     (run_good server opening_world events old (opening_good server) run) step
 
+-- the end of an act that was taken is not `Not`
 taken_is_told : (session : ℕ) (replied : Option ExactReply) → end_of session replied ≡ Not → ⊥
 taken_is_told session None e = cc
 taken_is_told session (Some replied) e = cc
 
+-- an event ends with `Not` where it is not enabled, and there alone
 not_by : (enabled : Bool) (server : Server) (old : World) (event : ExactEvent) (end : ExactEnd) (new : World) →
     StepBy enabled server old event end new → (end ≡ Not) ↔ (enabled ≡ false)
 not_by true server old event end new t = (

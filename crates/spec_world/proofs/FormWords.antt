@@ -9,6 +9,7 @@ use Rattle.spec_model.specs.Kept.{AreEntries, IsKeptColumn, IsUsualModel}
 use Rattle.spec_simplex.specs.Form.{Form, IsForm, least_cost, formed, form_of}
 use Rattle.spec_simplex.proofs.FormOfModel.{form_is}
 
+-- the form of a usual model with limits for each row is within the usual limits of size, and its entries are in order
 formed_kept : (m : Model) (ls : List (Option ℚ × Option ℚ)) → IsUsualModel m → length ls ≡ height m →
     IsForm (formed m ls)
 formed_kept m ls h all =
@@ -46,7 +47,7 @@ formed_kept m ls h all =
           (λ c k. k.entries) m.columns h.0.columns);
     }
 
--- the form of a model that may be kept
+-- the form of a usual model, where there is one, is within the usual limits of size, and its entries are in order
 pub form_kept : (limit : Option ℕ) (m : Model) (f : Form) → IsUsualModel m → form_of limit m ≡ Ok f → IsForm f
 form_kept limit m f h e =
     let o = form_is limit m f e in subst IsForm o.2 (formed_kept m o.0 h o.1.all)

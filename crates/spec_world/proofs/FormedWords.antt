@@ -30,12 +30,14 @@ use Rattle.spec_world.proofs.FormWords.{form_kept}
 abbrev HasShape : Words → Looked → Type 0
 HasShape shape found = IfSome found (λ p. has_shape shape p.words ≡ true)
 
+-- what a look finds at the place that it sees, or further down, has the shape, where that further down has
 seen_found : (shape : Words) (k : ℕ) (words : Words) (rest : List ExactRead) (found : Looked) (t : Bool) →
     has_shape shape words ≡ t → (SeesDown shape k rest found → HasShape shape found) →
     SeenBy t k words rest found (SeesDown shape k rest found) → HasShape shape found
 seen_found shape k words rest found true e more b = subst (HasShape shape) (sym b.2) e
 seen_found shape k words rest found false e more b = more b.1
 
+-- what a look finds has the shape that it looks for
 sees_found : (shape : Words) (k : ℕ) (reads : List ExactRead) (found : Looked) → SeesDown shape k reads found →
     HasShape shape found
 sees_found shape zero reads found d = subst (HasShape shape) (sym d.1) tt
@@ -50,9 +52,11 @@ sees_found shape (suc k) (read.Done j words ∷ reads) found d = absurd d
 
 -- ---- the shape that is looked for is that of the model's form
 
+-- two looks that are the same look for the same shape
 looks_same : (shape other : Words) → ◌≡◌ {A = Begun} (Looks shape) (Looks other) → shape ≡ other
 looks_same shape other e = cc
 
+-- the shape that a solve looks for is that of the form of its model
 shape_is : (state : State) (m : Model) (f : Form) (shape : Words) → state.model ≡ Some m →
     form_of (Some number_limit) m ≡ Ok f → Begins state solve (Looks shape) → shape ≡ shape_of f
 shape_is state m f shape held formed (inl e) =
@@ -70,6 +74,7 @@ shape_is state m f shape held formed (inr e) =
 abbrev pub IsFormedFound : Looked → Type 0
 IsFormedFound found = IfSome found (λ p. IsWellFormed p.words)
 
+-- where found words are well formed and have the shape of a form, the basis that they hand on is one of the form
 handed_fits : (f : Form) → IsForm f → (found : Looked) → IsFormedFound found → HasShape (shape_of f) found →
     IfSome (handed_by found) (IsBasisOf f)
 handed_fits f is None formed shaped = tt
@@ -95,6 +100,7 @@ module _ (state : State) (found : Looked) (pending : Pending) (s : SolvesWith st
   by_end (Past p) e w = cc
   by_end Spent e w = cc
 
+-- a solve of a usual model publishes well-formed words, where those that it found are well formed
 pub published_formed : (state : State) (shape : Words) (found : Looked) (reads : List ExactRead) (pending : Pending) →
     IfSome state.model IsUsualModel → Begins state solve (Looks shape) → LookReads shape reads found →
     IsFormedFound found → Works state found (Publishes pending) → IsWellFormed pending.words

@@ -54,6 +54,7 @@ record IsFormedLeft (left : Left) : Type 0 where
 
 -- ---- what a solve leaves of the model
 
+-- a solve that ends without a basis to publish leaves the model that was held
 worked_model : (old : State) (found : Looked) (end : ExactSolveEnd) (how : How) (words : Option Words)
     (replied : ExactReply)
     (next : State) → Ends replied next ≡ worked_with old found end how words → next.model ≡ old.model
@@ -66,6 +67,7 @@ worked_model old found end how (Some words) replied next e = by (is_found found 
     by true e = cc
     by false e = cc
 
+-- the work of a solve that publishes nothing leaves the model that was held
 works_model : (old : State) (found : Looked) (replied : ExactReply) (next : State) →
     Works old found (Ends replied next) → next.model ≡ old.model
 works_model old found replied next (inl s) =
@@ -228,12 +230,14 @@ record IsFormedWorld (w : World) : Type 0 where
   sessions : (session : ℕ) → IsFormedSession (w.sessions session)
   places : ArePlacesFormed w.places
 
+-- in the opening world all models may be kept and all words are well formed, as there are none
 opening_formed : IsFormedWorld opening_world
 opening_formed = record {
   sessions = λ session. record { kept = tt; stage = tt };
   places = λ k words e. absurd (let z = e in cc);
 }
 
+-- where a good world's models may be kept and its words are well formed, they are so after an act with such a model
 takes_formed : (server : Server) (old : World) (event : ExactEvent) (end : ExactEnd) (new : World) →
     IsGood server old → IsKeptAct event.act → IsFormedWorld old → Takes server old event end new → IsFormedWorld new
 takes_formed server old event end new good may w t =
@@ -254,12 +258,14 @@ takes_formed server old event end new good may w t =
         by false e =
             subst IsFormedSession (sym (t.others session (eqb-false event.session session e))) (w.sessions session)
 
+-- where a good world's models may be kept and its words are well formed, they are so after an event, enabled or not
 step_formed : (enabled : Bool) (server : Server) (old : World) (event : ExactEvent) (end : ExactEnd) (new : World) →
     IsGood server old → IsKeptAct event.act → IsFormedWorld old → StepBy enabled server old event end new →
     IsFormedWorld new
 step_formed true server old event end new good may w t = takes_formed server old event end new good may w t
 step_formed false server old event end new good may w h = subst IsFormedWorld (sym h.1) w
 
+-- where a good world's models may be kept and its words are well formed, they are so after a run of events
 run_formed : (server : Server) (old : World) (events : List ExactEvent) (new : World) → IsGood server old →
     AreKeptEvents events → IsFormedWorld old → WorldRun server old events new → IsFormedWorld new
 run_formed server old [] new good may w run = subst IsFormedWorld (sym run) w
@@ -267,6 +273,7 @@ run_formed server old (event ∷ events) new good may w run =
     run_formed server run.1 events new (step_good server old event run.0 run.1 good run.2) may.1
     (step_formed (is_enabled server old event) server old event run.0 run.1 good may.0 w run.2) run.3
 
+-- in each world of asks whose models may be kept, the words of a done place are well formed
 pub done_are_formed : (server : Server) (events : List ExactEvent) (world : World) (k : ℕ) (words : Words) →
     AreKeptEvents events → WorldRun server opening_world events world →
     place_at world.places k ≡ Some (place.Done words) → IsWellFormed words

@@ -25,6 +25,7 @@ record Reads (server : Server) (old : World) (me : ℕ) (new : World) : Type 0 w
   others : (other : ℕ) → (me ≡ other → ⊥) → new.sessions other ≡ old.sessions other
   good : IsGood server new
 
+-- acts of one session from a good world on read what the places answer, and other sessions stay
 acts_read : (server : Server) (old : World) (me : ℕ) (acts : List ExactAct) (new : World) → IsGood server old →
     WorldRun server old (map (by_session me) acts) new → Reads server old me new
 acts_read server old me [] new good run = record {
@@ -50,11 +51,12 @@ acts_read server old me (a ∷ acts) new good run =
       good = more.good;
     }
 
+-- the reads of a session that is idle are those of its ended asks
 idle_reads : (s : Session) → s.stage ≡ Idle → reads_of s ≡ flat_map (λ (x : Exchange). x.reads) s.finished
 idle_reads s e = ap (λ stage. flat_map (λ (x : Exchange). x.reads) s.finished ++ reads_so_far stage) e
     ∙ append-nil (flat_map (λ (x : Exchange). x.reads) s.finished)
 
--- they read what the exchange says
+-- where an idle session has ended one exchange more and is idle again, it has read what the exchange says
 made_so : (old new : Session) (x : Exchange) (made : List ExactRead) → old.stage ≡ Idle → new.stage ≡ Idle →
     new.finished ≡ old.finished ++ x ∷ [] → reads_of new ≡ reads_of old ++ made → made ≡ x.reads
 made_so old new x made i j e reads =
@@ -107,7 +109,7 @@ module _ (server : Server) (old : World) (x : Exchange) (xs : List Exchange) (mi
         good = c.good;
       }
 
--- each session is idle between asks
+-- where all sessions are idle and one ask runs to its end, all are idle again
 idle_after : (server : Server) (old : World) (x : Exchange) (middle : World) → AskRuns server old x middle →
     Reads server old x.session middle → ((session : ℕ) → (old.sessions session).stage ≡ Idle) →
     (session : ℕ) → (middle.sessions session).stage ≡ Idle
@@ -117,6 +119,7 @@ idle_after server old x middle r reads idle session = by (nat_eq x.session sessi
     by true e = subst (λ i. (middle.sessions i).stage ≡ Idle) (eqb-true x.session session e) r.is_idle
     by false e = ap (λ (s : Session). s.stage) (reads.others session (eqb-false x.session session e)) ∙ idle session
 
+-- asks one after the other from a good world of idle sessions come to the exchanges with their reads
 comes_to : (server : Server) (old : World) (xs : List Exchange) (new : World) → IsGood server old →
     ((session : ℕ) → (old.sessions session).stage ≡ Idle) → Together server old xs new → ComesTo server old xs new
 comes_to server old [] new good idle t = record {
@@ -130,6 +133,7 @@ comes_to server old (x ∷ xs) new good idle t =
     let c = comes_to server t.0 xs new reads.good (idle_after server old x t.0 t.1 reads idle) t.2 in
     comes_on server old x xs t.0 new t.1 reads c (idle x.session)
 
+-- a world that comes of asks one after the other has exchanges that one worker may have had
 pub together_one : (server : Server) (xs : List Exchange) (world : World) → Together server opening_world xs world →
     RunFits server.places xs
 together_one server xs world t =

@@ -44,7 +44,7 @@ act_taken server old event left leaves = record {
   ends = refl;
 }
 
--- each ask may begin: memory may run out for a wide solve
+-- each ask may begin to be answered; memory may run out for a wide solve
 begins : (state : State) (asked : ExactAsk) (what : Due) → due state asked ≡ what → (begun : Begun) × Begins state asked begun
 begins state asked (Replies replied next) is = (Answers replied next, inl (subst (λ d. BegunBy state d (Answers replied next)) (sym is) refl))
 begins state asked (Solves m) is =
@@ -53,7 +53,7 @@ begins state asked (Solves m) is =
 begins state asked (SolvesWide m) is =
     (Answers reply.Memory state, inr (ap takes_memory (wide_due_held state m asked is).0, refl))
 
--- each act that fits the stage may leave something
+-- each act that fits a session's stage may leave some session and some places
 may_leave : (server : Server) (me : ℕ) (now : List ExactPlace) (s : Session) (stage : Stage) (a : ExactAct) →
     fits_stage stage a ≡ true → (left : Left) × Leaves server me now s stage a left
 may_leave server me now s Idle (act.Ask asked) h =
@@ -68,6 +68,7 @@ may_leave server me now s (Claims pending c reads) act.Claim h = (claimed_left m
 may_leave server me now s (Writes pending k reads) act.Done h = (done_left me now s pending k reads, refl)
 may_leave server me now s stage other h = absurd (let z : false ≡ true = h in cc)
 
+-- each event has an end and a world that it may lead to, enabled or not
 happens_by : (enabled : Bool) (server : Server) (old : World) (event : ExactEvent) →
     is_enabled server old event ≡ enabled → (end : ExactEnd) × (new : World) × StepBy enabled server old event end new
 happens_by true server old event h =

@@ -28,6 +28,7 @@ pub holds_other : (old : World) (me : ℕ) (s : Session) (other : ℕ) → (me �
     updated old.sessions me s other ≡ old.sessions other
 holds_other old me s other apart = ap (λ t. cond t s (old.sessions other)) (ne_eqb me other apart)
 
+-- an enabled event whose act is taken is an event of the world
 step_taken : (server : Server) (old : World) (event : ExactEvent) (end : ExactEnd) (new : World) →
     is_enabled server old event ≡ true → Takes server old event end new → WorldStep server old event end new
 step_taken server old event end new e t = subst (λ b. StepBy b server old event end new) (sym e) t

@@ -26,6 +26,7 @@ record AskEnds (server : Server) (old : World) (x : Exchange) (state : State) (l
   others : (other : ℕ) → (x.session ≡ other → ⊥) → new.sessions other ≡ old.sessions other
   places : new.places ≡ last
 
+-- what one worker does for an ask may happen in a world as the acts of the ask's session
 ask_ends : (server : Server) (old : World) (x : Exchange) (state : State) (last : List ExactPlace) →
     RunsTo server old x.session x.ask x.reads x.reply state last → AskEnds server old x state last
 ask_ends server old x state last r =
@@ -78,6 +79,7 @@ module _ (server : Server) (old : World) (x : Exchange) (xs : List Exchange) (la
     played = subst (λ ps. Plays server.places ps (log_of xs) last) (sym e.places) plays;
   }
 
+-- exchanges that one worker may have had from a world of idle sessions on may happen one after the other
 together_from : (server : Server) (old : World) (xs : List Exchange) (last : List ExactPlace) →
     IsReady server old xs last → HaveSessions server xs → (new : World) × Together server old xs new
 together_from server old [] last ready there = (old, refl)
@@ -92,6 +94,7 @@ together_from server old (x ∷ xs) last ready there =
     (ready_on server old x xs last p.0 run.0 own.0 ready e run.2 p.2) there.1 in
     (more.0, (e.new, e.runs, more.1))
 
+-- exchanges that one worker may have had are those of a world in which asks come one after the other
 pub one_together : (server : Server) (xs : List Exchange) → RunFits server.places xs → HaveSessions server xs →
     (world : World) × Together server opening_world xs world
 one_together server xs fits there =

@@ -7,7 +7,7 @@ use Rattle.spec_world.specs.World.{Session}
 use Rattle.spec_world.specs.Sound.{IsPublisher}
 use Rattle.spec_world.proofs.OneAct.{Grows}
 
--- where more exchanges stand behind
+-- a session that published words at a place is their publisher with more ended exchanges behind, too
 publisher_more : (places : ℕ) (s new : Session) (more : List Exchange) (k : ℕ) (words : List ℕ) →
     new.finished ≡ s.finished ++ more → IsPublisher places s k words → IsPublisher places new k words
 publisher_more places s new more k words e p = record {
@@ -20,6 +20,7 @@ publisher_more places s new more k words e p = record {
   puts = p.puts;
 }
 
+-- a session that published words at a place is their publisher as long as its ended exchanges are the same
 same_finished : (places : ℕ) (s new : Session) (k : ℕ) (words : List ℕ) → new.finished ≡ s.finished →
     IsPublisher places s k words → IsPublisher places new k words
 same_finished places s new k words e p = record {
@@ -32,6 +33,7 @@ same_finished places s new k words e p = record {
   puts = p.puts;
 }
 
+-- a session that published words at a place stays their publisher after each act
 pub publisher_stays : (places : ℕ) (me : ℕ) (s new : Session) (replied : Option ExactReply) (k : ℕ) (words : List ℕ) →
     Grows me s replied new → IsPublisher places s k words → IsPublisher places new k words
 publisher_stays places me s new None k words g p = same_finished places s new k words g p

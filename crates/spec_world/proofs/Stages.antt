@@ -38,7 +38,7 @@ looks_past shape k reads made h step = record {
       (h.more (made ∷ rest) found (step rest found d));
 }
 
--- it was the last place
+-- where a look has seen all places and found nothing, its reads are those of a look that finds nothing
 looks_end : (shape : List ℕ) (reads : List ExactRead) → LooksTo shape zero reads → LookReads shape reads None
 looks_end shape reads h = subst (λ all. LookReads shape all None) (append-nil reads) (h.more [] None (refl, refl))
 

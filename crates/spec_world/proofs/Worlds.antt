@@ -32,6 +32,7 @@ use Rattle.spec_world.proofs.Publishers.{publisher_stays}
 abbrev log_of : ℕ → List ExactRead → List Logged
 log_of me made = logged me made
 
+-- what one session reads leaves each place as it is, but those that this session has claimed
 plays_keep : (places me : ℕ) (now last : List ExactPlace) (made : List ExactRead) (k : ℕ) (p : ExactPlace) →
     Plays places now (log_of me made) last → (p ≡ place.Claimed me → ⊥) →
     place_at now k ≡ Some p → place_at last k ≡ Some p
@@ -39,6 +40,7 @@ plays_keep places me now last [] k p h other at = subst (λ ps. place_at ps k �
 plays_keep places me now last (r ∷ made) k p h other at =
     plays_keep places me h.0 last made k p h.2 other (answers_keep places me now h.0 r k p h.1 other at)
 
+-- what one session reads leaves at least as many places claimed as before
 plays_grow : (places me : ℕ) (now last : List ExactPlace) (made : List ExactRead) →
     Plays places now (log_of me made) last → length now ≤ length last
 plays_grow places me now last [] h = let e : length last ≡ length now = ap length h in omega arith
@@ -47,13 +49,14 @@ plays_grow places me now last (r ∷ made) h =
     let more = plays_grow places me h.0 last made h.2 in
     omega arith
 
+-- what one session reads leaves at most all places claimed, if at most all were claimed before
 plays_bounded : (places me : ℕ) (now last : List ExactPlace) (made : List ExactRead) →
     Plays places now (log_of me made) last → length now ≤ places → length last ≤ places
 plays_bounded places me now last [] h b = let e : length last ≡ length now = ap length h in omega arith
 plays_bounded places me now last (r ∷ made) h b =
     plays_bounded places me h.0 last made h.2 (answers_bounded places me now h.0 r h.1 b)
 
--- one read at most
+-- a place that is done after at most one read was done before, or the read published it
 plays_before : (places me : ℕ) (now last : List ExactPlace) (made : List ExactRead) (k : ℕ) (words : List ℕ) →
     length made ≤ 1 → Plays places now (log_of me made) last →
     place_at last k ≡ Some (place.Done words) →
@@ -68,22 +71,26 @@ plays_before places me now last (r ∷ []) k words few h at =
     by (inr e) = inr (ap (λ r. r ∷ []) e)
 plays_before places me now last (r ∷ s ∷ made) k words few h at = absurd (omega arith)
 
+-- the reads of a session in the log of its own reads are these reads
 own_reads : (me : ℕ) (made : List ExactRead) → reads_in me (log_of me made) ≡ made
 own_reads me [] = refl
 own_reads me (r ∷ made) =
     ap (λ t. cond t (r ∷ []) [] ++ reads_in me (log_of me made)) (eq-eqb me me refl)
     ∙ ap (λ rs. r ∷ rs) (own_reads me made)
 
+-- another session has no reads in the log of one session's reads
 other_reads : (me other : ℕ) (made : List ExactRead) → (me ≡ other → ⊥) → reads_in other (log_of me made) ≡ []
 other_reads me other [] apart = refl
 other_reads me other (r ∷ made) apart =
     ap (λ t. cond t (r ∷ []) [] ++ reads_in other (log_of me made)) (ne_eqb me other apart)
     ∙ other_reads me other made apart
 
+-- a session's reads in two logs, one behind the other, are those in the first and then those in the second
 reads_in-append : (session : ℕ) (xs ys : List Logged) →
     reads_in session (xs ++ ys) ≡ reads_in session xs ++ reads_in session ys
 reads_in-append session xs ys = flat_map-append (λ (x : Logged). cond (nat_eq x.session session) (x.read ∷ []) []) xs ys
 
+-- a session's asks in events with one more behind them are those before, and its ask in this event
 asks_in-append : (session : ℕ) (xs : List ExactEvent) (y : ExactEvent) →
     asks_in session (xs ++ y ∷ []) ≡ asks_in session xs ++ cond (nat_eq y.session session) (asks_by y.act) []
 asks_in-append session xs y =
@@ -117,7 +124,7 @@ opening_good server = record {
   published = λ k words e. absurd (let z = e in cc);
 }
 
--- each place that is done has the words of a basis
+-- in a good world the words of each done place are as many as those of a basis
 good_sized : (server : Server) (world : World) → IsGood server world → (k : ℕ) (words : List ℕ) →
     place_at world.places k ≡ Some (place.Done words) → length words ≡ basis_words
 good_sized server world good k words at = let p = good.published k words at in let b = p.1.puts in
@@ -231,6 +238,7 @@ module _ (server : Server) (old : World) (event : ExactEvent) (end : ExactEnd) (
 
 -- ---- every list of events
 
+-- an event, enabled or not, leads from a good world to a good world
 step_by : (enabled : Bool) (server : Server) (old : World) (event : ExactEvent) (end : ExactEnd) (new : World) →
     IsGood server old → StepBy enabled server old event end new → IsGood server new
 step_by true server old event end new good t = taken_good server old event end new good t
@@ -246,6 +254,7 @@ run_good server old [] new good run = subst (IsGood server) (sym run) good
 run_good server old (event ∷ events) new good run =
     run_good server run.1 events new (step_good server old event run.0 run.1 good run.2) run.3
 
+-- a good world is sound
 good_sound : (server : Server) (world : World) → IsGood server world → IsSound server world
 good_sound server world good = record {
   alone = good.run;
