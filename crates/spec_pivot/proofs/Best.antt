@@ -12,6 +12,8 @@ use Rattle.spec_pivot.specs.Ratio.{room, room_at, Best, range_of, best_of, HasRo
 use Rattle.spec_pivot.proofs.Ratio.{no_more, none_before, none_first, found, scan_first, scan_least}
 
 -- ---- no room is below 0 where the value is within its bounds
+
+-- a value at most its upper bound has room of at least 0 up to it
 upper_least : (o : Option ℚ) (v r q : ℚ) → 0ℚ <ℚ r → IfSome o (λ k. v ≤ℚ k) →
     option_map (λ u. (u -ℚ v) *ℚ inverse r) o ≡ Some q → 0ℚ ≤ℚ q
 upper_least None v r q p i e = cc
@@ -19,6 +21,7 @@ upper_least (Some u) v r q p i e =
     let z : (u -ℚ v) *ℚ inverse r ≡ q = cc in
     subst (λ a. 0ℚ ≤ℚ a) z (*ℚ-nonneg (u -ℚ v) (inverse r) (≤ℚ-difference v u i) (<ℚ-le 0ℚ (inverse r) (inv_pos r p)))
 
+-- a value at least its lower bound has room of at least 0 down to it
 lower_least : (o : Option ℚ) (v r q : ℚ) → r <ℚ 0ℚ → IfSome o (λ k. k ≤ℚ v) →
     option_map (λ l. (v -ℚ l) *ℚ inverse (neg_ℚ r)) o ≡ Some q → 0ℚ ≤ℚ q
 lower_least None v r q p i e = cc
@@ -28,6 +31,7 @@ lower_least (Some l) v r q p i e =
     (*ℚ-nonneg (v -ℚ l) (inverse (neg_ℚ r)) (≤ℚ-difference l v i)
     (<ℚ-le 0ℚ (inverse (neg_ℚ r)) (inv_pos (neg_ℚ r) (below_turned r p))))
 
+-- the room of a column whose value is within its bounds is at least 0
 room_least : (b : Bounds) (k : ℕ) (v r q : ℚ) → IsInside (b.lower k) (b.upper k) v → room b k v r ≡ Some q → 0ℚ ≤ℚ q
 room_least b k v r q i e = by (lt_ℚ 0ℚ r) (lt_ℚ r 0ℚ) refl refl e
   where
@@ -40,6 +44,8 @@ room_least b k v r q i e = by (lt_ℚ 0ℚ r) (lt_ℚ r 0ℚ) refl refl e
     by false false p w h = cc
 
 -- ---- the range of the entering column, with which the test begins
+
+-- the range of a column whose value is within its bounds is at least 0
 range_least : (j : ℕ) (l u : Option ℚ) (v : ℚ) (x : Best) → IsInside l u v → range_of j l u ≡ Some x → 0ℚ ≤ℚ x.ratio
 range_least j None u v x i e = cc
 range_least j (Some l) None v x i e = cc
@@ -47,6 +53,7 @@ range_least j (Some l) (Some u) v x i e =
     let z : ◌≡◌ {A = Best} (record { ratio = u -ℚ l; column = j; position = None }) x = cc in
     subst (λ (b : Best). 0ℚ ≤ℚ b.ratio) z (≤ℚ-difference l u (≤ℚ_trans l v u i.lower i.upper))
 
+-- a column that has no range lacks a lower or an upper bound
 range_none : (j : ℕ) (l u : Option ℚ) → range_of j l u ≡ None → (l ≡ None) ⊎ (u ≡ None)
 range_none j None u e = inl refl
 range_none j (Some l) None e = inr refl

@@ -31,7 +31,7 @@ negative_term (suc n) f h =
     (q.0, omega arith, q.2))
     (λ p. (n, omega arith, p))
 
--- the signs of a product below 0
+-- of two factors with a product below 0, one is below 0 and the other above 0
 negative_product : {P : Type 0} (a b : ℚ) → (a *ℚ b) <ℚ 0ℚ → (a <ℚ 0ℚ → 0ℚ <ℚ b → P) → (0ℚ <ℚ a → b <ℚ 0ℚ → P) → P
 negative_product a b h f g =
     by_sign a
@@ -56,15 +56,17 @@ abbrev pub ahead : Way → Bounds → ℕ → Option ℚ
 ahead Up b k = b.upper k
 ahead Down b k = b.lower k
 
+-- a column with a reduced cost of 0 improves the cost neither way
 none_improves : (way : Way) (d : ℚ) → d ≡ 0ℚ → ¬ (Improves way d)
 none_improves Up d e p = <ℚ_irrefl 0ℚ (subst (λ a. a <ℚ 0ℚ) e p)
 none_improves Down d e p = <ℚ_irrefl 0ℚ (subst (λ a. 0ℚ <ℚ a) e p)
 
+-- a column that moves by 0 a unit goes neither way
 none_goes : (way : Way) (r : ℚ) → r ≡ 0ℚ → ¬ (Goes way r)
 none_goes Up r e p = <ℚ_irrefl 0ℚ (subst (λ a. 0ℚ <ℚ a) e p)
 none_goes Down r e p = <ℚ_irrefl 0ℚ (subst (λ a. a <ℚ 0ℚ) e p)
 
--- what is known of a column that can move and does not stand fixed
+-- a column that is not fixed is not at the bound towards which it can move
 not_at_bound : (way : Way) (b : Bounds) (k : ℕ) (v : ℚ) (s : Status) → ¬ (IsFixed b k) →
     Stands s (b.lower k) (b.upper k) v → CanMove way s → ahead way b k ≡ Some v → ⊥
 not_at_bound Up b k v Basic n st c e = c
@@ -76,6 +78,7 @@ not_at_bound Down b k v AtLower n st c e = c
 not_at_bound Down b k v AtUpper n st c e = n (v, e, st)
 not_at_bound Down b k v AtZero n st c e = let z : None ≡ Some v = sym st.0 ∙ e in cc
 
+-- a column is basic, can move that way, or has the status of the bound ahead
 by_status : {P : Type 0} (way : Way) (s : Status) → (s ≡ Basic → P) → (¬ (s ≡ Basic) → CanMove way s → P) →
     (¬ (s ≡ Basic) → s ≡ bound_ahead way → P) → P
 by_status way Basic f g h = f refl
@@ -86,20 +89,23 @@ by_status Down AtLower f g h = h (λ e. cc) refl
 by_status Down AtUpper f g h = g (λ e. cc) tt
 by_status Down AtZero f g h = g (λ e. cc) tt
 
+-- a column with the status of the bound ahead cannot move that way
 no_move : (way : Way) (s : Status) → CanMove way s → s ≡ bound_ahead way → ⊥
 no_move Up s c e = subst (CanMove Up) e c
 no_move Down s c e = subst (CanMove Down) e c
 
+-- a column with the status of the bound ahead has that bound as its value
 stands_ahead : (way : Way) (b : Bounds) (k : ℕ) (v : ℚ) (s : Status) → s ≡ bound_ahead way →
     Stands s (b.lower k) (b.upper k) v → ahead way b k ≡ Some v
 stands_ahead Up b k v s e = subst (λ s. Stands s (b.lower k) (b.upper k) v) e
 stands_ahead Down b k v s e = subst (λ s. Stands s (b.lower k) (b.upper k) v) e
 
--- a column is blocked at the bound ahead of it, and at no other
+-- a column that goes a way and is blocked stands at the bound ahead
 blocked_ahead : (way : Way) (b : Bounds) (k : ℕ) (v r : ℚ) → Goes way r → IsBlocked b k v r → ahead way b k ≡ Some v
 blocked_ahead Up b k v r p = ⊎_elim (λ u. u.1) (λ l. clash_ℚ _ _ p (<ℚ-le _ _ l.0))
 blocked_ahead Down b k v r p = ⊎_elim (λ u. clash_ℚ _ _ p (<ℚ-le _ _ u.0)) (λ l. l.1)
 
+-- a column that goes a way and stands at the bound ahead is blocked
 blocked_back : (way : Way) (b : Bounds) (k : ℕ) (v r : ℚ) → Goes way r → ahead way b k ≡ Some v → IsBlocked b k v r
 blocked_back Up b k v r p e = inl (p, e)
 blocked_back Down b k v r p e = inr (p, e)

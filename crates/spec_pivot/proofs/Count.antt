@@ -11,7 +11,7 @@ use Rattle.spec_pivot.specs.Simplex.{Bounds, Stands, Table, IsTableau, Label, Is
 use Rattle.spec_pivot.proofs.Pivot.{by_eq}
 use Rattle.spec_pivot.proofs.Cycle.{good, no_cycle}
 
--- a value among the first, or not
+-- a number is the value at one of the first places, or at none of them
 find_value : (c : ℕ → ℕ) (v len : ℕ) → ((i : ℕ) × (i < len) × (c i ≡ v)) ⊎ ((i : ℕ) → i < len → c i ≢ v)
 find_value c v zero = inr (λ i h e. absurd (let k : ⊥ = omega arith in k))
 find_value c v (suc len) =
@@ -22,19 +22,21 @@ find_value c v (suc len) =
     (λ o. inr (λ i h e. by_eq i len (λ z. n (sym (ap c z) ∙ e)) (λ z. o i (omega arith) e)))
     (find_value c v len))
 
--- v taken out of the numbers
+-- a number's rank among all numbers but v
 closed : ℕ → ℕ → ℕ
 closed v k = cond (ltb k v) k (k - 1)
 
+-- two numbers other than v are equal where their ranks among all but v are
 closed_same : (v j k : ℕ) → j ≢ v → k ≢ v → closed v j ≡ closed v k → j ≡ k
 unfolding closed
 closed_same v j k p q e = grind (arith, nat_tests)
 
+-- of the numbers 0 .. n, one other than v has a rank below n without v
 closed_less : (v k n : ℕ) → k ≢ v → v < suc n → k < suc n → closed v k < n
 unfolding closed
 closed_less v k n p q r = grind (arith, nat_tests)
 
--- more places than values
+-- where there are more places than values, two places have the same value
 pigeons : (len n : ℕ) (c : ℕ → ℕ) → ((i : ℕ) → i < len → c i < n) → n < len →
     (i j : ℕ) × (i < j) × (j < len) × (c i ≡ c j)
 pigeons zero n c h p = absurd (let k : ⊥ = omega arith in k)
@@ -53,12 +55,15 @@ pigeons (suc len) (suc n) c h p =
     (find_value c (c len) len)
 
 -- ---- statuses as numbers
+
+-- the number of a status, which AtLower and AtZero share
 digit : Status → ℕ
 digit Basic = 0
 digit AtLower = 1
 digit AtZero = 1
 digit AtUpper = 2
 
+-- the number of a status is below 3
 digit_less : (s : Status) → digit s < 3
 unfolding digit
 digit_less Basic = omega arith
@@ -66,15 +71,18 @@ digit_less AtLower = omega arith
 digit_less AtUpper = omega arith
 digit_less AtZero = omega arith
 
+-- the statuses of the first n columns as one number, to the base 3
 code : ℕ → (ℕ → Status) → ℕ
 code zero s = 0
 code (suc n) s = code n s * 3 + digit (s n)
 
+-- the statuses of n columns have a number below 3 ^ n
 code_less : (n : ℕ) (s : ℕ → Status) → code n s < 3 ^ n
 unfolding code
 code_less zero s = omega arith
 code_less (suc n) s = omega (arith, code_less n s, digit_less (s n), pow-suc 3 n)
 
+-- where two lists of statuses have the same number, so has each column's status
 code_same : (n : ℕ) (s u : ℕ → Status) → code n s ≡ code n u → (k : ℕ) → k < n → digit (s k) ≡ digit (u k)
 unfolding code
 code_same zero s u e k h = absurd (let z : ⊥ = omega arith in z)
@@ -83,6 +91,7 @@ code_same (suc n) s u e k h =
     (λ z. subst (λ k. digit (s k) ≡ digit (u k)) (sym z) (omega (arith, digit_less (s n), digit_less (u n))))
     (λ z. code_same n s u (omega (arith, digit_less (s n), digit_less (u n))) k (omega arith))
 
+-- statuses with the same number, at which values of one column stand, are the same
 same_digit : (s u : Status) (l h : Option ℚ) (v w : ℚ) → Stands s l h v → Stands u l h w → digit s ≡ digit u → s ≡ u
 unfolding digit
 same_digit Basic Basic l h v w p q e = refl
@@ -102,6 +111,7 @@ same_digit AtUpper AtZero l h v w p q e = absurd (let z : ⊥ = omega arith in z
 same_digit AtZero Basic l h v w p q e = absurd (let z : ⊥ = omega arith in z)
 same_digit AtZero AtUpper l h v w p q e = absurd (let z : ⊥ = omega arith in z)
 
+-- a run over n columns has fewer than 3 ^ n steps
 pub bounded : (m n : ℕ) (f : Matrix) (cost : ℕ → ℚ) (b : Bounds) (t : ℕ → Table) (l : ℕ → Label) (len : ℕ) →
     IsRun m n f cost b t l len → len < 3 ^ n
 bounded m n f cost b t l len run =

@@ -22,6 +22,7 @@ use Rattle.spec_pivot.proofs.SameEquations.{outside, j_outside, flip_kept, pivot
 use Rattle.spec_pivot.proofs.Values.{by_basic, zero_at_basic, same_values, better, cost_along}
 use Rattle.spec_pivot.proofs.Bland.{Goes, Leaving, Entering, no_pair}
 
+-- a sum falls where a multiple of a number below 0, by one above 0, is added
 plus_negative : (a s d : ℚ) → 0ℚ <ℚ s → d <ℚ 0ℚ → (a +ℚ s *ℚ d) <ℚ a
 plus_negative a s d p h =
     subst₂ ◌<ℚ◌ (+ℚ_comm (s *ℚ d) a) (zero-+ℚ a)
@@ -378,6 +379,7 @@ module _ (m n : ℕ) (f : Matrix) (cost : ℕ → ℚ) (b : Bounds) where
             subst (λ k. MayEnter b k) a.2 (may_enter_at a.0 a.1),
           )
 
+-- a run of at least one step does not end with the statuses that it began with
 pub no_cycle : (m n : ℕ) (f : Matrix) (cost : ℕ → ℚ) (b : Bounds) (t : ℕ → Table) (l : ℕ → Label) (len : ℕ) →
     IsRun m n f cost b t l len → 0 < len
     → ¬ (SameStatuses n (t 0) (t len))

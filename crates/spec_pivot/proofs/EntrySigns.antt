@@ -23,9 +23,12 @@ use Rattle.spec_pivot.specs.Simplex.{sign}
 use Rattle.spec_pivot.specs.Dual.{Suits, Helps}
 
 -- ---- the sign of a way
+
+-- the sign of the way up, times a number, is that number
 up_is : (e : ℚ) → sign Up *ℚ e ≡ e
 up_is e = simp ring
 
+-- the sign of the way down, times a number, is the negative of that number
 down_is : (e : ℚ) → sign Down *ℚ e ≡ neg_ℚ e
 down_is e = simp ring
 
@@ -36,6 +39,7 @@ size_below Down e h =
     abs_above e (<ℚ-le 0ℚ e (turned_back e (subst (λ a. a <ℚ 0ℚ) (down_is e) h)))
     ∙ sym (ap neg_ℚ (down_is e) ∙ neg-neg e)
 
+-- an entry above 0 along a way has itself times the way's sign as its magnitude
 size_above : (way : Way) (e : ℚ) → 0ℚ <ℚ (sign way *ℚ e) → abs_ℚ e ≡ sign way *ℚ e
 size_above Up e h = abs_above e (<ℚ-le 0ℚ e (subst (λ a. 0ℚ <ℚ a) (up_is e) h)) ∙ sym (up_is e)
 size_above Down e h = abs_below e (turned_down e (subst (λ a. 0ℚ <ℚ a) (down_is e) h)) ∙ sym (down_is e)
@@ -58,6 +62,7 @@ IsRatio AtLower d a r = r *ℚ neg_ℚ a ≡ d
 IsRatio AtUpper d a r = r *ℚ a ≡ neg_ℚ d
 IsRatio AtZero d a r = r ≡ 0ℚ
 
+-- a quotient by a number that is not 0, times that number, is the dividend
 divided : (x y : ℚ) → ¬ (y ≡ 0ℚ) → (x *ℚ inverse y) *ℚ y ≡ x
 divided x y n = *ℚ_assoc x (inverse y) y ∙ ap (λ a. x *ℚ a) (*ℚ_comm (inverse y) y ∙ *ℚ_inverse y n) ∙ *ℚ_one x
 
@@ -91,16 +96,20 @@ by_ratio AtUpper d a r f h e = sym (ap neg_ℚ e ∙ neg-neg d)
 by_ratio AtZero d a r f h e = f ∙ sym (ap (λ r. neg_ℚ (r *ℚ a)) e ∙ ap neg_ℚ (zero-*ℚ a) ∙ neg-zero)
 
 -- ---- a reduced cost that changes by a rate that is not greater than its ratio keeps its sign
+
+-- a product of two factors that are at least 0 is at least 0
 product_least : (r a : ℚ) → 0ℚ ≤ℚ r → 0ℚ ≤ℚ a → 0ℚ ≤ℚ (r *ℚ a)
 product_least r a h k = *ℚ-nonneg r a h k
 
+-- a sum of two numbers that are at least 0 is at least 0
 least_sum : (d x : ℚ) → 0ℚ ≤ℚ d → 0ℚ ≤ℚ x → 0ℚ ≤ℚ (d +ℚ x)
 least_sum d x h k = subst (λ z. z ≤ℚ (d +ℚ x)) (+ℚ_zero 0ℚ) (+ℚ_mono₂ 0ℚ d 0ℚ x h k)
 
+-- a sum of two numbers that are at most 0 is at most 0
 most_sum : (d x : ℚ) → d ≤ℚ 0ℚ → x ≤ℚ 0ℚ → (d +ℚ x) ≤ℚ 0ℚ
 most_sum d x h k = subst (λ z. (d +ℚ x) ≤ℚ z) (+ℚ_zero 0ℚ) (+ℚ_mono₂ d 0ℚ x 0ℚ h k)
 
--- r no greater than the ratio q
+-- with an entry below 0, a change within the ratio keeps a reduced cost at least 0
 less_at_lower : (d a q r : ℚ) → a <ℚ 0ℚ → q *ℚ neg_ℚ a ≡ d → r ≤ℚ q → 0ℚ ≤ℚ (d +ℚ r *ℚ a)
 less_at_lower d a q r h e l =
     subst (λ d. 0ℚ ≤ℚ (d +ℚ r *ℚ a)) e
@@ -116,6 +125,7 @@ less_at_lower d a q r h e l =
     swap : (q r a : ℚ) → neg_ℚ a *ℚ q +ℚ r *ℚ a ≡ q *ℚ neg_ℚ a +ℚ r *ℚ a
     swap q r a = simp ring
 
+-- with an entry above 0, a change within the ratio keeps a reduced cost at most 0
 less_at_upper : (d a q r : ℚ) → 0ℚ <ℚ a → q *ℚ a ≡ neg_ℚ d → r ≤ℚ q → (d +ℚ r *ℚ a) ≤ℚ 0ℚ
 less_at_upper d a q r h e l =
     subst₂ ◌≤ℚ◌ (swap d r a) (ap (λ x. d +ℚ x) (*ℚ_comm a q ∙ e) ∙ none d)

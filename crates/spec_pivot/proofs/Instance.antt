@@ -32,6 +32,7 @@ tables (suc i) = after_pivot 1 opening Up 0 0 0ℚ AtLower
 abbrev pub label : Label
 label = record { kind = Pivot; way = Up; column = 0; position = 0; theta = 0ℚ; to = AtLower }
 
+-- x enters and s leaves by the rule of the least index, with a move of length 0
 pivots : Pivots 1 2 b opening Up 0 0 0ℚ AtLower
 pivots = record {
   enters = record {
@@ -61,6 +62,7 @@ pivots = record {
     rests : moved 1 opening Up 0 0ℚ 1 ≡ 0ℚ
     rests = simp ring
 
+-- the first tableau and its one pivot are a run of one step
 pub run_there : IsRun 1 2 f cost b tables (λ i. label) 1
 run_there = record {
   first = is_tableau 1ℚ (neg_ℚ 1ℚ) 0ℚ;

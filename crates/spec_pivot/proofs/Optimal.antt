@@ -22,6 +22,8 @@ use Rattle.spec_pivot.specs.Dual.{Suits, IsDualFeasible, IsOrdered, IsSolution, 
 use Rattle.spec_pivot.proofs.Refuted.{fixed_lower, fixed_upper, term_least}
 
 -- ---- a column with the sign that belongs to its status is not eligible
+
+-- a column whose reduced cost suits its status lowers the cost by no move that its status allows
 not_improving : (way : Way) (s : Status) (d : ℚ) → Suits s d → CanMove way s → Improves way d → ⊥
 not_improving Up Basic d f c i = c
 not_improving Up AtLower d f c i = clash_ℚ d 0ℚ i f
@@ -42,6 +44,7 @@ pub if_some : (P : ℚ → Type 0) (x : Option ℚ) → ((a : ℚ) → x ≡ Som
 if_some P None k = tt
 if_some P (Some a) k = k a refl
 
+-- a nonbasic value that stands where its status says is within its bounds, if these do not clash
 stands_inside : (s : Status) (l u : Option ℚ) (v : ℚ) → ((a c : ℚ) → l ≡ Some a → u ≡ Some c → a ≤ℚ c) → ¬ (s ≡ Basic) →
     Stands s l u v → IsInside l u v
 stands_inside Basic l u v o n h = absurd (n refl)

@@ -35,7 +35,7 @@ delta_same i = rw (eq-eqb i i refl)
 pub delta_other : (i r : ℕ) → i ≢ r → delta i r ≡ 0ℚ
 delta_other i r n = rw (ne_eqb i r n)
 
--- a sum with one weight
+-- a sum whose one weight is past its end is 0
 sum_below-delta_past : (n i : ℕ) (f : ℕ → ℚ) → n < i + 1 → sum_below n (λ r. delta i r *ℚ f r) ≡ 0ℚ
 sum_below-delta_past zero i f h = refl
 sum_below-delta_past (suc n) i f h =
@@ -52,7 +52,7 @@ sum_below-delta (suc n) i f h =
     (λ e. ap₂ ◌+ℚ◌ (sum_below-delta n i f (omega arith)) (ap (λ a. a *ℚ f n) (delta_other i n e) ∙ zero-*ℚ (f n))
     ∙ +ℚ_zero (f i))
 
--- a sum with two weights
+-- a sum with two weights, both inside it, is the two terms times their weights
 sum_below_two : (m i p : ℕ) (a b : ℚ) (f : ℕ → ℚ) → i < m → p < m
     → sum_below m (λ r. (a *ℚ delta i r +ℚ b *ℚ delta p r) *ℚ f r) ≡ a *ℚ f i +ℚ b *ℚ f p
 sum_below_two m i p a b f h k =
@@ -88,18 +88,23 @@ pivoted_at t p j k = rw (eq-eqb p p refl)
 pub pivoted_off : (t : Matrix) (p j i k : ℕ) → i ≢ p → pivoted t p j i k ≡ t i k -ℚ t i j *ℚ pivot_row t p j k
 pivoted_off t p j i k n = rw (ne_eqb i p n)
 
+-- a choice by whether a number equals itself is the first choice
 cond_at : (p : ℕ) (x y : ℚ) → cond (nat_eq p p) x y ≡ x
 cond_at p x y = rw (eq-eqb p p refl)
 
+-- a choice by whether two different numbers are equal is the second choice
 cond_off : (i p : ℕ) (x y : ℚ) → i ≢ p → cond (nat_eq i p) x y ≡ y
 cond_off i p x y n = rw (ne_eqb i p n)
 
+-- a row's weight in itself after a pivot: 0 for the pivot's row, else 1
 own : ℕ → ℕ → ℚ
 own p i = cond (nat_eq i p) 0ℚ 1ℚ
 
+-- the weight of row p, before a pivot in row p and column j, in row i after it
 forth_weight : Matrix → ℕ → ℕ → ℕ → ℚ
 forth_weight t p j i = cond (nat_eq i p) (inverse (t p j)) (neg_ℚ (t i j *ℚ inverse (t p j)))
 
+-- each row after a pivot combines itself and the pivot's row before it
 forth_row : (t : Matrix) (p j i k : ℕ) → pivoted t p j i k ≡ own p i *ℚ t i k +ℚ forth_weight t p j i *ℚ t p k
 unfolding own forth_weight
 forth_row t p j i k =
@@ -117,11 +122,13 @@ forth_row t p j i k =
     second : (a b c q : ℚ) → 1ℚ *ℚ a +ℚ neg_ℚ (b *ℚ q) *ℚ c ≡ a -ℚ b *ℚ (c *ℚ q)
     second a b c q = simp ring
 
+-- a quotient by a number that is not 0, times that number, is the dividend
 divided : (a b : ℚ) → ¬ (b ≡ 0ℚ) → b *ℚ (a *ℚ inverse b) ≡ a
 divided a b n =
     ap (λ x. b *ℚ x) (*ℚ_comm a (inverse b)) ∙ sym (*ℚ_assoc b (inverse b) a)
     ∙ ap (λ x. x *ℚ a) (*ℚ_inverse b n) ∙ one-*ℚ a
 
+-- each row before a pivot combines itself and the pivot's row after it
 back_row : (t : Matrix) (p j i k : ℕ) → ¬ (t p j ≡ 0ℚ) →
     t i k ≡ own p i *ℚ pivoted t p j i k +ℚ t i j *ℚ pivoted t p j p k
 unfolding own

@@ -33,6 +33,7 @@ won q k y e = go (lt_ℚ q y.ratio) (lt_ℚ y.ratio q) (nat_lt k y.column) refl 
         inr (≤ℚ_antisym q y.ratio (le_if_not y.ratio q r) (le_if_not q y.ratio p), ltb-true k y.column s)
     go false false false p r s e = cc
 
+-- a best that the ratio q of column k does not beat is no worse than that ratio
 lost : (q : ℚ) (k : ℕ) (y : Best) → is_better q k (Some y) ≡ false → NoWorse y q k
 unfolding NoWorse
 lost q k y e = go (lt_ℚ q y.ratio) (lt_ℚ y.ratio q) (nat_lt k y.column) refl refl refl e
@@ -62,6 +63,7 @@ pub no_later : (x : Best) (k : ℕ) → NoWorse x x.ratio k → x.column ≤ k
 unfolding NoWorse
 no_later x k w = ⊎_elim (λ a. absurd (<ℚ_irrefl x.ratio a)) (λ a. a.1) w
 
+-- after a position that has room, there is a best
 never_none : (q : ℚ) (k i : ℕ) (s : Option Best) → take_room i k (Some q) s ≡ None → ⊥
 never_none q k i None e = cc
 never_none q k i (Some y) e = go (is_better q k (Some y)) e
@@ -227,6 +229,7 @@ reaches_down a v s n =
     back_ : (v a : ℚ) → v -ℚ (v -ℚ a) *ℚ 1ℚ ≡ a
     back_ v a = simp ring
 
+-- a move by q at the rate r, measured at that rate, has the length q
 measured : (q v r : ℚ) → ¬ (r ≡ 0ℚ) → ((v +ℚ q *ℚ r) -ℚ v) *ℚ inverse r ≡ q
 measured q v r n =
     ap (λ x. x *ℚ inverse r) (only v (q *ℚ r)) ∙ *ℚ_assoc q r (inverse r) ∙ ap (λ x. q *ℚ x) (*ℚ_inverse r n) ∙ *ℚ_one q
@@ -234,6 +237,7 @@ measured q v r n =
     only : (v a : ℚ) → (v +ℚ a) -ℚ v ≡ a
     only v a = simp ring
 
+-- a move by q at the rate r, measured backwards at the rate -r, has the length q
 measured_down : (q v r : ℚ) → ¬ (neg_ℚ r ≡ 0ℚ) → (v -ℚ (v +ℚ q *ℚ r)) *ℚ inverse (neg_ℚ r) ≡ q
 measured_down q v r n =
     ap (λ x. x *ℚ inverse (neg_ℚ r)) (turn v q r) ∙ *ℚ_assoc q (neg_ℚ r) (inverse (neg_ℚ r))
@@ -250,7 +254,7 @@ blocked_room b k v q r (inr h) =
     rw (not_lt_test 0ℚ r (<ℚ-le r 0ℚ h.0), lt_test r 0ℚ h.0, h.1)
     (ap Some (measured_down q v r (not-zero_from_lt (neg_ℚ r) (below_turned r h.0))))
 
--- and back
+-- a rising value with the room q is at its upper bound after a move by q
 room_up : (o : Option ℚ) (v q r : ℚ) → 0ℚ <ℚ r → option_map (λ u. (u -ℚ v) *ℚ inverse r) o ≡ Some q →
     o ≡ Some (v +ℚ q *ℚ r)
 room_up None v q r p e = cc
@@ -258,6 +262,7 @@ room_up (Some u) v q r p e =
     let z : (u -ℚ v) *ℚ inverse r ≡ q = cc in
     ap Some (sym (reaches u v r (not-zero_from_lt r p)) ∙ ap (λ x. v +ℚ x *ℚ r) z)
 
+-- a falling value with the room q is at its lower bound after a move by q
 room_down : (o : Option ℚ) (v q r : ℚ) → r <ℚ 0ℚ → option_map (λ l. (v -ℚ l) *ℚ inverse (neg_ℚ r)) o ≡ Some q →
     o ≡ Some (v +ℚ q *ℚ r)
 room_down None v q r p e = cc

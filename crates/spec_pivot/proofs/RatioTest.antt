@@ -24,6 +24,7 @@ ahead_stands : (b : Bounds) (k : ℕ) (v r : ℚ) → IsBlocked b k v r →
 ahead_stands b k v r (inl h) = rw (lt_test 0ℚ r h.0) h.1
 ahead_stands b k v r (inr h) = rw (not_lt_test 0ℚ r (<ℚ-le r 0ℚ h.0)) h.1
 
+-- the status of the bound that lies a way is not that of a basic column
 ahead_nonbasic : (way : Way) → ¬ (bound_ahead way ≡ Basic)
 ahead_nonbasic Up e = cc
 ahead_nonbasic Down e = cc
@@ -37,6 +38,7 @@ record Ranges (l u : Option ℚ) (x : Best) : Type 0 where
   length : x.ratio ≡ top -ℚ bottom
   position : x.position ≡ None
 
+-- a best from the entering column's range has the distance of both bounds and no position
 ranges : (j : ℕ) (l u : Option ℚ) (x : Best) → range_of j l u ≡ Some x → Ranges l u x
 ranges j None u x e = cc
 ranges j (Some l) None x e = cc
@@ -51,7 +53,7 @@ ranges j (Some l) (Some u) x e =
       position = ap (λ (x : Best). x.position) (sym z);
     }
 
--- a move of a column through its whole range
+-- a column that moves by its whole range ends at its other bound
 pub whole_range : (l u v : ℚ) (low high : Option ℚ) (way : Way) (s : Status) →
     low ≡ Some l → high ≡ Some u → CanMove way s → Stands s low high v
     → Stands (bound_ahead way) low high (v +ℚ (u -ℚ l) *ℚ sign way)

@@ -21,18 +21,19 @@ use Rattle.spec_pivot.proofs.Ray.{ray_at, ray_still}
 use Rattle.spec_pivot.proofs.Ratio.{reaches}
 use Rattle.spec_pivot.proofs.Values.{by_basic}
 
--- a value that rises or falls
+-- a value does not fall by a move of at least 0 at a rate of at least 0
 rises : (v theta r : ℚ) → 0ℚ ≤ℚ theta → 0ℚ ≤ℚ r → v ≤ℚ (v +ℚ theta *ℚ r)
 rises v theta r h k =
     subst (λ a. a ≤ℚ (v +ℚ theta *ℚ r)) (+ℚ_zero v)
     (+ℚ_mono₂ v v 0ℚ (theta *ℚ r) (≤ℚ_refl v) (subst (λ a. a ≤ℚ (theta *ℚ r)) (*ℚ_zero theta) (*ℚ_mono 0ℚ r theta h k)))
 
+-- a value does not rise by a move of at least 0 at a rate of at most 0
 falls : (v theta r : ℚ) → 0ℚ ≤ℚ theta → r ≤ℚ 0ℚ → (v +ℚ theta *ℚ r) ≤ℚ v
 falls v theta r h k =
     subst (λ a. (v +ℚ theta *ℚ r) ≤ℚ a) (+ℚ_zero v)
     (+ℚ_mono₂ v v (theta *ℚ r) 0ℚ (≤ℚ_refl v) (subst (λ a. (theta *ℚ r) ≤ℚ a) (*ℚ_zero theta) (*ℚ_mono r 0ℚ theta h k)))
 
--- up to the bound a, by no more than the room to it
+-- a rising value that moves within its room to the bound a stays at most a
 up_to_bound : (a v theta r : ℚ) → 0ℚ <ℚ r → theta ≤ℚ ((a -ℚ v) *ℚ inverse r) → (v +ℚ theta *ℚ r) ≤ℚ a
 up_to_bound a v theta r p h =
     subst (λ z. (v +ℚ theta *ℚ r) ≤ℚ z) (reaches a v r (not-zero_from_lt r p))
@@ -40,7 +41,7 @@ up_to_bound a v theta r p h =
     (subst₂ ◌≤ℚ◌ (*ℚ_comm r theta) (*ℚ_comm r ((a -ℚ v) *ℚ inverse r))
     (*ℚ_mono theta ((a -ℚ v) *ℚ inverse r) r (<ℚ-le 0ℚ r p) h)))
 
--- down to the bound a is up to its negative
+-- a falling value that moves within its room to the bound a stays at least a
 down_to_bound : (a v theta r : ℚ) → r <ℚ 0ℚ → theta ≤ℚ ((v -ℚ a) *ℚ inverse (neg_ℚ r)) → a ≤ℚ (v +ℚ theta *ℚ r)
 down_to_bound a v theta r p h =
     subst₂ ◌≤ℚ◌ (twice a) (turn v theta r)
@@ -56,26 +57,31 @@ down_to_bound a v theta r p h =
     gap : (v a : ℚ) → v -ℚ a ≡ neg_ℚ a -ℚ neg_ℚ v
     gap v a = simp ring
 
+-- a rising value that moves within its room stays at most its upper bound
 upper_kept : (o : Option ℚ) (v theta r : ℚ) → 0ℚ <ℚ r
     → ((q : ℚ) → option_map (λ u. (u -ℚ v) *ℚ inverse r) o ≡ Some q → theta ≤ℚ q) →
     IfSome o (λ k. (v +ℚ theta *ℚ r) ≤ℚ k)
 upper_kept None v theta r p h = tt
 upper_kept (Some u) v theta r p h = up_to_bound u v theta r p (h ((u -ℚ v) *ℚ inverse r) refl)
 
+-- a falling value that moves within its room stays at least its lower bound
 lower_kept : (o : Option ℚ) (v theta r : ℚ) → r <ℚ 0ℚ
     → ((q : ℚ) → option_map (λ l. (v -ℚ l) *ℚ inverse (neg_ℚ r)) o ≡ Some q → theta ≤ℚ q) →
     IfSome o (λ k. k ≤ℚ (v +ℚ theta *ℚ r))
 lower_kept None v theta r p h = tt
 lower_kept (Some l) v theta r p h = down_to_bound l v theta r p (h ((v -ℚ l) *ℚ inverse (neg_ℚ r)) refl)
 
+-- a number that is at most a value is at most the upper bound that the value keeps
 upper_more : (o : Option ℚ) (v w : ℚ) → w ≤ℚ v → IfSome o (λ k. v ≤ℚ k) → IfSome o (λ k. w ≤ℚ k)
 upper_more None v w h i = tt
 upper_more (Some u) v w h i = ≤ℚ_trans w v u h i
 
+-- a number that is at least a value is at least the lower bound that the value keeps
 lower_more : (o : Option ℚ) (v w : ℚ) → v ≤ℚ w → IfSome o (λ k. k ≤ℚ v) → IfSome o (λ k. k ≤ℚ w)
 lower_more None v w h i = tt
 lower_more (Some l) v w h i = ≤ℚ_trans l v w i h
 
+-- a value within its bounds that moves within its room stays within them
 room_kept : (b : Bounds) (k : ℕ) (v r theta : ℚ) → 0ℚ ≤ℚ theta →
     IsInside (b.lower k) (b.upper k) v → ((q : ℚ) → room b k v r ≡ Some q → theta ≤ℚ q)
     → IsInside (b.lower k) (b.upper k) (v +ℚ theta *ℚ r)
@@ -149,6 +155,7 @@ own_kept l u v theta Up AtUpper c s f h i = absurd c
 own_kept l u v theta Down Basic c s f h i = absurd c
 own_kept l u v theta Down AtLower c s f h i = absurd c
 
+-- where there is room, a move of the entering column keeps each value within its bounds
 pub stays_within : (m n : ℕ) (f : Matrix) (cost : ℕ → ℚ) (b : Bounds) (t : Table) (way : Way) (j : ℕ) (theta : ℚ) →
     IsTableau m n f cost b t
     → IsWithin n b t → Enters n b t way j → HasRoom m b t way j theta →
