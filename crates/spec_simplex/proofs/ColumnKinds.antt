@@ -33,7 +33,7 @@ by_kind n m k f g h =
     (λ a. by_lt k (n + m) (λ b. g (k - n) (omega (arith, a, b)) (omega (arith, a, b)))
     (λ b. h (k - (n + m)) (omega (arith, a, b))))
 
--- a sum in two parts
+-- a sum of a + b terms is that of the first a and that of the other b
 sum_below_split : (a b : ℕ) (f : ℕ → ℚ) → sum_below (a + b) f ≡ sum_below a f +ℚ sum_below b (λ i. f (a + i))
 sum_below_split a zero f = (let e : a + 0 ≡ a = omega arith in ap (λ k. sum_below k f) e) ∙ sym (+ℚ_zero _)
 sum_below_split a (suc b) f =

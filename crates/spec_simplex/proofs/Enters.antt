@@ -32,6 +32,8 @@ pub fixed_test : (l u : Option ℚ) (v : ℚ) → l ≡ Some v → u ≡ Some v 
 fixed_test l u v p q = ap₂ is_fixed p q ∙ eq_test v v refl
 
 -- ---- the test of a status and a reduced cost
+
+-- where the test gives no way, no allowed move lowers the cost
 way_by_none : (s : Status) (d : ℚ) (w : Way) → way_by s d ≡ None → CanMove w s → Improves w d → ⊥
 way_by_none Basic d Up e c i = c
 way_by_none Basic d Down e c i = c
@@ -50,6 +52,7 @@ record Goes (w : Way) (s : Status) (d : ℚ) : Type 0 where
   status : CanMove w s
   improves : Improves w d
 
+-- a move the way that the test gives is allowed and lowers the cost
 way_by_some : (s : Status) (d : ℚ) (up : Bool) → way_by s d ≡ Some up → Goes (way up) s d
 way_by_some Basic d up e = let z : None ≡ Some up = e in cc
 way_by_some AtLower d up e = by (lt_ℚ d 0ℚ) refl e

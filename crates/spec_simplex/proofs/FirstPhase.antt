@@ -28,16 +28,20 @@ use Rattle.spec_simplex.specs.Form.{Form}
 use Rattle.spec_simplex.proofs.Rays.{allowed, falls}
 
 -- ---- sums
+
+-- a sum whose terms are at least 0 is at least 0
 sum_least : (n : ℕ) (f : ℕ → ℚ) → ((i : ℕ) → i < n → 0ℚ ≤ℚ f i) → 0ℚ ≤ℚ sum_below n f
 sum_least zero f h = ≤ℚ_refl 0ℚ
 sum_least (suc n) f h =
     subst (λ a. a ≤ℚ sum_below (suc n) f) (+ℚ_zero 0ℚ)
     (+ℚ_mono₂ 0ℚ (sum_below n f) 0ℚ (f n) (sum_least n f (λ i p. h i (omega (arith, p)))) (h n (omega arith)))
 
+-- a number above 0 and one that is at least 0 have a sum above 0
 positive_sum : (a b : ℚ) → 0ℚ <ℚ a → 0ℚ ≤ℚ b → 0ℚ <ℚ (a +ℚ b)
 positive_sum a b h k =
     <ℚ-≤ℚ_trans 0ℚ a (a +ℚ b) h (subst (λ z. z ≤ℚ (a +ℚ b)) (+ℚ_zero a) (+ℚ_mono₂ a a 0ℚ b (≤ℚ_refl a) k))
 
+-- a sum of terms that are at least 0, of which one is above 0, is above 0
 sum_positive : (n : ℕ) (f : ℕ → ℚ) → ((i : ℕ) → i < n → 0ℚ ≤ℚ f i) → (r : ℕ) → r < n → 0ℚ <ℚ f r → 0ℚ <ℚ sum_below n f
 sum_positive zero f h r p k = absurd (let z : ⊥ = omega (arith, p) in z)
 sum_positive (suc n) f h r p k =
@@ -48,19 +52,24 @@ sum_positive (suc n) f h r p k =
     (sum_positive n f (λ i q. h i (omega (arith, q))) r (omega (arith, p, o)) k) (h n (omega arith)))
 
 -- ---- artificials of phase one
+
+-- an artificial column has no upper bound, or the upper bound 0
 top_of : (s : RowStart ℚ) → (artificial_upper s ≡ None) ⊎ (artificial_upper s ≡ Some 0ℚ)
 top_of (Within v) = inr refl
 top_of (Below g) = inl refl
 top_of (Above g) = inl refl
 
+-- the cost of an artificial value that is at least 0 is at least 0
 cost_least : (s : RowStart ℚ) (a : ℚ) → 0ℚ ≤ℚ a → 0ℚ ≤ℚ (first_cost s *ℚ a)
 cost_least (Within v) a h = subst (λ z. 0ℚ ≤ℚ z) (sym (zero-*ℚ a)) (≤ℚ_refl 0ℚ)
 cost_least (Below g) a h = subst (λ z. 0ℚ ≤ℚ z) (sym (one-*ℚ a)) h
 cost_least (Above g) a h = subst (λ z. 0ℚ ≤ℚ z) (sym (one-*ℚ a)) h
 
+-- a number that is at least 0 and not 0 is above 0
 positive : (a : ℚ) → 0ℚ ≤ℚ a → ¬ (a ≡ 0ℚ) → 0ℚ <ℚ a
 positive a h n = by_sign a (λ p. p) (λ p. clash_ℚ a 0ℚ p h) (λ e. absurd (n e))
 
+-- an artificial value within its bounds that is not 0 has a cost above 0 in phase one
 cost_positive : (s : RowStart ℚ) (a : ℚ) → IsInside (Some 0ℚ) (artificial_upper s) a → ¬ (a ≡ 0ℚ) →
     0ℚ <ℚ (first_cost s *ℚ a)
 cost_positive (Within v) a i n = absurd (n (≤ℚ_antisym a 0ℚ i.upper i.lower))

@@ -45,6 +45,7 @@ use Rattle.spec_simplex.proofs.Equations.{row_structural, row_logical, row_artif
 use Rattle.spec_simplex.proofs.Priced.{priced_length, priced_agrees}
 use Rattle.spec_simplex.proofs.RowStarts.{first_sum, RowBegins, within, below, above, start_is}
 
+-- v where two numbers are the same, else 0, is v times their unit entry
 one_is : (i r : ℕ) (v : ℚ) → one_at i r v ≡ v *ℚ delta i r
 one_is i r v = by (nat_eq i r)
   where
@@ -60,6 +61,7 @@ sign_square (Below gap) = minus
     minus = simp ring
 sign_square (Above gap) = *ℚ_one 1ℚ
 
+-- a structural entry is the logical column's sign times the coefficient's negative
 structural_sign : (s : RowStart ℚ) (a : ℚ) → structural_entry s a ≡ logical_sign s *ℚ neg_ℚ a
 structural_sign (Within v) a = sym (one-*ℚ (neg_ℚ a))
 structural_sign (Below gap) a = minus a
@@ -72,16 +74,20 @@ pub twice : (c d : ℚ) → c *ℚ c ≡ 1ℚ → c *ℚ (c *ℚ d) ≡ d
 twice c d e = sym (*ℚ_assoc c c d) ∙ ap (λ a. a *ℚ d) e ∙ one-*ℚ d
 
 -- ---- bounds
+
+-- the first status of a structural column is not that of a basic one
 first_never_basic : (l u : Option ℚ) → ¬ (first_status l u ≡ Basic)
 first_never_basic (Some l) u e = cc
 first_never_basic None (Some u) e = cc
 first_never_basic None None e = cc
 
+-- the first value of a structural column stands where its first status says
 first_stands : (l u : Option ℚ) → Stands (first_status l u) l u (stand (first_status l u) l u)
 first_stands (Some l) u = refl
 first_stands None (Some u) = refl
 first_stands None None = (refl, refl, refl)
 
+-- the first value of a structural column is within its bounds, if these do not clash
 first_inside : (l u : Option ℚ) → ((a c : ℚ) → l ≡ Some a → u ≡ Some c → a ≤ℚ c) →
     IsInside l u (stand (first_status l u) l u)
 first_inside (Some l) None h = record { lower = ≤ℚ_refl l; upper = tt }
@@ -89,12 +95,14 @@ first_inside (Some l) (Some u) h = record { lower = ≤ℚ_refl l; upper = h l u
 first_inside None (Some u) h = record { lower = tt; upper = ≤ℚ_refl u }
 first_inside None None h = record { lower = tt; upper = tt }
 
+-- the first value of a logical column stands where its status says, however its row begins
 logical_stands : (l u : Option ℚ) (v : ℚ) (s : RowStart ℚ) → RowBegins l u v s →
     Stands (logical_status s) l u (logical_value s l u)
 logical_stands l u v (Within x) (within p q) = tt
 logical_stands l u v (Below g) (below a e h) = e ∙ ap Some (sym (ap or_zero e))
 logical_stands l u v (Above g) (above a e h) = e ∙ ap Some (sym (ap or_zero e))
 
+-- the first value of a logical column is within its bounds, if these do not clash
 logical_inside : (l u : Option ℚ) (v : ℚ) (s : RowStart ℚ) → ((a c : ℚ) → l ≡ Some a → u ≡ Some c → a ≤ℚ c) →
     RowBegins l u v s → IsInside l u (logical_value s l u)
 logical_inside l u v (Within x) o (within p q) =
@@ -108,18 +116,20 @@ logical_inside l u v (Above g) o (above a e h) = record {
   upper = if_some (λ a. or_zero u ≤ℚ a) u (λ c z. subst (λ o. or_zero o ≤ℚ c) (sym z) (≤ℚ_refl c));
 }
 
+-- the first value of an artificial column stands where its status says
 artificial_stands : (s : RowStart ℚ) → Stands (artificial_status s) (Some 0ℚ) (artificial_upper s) (artificial_value s)
 artificial_stands (Within v) = refl
 artificial_stands (Below g) = tt
 artificial_stands (Above g) = tt
 
+-- the first value of an artificial column is within its bounds, however its row begins
 artificial_inside : (l u : Option ℚ) (v : ℚ) (s : RowStart ℚ) → RowBegins l u v s →
     IsInside (Some 0ℚ) (artificial_upper s) (artificial_value s)
 artificial_inside l u v (Within x) (within p q) = record { lower = ≤ℚ_refl 0ℚ; upper = ≤ℚ_refl 0ℚ }
 artificial_inside l u v (Below g) (below a e h) = record { lower = ≤ℚ-difference v a (<ℚ-le v a h); upper = tt }
 artificial_inside l u v (Above g) (above a e h) = record { lower = ≤ℚ-difference a v (<ℚ-le a v h); upper = tt }
 
--- the row's sum, its logical and its artificial with the sign
+-- a row's sum and its first logical and artificial values solve the row
 row_solved : (l u : Option ℚ) (v : ℚ) (s : RowStart ℚ) → RowBegins l u v s →
     (neg_ℚ v +ℚ logical_value s l u) +ℚ logical_sign s *ℚ artificial_value s ≡ 0ℚ
 row_solved l u v (Within x) (within p q) = none v

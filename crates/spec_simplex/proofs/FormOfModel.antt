@@ -127,6 +127,8 @@ pub record HasBounds (f : Form) (b : Bounds) : Type 0 where
   pub entering : (k : ℕ) → k < f.cols + f.rows → b.barred k ≡ false
 
 -- ---- the run
+
+-- where the run finds no clash of two bounds, the lower one is at most the upper one
 clash_free : (limit : Option ℕ) (j : ℕ) (l u : Option ℚ) → bounds_clash limit j l u ≡ Ok tt → (a c : ℚ) → l ≡ Some a →
     u ≡ Some c → a ≤ℚ c
 clash_free limit j None u h a c p q = let z : None ≡ Some a = p in cc
@@ -142,6 +144,7 @@ clash_free limit j (Some l) (Some u) h a c p q =
     go Equal e h = subst (λ a. l ≤ℚ a) ((order_equal l u).0 (sym e)) (≤ℚ_refl l)
     go Greater e h = let z : ◌≡◌ {A = Result (Unit {0}) (FormFault ℚ)} (Err (fault.Clash j)) (Ok tt) = h in cc
 
+-- each value of the unit type is its one value
 unit_is : (x : Unit {0}) → x ≡ tt
 unit_is x = refl
 

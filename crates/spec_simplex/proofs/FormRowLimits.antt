@@ -38,18 +38,21 @@ Ordered l = (a c : ℚ) → l.lower ≡ Some a → l.upper ≡ Some c → a ≤�
 abbrev from_to : ℚ → ℚ → Limits
 from_to a c = record { lower = Some a; upper = Some c }
 
+-- limits from a to c are in order where a is at most c
 between : (a c : ℚ) → a ≤ℚ c → Ordered (from_to a c)
 between a c h x y p q =
     let e : a ≡ x = cc in
     let f : c ≡ y = cc in
     subst (λ x. x ≤ℚ y) e (subst (λ y. a ≤ℚ y) f h)
 
+-- a right side less a range that is at least 0 is at most the right side
 below : (b r : ℚ) → 0ℚ ≤ℚ r → (b -ℚ r) ≤ℚ b
 below b r h = ≤ℚ_from (b -ℚ r) b r h (again b r)
   where
     again : (b r : ℚ) → b -ℚ r +ℚ r ≡ b
     again b r = simp ring
 
+-- a right side and a range that is at least 0 make at least the right side
 above : (b r : ℚ) → 0ℚ ≤ℚ r → b ≤ℚ (b +ℚ r)
 above b r h = ≤ℚ_from b (b +ℚ r) r h refl
 

@@ -19,7 +19,7 @@ use Rattle.spec_simplex.specs.Tables.{table_of, IsWhole}
 use Rattle.spec_simplex.proofs.RunParts.{then_ok, less_ok, steps_ok}
 use Rattle.spec_simplex.proofs.ListIndices.{by_lt}
 
--- a column is basic at a position, or at none
+-- a column of a tableau is basic at one of its positions, or at none
 pub at_position : (m n : ℕ) (f : Matrix) (cost : ℕ → ℚ) (b : Bounds) (t : Table) → IsTableau m n f cost b t → (k : ℕ) →
     ((r : ℕ) × (r < m) × (t.basic r ≡ k)) ⊎ ((r : ℕ) → r < m → t.basic r ≢ k)
 at_position m n f cost b t g k =

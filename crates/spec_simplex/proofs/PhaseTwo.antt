@@ -33,6 +33,8 @@ use Rattle.spec_simplex.proofs.ListIndices.{by_lt, past_row}
 use Rattle.spec_simplex.proofs.Priced.{priced_length, priced_agrees}
 
 -- ---- where nothing is stuck, each artificial is 0
+
+-- where no element of a list passes a test, the element at each place fails it
 none_of : {A : Type 0} (p : A → Bool) (xs : List A) → list_any p xs ≡ false → (i : ℕ) (d : A) → i < length xs →
     p (get_or xs i d) ≡ false
 none_of p xs h i d l = by (p (get_or xs i d)) refl
@@ -62,6 +64,8 @@ stands_zero AtUpper l u v a b n s =
 stands_zero AtZero l u v a b n s = s.2
 
 -- ---- bounds that are set to 0
+
+-- a list of bounds is as long as before once those of the artificial columns are 0
 zeroed_length : (n m : ℕ) (bounds : List (Option ℚ)) → length (fixed_at_zero n m bounds) ≡ length bounds
 zeroed_length n zero bounds = refl
 zeroed_length n (suc m) bounds = length-set (fixed_at_zero n m bounds) (n + m) (Some 0ℚ) ∙ zeroed_length n m bounds

@@ -33,12 +33,12 @@ pub record Leaves (b : Bounds) (t u : Tableau) (v : Table) : Type 0 where
   pub table : table_of u ≡ v
   pub bounds : KeepsBounds b u
 
--- a column that enters is no artificial
+-- a column that is not barred is a column of the form, and so no artificial one
 pub enters_before : (b : Bounds) (t : Tableau) (k : ℕ) → KeepsBounds b t → b.barred k ≡ false → k < form_columns t
 enters_before b t k keeps h =
     by_lt k (form_columns t) (λ l. l) (λ l. let e : true ≡ false = sym (keeps.barred k l) ∙ h in cc)
 
--- the costs that a pivot leaves
+-- the run computes each new reduced cost from the old one and the pivot's row
 repriced_is : (limit : Option ℕ) (n : ℕ) (reduced : List ℚ) (rows : List (List ℚ)) (p j : ℕ) (out : List ℚ) →
     repriced_run limit n reduced rows p j ≡ Ok out
     → IsListOf n (λ k. less_product limit (get_or reduced j 0ℚ) (at_place rows p k) (get_or reduced k 0ℚ)) 0ℚ out

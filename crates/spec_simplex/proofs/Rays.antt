@@ -23,17 +23,22 @@ pub record IsFree (l u : Option ℚ) (r : ℚ) : Type 0 where
   pub upper : IfSome u (λ _. r ≤ℚ 0ℚ)
 
 -- ---- what stops nothing
+
+-- what must hold of a number that is not there holds
 if_none : (P : ℚ → Type 0) (o : Option ℚ) → o ≡ None → IfSome o P
 if_none P o e = subst (λ z. IfSome z P) (sym e) tt
 
+-- what holds of every number holds of one, where it is there
 if_all : (P : ℚ → Type 0) (o : Option ℚ) → ((k : ℚ) → P k) → IfSome o P
 if_all P None h = tt
 if_all P (Some k) h = h k
 
+-- a number is not there where its image under a function is not there
 map_none : (f : ℚ → ℚ) (o : Option ℚ) → option_map f o ≡ None → o ≡ None
 map_none f None e = refl
 map_none f (Some k) e = cc
 
+-- a column whose room nothing limits may move on: no bound stops it
 room_none : (b : Bounds) (k : ℕ) (v r : ℚ) → room b k v r ≡ None → IsFree (b.lower k) (b.upper k) r
 room_none b k v r e = by (lt_ℚ 0ℚ r) (lt_ℚ r 0ℚ) refl refl e
   where
@@ -54,6 +59,7 @@ room_none b k v r e = by (lt_ℚ 0ℚ r) (lt_ℚ r 0ℚ) refl refl e
       upper = if_all (λ _. r ≤ℚ 0ℚ) (b.upper k) (λ _. le_if_not 0ℚ r p);
     }
 
+-- no bound stops a column that does not move
 still_allowed : (l u : Option ℚ) (r : ℚ) → r ≡ 0ℚ → IsFree l u r
 still_allowed l u r e =
     subst (IsFree l u) (sym e) (record {
@@ -61,7 +67,7 @@ still_allowed l u r e =
       upper = if_all (λ _. 0ℚ ≤ℚ 0ℚ) u (λ _. ≤ℚ_refl 0ℚ);
     })
 
--- the entering column itself
+-- no bound stops the entering column where one of its two bounds is absent
 own_allowed : (l u : Option ℚ) (v : ℚ) (way : Way) (s : Status) → CanMove way s → Stands s l u v →
     (l ≡ None) ⊎ (u ≡ None) → IsFree l u (sign way)
 own_allowed l u v Up AtLower c s o = record {

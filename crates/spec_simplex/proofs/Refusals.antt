@@ -74,6 +74,8 @@ module _ {E : Type 0} (kind : Past ℚ → E) where
       on (Err p) n s = absurd (n p refl)
 
 -- ---- runs of operations
+
+-- lists of n operations at a limit and without one agree where their operations agree
 pub agrees_list : {A : Type 0} (n : ℕ) (f g : ℕ → Run A) → ((i : ℕ) → Agrees as_it_is (f i) (g i)) →
     Agrees as_it_is (list_run n f) (list_run n g)
 agrees_list zero f g h = agrees_ok as_it_is []
@@ -83,6 +85,7 @@ agrees_list (suc n) f g h =
     (λ xs. agrees_then as_it_is (f n) (g n) (λ x. Ok (xs ++ x ∷ []))
     (λ x. Ok (xs ++ x ∷ [])) (h n) (λ x. agrees_ok as_it_is (xs ++ x ∷ [])))
 
+-- an operation at a limit that gives the exact result, if any, agrees with that without a limit
 agrees_told : {A : Type 0} (op : Op) (v w : ℚ) (a b : Option A) (y : A) → ((x : A) → a ≡ Some x → x ≡ y) → b ≡ Some y →
     Agrees as_it_is (told op v w a) (told op v w b)
 agrees_told {A} op v w a b y gives unlimited =

@@ -45,6 +45,7 @@ BelowGap l v = Gap l (λ a. a ≤ℚ v) (λ a. v <ℚ a) (λ a. a -ℚ v)
 abbrev AboveGap : Option ℚ → ℚ → Option ℚ → Type 0
 AboveGap u v = Gap u (λ a. v ≤ℚ a) (λ a. a <ℚ v) (λ a. v -ℚ a)
 
+-- the run finds the gap by which a sum is below its lower limit, if any
 below_is : (limit : Option ℕ) (l : Option ℚ) (v : ℚ) (gap : Option ℚ) → below_run limit l v ≡ Ok gap → BelowGap l v gap
 below_is limit None v gap h = given (BelowGap None v) None gap h (none (λ a z. let y : None ≡ Some a = z in cc))
 below_is limit (Some l) v gap h =
@@ -53,6 +54,7 @@ below_is limit (Some l) v gap h =
     (λ e. no_gap l (λ a. a ≤ℚ v) (λ a. v <ℚ a) (λ a. a -ℚ v) gap (subst (λ a. a ≤ℚ v) e (≤ℚ_refl v)))
     (λ p. no_gap l (λ a. a ≤ℚ v) (λ a. v <ℚ a) (λ a. a -ℚ v) gap (<ℚ-le l v p))
 
+-- the run finds the gap by which a sum is above its upper limit, if any
 above_is : (limit : Option ℕ) (u : Option ℚ) (v : ℚ) (gap : Option ℚ) → above_run limit u v ≡ Ok gap → AboveGap u v gap
 above_is limit None v gap h = given (AboveGap None v) None gap h (none (λ a z. let y : None ≡ Some a = z in cc))
 above_is limit (Some u) v gap h =
@@ -61,6 +63,7 @@ above_is limit (Some u) v gap h =
     (λ e. no_gap u (λ a. v ≤ℚ a) (λ a. a <ℚ v) (λ a. v -ℚ a) gap (subst (λ a. v ≤ℚ a) e (≤ℚ_refl v)))
     (a_gap u (λ a. v ≤ℚ a) (λ a. a <ℚ v) (λ a. v -ℚ a) gap limit v u refl)
 
+-- the run finds a row's sum at the first values of the structural columns
 sum_is : (limit : Option ℕ) (f : Form) (i : ℕ) (v : ℚ) → row_sum limit f i ≡ Ok v → v ≡ first_sum f i
 sum_is limit f i v h =
     steps_ok (λ n s. s ≡ sum_below n (λ j. form_entry f i j *ℚ first_value f j)) f.cols
@@ -68,6 +71,7 @@ sum_is limit f i v h =
     (λ j x y l was is. plus_ok limit (form_entry f i j) (first_value f j) x y is
     ∙ ap (λ s. s +ℚ form_entry f i j *ℚ first_value f j) was)
 
+-- a row whose gap below its lower limit is known begins as the run finds
 start_by : (limit : Option ℕ) (l u : Option ℚ) (v : ℚ) (gap : Option ℚ) (s : RowStart ℚ) → BelowGap l v gap →
     row_start_by limit u v gap ≡ Ok s → RowBegins l u v s
 start_by limit l u v None s (none low) h =
@@ -81,6 +85,7 @@ start_by limit l u v None s (none low) h =
 start_by limit l u v (Some g) s (some a e lt) h =
     let z : Below (a -ℚ v) ≡ s = cc in subst (RowBegins l u v) z (below a e lt)
 
+-- a row begins as the run finds, by its limits and its first sum
 pub start_is : (limit : Option ℕ) (f : Form) (i : ℕ) (s : RowStart ℚ) → row_start limit f i ≡ Ok s →
     RowBegins (form_lower f (f.cols + i)) (form_upper f (f.cols + i)) (first_sum f i) s
 start_is limit f i s h =

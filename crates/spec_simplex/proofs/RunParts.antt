@@ -47,6 +47,7 @@ sum_ok limit v w x h = add_gives limit v w x (told_ok Add v w (add limit v w) x 
 pub difference_ok : (limit : Option ℕ) (v w x : ℚ) → difference_run limit v w ≡ Ok x → x ≡ v -ℚ w
 difference_ok limit v w x h = sub_gives limit v w x (told_ok Sub v w (sub limit v w) x h)
 
+-- a product that the run gives is the exact product
 product_ok : (limit : Option ℕ) (v w x : ℚ) → product_run limit v w ≡ Ok x → x ≡ v *ℚ w
 product_ok limit v w x h = mul_gives limit v w x (told_ok Mul v w (mul limit v w) x h)
 

@@ -52,6 +52,7 @@ abbrev IsRoom : Option ℚ → Option ℚ → ℚ → ℚ → ℚ → Option (�
 IsRoom l u v r a None = room_by l u v r ≡ None
 IsRoom l u v r a (Some (gap, to)) = (room_by l u v r ≡ Some (gap *ℚ inverse (abs_ℚ a))) × (to ≡ bound_ahead (way_of r))
 
+-- the run's gap of a position, over the entry's magnitude, is that position's room
 gap_is : (limit : Option ℕ) (up : Bool) (a : ℚ) (l u : Option ℚ) (v r : ℚ) → r ≡ neg_ℚ (directed up a) →
     (gap : Option (ℚ × Status)) → gap_run limit up a l u v ≡ Ok gap → IsRoom l u v r a gap
 gap_is limit up a l u v r r_is gap h = by (lt_ℚ (directed up a) 0ℚ) (lt_ℚ 0ℚ (directed up a)) refl refl h
@@ -105,6 +106,7 @@ gap_is limit up a l u v r r_is gap h = by (lt_ℚ (directed up a) 0ℚ) (lt_ℚ 
 abbrev pub plain : Best ℚ → test.Best
 plain x = record { ratio = x.ratio; column = x.col; position = x.place }
 
+-- of two candidates the run takes the one that the ratio test takes
 better_is : (new x : Best ℚ) (o : Ordering) → o ≡ order new.ratio x.ratio →
     plain (better_by new x o) ≡ cond (is_better new.ratio new.col (Some (plain x))) (plain new) (plain x)
 better_is new x Less e = rw (lt_test new.ratio x.ratio ((order_less new.ratio x.ratio).0 (sym e))) refl
@@ -122,6 +124,7 @@ better_is new x Greater e =
     let less : x.ratio <ℚ new.ratio = (order_greater new.ratio x.ratio).0 (sym e) in
     rw (not_lt_test new.ratio x.ratio (<ℚ-le x.ratio new.ratio less), lt_test x.ratio new.ratio less) refl
 
+-- what holds of both of two candidates holds of the better one
 one_of : (P : Best ℚ → Type 0) (new x : Best ℚ) (o : Ordering) → P new → P x → P (better_by new x o)
 one_of P new x Less p q = p
 one_of P new x Equal p q = by (nat_lt new.col x.col)

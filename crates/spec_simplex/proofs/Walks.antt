@@ -59,6 +59,7 @@ stand_still m n b t l =
       steps = λ i h. absurd (let z : ⊥ = omega (arith, h) in z);
     }
 
+-- a step, and a walk of some steps from where it leads, make a walk of one step more
 step_first : (m n : ℕ) (b : Bounds) (t u : Tableau) (length : ℕ) (l : Label) →
     IsStep m (n + m + m) b l (table_of t) (table_of u) → Walk m n b u length → Walk m n b t (suc length)
 unfolding before
