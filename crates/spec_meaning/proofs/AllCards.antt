@@ -65,7 +65,7 @@ whole_data c style here seen l lines h b =
       bounds = card seen.bounds section.Bounds c.bounds i;
     }
 
--- a section that has not begun, by its name or as this one
+-- a section has not begun where one that the test finds the same has not begun
 is_new : (part q : Section) (seen : Seen) → has_begun seen part ≡ false → is_section (Some part) q ≡ true →
     has_begun seen q ≡ false
 is_new part q seen h e = subst (λ p. has_begun seen p ≡ false) (same_section part q e) h
@@ -136,6 +136,7 @@ all_of style lines =
       bounds = cards_in style section.Bounds lines;
     }
 
+-- before all lines, the cards of a section to come are all its cards
 all_cards : (style : Style) (part : Section) (lines : Lines) →
     cards_to_come style None false part lines ≡ cards_in style part lines
 unfolding cards_to_come cards_in lines_in lines_up_to_end
@@ -145,6 +146,7 @@ all_cards style part lines =
     ∙ ap (λ ls. before is_heading ls) (sym (behind_is (begins part) (lines_up_to_end lines)))
     ∙ sym (before_is is_heading _))
 
+-- before all lines, the title of a section to come is its title
 all_titles : (part : Section) (lines : Lines) → title_to_come false part lines ≡ title_of part lines
 unfolding title_to_come title_of lines_up_to_end
 all_titles part lines =

@@ -43,6 +43,7 @@ record Does (kind : BoundKind) (value : BoundReading) (does : BoundCard) : Type 
   lower : lower_by (Some kind) value ≡ lower_set does
   below : is_below_zero (Some kind) value ≡ drops does
 
+-- a card of kind UP that is read sets the bounds that UP means with its value
 does_upper : (value : BoundReading) (does : BoundCard) → (coded (bound_answer value) >>= upper_card) ≡ Ok does →
     Does Up value does
 does_upper (Finite u) does h =
@@ -54,6 +55,7 @@ does_upper MinusInf does h = absurd (cc)
 does_upper Shape does h = absurd (cc)
 does_upper Wide does h = absurd (cc)
 
+-- a card of kind LO that is read sets the bounds that LO means with its value
 does_lower : (value : BoundReading) (does : BoundCard) → (coded (bound_answer value) >>= lower_card) ≡ Ok does →
     Does Lo value does
 does_lower (Finite l) does h =
@@ -65,6 +67,7 @@ does_lower MinusInf does h =
 does_lower Shape does h = absurd (cc)
 does_lower Wide does h = absurd (cc)
 
+-- a card of kind FX that is read sets the bounds that FX means with its value
 does_both : (value : BoundReading) (does : BoundCard) → (coded (bound_answer value) >>= both_card) ≡ Ok does →
     Does Fx value does
 does_both (Finite v) does h =
@@ -75,6 +78,7 @@ does_both MinusInf does h = absurd (cc)
 does_both Shape does h = absurd (cc)
 does_both Wide does h = absurd (cc)
 
+-- a card of BOUNDS sets the bounds that its kind and its text mean
 card_does : (kind : BoundKind) (text : List ℕ) (does : BoundCard) → bound_card kind text ≡ Ok does →
     Does kind (bound_of text) does
 unfolding bound_card bound_in
@@ -111,10 +115,12 @@ effects style card kind text does k v h =
 
 -- ---- one more card
 
+-- the last item of a list with one more at its end is that one
 last_push : {A : Type 0} (first : A) (xs : List A) (y : A) → last_or first (xs ++ y ∷ []) ≡ y
 last_push first [] y = refl
 last_push first (x ∷ xs) y = last_push x xs y
 
+-- one of the cards passes a test just where an old one or the new one does
 any_push : (test : Fields → Bool) (cards : List Fields) (card : Fields) →
     list_any test (cards ++ card ∷ []) ≡ (list_any test cards || test card)
 any_push test [] card = by (test card)
@@ -133,11 +139,13 @@ abbrev or_kept : Option (Option ℚ) → Option ℚ → Option ℚ
 or_kept (Some bound) old = bound
 or_kept None old = old
 
+-- the last of a list with an optional item behind is that item, or the old last
 last_added : (first : Option ℚ) (xs : List (Option ℚ)) (o : Option (Option ℚ)) →
     last_or first (xs ++ cons_option o []) ≡ or_kept o (last_or first xs)
 last_added first xs None = ap (last_or first) (append-nil xs)
 last_added first xs (Some y) = last_push first xs y
 
+-- one more card sets the upper bound, or leaves it
 upper_push : (style : Style) (cards : List Fields) (card : Fields) →
     upper_of style (cards ++ card ∷ []) ≡ or_kept (upper_on style card) (upper_of style cards)
 unfolding upper_of
@@ -152,6 +160,7 @@ is_lowered style cards = list_any (λ card. is_some (lower_on style card)) cards
 abbrev first_lower : Bool → Option ℚ
 first_lower negative = cond negative None (Some 0ℚ)
 
+-- one more card sets the lower bound, or changes it at most as an UP below 0
 lower_push : (style : Style) (cards : List Fields) (card : Fields) →
     lower_of style (cards ++ card ∷ []) ≡ or_kept (lower_on style card)
     (last_or (first_lower (list_any (has_negative_upper style) cards || has_negative_upper style card))
@@ -162,7 +171,7 @@ lower_push style cards card =
     (filter_map-append (lower_on style) cards (card ∷ []) i))
     ∙ last_added _ (filter_map (lower_on style) cards) (lower_on style card)
 
--- where a card has set it, what was first does not count
+-- where a card has set the lower bound, the bound that was there first does not count
 set_before : (style : Style) (cards : List Fields) (a b : Option ℚ) → is_lowered style cards ≡ true →
     last_or a (filter_map (lower_on style) cards) ≡ last_or b (filter_map (lower_on style) cards)
 set_before style [] a b h = absurd (cc)
@@ -176,6 +185,7 @@ set_before style (card ∷ cards) a b h = by (lower_on style card) h (set_before
     by None k f = f k
     by (Some l) k f = refl
 
+-- where no card has set the lower bound, the cards set no lower bounds
 unset_before : (style : Style) (cards : List Fields) → is_lowered style cards ≡ false →
     filter_map (lower_on style) cards ≡ []
 unset_before style [] h = refl
@@ -187,7 +197,7 @@ unset_before style (card ∷ cards) h = by (lower_on style card) h (unset_before
     by None k f = f k
     by (Some l) k f = absurd (cc)
 
--- an upper bound takes the lower one away where it is below 0 and no card has set that
+-- an UP card below 0 takes away a lower bound that no card has set
 lower_kept : (style : Style) (cards : List Fields) (negative : Bool) →
     last_or (first_lower (list_any (has_negative_upper style) cards || negative)) (filter_map (lower_on style) cards)
     ≡ cond (negative && not (is_lowered style cards)) None (lower_of style cards)

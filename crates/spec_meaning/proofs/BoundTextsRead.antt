@@ -35,6 +35,7 @@ abbrev AllSay : List (List ℕ × Check BoundKind) → Type 0
 AllSay [] = Unit {0}
 AllSay (x ∷ xs) = ((kind : BoundKind) → x.1 ≡ Ok kind → x.0 ≡ kind_word kind) × AllSay xs
 
+-- a word that a table of kinds knows is the word of the kind found
 looked_up : (word : List ℕ) (kind : BoundKind) (found : Check BoundKind) (table : List (List ℕ × Check BoundKind)) →
     look_up word table ≡ Some found → AllSay table → found ≡ Ok kind → word ≡ kind_word kind
 looked_up word kind found [] h a e = absurd (cc)
@@ -45,10 +46,12 @@ looked_up word kind found (x ∷ xs) h a e = go (same word x.0) refl (λ k. look
     go true f g k = same_true word x.0 f ∙ a.0 kind (same_Some x.1 found k ∙ e)
     go false f g k = g k e
 
+-- two kinds that are equal as results have the same word
 word_of : (kind : BoundKind) (other : BoundKind) → (let r : Check BoundKind = Ok kind in r) ≡ Ok other →
     kind_word kind ≡ kind_word other
 word_of kind other h = ap kind_word (same_ok kind other h)
 
+-- a word that is read as a kind of bounds is that kind's word
 word_is : (word : List ℕ) (kind : BoundKind) → bound_kind_of word ≡ Ok kind → word ≡ kind_word kind
 unfolding bound_kind_of
 word_is word kind h =
@@ -70,6 +73,7 @@ word_is word kind h =
       ),
     ) a.2
 
+-- the word of each kind of bounds means that kind
 kind_of_word : (kind : BoundKind) → kind_of (kind_word kind) ≡ Some kind
 unfolding kind_of
 kind_of_word Up = refl
@@ -89,10 +93,12 @@ numbered [] texts = []
 numbered (n ∷ ns) [] = []
 numbered (n ∷ ns) (text ∷ texts) = record { number = n; text = text } ∷ numbered ns texts
 
+-- the texts of fields, numbered as the fields are, are the fields
 numbered_are : (fields : Fields) → fields ≡ numbered (numbers_of fields) (texts_of fields)
 numbered_are [] = refl
 numbered_are (f ∷ fields) = ap (λ fs. f ∷ fs) (numbered_are fields)
 
+-- fields have as many texts as numbers
 many : (fields : Fields) → length (texts_of fields) ≡ length (numbers_of fields)
 many [] = refl
 many (f ∷ fields) = ap suc (many fields)
@@ -102,6 +108,7 @@ AllShapes P [] = Unit {0}
 AllShapes P (shape ∷ shapes) =
     ((texts : List (List ℕ)) → length texts ≡ length shape → P (numbered shape texts)) × AllShapes P shapes
 
+-- fields whose numbers are one of some shapes have what all such fields have
 any_shape : (P : Fields → Type 0) (fields : Fields) (shapes : List (List ℕ)) → AllShapes P shapes →
     list_any (same (numbers_of fields)) shapes ≡ true → P fields
 any_shape P fields [] a h = absurd (cc)
@@ -116,6 +123,7 @@ any_shape P fields (shape ∷ shapes) a h = go (same (numbers_of fields) shape) 
         (a.0 (texts_of fields) (many fields ∙ ap length numbers))
     go false e f k = f k
 
+-- what holds of any two texts holds of a list of texts of length 2
 of_two : (Q : List (List ℕ) → Type 0) → ((a b : List ℕ) → Q (a ∷ b ∷ [])) → (texts : List (List ℕ)) → length texts ≡ 2 →
     Q texts
 of_two Q f [] h = absurd (omega arith)
@@ -123,11 +131,13 @@ of_two Q f (a ∷ []) h = absurd (omega arith)
 of_two Q f (a ∷ b ∷ []) h = f a b
 of_two Q f (a ∷ b ∷ c ∷ more) h = absurd (omega arith)
 
+-- what holds of any three texts holds of a list of texts of length 3
 of_three : (Q : List (List ℕ) → Type 0) → ((a b c : List ℕ) → Q (a ∷ b ∷ c ∷ [])) → (texts : List (List ℕ)) →
     length texts ≡ 3 → Q texts
 of_three Q f [] h = absurd (omega arith)
 of_three Q f (a ∷ more) h = of_two (λ texts. Q (a ∷ texts)) (f a) more (omega arith)
 
+-- what holds of any four texts holds of a list of texts of length 4
 of_four : (Q : List (List ℕ) → Type 0) → ((a b c d : List ℕ) → Q (a ∷ b ∷ c ∷ d ∷ [])) → (texts : List (List ℕ)) →
     length texts ≡ 4 → Q texts
 of_four Q f [] h = absurd (omega arith)
@@ -141,9 +151,11 @@ IsRead style kind texts fields =
     bound_texts_by (takes_value kind) (texts_of (filter (λ f. is_read kind f.number) fields)) ≡ Ok texts →
     bound_texts_on style (takes_value kind) fields ≡ texts
 
+-- the texts of bounds that are equal as results are equal
 texts_same : (a b : BoundTexts) → (let r : Check BoundTexts = Ok a in r) ≡ Ok b → a ≡ b
 texts_same a b h = same_ok a b h
 
+-- fields of each shape of BOUNDS mean the texts that the reader takes from them
 read_by_shape : (style : Style) (kind : BoundKind) (texts : BoundTexts) →
     AllShapes (IsRead style kind texts) (bound_shapes style kind)
 read_by_shape Free Up texts =
@@ -186,6 +198,7 @@ read_by_shape Fixed Pl texts = (
   ),
 )
 
+-- a kind of bounds means a value just where the reader takes one
 valued_as : (kind : BoundKind) → has_value kind ≡ takes_value kind
 valued_as Up = refl
 valued_as Lo = refl

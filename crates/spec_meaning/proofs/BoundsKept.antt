@@ -42,6 +42,7 @@ abbrev pub first_bound : Style → List Fields → Option (Option Name)
 first_bound style [] = None
 first_bound style (card ∷ cards) = Some (set_of style card)
 
+-- one more card is among the used ones just where its set is in use
 used_push : (style : Style) (cards : List Fields) (card : Fields) →
     used_bounds style (cards ++ card ∷ [])
     ≡ used_bounds style cards ++ cond (is_used (first_bound style cards) (set_of style card)) (card ∷ []) []
@@ -54,6 +55,7 @@ used_push style (first ∷ cards) card =
     ∙ ap (λ b. used_bounds style (first ∷ cards) ++ cond b (card ∷ []) [])
     (same_as (set_of style first) (set_of style card))
 
+-- after a card whose set is in use, the set in use is that of the card
 first_used : (style : Style) (cards : List Fields) (card : Fields) →
     is_used (first_bound style cards) (set_of style card) ≡ true →
     first_bound style (cards ++ card ∷ []) ≡ Some (set_of style card)
@@ -61,12 +63,14 @@ first_used style [] card h = refl
 first_used style (first ∷ cards) card h =
     ap (λ set. Some set) (same_set_true (set_of style first) (set_of style card) h)
 
+-- after a card whose set is not in use, the set in use is the one before
 first_skipped : (style : Style) (cards : List Fields) (card : Fields) →
     is_used (first_bound style cards) (set_of style card) ≡ false →
     first_bound style (cards ++ card ∷ []) ≡ first_bound style cards
 first_skipped style [] card h = absurd (cc)
 first_skipped style (first ∷ cards) card h = refl
 
+-- one more card is a column's just where its set is in use and its name fits
 cards_push : (style : Style) (name : Name) (cards : List Fields) (card : Fields) →
     bounds_of_column style name (cards ++ card ∷ []) ≡ bounds_of_column style name cards ++ cond
     (is_used (first_bound style cards) (set_of style card) && same (bound_on style card).column name) (card ∷ []) []
@@ -84,6 +88,7 @@ cards_push style name cards card =
     by true = refl
     by false = refl
 
+-- where there are no cards, no column has one
 no_cards : (style : Style) (name : Name) → bounds_of_column style name [] ≡ []
 unfolding bounds_of_column used_bounds
 no_cards style name = refl
@@ -133,12 +138,14 @@ new_bounded style cards columns lowered e new =
 
 -- ---- a place that changes
 
+-- a change at a place of a list changes the element there
 changed_here : {A : Type 0} (i : ℕ) (change : A → A) (xs : List A) (d : A) → i < length xs →
     get_or (changed_at i change xs) i d ≡ change (get_or xs i d)
 changed_here i change [] d h = absurd (omega arith)
 changed_here zero change (x ∷ xs) d h = refl
 changed_here (suc i) change (x ∷ xs) d h = changed_here i change xs d (omega arith)
 
+-- a change at a place of a list leaves the elements at other places
 changed_there : {A : Type 0} (i j : ℕ) (change : A → A) (xs : List A) (d : A) → j ≢ i →
     get_or (changed_at i change xs) j d ≡ get_or xs j d
 changed_there i j change [] d h = refl
@@ -149,20 +156,24 @@ changed_there (suc i) (suc j) change (x ∷ xs) d h = changed_there i j change x
 
 -- ---- places of names
 
+-- a column's first place by its name is the name's first place among all names
 first_place : (name : Name) (columns : List ExactColumn) →
     position_or_len (λ c. same c.name name) columns ≡ position_or_len (λ n. same n name) (column_names columns)
 first_place name [] = refl
 first_place name (c ∷ columns) = ap (λ n. cond (not (same c.name name)) (1 + n) 0) (first_place name columns)
 
+-- there are as many names of columns as columns
 many_names : (columns : List ExactColumn) → length (column_names columns) ≡ length columns
 many_names [] = refl
 many_names (c ∷ columns) = ap suc (many_names columns)
 
+-- a search for a column by its name finds that name's place among all names
 place_by_names : (name : Name) (columns : List ExactColumn) →
     position (λ c. same c.name name) columns ≡ column_place name columns
 place_by_names name columns =
     λ i. cond (ltb (first_place name columns i) (sym (many_names columns) i)) (Some (first_place name columns i)) None
 
+-- the place of a name among columns is that of a column with the name
 place_named : (name : Name) (columns : List ExactColumn) (j : ℕ) → column_place name columns ≡ Some j →
     (j < length columns) × (get_or (column_names columns) j [] ≡ name)
 place_named name columns j h =
@@ -238,6 +249,7 @@ module _ (style : Style) (cards : List Fields) (card : Fields) (columns : List E
         many = changed_length place lower lowered ∙ k.many ∙ sym (changed_length place change columns);
       }
 
+-- a card whose set is not in use leaves the bounds that the cards say
 other_bounded : (style : Style) (cards : List Fields) (card : Fields)
     (columns : List ExactColumn) (lowered : List Bool) →
     is_used (first_bound style cards) (set_of style card) ≡ false → AreBounded style cards columns lowered →
@@ -261,6 +273,7 @@ fields_read style s card t d =
     let kind = kind_is (text_at 1 card) d.kind d.kind_is in
     (kind, ap (λ o. bound_by style o card) kind ∙ texts_are style d.kind card d.texts d.texts_are)
 
+-- a card that is read takes the state's bounds to those of one more card
 card_says : (style : Style) (cards : List Fields) (card : Fields)
     (s t : State) (kind : BoundKind) (texts : BoundTexts) →
     t.seen.bounds ≡ true → is_section s.part section.Bounds ≡ true → s.column ≡ None → t.column ≡ s.column →

@@ -43,16 +43,19 @@ use Rattle.spec_meaning.proofs.BoundsKept.{AreNew, BoundsSay, new_bounded, bound
 abbrev IsNew : ExactColumn → Type 0
 IsNew c = (c.lower ≡ Some 0ℚ) × (c.upper ≡ None)
 
+-- where all columns of a list have the bounds of a new column, all but the last have them
 without_last : (columns : List ExactColumn) (c : ExactColumn) → All IsNew (columns ++ c ∷ []) → All IsNew columns
 without_last columns c h =
     λ i d l. subst IsNew (get_or_append_left columns (c ∷ []) d i l)
     (h i d (omega (arith, length-append columns (c ∷ []))))
 
+-- where all columns of a list have the bounds of a new column, the last one has them
 the_last : (columns : List ExactColumn) (c : ExactColumn) → All IsNew (columns ++ c ∷ []) → IsNew c
 the_last columns c h =
     subst IsNew (get_or-append_seam columns c [] c)
     (h (length columns) c (omega (arith, length-append columns (c ∷ []))))
 
+-- a column with the bounds of a new one keeps them where it gets a number
 number_new : (c : ExactColumn) (x : Target) (v : ℚ) → IsNew c → IsNew (with_number c x v)
 number_new c Objective v h = h
 number_new c (Row i) v h = by (eq_ℚ v 0ℚ)
@@ -61,6 +64,7 @@ number_new c (Row i) v h = by (eq_ℚ v 0ℚ)
     by true = h
     by false = h
 
+-- columns with the bounds of new ones keep them where the last one gets a number
 with_number_new : (columns : List ExactColumn) (column : Option ExactColumn) (x : Target) (v : ℚ) →
     All IsNew (columns_with columns column) →
     All IsNew (columns_with columns (option_map (λ c. with_number c x v) column))
@@ -68,12 +72,14 @@ with_number_new columns None x v h = h
 with_number_new columns (Some c) x v h =
     All-push IsNew columns (with_number c x v) (without_last columns c h) (number_new c x v (the_last columns c h))
 
+-- there are as many columns as before where the last one gets a number
 with_number_many : (columns : List ExactColumn) (column : Option ExactColumn) (x : Target) (v : ℚ) →
     length (columns_with columns (option_map (λ c. with_number c x v) column)) ≡ length (columns_with columns column)
 with_number_many columns None x v = refl
 with_number_many columns (Some c) x v =
     length-append columns (with_number c x v ∷ []) ∙ sym (length-append columns (c ∷ []))
 
+-- a number of a card of COLUMNS leaves all columns the bounds of new ones
 enter_new : (s : State) (place : Target) (v : ℚ) (t : State) → enter s place v ≡ Ok t →
     AreNew (whole_columns s) s.lowered → AreNew (whole_columns t) t.lowered
 unfolding enter
@@ -86,6 +92,7 @@ enter_new s x v t h k =
       unset = k.unset;
     })
 
+-- marks that are all false stay so with one more that is false
 unset_push : (lowered : List Bool) (j : ℕ) → ((i : ℕ) → get_or lowered i false ≡ false) →
     get_or (lowered ++ false ∷ []) j false ≡ false
 unset_push [] zero h = refl
@@ -93,6 +100,7 @@ unset_push [] (suc j) h = h zero
 unset_push (b ∷ lowered) zero h = h zero
 unset_push (b ∷ lowered) (suc j) h = unset_push lowered j (λ i. h (suc i))
 
+-- a card of COLUMNS that opens its column leaves all columns the bounds of new ones
 opens_new : {limits : SizeLimits} (s : State) (name : Name) (t : State) → Opens limits s name t →
     AreNew (whole_columns s) s.lowered →
     AreNew (whole_columns t) t.lowered
@@ -107,6 +115,7 @@ opens_new s name t (New other free few new) k =
       unset = λ j. unset_push s.lowered j k.unset;
     })
 
+-- a card of COLUMNS leaves all columns the bounds of new ones
 columns_new : (limits : SizeLimits) (style : Style) (s : State) (card : Fields) (t : State) →
     columns_card limits style s card ≡ Ok t →
     AreNew (whole_columns s) s.lowered → AreNew (whole_columns t) t.lowered
@@ -121,12 +130,14 @@ columns_new limits style s card t h k =
 abbrev bounds_view : State → List ExactColumn × Option ExactColumn × List Bool
 bounds_view s = (s.columns, s.column, s.lowered)
 
+-- a card of another section than COLUMNS and BOUNDS leaves columns and bounds
 bounds_stay : (part : Section) (s t : State) → is_section (Some part) section.Columns ≡ false →
     is_section (Some part) section.Bounds ≡ false → Leads part s t → bounds_view t ≡ bounds_view s
 bounds_stay section.Columns s t e f h = absurd (cc)
 bounds_stay section.Bounds s t e f h = absurd (cc)
 bounds_stay part s t e f h = ap bounds_view h
 
+-- with the same columns, marks and set the bounds stay what the cards say
 bounds_same : (style : Style) (cards : List Fields) (s t : State) → (t.seen.bounds ≡ false → s.seen.bounds ≡ false) →
     whole_columns t ≡ whole_columns s → t.lowered ≡ s.lowered →
     (is_section t.part section.Bounds ≡ true → t.set ≡ first_bound style cards) → BoundsSay style cards s →
@@ -138,6 +149,7 @@ bounds_same style cards s t seen columns lowered during k =
       during = during;
     }
 
+-- a data card keeps the state's bounds what the cards so far say
 bounds_at_card : (limits : SizeLimits) (style : Style) (c : SoFar) (s t : State) (part : Section) (card : Fields) →
     IsOrdered s.part s.seen →
     s.part ≡ Some part → data_card limits style (Some part) s card ≡ Ok t → ColumnsSay c.columns s →
@@ -169,12 +181,14 @@ bounds_at_card limits style c s t part card o here h columns k =
 
 -- ---- sections that begin
 
+-- a heading leaves the columns
 whole_headed : (s : State) (part : Section) (word : List ℕ) (t : State) → headed (begun s part) part word ≡ Ok t →
     whole_columns t ≡ whole_columns s
 whole_headed s part word t h =
     let u = headed_leads (begun s part) part word t h in
     λ i. columns_with (ap (λ (x : State). x.columns) u i) (ap (λ (x : State). x.column) u i)
 
+-- a heading keeps the state's bounds what the cards so far say
 bounds_at_heading : (style : Style) (cards : List Fields) (s t : State) (part : Section) (word : List ℕ) →
     has_begun s.seen part ≡ false → headed (begun s part) part word ≡ Ok t → BoundsSay style cards s →
     BoundsSay style cards t
@@ -188,9 +202,11 @@ bounds_at_heading style cards s t part word new h k =
     (whole_headed s part word t h) (ap (λ (x : State). x.lowered) u)
     (λ f. not_both (is_section t.part section.Bounds) f (ap (λ (x : State). is_section x.part section.Bounds) u)) k
 
+-- an empty list of columns has the bounds of new ones
 none_new : AreNew [] []
 none_new = record { bounds = All-nil IsNew; many = refl; unset = λ j. refl }
 
+-- each state has the columns and the bounds that the cards so far say
 bounds_kept : (limits : SizeLimits) (style : Style) → IsKept limits style (λ c s. ColumnsSay c.columns s × BoundsSay
     style c.bounds s)
 bounds_kept limits style =
@@ -217,10 +233,12 @@ bounds_kept limits style =
 
 -- ---- the model
 
+-- two different names are different by the test
 differs : (name other : Name) → name ≢ other → (b : Bool) → same name other ≡ b → b ≡ false
 differs name other h true e = absurd (h (same_true name other e))
 differs name other h false e = refl
 
+-- among distinct names, the first place of the name at a place is that place
 own_first : (names : List Name) (j : ℕ) → AllPairs (λ x y. x ≢ y) names → j < length names →
     position_or_len (λ n. same n (get_or names j [])) names ≡ j
 own_first [] j h l = absurd (omega arith)
@@ -233,6 +251,7 @@ own_first (x ∷ names) (suc j) h l =
     ∙ ap (λ n. 1 + n) (own_first names j (λ i k d a b. h (suc i) (suc k) d (omega arith) (omega arith)) less)
     ∙ omega arith
 
+-- among distinct names, a search for the name at a place finds that place
 own_place : (names : List Name) (j : ℕ) → AllPairs (λ x y. x ≢ y) names → j < length names →
     position (λ n. same n (get_or names j [])) names ≡ Some j
 own_place names j h l = rw (own_first names j h l, lt-ltb j (length names) l) refl

@@ -80,9 +80,11 @@ stays part s t h = (ap (λ (u : State). u.part) h, ap (λ (u : State). u.seen) h
 abbrev pub untitled : State → State
 untitled s = record s { name = []; sense = None }
 
+-- a sense that is taken leaves all of the state but its name and its sense
 took : (s : State) (word : List ℕ) (t : State) → take_sense s word ≡ Ok t → untitled t ≡ untitled s
 took s word t h = subst (λ u. untitled u ≡ untitled s) (sense_did s word t h).3 refl
 
+-- a sense beside OBJSENSE, or none, leaves all of the state but its name and its sense
 took_beside : (s : State) (word : List ℕ) (t : State) → sense_beside s word ≡ Ok t → untitled t ≡ untitled s
 took_beside s [] t h = subst (λ u. untitled u ≡ untitled s) (same_ok s t h) refl
 took_beside s (b ∷ bs) t h = took s (b ∷ bs) t h
@@ -100,6 +102,7 @@ headed_leads s part word t h = subst (λ u. untitled u ≡ untitled s) (same_ok 
 
 -- ---- one line
 
+-- two states with which reading goes on are the same where the two results are
 same_more : (s t : State) → More s ≡ More t → s ≡ t
 same_more s t h = cc
 
@@ -110,6 +113,7 @@ record HeadingDid (s : State) (words : Fields) (part : Section) (p : Progress) :
   new : has_begun s.seen part ≡ false
   did : begin s part (text_at 2 words) ≡ Ok p
 
+-- a heading without fault names a section that may follow and has not begun
 heading_did : (s : State) (words : Fields) (p : Progress) → section_card s words ≡ Ok p →
     (part : Section) × HeadingDid s words part p
 unfolding section_card
@@ -125,12 +129,14 @@ data Begun (s : State) (part : Section) (word : List ℕ) (p : Progress) : Type 
   Began : (other : is_section (Some part) section.End ≡ false) → (next : State) →
       (did : headed (begun s part) part word ≡ Ok next) → (goes : More next ≡ p) → Begun s part word p
 
+-- after a heading without fault of another section than ENDATA, reading goes on
 begins_by : (s : State) (part : Section) (word : List ℕ) (p : Progress) → is_section (Some part) section.End ≡ false →
     more (headed (begun s part) part word) ≡ Ok p → Begun s part word p
 begins_by s part word p e h =
     let a = step_ok (headed (begun s part) part word) (λ t. Ok (More t)) p h in
     Began e a.0 a.1 (same_ok (More a.0) p a.2)
 
+-- a section that begins without fault is ENDATA, or reading goes on
 begin_did : (s : State) (part : Section) (word : List ℕ) (p : Progress) → begin s part word ≡ Ok p → Begun s part word p
 begin_did s section.End word p h = Ended refl h
 begin_did s section.Name word p h = begins_by s section.Name word p refl h
@@ -143,6 +149,7 @@ begin_did s section.Bounds word p h = begins_by s section.Bounds word p refl h
 
 -- ---- the lines after a state
 
+-- a text that finishes without fault has an objective, and its model is that of the state
 finished_did : (s : State) (p : Progress) → finished s ≡ Ok p →
     (objective : Name) × (s.objective ≡ Some objective) × (Done (model_by s objective) ≡ p)
 unfolding finished
@@ -150,6 +157,7 @@ finished_did s p h =
     let a = need_ok s.objective code.NoObjective _ p h in
     (a.0, a.1, same_ok (Done (model_by s a.0)) p a.2)
 
+-- two models with which reading is done are the same where the two results are
 same_done : (m o : Model) → Done m ≡ Done o → m ≡ o
 same_done m o h = cc
 

@@ -37,11 +37,13 @@ abbrev pub behind : {A : Type 0} → (A → Bool) → List A → List A
 behind test [] = []
 behind test (x ∷ xs) = cond (test x) xs (behind test xs)
 
+-- with one item more in front, none is taken if that passes, else one more
 take_more : {A : Type 0} (b : Bool) (n : ℕ) (x : A) (xs ys : List A) → take n xs ≡ ys →
     take (cond (not b) (1 + n) 0) (x ∷ xs) ≡ cond b [] (x ∷ ys)
 take_more true n x xs ys h = refl
 take_more false n x xs ys h = rw (add_comm 1 n, add-one n) (ap (λ zs. x ∷ zs) h)
 
+-- with one item more in front, that alone is dropped if it passes, else one more
 drop_more : {A : Type 0} (b : Bool) (n : ℕ) (x : A) (xs ys : List A) → drop (n + 1) xs ≡ ys →
     drop (cond (not b) (1 + n) 0 + 1) (x ∷ xs) ≡ cond b xs ys
 drop_more true n x xs ys h = refl
@@ -61,6 +63,7 @@ abbrev pub is_section : Option Section → Section → Bool
 is_section None part = false
 is_section (Some here) part = same (section_word here) (section_word part)
 
+-- the word of each section means that section
 section_back : (part : Section) → section_of (section_word part) ≡ Some part
 unfolding section_of
 section_back section.Name = refl
@@ -83,6 +86,7 @@ begun_elsewhere section.Ranges section.Ranges seen e = absurd (cc)
 begun_elsewhere section.Bounds section.Bounds seen e = absurd (cc)
 begun_elsewhere p q seen e = refl
 
+-- a line has the same fields in two sections that the test finds the same
 fields_same : (style : Style) (p q : Section) (bytes : List ℕ) → is_section (Some p) q ≡ true →
     fields_in style p bytes ≡ fields_in style q bytes
 fields_same style p q bytes h = ap (λ part. fields_in style part bytes) (same_section p q h)
@@ -186,6 +190,7 @@ pub record IsPlain (l : Line (List ℕ)) : Type 0 where
   pub heading : is_heading l ≡ false
   pub begins_none : (part : Section) → begins part l ≡ false
 
+-- a line that is skipped or begins with a blank is no heading and begins no section
 plain : (l : Line (List ℕ)) (s b : Bool) → is_skipped (bytes_of l) ≡ s → begins_with_blank (bytes_of l) ≡ b →
     not s && not b ≡ false → IsPlain l
 plain l s b e f h =
@@ -205,7 +210,7 @@ data_plain l h b = plain l false true h b refl
 abbrev on_line : Style → Section → Line (List ℕ) → Bool → List Fields → List Fields
 on_line style part l counts cards = cond counts (fields_in style part (bytes_of l) ∷ cards) cards
 
--- where its section is here, it counts unless it is skipped
+-- a plain line is a card to come where its section is here, unless skipped
 cards_plain : (style : Style) (part : Section) (at seen : Bool) (l : Line (List ℕ)) (lines : Lines) → IsPlain l →
     cards_of style part (lines_by at seen part (before (begins section.End) (l ∷ lines)))
     ≡ on_line style part l (at && not (is_skipped (bytes_of l)))

@@ -35,12 +35,15 @@ use Rattle.spec_meaning.proofs.SetsKept.{has_its_shape, shape_length}
 abbrev IsColumnCount : ℕ → Type 0
 IsColumnCount n = (3 ≤ n) × (n ≤ 5) × (n ≢ 4)
 
+-- 3 is a number of texts that a card of COLUMNS may have
 three : IsColumnCount 3
 three = (omega arith, omega arith, λ e. absurd (omega arith))
 
+-- 5 is a number of texts that a card of COLUMNS may have
 five : IsColumnCount 5
 five = (omega arith, omega arith, λ e. absurd (omega arith))
 
+-- fields of a shape of COLUMNS have 3 or 5 texts
 counts_column : (style : Style) (fields : Fields) → has_shape (shapes_of style section.Columns) fields ≡ true →
     IsColumnCount (length (texts_of fields))
 counts_column Free fields h = shape_length IsColumnCount _ fields (three, (five, tt)) h
@@ -50,6 +53,7 @@ pub record IsColumn (texts : List (List ℕ)) (name : Name) (pairs : Pairs) : Ty
   pub column_is : (column_of texts).column ≡ name
   pub pairs_are : (column_of texts).pairs ≡ pairs
 
+-- 3 or 5 texts give the first as the column and the others as the pairs
 column_by_count : (name : List ℕ) (more : List (List ℕ)) → IsColumnCount (length (name ∷ more)) →
     IsColumn (name ∷ more) name (pairs_of more)
 column_by_count name [] h = absurd (omega (arith, h.0))
@@ -69,6 +73,7 @@ column_is style fields texts name more h e =
 
 -- ---- the pairs of a column
 
+-- the pairs on a card that may be left out are the card's, or none
 flat_one : (b : Bool) (card : Fields) → flat_map numbers_on (cond b (card ∷ []) []) ≡ cond b (numbers_on card) []
 flat_one true card = append-nil (numbers_on card)
 flat_one false card = refl
@@ -88,6 +93,7 @@ pairs_push name cards card =
 abbrev pub is_named : Name → List Fields → Bool
 is_named name cards = list_any (λ other. same other name) (map column_on cards)
 
+-- names with one more have a name that they had, or that is the new one
 any_push : (name : Name) (xs : List Name) (y : Name) →
     list_any (λ other. same other name) (xs ++ y ∷ []) ≡ (list_any (λ other. same other name) xs || same y name)
 any_push name [] y = by (same y name)
@@ -109,6 +115,7 @@ named_push name cards card =
     ap (list_any (λ other. same other name)) (map-append column_on cards (card ∷ []))
     ∙ any_push name (map column_on cards) (column_on card)
 
+-- one more name is a first mention just where it was not mentioned before
 firsts_add : (name : Name) (xs : List Name) →
     firsts (xs ++ name ∷ []) ≡ firsts xs ++ cond (list_any (λ other. same other name) xs) [] (name ∷ [])
 firsts_add name [] = refl
@@ -134,7 +141,7 @@ unfolding named_columns
 firsts_push cards card =
     ap firsts (map-append column_on cards (card ∷ [])) ∙ firsts_add (column_on card) (map column_on cards)
 
--- what no first mention is, no mention is
+-- a name that is not among the first mentions of a list of names is not mentioned in it
 not_first : (name : Name) (xs : List Name) → All (λ x. same x name ≡ false) (firsts xs) →
     list_any (λ other. same other name) xs ≡ false
 not_first name [] h = refl

@@ -72,6 +72,7 @@ record IsReading (view : RowView) (old : Pairs) (name : Name)
   name_is : column.name ≡ name
   non_zero : AreNonZero column.entries
 
+-- after one more pair the open column has the numbers of the pairs so far
 one_pair : (view : RowView) (old : Pairs) (name : Name) (columns : List ExactColumn)
     (done : Pairs) (s : State) (pair : List ℕ × List ℕ) (t : State) → PairDid enter s pair t →
     IsReading view old name columns done s → IsReading view old name columns (done ++ pair ∷ []) t
@@ -125,6 +126,7 @@ record IsOpened (view : RowView) (cards : List Fields) (card : Fields) (u : Stat
   whole : All (IsSaid view (cards ++ card ∷ [])) u.columns
   others : All (λ d. same d.name (column_on card) ≡ false) u.columns
 
+-- two names that differ by the test differ by it in the other order too
 same_back : (a b : Name) → same a b ≡ false → same b a ≡ false
 same_back a b h = by (same b a) refl
   where
@@ -132,7 +134,7 @@ same_back a b h = by (same b a) refl
     by true e = sym (same-refl a) ∙ ap (same a) (sym (same_true b a e)) ∙ h
     by false e = refl
 
--- a column that the card does not name
+-- a card that does not name a column leaves what the cards say of it
 said_push : (view : RowView) (cards : List Fields) (card : Fields) (c : ExactColumn) →
     same c.name (column_on card) ≡ false → IsSaid view cards c → IsSaid view (cards ++ card ∷ []) c
 said_push view cards card c h k =
@@ -145,6 +147,7 @@ said_push view cards card c h k =
           λ name t p. subst (λ ps. IsTheNumber (texts_for name ps) (number_at c t)) (sym pairs) (k.numbers name t p);
     }
 
+-- a card that names none of some columns leaves what the cards say of them
 all_said_push : (view : RowView) (cards : List Fields) (card : Fields) (columns : List ExactColumn) →
     All (λ d. same d.name (column_on card) ≡ false) columns → All (IsSaid view cards) columns →
     All (IsSaid view (cards ++ card ∷ [])) columns
@@ -157,6 +160,7 @@ pub all_whole : (view : RowView) (cards : List Fields) (columns : List ExactColu
 all_whole view cards columns paired None h k = h
 all_whole view cards columns paired (Some c) h k = All-push (IsSaid view cards) columns c h k.said
 
+-- a card that names the open column finds its numbers as the cards before say
 opened_again : (cards : List Fields) (card : Fields) (s : State) (column : Option ExactColumn) → s.column ≡ column →
     is_open column (column_on card) ≡ true → IfSome column (IsOpenSaid (row_view s) cards s.columns s.paired) →
     ColumnsSay cards s → IsOpened (row_view s) cards card s
@@ -196,6 +200,7 @@ opened_again cards card s (Some c) e same_name last k =
       others = others;
     }
 
+-- a card that names a new column opens it behind the others, without numbers
 opened_new : (cards : List Fields) (card : Fields) (s : State) →
     list_any (λ c. same c.name (column_on card)) (whole_columns s) ≡ false → ColumnsSay cards s →
     IsOpened (row_view s) cards card (record s {
@@ -243,6 +248,7 @@ opened_new cards card s free k =
         texts_for name (pairs_of_column (column_on card) cards ++ []) ≡ []
     nothing e name = ap (λ ps. texts_for name (ps ++ [])) e ∙ texts_none name
 
+-- a card of COLUMNS finds its column open, as the cards before say
 opens : {limits : SizeLimits} (cards : List Fields) (card : Fields) (s u : State) → Opens limits s (column_on card) u →
     ColumnsSay cards s →
     IsOpened (row_view s) cards card u
@@ -253,6 +259,7 @@ opens cards card s u (New other free few new) k =
 
 -- ---- a card of COLUMNS
 
+-- a card of COLUMNS that is read names its column, and then its pairs
 columns_read : (limits : SizeLimits) (style : Style) (s : State) (card : Fields) (t : State) (name : Name)
     (more : List (List ℕ)) →
     columns_card limits style s card ≡ Ok t → texts_of card ≡ name ∷ more →
@@ -263,6 +270,7 @@ columns_read limits style s card t name more h e =
     let b = step_ok (shaped style section.Columns card) _ t a.1 in
     column_is style card b.0 name more b.1 e
 
+-- after a card of COLUMNS the state has the columns that the cards say
 finish : (cards : List Fields) (card : Fields) (s u t : State) → t.seen.columns ≡ true →
     is_section t.part section.Columns ≡ true → IsOpened (row_view s) cards card u →
     IsReading (row_view s) (pairs_of_column (column_on card) cards) (column_on card) u.columns (numbers_on card) t →

@@ -31,21 +31,26 @@ use Rattle.spec_meaning.proofs.ColumnsKept.{IsSaid, IsOpenSaid, ColumnsSay, all_
 
 -- ---- cards of other sections
 
+-- a list is empty where its image under a function is empty
 none_mapped : {A B : Type 0} (f : A → B) (xs : List A) → map f xs ≡ [] → xs ≡ []
 none_mapped f [] h = refl
 none_mapped f (x ∷ xs) h = absurd (cc)
 
--- columns that are the same but for their bounds
+-- ---- columns that are the same but for their bounds
+
+-- columns have the same names without their bounds
 names_beside : (columns : List ExactColumn) →
     map (λ (c : ExactColumn). c.name) (map without_bounds columns) ≡ map (λ (c : ExactColumn). c.name) columns
 names_beside [] = refl
 names_beside (c ∷ columns) = ap (λ names. c.name ∷ names) (names_beside columns)
 
+-- what cards of COLUMNS say of columns, they say of them without their bounds
 said_beside : (view : RowView) (cards : List Fields) (columns : List ExactColumn) → All (IsSaid view cards) columns →
     All (IsSaid view cards) (map without_bounds columns)
 said_beside view cards columns h =
     All-map (IsSaid view cards) without_bounds columns (λ i d l. record { numbers = (h i d l).numbers })
 
+-- what cards of COLUMNS say of columns without their bounds, they say of the columns
 said_within : (view : RowView) (cards : List Fields) (columns : List ExactColumn) →
     All (IsSaid view cards) (map without_bounds columns) → All (IsSaid view cards) columns
 said_within view cards [] h = All-nil (IsSaid view cards)
@@ -54,6 +59,7 @@ said_within view cards (c ∷ columns) h =
     All-cons (IsSaid view cards) c columns (record { numbers = first.numbers })
     (said_within view cards columns (All-tail (IsSaid view cards) (without_bounds c) (map without_bounds columns) h))
 
+-- outside COLUMNS, a change of bounds alone leaves the columns what the cards say
 columns_same : (cards : List Fields) (s t : State) → t.seen.columns ≡ s.seen.columns →
     is_section t.part section.Columns ≡ false → s.column ≡ None → t.column ≡ s.column →
     map without_bounds t.columns ≡ map without_bounds s.columns → row_view t ≡ row_view s → ColumnsSay cards s →
@@ -78,7 +84,7 @@ columns_same cards s t seen away shut column columns view k =
       last = subst (λ o. IfSome o (IsOpenSaid (row_view t) cards t.columns t.paired)) (sym closed) tt;
     }
 
--- a card of ROWS, before all columns
+-- before COLUMNS, a step that leaves the columns leaves them what the cards say
 columns_before : (cards : List Fields) (s t : State) → s.seen.columns ≡ false → t.seen.columns ≡ s.seen.columns →
     t.columns ≡ s.columns → t.column ≡ s.column → ColumnsSay cards s → ColumnsSay cards t
 columns_before cards s t new seen columns column k =
@@ -98,6 +104,7 @@ record ColumnsStay (s t : State) : Type 0 where
   column : t.column ≡ s.column
   columns : map without_bounds t.columns ≡ map without_bounds s.columns
 
+-- a card of a section other than COLUMNS leaves the columns but for their bounds
 columns_stay : (part : Section) (s t : State) → is_section (Some part) section.Columns ≡ false → Leads part s t →
     ColumnsStay s t
 columns_stay section.Columns s t e h = absurd (cc)
@@ -116,6 +123,7 @@ columns_stay section.Ranges s t e h =
 columns_stay section.End s t e h =
     record { column = ap (λ (u : State). u.column) h; columns = ap (λ (u : State). map without_bounds u.columns) h }
 
+-- a data card keeps the state's columns what the cards so far say
 columns_at_card : (limits : SizeLimits) (style : Style) (c : SoFar) (s t : State) (part : Section) (card : Fields) →
     IsOrdered s.part s.seen →
     s.part ≡ Some part → data_card limits style (Some part) s card ≡ Ok t → ColumnsSay c.columns s →
@@ -140,6 +148,7 @@ columns_at_card limits style c s t part card o here h k =
 
 -- ---- sections that begin
 
+-- COLUMNS has not begun before a section where it has not begun with that section
 seen_before : (part : Section) (seen : Seen) → (with_section seen part).columns ≡ false → seen.columns ≡ false
 seen_before section.Columns seen h = absurd (cc)
 seen_before section.Name seen h = h
@@ -150,6 +159,7 @@ seen_before section.Ranges seen h = h
 seen_before section.Bounds seen h = h
 seen_before section.End seen h = h
 
+-- a heading keeps the state's columns what the cards so far say
 columns_at_heading : (cards : List Fields) (s t : State) (part : Section) (word : List ℕ) →
     headed (begun s part) part word ≡ Ok t → ColumnsSay cards s → ColumnsSay cards t
 columns_at_heading cards s t part word h k =
@@ -184,6 +194,7 @@ columns_kept limits style =
 
 -- ---- the model
 
+-- each state has the rows and the columns that the cards so far say
 rows_and_columns : (limits : SizeLimits) (style : Style) → IsKept limits style
     (λ c s. RowsSay c.rows (row_view s) × ColumnsSay c.columns s)
 rows_and_columns limits style =

@@ -60,9 +60,11 @@ Leads part s t = beside part t ≡ beside part s
 
 -- ---- OBJSENSE and ROWS
 
+-- a sense that is taken changes only what a card of OBJSENSE may change
 take_sense_leads : (s : State) (text : List ℕ) (t : State) → take_sense s text ≡ Ok t → Leads section.Sense s t
 take_sense_leads s text t h = subst (Leads section.Sense s) (sense_did s text t h).3 refl
 
+-- a card of OBJSENSE changes only what such a card may change
 sense_leads : (style : Style) (s : State) (fields : Fields) (t : State) → sense_card style s fields ≡ Ok t →
     Leads section.Sense s t
 unfolding sense_card
@@ -70,6 +72,7 @@ sense_leads style s fields t h =
     let a = step_ok (shaped style section.Sense fields) _ t h in
     take_sense_leads s (text_at 1 fields) t a.2
 
+-- one more row, or the objective, changes only what a card of ROWS may change
 with_row_leads : (s : State) (kind : Kind) (name : Name) → Leads section.Rows s (with_row s kind name)
 with_row_leads s kind name = go (is_first s kind)
   where
@@ -79,6 +82,7 @@ with_row_leads s kind name = go (is_first s kind)
     go true = refl
     go false = refl
 
+-- a card of ROWS changes only what such a card may change
 rows_leads : (limits : SizeLimits) (style : Style) (s : State) (fields : Fields) (t : State) →
     rows_card limits style s fields ≡ Ok t →
     Leads section.Rows s t
@@ -88,17 +92,20 @@ rows_leads limits style s fields t h =
 
 -- ---- COLUMNS
 
+-- a number of the open column changes only what a card of COLUMNS may change
 enter_leads : (s : State) (place : Target) (v : ℚ) (t : State) → enter s place v ≡ Ok t → Leads section.Columns s t
 unfolding enter
 enter_leads s x v t h =
     let a = must_ok (not (is_among x s.paired)) code.EntryRepeated _ t h in
     subst (Leads section.Columns s) (same_ok _ t a.1) refl
 
+-- a column that is opened changes only what a card of COLUMNS may change
 opens_leads : {limits : SizeLimits} (s : State) (name : Name) (t : State) → Opens limits s name t →
     Leads section.Columns s t
 opens_leads s name t (Same known same) = subst (Leads section.Columns s) same refl
 opens_leads s name t (New other free few new) = subst (Leads section.Columns s) new refl
 
+-- a card of COLUMNS changes only what such a card may change
 columns_leads : (limits : SizeLimits) (style : Style) (s : State) (fields : Fields) (t : State) →
     columns_card limits style s fields ≡ Ok t →
     Leads section.Columns s t
@@ -117,6 +124,7 @@ changed_unseen view change i [] h = refl
 changed_unseen view change zero (x ∷ xs) h = ap (λ y. y ∷ map view xs) (h x)
 changed_unseen view change (suc i) (x ∷ xs) h = ap (λ ys. view x ∷ ys) (changed_unseen view change i xs h)
 
+-- a right side at a target changes only what a card of RHS may change
 put_side_leads : (s : State) (place : Target) (v : ℚ) (t : State) → put_side s place v ≡ Ok t →
     Leads section.RightSides s t
 unfolding put_side
@@ -129,11 +137,13 @@ put_side_leads s (Row i) v t h =
     (ap (λ (rows : List ExactRow). record s { offset = 0ℚ; rows = rows; paired = []; set = None })
     (changed_unseen without_side (λ r. record r { rhs = v }) i s.rows (λ r. refl)))
 
+-- a card of RHS changes only what such a card may change
 rhs_leads : (s : State) (card : SetAndPairs) (t : State) → SetDid s card side_pairs t → Leads section.RightSides s t
 rhs_leads s card t d =
     set_keeps put_side _ side_puts (Leads section.RightSides s) (λ u set k. k)
     (λ u pair w p k. put_side_leads u p.place p.value w p.did ∙ k) s card t d refl
 
+-- a range of a row changes only what a card of RANGES may change
 new_range_leads : (s : State) (i : ℕ) (v : ℚ) (t : State) → RangeDid s i v t → Leads section.Ranges s t
 unfolding new_range
 new_range_leads s i v t (Forgotten free same) = subst (Leads section.Ranges s) same refl
@@ -143,11 +153,13 @@ new_range_leads s i v t (Kept limited did) =
     (ap (λ (rows : List ExactRow). record s { rows = rows; paired = []; set = None })
     (changed_unseen without_range (λ r. record r { range = Some v }) i s.rows (λ r. refl)))
 
+-- a range at a target changes only what a card of RANGES may change
 put_range_leads : (s : State) (place : Target) (v : ℚ) (t : State) → put_ranged s place v ≡ Ok t →
     Leads section.Ranges s t
 put_range_leads s Objective v t h = absurd (cc)
 put_range_leads s (Row i) v t h = new_range_leads s i v t (put_range_did s i v t h)
 
+-- a card of RANGES changes only what such a card may change
 ranges_leads : (s : State) (card : SetAndPairs) (t : State) → SetDid s card range_pairs t → Leads section.Ranges s t
 ranges_leads s card t d =
     set_keeps put_ranged _ range_puts (Leads section.Ranges s) (λ u set k. k)
@@ -155,6 +167,7 @@ ranges_leads s card t d =
 
 -- ---- BOUNDS
 
+-- a column with the bounds of a card is, without its bounds, the column as it was
 bounded_unseen : (lowered : Bool) (card : BoundCard) (c : ExactColumn) →
     without_bounds (bounded lowered card c) ≡ without_bounds c
 bounded_unseen lowered (SetsUpper u) c = go (is_negative u && not lowered)
@@ -166,6 +179,7 @@ bounded_unseen lowered (SetsUpper u) c = go (is_negative u && not lowered)
 bounded_unseen lowered (SetsLower l) c = refl
 bounded_unseen lowered (SetsBoth l u) c = refl
 
+-- bounds of the column at a place change only what a card of BOUNDS may change
 with_bound_leads : (s : State) (place : ℕ) (card : BoundCard) → Leads section.Bounds s (with_bound s place card)
 unfolding with_bound
 with_bound_leads s place card =
@@ -173,6 +187,7 @@ with_bound_leads s place card =
     (changed_unseen without_bounds (bounded (get_or s.lowered place false) card) place s.columns
     (bounded_unseen (get_or s.lowered place false) card))
 
+-- a card of BOUNDS changes only what such a card may change
 bound_leads : (s : State) (kind : BoundKind) (texts : BoundTexts) (t : State) → BoundDid s kind texts t →
     Leads section.Bounds s t
 bound_leads s kind texts t (UsedBound place card used place_is card_is did) =

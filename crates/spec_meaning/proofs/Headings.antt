@@ -29,6 +29,7 @@ abbrev AllSay : List (List ℕ × Section) → Type 0
 AllSay [] = Unit {0}
 AllSay (x ∷ xs) = (x.0 ≡ section_word x.1) × AllSay xs
 
+-- a word that a table of sections knows is the word of the section found
 looked_up : (word : List ℕ) (part : Section) (table : List (List ℕ × Section)) → look_up word table ≡ Some part →
     AllSay table → word ≡ section_word part
 looked_up word part [] h a = absurd (cc)
@@ -62,15 +63,17 @@ heading_is l part e f h =
           ∙ ap (λ word. same word (section_word q)) (word_is (text_at 1 (word_fields (bytes_of l))) part h);
     }
 
--- not ENDATA
+-- a heading other than ENDATA is the first of the lines before ENDATA
 goes_on : (l : Line (List ℕ)) (part : Section) (lines : Lines) → IsHeading l part →
     is_section (Some part) section.End ≡ false →
     before (begins section.End) (l ∷ lines) ≡ l ∷ before (begins section.End) lines
 goes_on l part lines h e = ap (λ b. cond b [] (l ∷ before (begins section.End) lines)) (h.begins_one section.End ∙ e)
 
+-- true is not false
 never : true ≡ false → ⊥
 never k = cc
 
+-- a heading is no card: the cards to come are those behind it
 cards_heading : (style : Style) (at seen now : Bool) (part q : Section) (l : Line (List ℕ)) (lines : Lines) →
     IsHeading l part → is_section (Some part) section.End ≡ false → is_section (Some part) q ≡ now →
     (at ≡ true → seen ≡ true) → (now ≡ true → seen ≡ false) →
@@ -108,6 +111,7 @@ unfolding cards_to_come
 cards_begin style here seen part q l lines h e told new =
     cards_heading style (is_section here q) seen (is_section (Some part) q) part q l lines h e refl told new
 
+-- a heading is its section's title, and leaves the titles of the others to come
 title_heading : (seen now : Bool) (part q : Section) (l : Line (List ℕ)) (lines : Lines) (o : Option Fields) →
     IsHeading l part → is_section (Some part) section.End ≡ false → is_section (Some part) q ≡ now →
     (now ≡ true → seen ≡ false) →
@@ -144,6 +148,7 @@ title_begin seen part q l lines o h e new = title_heading seen (is_section (Some
 
 -- ---- ENDATA
 
+-- no line stands before ENDATA where the first line is ENDATA
 ends : (l : Line (List ℕ)) (lines : Lines) → IsHeading l section.End → before (begins section.End) (l ∷ lines) ≡ []
 ends l lines h = ap (λ b. cond b [] (l ∷ before (begins section.End) lines)) (h.begins_one section.End)
 

@@ -12,25 +12,31 @@ use Rattle.spec_meaning.specs.RowCards.{Labels, typed_rows, first_free, but_firs
 use Rattle.spec_meaning.specs.TextCards.{Lines, cards_in}
 use Rattle.spec_meaning.proofs.RowsKept.{rows_said, objective_said}
 
+-- a row of type N in front adds its name to the names of type N
 free_own : (r : Kind × Name) (rows : Labels) → is_free r.0 ≡ true → free_names (r ∷ rows) ≡ r.1 ∷ free_names rows
 free_own r rows e =
     ap (λ b. map (λ (r : Kind × Name). r.1)
     (cond b (r ∷ filter (λ r. is_free r.0) rows) (filter (λ r. is_free r.0) rows))) e
 
+-- a row of another type in front leaves the names of type N
 free_other : (r : Kind × Name) (rows : Labels) → is_free r.0 ≡ false → free_names (r ∷ rows) ≡ free_names rows
 free_other r rows e =
     ap (λ b. map (λ (r : Kind × Name). r.1)
     (cond b (r ∷ filter (λ r. is_free r.0) rows) (filter (λ r. is_free r.0) rows))) e
 
+-- a row of another type than N in front is one more row of such types
 limited_own : (r : Kind × Name) (rows : Labels) → is_free r.0 ≡ false → limited (r ∷ rows) ≡ r ∷ limited rows
 limited_own r rows e = ap (λ b. cond (not b) (r ∷ limited rows) (limited rows)) e
 
+-- a row of type N in front leaves the rows of the other types
 limited_other : (r : Kind × Name) (rows : Labels) → is_free r.0 ≡ true → limited (r ∷ rows) ≡ limited rows
 limited_other r rows e = ap (λ b. cond (not b) (r ∷ limited rows) (limited rows)) e
 
+-- two names that are there and are equal as options are equal
 first_free_name : (a b : Name) → ◌≡◌ {A = Option Name} (Some a) (Some b) → a ≡ b
 first_free_name a b e = cc
 
+-- the names of type N are the first such name, and then those of the rows without it
 names_first : (rows : Labels) (name : Name) → first_free rows ≡ Some name →
     free_names rows ≡ name ∷ free_names (but_first_free rows)
 names_first [] name h = absurd (cc)
@@ -43,6 +49,7 @@ names_first (r ∷ rows) name h = go (is_free r.0) refl h (names_first rows name
     go false e h f =
         free_other r rows e ∙ f h ∙ ap (λ names. name ∷ names) (sym (free_other r (but_first_free rows) e))
 
+-- the rows of other types than N are the same without the first row of type N
 limited_first : (rows : Labels) → limited rows ≡ limited (but_first_free rows)
 limited_first [] = refl
 limited_first (r ∷ rows) = go (is_free r.0) refl (limited_first rows)

@@ -17,11 +17,12 @@ use Rattle.spec_model.specs.declared.parts.RowLimit.TheVariants.{Given, Sum}
 use Rattle.spec_model.specs.Model.{ExactRow, Limits, limit_of, limits_by, limits_of}
 use Rattle.spec_model.specs.Truth.{IsBetween}
 
--- the limits of this kind and range
+-- the limits of a row's kind and range, with its right side, are the row's
 limits_are : (r : ExactRow) (kind : Kind) (range : Option ℚ) → r.kind ≡ kind → r.range ≡ range →
     limits_by kind r.rhs range ≡ limits_of r
 limits_are r kind range k e = λ i. limits_by (sym k i) r.rhs (sym e i)
 
+-- a condition for being between a kind's limits is one for the row's limits
 by_limits : (r : ExactRow) (kind : Kind) (range : Option ℚ) (l : Limits) (v : ℚ) (A : Type 0) → r.kind ≡ kind →
     r.range ≡ range → l ≡ limits_by kind r.rhs range → (IsBetween l v ↔ A) → IsBetween (limits_of r) v ↔ A
 by_limits r kind range l v A k e h f = subst (λ x. IsBetween x v ↔ A) (h ∙ limits_are r kind range k e) f
@@ -35,15 +36,19 @@ from_on b = record { lower = Some b; upper = None }
 abbrev from_to : ℚ → ℚ → Limits
 from_to a b = record { lower = Some a; upper = Some b }
 
+-- to be between no lower limit and b is to be at most b
 below : (b v : ℚ) → IsBetween (up_to b) v ↔ (v ≤ℚ b)
 below b v = (λ h. h.upper, λ h. record { lower = tt; upper = h })
 
+-- to be between b and no upper limit is to be at least b
 above : (b v : ℚ) → IsBetween (from_on b) v ↔ (b ≤ℚ v)
 above b v = (λ h. h.lower, λ h. record { lower = h; upper = tt })
 
+-- to be between the limits a and b is to be at least a and at most b
 within : (a b v : ℚ) → IsBetween (from_to a b) v ↔ ((a ≤ℚ v) × (v ≤ℚ b))
 within a b v = (λ h. (h.lower, h.upper), λ h. record { lower = h.0; upper = h.1 })
 
+-- to be between the limits b and b is to be b
 on : (b v : ℚ) → IsBetween (from_to b b) v ↔ (v ≡ b)
 on b v = (
   λ h. ≤ℚ_antisym v b h.upper h.lower,

@@ -17,6 +17,7 @@ use Rattle.spec_meaning.specs.TextCards.{Lines, cards_in}
 use Rattle.spec_meaning.proofs.RangesKept.{range_said}
 use Rattle.spec_meaning.proofs.RowsKept.{rows_said}
 
+-- where no row is of type N, all rows are of the other types
 none_free : (rows : Labels) → free_names rows ≡ [] → limited rows ≡ rows
 none_free [] h = refl
 none_free (r ∷ rows) h = go (is_free r.0) h (none_free rows)
@@ -27,9 +28,11 @@ none_free (r ∷ rows) h = go (is_free r.0) h (none_free rows)
     go true h f = absurd (cc)
     go false h f = ap (λ l. r ∷ l) (f h)
 
+-- two equal lists have equal tails
 same_tail : (a b : Name) (xs ys : List Name) → a ∷ xs ≡ b ∷ ys → xs ≡ ys
 same_tail a b xs ys h = cc
 
+-- where one row alone is of type N, the others are those of the other types
 one_free : (rows : Labels) (name : Name) → free_names rows ≡ name ∷ [] → but_first_free rows ≡ limited rows
 one_free [] name h = refl
 one_free (r ∷ rows) name h = go (is_free r.0) h (one_free rows name)
@@ -41,6 +44,7 @@ one_free (r ∷ rows) name h = go (is_free r.0) h (one_free rows name)
     go true h f = sym (none_free rows (same_tail r.1 name (free_names rows) [] h))
     go false h f = ap (λ l. r ∷ l) (f h)
 
+-- each of the rows of other types than N is of another type
 all_limited : (rows : Labels) → All (λ (r : Kind × Name). is_free r.0 ≡ false) (limited rows)
 all_limited [] = All-nil (λ (r : Kind × Name). is_free r.0 ≡ false)
 all_limited (r ∷ rows) = go (is_free r.0) refl (all_limited rows)

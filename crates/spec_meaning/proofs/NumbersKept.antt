@@ -46,12 +46,14 @@ abbrev pub number_at : {V : Type 0} → (ℚ → V) → (ExactRow → V) → Sta
 number_at of_offset of_row s Objective = of_offset s.offset
 number_at of_offset of_row s (Row i) = of_row (get_or s.rows i no_row)
 
+-- a change of row i changes the row that stands there
 changed_here : (change : ExactRow → ExactRow) (rows : List ExactRow) (i : ℕ) → i < length rows →
     get_or (changed_at i change rows) i no_row ≡ change (get_or rows i no_row)
 changed_here change [] i h = absurd (omega arith)
 changed_here change (r ∷ rows) zero h = refl
 changed_here change (r ∷ rows) (suc i) h = changed_here change rows i (omega arith)
 
+-- a change of row i leaves the rows at other places
 changed_there : (change : ExactRow → ExactRow) (rows : List ExactRow) (i j : ℕ) → j ≢ i →
     get_or (changed_at i change rows) j no_row ≡ get_or rows j no_row
 changed_there change [] i j h = refl
@@ -60,10 +62,11 @@ changed_there change (r ∷ rows) zero (suc j) h = refl
 changed_there change (r ∷ rows) (suc i) zero h = refl
 changed_there change (r ∷ rows) (suc i) (suc j) h = changed_there change rows i j (λ e. h (ap suc e))
 
+-- two numbers that are different by the test are different
 apart : (i j : ℕ) → eqb i j ≡ false → i ≢ j
 apart i j h e = let k : eqb i j ≡ true = eq-eqb i j e in cc
 
--- a row that a name stands for
+-- the number of a row that a name stands for is below the number of rows
 row_inside : (s : State) (name : Name) (i : ℕ) → place_of s name ≡ Some (Row i) → i < length s.rows
 row_inside s name i h =
     let l : i < length (labels s.rows) = (place_name (row_view s) name (Row i) (sym (place_by_view s name) ∙ h)).1 in
@@ -106,6 +109,7 @@ viewed_row f view n same xs ys h i =
     ∙ ap f (sym (get_or-map view xs i no_row) ∙ (λ j. get_or (h j) i (view no_row)) ∙ get_or-map view ys i no_row)
     ∙ same (get_or ys i no_row)
 
+-- what holds of each row's part and a new one's holds with the new row last
 pushed_row : {A : Type 0} (f : ExactRow → A) (P : A → Type 0) (rows : List ExactRow) (new : ExactRow) (i : ℕ) →
     P (f new) → ((j : ℕ) → P (f (get_or rows j no_row))) → P (f (get_or (rows ++ new ∷ []) i no_row))
 pushed_row f P [] new zero p h = p

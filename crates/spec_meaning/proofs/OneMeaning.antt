@@ -57,38 +57,43 @@ spelled_means limits style lines m h =
 
 -- ---- one number, one range, one sense
 
+-- two numbers that the same texts give are equal
 one_number : (texts : List (List ℕ)) (p q : ℚ) → IsTheNumber texts p → IsTheNumber texts q → p ≡ q
 one_number [] p q h k = h ∙ sym k
 one_number (text ∷ []) p q h k = same_number p q (sym h ∙ k)
 one_number (text ∷ other ∷ more) p q h k = absurd h
 
+-- two ranges that the same texts give are equal
 one_range : (texts : List (List ℕ)) (p q : Option ℚ) → IsTheRange texts p → IsTheRange texts q → p ≡ q
 one_range [] p q h k = h ∙ sym k
 one_range (text ∷ []) p q h k = h.1 ∙ ap (λ x. Some x) (same_number h.0 k.0 (sym h.2 ∙ k.2)) ∙ sym k.1
 one_range (text ∷ other ∷ more) p q h k = absurd h
 
--- a word of one sense is none of the other
+-- no word is each of two words that differ by the test
 words_differ : (word a b : List ℕ) → same a b ≡ false → word ≡ a → word ≡ b → ⊥
 words_differ word a b n h k = not_both (same a b) (ap (same a) (sym (sym h ∙ k)) ∙ same-refl a) n
 
+-- no word says both MIN and MAX
 not_max : (word : List ℕ) → IsSenseWord Min word → IsSenseWord Max word → ⊥
 not_max word (inl h) (inl k) = words_differ word (codes "MIN") (codes "MAX") refl h k
 not_max word (inl h) (inr k) = words_differ word (codes "MIN") (codes "MAXIMIZE") refl h k
 not_max word (inr h) (inl k) = words_differ word (codes "MINIMIZE") (codes "MAX") refl h k
 not_max word (inr h) (inr k) = words_differ word (codes "MINIMIZE") (codes "MAXIMIZE") refl h k
 
+-- two senses that one word says are the same
 one_word : (s t : Sense) (word : List ℕ) → IsSenseWord s word → IsSenseWord t word → s ≡ t
 one_word Min Min word h k = refl
 one_word Min Max word h k = absurd (not_max word h k)
 one_word Max Min word h k = absurd (not_max word k h)
 one_word Max Max word h k = refl
 
+-- two senses that the same words say are the same
 one_sense : (words : List (List ℕ)) (s t : Sense) → IsSenseOf words s → IsSenseOf words t → s ≡ t
 one_sense [] s t h k = h ∙ sym k
 one_sense (word ∷ []) s t h k = one_word s t word h k
 one_sense (word ∷ other ∷ more) s t h k = absurd h
 
--- of rows of one kind
+-- two ranges that the same texts give to a row of one kind are equal
 one_range_of : (kind : Kind) (texts : List (List ℕ)) (p q : Option ℚ) → IsTheRangeOf kind texts p →
     IsTheRangeOf kind texts q → p ≡ q
 one_range_of kind texts p q h k = by (is_free kind) h k
@@ -104,6 +109,7 @@ abbrev Rise : ℕ → ℕ → List (ℕ × ℚ) → Type 0
 Rise n low [] = Unit {0}
 Rise n low (e ∷ es) = (low ≤ e.0) × (e.0 < n) × (e.1 ≢ 0ℚ) × Rise n (suc e.0) es
 
+-- entries that ascend, from row low on and below n, none of them 0, rise from low
 rise_from : (n low : ℕ) (es : List (ℕ × ℚ)) → All (λ e. low ≤ e.0) es → All (λ e. e.0 < n) es →
     AllPairs (λ d e. d.0 < e.0) es → All (λ e. e.1 ≢ 0ℚ) es → Rise n low es
 rise_from n low [] above inside ascending not_zero = tt
@@ -117,6 +123,7 @@ rise_from n low (e ∷ es) above inside ascending not_zero = (
       (λ i d l. not_zero (suc i) d (omega arith)),
 )
 
+-- entries in order over n rows rise from 0
 entries_rise : (n : ℕ) (es : List (ℕ × ℚ)) → AreEntries n es → Rise n 0 es
 entries_rise n es h = rise_from n 0 es (λ i d l. omega arith) h.inside h.ascending h.not_zero
 
@@ -129,12 +136,15 @@ none_below n low i (e ∷ es) l h = by (eqb e.0 i) refl h.0 (λ k. none_below n 
     by true f k g = let same : e.0 ≡ i = eqb→eq e.0 i (subst T (sym f) tt) in absurd (omega arith)
     by false f k g = g (omega arith)
 
+-- the coefficient in the first entry's row is the first entry's number
 first_here : (e : ℕ × ℚ) (es : List (ℕ × ℚ)) → entry_of (e ∷ es) e.0 ≡ e.1
 first_here e es = ap (λ b. cond b e.1 (entry_of es e.0)) (eq-eqb e.0 e.0 refl)
 
+-- the coefficient in a row other than the first entry's is that of the entries behind it
 first_there : (e : ℕ × ℚ) (es : List (ℕ × ℚ)) (i : ℕ) → eqb e.0 i ≡ false → entry_of (e ∷ es) i ≡ entry_of es i
 first_there e es i h = ap (λ b. cond b e.1 (entry_of es i)) h
 
+-- two lists of entries that rise and have the same coefficient in each row are the same
 one_list : (n low : ℕ) (es ds : List (ℕ × ℚ)) → Rise n low es → Rise n low ds →
     ((i : ℕ) → i < n → entry_of es i ≡ entry_of ds i) → es ≡ ds
 one_list n low [] [] h k same = refl
@@ -179,6 +189,7 @@ one_list n low (e ∷ es) (d ∷ ds) h k same = by (ltb e.0 d.0) refl (ltb d.0 e
         let ge : e.0 ≤ d.0 = ltb-false d.0 e.0 y in
         level (omega arith) f
 
+-- two lists of entries in order that have the same coefficient in each row are the same
 one_entries : (n : ℕ) (es ds : List (ℕ × ℚ)) → AreEntries n es → AreEntries n ds →
     ((i : ℕ) → i < n → entry_of es i ≡ entry_of ds i) → es ≡ ds
 one_entries n es ds h k same = one_list n 0 es ds (entries_rise n es h) (entries_rise n ds k) same

@@ -94,6 +94,7 @@ pub not_both : (b : Bool) {A : Type 0} → b ≡ true → b ≡ false → A
 not_both true h k = absurd (cc)
 not_both false h k = absurd (cc)
 
+-- once a section has begun, the section that is here has begun
 begun_told : (part : Section) (seen : Seen) → IsTold (Some part) (with_one seen part)
 begun_told part seen =
     record {
@@ -105,6 +106,7 @@ begun_told part seen =
       bounds = or_left _ seen.bounds;
     }
 
+-- with the same marks, RHS, RANGES and BOUNDS have not begun either
 ends_as : (seen later : Seen) → HasNoEnds seen → later.right_sides ≡ seen.right_sides → later.ranges ≡ seen.ranges →
     later.bounds ≡ seen.bounds → HasNoEnds later
 ends_as seen later h a b c = record { right_sides = a ∙ h.right_sides; ranges = b ∙ h.ranges; bounds = c ∙ h.bounds }
@@ -186,6 +188,7 @@ pub data LineDid (limits : SizeLimits) (style : Style) (s : State) (bytes : List
   Heading : (kept : is_skipped bytes ≡ false) → (filled : begins_with_blank bytes ≡ false) →
       (did : section_card s (word_fields bytes) ≡ Ok p) → LineDid limits style s bytes p
 
+-- a line without fault is skipped, a heading, or the data card that it is read as
 line_by : (limits : SizeLimits) (style : Style) (s : State) (bytes : List ℕ) (p : Progress) (given : CardReading) →
     on_reading limits style s (cond (is_skipped bytes) (Is card.Skip)
     (cond (begins_with_blank bytes) given (Is (card.Section (word_fields bytes))))) ≡ Ok p →
@@ -201,6 +204,7 @@ line_by limits style s bytes p given h f = go (is_skipped bytes) (begins_with_bl
     go false true e b k = Data e b (f k)
     go false false e b k = Heading e b k
 
+-- in a section, fields that are read without fault are those of a data card of that section
 data_did : (limits : SizeLimits) (style : Style) (s : State) (bytes : List ℕ) (p : Progress) (part : Section) →
     s.part ≡ Some part →
     more (data_card limits style s.part s (fields_in style part bytes)) ≡ Ok p → DataDid limits style s bytes p
@@ -214,6 +218,7 @@ data_did limits style s bytes p part e h =
       goes = same_ok (More a.0) p a.2;
     }
 
+-- before all sections, no fields are read without fault
 no_data : (limits : SizeLimits) (style : Style) (s : State) (bytes : List ℕ) (p : Progress) (fields : Fields) →
     s.part ≡ None →
     more (data_card limits style s.part s fields) ≡ Ok p → DataDid limits style s bytes p
@@ -223,6 +228,7 @@ no_data limits style s bytes p fields e h =
     a.0) e a.1 in
     absurd (cc)
 
+-- a line of placed fields without fault is the data card of these fields
 placed_did : (limits : SizeLimits) (style : Style) (s : State) (bytes : List ℕ) (p : Progress) (o : Option ℕ)
     (fields : Fields) →
     (more (data_card limits style s.part s fields) ≡ Ok p → DataDid limits style s bytes p) →
@@ -230,6 +236,7 @@ placed_did : (limits : SizeLimits) (style : Style) (s : State) (bytes : List ℕ
 placed_did limits style s bytes p None fields f h = f h
 placed_did limits style s bytes p (Some column) fields f h = absurd (cc)
 
+-- a line without fault is skipped, a heading, or a data card of its section
 line_did : (limits : SizeLimits) (style : Style) (here : Option Section) (s : State) (bytes : List ℕ) (p : Progress) →
     s.part ≡ here →
     on_reading limits style s (reading_of style here bytes) ≡ Ok p → LineDid limits style s bytes p

@@ -26,6 +26,7 @@ use Rattle.spec_meaning.proofs.RowViews.{RowView, row_view, place_in, one_name, 
 
 -- ---- numbers
 
+-- a text whose reading gives a number without fault is read as that number
 number_read : (reading : NumberReading) (v : ℚ) → coded (answer reading) ≡ Ok v → reading ≡ Is v
 number_read (Is q) v h = ap (λ x. Is x) (same_ok q v h)
 number_read Shape v h = absurd (cc)
@@ -37,11 +38,13 @@ number_is text v h = number_read (number_of text) v h
 
 -- ---- texts beside a name
 
+-- the texts of a pair that may be left out are the pair's text, or none
 one_or_none : (b : Bool) (pair : List ℕ × List ℕ) →
     map (λ (p : List ℕ × List ℕ). p.1) (cond b (pair ∷ []) []) ≡ cond b (pair.1 ∷ []) []
 one_or_none true pair = refl
 one_or_none false pair = refl
 
+-- one more pair adds its text to a name's texts just where it has that name
 texts_push : (name : Name) (pairs : Pairs) (pair : List ℕ × List ℕ) →
     texts_for name (pairs ++ pair ∷ []) ≡ texts_for name pairs ++ cond (same pair.0 name) (pair.1 ∷ []) []
 unfolding texts_for
@@ -55,24 +58,28 @@ pub texts_none : (name : Name) → texts_for name [] ≡ []
 unfolding texts_for
 texts_none name = refl
 
+-- the texts beside a name are as before with one more pair of another name
 texts_same : (name : Name) (pairs : Pairs) (pair : List ℕ × List ℕ) → same pair.0 name ≡ false →
     texts_for name (pairs ++ pair ∷ []) ≡ texts_for name pairs
 texts_same name pairs pair h =
     texts_push name pairs pair ∙ ap (λ b. texts_for name pairs ++ cond b (pair.1 ∷ []) []) h
     ∙ append-nil (texts_for name pairs)
 
+-- a pair of a name without texts gives that name its one text
 texts_one : (name : Name) (pairs : Pairs) (pair : List ℕ × List ℕ) → same pair.0 name ≡ true →
     texts_for name pairs ≡ [] → texts_for name (pairs ++ pair ∷ []) ≡ pair.1 ∷ []
 texts_one name pairs pair h e = texts_push name pairs pair ∙ (λ i. e i ++ cond (h i) (pair.1 ∷ []) [])
 
 -- ---- targets
 
+-- two targets that are the same by the test are the same
 same_target_true : (t u : Target) → same_target t u ≡ true → t ≡ u
 same_target_true Objective Objective h = refl
 same_target_true Objective (Row j) h = absurd (cc)
 same_target_true (Row i) Objective h = absurd (cc)
 same_target_true (Row i) (Row j) h = ap (λ k. Row k) (eqb→eq i j (subst T (sym h) tt))
 
+-- each target is the same as itself by the test
 same_target_itself : (t : Target) → same_target t t ≡ true
 same_target_itself Objective = refl
 same_target_itself (Row i) = eq-eqb i i refl

@@ -41,6 +41,7 @@ range_at = number_at (λ q. None) (λ r. r.range)
 abbrev is_ranged : Kind → Bool
 is_ranged kind = not (is_free kind)
 
+-- a range of a row is put there, or nowhere where the row is free
 new_put : (s : State) (name : Name) (i : ℕ) (v : ℚ) (t : State) → place_of s name ≡ Some (Row i) → RangeDid s i v t →
     Put (Option ℚ) range_at is_ranged s (Row i) (Some v) t
 unfolding new_range
@@ -51,6 +52,7 @@ new_put s name i v t at (Kept limited did) =
     (row_put (λ q. None) (λ r. r.range) is_ranged (λ r. record r { range = Some v }) (Some v)
     (λ r. refl) (λ r. refl) s name i at (not-true _ a.0))
 
+-- a range of a target is put there, or nowhere where the target is free
 range_put : (s : State) (name : Name) (place : Target) (v : ℚ) (t : State) → place_of s name ≡ Some place →
     put_ranged s place v ≡ Ok t → Put (Option ℚ) range_at is_ranged s place (Some v) t
 range_put s name Objective v t at h = absurd (cc)
@@ -58,6 +60,7 @@ range_put s name (Row i) v t at h = new_put s name i v t at (put_range_did s i v
 
 -- ---- other cards
 
+-- a card of a section other than ROWS and RANGES leaves all ranges
 ranges_stay : (part : Section) (s t : State) → is_section (Some part) section.Rows ≡ false →
     is_section (Some part) section.Ranges ≡ false → Leads part s t → (x : Target) → range_at t x ≡ range_at s x
 ranges_stay section.Rows s t e f h x = absurd (cc)
@@ -69,6 +72,7 @@ ranges_stay part s t e f h x = ap (λ (u : State). range_at u x) h
 
 -- ---- the model
 
+-- the cards of RANGES give ranges to the rows that are not free, and to nothing else
 ranges_give : GivesNumbers (Option ℚ) (λ q. None) (λ r. r.range) IsTheRange is_ranged (λ v. Some v) Ranges
 ranges_give =
     record {
@@ -101,6 +105,7 @@ range_by_kind limits style lines m h i l = by (is_free (row m i).kind) refl
     by true e = none (row m i).range e ((spelled_kept limits style lines m h).ranges i no_row l)
     by false e = range_said limits style lines m h i l e
 
+-- texts that give no range are none
 none_given : (texts : List (List ℕ)) → IsTheRange texts None → texts ≡ []
 none_given [] h = refl
 none_given (text ∷ []) h = absurd (no_some h.1)

@@ -46,12 +46,13 @@ labels rows = map (λ r. (r.kind, r.name)) rows
 abbrev pub row_view : State → RowView
 row_view s = record { objective = s.objective; rows = labels s.rows }
 
--- rows that are the same but for what a view does not see
+-- a view that leaves kinds and names leaves those of a list of rows
 same_labels : (view : ExactRow → ExactRow) → ((r : ExactRow) → (view r).kind ≡ r.kind) →
     ((r : ExactRow) → (view r).name ≡ r.name) → (rows : List ExactRow) → labels (map view rows) ≡ labels rows
 same_labels view k n [] = refl
 same_labels view k n (r ∷ rows) = λ i. (k r i, n r i) ∷ same_labels view k n rows i
 
+-- rows with the same view, which keeps kinds and names, have the same kinds and names
 viewed_labels : (view : ExactRow → ExactRow) → ((r : ExactRow) → (view r).kind ≡ r.kind) →
     ((r : ExactRow) → (view r).name ≡ r.name) → (xs ys : List ExactRow) → map view xs ≡ map view ys →
     labels xs ≡ labels ys
@@ -82,6 +83,7 @@ abbrev pub place_in : RowView → Name → Option Target
 place_in v name =
     cond (is_objective v.objective name) (Some Objective) (row_at (position (λ r. same r.1 name) v.rows))
 
+-- the first place of a name among rows is its first place among their kinds and names
 first_label : (name : Name) (rows : List ExactRow) →
     position_or_len (λ r. same r.name name) rows ≡ position_or_len (λ r. same r.1 name) (labels rows)
 first_label name [] = refl
@@ -110,6 +112,7 @@ abbrev pub IsIn : RowView → Target → Type 0
 IsIn v Objective = Unit {0}
 IsIn v (Row i) = i < length v.rows
 
+-- a name that is the objective's by the test is the objective's
 objective_name : (o : Option Name) (name : Name) → is_objective o name ≡ true → o ≡ Some name
 objective_name None name h = absurd (cc)
 objective_name (Some objective) name h = ap (λ n. Some n) (same_true objective name h)
@@ -188,6 +191,7 @@ placed_objective v new old t none h k =
     rest : Option Target
     rest = row_at (position (λ r. same r.1 old) v.rows)
 
+-- the first place that passes a test, where there is one, is the same in a longer list
 first_more : {X : Type 0} (p : X → Bool) (xs ys : List X) → position_or_len p xs < length xs →
     position_or_len p (xs ++ ys) ≡ position_or_len p xs
 first_more p [] ys h = absurd (omega arith)
@@ -199,6 +203,7 @@ first_more p (x ∷ xs) ys h = go (p x) (first_more p xs ys) h
     go true f k = refl
     go false f k = ap (λ n. 1 + n) (f (omega arith))
 
+-- where the last item alone passes, the first place that passes is the old length
 first_last : {X : Type 0} (p : X → Bool) (xs : List X) (y : X) → length xs ≤ position_or_len p xs → p y ≡ true →
     position_or_len p (xs ++ y ∷ []) ≡ length xs
 first_last p [] y h e = ap (λ b. cond (not b) 1 0) e
@@ -210,6 +215,7 @@ first_last p (x ∷ xs) y h e = go (p x) (λ k. first_last p xs y k e) h
     go true f k = absurd (omega arith)
     go false f k = omega (arith, f (omega arith))
 
+-- a position that a search finds in a list, it finds with one more item at the end
 position_more : {X : Type 0} (p : X → Bool) (xs : List X) (y : X) (i : ℕ) → position p xs ≡ Some i →
     position p (xs ++ y ∷ []) ≡ Some i
 position_more p xs y i h = go (ltb (position_or_len p xs) (length xs)) refl h
@@ -224,6 +230,7 @@ position_more p xs y i h = go (ltb (position_or_len p xs) (length xs)) refl h
         ) k
     go false e k = absurd (cc)
 
+-- where a new last item alone passes, a search finds the old length
 position_last : {X : Type 0} (p : X → Bool) (xs : List X) (y : X) → position p xs ≡ None → p y ≡ true →
     position p (xs ++ y ∷ []) ≡ Some (length xs)
 position_last p xs y h e = go (ltb (position_or_len p xs) (length xs)) refl h

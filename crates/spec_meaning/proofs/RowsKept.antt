@@ -42,11 +42,13 @@ pub record RowsSay (cards : List Fields) (v : RowView) : Type 0 where
   pub rows_are : but_first_free (typed_rows cards) ≡ v.rows
   pub placed : IsPlaced v
 
+-- where there are no cards of ROWS, they say that there is no objective and no row
 no_rows : RowsSay [] (record { objective = None; rows = [] })
 unfolding typed_rows
 no_rows =
     record { objective_is = refl; rows_are = refl; placed = record { place = λ i l. absurd (omega arith) } }
 
+-- one more card of ROWS adds the row of its kind and name, which goes last
 typed_push : (cards : List Fields) (card : Fields) (kind : Kind) → row_type_of (text_at 1 card) ≡ Some kind →
     typed_rows (cards ++ card ∷ []) ≡ typed_rows cards ++ (kind, text_at 2 card) ∷ []
 unfolding typed_rows
@@ -54,7 +56,9 @@ typed_push cards card kind h =
     filter_map-append (λ (card : Fields). typed (row_type_of (text_at 1 card)) (text_at 2 card)) cards (card ∷ [])
     ∙ ap (λ t. typed_rows cards ++ cons_option (typed t (text_at 2 card)) []) h
 
--- one more row is the objective where it is free and none was before it, and else it goes last
+-- ---- one more row
+
+-- a free row behind rows of which none is free is the objective
 first_push : (rows : Labels) (kind : Kind) (name : Name) → is_none (first_free rows) && is_free kind ≡ true →
     (first_free (rows ++ (kind, name) ∷ []) ≡ Some name)
     × (but_first_free (rows ++ (kind, name) ∷ []) ≡ but_first_free rows)
@@ -71,6 +75,7 @@ first_push (r ∷ rows) kind name h = go (is_free r.0) (first_push rows kind nam
     go true f k = absurd (cc)
     go false f k = let g = f k in (g.0, ap (λ l. r ∷ l) g.1)
 
+-- a row that is not free, or is behind a free one, goes last and leaves the objective
 later_push : (rows : Labels) (kind : Kind) (name : Name) → is_none (first_free rows) && is_free kind ≡ false →
     (first_free (rows ++ (kind, name) ∷ []) ≡ first_free rows)
     × (but_first_free (rows ++ (kind, name) ∷ []) ≡ but_first_free rows ++ (kind, name) ∷ [])
@@ -87,7 +92,7 @@ later_push (r ∷ rows) kind name h = go (is_free r.0) (later_push rows kind nam
     go true f k = (refl, refl)
     go false f k = let g = f k in (g.0, ap (λ l. r ∷ l) g.1)
 
--- the rows that there were, and one more
+-- a row of a new name leaves each row's name standing for that row
 placed_push : (v : RowView) (kind : Kind) (name : Name) → place_in v name ≡ None → IsPlaced v →
     IsPlaced (record v { rows = v.rows ++ (kind, name) ∷ [] })
 placed_push v kind name free p = record { place = λ i l. by i l (ltb i (length v.rows)) refl }
@@ -115,6 +120,7 @@ placed_push v kind name free p = record { place = λ i l. by i l (ltb i (length 
         let most : length v.rows ≤ i = ltb-false i (length v.rows) e in
         new i (omega (arith, length-append v.rows ((kind, name) ∷ [])))
 
+-- after a card of ROWS puts its row, the state has the rows of the cards
 row_push : (cards : List Fields) (card : Fields) (s : State) (kind : Kind) →
     row_type_of (text_at 1 card) ≡ Some kind → place_in (row_view s) (text_at 2 card) ≡ None →
     RowsSay cards (row_view s) → RowsSay (cards ++ card ∷ []) (row_view (with_row s kind (text_at 2 card)))
@@ -154,6 +160,7 @@ row_push cards card s kind e free k = go (is_first s kind) refl
           placed = placed_push (row_view s) kind name free k.placed;
         })
 
+-- a data card keeps the state's rows what the cards so far say
 rows_card_kept : (limits : SizeLimits) (style : Style) (c : SoFar) (s t : State) (part : Section) (card : Fields) →
     data_card limits style (Some part) s card ≡ Ok t → RowsSay c.rows (row_view s) →
     RowsSay (with_card part card c).rows (row_view t)

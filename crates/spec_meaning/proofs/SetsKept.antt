@@ -48,6 +48,7 @@ abbrev pub AllLengths : (ℕ → Type 0) → List (List ℕ) → Type 0
 AllLengths P [] = Unit {0}
 AllLengths P (x ∷ xs) = P (length x) × AllLengths P xs
 
+-- a list that is one of some shapes has a length that these shapes allow
 any_length : (P : ℕ → Type 0) (xs : List ℕ) (shapes : List (List ℕ)) → AllLengths P shapes →
     list_any (same xs) shapes ≡ true → P (length xs)
 any_length P xs [] a h = absurd (cc)
@@ -72,6 +73,7 @@ shape_length P shapes fields a h =
 abbrev IsSideCount : ℕ → Type 0
 IsSideCount n = (2 ≤ n) × (n ≤ 5)
 
+-- 2 to 5 texts mean the set and the pairs that are read from them
 side_by_count : (texts : List (List ℕ)) → IsSideCount (length texts) → side_of texts ≡ set_and_pairs texts
 unfolding set_and_pairs
 side_by_count [] h = absurd (omega (arith, h.0))
@@ -82,9 +84,11 @@ side_by_count (a ∷ b ∷ c ∷ d ∷ []) h = refl
 side_by_count (a ∷ b ∷ c ∷ d ∷ e ∷ []) h = refl
 side_by_count (a ∷ b ∷ c ∷ d ∷ e ∷ f ∷ more) h = absurd (omega (arith, h.1))
 
+-- a card of RHS or RANGES may have any number of texts from 2 to 5
 count : (n : ℕ) → 2 ≤ n → n ≤ 5 → IsSideCount n
 count n h k = (h, k)
 
+-- the shapes of RHS and RANGES in free form have 2 to 5 texts
 four_counts : AllLengths IsSideCount (set_shapes Free)
 four_counts = (
   count 2 (omega arith) (omega arith),
@@ -94,6 +98,7 @@ four_counts = (
   ),
 )
 
+-- fields of a shape of RHS or RANGES have 2 to 5 texts
 counts_side : (style : Style) (fields : Fields) → has_shape (set_shapes style) fields ≡ true →
     IsSideCount (length (texts_of fields))
 counts_side Free fields h = shape_length IsSideCount _ fields four_counts h
@@ -128,12 +133,14 @@ same_as None (Some b) = refl
 same_as (Some a) None = refl
 same_as (Some a) (Some b) = refl
 
+-- the pairs on two lists of cards are those on both, one behind the other
 flat_append : (xs ys : List Fields) → flat_map pairs_on (xs ++ ys) ≡ flat_map pairs_on xs ++ flat_map pairs_on ys
 flat_append [] ys = refl
 flat_append (x ∷ xs) ys =
     ap (λ more. pairs_on x ++ more) (flat_append xs ys)
     ∙ sym (append_assoc (pairs_on x) (flat_map pairs_on xs) (flat_map pairs_on ys))
 
+-- the pairs on a card that may be left out are the card's, or none
 flat_one : (b : Bool) (card : Fields) → flat_map pairs_on (cond b (card ∷ []) []) ≡ cond b (pairs_on card) []
 flat_one true card = append-nil (pairs_on card)
 flat_one false card = refl
@@ -153,16 +160,19 @@ used_push (first ∷ cards) card =
     ∙ ap (λ more. used_pairs (first ∷ cards) ++ more) (flat_one (is_same_set (set_on first) (set_on card)) card)
     ∙ ap (λ b. used_pairs (first ∷ cards) ++ cond b (pairs_on card) []) (same_as (set_on first) (set_on card))
 
+-- after a card whose set is in use, the set in use is that of the card
 first_used : (cards : List Fields) (card : Fields) → is_used (first_set cards) (set_on card) ≡ true →
     first_set (cards ++ card ∷ []) ≡ Some (set_on card)
 first_used [] card h = refl
 first_used (first ∷ cards) card h = ap (λ set. Some set) (same_set_true (set_on first) (set_on card) h)
 
+-- after a card whose set is not in use, the set in use is the one before
 first_skipped : (cards : List Fields) (card : Fields) → is_used (first_set cards) (set_on card) ≡ false →
     first_set (cards ++ card ∷ []) ≡ first_set cards
 first_skipped [] card h = absurd (cc)
 first_skipped (first ∷ cards) card h = refl
 
+-- where there are no cards, the set in use has no pairs
 used_none : used_pairs [] ≡ []
 unfolding used_pairs
 used_none = refl

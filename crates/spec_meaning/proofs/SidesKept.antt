@@ -33,6 +33,7 @@ side_at = number_at neg_ℚ (λ r. r.rhs)
 
 -- ---- one pair
 
+-- a right side that is read for a name's target is put at that target
 side_put : (s : State) (name : Name) (place : Target) (v : ℚ) (t : State) → place_of s name ≡ Some place →
     put_side s place v ≡ Ok t → Put ℚ side_at every_kind s place v t
 unfolding put_side
@@ -52,6 +53,7 @@ side_put s name (Row i) v t at h =
 
 -- ---- other cards
 
+-- a card of a section other than ROWS and RHS leaves all right sides and the offset
 sides_stay : (part : Section) (s t : State) → is_section (Some part) section.Rows ≡ false →
     is_section (Some part) section.RightSides ≡ false → Leads part s t → (x : Target) → side_at t x ≡ side_at s x
 sides_stay section.Rows s t e f h x = absurd (cc)
@@ -63,6 +65,7 @@ sides_stay part s t e f h x = ap (λ (u : State). side_at u x) h
 
 -- ---- the model
 
+-- the cards of RHS give right sides to the objective and to rows of every kind
 sides_give : GivesNumbers ℚ neg_ℚ (λ r. r.rhs) IsTheNumber every_kind (λ v. v) Sides
 sides_give =
     record {

@@ -34,6 +34,7 @@ use Rattle.spec_meaning.proofs.CardsSoFar.{is_section, SoFar, with_card, or_else
 use Rattle.spec_meaning.proofs.Order.{IsOrdered, not_both}
 use Rattle.spec_meaning.proofs.CardRuns.{IsKept, spelled_by, stays, headed_leads}
 
+-- a heading marks its section as begun, and no other
 seen_stays : (s : State) (part : Section) (word : List ℕ) (t : State) → headed (begun s part) part word ≡ Ok t →
     t.seen ≡ with_section s.seen part
 seen_stays s part word t h = ap (λ (u : State). u.seen) (headed_leads (begun s part) part word t h)
@@ -44,13 +45,16 @@ record NameSays (title : Option Fields) (begun : Bool) (name : Name) : Type 0 wh
   none : begun ≡ false → title ≡ None
   name_is : name ≡ second_word title
 
+-- a sense that is taken leaves the name
 took_name : (s : State) (word : List ℕ) (t : State) → take_sense s word ≡ Ok t → t.name ≡ s.name
 took_name s word t h = sym (ap (λ (u : State). u.name) (sense_did s word t h).3)
 
+-- a sense beside OBJSENSE, or none, leaves the name
 took_name_beside : (s : State) (word : List ℕ) (t : State) → sense_beside s word ≡ Ok t → t.name ≡ s.name
 took_name_beside s [] t h = sym (ap (λ (u : State). u.name) (same_ok s t h))
 took_name_beside s (b ∷ bs) t h = took_name s (b ∷ bs) t h
 
+-- a heading of another section than NAME leaves the name
 name_stays : (s : State) (part : Section) (word : List ℕ) (t : State) → is_section (Some part) section.Name ≡ false →
     headed s part word ≡ Ok t → t.name ≡ s.name
 name_stays s section.Name word t e h = absurd (cc)
@@ -59,14 +63,17 @@ name_stays s section.Columns word t e h =
     let a = must_ok (is_some s.objective) code.NoObjective _ t h in sym (ap (λ (u : State). u.name) (same_ok s t a.1))
 name_stays s part word t e h = sym (ap (λ (u : State). u.name) (same_ok s t h))
 
+-- a heading NAME makes its second word the name
 named : (s : State) (word : List ℕ) (t : State) → headed s section.Name word ≡ Ok t → t.name ≡ word
 named s word t h =
     let a = must_ok (is_model_name word) code.Name _ t h in sym (ap (λ (u : State). u.name) (same_ok _ t a.1))
 
+-- with the same name and mark the name stays what the title says
 name_same : (title : Option Fields) (s t : State) → t.seen.name ≡ s.seen.name → t.name ≡ s.name →
     NameSays title s.seen.name s.name → NameSays title t.seen.name t.name
 name_same title s t e f k = record { none = λ h. k.none (sym e ∙ h); name_is = f ∙ k.name_is }
 
+-- a heading keeps the state's name what the title so far says
 name_at_heading : (c : SoFar) (s t : State) (part : Section) (words : Fields) → has_begun s.seen part ≡ false →
     headed (begun s part) part (text_at 2 words) ≡ Ok t → NameSays c.name_title s.seen.name s.name →
     NameSays (with_title part words c).name_title t.seen.name t.name
@@ -81,10 +88,12 @@ name_at_heading c s t part words new h k =
     name_same c.name_title s t (ap (λ (x : Seen). x.name) (seen_stays s part (text_at 2 words) t h))
     (name_stays (begun s part) part (text_at 2 words) t refl h) k
 
+-- a data card of any section leaves the name
 card_keeps_name : (part : Section) (s t : State) → Leads part s t → t.name ≡ s.name
 card_keeps_name section.Name s t h = ap (λ (u : State). u.name) h
 card_keeps_name part s t h = ap (λ (u : State). u.name) h
 
+-- each state has the name that the title so far says
 name_kept : (limits : SizeLimits) (style : Style) → IsKept limits style (λ c s. NameSays c.name_title s.seen.name
     s.name)
 name_kept limits style =
@@ -116,12 +125,13 @@ record SenseSays (title : Option Fields) (cards : List Fields) (begun : Bool) (s
   none : begun ≡ false → (title ≡ None) × (cards ≡ [])
   sense_is : SenseIs (sense_words title cards) sense
 
+-- a word that is taken says a sense, which is the state's first one
 took_sense : (s : State) (word : List ℕ) (t : State) → take_sense s word ≡ Ok t →
     (x : Sense) × (sense_of word ≡ Some x) × (s.sense ≡ None) × (t.sense ≡ Some x)
 took_sense s word t h =
     let d = sense_did s word t h in (d.0, d.1, none_if s.sense d.2, sym (ap (λ (u : State). u.sense) d.3))
 
--- where there is none yet, no word said one
+-- where the state has no sense yet, no word has said one
 unsaid : (words : List (List ℕ)) (sense : Option Sense) → sense ≡ None → SenseIs words sense → words ≡ []
 unsaid [] sense e k = refl
 unsaid (word ∷ []) sense e k = absurd (no_some (sym e ∙ k.2))
@@ -130,6 +140,7 @@ unsaid (word ∷ []) sense e k = absurd (no_some (sym e ∙ k.2))
     no_some h = cc
 unsaid (word ∷ other ∷ more) sense e k = absurd k
 
+-- one more card of OBJSENSE adds its word to those of a sense
 words_push : (title : Option Fields) (cards : List Fields) (card : Fields) →
     sense_words title (cards ++ card ∷ []) ≡ sense_words title cards ++ text_at 1 card ∷ []
 unfolding sense_words
@@ -137,6 +148,7 @@ words_push title cards card =
     ap (λ words. filter has_bytes (second_word title ∷ []) ++ words) (map-append (text_at 1) cards (card ∷ []))
     ∙ sym (append_assoc (filter has_bytes (second_word title ∷ [])) (map (text_at 1) cards) (text_at 1 card ∷ []))
 
+-- a card of OBJSENSE makes the state's sense what the words now say
 sense_card_says : (style : Style) (title : Option Fields) (cards : List Fields) (s t : State) (card : Fields) →
     sense_card style s card ≡ Ok t → SenseIs (sense_words title cards) s.sense →
     SenseIs (sense_words title (cards ++ card ∷ [])) t.sense
@@ -148,11 +160,13 @@ sense_card_says style title cards s t card h k =
     ∙ ap (λ words. words ++ text_at 1 card ∷ []) (unsaid (sense_words title cards) s.sense b.2 k)))
     (b.0, b.1, b.3)
 
+-- with the same sense and mark the sense stays what the words say
 sense_same : (title : Option Fields) (cards : List Fields) (s t : State) → t.seen.sense ≡ s.seen.sense →
     t.sense ≡ s.sense → SenseSays title cards s.seen.sense s.sense → SenseSays title cards t.seen.sense t.sense
 sense_same title cards s t e f k =
     record { none = λ h. k.none (sym e ∙ h); sense_is = subst (SenseIs (sense_words title cards)) (sym f) k.sense_is }
 
+-- a data card keeps the state's sense what the words so far say
 sense_at_card : (limits : SizeLimits) (style : Style) (c : SoFar) (s t : State) (part : Section) (card : Fields) →
     IsOrdered s.part s.seen →
     s.part ≡ Some part → data_card limits style (Some part) s card ≡ Ok t →
@@ -171,6 +185,7 @@ sense_at_card limits style c s t part card o here h k =
     sense_same c.sense_title c.senses s t
     (ap (λ (x : Seen). x.sense) (stays part s t leads).1) (ap (λ (u : State). u.sense) leads) k
 
+-- a heading of another section than OBJSENSE leaves the sense
 sense_stays : (s : State) (part : Section) (word : List ℕ) (t : State) → is_section (Some part) section.Sense ≡ false →
     headed s part word ≡ Ok t → t.sense ≡ s.sense
 sense_stays s section.Name word t e h =
@@ -180,6 +195,7 @@ sense_stays s section.Columns word t e h =
     let a = must_ok (is_some s.objective) code.NoObjective _ t h in sym (ap (λ (u : State). u.sense) (same_ok s t a.1))
 sense_stays s part word t e h = sym (ap (λ (u : State). u.sense) (same_ok s t h))
 
+-- a heading OBJSENSE sets the sense that the word beside it says, if any
 sense_beside_says : (s t : State) (words : Fields) (word : List ℕ) → word ≡ text_at 2 words →
     sense_beside s word ≡ Ok t → s.sense ≡ None → SenseIs (sense_words (Some words) []) t.sense
 unfolding sense_words
@@ -190,10 +206,12 @@ sense_beside_says s t words (b ∷ bs) e h none =
     let a = took_sense s (b ∷ bs) t h in
     subst (λ word. SenseIs (filter has_bytes (word ∷ []) ++ []) t.sense) e (a.0, a.1, a.3)
 
+-- where no words say a sense, the state has none
 none_said : (sense : Option Sense) → SenseIs (sense_words None []) sense → sense ≡ None
 unfolding sense_words
 none_said sense k = k
 
+-- a heading keeps the state's sense what the words so far say
 sense_at_heading : (c : SoFar) (s t : State) (part : Section) (words : Fields) → has_begun s.seen part ≡ false →
     headed (begun s part) part (text_at 2 words) ≡ Ok t → SenseSays c.sense_title c.senses s.seen.sense s.sense →
     SenseSays (with_title part words c).sense_title c.senses t.seen.sense t.sense
@@ -212,10 +230,12 @@ sense_at_heading c s t part words new h k =
     sense_same c.sense_title c.senses s t (ap (λ (x : Seen). x.sense) (seen_stays s part (text_at 2 words) t h))
     (sense_stays (begun s part) part (text_at 2 words) t refl h) k
 
+-- without words that say a sense, the state has none
 nothing_said : SenseIs (sense_words None []) None
 unfolding sense_words
 nothing_said = refl
 
+-- each state has the sense that the words so far say
 sense_kept : (limits : SizeLimits) (style : Style) → IsKept limits style (λ c s. SenseSays c.sense_title c.senses
     s.seen.sense s.sense)
 sense_kept limits style =
@@ -230,6 +250,7 @@ abbrev AllSay : List (List ℕ × Sense) → Type 0
 AllSay [] = Unit {0}
 AllSay (x ∷ xs) = IsSenseWord x.1 x.0 × AllSay xs
 
+-- a word that a table of senses knows is a word of the sense found
 looked_up : (word : List ℕ) (sense : Sense) (table : List (List ℕ × Sense)) → AllSay table →
     look_up word table ≡ Some sense → IsSenseWord sense word
 looked_up word sense [] a h = absurd (cc)
@@ -243,10 +264,12 @@ looked_up word sense (x ∷ xs) a h = go (same word x.0) refl (looked_up word se
 abbrev senses : List (List ℕ × Sense)
 senses = (codes "MIN", Min) ∷ (codes "MINIMIZE", Min) ∷ (codes "MAX", Max) ∷ (codes "MAXIMIZE", Max) ∷ []
 
+-- a word that is read as a sense is one of that sense
 sense_word : (word : List ℕ) (sense : Sense) → sense_of word ≡ Some sense → IsSenseWord sense word
 unfolding sense_of
 sense_word word sense h = looked_up word sense senses (inl refl, (inr refl, (inl refl, (inr refl, tt)))) h
 
+-- the words that the reader takes as a sense, or as MIN, mean that sense
 sense_of_words : (words : List (List ℕ)) (sense : Option Sense) → SenseIs words sense →
     IsSenseOf words (sense_or_min sense)
 sense_of_words [] sense k = ap sense_or_min k
