@@ -127,6 +127,7 @@ pub record Shifted (m : Model) (j : ℕ) (v : ℚ) (k : ℕ) (x : Model) : Type 
   pub done : (r : ℕ) → r < k → row x r ≡ record (row m r) { rhs = (row m r).rhs -ℚ coefficient m r j *ℚ v }
   pub rest : (r : ℕ) → k ≤ r → row x r ≡ row m r
 
+-- where k right sides are moved and row k takes its moved one, k + 1 right sides are moved
 shifted_more : (m : Model) (j : ℕ) (v : ℚ) (k : ℕ) (x : Model) (b : ℚ) → k < height m → Shifted m j v k x →
     b ≡ (row m k).rhs -ℚ coefficient m k j *ℚ v → Shifted m j v (suc k) (with_rhs x k b)
 shifted_more m j v k x b l h e =
@@ -169,6 +170,7 @@ shifted_ok limit m j v x h =
 
 -- ---- a column less
 
+-- column k of a model without column j is the model's column at the index that skips j
 column_others : (m : Model) (j k : ℕ) → j < width m → column (without_column m j) k ≡ column m (skipping j k)
 column_others m j k l = by (ltb k j) refl
   where

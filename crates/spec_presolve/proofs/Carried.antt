@@ -22,6 +22,7 @@ use Rattle.spec_presolve.proofs.OverSingle.{SingleStep}
 use Rattle.spec_presolve.proofs.OverSingleRun.{over_single_row}
 use Rattle.spec_presolve.proofs.OverFixed.{over_fixed_column}
 
+-- a certificate carried over one reduction that goes is accepted for the model before and shows the same
 over_one : (limit : Option ℕ) (m n : Model) (r : ExactReduction) (c back : ExactCertificate) → Goes limit m r →
     after limit m r ≡ Ok n → carried_over limit (r, n) c ≡ Ok back → IsFor n c → Checks n c → IsCarried m n c back
 unfolding after carried_over
@@ -36,16 +37,18 @@ over_one limit m n (Fixed j v) c back g a o f k =
     subst (λ b. IsCarried m n c b) (ok_same (over_fixed j v c) back o)
     (over_fixed_column m n j v (fixed_step limit m n j v g a) c f k)
 
+-- a certificate carried over the chosen reduction is accepted for the model before and shows the same
 over_reduction : (limit : Option ℕ) (m n : Model) (r : ExactReduction) (c back : ExactCertificate) →
     chosen limit m ≡ Ok (Reduce r) → after limit m r ≡ Ok n → carried_over limit (r, n) c ≡ Ok back → IsFor n c →
     Checks n c → IsCarried m n c back
 over_reduction limit m n r c back h = over_one limit m n r c back (what_goes limit m r h)
 
--- what was carried back over the later ones, over one more
+-- a certificate carried back to n, and carried from n back to m, is carried from the last model back to m
 chain : (m n last : Model) (c later back : ExactCertificate) → IsCarried n last c later → IsCarried m n later back →
     IsCarried m last c back
 chain m n last c later back h k = record { fits = k.fits; checks = k.checks; shows = k.shows ∙ h.shows }
 
+-- a certificate carried over no reductions is the certificate itself, still accepted for its model
 none_carried : (limit : Option ℕ) (m : Model) (h : Halt) (c back : ExactCertificate) →
     carried limit [] c ≡ Ok back → IsFor m c → Checks m c → IsCarried m m c back
 none_carried limit m h c back e f k =
@@ -55,10 +58,12 @@ abbrev Carries : Option ℕ → Model → Reductions → Type 0
 Carries limit m r = (c back : ExactCertificate) → carried limit r.steps c ≡ Ok back → IsFor r.last c → Checks r.last c →
     IsCarried m r.last c back
 
+-- where reductions end at once, each accepted certificate is carried back to the first model
 halted_carries : (limit : Option ℕ) (m : Model) (h : Halt) (r : Reductions) →
     ◌≡◌ {A = Reductions} (record { steps = []; last = m; halt = h }) r → Carries limit m r
 halted_carries limit m h r e = subst (Carries limit m) e (λ c back. none_carried limit m h c back)
 
+-- the first k reductions carry each accepted certificate of the last model back to the first
 within_carries : (limit : Option ℕ) (k : ℕ) (m : Model) (r : Reductions) → reduced_within limit k m ≡ Ok r →
     Carries limit m r
 within_carries limit zero m r h = halted_carries limit m Done r (ok_same _ r h)
@@ -83,6 +88,7 @@ within_carries limit (suc k) m r h =
         chain m n.0 rest.0.last c x.0 back l
         (over_reduction limit m n.0 s x.0 back e n.1 x.2 l.fits l.checks))
 
+-- a certificate carried over all reductions is accepted for the first model and shows the same
 pub carries : (limit : Option ℕ) (m : Model) (r : Reductions) (c back : ExactCertificate) → reduced limit m ≡ Ok r →
     carried limit r.steps c ≡ Ok back → IsFor r.last c → Checks r.last c → IsCarried m r.last c back
 carries limit m r c back h = within_carries limit (width m + height m) m r h c back

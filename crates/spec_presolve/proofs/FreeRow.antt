@@ -41,12 +41,14 @@ pub record FreeStep (m n : Model) (i : ℕ) : Type 0 where
   pub free : limits m i ≡ no_limits
   pub bounds_are : (k : ℕ) → bounds n k ≡ bounds m k
 
+-- a row of a free kind has no limits, whatever its right side and its range
 free_limits : (kind : Kind) (b : ℚ) (range : Option ℚ) → is_free kind ≡ true → limits_by kind b range ≡ no_limits
 free_limits L b range e = absurd (cc)
 free_limits G b range e = absurd (cc)
 free_limits E b range e = absurd (cc)
 free_limits N b range e = refl
 
+-- where row i is free, the model has that row, without limits, more than the model without row i
 free_step : (m : Model) (i : ℕ) → i < height m → is_free (row m i).kind ≡ true → FreeStep m (without_row m i) i
 free_step m i l e = record {
   row = row_less m i l;

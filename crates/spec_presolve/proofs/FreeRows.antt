@@ -39,6 +39,7 @@ use Rattle.spec_presolve.proofs.Skips.{by_skip, skipping_inside}
 abbrev NoneFrom : ℕ → Model → Type 0
 NoneFrom k m = (a : ℕ) → k ≤ a → a < height m → is_free (row m a).kind ≡ false
 
+-- where no row after row i is free, no row from i on is free once row i is removed
 none_removed : (m : Model) (i : ℕ) → i < height m → NoneFrom (suc i) m → NoneFrom i (without_row m i)
 none_removed m i l none a p q =
     let w = without_row-means m i l in
@@ -46,6 +47,7 @@ none_removed m i l none a p q =
     ap (λ (r : ExactRow). is_free r.kind) (w.rows a ∙ ap (row m) (skipping_from i a p))
     ∙ none (a + 1) (omega (arith, p)) (omega (arith, h, q))
 
+-- where row i is not free and no row after it is, no row from i on is free
 none_kept : (m : Model) (i : ℕ) → is_free (row m i).kind ≡ false → NoneFrom (suc i) m → NoneFrom i m
 none_kept m i e none a p q =
     ⊎_elim (λ l. none a (omega (arith, l)) q)
@@ -75,6 +77,7 @@ Same P = (m : Model) → NoneFrom 0 m → P m m
 abbrev Less : (Model → Model → Type 0) → Type 0
 Less P = (m n : Model) (i : ℕ) → i < height m → is_free (row m i).kind ≡ true → P (without_row m i) n → P m n
 
+-- what holds without free rows and passes over one free row holds of a model and it without free rows
 all_gone : (P : Model → Model → Type 0) → Same P → Less P → (m : Model) → P m (without_free_rows m)
 unfolding without_free_rows
 all_gone P same less m = along P same less (height m) m (omega arith) (λ a p q. absurd (omega (arith, p, q)))
@@ -96,6 +99,7 @@ unbounded_without m =
     all_gone (λ m n. IsUnbounded m ↔ IsUnbounded n) (λ m none. (λ h. h, λ h. h))
     (λ m n i l e h. trans (unbounded_same m i l e) h) m
 
+-- a point has the same value in a model and in the model without its free rows
 value_without : (m : Model) (z : List ℚ) → value_of (without_free_rows m) z ≡ value_of m z
 value_without m z =
     all_gone (λ m n. value_of n z ≡ value_of m z) (λ m none. refl)
@@ -103,6 +107,7 @@ value_without m z =
 
 -- ---- rows
 
+-- where no row is free, leaving out the free rows leaves all rows
 filter_none : (rows : List ExactRow) → ((a : ℕ) → a < length rows → is_free (get_or rows a no_row).kind ≡ false) →
     filter (λ r. not (is_free r.kind)) rows ≡ rows
 filter_none [] h = refl
@@ -111,6 +116,7 @@ filter_none (r ∷ rows) h =
     (h 0 (omega arith))
     ∙ ap (λ rs. r ∷ rs) (filter_none rows (λ a l. h (suc a) (omega (arith, l))))
 
+-- removing a free row before the free rows are left out leaves the same rows
 filter_removed : (rows : List ExactRow) (i : ℕ) → i < length rows → is_free (get_or rows i no_row).kind ≡ true →
     filter (λ r. not (is_free r.kind)) (remove rows i) ≡ filter (λ r. not (is_free r.kind)) rows
 filter_removed [] i l e = absurd (omega (arith, l))
@@ -127,6 +133,7 @@ rows_without m =
 
 -- ---- multipliers
 
+-- where no row is free, leaving out the multipliers of free rows leaves all multipliers
 but_free_none : (rows : List ExactRow) (y : List ℚ) → length y ≡ length rows →
     ((a : ℕ) → a < length rows → is_free (get_or rows a no_row).kind ≡ false) → but_free rows y ≡ y
 but_free_none [] [] e h = refl
@@ -136,6 +143,7 @@ but_free_none (r ∷ rows) (v ∷ y) e h =
     ap (λ t. cond t (but_free rows y) (v ∷ but_free rows y)) (h 0 (omega arith))
     ∙ ap (λ ys. v ∷ ys) (but_free_none rows y (omega (arith, e)) (λ a l. h (suc a) (omega (arith, l))))
 
+-- removing a free row and its multiplier first leaves the same multipliers of the other rows
 but_free_removed : (rows : List ExactRow) (y : List ℚ) (i : ℕ) → length y ≡ length rows → i < length rows →
     is_free (get_or rows i no_row).kind ≡ true → but_free (remove rows i) (remove y i) ≡ but_free rows y
 but_free_removed [] y i e l f = absurd (omega (arith, l))
@@ -144,17 +152,20 @@ but_free_removed (r ∷ rows) (v ∷ y) zero e l f = sym (ap (λ t. cond t (but_
 but_free_removed (r ∷ rows) (v ∷ y) (suc i) e l f =
     ap (λ ys. cond (is_free r.kind) ys (v ∷ ys)) (but_free_removed rows y i (omega (arith, e)) (omega (arith, l)) f)
 
+-- a list whose item i is removed and inserted again is the list as it was
 insert_removed : (y : List ℚ) (i : ℕ) → i < length y → insert (remove y i) i (part y i) ≡ y
 insert_removed [] i l = absurd (omega (arith, l))
 insert_removed (v ∷ y) zero l = refl
 insert_removed (v ∷ y) (suc i) l = ap (λ ys. v ∷ ys) (insert_removed y i (omega (arith, l)))
 
+-- a list in which an item is inserted at i and removed again is the list as it was
 remove_inserted : (y : List ℚ) (i : ℕ) (v : ℚ) → i ≤ length y → remove (insert y i v) i ≡ y
 remove_inserted [] zero v l = refl
 remove_inserted [] (suc i) v l = absurd (omega (arith, l))
 remove_inserted (w ∷ y) zero v l = refl
 remove_inserted (w ∷ y) (suc i) v l = ap (λ ys. w ∷ ys) (remove_inserted y i v (omega (arith, l)))
 
+-- part a of a list without item i is the list's part at the index that skips i
 part_removed : (y : List ℚ) (i a : ℕ) → i < length y → part (remove y i) a ≡ part y (skipping i a)
 part_removed y i a l =
     ⊎_elim (λ p. get_or-remove_below y i 0ℚ a p l ∙ ap (part y) (sym (skipping_below i a p)))
@@ -276,6 +287,7 @@ module _ (m : Model) (i : ℕ) (l : i < height m) where
 
 -- ---- certificates
 
+-- where no row is free, a certificate without the multipliers of free rows is the certificate itself
 none_gone : (m : Model) → NoneFrom 0 m → (c : ExactCertificate) → IsFor m c → without_free_multipliers m c ≡ c
 unfolding without_free_multipliers
 none_gone m none (Optimal x y) f =
@@ -284,9 +296,11 @@ none_gone m none (Infeasible y) f = ap (λ y. Infeasible y) (but_free_none m.row
 none_gone m none (Clash j) f = refl
 none_gone m none (Unbounded x r) f = refl
 
+-- where no row is free, any multipliers are 0 at each free row
 none_zero : (m : Model) (y : List ℚ) → NoneFrom 0 m → IsZeroAtFree m y
 none_zero m y none i l e = let o = none i (omega arith) l in absurd (cc)
 
+-- where no row is free, each certificate has the multiplier 0 for each free row
 none_taken : (m : Model) → NoneFrom 0 m → (c : ExactCertificate) → TakesNoFreeRow m c
 none_taken m none (Optimal x y) = none_zero m y none
 none_taken m none (Infeasible y) = none_zero m y none
@@ -296,6 +310,7 @@ none_taken m none (Unbounded x r) = tt
 abbrev Fits : Model → Model → Type 0
 Fits m n = (c : ExactCertificate) → IsFor m c → IsFor n (without_free_multipliers m c)
 
+-- a certificate that fits a model fits it without its free rows, once their multipliers are left out
 fits_without : (m : Model) → Fits m (without_free_rows m)
 fits_without =
     all_gone Fits (λ m none c f. subst (IsFor m) (sym (none_gone m none c f)) f)
@@ -305,12 +320,14 @@ abbrev IsLess : Model → Model → Type 0
 IsLess m n = (c : ExactCertificate) → IsFor m c →
     Checks m c ↔ (TakesNoFreeRow m c × Checks n (without_free_multipliers m c))
 
+-- where no row is free, a certificate checks exactly where it checks without free rows' multipliers
 less_same : Same IsLess
 less_same m none c f = (
   λ h. (none_taken m none c, subst (Checks m) (sym (none_gone m none c f)) h),
   λ h. subst (Checks m) (none_gone m none c f) h.1,
 )
 
+-- if certificates check exactly as without free rows once free row i is removed, they do so before
 less_one : Less IsLess
 less_one m n i l e h c f =
     let f' = fits_less m i l c f in
@@ -325,6 +342,7 @@ pub checks_without : (m : Model) (c : ExactCertificate) → IsFor m c →
     Checks m c ↔ (TakesNoFreeRow m c × Checks (without_free_rows m) (without_free_multipliers m c))
 checks_without = all_gone IsLess less_same less_one
 
+-- a certificate without its free rows' multipliers shows of the model without these rows what it showed
 shown_without : (m : Model) (c : ExactCertificate) → shown (without_free_rows m) (without_free_multipliers m c) ≡ shown m c
 unfolding without_free_multipliers
 shown_without m (Optimal x y) = ap known.Optimal (value_without m x)
@@ -341,6 +359,7 @@ abbrev Comes : Model → Model → Type 0
 Comes m n = (c : ExactCertificate) → IsFor n c → Checks n c →
     (whole : ExactCertificate) × IsFor m whole × Checks m whole × (without_free_multipliers m whole ≡ c)
 
+-- a certificate that comes from one of the model without free row i comes from one of the model itself
 comes_one : Less Comes
 comes_one m n i l e h c f k =
     let w = h c f k in

@@ -104,9 +104,11 @@ module _ (m : Model) (i : ℕ) (d s : ℚ) (inside : i < height m) (nothing : (k
 
 -- ---- by what is found
 
+-- a choice to reduce is no choice to halt
 reduce_not : {P : Type 0} (h : Halt) (r : ExactReduction) → ◌≡◌ {A = ExactChoice} (Reduce r) (choice.Halt h) → P
 reduce_not h r e = let z : ◌≡◌ {A = ExactChoice} (Reduce r) (choice.Halt h) = e in cc
 
+-- where two choices to halt are the same, they halt for the same reason
 halt_same : (h g : Halt) → ◌≡◌ {A = ExactChoice} (choice.Halt h) (choice.Halt g) → h ≡ g
 halt_same h g e = cc
 
@@ -114,9 +116,11 @@ halt_same h g e = cc
 abbrev Shows : Model → Halt → Type 0
 Shows m h = (c : ExactCertificate) → halted m h ≡ Some c → IsShown m c
 
+-- where a halt's one certificate shows that no point is feasible, all certificates of the halt do
 shows_one : (m : Model) (h : Halt) (c : ExactCertificate) → halted m h ≡ Some c → IsShown m c → Shows m h
 shows_one m h c e k d f = subst (IsShown m) (same_Some c d (sym e ∙ f)) k
 
+-- where column j's bounds are found to cross, the certificate that they clash checks
 crossed_ok : (limit : Option ℕ) (m : Model) (j : ℕ) (l u : Option ℚ) → j < width m → (bounds m j).lower ≡ l →
     (bounds m j).upper ≡ u → crossed limit l u ≡ Ok true → ChecksClash m j
 crossed_ok limit m j None u p e f h = let z : false ≡ true = ok_same false true h in cc

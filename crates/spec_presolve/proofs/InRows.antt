@@ -29,9 +29,11 @@ Is m i n Nothing = Empty m i n
 Is m i n (One j a) = Alone m i n j a
 Is m i n More = Unit {0}
 
+-- what holds of each index below n, and of n, holds of an index below n + 1
 last : (P : ℕ → Type 0) (n k : ℕ) → k < suc n → (k < n → P k) → P n → P k
 last P n k l before now = ⊎_elim (λ e. subst P (sym e) now) (λ o. before (omega (arith, l, o))) (cases_eq k n)
 
+-- what is found in a row's first n columns is found in n + 1 where the row has no entry in column n
 more : (m : Model) (i n : ℕ) (found : InRow ℚ) → Is m i n found → coefficient m i n ≡ 0ℚ → Is m i (suc n) found
 more m i n Nothing h e = λ k l. last (λ k. coefficient m i k ≡ 0ℚ) n k l (λ p. h k p) e
 more m i n (One j a) h e = record {
@@ -42,6 +44,7 @@ more m i n (One j a) h e = record {
 }
 more m i n More h e = tt
 
+-- where a row has an entry in column n, the first n + 1 columns have one entry more than the first n
 one : (m : Model) (i n : ℕ) (found : InRow ℚ) → Is m i n found → ¬ (coefficient m i n ≡ 0ℚ) →
     Is m i (suc n) (one_more found n (coefficient m i n))
 one m i n Nothing h o = record {
@@ -53,10 +56,11 @@ one m i n Nothing h o = record {
 one m i n (One j a) h o = tt
 one m i n More h o = tt
 
--- where a number is not 0, the test says so
+-- where the test for 0 fails, the number is not 0
 other : (a : ℚ) → eq_ℚ a 0ℚ ≡ false → ¬ (a ≡ 0ℚ)
 other a e z = let f : true ≡ false = sym (eq_test a 0ℚ z) ∙ e in cc
 
+-- what the search of a row's first n columns finds is what they have: no entry, one or more
 below_is : (m : Model) (i n : ℕ) → Is m i n (in_row_below m i n)
 below_is m i zero = λ k l. absurd (omega (arith, l))
 below_is m i (suc n) = by (eq_ℚ (coefficient m i n) 0ℚ) refl (below_is m i n)

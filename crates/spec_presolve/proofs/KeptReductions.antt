@@ -30,6 +30,7 @@ use Rattle.spec_presolve.specs.Reduce.{Reductions, or_old, tightened, shifted, a
 use Rattle.spec_presolve.proofs.NextReduction.{Goes, what_goes}
 use Rattle.spec_presolve.proofs.After.{fixed_parts}
 
+-- where a given bound is below 10^20 and narrow, and the old one may be kept, the one taken may be kept
 bound_or_old : (o old : Option ℚ) → IfSome o (λ q. abs_ℚ q <ℚ whole (pos (10 ^ 20))) → IfSome o IsNarrow → IsBound old →
     IfSome old IsNarrow → IsKeptBound (or_old o old)
 bound_or_old None old h k b n = (b, n)
@@ -41,6 +42,7 @@ record Moving (limits : SizeLimits) (m : Model) (x : Model) : Type 0 where
   same_height : length x.rows ≡ length m.rows
   same_width : length x.columns ≡ length m.columns
 
+-- moving right sides within the number limit keeps the model's size and leaves a model that may be kept
 shifted_kept : {limits : SizeLimits} (m : Model) (j : ℕ) (v : ℚ) (x : Model) → IsModelWithin limits m →
     shifted (Some number_limit) m j v ≡ Ok x →
     Moving limits m x
@@ -85,11 +87,13 @@ after_kept {limits = limits} m n (Fixed j v) k g a =
 abbrev AllKept : SizeLimits → Reductions → Type 0
 AllKept limits r = All (λ (s : ExactReduction × Model). IsModelWithin limits s.1) r.steps × IsModelWithin limits r.last
 
+-- where reductions end at once at a model that may be kept, all their models may be kept
 halted_kept : {limits : SizeLimits} (m : Model) (h : Halt) (r : Reductions) → IsModelWithin limits m →
     ◌≡◌ {A = Reductions} (record { steps = []; last = m; halt = h }) r → AllKept limits r
 halted_kept {limits = limits} m h r k e =
     subst (AllKept limits) e (All-nil (λ (s : ExactReduction × Model). IsModelWithin limits s.1), k)
 
+-- where the first model may be kept, all models of its first k reductions may be kept
 within_kept : {limits : SizeLimits} (k : ℕ) (m : Model) (r : Reductions) → IsModelWithin limits m →
     reduced_within (Some number_limit) k m ≡ Ok r →
     AllKept limits r

@@ -19,7 +19,7 @@ use Rattle.spec_presolve.proofs.After.{empty_step, single_step, fixed_step}
 use Rattle.spec_presolve.proofs.OverEmpty.{EmptyStep}
 use Rattle.spec_presolve.proofs.OverSingle.{SingleStep}
 
--- each takes a row or a column
+-- a reduction that goes leaves one row or column fewer in all
 one_less : (limit : Option ℕ) (m n : Model) (r : ExactReduction) → Goes limit m r → after limit m r ≡ Ok n →
     width m + height m ≡ suc (width n + height n)
 unfolding after
@@ -34,7 +34,7 @@ one_less limit m n (Single i j a lower upper) g t =
 one_less limit m n (Fixed j v) g a =
     let s = fixed_step limit m n j v g a in omega (arith, s.height_is, s.width_is)
 
--- nothing is chosen where there is nothing
+-- where a model has no rows and no columns, the choice is to halt as done
 nothing_left : (limit : Option ℕ) (m : Model) → width m ≡ 0 → height m ≡ 0 → chosen limit m ≡ Ok (choice.Halt Done)
 unfolding chosen
 nothing_left limit m e f =
@@ -45,10 +45,12 @@ pub record EndsWell (limit : Option ℕ) (m : Model) (r : Reductions) : Type 0 w
   pub none_applies : chosen limit r.last ≡ Ok (choice.Halt r.halt)
   pub count : length r.steps + (width r.last + height r.last) ≡ width m + height m
 
+-- where the choice for the first model is to halt, the reductions end where none applies and none is counted
 halted_ends : (limit : Option ℕ) (m : Model) (h : Halt) (r : Reductions) → chosen limit m ≡ Ok (choice.Halt h) →
     ◌≡◌ {A = Reductions} (record { steps = []; last = m; halt = h }) r → EndsWell limit m r
 halted_ends limit m h r c e = subst (EndsWell limit m) e (record { none_applies = c; count = omega arith })
 
+-- where k rows and columns are there, the first k reductions end where no other reduction applies
 within_ends : (limit : Option ℕ) (k : ℕ) (m : Model) (r : Reductions) → width m + height m ≡ k →
     reduced_within limit k m ≡ Ok r → EndsWell limit m r
 within_ends limit zero m r e h =
@@ -73,5 +75,6 @@ within_ends limit (suc k) m r e h =
         subst (EndsWell limit m) (ok_same _ r rest.2)
         (record { none_applies = l.none_applies; count = omega (arith, l.count, less) })
 
+-- all reductions end where no other applies, and each has taken one row or column
 pub ends_well : (limit : Option ℕ) (m : Model) (r : Reductions) → reduced limit m ≡ Ok r → EndsWell limit m r
 ends_well limit m r h = within_ends limit (width m + height m) m r refl h

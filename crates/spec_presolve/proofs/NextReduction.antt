@@ -44,6 +44,7 @@ pub record Found {A : Type 0} (n : ℕ) (f : ℕ → Run (Option A)) (a : A) : T
   pub inside : place < n
   pub found : f place ≡ Ok (Some a)
 
+-- an item that the first i places give, or else place i, is found among the first i + 1 places
 first_step : {A : Type 0} (i : ℕ) (f : ℕ → Run (Option A)) (x y : Option A) →
     ((a : A) → x ≡ Some a → Found i f a) → unless x (f i) ≡ Ok y → (a : A) → y ≡ Some a → Found (suc i) f a
 first_step i f None y h e a p =
@@ -55,12 +56,14 @@ first_step i f (Some b) y h e a p =
 pub none_not : {A P : Type 0} (a : A) → ◌≡◌ {A = Option A} None (Some a) → P
 none_not {A} a e = let z : ◌≡◌ {A = Option A} None (Some a) = e in cc
 
+-- an item that the search of the first n places gives is found at one of them
 first_ok : {A : Type 0} (n : ℕ) (f : ℕ → Run (Option A)) (o : Option A) → first n f ≡ Ok o → (a : A) → o ≡ Some a →
     Found n f a
 first_ok {A} n f o h =
     steps_ok (λ k x. (a : A) → x ≡ Some a → Found k f a) n (λ k found. unless found (f k)) None o h
     (λ a e. none_not a e) (λ i x y _ p k. first_step i f x y p k)
 
+-- what holds of an option, and of each option that a run gives, holds of the first, unless none, or else the run
 unless_keeps : {A : Type 0} (Q : Option A → Type 0) (o : Option A) (run : Run (Option A)) (x : Option A) → Q o →
     ((y : Option A) → run ≡ Ok y → Q y) → unless o run ≡ Ok x → Q x
 unless_keeps Q None run x q k h = k x h
@@ -100,12 +103,15 @@ chosen_ok limit m c h =
 
 -- ---- a column whose bounds clash does not go
 
+-- a choice to halt is no choice to reduce
 halt_not : {P : Type 0} (h : Halt) (r : ExactReduction) → ◌≡◌ {A = ExactChoice} (choice.Halt h) (Reduce r) → P
 halt_not h r e = let z : ◌≡◌ {A = ExactChoice} (choice.Halt h) (Reduce r) = e in cc
 
+-- where two choices to reduce are the same, their reductions are the same
 reduce_same : (r s : ExactReduction) → ◌≡◌ {A = ExactChoice} (Reduce r) (Reduce s) → r ≡ s
 reduce_same r s e = cc
 
+-- the test of a column's bounds for a clash never gives a reduction
 no_clash : {P : Type 0} (j : ℕ) (t : Bool) (r : ExactReduction) →
     cond t (Some (choice.Halt (Clash j))) None ≡ Some (Reduce r) → P
 no_clash j true r e = halt_not (Clash j) r (same_Some (choice.Halt (Clash j)) (Reduce r) e)
@@ -117,10 +123,12 @@ pub record EmptyFound (m : Model) (i : ℕ) : Type 0 where
   pub nothing : (k : ℕ) → k < width m → coefficient m i k ≡ 0ℚ
   pub within : IsBetween (limits m i) 0ℚ
 
+-- a lower limit that is not above 0 is at most 0, where there is one
 not_above : (o : Option ℚ) → is_above o ≡ false → IfSome o (λ k. k ≤ℚ 0ℚ)
 not_above None e = tt
 not_above (Some l) e = le_if_not 0ℚ l e
 
+-- an upper limit that is not below 0 is at least 0, where there is one
 not_below : (o : Option ℚ) → is_below o ≡ false → IfSome o (λ k. 0ℚ ≤ℚ k)
 not_below None e = tt
 not_below (Some u) e = le_if_not u 0ℚ e
@@ -155,12 +163,15 @@ pub record Falls (q old new : Option ℚ) : Type 0 where
   pub at_row : (x : ℚ) → q ≡ Some x → Most (or_old new old) x
   pub at_old : (x : ℚ) → old ≡ Some x → Most (or_old new old) x
 
+-- where q is at most b and x is q, the bound b is at least x
 least_is : (b q x : ℚ) → ◌≡◌ {A = Option ℚ} (Some q) (Some x) → q ≤ℚ b → Least (Some b) x
 least_is b q x e h = record { bound = b; is = refl; at_least = subst (λ x. x ≤ℚ b) (same_Some q x e) h }
 
+-- where q is at least b and x is q, the bound b is at most x
 most_is : (b q x : ℚ) → ◌≡◌ {A = Option ℚ} (Some q) (Some x) → b ≤ℚ q → Most (Some b) x
 most_is b q x e h = record { bound = b; is = refl; at_most = subst (λ x. b ≤ℚ x) (same_Some q x e) h }
 
+-- a raised lower bound is the row's, and the bound taken is at least the row's and the old one
 raised_ok : (limit : Option ℕ) (q old new : Option ℚ) → raised limit q old ≡ Ok new → Rises q old new
 raised_ok limit None old new h = subst (λ n. Rises None old n) (ok_same None new h) (record {
   from_row = λ x e. none_not x e;
@@ -188,6 +199,7 @@ raised_ok limit (Some q) (Some l) new h =
       at_old = λ x p. least_is l l x p (≤ℚ_refl l);
     })
 
+-- a cut upper bound is the row's, and the bound taken is at most the row's and the old one
 cut_ok : (limit : Option ℕ) (q old new : Option ℚ) → cut limit q old ≡ Ok new → Falls q old new
 cut_ok limit None old new h = subst (λ n. Falls None old n) (ok_same None new h) (record {
   from_row = λ x e. none_not x e;
@@ -215,22 +227,26 @@ cut_ok limit (Some q) (Some u) new h =
       at_old = λ x p. most_is u u x p (≤ℚ_refl u);
     })
 
+-- where the quotient of a limit by the entry is not refused, it is the limit divided by the entry
 quotient_is : (limit : Option ℕ) (o q : Option ℚ) (a : ℚ) → quotient limit o a ≡ Ok q → q ≡ divided a o
 quotient_is limit None q a h = sym (ok_same None q h)
 quotient_is limit (Some l) q a h =
     let x = then_ok (quotient_run limit l a) (λ q. Ok (Some q)) q h in
     sym (ok_same (Some x.0) q x.2) ∙ ap Some (quotient_ok limit l a x.0 x.1)
 
+-- where q is not far and a bound can only be q, the bound's absolute value is below 10^20
 near_is : (q x : Option ℚ) → is_far q ≡ false → ((v : ℚ) → x ≡ Some v → q ≡ Some v) →
     IfSome x (λ q. abs_ℚ q <ℚ whole (pos (10 ^ 20)))
 near_is q None e h = tt
 near_is q (Some v) e h =
     lt_if (abs_ℚ v) (whole (pos (10 ^ 20))) (not-false _ (subst (λ q. is_far q ≡ false) (h v refl) e))
 
+-- where q is narrow and a bound can only be q, the bound is narrow
 narrow_is : (q x : Option ℚ) → IfSome q IsNarrow → ((v : ℚ) → x ≡ Some v → q ≡ Some v) → IfSome x IsNarrow
 narrow_is q None n h = tt
 narrow_is q (Some v) n h = subst (λ o. IfSome o IsNarrow) (h v refl) n
 
+-- a quotient of a limit that is worked out under the number limit is narrow
 quotient_is_narrow : (limit : Option ℕ) (o q : Option ℚ) (a : ℚ) → quotient limit o a ≡ Ok q →
     limit ≡ Some number_limit →
     IfSome q IsNarrow
@@ -312,6 +328,7 @@ pub record Fixes (m : Model) (j : ℕ) (r : ExactReduction) : Type 0 where
   pub same : Fixed j value ≡ r
   pub found : FixedFound m j value
 
+-- where a column is found to be fixed, the reduction fixes it at the value of both its bounds
 fixed_ok : (m : Model) (j : ℕ) (l u : Option ℚ) (r : ExactReduction) → j < width m → (bounds m j).lower ≡ l →
     (bounds m j).upper ≡ u → fixed_by j l u ≡ Some (Reduce r) → Fixes m j r
 fixed_ok m j None u r k e f h = none_not (Reduce r) h

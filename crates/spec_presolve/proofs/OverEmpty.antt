@@ -34,13 +34,14 @@ pub record EmptyStep (m n : Model) (i : ℕ) : Type 0 where
 pub plus_none : (s c : ℚ) → s +ℚ 0ℚ *ℚ c ≡ s
 plus_none s c = simp ring
 
+-- adding 0 to a number leaves the number
 last_none : (s : ℚ) → s +ℚ 0ℚ ≡ s
 last_none s = simp ring
 
 pub less_none : (s c : ℚ) → s -ℚ 0ℚ *ℚ c ≡ s
 less_none s c = ap (λ p. s -ℚ p) (zero-*ℚ c) ∙ ap (λ z. s +ℚ z) neg-zero ∙ last_none s
 
--- a ray of 0 stays within all limits
+-- whether a limit is given or not, 0 is at least 0
 still : (o : Option ℚ) → IfSome o (λ _. 0ℚ ≤ℚ 0ℚ)
 still None = tt
 still (Some b) = ≤ℚ_refl 0ℚ

@@ -36,15 +36,18 @@ lessened t (Some b) = Some (b -ℚ t)
 abbrev pub moved : ℚ → Limits → Limits
 moved t l = record { lower = lessened t l.lower; upper = lessened t l.upper }
 
+-- two numbers subtracted in either order leave the same
 later : (b t r : ℚ) → (b -ℚ t) -ℚ r ≡ (b -ℚ r) -ℚ t
 later b t r = simp ring
 
+-- subtracting t and adding r gives the same in either order
 later_more : (b t r : ℚ) → (b -ℚ t) +ℚ r ≡ (b +ℚ r) -ℚ t
 later_more b t r = simp ring
 
 abbrev from_to : ℚ → ℚ → Limits
 from_to a b = record { lower = Some a; upper = Some b }
 
+-- where a row's right side is t less, both its limits are moved by t
 pub limits_moved : (k : Kind) (b t : ℚ) (r : Option ℚ) → limits_by k (b -ℚ t) r ≡ moved t (limits_by k b r)
 limits_moved L b t None = refl
 limits_moved L b t (Some r) = ap (λ a. from_to a (b -ℚ t)) (later b t (abs_ℚ r))
@@ -66,36 +69,45 @@ limits_moved E b t (Some r) = by (lt_ℚ r 0ℚ)
     by true = ap (λ a. from_to a (b -ℚ t)) (later_more b t r)
     by false = ap (λ a. from_to (b -ℚ t) a) (later_more b t r)
 
+-- subtracting a number and adding it again leaves what was there
 again : (b t : ℚ) → (b -ℚ t) +ℚ t ≡ b
 again b t = simp ring
 
+-- a number that is at least a moved lower limit is, with t added, at least the limit itself
 least_moved : (t v : ℚ) (o : Option ℚ) → IfSome (lessened t o) (λ k. k ≤ℚ v) → IfSome o (λ k. k ≤ℚ (v +ℚ t))
 least_moved t v None h = tt
 least_moved t v (Some b) h = subst (λ w. w ≤ℚ (v +ℚ t)) (again b t) (+ℚ_mono (b -ℚ t) v t h)
 
+-- a number that is at most a moved upper limit is, with t added, at most the limit itself
 most_moved : (t v : ℚ) (o : Option ℚ) → IfSome (lessened t o) (λ k. v ≤ℚ k) → IfSome o (λ k. (v +ℚ t) ≤ℚ k)
 most_moved t v None h = tt
 most_moved t v (Some b) h = subst (λ w. (v +ℚ t) ≤ℚ w) (again b t) (+ℚ_mono v (b -ℚ t) t h)
 
+-- a number between the moved limits is, with t added, between the limits themselves
 moved_between : (t v : ℚ) (l : Limits) → IsBetween (moved t l) v → IsBetween l (v +ℚ t)
 moved_between t v l h = record { lower = least_moved t v l.lower h.lower; upper = most_moved t v l.upper h.upper }
 
+-- where a moved limit is v, the limit itself is v + t
 moved_is : (t v : ℚ) (o : Option ℚ) → lessened t o ≡ Some v → o ≡ Some (v +ℚ t)
 moved_is t v None h = let z : None ≡ Some v = h in cc
 moved_is t v (Some b) h = let e : b -ℚ t ≡ v = cc in ap Some (sym (again b t) ∙ ap (λ w. w +ℚ t) e)
 
+-- a number at the moved limit that a multiplier asks for is, with t added, at the limit itself
 moved_tight : (t d v : ℚ) (l : Limits) → IsTight (moved t l) d v → IsTight l d (v +ℚ t)
 moved_tight t d v l h =
     record { above = λ p. moved_is t v l.lower (h.above p); below = λ p. moved_is t v l.upper (h.below p) }
 
+-- a ray that is at least 0 where a moved limit is given is so where the limit itself is given
 rises : (t r : ℚ) (o : Option ℚ) → IfSome (lessened t o) (λ _. 0ℚ ≤ℚ r) → IfSome o (λ _. 0ℚ ≤ℚ r)
 rises t r None h = tt
 rises t r (Some b) h = h
 
+-- a ray that is at most 0 where a moved limit is given is so where the limit itself is given
 falls : (t r : ℚ) (o : Option ℚ) → IfSome (lessened t o) (λ _. r ≤ℚ 0ℚ) → IfSome o (λ _. r ≤ℚ 0ℚ)
 falls t r None h = tt
 falls t r (Some b) h = h
 
+-- a ray that the moved limits allow is allowed by the limits themselves
 moved_allows : (t r : ℚ) (l : Limits) → Allows (moved t l) r → Allows l r
 moved_allows t r l h = record { lower = rises t r l.lower h.lower; upper = falls t r l.upper h.upper }
 

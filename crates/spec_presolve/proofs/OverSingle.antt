@@ -37,15 +37,19 @@ pub record SingleStep (m n : Model) (i j : ℕ) (a : ℚ) (lower upper : Option 
   pub tightens : Tightens (scaled a (limits m i)) (bounds m j) lower upper
   pub ordered : Ordered (limits m i)
 
+-- adding a number times 0 leaves the sum
 plus_nothing : (s v : ℚ) → s +ℚ v *ℚ 0ℚ ≡ s
 plus_nothing s v = simp ring
 
+-- subtracting a number times 0 leaves what was there
 less_nothing : (s v : ℚ) → s -ℚ v *ℚ 0ℚ ≡ s
 less_nothing s v = simp ring
 
+-- a number less itself is 0
 less_itself : (d : ℚ) → d -ℚ d ≡ 0ℚ
 less_itself d = simp ring
 
+-- a number plus its negative is 0
 plus_negative : (d : ℚ) → d +ℚ neg_ℚ d ≡ 0ℚ
 plus_negative d = simp ring
 

@@ -30,20 +30,24 @@ use Rattle.spec_presolve.proofs.Tightened.{clash_low, clash_high}
 use Rattle.spec_presolve.proofs.RowMore.{length_more, value_same}
 use Rattle.spec_presolve.proofs.OverSingle.{SingleStep, optimal, infeasible, unbounded, apart_by}
 
+-- a multiplier that is taken over is d divided by the entry a where t holds, and 0 else
 taken_over_ok : (limit : Option ℕ) (t : Bool) (d a v : ℚ) → taken_over limit t d a ≡ Ok v →
     v ≡ cond t (d *ℚ inverse a) 0ℚ
 taken_over_ok limit true d a v h = quotient_ok limit d a v h
 taken_over_ok limit false d a v h = sym (ok_same 0ℚ v h)
 
+-- a number is the same number less 0
 less_zero : (s : ℚ) → s ≡ s -ℚ 0ℚ
 less_zero s = sym (ap (λ z. s +ℚ z) neg-zero ∙ plus_zero s)
   where
     plus_zero : (s : ℚ) → s +ℚ 0ℚ ≡ s
     plus_zero s = simp ring
 
+-- subtracting two numbers in turn is subtracting their sum
 less_more : (s t u : ℚ) → (s -ℚ t) -ℚ u ≡ s -ℚ (t +ℚ u)
 less_more s t u = simp ring
 
+-- where the run of a column's reduced cost is not refused, it gives the reduced cost
 reduced_run_ok : (limit : Option ℕ) (m : Model) (y : List ℚ) (j : ℕ) (d : ℚ) → reduced_run limit m y j ≡ Ok d →
     d ≡ reduced m y j
 reduced_run_ok limit m y j d h =
@@ -55,6 +59,7 @@ reduced_run_ok limit m y j d h =
     ∙ less_more (signed m.sense (cost m j)) (sum_below i (λ i. part y i *ℚ coefficient m i j))
     (part y i *ℚ coefficient m i j))
 
+-- where the run of the multipliers' part in a column is not refused, it gives that part
 priced_run_ok : (limit : Option ℕ) (m : Model) (y : List ℚ) (j : ℕ) (g : ℚ) → priced_run limit m y j ≡ Ok g →
     g ≡ priced m y j
 priced_run_ok limit m y j g h =

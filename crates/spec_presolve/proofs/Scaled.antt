@@ -31,9 +31,12 @@ scaled a l =
     (record { lower = divided a l.lower; upper = divided a l.upper })
 
 -- ---- a quotient
+
+-- for a that is not 0, a times the quotient of b by a is b
 times_quotient : (a b : ℚ) → ¬ (a ≡ 0ℚ) → a *ℚ (b *ℚ inverse a) ≡ b
 times_quotient a b n = *ℚ_left_comm a b (inverse a) ∙ ap (λ q. b *ℚ q) (*ℚ_inverse a n) ∙ *ℚ_one b
 
+-- b times q, times a, is b times the product of a and q
 shuffle₂ : (a b q : ℚ) → (b *ℚ q) *ℚ a ≡ b *ℚ (a *ℚ q)
 shuffle₂ a b q = simp ring
 
@@ -62,24 +65,28 @@ scaled_down a l e =
 
 -- ---- a point between the bounds is between the limits
 
+-- for a positive entry a, a times v is at least a lower limit where v is at least the limit divided by a
 least_up : (a v : ℚ) (o : Option ℚ) → 0ℚ <ℚ a → ¬ (a ≡ 0ℚ) → IfSome (divided a o) (λ k. k ≤ℚ v) →
     IfSome o (λ k. k ≤ℚ (a *ℚ v))
 least_up a v None p n h = tt
 least_up a v (Some b) p n h =
     subst (λ w. w ≤ℚ (a *ℚ v)) (times_quotient a b n) (*ℚ_mono (b *ℚ inverse a) v a (<ℚ-le 0ℚ a p) h)
 
+-- for a positive entry a, a times v is at most an upper limit where v is at most the limit divided by a
 most_up : (a v : ℚ) (o : Option ℚ) → 0ℚ <ℚ a → ¬ (a ≡ 0ℚ) → IfSome (divided a o) (λ k. v ≤ℚ k) →
     IfSome o (λ k. (a *ℚ v) ≤ℚ k)
 most_up a v None p n h = tt
 most_up a v (Some b) p n h =
     subst (λ w. (a *ℚ v) ≤ℚ w) (times_quotient a b n) (*ℚ_mono v (b *ℚ inverse a) a (<ℚ-le 0ℚ a p) h)
 
+-- for a negative entry a, a times v is at least a lower limit where v is at most the limit divided by a
 least_down : (a v : ℚ) (o : Option ℚ) → a <ℚ 0ℚ → ¬ (a ≡ 0ℚ) → IfSome (divided a o) (λ k. v ≤ℚ k) →
     IfSome o (λ k. k ≤ℚ (a *ℚ v))
 least_down a v None p n h = tt
 least_down a v (Some b) p n h =
     subst (λ w. w ≤ℚ (a *ℚ v)) (times_quotient a b n) (*ℚ_mono_neg v (b *ℚ inverse a) a (<ℚ-le a 0ℚ p) h)
 
+-- for a negative entry a, a times v is at most an upper limit where v is at least the limit divided by a
 most_down : (a v : ℚ) (o : Option ℚ) → a <ℚ 0ℚ → ¬ (a ≡ 0ℚ) → IfSome (divided a o) (λ k. k ≤ℚ v) →
     IfSome o (λ k. (a *ℚ v) ≤ℚ k)
 most_down a v None p n h = tt
@@ -95,18 +102,23 @@ scaled_between a v l n h =
     record { lower = least_down a v l.lower p n k.upper; upper = most_down a v l.upper p n k.lower })
 
 -- ---- a ray
+
+-- for a positive entry a and a given limit, a times r is at least 0 where r is
 rises_up : (a r : ℚ) (o : Option ℚ) → 0ℚ <ℚ a → IfSome (divided a o) (λ _. 0ℚ ≤ℚ r) → IfSome o (λ _. 0ℚ ≤ℚ (a *ℚ r))
 rises_up a r None p h = tt
 rises_up a r (Some b) p h = subst (λ w. w ≤ℚ (a *ℚ r)) (*ℚ_zero a) (*ℚ_mono 0ℚ r a (<ℚ-le 0ℚ a p) h)
 
+-- for a positive entry a and a given limit, a times r is at most 0 where r is
 falls_up : (a r : ℚ) (o : Option ℚ) → 0ℚ <ℚ a → IfSome (divided a o) (λ _. r ≤ℚ 0ℚ) → IfSome o (λ _. (a *ℚ r) ≤ℚ 0ℚ)
 falls_up a r None p h = tt
 falls_up a r (Some b) p h = subst (λ w. (a *ℚ r) ≤ℚ w) (*ℚ_zero a) (*ℚ_mono r 0ℚ a (<ℚ-le 0ℚ a p) h)
 
+-- for a negative entry a and a given limit, a times r is at least 0 where r is at most 0
 rises_down : (a r : ℚ) (o : Option ℚ) → a <ℚ 0ℚ → IfSome (divided a o) (λ _. r ≤ℚ 0ℚ) → IfSome o (λ _. 0ℚ ≤ℚ (a *ℚ r))
 rises_down a r None p h = tt
 rises_down a r (Some b) p h = subst (λ w. w ≤ℚ (a *ℚ r)) (*ℚ_zero a) (*ℚ_mono_neg r 0ℚ a (<ℚ-le a 0ℚ p) h)
 
+-- for a negative entry a and a given limit, a times r is at most 0 where r is at least 0
 falls_down : (a r : ℚ) (o : Option ℚ) → a <ℚ 0ℚ → IfSome (divided a o) (λ _. 0ℚ ≤ℚ r) → IfSome o (λ _. (a *ℚ r) ≤ℚ 0ℚ)
 falls_down a r None p h = tt
 falls_down a r (Some b) p h = subst (λ w. (a *ℚ r) ≤ℚ w) (*ℚ_zero a) (*ℚ_mono_neg 0ℚ r a (<ℚ-le a 0ℚ p) h)
@@ -121,13 +133,17 @@ scaled_allows a r l n h =
 
 -- ---- multipliers
 
--- a quotient's sign
+-- ---- a quotient's sign
+
+-- for a positive entry a, d is positive where d divided by a is
 same_sign : (a d : ℚ) → 0ℚ <ℚ a → 0ℚ <ℚ (d *ℚ inverse a) → ¬ (a ≡ 0ℚ) → 0ℚ <ℚ d
 same_sign a d p h n = subst₂ ◌<ℚ◌ (*ℚ_zero a) (times_quotient a d n) (*ℚ_strict 0ℚ (d *ℚ inverse a) a p h)
 
+-- for a positive entry a, d is negative where d divided by a is
 same_sign_below : (a d : ℚ) → 0ℚ <ℚ a → (d *ℚ inverse a) <ℚ 0ℚ → ¬ (a ≡ 0ℚ) → d <ℚ 0ℚ
 same_sign_below a d p h n = subst₂ ◌<ℚ◌ (times_quotient a d n) (*ℚ_zero a) (*ℚ_strict (d *ℚ inverse a) 0ℚ a p h)
 
+-- for a negative entry a, d is negative where d divided by a is positive
 other_sign : (a d : ℚ) → a <ℚ 0ℚ → 0ℚ <ℚ (d *ℚ inverse a) → ¬ (a ≡ 0ℚ) → d <ℚ 0ℚ
 other_sign a d p h n =
     let pos_a : 0ℚ <ℚ neg_ℚ a = subst (λ z. z <ℚ neg_ℚ a) neg-zero (neg_strict a 0ℚ p) in
@@ -136,6 +152,7 @@ other_sign a d p h n =
     subst₂ ◌<ℚ◌ (*ℚ_zero (neg_ℚ a)) (neg-*ℚ a (d *ℚ inverse a) ∙ ap neg_ℚ (times_quotient a d n)) up in
     subst₂ ◌<ℚ◌ (neg-neg d) neg-zero (neg_strict 0ℚ (neg_ℚ d) up₂)
 
+-- for a negative entry a, d is positive where d divided by a is negative
 other_sign_below : (a d : ℚ) → a <ℚ 0ℚ → (d *ℚ inverse a) <ℚ 0ℚ → ¬ (a ≡ 0ℚ) → 0ℚ <ℚ d
 other_sign_below a d p h n =
     let pos_a : 0ℚ <ℚ neg_ℚ a = subst (λ z. z <ℚ neg_ℚ a) neg-zero (neg_strict a 0ℚ p) in
@@ -170,9 +187,11 @@ scaled_tight a d v l n h =
 abbrev pub Ordered : Limits → Type 0
 Ordered l = (p q : ℚ) → l.lower ≡ Some p → l.upper ≡ Some q → p ≤ℚ q
 
+-- where a times p is at most a times q for a positive a, p is at most q
 up_back : (a p q : ℚ) → 0ℚ <ℚ a → (a *ℚ p) ≤ℚ (a *ℚ q) → p ≤ℚ q
 up_back a p q pos_a h = *ℚ_mono_back p q a pos_a h
 
+-- where a times q is at most a times p for a negative a, p is at most q
 down_back : (a p q : ℚ) → a <ℚ 0ℚ → (a *ℚ q) ≤ℚ (a *ℚ p) → p ≤ℚ q
 down_back a p q neg_a h =
     *ℚ_mono_back p q (neg_ℚ a) (subst (λ z. z <ℚ neg_ℚ a) neg-zero (neg_strict a 0ℚ neg_a))

@@ -37,6 +37,7 @@ skipping_inside n i k l =
     ⊎_elim (λ p. subst (λ a. a < n + 1) (sym (skipping_below i k p)) (omega arith))
     (λ p. subst (λ a. a < n + 1) (sym (skipping_from i k p)) (omega arith)) (cases_lt k i)
 
+-- an index that skips i is never i
 skipping_other : (i k : ℕ) → ¬ (skipping i k ≡ i)
 skipping_other i k e =
     ⊎_elim (λ p. let f = skipping_below i k p in absurd (omega arith))
@@ -54,6 +55,7 @@ part_skipping y i k v l =
 
 -- ---- sums
 
+-- the last two numbers added to a sum may change places
 more_last : (s a b : ℚ) → (s +ℚ a) +ℚ b ≡ (s +ℚ b) +ℚ a
 more_last s a b = simp ring
 
@@ -81,6 +83,7 @@ sum_of_one (suc n) j f l none =
     (λ k p. none (skipping j k) (subst (λ a. skipping j k < a) (omega arith) (skipping_inside n j k p)) (skipping_other j k)))
     ∙ zero-+ℚ (f j)
 
+-- where s is t, adding a and then b to s is adding b and then a to t
 trade : (s a t b : ℚ) → s ≡ t → (s +ℚ a) +ℚ b ≡ (t +ℚ b) +ℚ a
 trade s a t b e = ap (λ s. (s +ℚ a) +ℚ b) e ∙ more_last t a b
 

@@ -48,6 +48,7 @@ pub record Tightens (s b : Limits) (lower upper : Option ℚ) : Type 0 where
   pub high_row : (q : ℚ) → s.upper ≡ Some q → Most (or_old upper b.upper) q
   pub high_old : (q : ℚ) → b.upper ≡ Some q → Most (or_old upper b.upper) q
 
+-- what holds of the number that an option has, if any, holds of k where the option has k
 at_some : (P : ℚ → Type 0) (o : Option ℚ) (k : ℚ) → IfSome o P → o ≡ Some k → P k
 at_some P o k h e = subst (λ o. IfSome o P) e h
 
