@@ -24,11 +24,12 @@ use Rattle.spec_simplex.proofs.RunParts.{then_ok, list_ok}
 
 -- ---- one operation
 
+-- where a result that a test lets pass is y, the test holds and the result is y
 some_if : (t : Bool) (x y : ℚ) → cond t (Some x) None ≡ Some y → (t ≡ true) × (x ≡ y)
 some_if true x y e = (refl, cc)
 some_if false x y e = cc
 
--- the third and the fourth of four tests
+-- where four tests hold together, the third and the fourth hold
 last_two : (a b c d : Bool) → a && b && c && d ≡ true → (c ≡ true) × (d ≡ true)
 last_two true true true true e = (refl, refl)
 last_two true true true false e = cc
@@ -36,6 +37,7 @@ last_two true true false d e = cc
 last_two true false c d e = cc
 last_two false b c d e = cc
 
+-- a sum that is not refused at the limit of the program is narrow
 add_narrow : (v w x : ℚ) → add (Some number_limit) v w ≡ Some x → IsNarrow x
 unfolding add
 add_narrow v w x e =
@@ -51,6 +53,7 @@ add_narrow v w x e =
     (leb-true (unsigned_abs (whole_sum v.num v.den w.num w.den)) number_limit t.0))
     (leb-true (sum_den v.num v.den w.num w.den) number_limit t.1))
 
+-- a product that is not refused at the limit of the program is narrow
 mul_narrow : (v w x : ℚ) → mul (Some number_limit) v w ≡ Some x → IsNarrow x
 unfolding mul
 mul_narrow v w x e =
@@ -62,10 +65,12 @@ mul_narrow v w x e =
     (leb-true (unsigned_abs (product_num v.num v.den w.num w.den)) number_limit t.0)
     (leb-true (product_den v.num v.den w.num w.den) number_limit t.1))
 
+-- a difference that is not refused at the limit of the program is narrow
 sub_narrow : (v w x : ℚ) → sub (Some number_limit) v w ≡ Some x → IsNarrow x
 unfolding sub
 sub_narrow v w x e = add_narrow v (neg_ℚ w) x e
 
+-- a quotient that is not refused at the limit of the program is narrow
 div_narrow : (v w x : ℚ) → div (Some number_limit) v w ≡ Some x → IsNarrow x
 unfolding div
 div_narrow v w x e = mul_narrow v (inverse w) x e

@@ -40,6 +40,7 @@ Same o u = (o ≡ u) ⊎ ((p : Refused ℚ) × (o ≡ Past p))
 abbrev ChecksOut : Option ℕ → Model → ExactSolveEnd → Type 0
 ChecksOut limit m end = GivesUp end ⊎ IsChecked limit m end
 
+-- an end that is answered with a certificate gives up, or the checker says yes to the certificate
 checks_out : (limit : Option ℕ) (m : Model) (c : Certificate (List ℚ)) (basis : Option (List Status)) (pivots : ℕ) →
     ChecksOut limit m (answered limit m c basis pivots)
 checks_out limit m c basis pivots = by (check_run limit m c) refl
@@ -49,6 +50,7 @@ checks_out limit m c basis pivots = by (check_run limit m c) refl
     by (Err (check.Past p)) e = inl tt
     by (Err (check.No n)) e = inl tt
 
+-- a run over factors gives up, or ends with a certificate to which the checker says yes
 over_checks_out : (limit : Option ℕ) (budget : ℕ) (m : Model) (f : Form) →
     ChecksOut limit m (over_factors limit budget m f)
 unfolding over_factors
@@ -59,22 +61,27 @@ over_checks_out limit budget m f = by (over_run limit budget f)
     by (Err (stop.Past p)) = inl tt
     by (Err stop.Spent) = inl tt
 
+-- a cold solve gives up, or ends with a certificate to which the checker says yes
 cold_checks_out : (limit : Option ℕ) (budget : ℕ) (m : Model) → ChecksOut limit m (cold limit budget m)
 cold_checks_out limit budget m =
     colds.by_end limit budget m (ChecksOut limit m) (λ answer c basis pivots t. inr t.checks) (λ p. inl tt)
     (λ f formed spent. inl tt)
 
+-- an end that gives up has no certificate to which the checker says yes
 not_both : (limit : Option ℕ) (m : Model) (end : ExactSolveEnd) → GivesUp end → ¬ (IsChecked limit m end)
 not_both limit m (Ended known c basis pivots) up checks = absurd up
 not_both limit m (Past p) up checks = checks
 not_both limit m Spent up checks = checks
 
+-- an end with a refused operation gives up
 refused_gives_up : (end : ExactSolveEnd) (p : Refused ℚ) → end ≡ Past p → GivesUp end
 refused_gives_up end p e = subst GivesUp (sym e) tt
 
+-- two forms of one model at one limit are the same
 same_form : (limit : Option ℕ) (m : Model) (f g : Form) → form_of limit m ≡ Ok f → form_of limit m ≡ Ok g → f ≡ g
 same_form limit m f g h k = let z : ◌≡◌ {A = Result Form (FormFault ℚ)} (Ok f) (Ok g) = sym h ∙ k in cc
 
+-- a model with a form at a limit has no fault of its form at that limit
 not_formless : (limit : Option ℕ) (m : Model) (f : Form) (why : FormFault ℚ) → form_of limit m ≡ Ok f →
     ¬ (form_of limit m ≡ Err why)
 not_formless limit m f why h k = let z : ◌≡◌ {A = Result Form (FormFault ℚ)} (Ok f) (Err why) = sym h ∙ k in cc

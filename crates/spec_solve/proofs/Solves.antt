@@ -41,7 +41,7 @@ spent_is_below m budget e = by (leb (enough_pivots m) budget) refl
     by true is = absurd (enough (Some number_limit) budget m (leb-true (enough_pivots m) budget is) e)
     by false is = leb-false (enough_pivots m) budget is
 
--- its certificate is one for the model
+-- the certificate with which a cold solve ends fits the model
 cold_fits : (limit : Option ℕ) (budget : ℕ) (m : Model) (known : Known ℚ) (c : Certificate (List ℚ))
     (basis : Option (List Status)) (pivots : ℕ) →
     cold limit budget m ≡ Ended known c basis pivots → IsFor m c
