@@ -35,6 +35,7 @@ can_stand AtLower l u h = h.1 ∙ ap Some (sym (ap or_zero h.1))
 can_stand AtUpper l u h = h.1 ∙ ap Some (sym (ap or_zero h.1))
 can_stand AtZero l u h = (h.0, h.1, refl)
 
+-- the value at which a column of basic status is put is 0
 basic_stands_zero : (s : Status) (l u : Option ℚ) → s ≡ Basic → stand s l u ≡ 0ℚ
 basic_stands_zero s l u e = ap (λ s. stand s l u) e
 
@@ -218,6 +219,7 @@ module _ (limit : Option ℕ) (f : Form) (proper : IsProper f) (basis : List Sta
     begins : BeginsFrom f u
     begins = record { based = based; lower = lower_before; upper = upper_before }
 
+-- a tableau that the start from a basis gives is one of the form's equations, costs and bounds
 pub start_begins_from : (limit : Option ℕ) (f : Form) (basis : List Status) (t : Tableau) → IsProper f →
     IsBasisOf f basis → length f.cost ≤ f.cols + f.rows + f.rows → start_from limit f basis ≡ Ok t → BeginsFrom f t
 unfolding start_from

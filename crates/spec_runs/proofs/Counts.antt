@@ -31,6 +31,7 @@ abbrev pub filled : List (Option ℕ) → ℕ → ℕ
 filled basic zero = 0
 filled basic (suc n) = filled basic n + cond (has_none (get_or basic n None)) 0 1
 
+-- of the first n positions at most n have a column
 filled_most : (basic : List (Option ℕ)) (n : ℕ) → filled basic n ≤ n
 filled_most basic zero = omega arith
 filled_most basic (suc n) = by (has_none (get_or basic n None)) (filled_most basic n)
@@ -53,6 +54,7 @@ filled_all basic (suc n) h i l = by (has_none (get_or basic n None)) refl h (fil
         by_eq i n (λ z. ap (λ i. has_none (get_or basic i None)) z ∙ e)
         (λ z. more (omega (arith, h)) i (omega (arith, l, z)))
 
+-- giving position p a column does not change how many positions before it have one
 filled_before : (basic : List (Option ℕ)) (p j n : ℕ) → n ≤ p → filled (set basic p (Some j)) n ≡ filled basic n
 filled_before basic p j zero h = refl
 filled_before basic p j (suc n) h =

@@ -15,12 +15,14 @@ use Rattle.spec_runs.specs.Cold.{moves_below}
 use Rattle.spec_simplex.proofs.Moved.{at_position}
 use Rattle.spec_simplex.proofs.Flips.{directed_is}
 
+-- a column that is basic at no position moves by 1 in the direction where it is column j, and by 0 else
 moves_none : (t : Tableau) (j : ℕ) (up : Bool) (k m : ℕ) → ((r : ℕ) → r < m → basic_at t r ≢ k) →
     moves_below t j up k m ≡ cond (nat_eq k j) (directed up 1ℚ) 0ℚ
 moves_none t j up k zero h = refl
 moves_none t j up k (suc m) h =
     rw (ne_eqb (basic_at t m) k (h m (omega arith))) (moves_none t j up k m (λ r l. h r (omega (arith, l))))
 
+-- a column that is basic at position r alone moves by the negative of column j's entry there, as directed
 moves_basic : (t : Tableau) (j : ℕ) (up : Bool) (k m r : ℕ) → r < m → basic_at t r ≡ k →
     ((s : ℕ) → s < m → basic_at t s ≡ k → s ≡ r) → moves_below t j up k m ≡ neg_ℚ (directed up (entry_at t r j))
 moves_basic t j up k zero r l e u = absurd (let z : ⊥ = omega (arith, l) in z)
@@ -30,10 +32,12 @@ moves_basic t j up k (suc m) r l e u =
     (λ z. rw (ne_eqb (basic_at t m) k (λ y. z (u m (omega arith) y)))
     (moves_basic t j up k m r (omega (arith, l, z)) e (λ s q. u s (omega (arith, q)))))
 
+-- 1 in a direction is the sign of that direction
 one_way : (up : Bool) → directed up 1ℚ ≡ sign (way up)
 one_way true = refl
 one_way false = refl
 
+-- where column j may enter, the moves of all columns are the ray of column j
 pub moves_are : (m n : ℕ) (f : Matrix) (cost : ℕ → ℚ) (b : Bounds) (t : Tableau) (j : ℕ) (up : Bool) →
     IsTableau m n f cost b (table_of t) → Enters n b (table_of t) (way up) j → (k : ℕ) →
     moves_below t j up k m ≡ ray m (table_of t) (way up) j k

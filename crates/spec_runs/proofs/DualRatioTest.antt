@@ -29,6 +29,8 @@ use Rattle.spec_simplex.specs.Dual.{cheapest_by, cheapest_with, cheapest_run}
 use Rattle.spec_runs.proofs.Bounded.{fixed_is, not_fixed_is}
 
 -- ---- the position of a basic column
+
+-- a column that is basic at one of the first n positions is found at one of them
 pub place_is : (t : Tableau) (k n r : ℕ) → r < n → basic_at t r ≡ k →
     (place_below t k n < n) × (basic_at t (place_below t k n) ≡ k)
 place_is t k zero r h e = absurd (let z : ⊥ = omega (arith, h) in z)
@@ -45,6 +47,8 @@ place_is t k (suc n) r h e = by (nat_eq (basic_at t n) k) refl (λ l. place_is t
         (omega (arith, o.0), o.1)
 
 -- ---- the test of a status and an entry
+
+-- where the test gives no direction, the entry does not help a column of that status
 way_none : (s : Status) (a : ℚ) → way_by s a ≡ None → ¬ (Helps s a)
 way_none Basic a e h = h
 way_none AtLower a e h = let z : None ≡ Some true = sym e ∙ rw (lt_test a 0ℚ h) refl in cc
@@ -56,6 +60,7 @@ way_none AtZero a e h = by (lt_ℚ a 0ℚ) (lt_ℚ 0ℚ a) refl refl e
     by false true p q e = let z : Some false ≡ None = e in cc
     by false false p q e = h (≤ℚ_antisym a 0ℚ (le_if_not 0ℚ a q) (le_if_not a 0ℚ p))
 
+-- where the test gives a direction, the entry helps a column of that status
 way_some : (s : Status) (a : ℚ) (up : Bool) → way_by s a ≡ Some up → Helps s a
 way_some Basic a up e = let z : None ≡ Some up = e in cc
 way_some AtLower a up e = by (lt_ℚ a 0ℚ) refl e
@@ -77,6 +82,8 @@ way_some AtZero a up e = by (lt_ℚ a 0ℚ) (lt_ℚ 0ℚ a) refl refl e
     by false false p q e = let z : None ≡ Some up = e in cc
 
 -- ---- the better of two
+
+-- the cheaper of two candidates has a ratio of at most that of each
 kept_least : (new best : Cheapest ℚ) (o : Ordering) → o ≡ order new.ratio best.ratio →
     ((cheaper_by new best o).ratio ≤ℚ new.ratio) × ((cheaper_by new best o).ratio ≤ℚ best.ratio)
 kept_least new best Less e =
@@ -88,6 +95,7 @@ kept_least new best Equal e = (
 kept_least new best Greater e =
     (<ℚ-le best.ratio new.ratio ((order_greater new.ratio best.ratio).0 (sym e)), ≤ℚ_refl best.ratio)
 
+-- what holds of two candidates holds of the cheaper one
 one_of : (P : Cheapest ℚ → Type 0) (new best : Cheapest ℚ) (o : Ordering) → P new → P best → P (cheaper_by new best o)
 one_of P new best Less p q = p
 one_of P new best Equal p q = q

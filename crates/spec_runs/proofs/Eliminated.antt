@@ -35,6 +35,7 @@ pub record IsOpen (e : Elimination) (j n p : ℕ) : Type 0 where
   pub free : has_none (get_or e.basic p None) ≡ true
   pub entry : ¬ (at_place e.rows p j ≡ 0ℚ)
 
+-- a position that tests as open has no column, and its entry in column j is not 0
 open_means : (e : Elimination) (j n p : ℕ) → p < n → is_open e j p ≡ true → IsOpen e j n p
 open_means e j n p h o = by (has_none (get_or e.basic p None)) (eq_ℚ (at_place e.rows p j) 0ℚ) refl refl o
   where
@@ -49,6 +50,7 @@ open_means e j n p h o = by (has_none (get_or e.basic p None)) (eq_ℚ (at_place
     by true true c d o = absurd (false≢true o)
     by false d c y o = absurd (false≢true o)
 
+-- a position that the search gives is open: it has no column, and its entry in column j is not 0
 pub open_is : (e : Elimination) (j n p : ℕ) → open_below e j n ≡ Some p → IsOpen e j n p
 open_is e j zero p h = let z : None ≡ Some p = h in cc
 open_is e j (suc n) p h = by (open_below e j n) (is_open e j n) refl h (λ h. open_is e j n p h)

@@ -32,12 +32,14 @@ use Rattle.spec_runs.proofs.Counts.{basic_test, nonbasic_test}
 use Rattle.spec_runs.proofs.Members.{count, count_same, count_split, count_either}
 use Rattle.spec_runs.proofs.Members.{member, member_if, member_test, count_members}
 
+-- a column that stands at a value by its status and bounds can have that status
 stands_can : (s : Status) (l u : Option ℚ) (v : ℚ) → Stands s l u v → CanStand s l u
 stands_can Basic l u v h = tt
 stands_can AtLower l u v h = (v, h)
 stands_can AtUpper l u v h = (v, h)
 stands_can AtZero l u v h = (h.0, h.1)
 
+-- how many columns below n are basic in a basis is how many test as basic
 basics_count : (basis : List Status) (n : ℕ) → basics_below basis n ≡ count n (λ k. is_basic (basis_at basis k))
 basics_count basis zero = refl
 basics_count basis (suc n) = ap (λ c. c + cond (is_basic (basis_at basis n)) 1 0) (basics_count basis n)

@@ -38,6 +38,7 @@ abbrev AboveIs : Option ℚ → ℚ → Bool → Type 0
 AboveIs u v true = (c : ℚ) × (u ≡ Some c) × (c <ℚ v)
 AboveIs u v false = IfSome u (λ c. v ≤ℚ c)
 
+-- where the test of v against a lower bound is not refused, it says whether v is below the bound
 below_is : (limit : Option ℕ) (l : Option ℚ) (v : ℚ) (c : Bool) → below_lower limit l v ≡ Ok c → BelowIs l v c
 below_is limit None v c h = let z : false ≡ c = cc in subst (BelowIs None v) z tt
 below_is limit (Some a) v c h =
@@ -46,6 +47,7 @@ below_is limit (Some a) v c h =
     (λ p e. given (BelowIs (Some a) v) false c e (subst (λ x. a ≤ℚ x) (sym p) (≤ℚ_refl a)))
     (λ p e. given (BelowIs (Some a) v) false c e (<ℚ-le a v p))
 
+-- where the test of v against an upper bound is not refused, it says whether v is above the bound
 above_is : (limit : Option ℕ) (u : Option ℚ) (v : ℚ) (c : Bool) → above_upper limit u v ≡ Ok c → AboveIs u v c
 above_is limit None v c h = let z : false ≡ c = cc in subst (AboveIs None v) z tt
 above_is limit (Some a) v c h =
@@ -59,6 +61,7 @@ abbrev OutsideIs : Option ℚ → Option ℚ → ℚ → Option Bool → Type 0
 OutsideIs l u v None = IsInside l u v
 OutsideIs l u v (Some below) = (c : ℚ) × IsPast (way below) l u v c
 
+-- where the test of v is not refused, it says whether v is within both bounds, or past which one
 outside_is : (limit : Option ℕ) (l u : Option ℚ) (v : ℚ) (side : Option Bool) → outside_run limit l u v ≡ Ok side →
     OutsideIs l u v side
 outside_is limit l u v side h =
@@ -136,6 +139,8 @@ module _ (limit : Option ℕ) (t : Tableau) where
       (λ k l. absurd (let z : ⊥ = omega (arith, l) in z)) leaving_step
 
 -- ---- needs of reduced costs
+
+-- where all of the first n columns test as meeting their needs, each of them does
 all_met : (t : Tableau) (n : ℕ) → all_meet t n ≡ true → (k : ℕ) → k < n → meets_need_at t k ≡ true
 all_met t zero h k l = absurd (let z : ⊥ = omega (arith, l) in z)
 all_met t (suc n) h k l =

@@ -46,10 +46,12 @@ pub record IsWrong (s : Status) (d : ℚ) (l u : Option ℚ) (up : Bool) : Type 
   pub high : (v : ℚ) × (u ≡ Some v)
   pub suits : Suits (other_bound up) d
 
+-- a bound that tests as given is some number
 there_is : (o : Option ℚ) → is_there o ≡ true → (v : ℚ) × (o ≡ Some v)
 there_is None h = absurd (false≢true h)
 there_is (Some v) h = (v, refl)
 
+-- where a fails or c holds, and a holds, c holds
 either : (a c : Bool) → not a || c ≡ true → a ≡ true → c ≡ true
 either true c h e = h
 either false c h e = absurd (false≢true e)
@@ -79,6 +81,7 @@ wrong AtUpper d v l u st h n = (
 )
 wrong AtZero d v l u st h n = absurd (false≢true n)
 
+-- the status at a column's other bound is not basic
 other_nonbasic : (up : Bool) → ¬ (other_bound up ≡ Basic)
 other_nonbasic true e = let z : AtUpper ≡ Basic = e in cc
 other_nonbasic false e = let z : AtLower ≡ Basic = e in cc

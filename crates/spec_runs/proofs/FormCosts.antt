@@ -25,6 +25,7 @@ use Rattle.spec_simplex.proofs.FormOfModel.{Limited, least_structural}
 abbrev Pair : Type 0
 Pair = Option ℚ × Option ℚ
 
+-- a cost turned so that least is best is the cost with the sign of the sense
 least_is : (s : Sense) (c : ℚ) → least_cost s c ≡ signed s c
 least_is Min c = refl
 least_is Max c = refl
@@ -34,17 +35,21 @@ pub cost_structural : (m : Model) (ls : List (Option ℚ × Option ℚ)) → Lim
 cost_structural m ls h j l = least_structural m ls h j l ∙ least_is m.sense (cost m j)
 
 -- ---- a clash
+
+-- where two steps in turn end in an error that is not the first one's, the second ends in it
 then_err : {A B E : Type 0} (o : Result A E) (f : A → Result B E) (e : E) → (o >>= f) ≡ Err e → (o ≢ Err e) →
     (a : A) × (o ≡ Ok a) × (f a ≡ Err e)
 then_err (Ok a) f e h n = (a, refl, h)
 then_err (Err d) f e h n = absurd (n (let z : d ≡ e = cc in ap Err z))
 
+-- an operation that is refused is no clash of a column
 never_clash : {A : Type 0} (j : ℕ) (o : Run A) → refused_as fault.Past o ≢ Err (fault.Clash j)
 never_clash {A} j (Ok a) h = let z : ◌≡◌ {A = Result A (FormFault ℚ)} (Ok a) (Err (fault.Clash j)) = h in cc
 never_clash {A} j (Err p) h =
     let z : ◌≡◌ {A = Result A (FormFault ℚ)} (Err (fault.Past p)) (Err (fault.Clash j)) = h in
     let y : ◌≡◌ {A = FormFault ℚ} (fault.Past p) (fault.Clash j) = cc in cc
 
+-- where n steps end in an error, one of them ends in it
 steps_err : {A E : Type 0} (n : ℕ) (f : ℕ → A → Result A E) (a : A) (e : E) → steps n f a ≡ Err e →
     (i : ℕ) × (i < n) × (x : A) × (f i x ≡ Err e)
 steps_err {A} {E} zero f a e h = let z : ◌≡◌ {A = Result A E} (Ok a) (Err e) = h in cc
@@ -56,6 +61,7 @@ steps_err {A} {E} (suc n) f a e h = by (steps n f a) refl h (λ h. steps_err n f
     by (Ok x) p h more = (n, omega arith, x, h)
     by (Err d) p h more = let o = more (p ∙ h) in (o.0, omega (arith, o.1), o.2, o.3)
 
+-- where the test of a column finds that column j clashes, the bounds of column j clash
 clash_at : (limit : Option ℕ) (m : Model) (i j : ℕ) → i < width m → column_clash limit m i ≡ Err (fault.Clash j) →
     ChecksClash m j
 clash_at limit m i j i_in h = by (column m i).lower (column m i).upper refl refl h

@@ -62,16 +62,21 @@ no_tableau =
       upper = [];
     }
 
--- the form, the tableaus with which its phases begin, and the end of phase one
+-- ---- the form, the tableaus with which its phases begin, and the end of phase one
+
+-- the form of the model
 form : Form
 form = given_by (form_of None model) no_form
 
+-- the tableau with which phase one of the form begins
 start : Tableau
 start = given_by (start_of None form) no_tableau
 
+-- the end of phase one with a budget of one step
 one : PrimalEnded
 one = given_by (phase_one None 1 start) (record { end = Optimal; tableau = no_tableau; used = 0 })
 
+-- the tableau with which phase two of the form begins
 second : Tableau
 second = given_by (phase_two_run None form one.tableau) no_tableau
 
@@ -91,6 +96,7 @@ record AreComputed : Type 0 where
   begun : phase_two_run None form one.tableau ≡ Ok second
   second_step : is_end (choice_run None second) ≡ false
 
+-- the form, both starts and the end of phase one come out, and each start has a step that is no end
 computed : AreComputed
 unfolding form start one second whole over gcd ◌+ℚ◌ ◌*ℚ◌ neg_ℚ inverse turned eq_ℚ lt_ℚ add sub mul div compare cross_cmp
     form_of start_of priced_run choice_run pivot_run moved_run shifted_run turned_run scaled_run cleared_run repriced_run
@@ -107,6 +113,8 @@ computed =
     }
 
 -- ---- so there are steps
+
+-- where the choice at a tableau is no end, the tableau has a next one
 next_of : (t : Tableau) → is_end (choice_run None t) ≡ false → (u : Tableau) × IsNext None t u
 next_of t h =
     ⊎_elim
@@ -114,6 +122,7 @@ next_of t h =
     (λ u. u)
     (end_or_a_next t)
 
+-- there is a model whose form takes a step in phase one and one in phase two
 pub takes_steps : (budget : ℕ) × (m : Model) × (f : Form) × (form_of None m ≡ Ok f)
     × ((t u : Tableau) × (start_of None f ≡ Ok t) × IsNext None t u)
     × ((t u : Tableau) × BeginsPhaseTwo None budget f t × IsNext None t u)

@@ -51,11 +51,13 @@ module _ {D E : Type 0} (kind : D → E) (first : Past ℚ → D)
           n p (let z : ◌≡◌ {A = Result A E} (Err (kind d)) (Err (second p)) = e in
           let y : kind d ≡ second p = cc in ap Err (back d p y))
 
+-- where a stop of the start counts as a refused operation, it is that refused operation
 start_back : (d : StartStop ℚ) (p : Past ℚ) → start_stop d ≡ fall.Past p → d ≡ start.Past p
 start_back start.Singular p e = let z : ◌≡◌ {A = WarmStop ℚ} fall.Singular (fall.Past p) = e in cc
 start_back (start.Past q) p e =
     let z : ◌≡◌ {A = WarmStop ℚ} (fall.Past q) (fall.Past p) = e in let y : q ≡ p = cc in ap start.Past y
 
+-- where a stop of the run counts as a refused operation, it is that refused operation
 run_back : (d : RunStop ℚ) (p : Past ℚ) → run_stop d ≡ fall.Past p → d ≡ stop.Past p
 run_back stop.Spent p e = let z : ◌≡◌ {A = WarmStop ℚ} fall.Spent (fall.Past p) = e in cc
 run_back (stop.Past q) p e =
@@ -123,6 +125,8 @@ module _ (limit : Option ℕ) (budget : ℕ) (m : Model) (basis : List Status) (
       by (Err (fault.Past p)) u q (inl z) = inr (p, refl)
 
 -- ---- without a limit
+
+-- without a limit, a warm start whose certificate is accepted is not stopped by a refused operation
 checked_never_past : (m : Model) (c : Certificate (List ℚ)) (left : Option (List Status)) (pivots : ℕ) →
     IsAccepted None m c → (p : Past ℚ) → ¬ (answered None m c left pivots ≡ outcome.Stopped (fall.Past p))
 checked_never_past m c left pivots a p e =
@@ -130,6 +134,7 @@ checked_never_past m c left pivots a p e =
     sym (ap (checked c left pivots) a.accepted) ∙ e in
     cc
 
+-- without a limit, a warm start from a basis of the model is never stopped by a refused operation
 pub never_past : (budget : ℕ) (m : Model) (basis : List Status) (p : Past ℚ) → IsBasisFor None m basis →
     ¬ (warm None budget m basis ≡ outcome.Stopped (fall.Past p))
 unfolding warm

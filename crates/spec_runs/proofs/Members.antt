@@ -43,12 +43,14 @@ count_either (suc n) p q h = by (p n) (q n) refl refl (count_either n p q (λ i 
     by false true e g more = omega (arith, more)
     by false false e g more = omega (arith, more)
 
+-- where j is at least n, no index below n is j
 count_past : (n j : ℕ) → n ≤ j → count n (λ k. nat_eq k j) ≡ 0
 count_past zero j h = refl
 count_past (suc n) j h =
     ap₂ (λ c d. c + cond d 1 0) (count_past n j (omega (arith, h)))
     (ne_eqb n j (λ e. let z : ⊥ = omega (arith, h, e) in z))
 
+-- where j is below n, exactly one index below n is j
 count_one : (n j : ℕ) → j < n → count n (λ k. nat_eq k j) ≡ 1
 count_one zero j h = absurd (let z : ⊥ = omega (arith, h) in z)
 count_one (suc n) j h =

@@ -32,12 +32,14 @@ use Rattle.spec_simplex.proofs.Phases.{some_label}
 use Rattle.spec_runs.specs.Steps.{IsChange, IsNext, IsAfter, BeginsPhaseTwo}
 
 -- ---- one tableau, one next
+
+-- two tableaus that are next to one tableau are the same
 next_same : (limit : Option ℕ) (t u v : Tableau) → IsNext limit t u → IsNext limit t v → u ≡ v
 next_same limit t u v x y =
     let same : x.choice ≡ y.choice = ok_same x.choice y.choice (sym x.chosen ∙ y.chosen) in
     ok_same u v (sym x.done ∙ ap (done_run limit t) same ∙ y.done)
 
--- what is left of more steps
+-- where u is i steps after t, and v is i + d steps after t, v is d steps after u
 after_more : (limit : Option ℕ) (i d : ℕ) (t u v : Tableau) → IsAfter limit i t u → IsAfter limit (i + d) t v →
     IsAfter limit d u v
 after_more limit zero d t u v x y =
@@ -57,6 +59,7 @@ record Path (m n : ℕ) (b : Bounds) (t u : Tableau) (count : ℕ) : Type 0 wher
   ends : tables count ≡ table_of u
   steps : (i : ℕ) → i < count → IsStep m (n + m + m) b (labels i) (tables i) (tables (suc i))
 
+-- from a tableau to itself there is a path of no steps
 no_step : (m n : ℕ) (b : Bounds) (t : Tableau) → Path m n b t t 0
 no_step m n b t =
     record {
@@ -67,6 +70,7 @@ no_step m n b t =
       steps = λ i h. absurd (let z : ⊥ = omega (arith, h) in z);
     }
 
+-- a step to the tableau where a path begins makes a path of one step more
 step_before : (m n : ℕ) (b : Bounds) (t s u : Tableau) (count : ℕ) (l : Label) →
     IsStep m (n + m + m) b l (table_of t) (table_of s) → Path m n b s u count → Path m n b t u (suc count)
 unfolding before

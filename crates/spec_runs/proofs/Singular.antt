@@ -32,6 +32,8 @@ use Rattle.spec_runs.proofs.Eliminated.{Solving, eliminated_below}
 use Rattle.spec_exact.proofs.Results.{ok_not_err, err_same}
 
 -- ---- no position is open
+
+-- where the search finds no open position among the first n, none of them is open
 none_open : (e : Elimination) (j n : ℕ) → open_below e j n ≡ None → (i : ℕ) → i < n → is_open e j i ≡ false
 none_open e j zero h i l = absurd (let z : ⊥ = omega (arith, l) in z)
 none_open e j (suc n) h i l = by (open_below e j n) (is_open e j n) refl h (none_open e j n)
@@ -169,11 +171,13 @@ never_singular {A} (Err p) h =
     let z : ◌≡◌ {A = Result A (StartStop ℚ)} (Err (stop.Past p)) (Err stop.Singular) = h in
     let y : stop.Past p ≡ stop.Singular = cc in cc
 
+-- where solving for a column ends as singular, no position was open for the column
 no_place : (limit : Option ℕ) (f : Form) (e : Elimination) (j : ℕ) (o : Option ℕ) →
     solved_by limit f e j o ≡ Err stop.Singular → o ≡ None
 no_place limit f e j None h = refl
 no_place limit f e j (Some p) h = absurd (never_singular (solved_at limit f e j p) h)
 
+-- where elimination ends as singular, some basic column depends on the basic ones before it
 eliminate_singular : (limit : Option ℕ) (f : Form) (basis : List Status) →
     eliminate_run limit f basis ≡ Err stop.Singular → (j : ℕ) × (x : ℕ → ℚ) × IsDependent f basis j x
 unfolding eliminate_run
@@ -193,6 +197,7 @@ eliminate_singular limit f basis h =
     )
     by j l e s false c h = ok_not_err {E = StartStop ℚ} e stop.Singular h
 
+-- where the start from a basis is singular, some basic column depends on the basic ones before it
 pub start_singular : (limit : Option ℕ) (f : Form) (basis : List Status) →
     start_from limit f basis ≡ Err stop.Singular → (j : ℕ) × (x : ℕ → ℚ) × IsDependent f basis j x
 unfolding start_from

@@ -53,11 +53,13 @@ use Rattle.spec_runs.proofs.Fits.{FitIs, fit_is}
 use Rattle.spec_runs.proofs.FlippedStatuses.{flips_ready}
 use Rattle.spec_runs.proofs.BasisTableau.{start_begins_from}
 
+-- what holds of the primal fit, the dual fit and of no fit holds of each fit
 by_fit : (P : Fit → Type 0) → P fit.Primal → P fit.Dual → P fit.Unfit → (kind : Fit) → P kind
 by_fit P a c d fit.Primal = a
 by_fit P a c d fit.Dual = c
 by_fit P a c d fit.Unfit = d
 
+-- a result that a run gives when its stops are told as another kind is its own result
 stopped_ok : {A D E : Type 0} (kind : D → E) (o : Result A D) (a : A) → stopped_as kind o ≡ Ok a → o ≡ Ok a
 stopped_ok kind (Ok b) a h = cc
 stopped_ok kind (Err e) a h = cc
