@@ -32,13 +32,15 @@ pub record SameBounds (n : ℕ) (b c : Bounds) : Type 0 where
   pub lower : (k : ℕ) → k < n → b.lower k ≡ c.lower k
   pub upper : (k : ℕ) → k < n → b.upper k ≡ c.upper k
 
+-- where b has the same bounds as c, c has the same bounds as b
 pub swapped : (n : ℕ) (b c : Bounds) → SameBounds n b c → SameBounds n c b
 swapped n b c s = record { lower = λ k h. sym (s.lower k h); upper = λ k h. sym (s.upper k h) }
 
+-- a column that is fixed by bounds is fixed by the same bounds of another model
 same_fixed : (n : ℕ) (b c : Bounds) → SameBounds n b c → (k : ℕ) → k < n → IsFixed b k → IsFixed c k
 same_fixed n b c s k h f = (f.0, sym (s.lower k h) ∙ f.1, sym (s.upper k h) ∙ f.2)
 
--- a tableau of the same costs and bounds in other words
+-- a tableau of some costs and bounds is one of equal costs and of the same bounds
 renamed : (m n : ℕ) (f : Matrix) (c d : ℕ → ℚ) (b e : Bounds) (t : Table) → IsTableau m n f c b t →
     ((k : ℕ) → c k ≡ d k) → SameBounds n b e → IsTableau m n f d e t
 renamed m n f c d b e t g same bounds =
@@ -59,6 +61,7 @@ renamed m n f c d b e t g same bounds =
       solves = g.solves;
     }
 
+-- a table with the statuses, values and reduced costs of a good one is good for the same bounds
 good_same : (n : ℕ) (b c : Bounds) (t u : Table) → SameBounds n b c → SameStatuses n t u →
     ((k : ℕ) → k < n → t.value k ≡ u.value k) → ((k : ℕ) → t.reduced k ≡ u.reduced k) → IsGood n b t → IsGood n c u
 good_same n b c t u bounds status value reduced g = record {

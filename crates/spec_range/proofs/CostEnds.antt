@@ -31,14 +31,17 @@ use Rattle.spec_range.proofs.SignsAlong.{ends_ok}
 use Rattle.spec_range.proofs.Checked.{IsGood}
 
 -- ---- signs of the sense
+
+-- a number that is not 0 is not 0 with the sign of the sense
 sense_not_zero : (s : Sense) (a : ℚ) → a ≢ 0ℚ → least_cost s a ≢ 0ℚ
 sense_not_zero Min a n = n
 sense_not_zero Max a n = λ e. n (sym (neg-neg a) ∙ ap neg_ℚ e ∙ neg-zero)
 
+-- the number -1 is not 0
 one_not_zero : neg_ℚ 1ℚ ≢ 0ℚ
 one_not_zero e = <ℚ_irrefl 0ℚ (subst (λ a. 0ℚ <ℚ a) (sym (neg-neg 1ℚ) ∙ ap neg_ℚ e ∙ neg-zero) zero-lt-one)
 
--- the reduced cost d of a column with the entry a in the row of the moving column, whose cost goes from c to v
+-- as a basic column's cost goes from c to v, a reduced cost is its entry times its end less v, signed
 moved_is : (s : Sense) (d a c v : ℚ) → a ≢ 0ℚ →
     d +ℚ (least_cost s v -ℚ least_cost s c) *ℚ (0ℚ -ℚ a)
     ≡ least_cost s a *ℚ ((c +ℚ least_cost s d *ℚ inverse a) -ℚ v)
@@ -62,7 +65,7 @@ moved_is s d a c v n = by s (inverse a) (*ℚ_inverse a n)
         one d ((neg_ℚ v -ℚ neg_ℚ c) *ℚ (0ℚ -ℚ a))
         ∙ ap (λ x. x *ℚ d +ℚ (neg_ℚ v -ℚ neg_ℚ c) *ℚ (0ℚ -ℚ a)) (sym e) ∙ sym (greatest d a c v i)
 
--- and that of the moving column itself
+-- as a nonbasic column's cost goes from c to v, its own reduced cost is v less its end, signed
 own_is : (s : Sense) (d c v : ℚ) →
     d +ℚ (least_cost s v -ℚ least_cost s c) *ℚ (1ℚ -ℚ 0ℚ) ≡ least_cost s (neg_ℚ 1ℚ) *ℚ ((c -ℚ least_cost s d) -ℚ v)
 own_is Min d c v = least d c v
@@ -74,6 +77,7 @@ own_is Max d c v = greatest d c v
     greatest : (d c v : ℚ) → d +ℚ (neg_ℚ v -ℚ neg_ℚ c) *ℚ (1ℚ -ℚ 0ℚ) ≡ neg_ℚ (neg_ℚ 1ℚ) *ℚ ((c -ℚ neg_ℚ d) -ℚ v)
     greatest d c v = simp ring
 
+-- a reduced cost that moves by a multiple of 0 stays
 still_is : (d x : ℚ) → d ≡ d +ℚ x *ℚ (0ℚ -ℚ 0ℚ)
 still_is d x = simp ring
 

@@ -32,6 +32,7 @@ use Rattle.spec_runs.proofs.LimitSteps.{from_agrees}
 abbrev pub skeleton : Form → Form
 skeleton f = record { rows = f.rows; cols = f.cols; entries = f.entries; lower = []; upper = []; cost = [] }
 
+-- steps that do the same at each index and state end in the same way
 steps_same : {A E : Type 0} (n : ℕ) (f g : ℕ → A → Result A E) (a : A) → ((i : ℕ) (x : A) → f i x ≡ g i x) →
     steps n f a ≡ steps n g a
 steps_same zero f g a h = refl
@@ -42,17 +43,20 @@ steps_same {A} {E} (suc n) f g a h =
     by (Ok x) = h n x
     by (Err e) = refl
 
+-- solving for a column at a position is the same for a form and for its skeleton
 solved_same : (limit : Option ℕ) (f : Form) (e : Elimination) (j : ℕ) (p : Option ℕ) →
     solved_by limit f e j p ≡ solved_by limit (skeleton f) e j p
 solved_same limit f e j None = refl
 solved_same limit f e j (Some p) = refl
 
+-- a step of elimination is the same for a form and for its skeleton
 step_same : (limit : Option ℕ) (f : Form) (e : Elimination) (j : ℕ) (c : Bool) →
     ◌≡◌ {A = Result Elimination (StartStop ℚ)} (cond c (solved_run limit f e j) (Ok e))
     (cond c (solved_run limit (skeleton f) e j) (Ok e))
 step_same limit f e j true = solved_same limit f e j (open_below e j f.rows)
 step_same limit f e j false = refl
 
+-- elimination is the same for a form and for its skeleton
 eliminate_is : (limit : Option ℕ) (f : Form) (basis : List Status) →
     eliminate_run limit f basis ≡ eliminate_run limit (skeleton f) basis
 unfolding eliminate_run
@@ -62,6 +66,7 @@ eliminate_is limit f basis =
     (λ j e. cond (is_basic (basis_at basis j)) (solved_run limit (skeleton f) e j) (Ok e)) (unsolved f)
     (λ j e. step_same limit f e j (is_basic (basis_at basis j)))
 
+-- elimination is the same for two forms with one skeleton
 eliminate_same : (limit : Option ℕ) (f g : Form) (basis : List Status) → skeleton f ≡ skeleton g →
     eliminate_run limit f basis ≡ eliminate_run limit g basis
 eliminate_same limit f g basis e =

@@ -34,6 +34,7 @@ pub record IsOf (f : Form) (basis : List Status) (t : Tableau) : Type 0 where
   pub lower : t.lower ≡ basis_lower f
   pub upper : t.upper ≡ basis_upper f
 
+-- a tableau that the start from a basis gives has the form's shape and bounds and the basis's statuses
 start_is_of : (limit : Option ℕ) (f : Form) (basis : List Status) (t : Tableau) → start_from limit f basis ≡ Ok t →
     IsOf f basis t
 unfolding start_from
@@ -53,6 +54,7 @@ bounds_in lower upper n =
 abbrev pub form_bounds : Form → Bounds
 form_bounds f = bounds_in (basis_lower f) (basis_upper f) (f.cols + f.rows)
 
+-- where a tableau is of a form and a basis, its bounds are those of the form
 bounds_are : (f : Form) (basis : List Status) (t : Tableau) → IsOf f basis t → bounds_of t ≡ form_bounds f
 bounds_are f basis t s =
     ap₂ (λ l u. bounds_in l u (t.cols + t.rows)) s.lower s.upper

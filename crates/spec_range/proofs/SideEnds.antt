@@ -34,18 +34,21 @@ Highest b v bound high = (x : ℚ) → IfSome high (λ k. x ≤ℚ k) ↔ IfSome
 abbrev Lowest : ℚ → ℚ → Option ℚ → Option ℚ → Type 0
 Lowest b v bound low = (x : ℚ) → IfSome low (λ k. k ≤ℚ x) ↔ IfSome (shifted (x -ℚ b) bound) (λ u. v ≤ℚ u)
 
+-- x is at most b plus v less l exactly where l plus x less b is at most v
 high_is : (b v l x : ℚ) → x ≤ℚ (b +ℚ (v -ℚ l)) ↔ (l +ℚ (x -ℚ b)) ≤ℚ v
 high_is b v l x = (
   λ h. subst₂ ◌≤ℚ◌ (simp ring) (simp ring) (+ℚ_mono x (b +ℚ (v -ℚ l)) (l -ℚ b) h),
   λ h. subst₂ ◌≤ℚ◌ (simp ring) (simp ring) (+ℚ_mono (l +ℚ (x -ℚ b)) v (b -ℚ l) h),
 )
 
+-- x is at least b plus v less u exactly where u plus x less b is at least v
 low_is : (b v u x : ℚ) → (b +ℚ (v -ℚ u)) ≤ℚ x ↔ v ≤ℚ (u +ℚ (x -ℚ b))
 low_is b v u x = (
   λ h. subst₂ ◌≤ℚ◌ (simp ring) (simp ring) (+ℚ_mono (b +ℚ (v -ℚ u)) x (u -ℚ b) h),
   λ h. subst₂ ◌≤ℚ◌ (simp ring) (simp ring) (+ℚ_mono v (u +ℚ (x -ℚ b)) (b -ℚ u) h),
 )
 
+-- where the end for a bound l is not refused, it is b plus v less l
 shift_is : (limit : Option ℕ) (b v l : ℚ) (o : Option ℚ) → shifted_run limit b v (Some l) ≡ Ok o → Some (b +ℚ (v -ℚ l)) ≡ o
 shift_is limit b v l o h =
     let u = then_ok (difference_run limit v l) _ o h in
@@ -53,16 +56,19 @@ shift_is limit b v l o h =
     let z : Some y.0 ≡ o = cc in
     ap Some (sym (sum_ok limit b u.0 y.0 y.1 ∙ ap (λ g. b +ℚ g) (difference_ok limit v l u.0 u.1))) ∙ z
 
+-- the end found for a lower bound that moves along is the highest right side with v at or above the bound
 high_ok : (limit : Option ℕ) (b v : ℚ) (bound high : Option ℚ) → shifted_run limit b v bound ≡ Ok high →
     Highest b v bound high
 high_ok limit b v None high h = given (Highest b v None) None high h (λ x. (λ i. i, λ i. i))
 high_ok limit b v (Some l) high h = subst (Highest b v (Some l)) (shift_is limit b v l high h) (high_is b v l)
 
+-- the end found for an upper bound that moves along is the lowest right side with v at or below the bound
 low_ok : (limit : Option ℕ) (b v : ℚ) (bound low : Option ℚ) → shifted_run limit b v bound ≡ Ok low →
     Lowest b v bound low
 low_ok limit b v None low h = given (Lowest b v None) None low h (λ x. (λ i. i, λ i. i))
 low_ok limit b v (Some u) low h = subst (Lowest b v (Some u)) (shift_is limit b v u low h) (low_is b v u)
 
+-- the ends found for bounds that move along hold exactly the right sides with v within the moved bounds
 pub still_ok : (limit : Option ℕ) (b v : ℚ) (lower upper : Option ℚ) (e : Ends ℚ) →
     still_ends limit b v lower upper ≡ Ok e → (x : ℚ) →
     IsIn e x ↔ IsInside (shifted (x -ℚ b) lower) (shifted (x -ℚ b) upper) v
@@ -86,6 +92,7 @@ still_ok limit b v lower upper e h x =
 abbrev carried_value : ℚ → ℚ → ℚ → ℚ → ℚ
 carried_value b v a x = v +ℚ (x -ℚ b) *ℚ neg_ℚ a
 
+-- the entry a times the end for a bound less x is the value carried to x less the bound
 carried_is : (b v a bound x : ℚ) → a ≢ 0ℚ →
     a *ℚ ((b +ℚ (v -ℚ bound) *ℚ inverse a) -ℚ x) ≡ carried_value b v a x -ℚ bound
 carried_is b v a bound x n = by (inverse a) (*ℚ_inverse a n)
@@ -99,7 +106,7 @@ carried_is b v a bound x n = by (inverse a) (*ℚ_inverse a n)
     by : (i : ℚ) → a *ℚ i ≡ 1ℚ → a *ℚ ((b +ℚ (v -ℚ bound) *ℚ i) -ℚ x) ≡ carried_value b v a x -ℚ bound
     by i e = out b v a bound x i ∙ ap (λ z. z *ℚ (v -ℚ bound) +ℚ (a *ℚ b -ℚ a *ℚ x)) e ∙ in_ b v a bound x
 
--- the number that a bound gives
+-- the ends are cut at b plus what the value is above the bound divided by the entry
 number_is : (limit : Option ℕ) (b v a bound : ℚ) (upper : Bool) (e y : Ends ℚ) →
     bound_ends limit b v a (Some bound) upper e ≡ Ok y →
     at_side limit upper (b +ℚ (v -ℚ bound) *ℚ inverse a) e ≡ Ok y
@@ -111,6 +118,7 @@ number_is limit b v a bound upper e y h =
     (sym (sum_ok limit b p.0 q.0 q.1 ∙ ap (λ z. b +ℚ z) (quotient_ok limit o.0 a p.0 p.1
     ∙ ap (λ z. z *ℚ inverse a) (difference_ok limit v bound o.0 o.1)))) ∙ q.2
 
+-- the ends are cut to the right sides at which the carried value is at or above its lower bound
 lower_ok : (limit : Option ℕ) (b v a : ℚ) (bound : Option ℚ) (e y : Ends ℚ) → a ≢ 0ℚ →
     bound_ends limit b v a bound (lt_ℚ 0ℚ a) e ≡ Ok y →
     Cuts e (λ x. IfSome bound (λ l. l ≤ℚ carried_value b v a x)) y
@@ -122,6 +130,7 @@ lower_ok limit b v a (Some l) e y n h =
     (let o = up_from (carried_value b v a x) l in (o.1, o.0))))
     (at_side_ok limit (lt_ℚ 0ℚ a) (b +ℚ (v -ℚ l) *ℚ inverse a) e y (number_is limit b v a l (lt_ℚ 0ℚ a) e y h))
 
+-- the ends are cut to the right sides at which the carried value is at or below its upper bound
 upper_ok : (limit : Option ℕ) (b v a : ℚ) (bound : Option ℚ) (e y : Ends ℚ) → a ≢ 0ℚ →
     bound_ends limit b v a bound (not (lt_ℚ 0ℚ a)) e ≡ Ok y →
     Cuts e (λ x. IfSome bound (λ u. carried_value b v a x ≤ℚ u)) y
@@ -134,6 +143,7 @@ upper_ok limit b v a (Some u) e y n h =
     (at_side_ok limit (not (lt_ℚ 0ℚ a)) (b +ℚ (v -ℚ u) *ℚ inverse a) e y
     (number_is limit b v a u (not (lt_ℚ 0ℚ a)) e y h))
 
+-- the ends are cut to the right sides at which the carried value is within its bounds
 carried_ok : (limit : Option ℕ) (b v a : ℚ) (lower upper : Option ℚ) (e y : Ends ℚ) → a ≢ 0ℚ →
     carried_ends limit b v a lower upper e ≡ Ok y →
     Cuts e (λ x. IsInside lower upper (v +ℚ (x -ℚ b) *ℚ neg_ℚ a)) y

@@ -55,6 +55,8 @@ use Rattle.spec_range.proofs.Sides.{shifted, g, bounds_with, low_there, high_the
 use Rattle.spec_range.proofs.Sides.{still_moved, carried_moved, fixed_still}
 
 -- ---- the sense of a sum
+
+-- a sum of signed costs times values is the signed sum of the costs times the values
 sense_sum : (s : Sense) (n : ℕ) (c z : ℕ → ℚ) →
     sum_below n (λ k. least_cost s (c k) *ℚ z k) ≡ least_cost s (sum_below n (λ k. c k *ℚ z k))
 sense_sum Min n c z = refl
@@ -63,15 +65,17 @@ sense_sum Max n c z = sum_below_same n _ _ (λ k _. turn (c k) (z k)) ∙ sym (n
     turn : (a x : ℚ) → neg_ℚ a *ℚ x ≡ neg_ℚ (a *ℚ x)
     turn a x = simp ring
 
+-- a number signed twice by the sense is the number
 sense_twice : (s : Sense) (a : ℚ) → least_cost s (least_cost s a) ≡ a
 sense_twice Min a = refl
 sense_twice Max a = neg-neg a
 
+-- 0 with the sign of the sense is 0
 sense_zero : (s : Sense) → least_cost s 0ℚ ≡ 0ℚ
 sense_zero Min = refl
 sense_zero Max = neg-zero
 
--- neither bound is there
+-- where neither bound tests as given, both are absent
 two_none : (l u : Option ℚ) → is_there l || is_there u ≡ false → (l ≡ None) × (u ≡ None)
 two_none None None e = (refl, refl)
 two_none None (Some u) e = let z : true ≡ false = e in cc
@@ -86,7 +90,7 @@ goes_along AtUpper l u v d free e s = ap (shifted d) s
 goes_along AtZero l u v d free e s =
     let z : false ≡ true = ap₂ (λ l u. is_there l || is_there u) (sym s.0) (sym s.1) ∙ e in cc
 
--- and without a bound it stays at 0
+-- a column that is not basic and has no bound stands at 0 and stays there as bounds move
 stays : (s : Status) (l u : Option ℚ) (v d : ℚ) → ¬ (s ≡ Basic) → l ≡ None → u ≡ None → Stands s l u v →
     (s ≡ AtZero) × Stands s (shifted d l) (shifted d u) (v +ℚ 0ℚ)
 stays Basic l u v d free p q s = absurd (free refl)
@@ -380,6 +384,7 @@ module _ (m : Model) (ls : List (Option ℚ × Option ℚ)) (h : Limited m ls) (
           given (λ e. IsRange (with_rhs m i) basis (row m i).rhs v (record { ends = e; slope = slope })) no_ends e h
           (alone (λ z. (let y : false ≡ true = sym a ∙ basic_test (status_at t s) z in cc)) d)
 
+-- where a basis keeps an optimal model, the range found for row i's right side is its range
 pub side_range_is : (limit : Option ℕ) (m : Model) (f : Form) (basis : List Status) (i : ℕ) (r : Range ℚ) (v : ℚ) →
     form_of limit m ≡ Ok f → i < height m → Keeps m basis → IsOptimal m v → side_range limit m f basis i ≡ Ok r →
     IsRange (with_rhs m i) basis (row m i).rhs v r

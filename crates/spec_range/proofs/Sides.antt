@@ -39,15 +39,19 @@ record IsShifted (v : ℚ) (l k : Limits) : Type 0 where
   lower : k.lower ≡ shifted v l.lower
   upper : k.upper ≡ shifted v l.upper
 
+-- x is b plus what x is more than b
 along : (b x : ℚ) → x ≡ b +ℚ (x -ℚ b)
 along b x = simp ring
 
+-- x less r is b less r, plus what x is more than b
 along_less : (b x r : ℚ) → x -ℚ r ≡ (b -ℚ r) +ℚ (x -ℚ b)
 along_less b x r = simp ring
 
+-- x plus r is b plus r, plus what x is more than b
 along_more : (b x r : ℚ) → x +ℚ r ≡ (b +ℚ r) +ℚ (x -ℚ b)
 along_more b x r = simp ring
 
+-- as a row's right side goes from b to x, its limits move by what x is more than b
 limits_along : (k : Kind) (range : Option ℚ) (b x : ℚ) → IsShifted (x -ℚ b) (limits_by k b range) (limits_by k x range)
 limits_along L None b x = record { lower = refl; upper = ap Some (along b x) }
 limits_along L (Some r) b x = record { lower = ap Some (along_less b x (abs_ℚ r)); upper = ap Some (along b x) }

@@ -81,10 +81,13 @@ module _ (a : ℚ) (below : a <ℚ 0ℚ) where
         (subst₂ ◌≤ℚ◌ (simp ring) (sym (turn (v -ℚ t))) (neg_mono (a *ℚ (v -ℚ t)) 0ℚ h)),
   )
 
--- a number that is not 0 is above 0 or below
+-- ---- a number that is not 0 is above 0 or below
+
+-- where the test for above 0 holds, a number is above 0
 above_if : (a : ℚ) → lt_ℚ 0ℚ a ≡ true → 0ℚ <ℚ a
 above_if a e = lt_if 0ℚ a e
 
+-- where the test for above 0 fails, a number that is not 0 is below 0
 below_if : (a : ℚ) → ¬ (a ≡ 0ℚ) → lt_ℚ 0ℚ a ≡ false → a <ℚ 0ℚ
 below_if a n e = by_le 0ℚ a (λ h. absurd (n (≤ℚ_antisym a 0ℚ (le_if_not 0ℚ a e) h))) (λ h. h)
 
@@ -103,13 +106,14 @@ meets_below a v n t = go (lt_ℚ 0ℚ a) refl
     go true e = falls_below a (above_if a e) v t
     go false e = rises_below a (below_if a n e) v t
 
--- both signs are those of 0
+-- a number is at most 0 and at least 0 exactly where it is 0
 both_zero : (w : ℚ) → ((w ≤ℚ 0ℚ) × (0ℚ ≤ℚ w)) ↔ (w ≡ 0ℚ)
 both_zero w = (
   λ h. ≤ℚ_antisym w 0ℚ h.0 h.1,
   λ e. (subst (λ z. z ≤ℚ 0ℚ) (sym e) (≤ℚ_refl 0ℚ), subst (λ z. 0ℚ ≤ℚ z) (sym e) (≤ℚ_refl 0ℚ)),
 )
 
+-- for a that is not 0, t is at least v and at most v exactly where a times v less t is 0
 meets_zero : (a v : ℚ) → ¬ (a ≡ 0ℚ) → (t : ℚ) → ((v ≤ℚ t) × (t ≤ℚ v)) ↔ (a *ℚ (v -ℚ t) ≡ 0ℚ)
 meets_zero a v n t = go (lt_ℚ 0ℚ a) refl
   where

@@ -22,6 +22,7 @@ record IsGreater (new : ℚ) (kept : Option ℚ) (x : ℚ) : Type 0 where
   other : IfSome kept (λ k. k ≤ℚ x)
   least : (t : ℚ) → new ≤ℚ t → IfSome kept (λ k. k ≤ℚ t) → x ≤ℚ t
 
+-- where the greater of a new end and the kept one is not refused, it is the greater of the two
 greater_ok : (limit : Option ℕ) (new : ℚ) (kept : Option ℚ) (x : ℚ) → greater_run limit new kept ≡ Ok x →
     IsGreater new kept x
 greater_ok limit new None x h =
@@ -40,6 +41,7 @@ record IsLesser (new : ℚ) (kept : Option ℚ) (x : ℚ) : Type 0 where
   other : IfSome kept (λ k. x ≤ℚ k)
   most : (t : ℚ) → t ≤ℚ new → IfSome kept (λ k. t ≤ℚ k) → t ≤ℚ x
 
+-- where the lesser of a new end and the kept one is not refused, it is the lesser of the two
 lesser_ok : (limit : Option ℕ) (new : ℚ) (kept : Option ℚ) (x : ℚ) → lesser_run limit new kept ≡ Ok x →
     IsLesser new kept x
 lesser_ok limit new None x h =
@@ -53,10 +55,12 @@ lesser_ok limit new (Some k) x h =
     (λ p e. given (IsLesser new (Some k)) k x e
     (record { own = <ℚ-le k new p; other = ≤ℚ_refl k; most = λ t a b. b }))
 
+-- where a kept end is at most x, and x at most t, the kept end is at most t
 from_below : (kept : Option ℚ) (x t : ℚ) → IfSome kept (λ k. k ≤ℚ x) → x ≤ℚ t → IfSome kept (λ k. k ≤ℚ t)
 from_below None x t h p = tt
 from_below (Some k) x t h p = ≤ℚ_trans k x t h p
 
+-- where a kept end is at least x, and x at least t, the kept end is at least t
 from_above : (kept : Option ℚ) (x t : ℚ) → IfSome kept (λ k. x ≤ℚ k) → t ≤ℚ x → IfSome kept (λ k. t ≤ℚ k)
 from_above None x t h p = tt
 from_above (Some k) x t h p = ≤ℚ_trans t x k p h
