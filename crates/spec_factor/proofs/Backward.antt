@@ -32,6 +32,7 @@ unfoldable pub backward : ℕ → List Pair → (ℕ → ℚ) → ℕ → ℚ
 backward m [] c = c
 backward m (e ∷ es) c = backward_one m e (backward m es c)
 
+-- what the other places take off the pair's own item depends on the items below m alone
 taken_same : (m : ℕ) (e : Pair) (c d : ℕ → ℚ) → ((i : ℕ) → i < m → c i ≡ d i) → taken m e c ≡ taken m e d
 unfolding taken
 taken_same m e c d h = sum_below_same m _ _ (λ i l. ap (λ a. off e.place i (a *ℚ pair_at e i)) (h i l))
@@ -44,6 +45,8 @@ backward_one_same m e c d p h i l =
     ∙ ap (λ t. cond (nat_eq i e.place) ((d e.place -ℚ t) *ℚ inverse (pair_at e e.place)) (d i)) (taken_same m e c d h)
 
 -- ---- the terms of both sums, in parts
+
+-- an item of c times that of v after one pair of ftran is a part off the pair's place and a part at it
 forward_term : (e : Pair) (c v : ℕ → ℚ) (i : ℕ) → c i *ℚ forward_one e v i ≡
     (off e.place i (c i *ℚ v i) -ℚ off e.place i (c i *ℚ pair_at e i) *ℚ (v e.place *ℚ inverse (pair_at e e.place)))
     +ℚ delta e.place i *ℚ (c e.place *ℚ (v e.place *ℚ inverse (pair_at e e.place)))
@@ -78,6 +81,7 @@ forward_term e c v i =
     there : (c v z x b : ℚ) → (c *ℚ v -ℚ c *ℚ z *ℚ x) +ℚ 0ℚ *ℚ (b *ℚ x) ≡ c *ℚ (v -ℚ z *ℚ x)
     there c v z x b = simp ring
 
+-- an item of c after one pair of btran times that of v is a part off the pair's place and a part at it
 backward_term : (m : ℕ) (e : Pair) (c v : ℕ → ℚ) (i : ℕ) →
     backward_one m e c i *ℚ v i ≡ off e.place i
     (c i *ℚ v i) +ℚ delta e.place i *ℚ ((c e.place -ℚ taken m e c) *ℚ inverse (pair_at e e.place) *ℚ v e.place)
@@ -98,6 +102,7 @@ backward_term m e c v i =
     there : (a b : ℚ) → a ≡ a +ℚ 0ℚ *ℚ b
     there a b = simp ring
 
+-- over one pair, btran of c times v has the same sum as c times ftran of v
 adjoint_one : (m : ℕ) (e : Pair) (c v : ℕ → ℚ) → e.place < m →
     sum_below m (λ i. backward_one m e c i *ℚ v i) ≡ sum_below m (λ i. c i *ℚ forward_one e v i)
 unfolding taken

@@ -92,6 +92,7 @@ pub filled : List (Option ℕ) → ℕ → ℕ
 filled columns zero = 0
 filled columns (suc n) = cond (is_some (chosen_column columns n)) (suc (filled columns n)) (filled columns n)
 
+-- of the first n places at most n have a column
 filled_least : (columns : List (Option ℕ)) (n : ℕ) → filled columns n ≤ n
 unfolding filled
 filled_least columns zero = omega arith
@@ -101,6 +102,7 @@ filled_least columns (suc n) = by (is_some (chosen_column columns n)) (filled_le
     by true h = omega (arith, h)
     by false h = omega (arith, h)
 
+-- where no place has a column, none of the first n places has one
 filled_none : (m n : ℕ) → n ≤ m → filled (replicate m None) n ≡ 0
 unfolding filled
 filled_none m zero h = refl
@@ -109,6 +111,7 @@ filled_none m (suc n) h =
     (get_or-replicate m n None None (omega (arith, h)))
     ∙ filled_none m n (omega (arith, h))
 
+-- giving place p a column does not change how many places before it have one
 filled_before : (columns : List (Option ℕ)) (p k n : ℕ) → n ≤ p → filled (set columns p (Some k)) n ≡ filled columns n
 unfolding filled
 filled_before columns p k zero h = refl
@@ -117,6 +120,7 @@ filled_before columns p k (suc n) h =
     (get_or-set_other columns p n (Some k) None (λ d. let z : ⊥ = omega (arith, h, d) in z))
     (filled_before columns p k n (omega (arith, h)))
 
+-- giving a column to a place without one makes one place more that has a column
 filled_more : (columns : List (Option ℕ)) (p k n : ℕ) → chosen_column columns p ≡ None → p < length columns → p < n →
     filled (set columns p (Some k)) n ≡ suc (filled columns n)
 unfolding filled

@@ -29,6 +29,7 @@ pub one_off_place : (e : Pair) (v : ℕ → ℚ) (i : ℕ) → i ≢ e.place →
     forward_one e v i ≡ v i -ℚ pair_at e i *ℚ (v e.place *ℚ inverse (pair_at e e.place))
 one_off_place e v i n = rw (ne_eqb i e.place n) refl
 
+-- what one elementary matrix gives depends on the items below m alone
 one_same : (m : ℕ) (e : Pair) (v w : ℕ → ℚ) → e.place < m → ((i : ℕ) → i < m → v i ≡ w i) → (i : ℕ) → i < m →
     forward_one e v i ≡ forward_one e w i
 one_same m e v w p h i l =
@@ -52,6 +53,7 @@ forward-append (e ∷ es) fs v = forward-append es fs (forward_one e v)
 abbrev pub Combines : ℕ → ℕ → Matrix → (ℕ → ℚ) → (ℕ → ℚ) → Type 0
 Combines m n t c v = (r : ℕ) → r < m → v r ≡ sum_below n (λ s. t r s *ℚ c s)
 
+-- one elementary matrix keeps a combination of columns, with the same weights
 one_combines : (m n : ℕ) (e : Pair) (t : Matrix) (c v : ℕ → ℚ) → e.place < m → Combines m n t c v →
     Combines m n (λ r s. forward_one e (λ r. t r s) r) c (forward_one e v)
 one_combines m n e t c v p h i l =
@@ -94,20 +96,24 @@ unfoldable pub undone : List Pair → (ℕ → ℚ) → ℕ → ℚ
 undone [] u = u
 undone (e ∷ es) u = undone_one e (undone es u)
 
+-- undoing an elementary matrix multiplies the item at its place by the pair's own item
 undone_at : (e : Pair) (u : ℕ → ℚ) → undone_one e u e.place ≡ pair_at e e.place *ℚ u e.place
 unfolding undone_one
 undone_at e u = rw (eq-eqb e.place e.place refl) refl
 
+-- undoing an elementary matrix adds, off its place, the pair's item times the item at the place
 undone_off : (e : Pair) (u : ℕ → ℚ) (i : ℕ) → i ≢ e.place → undone_one e u i ≡ u i +ℚ pair_at e i *ℚ u e.place
 unfolding undone_one
 undone_off e u i n = rw (ne_eqb i e.place n) refl
 
+-- what undoing one elementary matrix gives depends on the items below m alone
 undone_one_same : (m : ℕ) (e : Pair) (v w : ℕ → ℚ) → e.place < m → ((i : ℕ) → i < m → v i ≡ w i) → (i : ℕ) → i < m →
     undone_one e v i ≡ undone_one e w i
 unfolding undone_one
 undone_one_same m e v w p h i l =
     ap₂ (λ a c. cond (nat_eq i e.place) (pair_at e e.place *ℚ a) (c +ℚ pair_at e i *ℚ a)) (h e.place p) (h i l)
 
+-- what undoing all pairs gives depends on the items below m alone
 undone_same : (m : ℕ) (pairs : List Pair) (v w : ℕ → ℚ) → All (IsPair m) pairs → ((i : ℕ) → i < m → v i ≡ w i) →
     (i : ℕ) → i < m → undone pairs v i ≡ undone pairs w i
 unfolding undone
@@ -116,14 +122,17 @@ undone_same m (e ∷ es) v w s h =
     undone_one_same m e (undone es v) (undone es w) ((All-head (IsPair m) e es s).place)
     (undone_same m es v w (All-tail (IsPair m) e es s) h)
 
+-- where b is not 0, b times the quotient of a by b is a
 divided : (a b : ℚ) → b ≢ 0ℚ → b *ℚ (a *ℚ inverse b) ≡ a
 divided a b n =
     ap (λ x. b *ℚ x) (*ℚ_comm a (inverse b)) ∙ sym (*ℚ_assoc b (inverse b) a) ∙ ap (λ x. x *ℚ a) (*ℚ_inverse b n)
     ∙ one-*ℚ a
 
+-- where b is not 0, b times a divided by b is a
 times : (a b : ℚ) → b ≢ 0ℚ → b *ℚ a *ℚ inverse b ≡ a
 times a b n = *ℚ_assoc b a (inverse b) ∙ divided a b n
 
+-- undoing an elementary matrix after using it gives what was there
 one_back : (m : ℕ) (e : Pair) (v : ℕ → ℚ) → IsPair m e → (i : ℕ) → undone_one e (forward_one e v) i ≡ v i
 one_back m e v g i =
     by_eq i e.place
@@ -137,6 +146,7 @@ one_back m e v g i =
     again : (a b : ℚ) → a -ℚ b +ℚ b ≡ a
     again a b = simp ring
 
+-- using an elementary matrix after undoing it gives what was there
 one_forth : (m : ℕ) (e : Pair) (u : ℕ → ℚ) → IsPair m e → (i : ℕ) → forward_one e (undone_one e u) i ≡ u i
 one_forth m e u g i =
     by_eq i e.place
@@ -151,6 +161,7 @@ one_forth m e u g i =
     again : (a b : ℚ) → a +ℚ b -ℚ b ≡ a
     again a b = simp ring
 
+-- undoing all pairs after ftran over them gives what was there
 undone_forward : (m : ℕ) (pairs : List Pair) (v : ℕ → ℚ) → All (IsPair m) pairs → (i : ℕ) → i < m →
     undone pairs (forward pairs v) i ≡ v i
 unfolding undone

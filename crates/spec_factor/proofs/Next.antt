@@ -60,10 +60,13 @@ pivot_out limit t p j theta to u h =
     record { values = a.0; values_ok = a.1; shifted = s.0; shifted_ok = s.1; rows = d.0; reduced = e.0; is = cc }
 
 -- ---- the statuses after a step
+
+-- after a flip the column stands at its other bound, and all other statuses are as before
 flip_status : (limit : Option ℕ) (t : Tableau) (j : ℕ) (u : Tableau) → flip_run limit t j ≡ Ok u →
     u.status ≡ set t.status j (other_bound (flip_way (status_at t j)))
 flip_status limit t j u h = sym (ap (λ (u : Tableau). u.status) ((flip_out limit t j u h).is))
 
+-- after a pivot the leaving column stands at its bound, and the entering one is basic
 pivot_status : (limit : Option ℕ) (t : Tableau) (p j : ℕ) (theta : ℚ) (to : Status) (u : Tableau) →
     pivot_run limit t p j theta to ≡ Ok u → u.status ≡ set (set t.status (basic_at t p) to) j Basic
 pivot_status limit t p j theta to u h = sym (ap (λ (u : Tableau). u.status) ((pivot_out limit t p j theta to u h).is))

@@ -47,11 +47,14 @@ use Rattle.spec_factor.proofs.SameEnds.{basis_same}
 use Rattle.spec_factor.proofs.OverRuns.{SameEnd, Both, ended, spent, run_same}
 
 -- ---- tests of the basic columns, in whatever order these come
+
+-- two tests of which each holds where the other does are the same
 true_where : (c d : Bool) → (c ≡ true → d ≡ true) → (d ≡ true → c ≡ true) → c ≡ d
 true_where true d f g = sym (f refl)
 true_where false true f g = g refl
 true_where false false f g = refl
 
+-- where each of xs is one of ys, and some of xs passes a test, some of ys passes it
 any_in : (test : ℕ → Bool) (xs ys : List ℕ) →
     ((i : ℕ) → i < length xs → (j : ℕ) × (j < length ys) × (get_or ys j 0 ≡ get_or xs i 0)) → list_any test xs ≡ true →
     list_any test ys ≡ true

@@ -56,6 +56,7 @@ pub there_is : {A : Type 0} (o : Run A) → Agrees as_it_is o o → (a : A) × (
 there_is (Ok a) h = (a, refl)
 there_is (Err p) h = absurd (h.exact p refl)
 
+-- where two tableaus have the same column j, their values move the same along it
 moved_same : (limit : Option ℕ) (t u : Tableau) (j : ℕ) (theta : ℚ) (but : Option ℕ) → SameColumn t u j →
     moved_run limit t j theta but ≡ moved_run limit u j theta but
 unfolding moved_run
@@ -133,17 +134,19 @@ places_of f F cost b w pairs s stands = record {
   stands = stands;
 }
 
--- they are read from the statuses alone
+-- the places of a tableau are places of the tableau bare of its entries
 to_bare : (f : Form) (t : Tableau) (basic : List ℕ) (pairs : List Pair) → Places f t basic pairs →
     Places f (bare_with t basic) basic pairs
 to_bare f t basic pairs h =
     record { all = h.all; in_range = h.in_range; marked = h.marked; placed = h.placed; stands = h.stands }
 
+-- the places of a tableau bare of its entries are places of the tableau itself
 from_bare : (f : Form) (t : Tableau) (basic : List ℕ) (pairs : List Pair) → Places f (bare_with t basic) basic pairs →
     Places f t basic pairs
 from_bare f t basic pairs h =
     record { all = h.all; in_range = h.in_range; marked = h.marked; placed = h.placed; stands = h.stands }
 
+-- where two tableaus are the same when bare, the places of one are places of the other
 places_as : (f : Form) (t u : Tableau) (basic : List ℕ) (pairs : List Pair) →
     bare_with t basic ≡ bare_with u basic → Places f t basic pairs → Places f u basic pairs
 places_as f t u basic pairs e h =

@@ -7,11 +7,13 @@ use Rattle.spec_pivot.specs.Ratio.{Best, NoWorse, is_better, take_room, scan}
 use Rattle.spec_pivot.proofs.Ratio.{no_more, no_later, none_before, none_first, found, scan_least, better_still}
 
 -- ---- the order of bests
+
+-- a best is no worse than itself
 NoWorse_refl : (x : Best) → NoWorse x x.ratio x.column
 unfolding NoWorse
 NoWorse_refl x = inr (refl, let k : x.column ≤ x.column = omega arith in k)
 
--- the best is no worse than the first
+-- the best that a scan finds is no worse than the one with which the scan begins
 scan_start : (r : ℕ → Option ℚ) (c : ℕ → ℕ) (y : Best) (m : ℕ) (x : Best) → scan m r c (Some y) ≡ Some x →
     NoWorse x y.ratio y.column
 scan_start r c y zero x e = let z : y ≡ x = cc in subst (λ (x : Best). NoWorse x y.ratio y.column) z (NoWorse_refl y)
@@ -32,10 +34,11 @@ scan_start r c y (suc m) x e = go (r m) (scan m r c (Some y)) refl e (λ z k. sc
             (better_still q (c m) (Some m) z y.ratio y.column p (ih z w))
         pick false p h = let same : z ≡ x = cc in subst (λ (x : Best). NoWorse x y.ratio y.column) same (ih z w)
 
--- two bests of which none is worse
+-- two bests of which none is worse than the other have the same ratio
 both_ratio : (x y : Best) → NoWorse x y.ratio y.column → NoWorse y x.ratio x.column → x.ratio ≡ y.ratio
 both_ratio x y h k = ≤ℚ_antisym x.ratio y.ratio (no_more x y.ratio y.column h) (no_more y x.ratio x.column k)
 
+-- two bests of which none is worse than the other have the same column
 both_column : (x y : Best) → NoWorse x y.ratio y.column → NoWorse y x.ratio x.column → x.column ≡ y.column
 both_column x y h k =
     let e : x.ratio ≡ y.ratio = both_ratio x y h k in

@@ -41,7 +41,7 @@ use Rattle.spec_factor.proofs.Choosing.{solved, basic_if}
 use Rattle.spec_factor.specs.Same.{Places, bare_with}
 use Rattle.spec_factor.proofs.FactoredTableau.{plain_is, whole, row, multiplier, price, whole_is, entry_is, price_is}
 
--- steps that are the same one by one
+-- steps that do the same at each index below n end in the same way
 pub steps_same : {A E : Type 0} (n : ℕ) (f g : ℕ → A → Result A E) (a : A) → ((i : ℕ) (x : A) → i < n → f i x ≡ g i x) →
     steps n f a ≡ steps n g a
 steps_same zero f g a h = refl
@@ -61,6 +61,7 @@ pub record SameColumn (t u : Tableau) (j : ℕ) : Type 0 where
   pub lower : t.lower ≡ u.lower
   pub upper : t.upper ≡ u.upper
 
+-- where two tableaus have the same entering column, their ratio tests give the same best
 best_same : (limit : Option ℕ) (t u : Tableau) (e : Entering) → SameColumn t u e.col →
     best_run limit t e ≡ best_run limit u e
 best_same limit t u e s =
