@@ -8,6 +8,7 @@ use Rattle.spec_simplex.specs.Form.{Form, form_of, formed, limits_run, column_cl
 use Rattle.spec_exact.specs.Run.{◌>>=◌, refused_as, list_run, steps}
 use Rattle.spec_bas.specs.Fits.{HasSizeOf}
 
+-- a form that is made of a model's limits after a test has the model's rows and columns
 sized_by : (m : Model) (f : Form) (o : Result (List (Option ℚ × Option ℚ)) (FormFault ℚ))
     (p : Result (Unit {0}) (FormFault ℚ)) →
     (o >>= λ limits. p >>= λ _. Ok (formed m limits)) ≡ Ok f → HasSizeOf m f
@@ -16,6 +17,7 @@ sized_by m f (Ok limits) (Ok u) h =
 sized_by m f (Ok limits) (Err why) h = cc
 sized_by m f (Err why) p h = cc
 
+-- the form of a model has as many rows and columns as the model
 pub sized : (limit : Option ℕ) (m : Model) (f : Form) → form_of limit m ≡ Ok f → HasSizeOf m f
 unfolding form_of
 sized limit m f h =

@@ -56,7 +56,7 @@ basics_same b c (suc n) h =
     let rest = basics_same b c n (λ i l. h i (omega arith)) in
     rw (rest, h n (omega arith)) refl
 
--- where they agree but at k, which is basic in the second alone, that has one more
+-- of two lists that agree but at k, which is basic in the second alone, the second has one basic more
 basics_one : (b c : List Status) (k n : ℕ) → k < n → is_basic (basis_at b k) ≡ false → is_basic (basis_at c k) ≡ true →
     ((i : ℕ) → i < n → i ≢ k → is_basic (basis_at c i) ≡ is_basic (basis_at b i)) →
     basics_below c n ≡ basics_below b n + 1

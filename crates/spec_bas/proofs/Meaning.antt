@@ -29,26 +29,29 @@ use Rattle.spec_bas.proofs.NumbersBelow.{chosen_missing, chosen_once, basics_cho
 use Rattle.spec_bas.proofs.NamePlaces.{named_once, unnamed}
 
 -- ---- statuses
+
+-- a status that tests as at the upper bound is at the upper bound
 upper_is : (s : Status) → is_at_upper s ≡ true → s ≡ AtUpper
 upper_is Basic e = cc
 upper_is AtLower e = cc
 upper_is AtUpper e = refl
 upper_is AtZero e = cc
 
+-- a status that tests as at the upper bound does not test as basic
 upper_not_basic : (s : Status) → is_at_upper s ≡ true → is_basic s ≡ false
 upper_not_basic Basic e = cc
 upper_not_basic AtLower e = refl
 upper_not_basic AtUpper e = refl
 upper_not_basic AtZero e = refl
 
--- a bound, where a column can be at its upper one
+-- a column that can stand at its upper bound has an upper bound
 bound_of : (s : Status) (l u : Option ℚ) → is_at_upper s ≡ true → CanStand s l u → (v : ℚ) × (u ≡ Some v)
 bound_of Basic l u e c = cc
 bound_of AtLower l u e c = cc
 bound_of AtUpper l u e c = c
 bound_of AtZero l u e c = cc
 
--- the usual status, of a column that is neither basic nor at its upper bound
+-- a column that is neither basic nor at its upper bound has the status that its bounds give first
 usual_is : (s : Status) (l u : Option ℚ) → is_basic s ≡ false → is_at_upper s ≡ false → CanStand s l u →
     s ≡ first_status l u
 usual_is Basic l u b a c = cc
@@ -58,12 +61,14 @@ usual_is AtZero l u b a c = rw (c.0, c.1) refl
 
 -- ---- names on cards
 
+-- the card of a pair names its column, and no other
 column_paired : (s : Status) (column row : Name) → column_on (paired s column row) ≡ column ∷ []
 column_paired Basic column row = refl
 column_paired AtLower column row = refl
 column_paired AtUpper column row = refl
 column_paired AtZero column row = refl
 
+-- the card of a pair names its row, and no other
 row_paired : (s : Status) (column row : Name) → row_on (paired s column row) ≡ row ∷ []
 row_paired Basic column row = refl
 row_paired AtLower column row = refl
@@ -90,10 +95,12 @@ module _ (m : Model) (f : Form) (basis : List Status) where
       (row_paired (basis_at basis (f.cols + o)) (column_name m b) (row_name m o))
       ∙ ap (λ cs. row_name m o ∷ cs) (rows_paired bs os (omega arith))
 
+-- the cards of columns at their upper bounds name these columns in their order
 columns_upper : (m : Model) (us : List ℕ) → columns_on (map (upper_card m) us) ≡ map (column_name m) us
 columns_upper m [] = refl
 columns_upper m (u ∷ us) = ap (λ cs. column_name m u ∷ cs) (columns_upper m us)
 
+-- the cards of columns at their upper bounds name no row
 rows_upper : (m : Model) (us : List ℕ) → rows_on (map (upper_card m) us) ≡ []
 rows_upper m [] = refl
 rows_upper m (u ∷ us) = rows_upper m us

@@ -42,10 +42,12 @@ use Rattle.spec_bas.proofs.Meaning.{cards_mean}
 
 -- ---- names
 
+-- a name that tests as a row's name tests as a name
 is_row : (name : Name) → is_row_name name ≡ true → is_name name ≡ true
 unfolding is_row_name
 is_row name h = (and_parts _ _ h).0
 
+-- a model's name that is not empty is a word
 model_name_word : (b : ℕ) (bs : Name) → is_model_name (b ∷ bs) ≡ true → IsWord (b ∷ bs)
 unfolding is_model_name
 model_name_word b bs h =
@@ -60,18 +62,21 @@ HasNames (Ll column) = is_name column ≡ true
 
 -- ---- what lines are
 
+-- a line that is not skipped and begins with a blank says the card that its words make
 data_read : (line : List ℕ) (words : List (List ℕ)) (card : ExactCard) → is_skipped line ≡ false →
     begins_with_blank line ≡ true → words_of line ≡ words → card_of words ≡ Some card →
     reading_of (Text line) ≡ Says card
 unfolding reading_of text_reading
 data_read line words card a b c d = rw (a, b, c, d) refl
 
+-- a line that is not skipped and does not begin with a blank is read by its words as a section
 head_read : (line : List ℕ) (words : List (List ℕ)) (reading : ExactReading) → is_skipped line ≡ false →
     begins_with_blank line ≡ false → words_of line ≡ words → section_reading words ≡ reading →
     reading_of (Text line) ≡ reading
 unfolding reading_of text_reading
 head_read line words reading a b c d = rw (a, b, c, d) refl
 
+-- where a card's names are names, the card is short as written
 short_card : (card : ExactCard) → HasNames card → IsShortCard (written_card card)
 short_card (Xu column row) h = (
   (record { fits = omega arith; plain = refl }, (name_short column h.0, (name_short row h.1, tt))),
@@ -84,9 +89,11 @@ short_card (Xl column row) h = (
 short_card (Ul column) h = ((record { fits = omega arith; plain = refl }, (name_short column h, tt)), omega arith)
 short_card (Ll column) h = ((record { fits = omega arith; plain = refl }, (name_short column h, tt)), omega arith)
 
+-- where a card's names are names, the line of the card is plain
 plain_card : (card : ExactCard) → HasNames card → IsPlainLine (line_text Free (written_card card))
 plain_card card h = plain_line Free (written_card card) (short_card card h)
 
+-- where a card's names are names, the words of its line are the texts of its fields
 card_words : (card : ExactCard) → HasNames card → words_of (line_text Free (written_card card)) ≡
     texts_of (fields_on card)
 card_words card h =
@@ -98,6 +105,7 @@ card_words card h =
     by (Ul column) h = (record { some = refl; printable = refl }, (name_word column h, tt))
     by (Ll column) h = (record { some = refl; printable = refl }, (name_word column h, tt))
 
+-- a card's line of plain characters is not skipped
 card_counts : (card : ExactCard) → list_all is_plain (line_text Free (written_card card)) ≡ true →
     is_skipped (line_text Free (written_card card)) ≡ false
 unfolding is_skipped
@@ -106,12 +114,14 @@ card_counts (Xl column row) p = rw (stripped_plain (line_text Free (written_card
 card_counts (Ul column) p = rw (stripped_plain (line_text Free (written_card (Ul column))) p) refl
 card_counts (Ll column) p = rw (stripped_plain (line_text Free (written_card (Ll column))) p) refl
 
+-- the line of a card begins with a blank
 card_begins : (card : ExactCard) → begins_with_blank (line_text Free (written_card card)) ≡ true
 card_begins (Xu column row) = refl
 card_begins (Xl column row) = refl
 card_begins (Ul column) = refl
 card_begins (Ll column) = refl
 
+-- the texts of a card's fields make the card
 card_said : (card : ExactCard) → card_of (texts_of (fields_on card)) ≡ Some card
 unfolding card_of
 card_said (Xu column row) = refl
@@ -119,6 +129,7 @@ card_said (Xl column row) = refl
 card_said (Ul column) = refl
 card_said (Ll column) = refl
 
+-- where a card's names are names, its line is read as saying the card
 card_read : (card : ExactCard) → HasNames card →
     reading_of (Text (line_text Free (written_card card))) ≡ Says card
 card_read card h =
@@ -127,21 +138,25 @@ card_read card h =
 
 -- ---- the first line and the last one
 
+-- where the model's name is a word, the words of the first line are NAME and that name
 name_words : (b : ℕ) (bs : List ℕ) → IsWord (b ∷ bs) →
     words_of (line_text Free (name_card (b ∷ bs))) ≡ codes "NAME" ∷ (b ∷ bs) ∷ []
 unfolding words_of
 name_words b bs h =
     parts_word_then (codes "NAME") (b ∷ bs) heading_word ∙ ap (λ ws. codes "NAME" ∷ ws) (parts_word (b ∷ bs) h)
 
+-- a first line of plain characters is not skipped
 name_counts : (b : ℕ) (bs : List ℕ) → list_all is_plain (line_text Free (name_card (b ∷ bs))) ≡ true →
     is_skipped (line_text Free (name_card (b ∷ bs))) ≡ false
 unfolding is_skipped
 name_counts b bs p = rw (stripped_plain (line_text Free (name_card (b ∷ bs))) p) refl
 
+-- the section that begins with the word NAME is read as naming the model
 section_named : (more : List (List ℕ)) → section_reading (codes "NAME" ∷ more) ≡ Named
 unfolding section_reading
 section_named more = refl
 
+-- the first line with a model's name is read as naming the model
 name_read : (name : Name) → is_model_name name ≡ true → reading_of (Text (line_text Free (name_card name))) ≡ Named
 unfolding reading_of text_reading is_skipped words_of section_reading
 name_read [] h = refl
@@ -150,12 +165,14 @@ name_read (b ∷ bs) h =
     (name_counts b bs (plain_line Free (name_card (b ∷ bs)) (name_card_short (b ∷ bs) h)).plain) refl
     (name_words b bs (model_name_word b bs h)) (section_named ((b ∷ bs) ∷ []))
 
+-- the line ENDATA is read as the end
 end_read : reading_of (Text (codes "ENDATA")) ≡ Ends
 unfolding reading_of text_reading is_skipped words_of section_reading
 end_read = refl
 
 -- ---- all lines
 
+-- where the names on cards are names, the lines of the cards are read as saying these cards
 cards_read : (cards : List ExactCard) → All HasNames cards →
     readings_of (card_lines Free (map written_card cards)) ≡ map Says cards
 cards_read [] h = refl
@@ -239,6 +256,7 @@ module _ (m : Model) (f : Form) (size : HasSizeOf m f) (kept : IsModel m) (basis
     are = cards_mean m f size kept basis fits;
   }
 
+-- a file written from a basis spells another list of statuses exactly where that is the basis
 pub written_spells : (limit : Option ℕ) (m : Model) (f : Form) (basis other : List Status) → IsModel m →
     form_of limit m ≡ Ok f → IsBasisOf f basis →
     (SpellsBasis m f (lines_of (bas_text m f basis)) other ↔ other ≡ basis)
