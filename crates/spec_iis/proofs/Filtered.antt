@@ -65,7 +65,7 @@ filtered_without m kept x rest points f h = record {
         subst (All (IsSide m)) (remove-append_left kept (x ∷ rest) k l)
         (All-remove (IsSide m) (kept ++ x ∷ rest) k f.present)
 
--- the last of those that are kept
+-- a list with one more at its end, without that one, is the list
 removed_last : (kept : List Side) (x : Side) → remove (kept ++ x ∷ []) (length kept) ≡ kept
 removed_last kept x =
     remove-append_right kept (x ∷ []) (length kept) (length kept) refl (omega arith)

@@ -19,6 +19,7 @@ use Rattle.spec_iis.specs.Only.{if_listed, only_column_at, only}
 use Rattle.spec_iis.proofs.Picked.{length-picked, All-picked, map-picked, AllPairs-picked, rank_few}
 use Rattle.spec_iis.proofs.Entries.{only_entries-kept, only_entries-narrow}
 
+-- a row with some of its limits alone has the name of the row
 name_of_only : (lower upper : Bool) (r : ExactRow) → (only_row lower upper r).name ≡ r.name
 unfolding only_row
 name_of_only lower upper r = by lower upper (limits_of r).lower (limits_of r).upper
@@ -33,6 +34,7 @@ name_of_only lower upper r = by lower upper (limits_of r).lower (limits_of r).up
     by false true (Some l) (Some u) = refl
     by false false l u = refl
 
+-- where a row's range fits its kind, so it does in the row with some of its limits alone
 fit_of_only : (lower upper : Bool) (r : ExactRow) → FitsKind r.kind r.range →
     FitsKind (only_row lower upper r).kind (only_row lower upper r).range
 unfolding only_row
@@ -48,15 +50,17 @@ fit_of_only lower upper r h = by lower upper (limits_of r).lower (limits_of r).u
     by false true (Some l) (Some u) = tt
     by false false l u = h
 
+-- what holds of a bound, if one is given, holds of the bound that stays, if it does
 listed_still : (P : ℚ → Type 0) (t : Bool) (o : Option ℚ) → IfSome o P → IfSome (if_listed t o) P
 listed_still P true o h = h
 listed_still P false o h = tt
 
--- names of a list, one by one
+-- item i of the names of a list is the name of the list's item i
 name_at : {X : Type 0} (f : X → Name) (xs : List X) (i : ℕ) (d : X) (e : Name) → i < length xs →
     get_or (map f xs) i e ≡ f (get_or xs i d)
 name_at f xs i d e l = get_or-map f xs i d e l
 
+-- where a model is within limits of size, the model with some sides alone is within them
 pub only_within : {limits : SizeLimits} (m : Model) (sides : List Side) → IsWithin limits m →
     IsWithin limits (only m sides)
 unfolding only

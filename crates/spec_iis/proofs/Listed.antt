@@ -19,11 +19,14 @@ use Rattle.spec_iis.specs.declared.side.Side.{Side}
 use Rattle.spec_iis.specs.Sides.{same_way, same_side, is_listed, Among}
 
 -- ---- the same side
+
+-- two flags that test as the same are the same
 same_way_is : (a b : Bool) → same_way a b ≡ true → a ≡ b
 same_way_is true b h = sym h
 same_way_is false true h = h
 same_way_is false false h = refl
 
+-- a flag tests as the same as itself
 same_way_refl : (a : Bool) → same_way a a ≡ true
 same_way_refl true = refl
 same_way_refl false = refl
@@ -31,6 +34,7 @@ same_way_refl false = refl
 abbrev side : Bool → ℕ → Bool → Side
 side r i u = record { row = r; at = i; upper = u }
 
+-- two sides that test as the same are the same
 same_side_is : (s t : Side) → same_side s t ≡ true → s ≡ t
 same_side_is s t h =
     let a : s.row ≡ t.row = same_way_is s.row t.row (and_parts _ _ h).0 in
@@ -42,6 +46,7 @@ same_side_is s t h =
     joined : (r q : Bool) (i j : ℕ) (u v : Bool) → r ≡ q → i ≡ j → u ≡ v → side r i u ≡ side q j v
     joined r q i j u v e f g = cc
 
+-- a side tests as the same as itself
 same_side_refl : (s : Side) → same_side s s ≡ true
 same_side_refl s = rw (same_way_refl s.row, eq-eqb s.at s.at refl, same_way_refl s.upper) refl
 
@@ -60,6 +65,7 @@ pub listed_first : (s : Side) (sides : List Side) → is_listed (s ∷ sides) s 
 unfolding is_listed
 listed_first s sides = rw (same_side_refl s) refl
 
+-- a side that is listed is listed with one more side in front
 listed_more : (t : Side) (sides : List Side) (s : Side) → is_listed sides s ≡ true → is_listed (t ∷ sides) s ≡ true
 unfolding is_listed
 listed_more t sides s h = or_right (same_side s t) (list_any (same_side s) sides) h
@@ -86,6 +92,7 @@ pub listed_right : (xs ys : List Side) (s : Side) → is_listed ys s ≡ true �
 listed_right [] ys s h = h
 listed_right (x ∷ xs) ys s h = listed_more x (xs ++ ys) s (listed_right xs ys s h)
 
+-- the sides of a list are among those of the list with another behind
 among_left : (xs ys : List Side) → Among xs (xs ++ ys)
 among_left xs ys =
     All-weaker (λ s. is_listed xs s ≡ true) (λ s. is_listed (xs ++ ys) s ≡ true) (listed_left xs ys) xs (all_listed xs)

@@ -31,6 +31,7 @@ Is o = (b : ℚ) × (o ≡ Some b)
 abbrev pub chosen : Bool → Bool → Limits → Limits
 chosen lower upper l = record { lower = if_listed lower l.lower; upper = if_listed upper l.upper }
 
+-- a row that keeps some limits that it has, and at least one, has exactly these limits
 limits_of-chosen : (lower upper : Bool) (r : ExactRow) → (lower ≡ true → Is (limits_of r).lower) →
     (upper ≡ true → Is (limits_of r).upper) → lower || upper ≡ true →
     limits_of (only_row lower upper r) ≡ chosen lower upper (limits_of r)
@@ -100,6 +101,7 @@ within_chosen : (upper : Bool) (a b : Bool) (l : Limits) (v : ℚ) → (if_liste
 within_chosen true a b l v h g = subst (λ t. IfSome (if_listed t l.upper) (λ k. v ≤ℚ k)) h g.upper
 within_chosen false a b l v h g = subst (λ t. IfSome (if_listed t l.lower) (λ k. k ≤ℚ v)) h g.lower
 
+-- a number within each end that is chosen is between the chosen limits
 between_chosen : (a b : Bool) (l : Limits) (v : ℚ) → (a ≡ true → IsWithin false l.lower v) →
     (b ≡ true → IsWithin true l.upper v) → IsBetween (chosen a b l) v
 between_chosen a b l v f g = record { lower = low a f; upper = high b g }
@@ -112,6 +114,7 @@ between_chosen a b l v f g = record { lower = low a f; upper = high b g }
     high true g = g refl
     high false g = tt
 
+-- where a holds, a or b holds
 or_left : (a b : Bool) → a ≡ true → a || b ≡ true
 or_left true b h = refl
 or_left false b h = absurd (let z : false ≡ true = h in cc)

@@ -35,6 +35,7 @@ All-gathered P f zero h = All-nil P
 All-gathered P f (suc n) h =
     All-append P (gathered f n) (f n) (All-gathered P f n (λ i l. h i (omega arith))) (h n (omega arith))
 
+-- a side that is listed in one of the lists is listed where all of them are gathered
 listed_gathered : (f : ℕ → List Side) (n i : ℕ) (s : Side) → i < n → is_listed (f i) s ≡ true →
     is_listed (gathered f n) s ≡ true
 listed_gathered f zero i s l h = absurd (omega arith)
@@ -46,6 +47,7 @@ pub All-side_if : (P : Side → Type 0) (t : Bool) (s : Side) → (t ≡ true �
 All-side_if P true s h = All-cons P s [] (h refl) (All-nil P)
 All-side_if P false s h = All-nil P
 
+-- where the test holds, the list of a side for that test lists the side
 listed_if : (t : Bool) (s : Side) → t ≡ true → is_listed (side_if t s) s ≡ true
 listed_if true s h = listed_first s []
 listed_if false s h = absurd (let z : false ≡ true = h in cc)
