@@ -13,10 +13,13 @@ use Rattle.spec_board.proofs.PackedPlaces.{packed_length, front_word, basis_bits
 use Rattle.spec_board.proofs.PackedBases.{unpacked_length, unpacked_at, same_word}
 
 -- ---- words with the same bits are the same
+
+-- digit k + 1 of a word to the base 4 is digit k of the word divided by 4
 digit_after : (v k : ℕ) → v / 2 ^ (2 * suc k) % 4 ≡ v / 4 / 2 ^ (2 * k) % 4
 digit_after v k =
     ap (λ w. w % 4) ((let z : 2 * suc k ≡ 2 + 2 * k = omega arith in ap (λ i. v / 2 ^ i) z) ∙ sym (shr-shr v 2 (2 * k)))
 
+-- two words of n digits to the base 4 that are the same digit by digit are the same
 same_digits : (n v w : ℕ) → v < 2 ^ (2 * n) → w < 2 ^ (2 * n) →
     ((k : ℕ) → k < n → v / 2 ^ (2 * k) % 4 ≡ w / 2 ^ (2 * k) % 4) → v ≡ w
 same_digits zero v w h l d = omega (arith, h, l)
@@ -27,6 +30,7 @@ same_digits (suc n) v w h l d =
     (λ k p. sym (digit_after v k) ∙ d (suc k) (omega (arith, p)) ∙ digit_after w k) in
     omega (arith, first, rest)
 
+-- the code of the status of a number below 4 is that number
 code_back : (n : ℕ) → n < 4 → status_code (status_of n) ≡ n
 code_back zero h = refl
 code_back (suc zero) h = refl

@@ -12,6 +12,7 @@ use Rattle.spec_board.specs.Newest.{FindsFrom}
 
 -- ---- words in front
 
+-- the front of the front of some words is their front
 front_twice : (words : Words) → front (front words) ≡ front words
 front_twice words = take_twice 25 words
   where
@@ -20,15 +21,18 @@ front_twice words = take_twice 25 words
     take_twice (suc n) [] = refl
     take_twice (suc n) (x ∷ xs) = ap (λ ys. x ∷ ys) (take_twice n xs)
 
+-- where words are shown of a payload, they have a shape exactly where the payload has it
 shown_shape : (shape payload words : Words) → IsShown payload words → has_shape shape words ≡ has_shape shape payload
 shown_shape shape payload words (inl e) = ap (has_shape shape) e
 shown_shape shape payload words (inr e) =
     ap (λ ws. same (front ws) shape) e ∙ ap (λ ws. same ws shape) (front_twice payload)
 
+-- no place is both done and claimed
 not_both : (words : Words) (owner : ℕ) →
     ◌≡◌ {A = Option ExactPlace} (Some (place.Done words)) (Some (place.Claimed owner)) → ⊥
 not_both words owner e = cc
 
+-- a place that is done with a and with b has the same words a and b
 done_same : (a b : Words) → ◌≡◌ {A = Option ExactPlace} (Some (place.Done a)) (Some (place.Done b)) → a ≡ b
 done_same a b e =
     let z : ◌≡◌ {A = ExactPlace} (place.Done a) (place.Done b) = some_same (place.Done a) (place.Done b) e in cc

@@ -20,13 +20,15 @@ use Rattle.spec_board.proofs.PackedPlaces.{form_unused, basis_unused, shape_leng
 use Rattle.spec_board.proofs.PackedPlaces.{basis_bits, shape_rows, shape_cols, packed_rows, packed_cols, packed_columns}
 
 -- ---- statuses
+
+-- the status of the code of a status is that status
 status_back : (s : Status) → status_of (status_code s) ≡ s
 status_back Basic = refl
 status_back AtLower = refl
 status_back AtUpper = refl
 status_back AtZero = refl
 
--- a status suits bounds exactly where a column between them can have it
+-- a status that a column between bounds can have suits the code of the bounds
 can_suits : (s : Status) (l u : Option ℚ) → CanStand s l u → suits s (bounds_code l u) ≡ true
 can_suits Basic l u h = refl
 can_suits AtLower None u h = cc
@@ -39,6 +41,7 @@ can_suits AtZero None None h = refl
 can_suits AtZero None (Some u) h = cc
 can_suits AtZero (Some l) u h = cc
 
+-- a column between bounds can have a status that suits the code of the bounds
 suits_can : (s : Status) (l u : Option ℚ) → suits s (bounds_code l u) ≡ true → CanStand s l u
 suits_can Basic l u h = tt
 suits_can AtLower None None h = let z : false ≡ true = h in cc

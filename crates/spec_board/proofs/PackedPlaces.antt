@@ -31,12 +31,15 @@ use Rattle.spec_board.specs.Words.{basis_code, shape_of, packed, rows_of, cols_o
 use Rattle.spec_board.proofs.Digits.{word_fits, digit_is}
 
 -- ---- codes
+
+-- the code of two bounds is below 4
 small_bounds : (l u : Option ℚ) → bounds_code l u < 4
 small_bounds None None = omega arith
 small_bounds (Some l) None = omega arith
 small_bounds None (Some u) = omega arith
 small_bounds (Some l) (Some u) = omega arith
 
+-- the code of a status is below 4
 small_status : (s : Status) → status_code s < 4
 small_status Basic = omega arith
 small_status AtLower = omega arith
@@ -73,10 +76,12 @@ packed_length f basis =
       length-made 24 (λ w. word_from (basis_code basis) (32 * w) 32),
     )
 
+-- the first word of a form's shape is 65,536 times its rows plus its columns
 first_word : (f : Form) → get_or (shape_of f) 0 0 ≡ 65536 * f.rows + f.cols
 unfolding shape_of
 first_word f = refl
 
+-- word w + 1 of a form's shape is made of the codes of the bounds of 32 columns from 32 w on
 shape_word : (f : Form) (w : ℕ) → w < 24 → get_or (shape_of f) (1 + w) 0 ≡ word_from (form_code f) (32 * w) 32
 unfolding shape_of
 shape_word f w h =
@@ -89,6 +94,7 @@ unfolding packed
 front_word f basis w h =
     get_or_append_left (shape_of f) (words_of (basis_code basis)) 0 w (omega (arith, h, shape_length f))
 
+-- word w of the statuses is made of the codes of the statuses of 32 columns from 32 w on
 basis_word : (f : Form) (basis : List Status) (w : ℕ) → w < 24 →
     get_or (packed f basis) (25 + w) 0 ≡ word_from (basis_code basis) (32 * w) 32
 unfolding packed
@@ -98,6 +104,8 @@ basis_word f basis w h =
     ∙ get_or-made 24 (λ w. word_from (basis_code basis) (32 * w) 32) w 0 h
 
 -- ---- bits
+
+-- where each word is made of the codes of its 32 columns, the code of column c is read from its word
 code_in : (code : ℕ → ℕ) → ((c : ℕ) → code c < 4) → (first : ℕ) (words : List ℕ) (c : ℕ) →
     get_or words (first + c / 32) 0 ≡ word_from code (32 * (c / 32)) 32 → code_at first words c ≡ code c
 code_in code small first words c e =
@@ -119,9 +127,12 @@ basis_bits f basis c h =
     (packed f basis) c (basis_word f basis (c / 32) (omega (arith, h)))
 
 -- ---- the numbers of rows and columns
+
+-- where n is below 65,536, the quotient of 65,536 m + n by 65,536 is m
 rows_in : (m n : ℕ) → n < 65536 → (65536 * m + n) / 65536 ≡ m
 rows_in m n h = omega (arith, h)
 
+-- where n is below 65,536, the rest of 65,536 m + n by 65,536 is n
 cols_in : (m n : ℕ) → n < 65536 → (65536 * m + n) % 65536 ≡ n
 cols_in m n h = omega (arith, h)
 
@@ -141,10 +152,13 @@ pub packed_columns : (f : Form) (basis : List Status) → IsForm f → columns_o
 packed_columns f basis h = ap₂ ◌+◌ (packed_cols f basis h) (packed_rows f basis h)
 
 -- ---- each word has 64 bits
+
+-- words that are made of codes below 4 are below 2 ^ 64
 words_small : (code : ℕ → ℕ) → ((c : ℕ) → code c < 4) → All (λ w. w < 2 ^ 64) (words_of code)
 words_small code small =
     All-made (λ w. w < 2 ^ 64) 24 (λ w. word_from code (32 * w) 32) (λ w h. word_fits code small (32 * w) 32)
 
+-- each word of a form's shape is below 2 ^ 64
 shape_small : (f : Form) → IsForm f → All (λ w. w < 2 ^ 64) (shape_of f)
 unfolding shape_of
 shape_small f h =
