@@ -109,7 +109,7 @@ fn factored_or_mended(
     Ok(factored.regular())
 }
 
-// The factors of these columns, which are mended where they are singular.
+// The factors of these columns, which are mended where they are singular, if that helps.
 fn factors_of(
     alloc: Global,
     program: &Program,
@@ -124,13 +124,29 @@ fn factors_of(
     Ok(None)
 }
 
-// The position of each column.
-fn places_of(alloc: Global, program: &Program, head: &[usize]) -> Result<Vec<usize>, AllocError> {
-    let mut place = Vec::from_elem(alloc, NOWHERE, program.len())?;
-    for (p, k) in head.iter().enumerate() {
-        put_index(&mut place, *k, p);
+// The factors of these columns, or else of the logical ones, which come in their place.
+fn factors_or_logical(
+    alloc: Global,
+    program: &Program,
+    head: &mut Vec<usize>,
+) -> Result<Option<Factors<f64>>, AllocError> {
+    match factors_of(alloc, program, head)? {
+        Some(factors) => Ok(Some(factors)),
+        None => {
+            *head = logicals(alloc, program)?;
+            factored_or_mended(alloc, program, head)
+        }
     }
-    Ok(place)
+}
+
+// Puts the position of each of so many columns.
+fn put_places(place: &mut Vec<usize>, head: &[usize], len: usize) -> Result<(), AllocError> {
+    place.clear();
+    place.resize(len, NOWHERE)?;
+    for (p, k) in head.iter().enumerate() {
+        put_index(place, *k, p);
+    }
+    Ok(())
 }
 
 // The factors by their steps.
@@ -150,25 +166,37 @@ pub(crate) fn basis_of(
     program: &Program,
     columns: Vec<usize>,
 ) -> Result<Basis, AllocError> {
-    let mut head = columns;
-    let mut factors = factors_of(alloc, program, &mut head)?;
-    if factors.is_none() {
-        head = logicals(alloc, program)?;
-        factors = factored_or_mended(alloc, program, &mut head)?;
-    }
-    let place = places_of(alloc, program, &head)?;
-    Ok(Basis {
-        head,
-        place,
-        factors: by_steps(alloc, factors)?,
-        room: Marked::new(alloc, program.rows)?,
+    let room = Marked::new(alloc, program.rows)?;
+    let mut basis = Basis {
+        head: columns,
+        place: Vec::new(alloc),
+        factors: None,
+        room,
         places: Vec::new(alloc),
         pivots: Vec::new(alloc),
         changes: Lines::new(alloc),
-    })
+    };
+    basis.factor(alloc, program)?;
+    Ok(basis)
 }
 
 impl Basis {
+    // Factors the columns. Where they are singular, logical ones come in their place.
+    fn factor(&mut self, alloc: Global, program: &Program) -> Result<(), AllocError> {
+        let factors = factors_or_logical(alloc, program, &mut self.head)?;
+        self.factors = by_steps(alloc, factors)?;
+        put_places(&mut self.place, &self.head, program.len())
+    }
+
+    /// Makes the factors anew.
+    pub(crate) fn renew(&mut self, alloc: Global, program: &Program) -> Result<(), AllocError> {
+        self.places.clear();
+        self.pivots.clear();
+        self.changes = Lines::new(alloc);
+        self.room = Marked::new(alloc, program.rows)?;
+        self.factor(alloc, program)
+    }
+
     /// How many columns came in since the factors were made.
     pub(crate) fn changes(&self) -> usize {
         self.places.len()

@@ -320,21 +320,20 @@ fn rebuild(alloc: Global, state: &mut State, program: &Program) -> Result<(), Al
     evaluate(state, program)
 }
 
-/// Runs the dual method. Reduced costs that are wrong at its beginning are made right by the other bounds or by the costs of
-/// the state.
-pub(crate) fn run_dual(
+// Takes steps of the dual method until its end.
+fn dual_steps(
     alloc: Global,
     state: &mut State,
     program: &Program,
+    trial: &mut Trial,
     effort: u64,
 ) -> Result<DualEnd, AllocError> {
-    let mut trial = Trial::new(alloc);
     rebuild(alloc, state, program)?;
     for _ in 0..effort {
         if state.basis.is_long() {
             rebuild(alloc, state, program)?;
         }
-        match dual_step(state, program, &mut trial)? {
+        match dual_step(state, program, trial)? {
             DualStep::Done => {}
             DualStep::End(DualEnd::Feasible) if state.basis.changes() > 0 => {
                 rebuild(alloc, state, program)?;
@@ -347,4 +346,16 @@ pub(crate) fn run_dual(
         }
     }
     Ok(DualEnd::Spent)
+}
+
+/// Runs the dual method. Reduced costs that are wrong at its beginning are made right by the other bounds or by the costs of
+/// the state.
+pub(crate) fn run_dual(
+    alloc: Global,
+    state: &mut State,
+    program: &Program,
+    effort: u64,
+) -> Result<DualEnd, AllocError> {
+    let mut trial = Trial::new(alloc);
+    dual_steps(alloc, state, program, &mut trial, effort)
 }

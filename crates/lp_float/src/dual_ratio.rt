@@ -58,6 +58,7 @@ impl Drop for Trial {
 }
 
 impl Trial {
+    /// A trial before any row: its lists are empty.
     pub(crate) fn new(alloc: Global) -> Self {
         Trial {
             waiting: Vec::new(alloc),

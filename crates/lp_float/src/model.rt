@@ -104,22 +104,27 @@ fn put_line(lines: &mut Lines, entries: &[(u32, Frac)]) -> Result<(), AllocError
     lines.end()
 }
 
-// The numbers of the structural columns.
-fn lines_of(alloc: Global, model: &Model) -> Result<Lines, AllocError> {
-    let mut lines = Lines::new(alloc);
+// Puts the numbers of the structural columns.
+fn put_lines(lines: &mut Lines, model: &Model) -> Result<(), AllocError> {
     for j in 0..model.cols() {
-        put_line(&mut lines, model.entries(j))?;
+        put_line(lines, model.entries(j))?;
     }
-    Ok(lines)
+    Ok(())
+}
+
+// Puts all of a model into a program with no columns.
+fn put_model(alloc: Global, program: &mut Program, model: &Model) -> Result<(), AllocError> {
+    add_columns(program, model)?;
+    add_rows(program, model)?;
+    put_lines(&mut program.columns, model)?;
+    program.by_rows = turned(alloc, &program.columns, program.rows)?;
+    Ok(())
 }
 
 /// The program of a model in floats, scaled by powers of two. A model that asks for the most has its costs negated.
 pub(crate) fn program_of(alloc: Global, model: &Model) -> Result<Program, AllocError> {
     let mut program = empty_program(alloc, model);
-    add_columns(&mut program, model)?;
-    add_rows(&mut program, model)?;
-    program.columns = lines_of(alloc, model)?;
-    program.by_rows = turned(alloc, &program.columns, program.rows)?;
+    put_model(alloc, &mut program, model)?;
     scale(alloc, &mut program)?;
     Ok(program)
 }

@@ -63,6 +63,16 @@ fn round(factors: &mut [f64]) {
     }
 }
 
+// Finds the factors of rows and columns.
+fn find_all_factors(program: &Program, rows: &mut [f64], cols: &mut [f64]) {
+    for _ in 0..PASSES {
+        find_factors(&program.by_rows, rows, cols);
+        find_factors(&program.columns, cols, rows);
+    }
+    round(rows);
+    round(cols);
+}
+
 // Puts the numbers of a line into lines, each times two factors.
 fn put_line(
     lines: &mut Lines,
@@ -88,6 +98,18 @@ fn multiplied(
         put_line(&mut list, lines.line(k), *times, factors)?;
     }
     Ok(list)
+}
+
+// Multiplies all numbers of a program by the factors of their row and column.
+fn multiply_lines(
+    alloc: Global,
+    program: &mut Program,
+    rows: &[f64],
+    cols: &[f64],
+) -> Result<(), AllocError> {
+    program.columns = multiplied(alloc, &program.columns, cols, rows)?;
+    program.by_rows = multiplied(alloc, &program.by_rows, rows, cols)?;
+    Ok(())
 }
 
 // Scales the bounds and the cost of a column whose values are divided by a power of two.
@@ -162,14 +184,8 @@ fn scale_bounds(program: &mut Program) {
 pub(crate) fn scale(alloc: Global, program: &mut Program) -> Result<(), AllocError> {
     let mut rows = Vec::from_elem(alloc, 1.0, program.rows)?;
     let mut cols = Vec::from_elem(alloc, 1.0, program.cols)?;
-    for _ in 0..PASSES {
-        find_factors(&program.by_rows, &mut rows, &cols);
-        find_factors(&program.columns, &mut cols, &rows);
-    }
-    round(&mut rows);
-    round(&mut cols);
-    program.columns = multiplied(alloc, &program.columns, &cols, &rows)?;
-    program.by_rows = multiplied(alloc, &program.by_rows, &rows, &cols)?;
+    find_all_factors(program, &mut rows, &mut cols);
+    multiply_lines(alloc, program, &rows, &cols)?;
     scale_structural(program, &cols);
     scale_logical(program, &rows);
     scale_costs(program);

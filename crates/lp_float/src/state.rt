@@ -167,28 +167,88 @@ pub(crate) fn resting(wanted: Status, lower: f64, upper: f64) -> Status {
     }
 }
 
-// Room for a program.
-fn room_for(alloc: Global, program: &Program) -> Result<Room, AllocError> {
-    let rows = program.rows;
-    Ok(Room {
-        inverse_row: Sparse::new(alloc, rows)?,
-        row: Sparse::new(alloc, program.len())?,
-        outside: Vec::from_elem(alloc, 0.0, rows)?,
-        column: Sparse::new(alloc, rows)?,
-        other: Sparse::new(alloc, rows)?,
-        by_row: Sparse::new(alloc, rows)?,
-        by_place: Sparse::new(alloc, rows)?,
-        multiplier: Sparse::new(alloc, rows)?,
-    })
+// Numbers at no place.
+fn no_numbers(alloc: Global) -> Sparse<f64> {
+    Sparse {
+        numbers: Vec::new(alloc),
+        places: Vec::new(alloc),
+    }
 }
 
-// So many statuses: those given, and basic ones where they end.
-fn statuses(alloc: Global, program: &Program, start: &[Status]) -> Result<Vec<Status>, AllocError> {
-    let mut list = Vec::with_capacity(alloc, program.len())?;
-    for k in 0..program.len() {
+impl Room {
+    // No room yet.
+    fn new(alloc: Global) -> Self {
+        Room {
+            inverse_row: no_numbers(alloc),
+            row: no_numbers(alloc),
+            outside: Vec::new(alloc),
+            column: no_numbers(alloc),
+            other: no_numbers(alloc),
+            by_row: no_numbers(alloc),
+            by_place: no_numbers(alloc),
+            multiplier: no_numbers(alloc),
+        }
+    }
+
+    // Makes room for so many rows and columns.
+    fn lengthen(&mut self, rows: usize, columns: usize) -> Result<(), AllocError> {
+        self.inverse_row.numbers.resize(rows, 0.0)?;
+        self.row.numbers.resize(columns, 0.0)?;
+        self.outside.resize(rows, 0.0)?;
+        self.column.numbers.resize(rows, 0.0)?;
+        self.other.numbers.resize(rows, 0.0)?;
+        self.by_row.numbers.resize(rows, 0.0)?;
+        self.by_place.numbers.resize(rows, 0.0)?;
+        self.multiplier.numbers.resize(rows, 0.0)?;
+        Ok(())
+    }
+}
+
+// Puts so many statuses: those given, and basic ones where they end.
+fn put_statuses(list: &mut Vec<Status>, len: usize, start: &[Status]) -> Result<(), AllocError> {
+    for k in 0..len {
         list.push(status_at(start, k))?;
     }
-    Ok(list)
+    Ok(())
+}
+
+impl State {
+    // A state with no numbers yet.
+    fn new(alloc: Global, basis: Basis, limits: Limits) -> Self {
+        State {
+            lower: Vec::new(alloc),
+            upper: Vec::new(alloc),
+            cost: Vec::new(alloc),
+            value: Vec::new(alloc),
+            reduced: Vec::new(alloc),
+            status: Vec::new(alloc),
+            idle: Vec::new(alloc),
+            basis,
+            weight: Vec::new(alloc),
+            reference: Vec::new(alloc),
+            room: Room::new(alloc),
+            limits,
+            steps: 0,
+        }
+    }
+
+    // Puts the bounds, the costs and the statuses of columns.
+    fn put_columns(&mut self, program: &Program, start: &[Status]) -> Result<(), AllocError> {
+        self.lower.extend_from_slice(&program.lower)?;
+        self.upper.extend_from_slice(&program.upper)?;
+        self.cost.extend_from_slice(&program.cost)?;
+        put_statuses(&mut self.status, program.len(), start)
+    }
+
+    // Makes room for what is found.
+    fn lengthen(&mut self, rows: usize, columns: usize) -> Result<(), AllocError> {
+        self.value.resize(columns, 0.0)?;
+        self.reduced.resize(columns, 0.0)?;
+        self.idle.resize(columns, false)?;
+        self.weight.resize(rows, 1.0)?;
+        self.reference.resize(columns, 1.0)?;
+        self.room.lengthen(rows, columns)
+    }
 }
 
 /// A state at a basis of a program, before it is rebuilt.
@@ -199,21 +259,9 @@ pub(crate) fn state_at(
     limits: Limits,
 ) -> Result<State, AllocError> {
     let head = head_of(alloc, program, start)?;
-    let mut state = State {
-        lower: Vec::from_slice(alloc, &program.lower)?,
-        upper: Vec::from_slice(alloc, &program.upper)?,
-        cost: Vec::from_slice(alloc, &program.cost)?,
-        value: Vec::from_elem(alloc, 0.0, program.len())?,
-        reduced: Vec::from_elem(alloc, 0.0, program.len())?,
-        status: statuses(alloc, program, start)?,
-        idle: Vec::from_elem(alloc, false, program.len())?,
-        basis: basis_of(alloc, program, head)?,
-        weight: Vec::from_elem(alloc, 1.0, program.rows)?,
-        reference: Vec::from_elem(alloc, 1.0, program.len())?,
-        room: room_for(alloc, program)?,
-        limits,
-        steps: 0,
-    };
+    let mut state = State::new(alloc, basis_of(alloc, program, head)?, limits);
+    state.put_columns(program, start)?;
+    state.lengthen(program.rows, program.len())?;
     mark_basic(&mut state);
     Ok(state)
 }
@@ -352,8 +400,7 @@ pub(crate) fn refactor(
     program: &Program,
 ) -> Result<(), AllocError> {
     let before = Vec::from_slice(alloc, &state.basis.head)?;
-    let columns = Vec::from_slice(alloc, &state.basis.head)?;
-    state.basis = basis_of(alloc, program, columns)?;
+    state.basis.renew(alloc, program)?;
     forget_weights(state, &before);
     mark_basic(state);
     Ok(())
