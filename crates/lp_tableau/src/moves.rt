@@ -42,7 +42,7 @@ pub fn is_place(but: Option<u32>, i: u32) -> bool
     ensures { result ≡ is_place_of but i }
 {
     match but {
-        Some(place) => i == place,
+        Some(position) => i == position,
         None => false,
     }
 }

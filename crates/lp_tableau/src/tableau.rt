@@ -123,21 +123,21 @@ impl Tableau {
     }
 
     /// The entry of a position's row in column `col`.
-    pub fn entry(&self, place: u32, col: u32) -> Frac
-        requires place_in_range { place < self.now.rows }
+    pub fn entry(&self, position: u32, col: u32) -> Frac
+        requires place_in_range { position < self.now.rows }
         requires col_in_range { col < all_columns self.now }
-        ensures { result ≡ entry_at self.now place col }
+        ensures { result ≡ entry_at self.now position col }
     {
-        self.grid.at(place as usize, col as usize)
+        self.grid.at(position as usize, col as usize)
     }
 
     /// The basic column of a position.
-    pub fn basic(&self, place: u32) -> u32
-        requires { place < self.now.rows }
-        ensures value { result ≡ basic_at self.now place }
+    pub fn basic(&self, position: u32) -> u32
+        requires { position < self.now.rows }
+        ensures value { result ≡ basic_at self.now position }
         ensures inside { result < all_columns self.now }
     {
-        self.basic[place as usize]
+        self.basic[position as usize]
     }
 
     /// The value of a column.
