@@ -180,7 +180,8 @@ goes_none b t keeps k h l =
 -- ---- many positions
 pub stop_more : {T : Type 0} (value : T → ℕ) (n : ℕ) (s : Option (Stopper T)) → IsStop value 0 s → IsStop value n s
 stop_more value n None h = h
-stop_more value n (Some s) h = (h.0, by_some s.place (λ p. p < 0) (λ p. p < n) (λ p l. absurd (omega (arith, l))) h.1)
+stop_more value n (Some s) h =
+    (h.0, by_some s.position (λ p. p < 0) (λ p. p < n) (λ p l. absurd (omega (arith, l))) h.1)
 
 pub range_is : {T : Type 0} (value : T → ℕ) (r : RowTableau T) (t : Tableau) (e : Entering)
     (lower upper lz uz : Option (Signed T))

@@ -18,7 +18,7 @@ best_of value d s =
     record {
       ratio = over (whole s.gap.negative (value s.gap.size)) (d * value s.entry);
       col = s.col;
-      place = s.place;
+      place = s.position;
       to = s.to;
     }
 

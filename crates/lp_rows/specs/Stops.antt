@@ -9,7 +9,7 @@ use Rattle.lp_rows.specs.declared.ratio.Stopper.{Stopper}
 -- the entry of a stop is not 0, and its position, where it has one, is one of n
 abbrev pub IsStop : {T : Type 0} → (T → ℕ) → ℕ → Option (Stopper T) → Type 0
 IsStop value n None = Unit {0}
-IsStop value n (Some s) = (0 < value s.entry) × IfSome s.place (λ p. p < n)
+IsStop value n (Some s) = (0 < value s.entry) × IfSome s.position (λ p. p < n)
 
 -- the best with position i, whose column k has these bounds and the value v, and the entry a
 abbrev pub best_at : Bool → ℕ → ℕ → ℚ → Option ℚ → Option ℚ → ℚ → Option (Best ℚ) → Run (Option (Best ℚ))

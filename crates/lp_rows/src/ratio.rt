@@ -21,7 +21,7 @@ pub(crate) struct Stopper<T> {
     pub(crate) entry: T,
     pub(crate) col: u32,
     // The column's position, which the entering column itself has none of.
-    pub(crate) place: Option<u32>,
+    pub(crate) position: Option<u32>,
     // The bound that the column goes to.
     pub(crate) to: Status,
 }
@@ -154,26 +154,36 @@ pub(crate) fn gap_for<T: Words>(
     }
 }
 
-// What stops the column in a position with this entry, whose basic column has this gap.
-pub(crate) fn stopper_at<T: Words>(
-    place: u32,
-    col: u32,
-    entry: Signed<T>,
-    gap: Option<Gap<T>>,
-) -> Option<Stopper<T>>
-    requires { 0 < T.value entry.size }
+// A position as the ratio test sees it.
+#[derive(Clone, Copy)]
+pub(crate) struct Position<T> {
+    pub(crate) position: u32,
+    // Its basic column.
+    pub(crate) col: u32,
+    // The entry in the entering column, on the row's denominator.
+    pub(crate) entry: Signed<T>,
+    pub(crate) denominator: T,
+    // The basic column's bounds, and its value on the row's denominator times that of all bounds.
+    pub(crate) lower: Option<Signed<T>>,
+    pub(crate) upper: Option<Signed<T>>,
+    pub(crate) value: Signed<T>,
+}
+
+// What stops the entering column in a position whose basic column has this gap.
+pub(crate) fn stopper_at<T: Words>(at: Position<T>, gap: Option<Gap<T>>) -> Option<Stopper<T>>
+    requires { 0 < T.value at.entry.size }
     ensures step { (d e : ℕ) → 0 < d → 0 < e → (best : Option (Best ℚ)) →
-        step.with_gap None place col (over (whole entry.negative (T.value entry.size)) e) best (gap_of T.value d e gap) ≡
-        stopped T.value d result best }
+        step.with_gap None at.position at.col (over (whole at.entry.negative (T.value at.entry.size)) e) best
+        (gap_of T.value d e gap) ≡ stopped T.value d result best }
     ensures positive { IfSome result (λ s. 0 < T.value s.entry) }
-    ensures place { IfSome result (λ s. s.place ≡ Some place) }
+    ensures place { IfSome result (λ s. s.position ≡ Some at.position) }
 {
     match gap {
         Some(gap) => Some(Stopper {
             gap: gap.size,
-            entry: entry.size,
-            col,
-            place: Some(place),
+            entry: at.entry.size,
+            col: at.col,
+            position: Some(at.position),
             to: gap.to,
         }),
         None => None,

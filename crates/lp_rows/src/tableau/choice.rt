@@ -39,7 +39,7 @@ fn step_by<T: Words>(e: Entering, stop: Option<Stopper<T>>) -> Step
             up: e.up,
         });
     };
-    match stop.place {
+    match stop.position {
         None => Step::Flip(e.col),
         Some(place) => Step::Pivot {
             place,

@@ -27,11 +27,11 @@ macro_rules! listed {
 }
 
 // The entries of a position's row in the structural and the logical columns.
-fn entries(alloc: Global, tab: &Tableau, place: u32) -> Result<Vec<Frac>, AllocError>
-    requires { place < tab.now.rows }
-    ensures { IfOk result (λ v. v.items ≡ made (tableaus.form_columns tab.now) (tableaus.entry_at tab.now place)) }
+fn entries(alloc: Global, tab: &Tableau, position: u32) -> Result<Vec<Frac>, AllocError>
+    requires { position < tab.now.rows }
+    ensures { IfOk result (λ v. v.items ≡ made (tableaus.form_columns tab.now) (tableaus.entry_at tab.now position)) }
 {
-    listed!(alloc, k in 0..tab.cols() + tab.rows() => tab.entry(place, k))
+    listed!(alloc, k in 0..tab.cols() + tab.rows() => tab.entry(position, k))
 }
 
 // The reduced costs of the structural and the logical columns.
@@ -81,17 +81,17 @@ fn fixed(alloc: Global, tab: &Tableau) -> Result<Vec<bool>, AllocError>
 fn row<T: Words>(
     alloc: Global,
     tab: &Tableau,
-    place: u32,
+    position: u32,
     denominator: T,
 ) -> Result<Option<Row<T>>, AllocError>
-    requires place { place < tab.now.rows }
+    requires place { position < tab.now.rows }
     requires positive { 0 < T.value denominator }
     ensures { IfOk result (λ o. IfSome o (IsRowOf T.value
-        (made (tableaus.form_columns tab.now) (tableaus.entry_at tab.now place))
-        (tableaus.value_at tab.now (tableaus.basic_at tab.now place)) (T.value denominator))) }
+        (made (tableaus.form_columns tab.now) (tableaus.entry_at tab.now position))
+        (tableaus.value_at tab.now (tableaus.basic_at tab.now position)) (T.value denominator))) }
 {
-    let list = entries(alloc, tab, place)?;
-    row_of(alloc, &list, tab.value(tab.basic(place)), denominator)
+    let list = entries(alloc, tab, position)?;
+    row_of(alloc, &list, tab.value(tab.basic(position)), denominator)
 }
 
 // The rows of all positions.

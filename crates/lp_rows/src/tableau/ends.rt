@@ -28,7 +28,7 @@ use std::alloc::{AllocError, Global};
 // ---- one number
 
 // The position of a basic column.
-fn place_of(basic: &[u32], k: u32) -> Option<usize>
+fn position_of(basic: &[u32], k: u32) -> Option<usize>
     ensures { IfSome result (λ i. (i < length basic.now) × (get_or basic.now i 0 ≡ k)) }
 {
     for i in 0..basic.len() {
@@ -117,8 +117,8 @@ fn value_of<T: Words>(tab: &RowTableau<T>, j: u32) -> Option<RowFraction<T>>
         IfSome result (λ v. fraction_of T.value v ≡ tableaus.value_at t j) }
 {
     let k = j as usize;
-    match place_of(&tab.basic, j) {
-        Some(place) => basic_value(tab, place),
+    match position_of(&tab.basic, j) {
+        Some(position) => basic_value(tab, position),
         None => stand(tab.status[k], tab.lower[k], tab.upper[k], tab.denominator),
     }
 }

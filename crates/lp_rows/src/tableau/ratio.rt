@@ -9,26 +9,11 @@ ghost use Rattle.lp_rows.specs.Ratio.{best_of, bound_of, stopped};
 ghost use Rattle.lp_rows.specs.Shows.{IsWhole, Shows, height, width};
 ghost use Rattle.lp_rows.specs.Stops.{IsStop, best_at};
 
-use crate::ratio::{Stopper, better, gap_for, goes, stopper_at};
+use crate::ratio::{Position, Stopper, better, gap_for, goes, stopper_at};
 use crate::tableau::tableau::RowTableau;
 use lp_natural::words::{Signed, Words, minus};
 use lp_tableau::other_bound;
 use spec_simplex::Entering;
-
-// A position as the ratio test sees it.
-#[derive(Clone, Copy)]
-struct Position<T> {
-    place: u32,
-    // Its basic column.
-    col: u32,
-    // The entry in the entering column, on the row's denominator.
-    entry: Signed<T>,
-    denominator: T,
-    // The basic column's bounds, and its value on the row's denominator times that of all bounds.
-    lower: Option<Signed<T>>,
-    upper: Option<Signed<T>>,
-    value: Signed<T>,
-}
 
 // Whether the number is 0.
 pub(crate) fn is_zero<T: Words>(n: Signed<T>) -> bool
@@ -49,7 +34,7 @@ fn stop_between<T: Words>(e: Entering, lower: Signed<T>, upper: Signed<T>) -> Op
             gap,
             entry: T::one(),
             col: e.col,
-            place: None,
+            position: None,
             to: other_bound(e.up),
         }),
         None => None,
@@ -80,26 +65,25 @@ fn range<T: Words>(
 fn stop_at<T: Words>(up: bool, at: Position<T>) -> Option<Option<Stopper<T>>>
     requires { 0 < T.value at.denominator }
     ensures value { IfSome result (λ s. (d : ℕ) → 0 < d → (best : Option (Best ℚ)) →
-        best_at up at.place at.col (over (whole at.entry.negative (T.value at.entry.size)) (T.value at.denominator))
+        best_at up at.position at.col (over (whole at.entry.negative (T.value at.entry.size)) (T.value at.denominator))
         (bound_of T.value d at.lower) (bound_of T.value d at.upper)
         (over (whole at.value.negative (T.value at.value.size)) (d * T.value at.denominator)) best ≡
         stopped T.value d s best) }
-    ensures inside { (n : ℕ) → at.place < n → IfSome result (IsStop T.value n) }
+    ensures inside { (n : ℕ) → at.position < n → IfSome result (IsStop T.value n) }
 {
     let Position {
-        place,
-        col,
         entry,
         denominator,
         lower,
         upper,
         value,
+        ..
     } = at;
     if is_zero(entry) {
         return Some(None);
     }
     match gap_for(goes(up, entry), lower, upper, value, denominator) {
-        Some(gap) => Some(stopper_at(place, col, entry, gap)),
+        Some(gap) => Some(stopper_at(at, gap)),
         None => None,
     }
 }
@@ -131,7 +115,7 @@ fn stop_in<T: Words>(tab: &RowTableau<T>, e: Entering, i: usize) -> Option<Optio
     let row = &tab.rows[i];
     let col = tab.basic[i];
     let at = Position {
-        place: i as u32,
+        position: i as u32,
         col,
         entry: row.numbers[e.col as usize],
         denominator: row.denominator,

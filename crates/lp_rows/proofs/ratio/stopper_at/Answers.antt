@@ -9,9 +9,10 @@ use Rattle.lp_rows.proofs.ratio.stopper_at.Goals as goal
 
 pub returns-in-Some-clause-step : goal.returns-in-Some-clause-step
 returns-in-Some-clause-step g c d e p q best =
-    ap (λ (gap : Option (Gap g.row.T.Denot)). with_gap None c.args.place c.args.col
-    (over (whole c.args.entry.negative (g.T.Words.value c.args.entry.size)) e) best (gap_of g.T.Words.value d e gap))
+    ap (λ (gap : Option (Gap g.row.T.Denot)). with_gap None c.args.at.position c.args.at.col
+    (over (whole c.args.at.entry.negative (g.T.Words.value c.args.at.entry.size)) e) best
+    (gap_of g.T.Words.value d e gap))
     c.in-Some.is
     ∙ stops (whole c.in-Some.gap.size.negative (g.T.Words.value c.in-Some.gap.size.size)) d e
-    (g.T.Words.value c.args.entry.size) c.args.entry.negative c.args.place c.args.col c.in-Some.gap.to best p q
-    c.requires
+    (g.T.Words.value c.args.at.entry.size) c.args.at.entry.negative c.args.at.position c.args.at.col c.in-Some.gap.to
+    best p q c.requires
