@@ -18,7 +18,7 @@ use crate::solving::{solve_columns, solve_rows};
 use crate::standing::Room;
 use crate::statuses::{fitting_statuses, standings};
 use crate::wide_standing::{all_reduced, rates_of, rooms};
-use lp_check::wide::Certificate;
+use lp_check::wide::{Certificate, Ratios};
 use lp_frac::{Frac, neg, one, zero};
 use lp_model::Model;
 use lp_sparse::Solved;
@@ -131,6 +131,43 @@ enum Step {
     Lost,
 }
 
+// The numbers of the structural columns: those of a solution, and the others where a column is not basic.
+fn point(
+    alloc: Global,
+    program: &Program<'_>,
+    prepared: &Prepared,
+    solved: &Solved,
+    others: &[Frac],
+) -> Result<Ratios, AllocError>
+    ensures { IfOk result (λ x. length x ≡ width program.now.model.now) }
+{
+    let places = &prepared.kernel.column_places;
+    numbers(alloc, program.model.cols(), places, solved, false, others)
+}
+
+// The multipliers of all rows: those of a solution or their opposites, and by these costs where a logical column is basic.
+fn multipliers(
+    alloc: Global,
+    program: &Program<'_>,
+    prepared: &Prepared,
+    solved: &Solved,
+    is_opposite: bool,
+    costs: &[Frac],
+) -> Result<Ratios, AllocError>
+    ensures { IfOk result (λ y. length y ≡ height program.now.model.now) }
+{
+    let others = of_logicals(alloc, program, costs)?;
+    let places = &prepared.kernel.row_places;
+    numbers(
+        alloc,
+        program.model.rows(),
+        places,
+        solved,
+        is_opposite,
+        &others,
+    )
+}
+
 // The certificate of an optimum.
 fn optimal(
     alloc: Global,
@@ -140,29 +177,28 @@ fn optimal(
 ) -> Result<Step, AllocError>
     ensures { IfOk result (EndsFor program.now.model.now) }
 {
-    let kernel = &prepared.kernel;
-    let places = &kernel.column_places;
-    let x = numbers(
-        alloc,
-        program.model.cols(),
-        places,
-        &found.columns,
-        false,
-        &found.values,
-    )?;
-    let others = of_logicals(alloc, program, &program.costs)?;
-    let y = numbers(
-        alloc,
-        program.model.rows(),
-        &kernel.row_places,
-        &found.rows,
-        false,
-        &others,
-    )?;
+    let x = point(alloc, program, prepared, &found.columns, &found.values)?;
+    let y = multipliers(alloc, program, prepared, &found.rows, false, &program.costs)?;
     Ok(Step::Ended(Certificate::Optimal { x, y }))
 }
 
-// A step of the dual method, or multipliers that no point meets.
+// Multipliers that no point meets, by the row of a column that leaves, for which none may enter.
+fn infeasible(
+    alloc: Global,
+    program: &Program<'_>,
+    prepared: &Prepared,
+    solved: &Solved,
+    leaving: Leaving,
+    columns: usize,
+) -> Result<Step, AllocError>
+    ensures { IfOk result (EndsFor program.now.model.now) }
+{
+    let outside = units(alloc, columns, leaving.column, !leaving.is_below)?;
+    let y = multipliers(alloc, program, prepared, solved, leaving.is_below, &outside)?;
+    Ok(Step::Ended(Certificate::Infeasible { y }))
+}
+
+// A step of the dual method, or multipliers that no point meets. It exchanges two columns of the run's basis.
 fn dual_step(
     alloc: Global,
     program: &Program<'_>,
@@ -189,20 +225,14 @@ fn dual_step(
             );
             Ok(Step::Moved)
         }
-        None => {
-            let outside = units(alloc, run.statuses.len(), leaving.column, !leaving.is_below)?;
-            let others = of_logicals(alloc, program, &outside)?;
-            let places = &kernel.row_places;
-            let y = numbers(
-                alloc,
-                program.model.rows(),
-                places,
-                &solved,
-                leaving.is_below,
-                &others,
-            )?;
-            Ok(Step::Ended(Certificate::Infeasible { y }))
-        }
+        None => infeasible(
+            alloc,
+            program,
+            prepared,
+            &solved,
+            leaving,
+            run.statuses.len(),
+        ),
     }
 }
 
@@ -214,7 +244,23 @@ fn range(program: &Program<'_>, k: usize) -> f64 {
     }
 }
 
-// A step of the primal method, or a point and a ray.
+// A point, and a ray along which a column goes that nothing stops.
+fn unbounded(
+    alloc: Global,
+    program: &Program<'_>,
+    prepared: &Prepared,
+    found: &Found,
+    solved: &Solved,
+    moves: &[Frac],
+) -> Result<Step, AllocError>
+    ensures { IfOk result (EndsFor program.now.model.now) }
+{
+    let x = point(alloc, program, prepared, &found.columns, &found.values)?;
+    let r = point(alloc, program, prepared, solved, moves)?;
+    Ok(Step::Ended(Certificate::Unbounded { x, r }))
+}
+
+// A step of the primal method, or a point and a ray. It changes where columns stand in the run's basis.
 fn primal_step(
     alloc: Global,
     program: &Program<'_>,
@@ -236,19 +282,7 @@ fn primal_step(
             advance(&mut run.statuses, entering, block);
             Ok(Step::Moved)
         }
-        None => {
-            let places = &prepared.kernel.column_places;
-            let x = numbers(
-                alloc,
-                program.model.cols(),
-                places,
-                &found.columns,
-                false,
-                &found.values,
-            )?;
-            let r = numbers(alloc, program.model.cols(), places, &solved, false, &moves)?;
-            Ok(Step::Ended(Certificate::Unbounded { x, r }))
-        }
+        None => unbounded(alloc, program, prepared, found, &solved, &moves),
     }
 }
 

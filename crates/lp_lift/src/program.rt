@@ -81,6 +81,22 @@ fn least_cost(sense: Sense, cost: Frac) -> Frac {
     }
 }
 
+// Puts the bounds and the costs of all columns.
+fn put_columns(
+    model: &Model,
+    lowers: &mut Vec<Option<Frac>>,
+    uppers: &mut Vec<Option<Frac>>,
+    costs: &mut Vec<Frac>,
+) -> Result<(), AllocError> {
+    for j in 0..model.cols() {
+        let column = model.col(j);
+        lowers.push(column.lower)?;
+        uppers.push(column.upper)?;
+        costs.push(least_cost(model.sense(), column.cost))?;
+    }
+    Ok(())
+}
+
 // Puts the limits of all rows behind the bounds of the columns. Whether all are within the limit on numbers.
 fn put_rows(
     model: &Model,
@@ -107,22 +123,22 @@ pub(crate) fn program_of<'a>(
 ) -> Result<Option<Program<'a>>, AllocError>
     ensures { IfOk result (λ o. IfSome o (λ p. p.model.now ≡ model.now)) }
 {
-    let mut lowers = Vec::new(alloc);
-    let mut uppers = Vec::new(alloc);
-    let mut costs = Vec::new(alloc);
-    for j in 0..model.cols() {
-        let column = model.col(j);
-        lowers.push(column.lower)?;
-        uppers.push(column.upper)?;
-        costs.push(least_cost(model.sense(), column.cost))?;
-    }
-    if !put_rows(model, &mut lowers, &mut uppers)? {
-        return Ok(None);
-    }
-    Ok(Some(Program {
+    let mut program = Program {
         model,
+        lowers: Vec::new(alloc),
+        uppers: Vec::new(alloc),
+        costs: Vec::new(alloc),
+    };
+    let Program {
+        model: _,
         lowers,
         uppers,
         costs,
-    }))
+    } = &mut program;
+    put_columns(model, lowers, uppers, costs)?;
+    if put_rows(model, lowers, uppers)? {
+        Ok(Some(program))
+    } else {
+        Ok(None)
+    }
 }

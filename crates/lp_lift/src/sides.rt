@@ -45,6 +45,23 @@ fn take_column(list: &mut [Frac], entries: &[(u32, Frac)], kernel: &Kernel, valu
     true
 }
 
+// Takes the columns that are not basic off the rows of the kernel. Whether all is within the limit.
+fn take_columns(
+    list: &mut [Frac],
+    program: &Program<'_>,
+    kernel: &Kernel,
+    values: &[Frac],
+) -> bool {
+    for j in 0..program.cols() {
+        let value = part(values, j);
+        let is_still = is_zero(value) || place_at(&kernel.column_places, j).is_some();
+        if !is_still && !take_column(list, program.entries(j), kernel, value) {
+            return false;
+        }
+    }
+    true
+}
+
 // Each number times the scale of its row, if all are within the limit.
 fn scaled(
     alloc: Global,
@@ -83,12 +100,8 @@ pub(crate) fn right_sides(
     values: &[Frac],
 ) -> Result<Option<Right>, AllocError> {
     let mut list = logical_values(alloc, program, kernel, values)?;
-    for j in 0..program.cols() {
-        let value = part(values, j);
-        let is_still = is_zero(value) || place_at(&kernel.column_places, j).is_some();
-        if !is_still && !take_column(&mut list, program.entries(j), kernel, value) {
-            return Ok(None);
-        }
+    if !take_columns(&mut list, program, kernel, values) {
+        return Ok(None);
     }
     match scaled(alloc, &list, kernel, scales)? {
         Some(list) => on_one_denominator(alloc, &list),

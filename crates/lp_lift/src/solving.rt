@@ -57,15 +57,31 @@ fn times_scale(
     }
 }
 
+// A number times the scale of a row.
+fn scaled(alloc: Global, scales: &Scales, i: usize, number: &Whole) -> Result<Whole, AllocError> {
+    Ok(Whole {
+        is_negative: number.is_negative,
+        words: times_scale(alloc, scales, i, &number.words)?,
+    })
+}
+
+// Puts each number times the scale of its row.
+fn put_times_scales(
+    alloc: Global,
+    prepared: &Prepared,
+    numbers: &[Whole],
+    list: &mut Vec<Whole>,
+) -> Result<(), AllocError> {
+    for (number, i) in numbers.iter().zip(&prepared.kernel.rows) {
+        list.push(scaled(alloc, &prepared.whole.scales, *i, number)?)?;
+    }
+    Ok(())
+}
+
 // Each number times the scale of its row.
 fn times_scales(alloc: Global, prepared: &Prepared, solved: Solved) -> Result<Solved, AllocError> {
     let mut numerators = Vec::with_capacity(alloc, solved.numerators.len())?;
-    for (number, i) in solved.numerators.iter().zip(&prepared.kernel.rows) {
-        numerators.push(Whole {
-            is_negative: number.is_negative,
-            words: times_scale(alloc, &prepared.whole.scales, *i, &number.words)?,
-        })?;
-    }
+    put_times_scales(alloc, prepared, &solved.numerators, &mut numerators)?;
     Ok(solved.with_numerators(numerators))
 }
 

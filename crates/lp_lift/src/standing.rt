@@ -81,24 +81,64 @@ fn add_column(
     Ok(true)
 }
 
-/// The sums of the rows whose logical is basic, each times the row's scale, at these numbers of the columns. There are
-/// none where one is past the limits.
-pub(crate) fn row_sums(
+// Adds the columns at these numbers to the sums. Whether all is within the limits.
+fn add_columns(
+    sums: &mut [Sum],
+    program: &Program<'_>,
+    kernel: &Kernel,
+    scales: &[i128],
+    numbers: &[Whole],
+) -> Result<bool, AllocError> {
+    for (j, number) in numbers.iter().enumerate() {
+        let is_done = number.words.is_empty()
+            || add_column(sums, program.entries(j), kernel, scales, number)?;
+        if !is_done {
+            return Ok(false);
+        }
+    }
+    Ok(true)
+}
+
+// The sums of the rows whose logical is basic, each times the row's scale, at these numbers of the columns. There are
+// none where one is past the limits.
+fn row_sums(
     alloc: Global,
     program: &Program<'_>,
     kernel: &Kernel,
     scales: &[i128],
-    point: &Amounts,
+    numbers: &[Whole],
 ) -> Result<Option<Vec<Whole>>, AllocError> {
     let mut sums = no_sums(alloc, program.rows())?;
-    for (j, number) in point.numbers.iter().enumerate() {
-        let is_done = number.words.is_empty()
-            || add_column(&mut sums, program.entries(j), kernel, scales, number)?;
-        if !is_done {
-            return Ok(None);
-        }
+    if add_columns(&mut sums, program, kernel, scales, numbers)? {
+        Ok(Some(numbers_of(alloc, sums)?))
+    } else {
+        Ok(None)
     }
-    Ok(Some(numbers_of(alloc, sums)?))
+}
+
+// The sums of the rows in place of the numbers of the columns, on the same denominator. There are none where a number is
+// past the limits.
+fn sums_of(
+    alloc: Global,
+    program: &Program<'_>,
+    kernel: &Kernel,
+    scales: &[i128],
+    solved: &Solved,
+    values: &[Frac],
+) -> Result<Option<Amounts>, AllocError> {
+    let structurals = values
+        .get(..program.cols().min(values.len()))
+        .unwrap_or(&[]);
+    match amounts_of(alloc, solved, &kernel.column_places, structurals)? {
+        Some(mut found) => {
+            match row_sums(alloc, program, kernel, scales, &found.numbers)? {
+                Some(sums) => found.numbers = sums,
+                None => return Ok(None),
+            }
+            Ok(Some(found))
+        }
+        None => Ok(None),
+    }
 }
 
 // What the sums come to.
@@ -134,13 +174,12 @@ pub(crate) fn put_rooms(
 fn put_row_rooms(
     alloc: Global,
     program: &Program<'_>,
-    prepared: (&Kernel, &[i128]),
-    sums: &[Whole],
-    denominator: &[u64],
+    kernel: &Kernel,
+    scales: &[i128],
+    sums: &Amounts,
     rooms: &mut [Room],
 ) -> Result<(), AllocError> {
-    let (kernel, scales) = prepared;
-    for (i, sum) in sums.iter().enumerate() {
+    for (i, sum) in sums.numbers.iter().enumerate() {
         let k = program.cols().wrapping_add(i);
         let lower = program.lower(k);
         let upper = program.upper(k);
@@ -151,7 +190,7 @@ fn put_row_rooms(
             rooms.get_mut(k),
         ) {
             let scale = scale_at(scales, i).unsigned_abs();
-            let below = times_wide(alloc, denominator, scale)?;
+            let below = times_wide(alloc, &sums.denominator, scale)?;
             *place = room_of(alloc, sum, &below, lower, upper)?;
         }
     }
@@ -168,24 +207,12 @@ pub(crate) fn short_rooms(
     solved: &Solved,
     values: &[Frac],
 ) -> Result<Option<Vec<Room>>, AllocError> {
-    let cols = program.cols();
-    let structurals = values.get(..cols.min(values.len())).unwrap_or(&[]);
-    let Some(point) = amounts_of(alloc, solved, &kernel.column_places, structurals)? else {
-        return Ok(None);
-    };
-    let Some(sums) = row_sums(alloc, program, kernel, scales, &point)? else {
+    let Some(sums) = sums_of(alloc, program, kernel, scales, solved, values)? else {
         return Ok(None);
     };
     let mut rooms = Vec::from_elem(alloc, FREE, values.len())?;
     put_rooms(alloc, program, kernel, solved, &mut rooms)?;
-    put_row_rooms(
-        alloc,
-        program,
-        (kernel, scales),
-        &sums,
-        &point.denominator,
-        &mut rooms,
-    )?;
+    put_row_rooms(alloc, program, kernel, scales, &sums, &mut rooms)?;
     Ok(Some(rooms))
 }
 
@@ -237,7 +264,6 @@ fn reduced_cost(
         sum.add_words(&multipliers.denominator, false, times)?;
     }
     if !take_entries(&mut sum, entries, scale, multipliers)? {
-        drop(sum);
         return Ok(None);
     }
     let below = times_wide(alloc, &multipliers.denominator, scale.unsigned_abs())?;
@@ -274,6 +300,43 @@ fn logical_reduced(
     }
 }
 
+// The reduced cost of a column, 0 of a basic one, if it is within the limits.
+fn reduced_at(
+    alloc: Global,
+    program: &Program<'_>,
+    statuses: &[Status],
+    cost: Frac,
+    multipliers: &Amounts,
+    k: usize,
+) -> Result<Option<f64>, AllocError> {
+    let cols = program.cols();
+    if is_basic_at(statuses, k) {
+        Ok(Some(0.0))
+    } else if k < cols {
+        reduced_cost(alloc, program.entries(k), cost, multipliers)
+    } else {
+        Ok(Some(logical_reduced(alloc, cost, multipliers, k - cols)?))
+    }
+}
+
+// Puts the reduced costs of all columns. Whether all are within the limits.
+fn put_reduced(
+    alloc: Global,
+    program: &Program<'_>,
+    statuses: &[Status],
+    costs: &[Frac],
+    multipliers: &Amounts,
+    list: &mut Vec<f64>,
+) -> Result<bool, AllocError> {
+    for k in 0..statuses.len() {
+        match reduced_at(alloc, program, statuses, part(costs, k), multipliers, k)? {
+            Some(reduced) => list.push(reduced)?,
+            None => return Ok(false),
+        }
+    }
+    Ok(true)
+}
+
 /// The reduced cost of each column, 0 of the basic ones, by the multipliers of the kernel's rows. There are none where a
 /// number is past the limits.
 pub(crate) fn short_reduced(
@@ -287,23 +350,12 @@ pub(crate) fn short_reduced(
     let Some(multipliers) = all_multipliers(alloc, program, kernel, solved, costs)? else {
         return Ok(None);
     };
-    let cols = program.cols();
     let mut list = Vec::with_capacity(alloc, statuses.len())?;
-    for k in 0..statuses.len() {
-        let reduced = if is_basic_at(statuses, k) {
-            Some(0.0)
-        } else if k < cols {
-            reduced_cost(alloc, program.entries(k), part(costs, k), &multipliers)?
-        } else {
-            let cost = part(costs, k);
-            Some(logical_reduced(alloc, cost, &multipliers, k.wrapping_sub(cols))?)
-        };
-        match reduced {
-            Some(reduced) => list.push(reduced)?,
-            None => return Ok(None),
-        }
+    if put_reduced(alloc, program, statuses, costs, &multipliers, &mut list)? {
+        Ok(Some(list))
+    } else {
+        Ok(None)
     }
-    Ok(Some(list))
 }
 
 // ---- rates
@@ -321,17 +373,16 @@ pub(crate) fn put_rates(kernel: &Kernel, solved: &Solved, rates: &mut [f64]) {
 fn put_row_rates(
     alloc: Global,
     program: &Program<'_>,
-    prepared: (&Kernel, &[i128]),
-    sums: &[Whole],
-    denominator: &[u64],
+    kernel: &Kernel,
+    scales: &[i128],
+    sums: &Amounts,
     rates: &mut [f64],
 ) -> Result<(), AllocError> {
-    let (kernel, scales) = prepared;
-    for (i, sum) in sums.iter().enumerate() {
+    for (i, sum) in sums.numbers.iter().enumerate() {
         let k = program.cols().wrapping_add(i);
         if let (None, Some(rate)) = (place_at(&kernel.row_places, i), rates.get_mut(k)) {
             let scale = scale_at(scales, i).unsigned_abs();
-            let below = times_wide(alloc, denominator, scale)?;
+            let below = times_wide(alloc, &sums.denominator, scale)?;
             *rate = near(sum, &below);
         }
     }
@@ -348,23 +399,11 @@ pub(crate) fn short_rates(
     solved: &Solved,
     moves: &[Frac],
 ) -> Result<Option<Vec<f64>>, AllocError> {
-    let cols = program.cols();
-    let structurals = moves.get(..cols.min(moves.len())).unwrap_or(&[]);
-    let Some(point) = amounts_of(alloc, solved, &kernel.column_places, structurals)? else {
-        return Ok(None);
-    };
-    let Some(sums) = row_sums(alloc, program, kernel, scales, &point)? else {
+    let Some(sums) = sums_of(alloc, program, kernel, scales, solved, moves)? else {
         return Ok(None);
     };
     let mut rates = Vec::from_elem(alloc, 0.0f64, moves.len())?;
     put_rates(kernel, solved, &mut rates);
-    put_row_rates(
-        alloc,
-        program,
-        (kernel, scales),
-        &sums,
-        &point.denominator,
-        &mut rates,
-    )?;
+    put_row_rates(alloc, program, kernel, scales, &sums, &mut rates)?;
     Ok(Some(rates))
 }

@@ -70,6 +70,23 @@ fn room_of(
     })
 }
 
+// Puts the rooms of the basic logical columns, whose rows have these sums.
+fn put_row_rooms(
+    alloc: Global,
+    program: &Program<'_>,
+    kernel: &Kernel,
+    sums: &[Ratio],
+    rooms: &mut [Room],
+) -> Result<(), AllocError> {
+    for (i, sum) in sums.iter().enumerate() {
+        let k = program.cols().wrapping_add(i);
+        if let (None, Some(room)) = (place_at(&kernel.row_places, i), rooms.get_mut(k)) {
+            *room = room_of(alloc, sum, program.lower(k), program.upper(k))?;
+        }
+    }
+    Ok(())
+}
+
 // The room of each column, with numbers of any width.
 fn long_rooms(
     alloc: Global,
@@ -81,12 +98,7 @@ fn long_rooms(
     let found = row_sums(alloc, program, kernel, solved, values)?;
     let mut rooms = Vec::from_elem(alloc, FREE, values.len())?;
     put_rooms(alloc, program, kernel, solved, &mut rooms)?;
-    for (i, sum) in found.sums.as_slice().iter().enumerate() {
-        let k = program.cols().wrapping_add(i);
-        if let (None, Some(room)) = (place_at(&kernel.row_places, i), rooms.get_mut(k)) {
-            *room = room_of(alloc, sum, program.lower(k), program.upper(k))?;
-        }
-    }
+    put_row_rooms(alloc, program, kernel, found.sums.as_slice(), &mut rooms)?;
     Ok(rooms)
 }
 
@@ -109,6 +121,23 @@ pub(crate) fn rooms(
 
 // ---- rates
 
+// Puts the rates of the basic logical columns, whose rows have these sums.
+fn put_row_rates(
+    alloc: Global,
+    program: &Program<'_>,
+    kernel: &Kernel,
+    sums: &[Ratio],
+    rates: &mut [f64],
+) -> Result<(), AllocError> {
+    for (i, sum) in sums.iter().enumerate() {
+        let k = program.cols().wrapping_add(i);
+        if let (None, Some(rate)) = (place_at(&kernel.row_places, i), rates.get_mut(k)) {
+            *rate = near(alloc, sum)?;
+        }
+    }
+    Ok(())
+}
+
 // The rates of the basic columns, with numbers of any width.
 fn long_rates(
     alloc: Global,
@@ -120,12 +149,7 @@ fn long_rates(
     let found = row_sums(alloc, program, kernel, solved, moves)?;
     let mut rates = Vec::from_elem(alloc, 0.0f64, moves.len())?;
     put_rates(kernel, solved, &mut rates);
-    for (i, sum) in found.sums.as_slice().iter().enumerate() {
-        let k = program.cols().wrapping_add(i);
-        if let (None, Some(rate)) = (place_at(&kernel.row_places, i), rates.get_mut(k)) {
-            *rate = near(alloc, sum)?;
-        }
-    }
+    put_row_rates(alloc, program, kernel, found.sums.as_slice(), &mut rates)?;
     Ok(rates)
 }
 
@@ -192,9 +216,16 @@ fn long_reduced(
     solved: &Solved,
     costs: &[Frac],
 ) -> Result<Vec<f64>, AllocError> {
-    let others = of_logicals(alloc, program, costs)?;
     let len = program.model.rows();
-    let y = numbers(alloc, len, &kernel.row_places, solved, false, &others)?;
+    let places = &kernel.row_places;
+    let y = numbers(
+        alloc,
+        len,
+        places,
+        solved,
+        false,
+        &of_logicals(alloc, program, costs)?,
+    )?;
     let found = reduced_costs(alloc, program.model, &y)?;
     let mut list = Vec::from_elem(alloc, 0.0f64, statuses.len())?;
     put_structurals(alloc, program, statuses, costs, found.as_slice(), &mut list)?;
