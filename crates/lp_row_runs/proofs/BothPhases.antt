@@ -23,6 +23,7 @@ use Rattle.lp_rows.specs.Ends.{certificate_as, basis_by}
 pub use Rattle.lp_rows.proofs.SameNumbers.{of_some}
 use Rattle.lp_row_runs.specs.Steps.{ComesTo, EndsAt}
 use Rattle.lp_row_runs.specs.Phases.{after_one, rest_run, end_by, row_end, row_end_in, IsLeft, PausesWith, EndsWith}
+use Rattle.lp_row_runs.specs.declared.phases.Phase.{Phase}
 use Rattle.lp_row_runs.specs.declared.phases.Phase.TheVariants as phase
 use Rattle.lp_row_runs.specs.declared.phases.State.{State}
 use Rattle.lp_row_runs.specs.declared.phases.RowEnd.{RowEnd}
@@ -70,21 +71,25 @@ module _ {N T : Type 0} (of : ℚ → N) (value : T → ℕ) (budget : ℕ) (f :
     }
 
     -- ---- phase one
-    pub first_ends : (r : RowTableau T) (now : ℕ) (end : PrimalEnd) (e : EndsAt value budget used t r now end)
-        (s : State T) (pause : PhasesPause N) →
+    pub first_ends : (old : Phase) → old ≡ phase.One → (r : RowTableau T) (now : ℕ) (end : PrimalEnd)
+        (e : EndsAt value budget used t r now end) (s : State T) (pause : PhasesPause N) →
         PausesWith of value budget f (rest_run budget f phase.Between now e.tableau) s pause →
-        PausesWith of value budget f (rest_run budget f phase.One used t) s pause
-    first_ends r now end e s pause k =
-        subst (λ whole. PausesWith of value budget f whole s pause) (sym (ap (λ o. o >>= after_one budget f) e.ends)) k
+        PausesWith of value budget f (rest_run budget f old used t) s pause
+    first_ends old is r now end e s pause k =
+        subst (λ old. PausesWith of value budget f (rest_run budget f old used t) s pause) (sym is)
+        (subst (λ whole. PausesWith of value budget f whole s pause) (sym (ap (λ o. o >>= after_one budget f) e.ends)) k)
 
-    pub first_left : (s : State T) → s.phase ≡ phase.One → ComesTo value budget used t s.tab s.used →
-        IsLeft value budget f (rest_run budget f phase.One used t) s
-    first_left s p c = record {
-      tableau = c.tableau;
-      reached = c.reached;
-      shown = c.shown;
-      same = ap (λ o. o >>= after_one budget f) c.same ∙ ap (λ p. rest_run budget f p s.used c.tableau) (sym p);
-    }
+    pub first_left : (old : Phase) → old ≡ phase.One → (s : State T) → s.phase ≡ old →
+        ComesTo value budget used t s.tab s.used → IsLeft value budget f (rest_run budget f old used t) s
+    first_left old is s p c =
+        subst (λ old. IsLeft value budget f (rest_run budget f old used t) s) (sym is) (record {
+          tableau = c.tableau;
+          reached = c.reached;
+          shown = c.shown;
+          same =
+              ap (λ o. o >>= after_one budget f) c.same
+              ∙ ap (λ p. rest_run budget f p s.used c.tableau) (sym (p ∙ is));
+        })
 
     -- ---- between them
     abbrev one : PrimalEnded

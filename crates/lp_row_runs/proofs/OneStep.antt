@@ -1,5 +1,5 @@
 -- Steps by the first of them.
-use Rattle.std.proofs.Common.{◌≡◌, ◌≢◌, ℕ, zero, suc, ◌+◌, ◌-◌, ◌<◌, Option, Some, None, Result, Ok, refl}
+use Rattle.std.proofs.Common.{◌≡◌, ◌≢◌, ℕ, zero, suc, ◌+◌, ◌-◌, ◌<◌, None, Result, Ok, refl}
 use Rattle.std.proofs.Common.{sym, ap, ◌∙◌, subst, arith}
 use Rattle.spec_exact.specs.Fraction.{ℚ}
 use Rattle.spec_simplex.specs.declared.ends.Choice.{Choice}
@@ -16,10 +16,7 @@ use Rattle.lp_rows.specs.declared.tableau.choice.Step.TheVariants.{End, Flip, Pi
 use Rattle.lp_rows.specs.declared.tableau.tableau.RowTableau.{RowTableau}
 use Rattle.lp_rows.specs.Shows.{IsReached, Shows}
 use Rattle.lp_rows.specs.Steps.{step_of}
-use Rattle.lp_row_runs.specs.declared.steps.StepsPause.{StepsPause}
-use Rattle.lp_row_runs.specs.declared.steps.StepsPause.TheVariants.{Ended, Narrow, GaveUp}
-use Rattle.lp_row_runs.specs.Steps.{steps_from, ComesTo, EndsAt, PausesAt, StepsTo, Advances}
-use Rattle.lp_row_runs.specs.Steps.{Keeps, KeepsAt, KeepsStep, KeepsAdvance}
+use Rattle.lp_row_runs.specs.Steps.{steps_from, ComesTo, EndsAt, Keeps}
 use Rattle.lp_row_runs.proofs.Reached.{done_given, step_reached}
 
 -- a step that is no end
@@ -76,28 +73,22 @@ module _ {T : Type 0} (value : T → ℕ) (budget used : ℕ) (t : Tableau) (r :
       ends = ends_by t chosen.0 chosen.1 (budget - used) used end (end_of chosen.0 end (chosen.2 ∙ e));
     }
 
-    -- the step is made, or there is a pause before it
-    pub advanced : (s : RowTableau T) (result : Option StepsPause) → GoesOn step → used < budget →
+    -- what the step makes goes on with the other steps
+    pub makes : (s : RowTableau T) → GoesOn step → used < budget →
         ((u : Tableau) (c : Choice ℚ) → choice_run None t ≡ Ok c → step_of c ≡ step → done_run None t c ≡ Ok u →
-        Advances value t u s result) → StepsTo value budget used t s result
-    advanced s result n l more = by result (more u chosen.0 chosen.1 chosen.2 done)
+        Shows value s u) → ComesTo value budget used t s (used + 1)
+    makes s n l more = record {
+      tableau = u;
+      reached = step_reached t u chosen.0 reached chosen.1 done;
+      shown = more u chosen.0 chosen.1 chosen.2 done;
+      same = one_step t chosen.0 chosen.1 budget used u (subst GoesOn (sym chosen.2) n) l done;
+    }
       where
         u : Tableau
         u = (done_given t chosen.0).0
 
         done : done_run None t chosen.0 ≡ Ok u
         done = (done_given t chosen.0).1
-
-        by : (result : Option StepsPause) → Advances value t u s result → StepsTo value budget used t s result
-        by None a = record {
-          tableau = u;
-          reached = step_reached t u chosen.0 reached chosen.1 done;
-          shown = a;
-          same = one_step t chosen.0 chosen.1 budget used u (subst GoesOn (sym chosen.2) n) l done;
-        }
-        by (Some (Ended end)) a = absurd a
-        by (Some Narrow) a = record { tableau = t; reached = reached; shown = a; same = refl }
-        by (Some GaveUp) a = tt
 
 -- ---- one after the other
 module _ {T : Type 0} (value : T → ℕ) (budget used : ℕ) (t : Tableau) (r : RowTableau T) (now : ℕ)
@@ -107,26 +98,11 @@ module _ {T : Type 0} (value : T → ℕ) (budget used : ℕ) (t : Tableau) (r :
   then_comes s later d =
       record { tableau = d.tableau; reached = d.reached; shown = d.shown; same = c.same ∙ d.same }
 
-  pub then_pauses : (s : RowTableau T) (later : ℕ) (pause : StepsPause) →
-      PausesAt value budget now c.tableau s later pause → PausesAt value budget used t s later pause
-  then_pauses s later (Ended end) d =
+  pub then_ends : (s : RowTableau T) (later : ℕ) (end : PrimalEnd) →
+      EndsAt value budget now c.tableau s later end → EndsAt value budget used t s later end
+  then_ends s later end d =
       record { tableau = d.tableau; reached = d.reached; shown = d.shown; ends = c.same ∙ d.ends }
-  then_pauses s later Narrow d = then_comes s later d
-  then_pauses s later GaveUp d = tt
 
 -- ---- the rows are whole, and as many
-module _ {T : Type 0} (value : T → ℕ) (r s v : RowTableau T) where
-  pub kept : Keeps value r s → Keeps value s v → Keeps value r v
-  kept h k = record { whole = k.whole; rows = k.rows ∙ h.rows; cols = k.cols ∙ h.cols }
-
-  pub kept_pause : (pause : StepsPause) → Keeps value r s → KeepsAt value s v pause → KeepsAt value r v pause
-  kept_pause (Ended end) h k = (kept h k.0, k.1)
-  kept_pause Narrow h k = kept h k
-  kept_pause GaveUp h k = tt
-
-pub kept_step : {T : Type 0} (value : T → ℕ) (r s : RowTableau T) (result : Option StepsPause) →
-    KeepsAdvance value r s result → KeepsStep value r s result
-kept_step value r s None h = h
-kept_step value r s (Some (Ended end)) h = absurd h
-kept_step value r s (Some Narrow) h = h
-kept_step value r s (Some GaveUp) h = tt
+pub kept : {T : Type 0} (value : T → ℕ) (r s v : RowTableau T) → Keeps value r s → Keeps value s v → Keeps value r v
+kept value r s v h k = record { whole = k.whole; rows = k.rows ∙ h.rows; cols = k.cols ∙ h.cols }

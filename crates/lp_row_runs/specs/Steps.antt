@@ -1,5 +1,5 @@
 -- What steps over rows come to, by the tableaus of exact fractions that the rows are.
-use Rattle.std.specs.Prelude.{◌≡◌, ℕ, ◌+◌, ◌-◌, Option, Some, None, Result, Ok}
+use Rattle.std.specs.Prelude.{◌≡◌, ℕ, ◌-◌, Some, None, Result, Ok}
 use Rattle.spec_exact.specs.Fraction.{ℚ}
 use Rattle.spec_simplex.specs.declared.ends.PrimalEnd.{PrimalEnd}
 use Rattle.spec_simplex.specs.declared.ends.RunStop.{RunStop}
@@ -37,11 +37,6 @@ PausesAt value budget used t r now (Ended end) = EndsAt value budget used t r no
 PausesAt value budget used t r now Narrow = ComesTo value budget used t r now
 PausesAt value budget used t r now GaveUp = Unit {0}
 
--- one step more was made, or there is a pause before it
-abbrev pub StepsTo : {T : Type 0} → (T → ℕ) → ℕ → ℕ → Tableau → RowTableau T → Option StepsPause → Type 0
-StepsTo value budget used t r None = ComesTo value budget used t r (used + 1)
-StepsTo value budget used t r (Some pause) = PausesAt value budget used t r used pause
-
 -- rows that are whole, and as many as before
 pub record Keeps {T : Type 0} (value : T → ℕ) (r s : RowTableau T) : Type 0 where
   pub whole : IsWhole value s
@@ -54,22 +49,3 @@ abbrev pub KeepsAt : {T : Type 0} → (T → ℕ) → RowTableau T → RowTablea
 KeepsAt value r s (Ended end) = Keeps value r s × IsInside s (Some end)
 KeepsAt value r s Narrow = Keeps value r s
 KeepsAt value r s GaveUp = Unit {0}
-
--- a step that is made, or a pause, keeps the rows so
-abbrev pub KeepsStep : {T : Type 0} → (T → ℕ) → RowTableau T → RowTableau T → Option StepsPause → Type 0
-KeepsStep value r s None = Keeps value r s
-KeepsStep value r s (Some pause) = KeepsAt value r s pause
-
--- where the step was made the rows show u, the tableau after it; where it was left to wider words they show t still
-abbrev pub Advances : {T : Type 0} → (T → ℕ) → Tableau → Tableau → RowTableau T → Option StepsPause → Type 0
-Advances value t u r None = Shows value r u
-Advances value t u r (Some (Ended end)) = ⊥
-Advances value t u r (Some Narrow) = Shows value r t
-Advances value t u r (Some GaveUp) = Unit {0}
-
--- making a step, or leaving it to wider words, keeps the rows whole and as many as before
-abbrev pub KeepsAdvance : {T : Type 0} → (T → ℕ) → RowTableau T → RowTableau T → Option StepsPause → Type 0
-KeepsAdvance value r s None = Keeps value r s
-KeepsAdvance value r s (Some (Ended end)) = ⊥
-KeepsAdvance value r s (Some Narrow) = Keeps value r s
-KeepsAdvance value r s (Some GaveUp) = Unit {0}

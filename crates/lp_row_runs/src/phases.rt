@@ -138,37 +138,6 @@ fn between<T: Words, N: Listed>(
     second(alloc, form, state, budget, may_widen)
 }
 
-// Takes the steps of phase one, and goes on where they end.
-fn first<T: Words, N: Listed>(
-    alloc: Global,
-    form: &Form,
-    state: &mut State<T>,
-    budget: u64,
-    may_widen: bool,
-) -> Result<PhasesPause<N>, AllocError>
-    requires ready { IsReady T.value form.now state.old }
-    requires phase { state.old.phase ≡ phase.One }
-    ensures run { (t : Tableau) → HasCosts form.now → IsReached t → Shows T.value state.old.tab t → IfOk result
-        (PausesWith N.of T.value budget form.now (rest_run budget form.now phase.One state.old.used t) state.new) }
-    ensures ready { IfOk result (StaysReady T.value form.now state.new) }
-    ensures fits { IfOk result (HasFit N.fits) }
-{
-    match run(
-        &mut state.tab,
-        &mut state.used,
-        &mut state.work,
-        budget,
-        may_widen,
-    ) {
-        StepsPause::Ended(_) => {
-            state.phase = Phase::Between;
-            between(alloc, form, state, budget, may_widen)
-        }
-        StepsPause::Narrow => Ok(PhasesPause::Narrow),
-        StepsPause::GaveUp => Ok(PhasesPause::GaveUp),
-    }
-}
-
 /// Goes on with both phases from `state`, up to an end or a pause.
 pub(crate) fn go_on<T: Words, N: Listed>(
     alloc: Global,
@@ -184,7 +153,20 @@ pub(crate) fn go_on<T: Words, N: Listed>(
     ensures fits { IfOk result (HasFit N.fits) }
 {
     match state.phase {
-        Phase::One => first(alloc, form, state, budget, may_widen),
+        Phase::One => match run(
+            &mut state.tab,
+            &mut state.used,
+            &mut state.work,
+            budget,
+            may_widen,
+        ) {
+            StepsPause::Ended(_) => {
+                state.phase = Phase::Between;
+                between(alloc, form, state, budget, may_widen)
+            }
+            StepsPause::Narrow => Ok(PhasesPause::Narrow),
+            StepsPause::GaveUp => Ok(PhasesPause::GaveUp),
+        },
         Phase::Between => between(alloc, form, state, budget, may_widen),
         Phase::Two => second(alloc, form, state, budget, may_widen),
     }

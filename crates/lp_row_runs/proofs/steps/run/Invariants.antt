@@ -6,12 +6,12 @@ use Rattle.lp_row_runs.specs.Steps.{ComesTo, Keeps}
 use Rattle.lp_row_runs.proofs.steps.run.Given as goal
 
 -- what is left of the steps are the same steps
-abbrev pub invariant-loop-pause : goal.invariant-loop-pause
-invariant-loop-pause g l = record {
+abbrev pub invariant-loop-next : goal.invariant-loop-next
+invariant-loop-next g l = record {
   comes : (t : Tableau) → IsReached t → Shows g.T.Words.value l.fn.tab t →
       ComesTo g.T.Words.value l.budget l.fn.used t l.tab l.used;
   keeps : Keeps g.T.Words.value l.fn.tab l.tab;
 }
 
-abbrev pub decreases-loop-pause : goal.decreases-loop-pause
-decreases-loop-pause g l = l.budget - l.used
+abbrev pub decreases-loop-next : goal.decreases-loop-next
+decreases-loop-next g l = l.budget - l.used
