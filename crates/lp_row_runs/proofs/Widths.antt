@@ -4,11 +4,10 @@
 -- `then_ends`: a result that ends one run ends every run that is equal to it.
 -- `start_size`: the start of a form has the form's rows and columns.
 -- `whole_ends`: a result that ends both phases from the start of a model's form ends the cold run of the form.
--- `as_stated`: an end with exact fractions in its certificate ends the stated run.
--- `as_narrow`: an end whose numbers all fit 127 bits has a narrow certificate.
+-- `end_stated`: an end of a run that has the certificate in exact fractions is the stated one.
+-- `end_narrow`: a certificate whose numbers all have at most 127 bits is narrow.
 use Rattle.std.proofs.Common.{◌≡◌, ℕ, List, Option, None, Result, Ok, Err, IfOk, refl, sym}
 use Rattle.std.proofs.Common.{ap, ◌∙◌, subst}
-use Rattle.std.proofs.lemmas.Result.{IfOk-weaker}
 use Rattle.spec_exact.specs.Fraction.{ℚ}
 use Rattle.spec_exact.specs.Narrow.{IsNarrow}
 use Rattle.spec_model.specs.Model.{Model}
@@ -28,9 +27,8 @@ use Rattle.spec_simplex.proofs.RunParts.{then_ok}
 use Rattle.spec_factor.specs.Over.{answer_of, answer_in}
 use Rattle.lp_rows.specs.Shows.{IsReached}
 use Rattle.lp_rows.specs.Ends.{AllFit}
-use Rattle.lp_rows.proofs.Converted.{if_some}
 use Rattle.lp_row_runs.specs.Phases.{row_end, row_end_in, HasCosts, IsReady, IsLeft, PausesWith, StaysReady}
-use Rattle.lp_row_runs.specs.Cold.{start_run, EndsAs, EndsAsStated, IsFitEnd, IsNarrowEnd, over_end}
+use Rattle.lp_row_runs.specs.Cold.{start_run, EndsAs, over_end}
 use Rattle.lp_row_runs.specs.declared.phases.State.{State}
 use Rattle.lp_row_runs.specs.declared.phases.RowEnd.{RowEnd}
 use Rattle.lp_row_runs.specs.declared.phases.PhasesPause.{PhasesPause}
@@ -93,26 +91,15 @@ same_end (Finished e) =
     ap (λ c. over_end (record { certificate = c; basis = basis_at e.tableau e.end; pivots = e.used }))
     (same_at e.tableau e.end)
 
-one_stated : (whole : Result PhasesEnd (RunStop ℚ)) (e : RowEnd ℚ) → row_end_in (λ q. q) whole ≡ Ok e →
+pub end_stated : (whole : Result PhasesEnd (RunStop ℚ)) (e : RowEnd ℚ) → row_end_in (λ q. q) whole ≡ Ok e →
     answer_in whole ≡ Ok (over_end e)
-one_stated (Ok end) e h =
+end_stated (Ok end) e h =
     let is : row_end (λ q. q) end ≡ e = cc in
     ap Ok (sym (same_end end) ∙ ap over_end is)
-one_stated (Err s) e h = let z : ◌≡◌ {A = Result (RowEnd ℚ) (RunStop ℚ)} (Err s) (Ok e) = h in cc
+end_stated (Err s) e h = let z : ◌≡◌ {A = Result (RowEnd ℚ) (RunStop ℚ)} (Err s) (Ok e) = h in cc
 
--- they are those of the stated run
-pub as_stated : {E : Type 0} (whole : Result PhasesEnd (RunStop ℚ)) (result : Result (Option (RowEnd ℚ)) E) →
-    IfOk result (EndsAs (λ q. q) whole) → IfOk result (EndsAsStated whole)
-as_stated whole result h =
-    IfOk-weaker result (EndsAs (λ q. q) whole) (EndsAsStated whole) (λ o k. if_some _ _ o (one_stated whole) k) h
-
-narrow_one : (c : Certificate (List ℚ)) → AllFit IsNarrow c → IsNarrowCertificate c
-narrow_one (certificate.Optimal x y) h = h
-narrow_one (certificate.Infeasible y) h = h
-narrow_one (certificate.Clash j) h = h
-narrow_one (certificate.Unbounded x r) h = h
-
-pub as_narrow : {E : Type 0} (result : Result (Option (RowEnd ℚ)) E) → IfOk result (IsFitEnd IsNarrow) →
-    IfOk result IsNarrowEnd
-as_narrow result h =
-    IfOk-weaker result (IsFitEnd IsNarrow) IsNarrowEnd (λ o k. if_some _ _ o (λ e. narrow_one e.certificate) k) h
+pub end_narrow : (c : Certificate (List ℚ)) → AllFit IsNarrow c → IsNarrowCertificate c
+end_narrow (certificate.Optimal x y) h = h
+end_narrow (certificate.Infeasible y) h = h
+end_narrow (certificate.Clash j) h = h
+end_narrow (certificate.Unbounded x r) h = h

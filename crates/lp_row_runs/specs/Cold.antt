@@ -1,13 +1,12 @@
 -- What the whole run ends with.
 use Rattle.std.specs.Prelude.{◌≡◌, ℕ, Option, None, IfSome, Result, Ok}
 use Rattle.spec_exact.specs.Fraction.{ℚ}
-use Rattle.spec_check.specs.Certificate.{IsNarrowCertificate}
 use Rattle.spec_simplex.specs.declared.ends.RunStop.{RunStop}
 use Rattle.spec_exact.specs.Run.{◌>>=◌}
 use Rattle.spec_simplex.specs.Form.{Form}
 use Rattle.spec_simplex.specs.Tableau.{Tableau}
 use Rattle.spec_simplex.specs.Phases.{PhasesEnd, phase_one}
-use Rattle.spec_factor.specs.Over.{OverEnd, answer_in}
+use Rattle.spec_factor.specs.Over.{OverEnd}
 use Rattle.lp_rows.specs.Ends.{AllFit}
 use Rattle.lp_row_runs.specs.Phases.{after_one, row_end_in}
 use Rattle.lp_row_runs.specs.declared.phases.RowEnd.{RowEnd}
@@ -27,11 +26,3 @@ IsFitEnd fits result = IfSome result (λ e. AllFit fits e.certificate)
 -- an end over rows as an end of the definitions
 abbrev pub over_end : RowEnd ℚ → OverEnd
 over_end e = record { certificate = e.certificate; basis = e.basis; pivots = e.pivots }
-
--- where there is an end it is that of the stated run without a limit on numbers
-abbrev pub EndsAsStated : Result PhasesEnd (RunStop ℚ) → Option (RowEnd ℚ) → Type 0
-EndsAsStated whole result = IfSome result (λ e. answer_in whole ≡ Ok (over_end e))
-
--- where there is an end the numbers of its certificate have at most 127 bits
-abbrev pub IsNarrowEnd : Option (RowEnd ℚ) → Type 0
-IsNarrowEnd result = IfSome result (λ e. IsNarrowCertificate e.certificate)

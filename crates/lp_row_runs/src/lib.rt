@@ -4,8 +4,7 @@
 //!
 //! | Item | What it is | Where |
 //! |---|---|---|
-//! | `cold_over_rows` | the cold run of a form within a budget, with a certificate in numbers of 127 bits | src/cold_run |
-//! | `wide_cold` | the cold run with a certificate in numbers of any width | src/cold_run |
+//! | `cold_over_rows` | the cold run of a form within a budget, with a certificate in one kind of numbers | src/cold_run |
 //! | `RowEnd` | what a run ends with | src/phases |
 //! | `wide_warm` | the run from a basis of a form within a budget | src/warm_run |
 //! | `AllWidths`, `Widths` | the widths of words, and a run in words of one width after the other | src/ladder |
@@ -36,6 +35,6 @@ mod start;
 mod steps;
 mod warm_run;
 
-pub use cold_run::{cold_over_rows, wide_cold};
+pub use cold_run::cold_over_rows;
 pub use phases::RowEnd;
 pub use warm_run::wide_warm;

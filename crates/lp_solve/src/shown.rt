@@ -18,7 +18,7 @@ use lp_frac::Stop;
 use lp_lift::{Lifted, answer_of_basis};
 use lp_model::Model;
 use lp_ratio::Ratio;
-use lp_row_runs::{RowEnd, wide_cold, wide_warm};
+use lp_row_runs::{RowEnd, cold_over_rows, wide_warm};
 use spec_runs::Route;
 use spec_solve::Origin;
 use std::alloc::{AllocError, Global};
@@ -376,7 +376,7 @@ pub(crate) fn over_rows(
     requires { form_of (Some number_limit) model.now ≡ Ok form.now }
     ensures { IfOk result (λ o. IfSome o (IsExactAnswer model.now)) }
 {
-    match wide_cold(alloc, form, budget, WIDE_WORK)? {
+    match cold_over_rows::<Ratio>(alloc, form, budget, WIDE_WORK)? {
         Some(end) => at_row_end(alloc, model, form, end, route),
         None => Ok(None),
     }

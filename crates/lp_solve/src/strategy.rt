@@ -9,7 +9,7 @@ ghost use Rattle.lp_solve.specs.Strategy.{IsRunOf, KeepsRefusal};
 use crate::basis::basis_of;
 use crate::cold::{End, checked_cold, from_form};
 use lp_form::Form;
-use lp_frac::Stop;
+use lp_frac::{Frac, Stop};
 use lp_model::Model;
 use lp_revised::cold_over_factors;
 use lp_row_runs::cold_over_rows;
@@ -117,7 +117,7 @@ fn run(
             Err(Stop::NoMemory) => Err(AllocError),
         },
         Engine::Tableaus => from_form(alloc, budget, model, form),
-        Engine::Rows => match cold_over_rows(alloc, form, budget, work)? {
+        Engine::Rows => match cold_over_rows::<Frac>(alloc, form, budget, work)? {
             Some(row_end) => Ok(checked_cold(
                 model,
                 row_end.certificate,

@@ -3,6 +3,7 @@
 use Rattle.std.proofs.Common.{IfOk, sym, subst}
 use Rattle.spec_check.specs.declared.solve_end.SolveEnd.TheVariants.{Spent}
 use Rattle.lp_row_runs.proofs.BothPhases.{of_some}
+use Rattle.lp_row_runs.proofs.Widths.{end_stated, end_narrow}
 use Rattle.lp_solve.specs.Strategy.{IsRunOf}
 use Rattle.lp_solve.proofs.Factored.{over_fits, over_accepted, over_leaves, over_ends, past_stops, spent_stops}
 use Rattle.lp_solve.proofs.Factored.{factors_run, tableaus_run}
@@ -59,24 +60,32 @@ returns-in-Tableaus-clause-answer c =
 pub basis_of-requires-in-Some : goal.basis_of-requires-in-Some
 basis_of-requires-in-Some c =
     over_leaves c.args.budget c.args.model.now c.args.form.now c.requires (run_end c.in-Some.row_end)
-    (of_some _ _ _ c.in-Some.is (c.in_ok-row_end-in-Rows.ensures.whole c.args.model.now c.requires))
+    (end_stated _ c.in-Some.row_end
+    (of_some _ _ _ c.in-Some.is (c.in_ok-row_end-in-Rows.ensures.whole c.args.model.now c.requires)))
 
 pub checked_cold-requires-in-Some-clause-fits : goal.checked_cold-requires-in-Some-clause-fits
 checked_cold-requires-in-Some-clause-fits c =
     over_fits c.args.budget c.args.model.now c.args.form.now c.requires (run_end c.in-Some.row_end)
-    (of_some _ _ _ c.in-Some.is (c.in_ok-row_end-in-Rows.ensures.whole c.args.model.now c.requires))
+    (end_stated _ c.in-Some.row_end
+    (of_some _ _ _ c.in-Some.is (c.in_ok-row_end-in-Rows.ensures.whole c.args.model.now c.requires)))
 
 pub checked_cold-requires-in-Some-clause-never_no : goal.checked_cold-requires-in-Some-clause-never_no
 checked_cold-requires-in-Some-clause-never_no c =
     over_accepted c.args.budget c.args.model.now c.args.form.now c.requires (run_end c.in-Some.row_end)
-    (of_some _ _ _ c.in-Some.is (c.in_ok-row_end-in-Rows.ensures.whole c.args.model.now c.requires))
+    (end_stated _ c.in-Some.row_end
+    (of_some _ _ _ c.in-Some.is (c.in_ok-row_end-in-Rows.ensures.whole c.args.model.now c.requires)))
+
+pub checked_cold-requires-in-Some-clause-narrow : goal.checked_cold-requires-in-Some-clause-narrow
+checked_cold-requires-in-Some-clause-narrow c =
+    end_narrow c.in-Some.row_end.certificate (of_some _ _ _ c.in-Some.is c.in_ok-row_end-in-Rows.ensures.fits)
 
 pub returns-in-Some-clause-answer : goal.returns-in-Some-clause-answer
 returns-in-Some-clause-answer c =
     subst (λ engine. IsRunOf c.args.budget c.args.model.now c.args.form.now engine c.checked_cold-in-Some.result)
     (sym c.in-Rows.is)
     (rows_run c.args.budget c.args.model.now c.args.form.now c.requires (run_end c.in-Some.row_end)
-    (of_some _ _ _ c.in-Some.is (c.in_ok-row_end-in-Rows.ensures.whole c.args.model.now c.requires))
+    (end_stated _ c.in-Some.row_end
+    (of_some _ _ _ c.in-Some.is (c.in_ok-row_end-in-Rows.ensures.whole c.args.model.now c.requires)))
     c.checked_cold-in-Some.result (rw c.basis_of-in-Some.ensures at c.checked_cold-in-Some.ensures.answer))
 
 pub returns-in-None-clause-answer : goal.returns-in-None-clause-answer
