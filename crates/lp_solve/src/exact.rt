@@ -171,21 +171,8 @@ fn by_runs(
     }
 }
 
-// Guesses an answer, which is checked: that of the starting basis or of one a few steps on, or that of a float run.
-fn guessed(
-    alloc: Global,
-    model: &Model,
-    starting: Option<&Basis>,
-) -> Result<Option<ExactAnswer>, AllocError>
-    ensures { IfOk result (λ o. IfSome o (IsExactAnswer model.now)) }
-{
-    match starting {
-        Some(basis) => at_basis(alloc, model, basis),
-        None => at_float_end(alloc, model),
-    }
-}
-
-// Solves a model exactly by its form: by a guess, or else by runs.
+// Solves a model exactly by its form: by a guess, which is checked, or else by runs. The guess is the answer of the
+// starting basis or of one a few steps on, or that of a float run.
 fn by_form(
     alloc: Global,
     model: &Model,
@@ -197,7 +184,11 @@ fn by_form(
     requires fits { IfSome starting (λ basis. IsBasisOf form.now basis.now) }
     ensures { IfOk result (IsExactEnd model.now budget (option_map (λ basis. basis.now) starting.entry)) }
 {
-    match guessed(alloc, model, starting)? {
+    let guess = match starting {
+        Some(basis) => at_basis(alloc, model, basis)?,
+        None => at_float_end(alloc, model)?,
+    };
+    match guess {
         Some(answer) => Ok(ExactEnd::Answered(answer)),
         None => by_runs(alloc, model, budget, form, starting),
     }

@@ -230,18 +230,6 @@ fn lifted_at(
     Ok(lifted)
 }
 
-// The answer of the basis that a float run ends with, from these statuses or from the start that each model has.
-fn lifted_end(
-    alloc: Global,
-    model: &Model,
-    start: Option<&[Status]>,
-) -> Result<Option<Lifted>, AllocError>
-    ensures { IfOk result (λ o. IfSome o (λ l. IsFor model.now l.certificate)) }
-{
-    let end = float_end(alloc, model, start)?;
-    lifted_at(alloc, model, end)
-}
-
 // Whether a column entered a basis, or went to another bound.
 fn has_moved(from: Status, to: Status) -> bool {
     match (from, to) {
@@ -268,7 +256,8 @@ fn moves(from: &[Status], to: &[Status]) -> u64 {
 pub(crate) fn at_float_end(alloc: Global, model: &Model) -> Result<Option<ExactAnswer>, AllocError>
     ensures { IfOk result (λ o. IfSome o (IsExactAnswer model.now)) }
 {
-    match lifted_end(alloc, model, None)? {
+    let end = float_end(alloc, model, None)?;
+    match lifted_at(alloc, model, end)? {
         Some(lifted) => {
             let Lifted {
                 certificate,
@@ -308,7 +297,8 @@ pub(crate) fn at_float_end_from(
 ) -> Result<Option<ExactAnswer>, AllocError>
     ensures { IfOk result (λ o. IfSome o (IsExactAnswer model.now)) }
 {
-    match lifted_end(alloc, model, Some(basis.as_slice()))? {
+    let end = float_end(alloc, model, Some(basis.as_slice()))?;
+    match lifted_at(alloc, model, end)? {
         Some(lifted) => {
             let origin = Origin::Warm(u64::from(lifted.steps));
             at_lifted(alloc, model, lifted, origin)
@@ -324,7 +314,8 @@ pub(crate) fn at_float_end_beside(
 ) -> Result<Option<ExactAnswer>, AllocError>
     ensures { IfOk result (λ o. IfSome o (IsExactAnswer model.now)) }
 {
-    match lifted_end(alloc, model, None)? {
+    let end = float_end(alloc, model, None)?;
+    match lifted_at(alloc, model, end)? {
         Some(lifted) => {
             let origin = Origin::Fell(u64::from(lifted.steps));
             at_lifted(alloc, model, lifted, origin)
