@@ -13,6 +13,7 @@ use Rattle.basis_board.specs.Spelled.{AreSpelled, IsAnswered}
 use Rattle.basis_board.specs.Noted.{IsOfClaimed, AnyKindIsAnswered}
 use Rattle.basis_board.proofs.StepLemmas.{steps_read}
 
+-- a read that is so of the words, and of a claimed place or the count, is answered by the places they spell
 answered : (places session : ℕ) (s : State ℕ View) (now : List ExactPlace) (r : RawRead) → Kept places s →
     AreSpelled s.words now → IsTrueOf s.words r → IsOfClaimed s.words r →
     IsAnswered places now session (exact_read r) s.words
@@ -28,6 +29,7 @@ answered places session s now (Lost c) kept is t of =
     ((steps_read places s now kept is).loses session)
 answered places session s now (Done k xs) kept is t of = absurd of
 
+-- whatever kind a step is that leaves its word as it was, the places answer the one read that it notes
 pub any_kind : AnyKindIsAnswered
 any_kind places session i n id s v w slots act read now r at left r' l more is of =
     answered places session (viewed s) now read r.kept is

@@ -38,32 +38,39 @@ use Rattle.basis_board.proofs.Timing.{made_then, one_log, set_here, same_notes, 
 
 -- ---- views among sights
 
+-- where a sight stands at i, its view stands at i in the list of views
 get_view : (vs : List Sight) (i : ℕ) (v : Sight) → get_elem? vs i ≡ some v →
     get_elem? (map (λ (u : Sight). u.view) vs) i ≡ some v.view
 get_view [] i v e = absurd (some-ne-none v (sym e))
 get_view (z ∷ zs) zero v e = ap (λ (u : Sight). some u.view) (some-injective z v e)
 get_view (z ∷ zs) (suc i) v e = get_view zs i v e
 
+-- the views of sights of which one is replaced are the views with its view replaced
 set_view : (vs : List Sight) (i : ℕ) (w : Sight) →
     map (λ (u : Sight). u.view) (set vs i w) ≡ set (map (λ (u : Sight). u.view) vs) i w.view
 set_view [] i w = refl
 set_view (z ∷ zs) zero w = refl
 set_view (z ∷ zs) (suc i) w = ap (λ l. z.view ∷ l) (set_view zs i w)
 
+-- the views of sights with one more at the end are the views with its view at the end
 push_view : (vs : List Sight) (w : Sight) →
     map (λ (u : Sight). u.view) (vs ++ w ∷ []) ≡ map (λ (u : Sight). u.view) vs ++ w.view ∷ []
 push_view [] w = refl
 push_view (z ∷ zs) w = ap (λ l. z.view ∷ l) (push_view zs w)
 
+-- words grow to words that are equal to them
 grows_is : (ws us : List ℕ) → us ≡ ws → Grows ws us
 grows_is ws us e = subst (Grows ws) (sym e) (grows_same ws)
 
+-- words that are equal to others have as many claimed places and the same done ones
 like_is : (ws us : List ℕ) → us ≡ ws → IsLike ws us
 like_is ws us e = record { counted = ap count e; dones = λ k. ap (λ l. done l k) e }
 
+-- words that are equal to others grow to those
 grows_back : (ws us : List ℕ) → us ≡ ws → Grows us ws
 grows_back ws us e = subst (λ l. Grows l ws) (sym e) (grows_same ws)
 
+-- reads that were true at their moments are true when the newest one has one word more
 true_grown : (ms : List Moment) (rs : List RawRead) (b : ℕ) → WereTrue ms rs → WereTrue ms (grown_reads rs b)
 true_grown [] [] b h = tt
 true_grown [] (r ∷ rs) b h = absurd h
@@ -87,6 +94,7 @@ alike_grown (Claim k) b ws us t = t
 alike_grown (Lost c) b ws us t = t
 alike_grown (Done k xs) b ws us t = t
 
+-- each note of reads whose newest one has one word more stood there before, with an alike read
 grown_notes : (ms : List Moment) (rs : List RawRead) (b : ℕ) (n : Note) → Has (notes ms (grown_reads rs b)) n →
     HadAlike (notes ms rs) n
 grown_notes [] rs b n h = absurd h
@@ -324,6 +332,7 @@ module _ (places : ℕ) where
 
 -- ---- what no kind of step can do
 
+-- where two words grow to each other, a read that is true of the second is true of the first
 true_alike : (ws us : List ℕ) (r : RawRead) → Grows ws us → Grows us ws → IsTrueOf us r → IsTrueOf ws r
 true_alike ws us (Count c) a b t = let x = a.counted in let y = b.counted in omega arith
 true_alike ws us (Open k) a b t = let x = a.dones k in let y = b.dones k in omega arith

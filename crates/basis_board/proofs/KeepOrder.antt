@@ -26,6 +26,7 @@ use Rattle.basis_board.proofs.Pushing.{in_turn, all_more, pairs_more}
 abbrev IsAfter : RawRead → List RawRead → Type 0
 IsAfter r earlier = Each (λ q. AreInOrder (exact_read q) (exact_read r)) earlier
 
+-- a read that is in order after any read is in order after each of a list
 after_all : (r : RawRead) → ((q : RawRead) → AreInOrder (exact_read q) (exact_read r)) → (earlier : List RawRead) →
     IsAfter r earlier
 after_all r h [] = tt
@@ -43,6 +44,7 @@ before_count seen c below (Lost d) stands most = most
 before_count seen c below (Done k words) stands most =
     each_has (λ (p : ℕ × List ℕ). p.0 < c) seen (k, stands.0) below stands.1
 
+-- a read that gave at most c is in order before a claim that was lost at count c
 before_lost : (c : ℕ) (q : RawRead) → IsAtMost c q → AreInOrder (exact_read q) (read.Lost c)
 before_lost c (Count d) most = most
 before_lost c (Open k) most = tt
@@ -51,6 +53,7 @@ before_lost c (Claim k) most = tt
 before_lost c (Lost d) most = most
 before_lost c (Done k words) most = tt
 
+-- where no entry seen is of place j, each read that was seen is in order before j as not done
 before_open : (seen : List (ℕ × List ℕ)) (j : ℕ) → Each (λ p. p.0 ≢ j) seen → (q : RawRead) → StandsIn seen q →
     AreInOrder (exact_read q) (read.NotDone j)
 before_open seen j unseen (Count d) stands = tt
@@ -62,6 +65,7 @@ before_open seen j unseen (Lost d) stands = tt
 before_open seen j unseen (Done k words) stands =
     each_has (λ (p : ℕ × List ℕ). p.0 ≢ j) seen (k, stands.0) unseen stands.1
 
+-- any read is in order before words read of a place
 before_see : (j : ℕ) (new : List ℕ) (q : RawRead) → AreInOrder (exact_read q) (read.Seen j new)
 before_see j new (Count d) = tt
 before_see j new (Open k) = tt
@@ -70,6 +74,7 @@ before_see j new (Claim k) = tt
 before_see j new (Lost d) = tt
 before_see j new (Done k words) = tt
 
+-- any read is in order before a claim
 before_claim : (j : ℕ) (q : RawRead) → AreInOrder (exact_read q) (read.Claim j)
 before_claim j (Count d) = tt
 before_claim j (Open k) = tt
@@ -78,6 +83,7 @@ before_claim j (Claim k) = tt
 before_claim j (Lost d) = tt
 before_claim j (Done k words) = tt
 
+-- any read is in order before a publication
 before_done : (j : ℕ) (new : List ℕ) (q : RawRead) → AreInOrder (exact_read q) (read.Done j new)
 before_done j new (Count d) = tt
 before_done j new (Open k) = tt
@@ -106,6 +112,7 @@ record AreOrderly (reads : List RawRead) : Type 0 where
   ordered : InPairs AreInOrder (in_turn reads)
   whole : AllByRecursion IsWhole (in_turn reads)
 
+-- orderly reads stay orderly with a whole read that is in order after them
 one_more : (r : RawRead) (reads : List RawRead) → AreOrderly reads → IsAfter r reads → IsWhole (exact_read r) →
     AreOrderly (r ∷ reads)
 one_more r reads h after whole = record {
@@ -113,6 +120,7 @@ one_more r reads h after whole = record {
   whole = all_more IsWhole r reads h.whole whole;
 }
 
+-- a view is orderly where its reads are
 of_view : (v : View) → AreOrderly v.reads → IsOrderly v
 of_view v h = record { ordered = h.ordered; whole = h.whole }
 

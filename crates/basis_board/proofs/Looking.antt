@@ -53,6 +53,7 @@ reads_on k i n m words v u w room is h g cons =
           v.seen h.agrees known');
     }
 
+-- with the load of the last word of a place, its 49 words are well formed
 formed_on : (k i n m : ℕ) (words : List ℕ) (v u w : View) → i < 49 → m ≡ 50 * k + 1 + i → IsReading k i words v u →
     WordRead ((m - 1) / 50) ((m - 1) % 50) u n w → Consistent w → i + 1 ≡ 49 → IsWellFormed (set words i n)
 formed_on k i n m words v u w room is h g cons last =

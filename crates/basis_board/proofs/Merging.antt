@@ -41,17 +41,20 @@ abbrev pub sum_of : ℕ → (ℕ → ℕ) → ℕ
 sum_of zero f = 0
 sum_of (suc m) f = f 0 + sum_of m (λ i. f (suc i))
 
+-- two functions that are equal below m have the same sum below m
 sum_same : (m : ℕ) (f g : ℕ → ℕ) → ((i : ℕ) → i < m → f i ≡ g i) → sum_of m f ≡ sum_of m g
 sum_same zero f g h = refl
 sum_same (suc m) f g h =
     let a = h 0 (omega arith) in
     let b = sum_same m (λ i. f (suc i)) (λ i. g (suc i)) (λ i l. h (suc i) (omega arith)) in omega arith
 
+-- the value at a number below m is at most the sum below m
 sum_at : (m : ℕ) (f : ℕ → ℕ) (i : ℕ) → i < m → f i ≤ sum_of m f
 sum_at zero f i l = absurd (omega arith)
 sum_at (suc m) f zero l = omega arith
 sum_at (suc m) f (suc i) l = let h = sum_at m (λ k. f (suc k)) i (omega arith) in omega arith
 
+-- the values at two different numbers below m are together at most the sum below m
 sum_two : (m : ℕ) (f : ℕ → ℕ) (i j : ℕ) → i < m → j < m → (i ≡ j → ⊥) → f i + f j ≤ sum_of m f
 sum_two zero f i j l k n = absurd (omega arith)
 sum_two (suc m) f zero zero l k n = absurd (n refl)
@@ -60,6 +63,7 @@ sum_two (suc m) f (suc i) zero l k n = let h = sum_at m (λ x. f (suc x)) i (ome
 sum_two (suc m) f (suc i) (suc j) l k n =
     let h = sum_two m (λ x. f (suc x)) i j (omega arith) (omega arith) (λ e. n (ap suc e)) in omega arith
 
+-- where the sum below m is not 0, some value below m is not 0
 sum_some : (m : ℕ) (f : ℕ → ℕ) → 1 ≤ sum_of m f → (i : ℕ) × (i < m) × (1 ≤ f i)
 sum_some zero f l = absurd (omega arith)
 sum_some (suc m) f l =
@@ -68,6 +72,7 @@ sum_some (suc m) f l =
 
 -- ---- one list
 
+-- in numbers that ascend from t, no number below t occurs
 pub none_before : (t s : ℕ) (xs : List Mark) → Ascends t xs → s < t → marked s xs ≡ 0
 none_before t s [] a l = refl
 none_before t s (x ∷ xs) a l =
@@ -83,6 +88,7 @@ record Head (t : ℕ) (xs : List Mark) : Type 0 where
   is : mark.number ≡ t
   on : Ascends (t + 1) rest
 
+-- where numbers ascend from t and t occurs, the first one is t
 head_is : (t : ℕ) (xs : List Mark) → Ascends t xs → 1 ≤ marked t xs → Head t xs
 head_is t [] a m = absurd (omega arith)
 head_is t (x ∷ xs) a m =
@@ -98,6 +104,7 @@ head_is t (x ∷ xs) a m =
     let r = none_before (x.number + 1) t xs a.1 (omega arith) in absurd (omega arith))
     (cases_eq x.number t)
 
+-- numbers that ascend from t without t itself ascend from t + 1
 from_next : (t : ℕ) (xs : List Mark) → Ascends t xs → marked t xs ≡ 0 → Ascends (t + 1) xs
 from_next t [] a m = tt
 from_next t (x ∷ xs) a m =

@@ -22,6 +22,7 @@ use Rattle.basis_board.specs.Rule.{StandsIn, Neat, ReadAgrees, Consistent}
 use Rattle.basis_board.proofs.Totals.{total_at, each_map, each_append, has_left, has_right}
 use Rattle.basis_board.proofs.Frames.{St, shows_same}
 
+-- what a read has seen is still seen where each entry that was seen still is
 stands_in : (seen more : List (ℕ × List ℕ)) → ((p : ℕ × List ℕ) → Has seen p → Has more p) → (r : RawRead) →
     StandsIn seen r → StandsIn more r
 stands_in seen more into (Count c) h = tt
@@ -31,6 +32,7 @@ stands_in seen more into (Claim k) h = tt
 stands_in seen more into (Lost c) h = tt
 stands_in seen more into (Done k xs) h = (h.0, into (k, h.0) h.1, h.2)
 
+-- a neat view stays neat when it notes a read that publishes nothing and has been seen
 neat_noted : (v : View) (r : RawRead) → published_places (r ∷ v.reads) ≡ published_places v.reads → StandsIn v.seen r →
     Neat v → Neat (noted v r)
 neat_noted v r same stands n = record { published = n.published ∙ sym same; stands = (stands, n.stands) }
@@ -83,6 +85,7 @@ longer_in k b xs rest j n h = ⊎_elim
     (λ (g : Has rest (j, h.0)). (h.0, inr g, h.2))
     h.1
 
+-- what a read has seen is still seen when the newest entry has one word more
 stands_longer : (k b : ℕ) (xs : List ℕ) (rest : List (ℕ × List ℕ)) (r : RawRead) → StandsIn ((k, xs) ∷ rest) r →
     StandsIn ((k, xs ++ b ∷ []) ∷ rest) r
 stands_longer k b xs rest (Count c) h = tt
@@ -109,6 +112,7 @@ neat_reading v k b xs rest old top last n =
           );
     }
 
+-- the places published in two lists of reads, the newest first, are those of the second and then the first
 published-append : (xs ys : List RawRead) → published_places (xs ++ ys) ≡ published_places ys ++ published_places xs
 published-append [] ys = sym (append-nil (published_places ys))
 published-append (Count c ∷ xs) ys = published-append xs ys
@@ -131,9 +135,11 @@ neat_met v w n m = record {
       (stands_in v.seen (v.seen ++ w.seen) (λ p. has_left v.seen w.seen p)) v.reads n.stands);
 }
 
+-- two entries that both fit the words agree as far as both go
 agree : (ws : List ℕ) (p q : ℕ × List ℕ) → SeenFits ws p → SeenFits ws q → Agree p q
 agree ws p q a b e i l m = sym (a.1.same i l) ∙ (ap (λ (z : ℕ). get_or ws (50 * z + 1 + i) 0) e ∙ b.1.same i m)
 
+-- a read that fits the words agrees with all that was seen, where that fits the words too
 read_agrees : (ws : List ℕ) (seen : List (ℕ × List ℕ)) → Each (SeenFits ws) seen → (r : RawRead) → ReadFits ws r →
     ReadAgrees seen r
 read_agrees ws seen all (Count c) h = tt
@@ -143,6 +149,7 @@ read_agrees ws seen all (Claim k) h = tt
 read_agrees ws seen all (Lost c) h = tt
 read_agrees ws seen all (Done k xs) h = each_map (SeenFits ws) (Agree (k, xs)) (λ q c. agree ws (k, xs) q h c) seen all
 
+-- where a list has an element at i, the element written there stands there
 at_here : {X : Type 0} (xs : List X) (i : ℕ) (x y : X) → get_elem? xs i ≡ some x → get_elem? (set xs i y) i ≡ some y
 at_here [] i x y e = absurd (some-ne-none x (sym e))
 at_here (z ∷ zs) zero x y e = refl

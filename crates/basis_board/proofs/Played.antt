@@ -23,42 +23,51 @@ use Rattle.basis_board.proofs.Pushing.{all_push}
 
 -- ---- lists
 
+-- a list with a first element, put in reverse, ends with this element
 reverse_first : {X : Type 0} (x : X) (xs : List X) → reverse (x ∷ xs) ≡ reverse xs ++ x ∷ []
 reverse_first x xs = reverse-append (x ∷ []) xs
 
+-- mapping a reversed list gives the mapped list reversed
 map_reverse : {X Y : Type 0} (f : X → Y) (xs : List X) → map f (reverse xs) ≡ reverse (map f xs)
 map_reverse f [] = refl
 map_reverse f (x ∷ xs) =
     ap (map f) (reverse_first x xs) ∙ map-append f (reverse xs) (x ∷ [])
     ∙ ap (λ ys. ys ++ f x ∷ []) (map_reverse f xs) ∙ sym (reverse_first (f x) (map f xs))
 
+-- what holds of each element of a list holds of each element of its reverse
 all_reverse : {X : Type 0} (P : X → Type 0) (xs : List X) → AllByRecursion P xs → AllByRecursion P (reverse xs)
 all_reverse P [] h = tt
 all_reverse P (x ∷ xs) h =
     subst (AllByRecursion P) (sym (reverse_first x xs)) (all_push P (reverse xs) x (all_reverse P xs h.1) h.0)
 
+-- what holds of each element of a mapped list holds of what f gives for each element
 all_unmap : {X Y : Type 0} (f : X → Y) (P : Y → Type 0) (xs : List X) → AllByRecursion P (map f xs) →
     AllByRecursion (λ x. P (f x)) xs
 all_unmap f P [] h = tt
 all_unmap f P (x ∷ xs) h = (h.0, all_unmap f P xs h.1)
 
+-- what holds of whatever a list has holds of each of its elements
 all_of : {X : Type 0} (P : X → Type 0) (xs : List X) → ((x : X) → Has xs x → P x) → AllByRecursion P xs
 all_of P [] h = tt
 all_of P (x ∷ xs) h = (h x (inl refl), all_of P xs (λ y m. h y (inr m)))
 
+-- what holds of each element of a list holds of whatever it has
 of_all : {X : Type 0} (P : X → Type 0) (xs : List X) (x : X) → AllByRecursion P xs → Has xs x → P x
 of_all P [] x h m = absurd m
 of_all P (y ∷ xs) x h m = ⊎_elim (λ (e : y ≡ x). subst P e h.0) (λ (r : Has xs x). of_all P xs x h.1 r) m
 
+-- an element of a reversed list is one of the list
 has_reverse : {X : Type 0} (xs : List X) (x : X) → Has (reverse xs) x → Has xs x
 has_reverse xs x h = of_all (Has xs) (reverse xs) x (all_reverse (Has xs) xs (all_of (Has xs) xs (λ y m. m))) h
 
+-- what f gives for an element is in the mapped list
 has_map : {X Y : Type 0} (f : X → Y) (xs : List X) (x : X) → Has xs x → Contains (map f xs) (f x)
 has_map f [] x h = absurd h
 has_map f (y ∷ xs) x h =
     ⊎_elim (λ (e : y ≡ x). (zero, omega arith, ap f e))
     (λ (r : Has xs x). Contains-append_right (f y ∷ []) (map f xs) (f x) (has_map f xs x r)) h
 
+-- what is in a mapped list is what f gives for some element of the list
 contains_map : {X Y : Type 0} (f : X → Y) (xs : List X) (y : Y) → Contains (map f xs) y →
     (x : X) × Has xs x × (f x ≡ y)
 contains_map f [] y (i, l, e) = absurd (omega arith)
@@ -73,6 +82,7 @@ has_flat f [] i d y l h = absurd (omega arith)
 has_flat f (x ∷ xs) zero d y l h = has_left (f x) (flat_map f xs) y h
 has_flat f (x ∷ xs) (suc i) d y l h = has_right (f x) (flat_map f xs) y (has_flat f xs i d y (omega arith) h)
 
+-- what is in the list that f gives for element i is in all of these lists, one after the other
 contains_flat : {X Y : Type 0} (f : X → List Y) (xs : List X) (i : ℕ) (d : X) (y : Y) → i < length xs →
     Contains (f (get_or xs i d)) y → Contains (flat_map f xs) y
 contains_flat f [] i d y l h = absurd (omega arith)
@@ -97,9 +107,11 @@ note_of x = record { number = x.number; words = x.words; read = x.read }
 abbrev AreReads : List RawRead → List Logged → Type 0
 AreReads rs ls = map (λ (x : Logged). x.read) ls ≡ map exact_read rs
 
+-- a logged read is its session with its read
 one_logged : (l : Logged) (r : RawRead) → l.read ≡ exact_read r → of_read l.session (exact_read r) ≡ l
 one_logged l r e = ap (of_read l.session) (sym e)
 
+-- the marks of a pass, as logged reads, are its log
 logged_are : (ms : List Moment) (rs : List RawRead) (ls : List Logged) → WereTrue ms rs → AreReads rs ls →
     map logged_of (marks ms rs ls) ≡ ls
 unfolding marks
@@ -114,6 +126,7 @@ logged_are (m ∷ ms) (r ∷ rs) (l ∷ ls) h e =
     ap (λ (x : Logged). x ∷ map logged_of (marks ms rs ls)) (one_logged l r first)
     ∙ ap (λ xs. l ∷ xs) (logged_are ms rs ls h.1 rest)
 
+-- a number stands in the marks of a pass as often as in its notes
 marked_are : (t : ℕ) (ms : List Moment) (rs : List RawRead) (ls : List Logged) → WereTrue ms rs → AreReads rs ls →
     marked t (marks ms rs ls) ≡ numbered t (notes ms rs)
 unfolding marks
@@ -124,6 +137,7 @@ marked_are t (m ∷ ms) (r ∷ rs) (l ∷ ls) h e =
     let rest : AreReads rs ls = cc in
     ap (λ n. one_if (eqb m.0 t) + n) (marked_are t ms rs ls h.1 rest)
 
+-- the note of each mark of a pass is one of the notes of the pass
 mark_noted : (ms : List Moment) (rs : List RawRead) (ls : List Logged) (x : Mark) → Has (marks ms rs ls) x →
     Has (notes ms rs) (note_of x)
 unfolding marks
@@ -140,6 +154,7 @@ abbrev Falls : List Mark → Type 0
 Falls [] = Unit {0}
 Falls (x ∷ xs) = AllByRecursion (λ (y : Mark). y.number < x.number) xs × Falls xs
 
+-- where all moments are before number n, the numbers of the marks are below n
 below_first : (n : ℕ) (ms old : List Moment) (rs : List RawRead) (ls : List Logged) →
     Each (λ (m : Moment). m.0 < n) (ms ++ old) → AllByRecursion (λ (y : Mark). y.number < n) (marks ms rs ls)
 unfolding marks
@@ -148,6 +163,7 @@ below_first n (m ∷ ms) old [] ls e = tt
 below_first n (m ∷ ms) old (r ∷ rs) [] e = tt
 below_first n (m ∷ ms) old (r ∷ rs) (l ∷ ls) e = (e.0, below_first n ms old rs ls e.1)
 
+-- where each moment comes after those before it, the numbers of the marks fall
 marks_fall : (ms : List Moment) (rs : List RawRead) (ls : List Logged) → ComeAfter ms [] → Falls (marks ms rs ls)
 unfolding marks
 marks_fall [] rs ls c = tt
@@ -155,12 +171,14 @@ marks_fall (m ∷ ms) [] ls c = tt
 marks_fall (m ∷ ms) (r ∷ rs) [] c = tt
 marks_fall (m ∷ ms) (r ∷ rs) (l ∷ ls) c = (below_first m.0 ms [] rs ls c.0, marks_fall ms rs ls c.1)
 
+-- ascending numbers ascend with one more at the end that is above all of them
 ascends_push : (t : ℕ) (xs : List Mark) (x : Mark) → Ascends t xs → t ≤ x.number →
     AllByRecursion (λ (y : Mark). y.number < x.number) xs → Ascends t (xs ++ x ∷ [])
 ascends_push t [] x a l b = (l, tt)
 ascends_push t (y ∷ xs) x a l b =
     let below = b.0 in (a.0, ascends_push (y.number + 1) xs x a.1 (omega arith) b.1)
 
+-- falling numbers, in reverse, ascend from 0
 ascends_back : (xs : List Mark) → Falls xs → Ascends 0 (reverse xs)
 ascends_back [] f = tt
 ascends_back (x ∷ xs) f =
@@ -168,11 +186,13 @@ ascends_back (x ∷ xs) f =
     (ascends_push 0 (reverse xs) x (ascends_back xs f.1) (omega arith)
     (all_reverse (λ (y : Mark). y.number < x.number) xs f.0))
 
+-- a mark at the end adds 1 to how often its number stands there
 marked_push : (t : ℕ) (xs : List Mark) (x : Mark) →
     marked t (xs ++ x ∷ []) ≡ one_if (eqb x.number t) + marked t xs
 marked_push t [] x = refl
 marked_push t (y ∷ xs) x = let h = marked_push t xs x in omega arith
 
+-- a number stands in a reversed list as often as in the list
 marked_back : (t : ℕ) (xs : List Mark) → marked t (reverse xs) ≡ marked t xs
 marked_back t [] = refl
 marked_back t (x ∷ xs) =
@@ -181,6 +201,7 @@ marked_back t (x ∷ xs) =
 
 -- ---- what is supposed was so
 
+-- a read that is exactly a count of c is the raw read of the count c
 count_back : (r : RawRead) (c : ℕ) → exact_read r ≡ read.Count c → r ≡ Count c
 count_back (Count d) c e = let z : d ≡ c = cc in ap Count z
 count_back (Open k) c e = cc
@@ -189,6 +210,7 @@ count_back (Claim k) c e = cc
 count_back (Lost d) c e = cc
 count_back (Done k words) c e = cc
 
+-- a read that is exactly a claim of k is the raw claim of k
 claim_back : (r : RawRead) (k : ℕ) → exact_read r ≡ read.Claim k → r ≡ Claim k
 claim_back (Count d) k e = cc
 claim_back (Open j) k e = cc
@@ -243,10 +265,12 @@ module _ (places : ℕ) (all : List Mark) (so : (x : Mark) → Has all x → IsT
 
 -- ---- all passes
 
+-- a number stands in two lists of notes together as often as in one and in the other
 numbered_push : (t : ℕ) (xs ys : List Note) → numbered t (xs ++ ys) ≡ numbered t xs + numbered t ys
 numbered_push t [] ys = omega arith
 numbered_push t (x ∷ xs) ys = let h = numbered_push t xs ys in omega arith
 
+-- a number stands in the notes of all passes as often as in each, added up
 numbered_all : (t : ℕ) (passes : List Known) (f : ℕ → ℕ) →
     ((i : ℕ) (d : Known) → i < length passes → f i ≡ numbered t (notes_of (get_or passes i d))) →
     numbered t (flat_map notes_of passes) ≡ sum_of (length passes) f
@@ -256,6 +280,7 @@ numbered_all t (p ∷ passes) f h =
     let rest = numbered_all t passes (λ i. f (suc i)) (λ i d l. h (suc i) d (omega arith)) in
     let both = numbered_push t (notes_of p) (flat_map notes_of passes) in omega arith
 
+-- a worker's part of marks, as logged reads, is its log of all of them
 filter_logged : (workers i : ℕ) (xs : List Mark) →
     log_of_worker workers i (map logged_of xs) ≡ map logged_of (part workers i xs)
 filter_logged workers i [] = refl
@@ -269,11 +294,13 @@ filter_logged workers i (x ∷ xs) =
     by true = refl
     by false = refl
 
+-- where each element of xs is in ys, what xs has with or without x is in ys with x
 part_has : (xs ys : List Mark) (x y : Mark) (b : Bool) → (Has xs y → Has ys y) → Has (cond b (x ∷ xs) xs) y →
     Has (x ∷ ys) y
 part_has xs ys x y true more h = ⊎_elim (λ (e : x ≡ y). inl e) (λ (m : Has xs y). inr (more m)) h
 part_has xs ys x y false more h = inr (more h)
 
+-- a mark of a worker's part is one of the list
 has_part : (workers i : ℕ) (xs : List Mark) (y : Mark) → Has (part workers i xs) y → Has xs y
 has_part workers i [] y h = absurd h
 has_part workers i (x ∷ xs) y h =
@@ -406,6 +433,7 @@ module _ (places : ℕ) (passes : List Known) (d : Known) (logs : ℕ → List L
         parts = λ i l. filter_logged n i all ∙ ap (map logged_of) (all_merged.parts i l) ∙ had_logged i l;
       }
 
+-- whole logs of all workers, whose notes are one log and whose reads are backed, have one order
 pub all_played : (places : ℕ) (passes : List Known) (logs : ℕ → List Logged) →
     ((i : ℕ) (d : Known) → i < length passes → IsLogOf places (length passes) i (get_or passes i d) (logs i)) →
     IsOneLog (flat_map notes_of passes) → AreBacked (flat_map (λ (p : Known). reads_of p.view) passes) →

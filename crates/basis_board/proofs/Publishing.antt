@@ -10,6 +10,7 @@ use Rattle.basis_board.specs.Calls.{IsRaced}
 two_bounds : (v : View) (n e : ℕ) → n < e → OwnsBelow v n → OwnsBelow v e → ⊥
 two_bounds v n e less a b = let x = (a n).1 (omega arith) in let y = (b n).0 less in omega arith
 
+-- a publication that read the count n and then finds another count has lost a race
 pub raced : (v v1 w : View) (n e : ℕ) → Counted v n v1 → Claimed n v1 e w → e ≢ n → IsRaced v e w
 raced v v1 w n e h g apart =
     let lost = g.lost apart in

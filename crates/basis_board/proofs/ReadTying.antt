@@ -30,6 +30,7 @@ reads_more more old = ap (map exact_read) (reverse-append more old) ∙ map-appe
 
 -- ---- looks
 
+-- words of a shape that are another shape do not begin with the one that is asked for
 other_shape : (shape words : List ℕ) → length words ≡ shape_words → words ≢ shape → has_shape shape words ≡ false
 other_shape shape words size other = by (has_shape shape words) refl
   where

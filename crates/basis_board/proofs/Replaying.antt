@@ -21,6 +21,7 @@ use Rattle.basis_board.proofs.Merging.{Mark, logged_of, CountsUp}
 
 -- ---- a place is published with one list of words
 
+-- a place that a read says is published is among the places published in the reads
 published_of : (rs : List ExactRead) (k : ℕ) (words : List ℕ) → Contains rs (read.Done k words) →
     Contains (published_in rs) k
 published_of [] k words (i, l, e) = absurd (omega arith)
@@ -30,10 +31,12 @@ published_of (r ∷ rs) k words (zero, l, e) =
 published_of (r ∷ rs) k words (suc i, l, e) =
     Contains-append_right (published_by r) (published_in rs) k (published_of rs k words (i, omega arith, e))
 
+-- where no two of two lists together are equal, no two of the second are
 pairs_rest : (xs ys : List ℕ) → InPairs (λ (j k : ℕ). j ≡ k → ⊥) (xs ++ ys) → InPairs (λ (j k : ℕ). j ≡ k → ⊥) ys
 pairs_rest [] ys h = h
 pairs_rest (x ∷ xs) ys h = pairs_rest xs ys h.1
 
+-- where no place is published twice, a place that the first read publishes is published by no later one
 not_again : (r : ExactRead) (rs : List ExactRead) (k : ℕ) (words other : List ℕ) →
     InPairs (λ (i j : ℕ). i ≡ j → ⊥) (published_in (r ∷ rs)) → r ≡ read.Done k words →
     Contains rs (read.Done k other) → ⊥
@@ -43,6 +46,7 @@ not_again r rs k words other once e c =
     All-contains (λ (j : ℕ). k ≡ j → ⊥) (published_in rs) k
     (All-from_recursion (λ (j : ℕ). k ≡ j → ⊥) (published_in rs) first.0) (published_of rs k other c) refl
 
+-- where no place is published twice, two publications of a place have the same words
 done_alike : (rs : List ExactRead) → InPairs (λ (j k : ℕ). j ≡ k → ⊥) (published_in rs) → (k : ℕ) (a b : List ℕ) →
     Contains rs (read.Done k a) → Contains rs (read.Done k b) → a ≡ b
 done_alike [] once k a b (i, l, e) c = absurd (omega arith)

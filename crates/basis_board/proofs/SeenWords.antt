@@ -20,12 +20,14 @@ pub record Longest (k : ℕ) (seen : List (ℕ × List ℕ)) (ys : List ℕ) : T
   pub has : Has seen (k, words)
   pub long : length ys ≤ length words
 
+-- the longer of two words is one of the two, and at least as long as each
 longer_cases : (b : Bool) (xs ys : List ℕ) → (b ≡ true → length xs < length ys) → (b ≡ false → length ys ≤ length xs) →
     (zs : List ℕ) × (longer_if b xs ys ≡ zs) × ((zs ≡ xs) ⊎ (zs ≡ ys))
     × (length xs ≤ length zs) × (length ys ≤ length zs)
 longer_cases true xs ys less more = let l = less refl in (ys, refl, inr refl, omega arith, omega arith)
 longer_cases false xs ys less more = (xs, refl, inl refl, omega arith, more refl)
 
+-- the longest entry of a place, with one more in front, is an entry and at least as long as each
 with_head : (k : ℕ) (p : ℕ × List ℕ) (ps : List (ℕ × List ℕ)) (o : Option (List ℕ)) → words_of k ps ≡ o → p.0 ≡ k →
     ((xs : List ℕ) → o ≡ Some xs → Has ps (k, xs)) →
     (zs : List ℕ) × (words_of k (p ∷ ps) ≡ Some zs) × Has (p ∷ ps) (k, zs)

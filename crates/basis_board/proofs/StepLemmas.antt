@@ -24,6 +24,7 @@ taken_place (place.Claimed owner ∷ ps) zero e = (owner, refl)
 taken_place (place.Done words ∷ ps) zero e = cc
 taken_place (p ∷ ps) (suc k) e = taken_place ps k e
 
+-- a place that is spelled as shown with these words is done with these words
 shown_place : (ps : List ExactPlace) (k : ℕ) (words : List ℕ) → slice_get (map spelled ps) k ≡ Some (Shown words) →
     place_at ps k ≡ Some (place.Done words)
 shown_place [] k words e = cc
@@ -33,6 +34,7 @@ shown_place (p ∷ ps) (suc k) words e = shown_place ps k words e
 
 -- ---- all kinds
 
+-- where the words of a state that keeps the rule spell the places, each kind of step is a read that they answer
 pub steps_read : (places : ℕ) (s : State ℕ View) (now : List ExactPlace) → Kept places s → AreSpelled s.words now →
     StepsAreReads places s now
 steps_read places s now kept is =

@@ -16,6 +16,7 @@ pub times-append : (k : ℕ) (xs ys : List ℕ) → times k (xs ++ ys) ≡ times
 times-append k [] ys = omega arith
 times-append k (x ∷ xs) ys = let h = times-append k xs ys in omega arith
 
+-- a number that is k counts once as k
 is_here : (x k : ℕ) → x ≡ k → one_if (eqb x k) ≡ 1
 is_here x k e = ap (λ z. one_if (eqb z k)) e ∙ times_here k
 
@@ -36,11 +37,13 @@ contains_times k (x ∷ xs) (suc i, l, e) = let h = contains_times k xs (i, omeg
 
 -- ---- no number stands twice in a list where each does so once at most
 
+-- where no element is k, k occurs 0 times
 never : (k : ℕ) (xs : List ℕ) → AllByRecursion (λ j. k ≡ j → ⊥) xs → times k xs ≡ 0
 never k [] h = omega arith
 never k (x ∷ xs) h =
     let z = times_else x k (λ e. h.0 (sym e)) in let more = never k xs h.1 in omega arith
 
+-- where k occurs 0 times, no element is k
 never_back : (k : ℕ) (xs : List ℕ) → times k xs ≡ 0 → AllByRecursion (λ j. k ≡ j → ⊥) xs
 never_back k [] h = tt
 never_back k (x ∷ xs) h =

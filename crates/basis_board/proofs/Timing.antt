@@ -38,6 +38,7 @@ use Rattle.basis_board.proofs.Totals.{has_right}
 pub grows_same : (ws : List ℕ) → Grows ws ws
 grows_same ws = record { counted = omega arith; dones = λ k. omega arith }
 
+-- words that grow to others, which grow to third ones, grow to the third ones
 grows_on : (ws us vs : List ℕ) → Grows ws us → Grows us vs → Grows ws vs
 grows_on ws us vs a b =
     let x = a.counted in let y = b.counted in
@@ -49,13 +50,16 @@ like_both ws us a b =
     let x = a.counted in let y = b.counted in
     record { counted = omega arith; dones = λ k. (let p = a.dones k in let q = b.dones k in omega arith) }
 
+-- words that are like others, which are like third ones, are like the third ones
 like_on : (vs ws us : List ℕ) → IsLike vs ws → IsLike ws us → IsLike vs us
 like_on vs ws us a b = record { counted = b.counted ∙ a.counted; dones = λ k. b.dones k ∙ a.dones k }
 
+-- words grow to words that are like them
 like_grows : (ws us : List ℕ) → IsLike ws us → Grows ws us
 like_grows ws us a =
     let x = a.counted in record { counted = omega arith; dones = λ k. (let p = a.dones k in omega arith) }
 
+-- from the words before a read is noted, the words grow to those after it
 turns_grow : (r : RawRead) (ws us : List ℕ) → Turns r ws us → Grows ws us
 turns_grow (Count c) ws us t = like_grows ws us t
 turns_grow (Open k) ws us t = like_grows ws us t
@@ -92,6 +96,7 @@ turns_from vs ws us (Done k xs) a t = record {
 
 -- ---- which notes there are
 
+-- the number of a moment that a list has stands there at least once
 has_stamp : (ms : List Moment) (m : Moment) → Has ms m → 1 ≤ stamped_in m.0 ms
 has_stamp [] m h = absurd h
 has_stamp (n ∷ ms) m h =
@@ -100,6 +105,7 @@ has_stamp (n ∷ ms) m h =
     subst (λ (z : Moment). one_if (eqb n.0 z.0) ≡ 1) e (times_here n.0) in omega arith)
     (λ (r : Has ms m). let x = has_stamp ms m r in omega arith) h
 
+-- where a number stands in a list of moments, the list has a moment of that number
 stamp_has : (t : ℕ) (ms : List Moment) → 1 ≤ stamped_in t ms → (m : Moment) × Has ms m × (m.0 ≡ t)
 stamp_has t [] l = absurd (omega arith)
 stamp_has t (n ∷ ms) l =
@@ -108,10 +114,12 @@ stamp_has t (n ∷ ms) l =
     let r = stamp_has t ms (omega arith) in (r.0, inr r.1, r.2))
     (cases_eq n.0 t)
 
+-- a number stands in two lists of moments together as often as in one and in the other
 stamps_join : (t : ℕ) (ms ns : List Moment) → stamped_in t (ms ++ ns) ≡ stamped_in t ms + stamped_in t ns
 stamps_join t [] ns = omega arith
 stamps_join t (m ∷ ms) ns = let h = stamps_join t ms ns in omega arith
 
+-- what two lists together have is in one or in the other
 has_either : {X : Type 0} (xs ys : List X) (x : X) → Has (xs ++ ys) x → Has xs x ⊎ Has ys x
 has_either [] ys x h = inr h
 has_either {X} (z ∷ xs) ys x h =
@@ -127,6 +135,7 @@ has_moment (m ∷ ms) (r ∷ rs) n h =
     ⊎_elim (λ (e : record { number = m.0; words = m.1; read = r } ≡ n). inl (ap (λ (z : Note). (z.number, z.words)) e))
     (λ (q : Has (notes ms rs) n). inr (has_moment ms rs n q)) h
 
+-- the moment of a note that a pass has is one that is noted
 note_noted : (vs : List Sight) (n : Note) → HasNote vs n → IsNoted vs (n.number, n.words)
 note_noted vs n h = (h.0, h.1, h.2, has_moment h.1.moments h.1.view.reads n h.3)
 
@@ -141,11 +150,13 @@ HadAlike old n = (q : RawRead) × Has old (record n { read = q }) × TurnsAlike 
 abbrev WasNote : List Sight → Note → Type 0
 WasNote vs n = (q : RawRead) × HasNote vs (record n { read = q }) × TurnsAlike q n.read
 
+-- the number of a noted moment stands at least once in all passes together
 noted_total : (vs : List Sight) (m : Moment) → IsNoted vs m → 1 ≤ total (stamped m.0) vs
 noted_total vs m n =
     let a = has_stamp n.1.moments m n.3 in
     let b = total_at (stamped m.0) vs n.0 n.1 n.2 in omega arith
 
+-- a number that stands in all passes together is the number of a noted moment
 total_noted : (t : ℕ) (vs : List Sight) → 1 ≤ total (stamped t) vs → (m : Moment) × IsNoted vs m × (m.0 ≡ t)
 total_noted t [] l = absurd (omega arith)
 total_noted t (v ∷ vs) l =
@@ -155,6 +166,7 @@ total_noted t (v ∷ vs) l =
     (r.0, (suc r.1.0, r.1.1, r.1.2, r.1.3), r.2))
     (cases_lt 0 (stamped t v))
 
+-- a moment noted after a sight is replaced is one of the new sight or was noted before
 noted_set : (vs : List Sight) (id : ℕ) (w : Sight) (m : Moment) → IsNoted (set vs id w) m →
     Has w.moments m ⊎ IsNoted vs m
 noted_set vs id w m n =
@@ -162,6 +174,7 @@ noted_set vs id w m n =
     (λ (t : (n.0 ≢ id) × (get_elem? vs n.0 ≡ some n.1)). inr (n.0, n.1, t.1, n.3))
     (at_set vs id n.0 w n.1 n.2)
 
+-- a note there after a sight is replaced is one of the new sight or was there before
 note_set : (vs : List Sight) (id : ℕ) (w : Sight) (n : Note) → HasNote (set vs id w) n →
     Has (notes_in w) n ⊎ HasNote vs n
 note_set vs id w n h =
@@ -169,6 +182,7 @@ note_set vs id w n h =
     (λ (t : (h.0 ≢ id) × (get_elem? vs h.0 ≡ some h.1)). inr (h.0, h.1, t.1, h.3))
     (at_set vs id h.0 w h.1 h.2)
 
+-- what holds of a new sight and of all sights holds of each when the new one replaces one
 sights_stay : (P : Sight → Type 0) (vs : List Sight) (id : ℕ) (w : Sight) → P w →
     ((j : ℕ) (u : Sight) → get_elem? vs j ≡ some u → P u) → (j : ℕ) (u : Sight) →
     get_elem? (set vs id w) j ≡ some u → P u
@@ -181,6 +195,7 @@ set_here [] i x y e = absurd (some-ne-none x (sym e))
 set_here (z ∷ zs) zero x y e = refl
 set_here (z ∷ zs) (suc i) x y e = set_here zs i x y e
 
+-- where another place of a list is written, an element stays where it is
 set_there : (vs : List Sight) (i j : ℕ) (x y : Sight) → j ≢ i → get_elem? vs j ≡ some x →
     get_elem? (set vs i y) j ≡ some x
 set_there [] i j x y n e = absurd (some-ne-none x (sym e))
@@ -189,6 +204,7 @@ set_there (z ∷ zs) zero (suc j) x y n e = e
 set_there (z ∷ zs) (suc i) zero x y n e = e
 set_there (z ∷ zs) (suc i) (suc j) x y n e = set_there zs i j x y (λ q. n (ap suc q)) e
 
+-- each noted moment has a number below the number of notes so far
 noted_before : (ws : List ℕ) (vs : List Sight) (r : Timed ws vs) (m : Moment) → IsNoted vs m → m.0 < r.now
 noted_before ws vs r m n =
     ⊎_elim (λ (l : m.0 < r.now). l)
@@ -217,12 +233,14 @@ timed_same ws us vs vs' r more less same back was true_then =
       were_true = true_then;
     }
 
+-- where a new sight has the moments of the one it replaces, what is noted was noted
 noted_quiet : (vs : List Sight) (id : ℕ) (v w : Sight) → get_elem? vs id ≡ some v → w.moments ≡ v.moments →
     (m : Moment) → IsNoted (set vs id w) m → IsNoted vs m
 noted_quiet vs id v w at same m n =
     ⊎_elim (λ (h : Has w.moments m). (id, v, at, subst (λ (l : List Moment). Has l m) same h))
     (λ (h : IsNoted vs m). h) (noted_set vs id w m n)
 
+-- where each note of a new sight was alike in the one it replaces, each note was there alike
 was_quiet : (vs : List Sight) (id : ℕ) (v w : Sight) → get_elem? vs id ≡ some v →
     ((n : Note) → Has (notes_in w) n → HadAlike (notes_in v) n) → (n : Note) → HasNote (set vs id w) n → WasNote vs n
 was_quiet vs id v w at had n h =
@@ -326,6 +344,7 @@ timed_note ws us vs id v w read r at turns new is_read true_then =
       were_true = sights_stay (λ u. WereTrue u.moments u.view.reads) vs id w true_then r.were_true;
     }
 
+-- where each moment that a list has is before t, all of its moments are
 each_before : (t : ℕ) (ms : List Moment) → ((m : Moment) → Has ms m → m.0 < t) → Each (λ n. n.0 < t) ms
 each_before t [] h = tt
 each_before t (m ∷ ms) h = (h m (inl refl), each_before t ms (λ n q. h n (inr q)))
@@ -372,6 +391,7 @@ same_notes ms rs qs e n h = (n.read, subst (λ l. Has (notes ms l) n) e h, λ ws
 
 -- ---- calls
 
+-- where later moments come after older ones and those after old ones, both together come after the old ones
 come_on : (cs bs old : List Moment) → ComeAfter bs old → ComeAfter cs (bs ++ old) → ComeAfter (cs ++ bs) old
 come_on [] bs old b c = b
 come_on (m ∷ cs) bs old b c = (
@@ -508,12 +528,14 @@ timed_first ws places none =
         subst (λ (u : Sight). WereTrue u.moments u.view.reads) (some-injective (first_sight places) v e) tt
     one (suc j) v e = absurd (some-ne-none v (sym e))
 
+-- where the reads were true at their moments, a number stands in the notes as often as in the moments
 numbered_is : (t : ℕ) (ms : List Moment) (rs : List RawRead) → WereTrue ms rs →
     numbered t (notes ms rs) ≡ stamped_in t ms
 numbered_is t [] rs h = refl
 numbered_is t (m ∷ ms) [] h = absurd h
 numbered_is t (m ∷ ms) (r ∷ rs) h = ap (λ x. one_if (eqb m.0 t) + x) (numbered_is t ms rs h.1)
 
+-- where the reads were true at their moments, each note's read is true of the note's words
 note_true : (ms : List Moment) (rs : List RawRead) → WereTrue ms rs → (n : Note) → Has (notes ms rs) n →
     IsTrueOf n.words n.read
 note_true [] rs h n x = absurd x
@@ -553,6 +575,7 @@ one_log ws vs id v r at others =
 
 -- ---- what no kind of step can do
 
+-- what holds of each moment that a list has holds of each of its moments
 between_each : (P : Moment → Type 0) (ms : List Moment) → ((m : Moment) → Has ms m → P m) → Each P ms
 between_each P [] h = tt
 between_each P (m ∷ ms) h = (h m (inl refl), between_each P ms (λ n q. h n (inr q)))

@@ -27,6 +27,7 @@ use Rattle.basis_board.proofs.Pushing.{in_turn, each_all, all_each}
 
 -- ---- the published places
 
+-- the places published in reads with one more are those before, and then that of the read
 published_more : (r : RawRead) (reads : List RawRead) →
     published_in (in_turn (r ∷ reads)) ≡ published_in (in_turn reads) ++ published_by (exact_read r)
 published_more r reads =
@@ -34,6 +35,7 @@ published_more r reads =
     ∙ flat_map-append published_by (in_turn reads) (exact_read r ∷ [])
     ∙ ap (λ ks. published_in (in_turn reads) ++ ks) (append-nil (published_by (exact_read r)))
 
+-- where a read publishes nothing, the places published with it are those published before
 no_more : (r : RawRead) (reads : List RawRead) → published_by (exact_read r) ≡ [] →
     published_in (in_turn reads) ≡ published_places reads →
     published_in (in_turn (r ∷ reads)) ≡ published_places reads
@@ -41,6 +43,7 @@ no_more r reads none h =
     published_more r reads ∙ ap (λ ks. published_in (in_turn reads) ++ ks) none
     ∙ append-nil (published_in (in_turn reads)) ∙ h
 
+-- the places published in reads put in order are the places of the publications
 published_is : (reads : List RawRead) → published_in (in_turn reads) ≡ published_places reads
 published_is [] = refl
 published_is (Count c ∷ reads) = no_more (Count c) reads refl (published_is reads)
@@ -53,16 +56,20 @@ published_is (Done k words ∷ reads) =
 
 -- the words of a published place
 
+-- the first element of a list is in the list
 here : (r q : ExactRead) (rs : List ExactRead) → r ≡ q → Contains (r ∷ rs) q
 here r q rs e = (zero, omega arith, e)
 
+-- what is in a list of one element is this element
 alone : (j k : ℕ) → Contains (j ∷ []) k → j ≡ k
 alone j k (zero, l, e) = e
 alone j k (suc i, l, e) = absurd (omega arith)
 
+-- nothing is in the empty list
 nowhere : (k : ℕ) → Contains [] k → ⊥
 nowhere k (i, l, e) = omega arith
 
+-- a read that publishes a place is a publication of this place
 by_one : (r : ExactRead) (k : ℕ) → Contains (published_by r) k → (payload : Words) × (r ≡ read.Done k payload)
 by_one (read.Done j words) k h = (words, ap (λ i. read.Done i words) (alone j k h))
 by_one (read.Count c) k h = absurd (nowhere k h)
@@ -71,6 +78,7 @@ by_one (read.Seen j words) k h = absurd (nowhere k h)
 by_one (read.Claim j) k h = absurd (nowhere k h)
 by_one (read.Lost c) k h = absurd (nowhere k h)
 
+-- a place published in reads is the place of one publication among the reads
 published_with : (rs : List ExactRead) (k : ℕ) → Contains (published_in rs) k →
     (payload : Words) × Contains rs (read.Done k payload)
 published_with [] k h = absurd (nowhere k h)
@@ -89,6 +97,7 @@ IsKept seen (read.Done k payload) =
     (words : List ℕ) × Has seen (k, words) × (length payload ≤ length words) × Each (Agree (k, payload)) seen
 IsKept seen other = Unit {0}
 
+-- a read that was seen and agrees with all that was seen keeps what it published
 done_kept : (seen : List (ℕ × List ℕ)) (r : RawRead) → StandsIn seen r → ReadAgrees seen r → IsKept seen (exact_read r)
 done_kept seen (Count c) s a = tt
 done_kept seen (Open k) s a = tt
