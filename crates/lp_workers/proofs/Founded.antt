@@ -21,6 +21,7 @@ use Rattle.basis_board.specs.Played.{of_read, Supposes, AreFounded, IsOfWorker}
 abbrev AreAmong : List Logged → List Logged → Type 0
 AreAmong xs ys = (x : Logged) → Contains xs x → Contains ys x
 
+-- reads that are among others are among them with one more in front of both
 among_more : (x : Logged) (xs ys : List Logged) → AreAmong xs ys → AreAmong (x ∷ xs) (x ∷ ys)
 among_more x xs ys sub y c =
     ⊎_elim (λ (a : Contains (x ∷ []) y). Contains-append_left (x ∷ []) ys y a)
@@ -136,16 +137,19 @@ module _ (places : ℕ) where
 
 -- ---- they are the worker's own
 
+-- what holds of each element of two lists holds of each of both together
 all_join : {X : Type 0} (P : X → Type 0) (xs ys : List X) → AllByRecursion P xs → AllByRecursion P ys →
     AllByRecursion P (xs ++ ys)
 all_join P [] ys a b = b
 all_join P (x ∷ xs) ys a b = (a.0, all_join P xs ys a.1 b)
 
+-- the reads of a session that a worker serves are all of this worker
 one_own : (workers worker session : ℕ) (reads : List ExactRead) → session % workers ≡ worker →
     AllByRecursion (IsOfWorker workers worker) (logged session reads)
 one_own workers worker session [] e = tt
 one_own workers worker session (r ∷ reads) e = (e, one_own workers worker session reads e)
 
+-- an exchange in front, taken where its session is the worker's, leaves all reads the worker's
 own_more : (workers worker : ℕ) (x : Exchange) (xs : List Exchange) (t : Bool) →
     nat_eq (x.session % workers) worker ≡ t →
     AllByRecursion (IsOfWorker workers worker) (log_of xs) →
@@ -155,6 +159,7 @@ own_more workers worker x xs true e more =
     (one_own workers worker x.session x.reads (eqb-true (x.session % workers) worker e)) more
 own_more workers worker x xs false e more = more
 
+-- the reads of the exchanges of a worker are all of this worker
 pub log_own : (workers worker : ℕ) (xs : List Exchange) →
     AllByRecursion (IsOfWorker workers worker) (log_of (exchanges_of_worker workers worker xs))
 log_own workers worker [] = tt

@@ -42,6 +42,7 @@ cut_is_fresh board pass v of_board view places consistent unnoted = record {
 
 -- ---- one more pass is met
 
+-- two passes that are met into one have the reads of the first and then those of the second
 met_reads : (v w : View) → reads_of (met v w) ≡ reads_of v ++ reads_of w
 met_reads v w = reads_more w.reads v.reads
 
@@ -70,6 +71,7 @@ module _ (all : List ExactRead) (first next : View) (rest : List Known) (pass : 
       (reads_of pass.view ++ reads_of_all rest)
       (IsPermutation-append_comm (reads_of_all rest) (reads_of pass.view))))
 
+-- two passes that are met into one have the notes of the second in front of those of the first
 met_notes : (first next pass : Known) → next.view ≡ met first.view pass.view →
     next.moments ≡ pass.moments ++ first.moments → WereTrue pass.moments pass.view.reads →
     notes_of next ≡ notes_of pass ++ notes_of first
@@ -89,6 +91,7 @@ gathered_notes first next rest pass view moments so passes split =
     (ap (λ ns. notes_of_all rest ++ ns) (sym (append-nil (notes_of pass)))
     ∙ sym (flat_map-append notes_of rest (pass ∷ [])) ∙ ap notes_of_all (sym split))
 
+-- a pass without reads has no notes
 no_notes : (ms : List Moment) → notes ms [] ≡ []
 no_notes [] = refl
 no_notes (m ∷ ms) = refl
@@ -102,6 +105,7 @@ one_log first last passes fresh are log =
 
 -- ---- lists that are taken from the end
 
+-- a list with a first element, put in reverse, ends with this element
 last_first : {X : Type 0} (x : X) (xs : List X) → reverse (x ∷ xs) ≡ reverse xs ++ x ∷ []
 last_first x xs = reverse-append (x ∷ []) xs
 

@@ -31,6 +31,7 @@ written_back n old new whole same =
 
 -- ---- the reads of all
 
+-- passes that were used for a board read or wrote whole words only
 whole_all : (board : Board) (passes : List Known) → AllByRecursion (IsUsed board) passes →
     All IsWhole (reads_of_all passes)
 whole_all board [] used = All-nil IsWhole
