@@ -43,6 +43,7 @@ pub record HasPending (aw : Awaits) (words : Words) (step : Pending → Step) (i
   pub formed : IsWellFormed words
   pub step_so : is ≡ step pending
 
+-- where the session awaits what becomes of words, its step has them pending
 has_pending : (aw : Awaits) (words : Words) (step : Pending → Step) → IsPending aw words →
     HasPending aw words step (with_pending aw step)
 has_pending Nothing words step a = absurd a
@@ -61,15 +62,18 @@ at_stage : (st put : Stage) (aw : Awaits) (words : Words) (step : Pending → St
 at_stage st put aw words step e a here =
     subst (λ t. HasPending aw words step (step_of t aw)) (sym e) (here (subst (λ t. Agrees t aw) e a))
 
+-- where the session's stage puts words, its step puts them, and they are pending
 puts_step : (st : Stage) (aw : Awaits) (words : Words) → st ≡ stage.Puts words → Agrees st aw →
     HasPending aw words Puts (step_of st aw)
 puts_step st aw words e a = at_stage st (stage.Puts words) aw words Puts e a (has_pending aw words Puts)
 
+-- where the session's stage claims a place for words, its step claims it, and they are pending
 claims_step : (st : Stage) (aw : Awaits) (words : Words) (c : ℕ) → st ≡ stage.Claims words c → Agrees st aw →
     HasPending aw words (λ p. Claims p c) (step_of st aw)
 claims_step st aw words c e a =
     at_stage st (stage.Claims words c) aw words (λ p. Claims p c) e a (has_pending aw words (λ p. Claims p c))
 
+-- where the session's stage writes words at a place, its step writes it, and they are pending
 writes_step : (st : Stage) (aw : Awaits) (words : Words) (k : ℕ) → st ≡ stage.Writes words k → Agrees st aw →
     HasPending aw words (λ p. Writes p k) (step_of st aw)
 writes_step st aw words k e a =
@@ -212,6 +216,7 @@ pub sees_agree : (st : Stage) (aw : Awaits) (shape : Words) (k : ℕ) → st ≡
     aw ≡ WhatIsFound shape
 sees_agree st aw shape k e a = subst (λ t. Agrees t aw) e a
 
+-- a look below n places for a shape awaits what is found of that shape
 looking_agrees : (shape : Words) (n : ℕ) (st : Stage) (aw : Awaits) → aw ≡ WhatIsFound shape →
     st ≡ looking_at shape n → Agrees st aw
 looking_agrees shape n st aw e is = subst (λ t. Agrees t aw) (sym is) (by (nat_eq n 0))

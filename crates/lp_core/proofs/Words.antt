@@ -8,11 +8,13 @@ use Rattle.std.specs.Prelude.{get_or, set}
 use Rattle.spec_board.specs.Places.{ExactPlace, place_at, with_place}
 use Rattle.lp_core.specs.Looks.{words_in, words_at}
 
+-- below the number of places, place k is element k of the list
 place_get : (ps : List ExactPlace) (k : ℕ) (d : ExactPlace) → k < length ps → place_at ps k ≡ Some (get_or ps k d)
 place_get [] k d h = absurd (omega arith)
 place_get (p ∷ ps) zero d h = refl
 place_get (p ∷ ps) (suc k) d h = place_get ps k d (omega arith)
 
+-- from the number of places on there is no place
 place_past : (ps : List ExactPlace) (k : ℕ) → length ps ≤ k → place_at ps k ≡ None
 place_past [] k h = refl
 place_past (p ∷ ps) zero h = absurd (omega arith)
@@ -25,6 +27,7 @@ pub words_there : (ps : List ExactPlace) (k : ℕ) (d p : ExactPlace) → k < le
     words_in (Some p) ≡ words_at ps k
 words_there ps k d p h e = sym (ap words_in (place_get ps k d h ∙ ap Some e))
 
+-- writing element k of the list gives the places with the new one at k
 set_is_with : (ps : List ExactPlace) (k : ℕ) (new : ExactPlace) → set ps k new ≡ with_place ps k new
 set_is_with [] k new = refl
 set_is_with (p ∷ ps) zero new = refl
