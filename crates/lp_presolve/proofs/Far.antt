@@ -21,10 +21,12 @@ far_parts k d n z = by (int_lt (pos k *ℤ pos 1) (pos n *ℤ pos d)) refl
         let h : (pos n *ℤ pos d) ≤ℤ (pos k *ℤ pos 1) = at_most_in (pos n *ℤ pos d) (pos k *ℤ pos 1) (lt-false (pos k *ℤ pos 1) (pos n *ℤ pos d) e) in
         let l : d * n ≤ k = omega (arith, ints, h) in le-leb d (k / n) ((le-div_iff_mul-le z).1 l)
 
+-- the negative of a negative integer is its absolute value
 turned_is : (n : ℤ) → int_lt n (pos 0) ≡ true → neg_ℤ n ≡ pos (unsigned_abs n)
 turned_is (pos k) e = let h : pos k <ℤ pos 0 = below_in (pos k) (pos 0) (lt-true (pos k) (pos 0) e) in absurd (omega (arith, ints, h))
 turned_is (negsuc k) e = refl
 
+-- a number is far exactly if its numerator's absolute value, divided by 10 ^ 20, is at least its denominator
 pub far_size : (q : ℚ) → leb q.den (unsigned_abs q.num / 100000000000000000000) ≡ is_far (Some q)
 unfolding lt_ℚ whole neg_ℚ
 far_size q = by (int_lt q.num (pos 0)) refl

@@ -30,6 +30,7 @@ ended_fits m budget (Ended known certificate basis n) c pivots may e =
 ended_fits m budget (Past q) c pivots may e = cc
 ended_fits m budget Spent c pivots may e = cc
 
+-- the certificate of the last model of the reductions fits this model
 pub last_fits : (m : Model) (budget : ℕ) (r : Reductions) (c : ExactCertificate) (pivots : ℕ) →
     reduced (Some number_limit) m ≡ Ok r → IsLast r.last budget (halted r.last r.halt) (Ok (c, pivots)) → Fits r.last c
 last_fits m budget r c pivots run is = by (halted r.last r.halt) refl is

@@ -25,6 +25,8 @@ use Rattle.lp_presolve.specs.Sums.{over_step}
 use Rattle.lp_presolve.specs.Tells.{Tells}
 
 -- ---- the step is that of the definition
+
+-- where a step is what is kept of a reduction, the reduction is the one that the step has
 reduction_is : (s : Step) (r t : ExactReduction) (m : Model) → s ≡ kept r m → s.reduction ≡ t → r ≡ t
 reduction_is s r t m h g = sym (ap (λ (s : Step). s.reduction) h) ∙ g
 
@@ -39,6 +41,7 @@ pub carried_fixed : (s : Step) (r : ExactReduction) (m : Model) (j : ℕ) (v : �
 unfolding carried_over
 carried_fixed s r m j v c back h g k = rw (reduction_is s r (Fixed j v) m h g, k) refl
 
+-- over a row of one entry, what is kept of the reduction carries as the definition does
 over_same : (m : Model) (i j : ℕ) (a : ℚ) (l u : Option ℚ) (c : ExactCertificate) →
     over_step (Some number_limit) (kept (Single i j a l u) m) i j a l u c ≡ over_single (Some number_limit) m i j a l u
     c
@@ -47,6 +50,7 @@ over_same m i j a l u (Infeasible y) = refl
 over_same m i j a l u (Clash k) = refl
 over_same m i j a l u (Unbounded x r) = refl
 
+-- over a row of one entry, what the kept step gives is the certificate that the definition carries
 single_run : (s : Step) (r : ExactReduction) (m : Model) (i j : ℕ) (a : ℚ) (l u : Option ℚ) (c : ExactCertificate) →
     s ≡ kept r m → r ≡ Single i j a l u →
     over_step (Some number_limit) s i j a l u c ≡ carried_over (Some number_limit) (r, m) c
@@ -71,6 +75,7 @@ pub record Parted (first : Step) (rest : List Step) (rs : List (ExactReduction �
   pub first_is : first ≡ kept reduction model
   pub rest_is : rest ≡ all_kept others
 
+-- all but one of a list with a first element, taken behind it, are the rest of the list
 rest_of : (x : Step) (xs : List Step) → take (length (x ∷ xs) - 1) xs ≡ xs
 rest_of x xs = (let z : length (x ∷ xs) - 1 ≡ length xs = omega arith in ap (λ n. take n xs) z) ∙ take-length xs
 

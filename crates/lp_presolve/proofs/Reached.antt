@@ -61,12 +61,14 @@ pub record Reached (m : Model) (before : List Step) (k : ℕ) (n : Model) (now :
   pub leads : (rest : ℕ) → reduced_within (Some number_limit) (k + rest) m ≡ all_behind done (reduced_within
       (Some number_limit) rest n)
 
+-- reductions that go behind some, which go behind others, go behind both together
 two_behind : (a b : List (ExactReduction × Model)) (o : Run Reductions) →
     all_behind a (all_behind b o) ≡ all_behind (a ++ b) o
 two_behind a b (Ok r) =
     ap (λ steps. as_run (record r { steps = steps })) (sym (append_assoc a b r.steps))
 two_behind a b (Err p) = refl
 
+-- where a reduction is chosen and leads to a model, the reductions are this one and then those of the model
 one_more : (n x : Model) (r : ExactReduction) (k : ℕ) → chosen (Some number_limit) n ≡ Ok (Reduce r) →
     after (Some number_limit) n r ≡ Ok x →
     reduced_within (Some number_limit) (suc k) n ≡ all_behind ((r, x) ∷ []) (reduced_within (Some number_limit) k x)
@@ -86,14 +88,17 @@ reached_more m n x before now next k r h e f g = record {
       ∙ two_behind h.done ((r, x) ∷ []) (reduced_within (Some number_limit) rest x);
 }
 
+-- where what is chosen is to halt, the reductions end at the model with this halt
 halts : (n : Model) (halt : Halt) (k : ℕ) → chosen (Some number_limit) n ≡ Ok (choice.Halt halt) →
     reduced_within (Some number_limit) (suc k) n ≡ Ok (record { steps = []; last = n; halt = halt })
 halts n halt k e = rw e refl
 
+-- where choosing a reduction overflows, the reductions stop with this overflow
 stops : (n : Model) (p : past.Past ℚ) (k : ℕ) → chosen (Some number_limit) n ≡ Err p →
     reduced_within (Some number_limit) (suc k) n ≡ Err p
 stops n p k e = rw e refl
 
+-- where carrying out the chosen reduction overflows, the reductions stop with this overflow
 stops_then : (n : Model) (r : ExactReduction) (p : past.Past ℚ) (k : ℕ) → chosen (Some number_limit) n ≡ Ok (Reduce r) →
     after (Some number_limit) n r ≡ Err p → reduced_within (Some number_limit) (suc k) n ≡ Err p
 stops_then n r p k e f = rw (e, f) refl
@@ -102,6 +107,7 @@ stops_then n r p k e f = rw (e, f) refl
 left_is : (k left : ℕ) → k < left → k + suc (left - suc k) ≡ left
 left_is k left l = omega (arith, l)
 
+-- with more than k reductions allowed, they are those done in k steps and then those of the reached model
 at_left : (m n : Model) (before now : List Step) (k left : ℕ) (h : Reached m before k n now) → k < left →
     reduced_within (Some number_limit) left m ≡ all_behind h.done (reduced_within (Some number_limit) (suc (left - suc
     k)) n)

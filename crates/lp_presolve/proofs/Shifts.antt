@@ -29,6 +29,7 @@ term m j v i = less_product (Some number_limit) (coefficient m i j) v (row m i).
 abbrev pub move : Model → ℕ → ℚ → ℕ → Model → Run Model
 move m j v i n = less_product (Some number_limit) (coefficient m i j) v (row m i).rhs >>= λ b. Ok (with_rhs n i b)
 
+-- where the rows from i on are as they were, what is computed for the right side of row i is the same
 term_same : (m x : Model) (j i : ℕ) (v : ℚ) → Behind m i x → term x j v i ≡ term m j v i
 term_same m x j i v h =
     ap₂

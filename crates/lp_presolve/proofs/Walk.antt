@@ -8,6 +8,7 @@ use Rattle.std.proofs.lemmas.List.{drop_more}
 use Rattle.spec_exact.specs.Fraction.{ℚ}
 use Rattle.spec_model.specs.Model.{entry_of}
 
+-- from entry k on, the value at row i is that of entry k if it is of row i, and else that of the entries behind it
 next_is : (es : List (ℕ × ℚ)) (k i : ℕ) (e : ℕ × ℚ) → k < length es → e ≡ get_or es k e →
     entry_of (drop k es) i ≡ cond (eqb e.0 i) e.1 (entry_of (drop (k + 1) es) i)
 next_is es k i e l h =
