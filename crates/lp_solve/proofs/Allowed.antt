@@ -31,6 +31,7 @@ use Rattle.lp_solve.specs.Formless.{HasNoForm}
 use Rattle.lp_solve.specs.Stopped.{IsAfterStop}
 use Rattle.lp_solve.proofs.WarmRuns.{ends_warm, falls, no_starting}
 
+-- where an end is fit, its certificate is one for the model, with numbers of at most 127 bits
 fit_end : (m : Model) (end : ExactSolveEnd) → IsFit m end → HasFitEnd m end
 fit_end m end fit = λ known c basis pivots is. subst (IsFit m) is fit
 

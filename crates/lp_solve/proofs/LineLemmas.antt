@@ -38,6 +38,7 @@ pub power_is : 1000000000000000 ^ (2 ^ 9) ≡ line_power
 unfolding line_power half_line
 power_is = refl
 
+-- a number whose numerator and denominator are below the power of half a line fits a line
 half : (v : ℚ) → unsigned_abs v.num < line_power → v.den < line_power → FitsLine v
 unfolding line_power half_line
 half v top bottom = (7680, 7680, top, bottom, omega arith)

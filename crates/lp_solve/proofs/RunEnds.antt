@@ -25,9 +25,11 @@ pub record IsAsLarge (t u : Tableau) : Type 0 where
   pub rows : u.rows ≡ t.rows
   pub cols : u.cols ≡ t.cols
 
+-- a tableau is as large as itself
 as_large : (t : Tableau) → IsAsLarge t t
 as_large t = record { rows = refl; cols = refl }
 
+-- a tableau as large as one that is as large as a third is as large as the third
 by_way_of : (t u v : Tableau) → IsAsLarge t u → IsAsLarge u v → IsAsLarge t v
 by_way_of t u v p q = record { rows = q.rows ∙ p.rows; cols = q.cols ∙ p.cols }
 

@@ -161,6 +161,7 @@ module _ (m : Model) (t : Tableau) (kind : Fit) (k : IsBegun m t kind) where
   runs : (budget : ℕ) → warm_run (Some number_limit) budget k.form k.basis ≡ run_by (Some number_limit) budget t kind
   runs budget = runs_by (Some number_limit) budget k.form k.basis t k.starts kind k.fit
 
+-- from a primal feasible basis, the certificate at which the primal run ends is accepted
 primal_accepted : (budget : ℕ) (m : Model) (t : Tableau) (e : PrimalEnded) → IsBegun m t fit.Primal →
     run_from (Some number_limit) budget 0 t ≡ Ok e →
     IsAccepted (Some number_limit) m (colds.certificate_at e.tableau e.end)
@@ -179,6 +180,7 @@ pub primal_never_no : (budget : ℕ) (m : Model) (t : Tableau) (e : PrimalEnded)
 primal_never_no budget m t e k h =
     never_no (Some number_limit) m (colds.certificate_at e.tableau e.end) (primal_accepted budget m t e k h)
 
+-- from a dual feasible basis, the certificate at which the dual run ends is accepted
 dual_accepted : (budget : ℕ) (m : Model) (t : Tableau) (e : DualEnded) → IsBegun m t fit.Dual →
     dual_run (Some number_limit) budget t ≡ Ok e → IsAccepted (Some number_limit) m (dual_certificate e.tableau e.end)
 dual_accepted budget m t e k h =
@@ -197,6 +199,8 @@ dual_never_no budget m t e k h =
     never_no (Some number_limit) m (dual_certificate e.tableau e.end) (dual_accepted budget m t e k h)
 
 -- ---- the bases that are left
+
+-- a model has one form
 same_form : (m : Model) (f g : Form) → form_of (Some number_limit) m ≡ Ok f → form_of (Some number_limit) m ≡ Ok g →
     f ≡ g
 same_form m f g h k = let z : ◌≡◌ {A = Result Form (FormFault ℚ)} (Ok f) (Ok g) = sym h ∙ k in cc
