@@ -89,6 +89,7 @@ module _ {workers places : ℕ} {s : Streams} where
 
 -- ---- the commands that read a text
 
+-- a status that is neither 0 nor 9 is not one of the two
 not_done : (n : ℕ) → ¬ (n ≡ 0) → ¬ (n ≡ 9) → (n ≡ 0) ⊎ (n ≡ 9) → ⊥
 not_done n a b (inl e) = a e
 not_done n a b (inr e) = b e
@@ -135,8 +136,9 @@ module _ {R : Type 0} (said : List (Line (List ℕ)) → Option R) (Out : R → 
     over = λ e. absurd (not_done code (λ z. omega (arith, z, e)) (λ z. omega (arith, z, e)) either);
   }
 
--- the status of what is said is one of two
+-- ---- the status of what is said
 
+-- the status of a checked text is 0 or 9
 check_codes : (replied : ExactReply) → (check_code replied ≡ 0) ⊎ (check_code replied ≡ 9)
 check_codes (reply.Refused why) = inr refl
 check_codes (reply.Loaded rows columns) = inl refl
@@ -150,10 +152,12 @@ check_codes (reply.Wide lines) = inl refl
 check_codes reply.Bye = inl refl
 check_codes reply.Memory = inl refl
 
+-- the status of a search for a name is 0 or 9
 place_codes : (place : Option ℕ) → (place_code place ≡ 0) ⊎ (place_code place ≡ 9)
 place_codes None = inr refl
 place_codes (Some at) = inl refl
 
+-- the status of a command that says something of a text is 0 or 9
 text_codes : (command : ExactTextCommand) (what : SaidBy command) →
     (code_of command what ≡ 0) ⊎ (code_of command what ≡ 9)
 text_codes Solve (Ok m) = inl refl

@@ -46,6 +46,7 @@ all_front bytes = ([], append-nil bytes)
 
 -- ---- a script
 
+-- the asks of what was read of a script come first in all that is sent
 asked_first : (after : Option (List ℕ)) (read : List ℕ) (asks : List (Asked ExactAsk)) → AreAsked after read asks →
     HoldsOfAll after read (AreFirstIn Numbered asks)
 asked_first after read asks (inl e) = inr λ more.
@@ -53,6 +54,7 @@ asked_first after read asks (inl e) = inr λ more.
 asked_first after read asks (inr (e, at_end)) =
     inl (at_end, subst (λ (of : List (Asked ExactAsk)). AreFirstIn Numbered of read) (sym e) (script_first Numbered read))
 
+-- what a run of a script writes is true replies to what it read
 run_true : (workers places : ℕ) (s : Streams) → Moves workers places s → Tells (AreTrueReplies Numbered) s
 run_true workers places s moves =
     record {
@@ -117,6 +119,7 @@ module _ (command : ExactTextCommand) (style : Style) (s : Streams) where
 
 -- ---- a model that is made
 
+-- what `generate` writes is true of its seed and sizes
 generated_true : (seed rows columns : ℕ) (s : Streams) (code : ℕ) → TellsOfWriting (GenOut seed rows columns) s code →
     IsStatus (Some (Generate seed rows columns)) code → Tells (IsTrueOf (Generate seed rows columns)) s
 generated_true seed rows columns s code h (inl e) =
@@ -153,6 +156,7 @@ generated_true seed rows columns s code h (inr (inr e)) = record {
 
 -- ---- what a server writes to its sink
 
+-- `serve` reads no input, and of what it writes to its output nothing more is asked
 serve_true : (workers each places : ℕ) (s : Streams) (olds news : List ListenerState) (code : ℕ) →
     Consumes s.left_before s.left_after [] → TellsOfLinks places each s olds news code →
     Tells (IsTrueOf (Serve workers each places)) s
@@ -190,6 +194,7 @@ output_true (Some (Serve workers each places)) s olds news code does over status
 
 -- ---- links
 
+-- the asks up to the first QUIT come first among the asks
 quit_first : (asks : List (Asked ExactAsk)) → (later : List (Asked ExactAsk)) × (asks ≡ up_to_quit asks ++ later)
 quit_first [] = ([], refl)
 quit_first (a ∷ asks) = by (is_quit a.ask) (quit_first asks)
@@ -212,12 +217,14 @@ link_first bytes asks first =
           ∙ append_assoc (asks ++ first.0) quit.0 script.0 ∙ append_assoc asks first.0 (quit.0 ++ script.0),
     )
 
+-- the first asks of a connection come first in all that is sent
 link_asked : (after : Option (List ℕ)) (read : List ℕ) (asks : List (Asked ExactAsk)) →
     HoldsOfAll after read (λ bytes. AreFirstOf asks (link_asks_of bytes).asks) →
     HoldsOfAll after read (AreFirstIn Alone asks)
 link_asked after read asks (inl (at_end, first)) = inl (at_end, link_first read asks first)
 link_asked after read asks (inr always) = inr λ more. link_first (read ++ more) asks (always more)
 
+-- what a connection moves is true replies to what was read of it
 link_true : (places : ℕ) (s : Streams) (exchanges : List Exchange) → LinkMoves places s exchanges →
     Tells (AreTrueReplies Alone) s
 link_true places s exchanges moves =
@@ -233,9 +240,11 @@ link_true places s exchanges moves =
           (link_asked s.left_after moves.read (map asked_in exchanges) moves.asks);
     }
 
+-- a served connection, as it was given and as it came back
 lent : Served → Lent
 lent x = record { given = x.given; back = x.back }
 
+-- a listener whose connections were served is one to which what is true was written
 listened_true : (places each : ℕ) (old new : ListenerState) (served : List Served) →
     Listened places each old new served → IsTrueListener old new
 unfolding lent
@@ -258,6 +267,7 @@ idle_true old new same = record {
     by None = refl
     by (Some events) = ap Some (sym (append-nil events))
 
+-- where listeners were served, or had no memory and gave no connection, each is a true listener
 served_true : (places each : ℕ) (olds news : List ListenerState) (served : List (List Served))
     (result : Result (Unit {0}) ServeFault) →
     ((i : ℕ) → i < length olds → Listened places each (slice_index_or olds i no_listener)
