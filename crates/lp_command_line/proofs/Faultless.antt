@@ -38,10 +38,12 @@ use Rattle.lp_command_line.proofs.Asking.{no-name, number-refused, asks-number, 
 
 -- ---- one fault, or another
 
+-- the first of two faults is missing exactly where both are
 neither : (a b : Option Fault) (x y : Bool) → is_none a ≡ x → is_none b ≡ y → is_none (option_or a b) ≡ (x && y)
 neither None b x y ex ey = ey ∙ ap (λ t. t && y) ex
 neither (Some fault) b x y ex ey = ap (λ t. t && y) ex
 
+-- anything and false is false
 and_false : (t : Bool) → (t && false) ≡ false
 and_false true = refl
 and_false false = refl
@@ -70,6 +72,7 @@ abbrev are_with : OptionNames → OptionNames → Word → List Word → Bool
 are_with names switches option rest =
     cond (is_new_option names option (value_in switches option rest)) (are_in names switches rest) false
 
+-- options have no fault exactly where the words are options with these names
 no-option_fault : (names switches : OptionNames) (words : List Word) →
     is_none (option_fault names switches words) ≡ are_in names switches words
 no-option_fault names switches [] = refl
@@ -111,6 +114,7 @@ module _ {A : Type 0} (usual : A) (of : Word → Option A) (switches : OptionNam
         by None is = refl
         by (Some value) is = read value is (of value)
 
+-- a plain word has no fault exactly where it is right
 no-plain_fault : (plain : Plain) (word : Word) (is_right : Bool) → is_none (plain_fault plain word is_right) ≡ is_right
 no-plain_fault plain word true = refl
 no-plain_fault plain word false = refl
@@ -142,11 +146,13 @@ module _ (words : List Word) where
   no-form_fault : (switches : OptionNames) → is_none (form_fault switches words) ≡ is_some (form switches)
   no-form_fault switches = no-value_fault Free form_of switches (codes "--form") words
 
+-- a run is asked exactly where the workers and the places are given
 run_by-some : (w p : Option ℕ) → (is_some w && is_some p) ≡ is_some (run_by w p)
 run_by-some None p = refl
 run_by-some (Some k) None = refl
 run_by-some (Some k) (Some n) = refl
 
+-- the words behind `run` have no fault exactly where they ask a run
 no-run_fault : (words : List Word) → is_none (run_fault words) ≡ is_some (asked_by words run_row)
 no-run_fault words =
     neither _ _ _ _
@@ -161,10 +167,12 @@ no-run_fault words =
         ∙ ap is_some (sym (asks-run words (workers words) (places words) e refl refl))
     by false e = ap is_some (sym (run-refused words e))
 
+-- a text command is asked exactly where its form is given
 read-some : (text : ExactTextCommand) (style : Option Style) → is_some style ≡ is_some (option_map (Read text) style)
 read-some text None = refl
 read-some text (Some style) = refl
 
+-- the words behind a text command have no fault exactly where they ask that command
 no-text_fault : (text : ExactTextCommand) (words : List Word) → is_none (text_fault words) ≡ is_some (asked_by words (text_row text))
 no-text_fault text words =
     neither _ _ _ _ (no-option_fault (text_row text).names (text_row text).switches words) (no-form_fault words [])
@@ -176,6 +184,7 @@ no-text_fault text words =
         read-some text (form words []) ∙ ap is_some (sym (asks-text words text (form words []) e refl))
     by false e = ap is_some (sym (text-refused words text e))
 
+-- the words behind a command with two widths have no fault exactly where they ask one of the two
 no-wide_fault : (narrow wide : ExactTextCommand) (words : List Word) →
     is_none (wide_fault words) ≡ is_some (asked_by words (wide_row narrow wide))
 no-wide_fault narrow wide words =
@@ -204,6 +213,7 @@ module _ (x y : Bool) where
       by true = refl
       by false = refl
 
+-- a range of one number is asked exactly where what is moved and the form are given
 range-some : (name : Word) (moved : Option Moved) (style : Option Style) →
     ((is_some moved && true) && (true && is_some style))
     ≡ is_some (option_and_then (λ w. option_map (Read (Range w name)) style) moved)
@@ -211,6 +221,7 @@ range-some name None style = refl
 range-some name (Some w) None = refl
 range-some name (Some w) (Some style) = refl
 
+-- the words for the range of one number have no fault exactly where they ask for one
 no-number_fault : (words : List Word) → is_none (number_fault words) ≡ is_some (asked_by words number_row)
 unfolding given_in
 no-number_fault [] = refl
@@ -234,6 +245,7 @@ no-number_fault (what ∷ name ∷ words) =
         range-some name (moved_of what) (form words [])
         ∙ ap is_some (sym (asks-number what name words (what ∷ name ∷ words) refl (moved_of what) h e refl))
 
+-- the words behind `range` have no fault exactly where they ask for ranges
 no-range_fault : (words : List Word) → is_none (range_fault words) ≡ is_some (asked_by words range_row)
 unfolding given_in
 no-range_fault [] = refl
@@ -244,6 +256,7 @@ no-range_fault (what ∷ words) = by (is_all what) refl
     by true e = no-text_fault RangeAll words ∙ ap is_some (sym (asks-all what words (what ∷ words) refl e))
     by false e = no-number_fault (what ∷ words) ∙ ap is_some (sym (asks-one what words (what ∷ words) refl e))
 
+-- a model is asked of the generator exactly where the seed, the rows and the columns are given
 generate_by-some : (seed rows columns : Option ℕ) →
     (((is_some seed && is_some rows) && is_some columns) && true) ≡ is_some (generate_by seed rows columns)
 generate_by-some None rows columns = refl
@@ -251,10 +264,12 @@ generate_by-some (Some s) None columns = refl
 generate_by-some (Some s) (Some r) None = refl
 generate_by-some (Some s) (Some r) (Some c) = refl
 
+-- where there are no names of options, one or more words are no options
 no-option : (word : Word) (words : List Word) → are_in [] [] (word ∷ words) ≡ false
 no-option word [] = refl
 no-option word (value ∷ words) = refl
 
+-- the words behind `generate` have no fault exactly where they ask for a model
 no-generate_fault : (words : List Word) → is_none (generate_fault words) ≡ is_some (asked_by words generate_row)
 unfolding given_in
 no-generate_fault [] = refl
@@ -276,12 +291,14 @@ no-generate_fault (seed ∷ rows ∷ columns ∷ word ∷ words) =
     ∙ and_false _
     ∙ ap is_some (sym (refused generate_row (seed ∷ rows ∷ columns ∷ word ∷ words) (omega arith) none))
 
+-- a server is asked exactly where the workers, the connections and the places are given
 serve_by-some : (w l p : Option ℕ) → ((is_some w && is_some l) && is_some p) ≡ is_some (serve_by w l p)
 serve_by-some None l p = refl
 serve_by-some (Some k) None p = refl
 serve_by-some (Some k) (Some c) None = refl
 serve_by-some (Some k) (Some c) (Some n) = refl
 
+-- the words behind `serve` have no fault exactly where they ask for a server
 no-serve_fault : (words : List Word) → is_none (serve_fault words) ≡ is_some (asked_by words serve_row)
 unfolding given_in
 no-serve_fault [] = refl
@@ -325,6 +342,7 @@ fault_of command.Range = range_fault
 fault_of command.Generate = generate_fault
 fault_of command.Serve = serve_fault
 
+-- the fault of a word and the words behind it is that of the command found by the word
 by-command : (word : Word) (words : List Word) (found : Option Command) → look_up word command_words ≡ found →
     word_fault (word ∷ words) ≡ fault_by word words (option_map fault_of found)
 unfolding word_fault
@@ -332,6 +350,7 @@ by-command word words found is =
     ap (fault_by word words) (look_up-map fault_of word command_words)
     ∙ ap (λ found. fault_by word words (option_map fault_of found)) is
 
+-- words have no fault exactly where they are a command line
 no-word_fault : (words : List Word) → is_none (word_fault words) ≡ is_some (command_line_of words)
 unfolding word_fault command_line_of
 no-word_fault [] = refl

@@ -15,13 +15,16 @@ use Rattle.spec_program.specs.Spelled.{spelled_text}
 use Rattle.lp_command_line.specs.Notices.{notice_of}
 use Rattle.lp_command_line.proofs.Asking.{run-refused, text-refused, wide-refused, no-address, command_words, row_of, asks-command}
 
+-- a word equal to one that alone is no command line is no command line alone
 alone : (word name : Word) → command_line_of (name ∷ []) ≡ None → same word name ≡ true → command_line_of (word ∷ []) ≡ None
 alone word name none e = ap (λ w. command_line_of (w ∷ [])) (same_true word name e) ∙ none
 
+-- `--help` alone is no command line
 usage_alone : command_line_of (codes "--help" ∷ []) ≡ None
 unfolding command_line_of
 usage_alone = refl
 
+-- `--version` alone is no command line
 version_alone : command_line_of (codes "--version" ∷ []) ≡ None
 unfolding command_line_of
 version_alone = refl
@@ -31,10 +34,12 @@ generates_nothing : asked_by (codes "--help" ∷ []) (row_of command.Generate) �
 unfolding given_in
 generates_nothing = refl
 
+-- `--help` alone behind `range` asks nothing
 ranges_nothing : asked_by (codes "--help" ∷ []) (row_of command.Range) ≡ None
 unfolding given_in
 ranges_nothing = refl
 
+-- any word with `--help` alone behind it is no command line
 usage_behind : (word : Word) → command_line_of (word ∷ codes "--help" ∷ []) ≡ None
 usage_behind word =
     asks-command (word ∷ codes "--help" ∷ []) (codes "--help" ∷ []) word (look_up word command_words) refl refl
@@ -50,6 +55,7 @@ usage_behind word =
     by (Some command.Generate) = generates_nothing
     by (Some command.Serve) = no-address (codes "--help") [] (codes "--help" ∷ []) refl refl
 
+-- words that ask for a notice are no command line
 no-command : (words : List Word) (notice : Notice) → notice_of words ≡ Some notice → command_line_of words ≡ None
 unfolding notice_of
 no-command [] notice e = absurd (none-some notice e)
@@ -69,6 +75,7 @@ no-command (word ∷ option ∷ []) notice e = by (same option (codes "--help"))
     by false is_help e = absurd (none-some notice e)
 no-command (word ∷ option ∷ more ∷ words) notice e = absurd (none-some notice e)
 
+-- words of which some notice was found are no command line
 pub no-command-by : (words : List Word) (found : Option Notice) → found ≡ notice_of words → IsSome found →
     command_line_of words ≡ None
 no-command-by words None is some = absurd (let z : false ≡ true = some in cc)

@@ -22,6 +22,7 @@ told-or : (a b : Option (WordFault (Bor (List ℕ)))) → told (option_or a b) �
 told-or None b = refl
 told-or (Some fault) b = refl
 
+-- where two faults are told as the definition's, the first of the two that there is is told so too
 told-either : (a b : Option (WordFault (Bor (List ℕ)))) (x y : Option Fault) → told a ≡ x → told b ≡ y →
     told (option_or a b) ≡ option_or x y
 told-either a b x y is_x is_y = told-or a b ∙ ap (λ t. option_or t (told b)) is_x ∙ ap (option_or x) is_y

@@ -203,6 +203,7 @@ pub pairs_are : OptionNames → Option Options → Bool
 pairs_are names None = false
 pairs_are names (Some options) = are_options_of names options
 
+-- a and not b, with c and d, is a and c, with not b and d
 swap_and : (a b c d : Bool) → cond (a && not b) (c && d) false ≡ (a && c) && (not b && d)
 swap_and true true c d = by c
   where
@@ -212,6 +213,7 @@ swap_and true true c d = by c
 swap_and true false c d = refl
 swap_and false b c d = refl
 
+-- false in either case of a test is false
 and_false : (t : Bool) → cond t false false ≡ false
 and_false true = refl
 and_false false = refl
@@ -239,6 +241,7 @@ module _ (names switches : OptionNames) (option value : List ℕ) (words : List 
           ∙ swap_and (is_one_of option names) (is_one_of option (map (λ o. o.0) pairs))
           (list_all (λ o. is_one_of o.0 names) pairs) (are_distinct (map (λ o. o.0) pairs))
 
+-- words are options with these names exactly where their pairs are
 are-pairs : (names switches : OptionNames) (words : List (List ℕ)) →
     are_in names switches words ≡ pairs_are names (in_pairs switches words)
 unfolding pairs_are
