@@ -165,25 +165,30 @@ err_of (Err why) P so = (why, refl, so)
 
 -- ---- there is no memory for the workers
 
+-- no connections, one empty list for each listener
 none_served : List ListenerState → List (List Served)
 none_served [] = []
 none_served (old ∷ olds) = [] ∷ none_served olds
 
+-- there are as many empty lists of connections as listeners
 as_many_none : (olds : List ListenerState) → length (none_served olds) ≡ length olds
 unfolding none_served
 as_many_none [] = refl
 as_many_none (old ∷ olds) = ap suc (as_many_none olds)
 
+-- where no connections were served, there are no exchanges
 none_had : (n i : ℕ) (olds : List ListenerState) → exchanges_from n i (exchanges_of (none_served olds)) ≡ []
 unfolding none_served
 none_had n i [] = refl
 none_had n i (old ∷ olds) = none_had n (suc i) olds
 
+-- where no connections were served, each list of them is empty
 all_none : (olds : List ListenerState) → AllByRecursion (λ (links : List Served). links ≡ []) (none_served olds)
 unfolding none_served
 all_none [] = tt
 all_none (old ∷ olds) = (refl, all_none olds)
 
+-- a service that has no memory for its workers serves no connection, and changes nothing
 when_unserved : (places each : ℕ) (states : List ListenerState) (taken : Option (List ℕ)) →
     Serves places each states states taken taken (Err fault.NoMemory)
 when_unserved places each states taken =

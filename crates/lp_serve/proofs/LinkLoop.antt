@@ -19,9 +19,11 @@ use Rattle.lp_session.specs.Boarding.{AddsStep, StepCalls}
 use Rattle.lp_serve.specs.Service.{TakesAsk, ServesBy}
 use Rattle.lp_serve.proofs.LinkTurns.{Turn, stopped, cut_off, quit, turn_on}
 
+-- two equal sinks have taken the same bytes
 same_taken : (a b : Option (List ℕ)) (m n : ℕ) → sink_of a m ≡ sink_of b n → a ≡ b
 same_taken a b m n e = ap (λ (s : SinkState). s.taken) e
 
+-- two equal sources have the same bytes left
 same_left : (a b : Option (List ℕ)) (m n : ℕ) → source_of a m ≡ source_of b n → a ≡ b
 same_left a b m n e = ap (λ (s : SourceState). s.left) e
 

@@ -47,6 +47,7 @@ fewer_first after read xs ys first =
 
 -- ---- lines that were taken from the start
 
+-- where the input has not ended, what was read begins with the lines taken
 begun : (ended : Bool) (after : Option (List ℕ)) (raw ahead : List ℕ) (lines : List (Line (List ℕ))) →
     ended ≡ false → Tells ended after raw ahead lines → BeginsWith raw lines
 begun true after raw ahead lines live t = absurd (let e = live in cc)

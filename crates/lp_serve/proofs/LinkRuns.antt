@@ -22,11 +22,13 @@ use Rattle.lp_serve.specs.Desks.{LinkSteps}
 
 -- ---- the steps of one link
 
+-- the steps of a connection's session leave the number of places of a pass as it is
 steps_places : (v : View) (old : State) (xs : List Exchange) (w : View) (new : State) → Steps v old xs w new →
     w.places ≡ v.places
 steps_places v old [] w new s = ap (λ (x : View). x.places) s.0
 steps_places v old (x ∷ xs) w new s = steps_places s.0 s.1 xs w new s.3 ∙ calls_places v s.0 s.2.calls
 
+-- the steps of a connection's session add the reads of its exchanges to those of the pass
 steps_reads : (v : View) (old : State) (xs : List Exchange) (w : View) (new : State) → Steps v old xs w new →
     reads_of w ≡ reads_of v ++ reads_in_all xs
 steps_reads v old [] w new s = ap reads_of s.0 ∙ sym (append-nil (reads_of v))
@@ -39,6 +41,7 @@ steps_reads v old (x ∷ xs) w new s =
 abbrev IsFair : View → Type 0
 IsFair v = Consistent v × IsOrderly v
 
+-- the steps of a connection's session keep the pass consistent and orderly
 steps_fair : (v : View) (old : State) (xs : List Exchange) (w : View) (new : State) → Steps v old xs w new →
     IsFair v → IsFair w
 steps_fair v old [] w new s fair = subst IsFair (sym s.0) fair
@@ -46,6 +49,7 @@ steps_fair v old (x ∷ xs) w new s fair =
     steps_fair s.0 s.1 xs w new s.3
     (s.2.consistent fair.0, calls_orderly v s.0 fair.0 s.2.calls fair.1)
 
+-- the steps of a connection's session are a run of the session alone
 steps_run : (v : View) (old : State) (xs : List Exchange) (w : View) (new : State) → Steps v old xs w new →
     AloneRun v.places old xs new
 steps_run v old [] w new s = s.1
@@ -73,6 +77,7 @@ links_read v (x ∷ links) w s =
     ∙ ap (λ rs. rs ++ flat_map reads_in_all (exchanges_in links)) (steps_reads v opening x.exchanges s.0 s.1 s.2)
     ∙ append_assoc (reads_of v) (reads_in_all x.exchanges) (flat_map reads_in_all (exchanges_in links))
 
+-- the sessions of connections, one after the other, keep the pass consistent and orderly
 links_fair : (v : View) (links : List Served) (w : View) → LinkSteps v links w → IsFair v → IsFair w
 links_fair v [] w s fair = subst IsFair (sym s) fair
 links_fair v (x ∷ links) w s fair =

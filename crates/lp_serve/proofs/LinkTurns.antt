@@ -45,12 +45,14 @@ use Rattle.lp_serve.proofs.LinkSteps.{exchange_of, step_by, steps_more, steps_ru
 
 -- ---- lines after those that end between two commands
 
+-- where lines of a connection lead between two commands, more lines ask what they ask alone
 asks_more : (lines more : List (Line (List ℕ))) → pending_after Alone Between lines ≡ Between →
     asks_of_lines (lines ++ more) ≡ asks_of_lines lines ++ asks_of_lines more
 asks_more lines more between =
     asks_from-append Alone Between lines more
     ∙ ap (λ (p : Pending). asks_of_lines lines ++ asks_from Alone p more) between
 
+-- where lines of a connection lead between two commands, more lines lead to where they lead alone
 pending_more : (lines more : List (Line (List ℕ))) → pending_after Alone Between lines ≡ Between →
     pending_after Alone Between (lines ++ more) ≡ pending_after Alone Between more
 pending_more lines more between =
@@ -58,9 +60,11 @@ pending_more lines more between =
 
 -- ---- what is written
 
+-- the output of two lists of exchanges together is that of one and then that of the other
 link_out-append : (xs ys : List Exchange) → link_out (xs ++ ys) ≡ link_out xs ++ link_out ys
 link_out-append xs ys = flat_map-append (λ x. reply_lines Alone x.session x.reply) xs ys
 
+-- the output of exchanges is a prefix of itself
 whole_front : (xs : List Exchange) → IsPrefixOf (link_out xs) (link_out xs)
 whole_front xs = ([], append-nil (link_out xs))
 
