@@ -27,9 +27,11 @@ not_equal a b e same =
 pub last_first : {X : Type 0} (x : X) (xs : List X) → reverse (x ∷ xs) ≡ reverse xs ++ x ∷ []
 last_first x xs = reverse-append (x ∷ []) xs
 
+-- a list with an element at the end, put in reverse, begins with this element
 last_there : {X : Type 0} (xs : List X) (x : X) → reverse (xs ++ x ∷ []) ≡ x ∷ reverse xs
 last_there xs x = reverse-append xs (x ∷ [])
 
+-- equal lists with an element at the end are equal without it, and have the same element there
 pushed_same : {X : Type 0} (xs ys : List X) (x y : X) → xs ++ x ∷ [] ≡ ys ++ y ∷ [] → (xs ≡ ys) × (x ≡ y)
 pushed_same xs ys x y e =
     let f : x ∷ reverse xs ≡ y ∷ reverse ys = sym (last_there xs x) ∙ ap reverse e ∙ last_there ys y in
@@ -131,6 +133,7 @@ record NextOne (session : ℕ) (rest : List Exchange) : Type 0 where
   is : rest ≡ next ∷ more
   of_session : next.session ≡ session
 
+-- where exchanges come in the order of sessions, the one behind k of them is of session k of these
 next_one : (done rest : List Exchange) (sessions : List ℕ) (k d : ℕ) → length done ≡ k →
     map (λ (x : Exchange). x.session) (done ++ rest) ≡ sessions → k < length sessions →
     NextOne (get_or sessions k d) rest

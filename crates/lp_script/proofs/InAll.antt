@@ -38,10 +38,12 @@ use Rattle.lp_script.specs.Dealt.{AreDealt, HoldReplies}
 use Rattle.lp_script.specs.Parts.{IsServing, Took}
 use Rattle.lp_script.proofs.Dealing.{last_first}
 
+-- numbers that compare as unequal are different
 not_equal : (a b : ℕ) → nat_eq a b ≡ false → a ≢ b
 not_equal a b e same =
     let f : nat_eq a b ≡ true = eq-eqb a b same in let g : false ≡ true = sym e ∙ f in cc
 
+-- three lists of reads with the first two swapped have the same reads
 swapped : (a b c : List ExactRead) → IsPermutation (a ++ (b ++ c)) (b ++ (a ++ c))
 swapped a b c =
     subst (λ rs. IsPermutation rs (b ++ (a ++ c))) (append_assoc a b c)
@@ -124,6 +126,7 @@ module _ (n : ℕ) where
 
 -- ---- lists from the end
 
+-- what is filtered of a reversed list is what is filtered of the list, reversed
 filter_reverse : {X : Type 0} (p : X → Bool) (xs : List X) → filter p (reverse xs) ≡ reverse (filter p xs)
 filter_reverse p [] = refl
 filter_reverse p (x ∷ xs) =
@@ -161,10 +164,12 @@ module _ {C : Type 0} (is_ready : C → Part → Type 0) (shared : C) (board : B
       all : length old ≡ n
       all = sym (length-map old (λ (w : Worker Part). w.job)) ∙ ap length are ∙ many
 
+-- the first of some workers
 first_of : (workers : List (Worker Part)) → 0 < length workers → Worker Part
 first_of [] l = absurd (omega (arith, l))
 first_of (w ∷ workers) l = w
 
+-- a worker whose number is no less than the number of workers has no asks
 none_past : (n i : ℕ) (asks : List (Asked ExactAsk)) → 0 < n → n ≤ i → asks_of_worker n i asks ≡ []
 none_past n i [] some past = refl
 none_past n i (a ∷ asks) some past = by (nat_eq (a.session % n) i) refl (none_past n i asks some past)

@@ -159,6 +159,7 @@ module _ (board : Board) (w new : Worker Part) (pass : new.pass ≡ w.pass) (ses
 
 -- ---- its turn, so far
 
+-- each of 65 sessions that have just opened is in its opening state, and so is any past them
 opening_at : (session : ℕ) → state_at (replicate 65 opening) session ≡ opening
 opening_at session =
     ⊎_elim (λ (l : session < 65). get_or-replicate 65 session opening opening l)
@@ -167,6 +168,7 @@ opening_at session =
     (let e = length-replicate 65 opening in omega (arith, e, l)))
     (cases_lt session 65)
 
+-- a pass without raw reads has no reads
 unread_reads : (v : View) → v.reads ≡ [] → reads_of v ≡ []
 unread_reads v unread = ap (λ reads. reads_of (record v { reads = reads })) unread
 

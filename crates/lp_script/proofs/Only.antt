@@ -25,6 +25,8 @@ use Rattle.basis_board.proofs.OnceBelow.{length_own}
 use Rattle.lp_script.specs.Only.{published_words, AreInOrder, IsOnly}
 
 -- ---- the first pass of a board is the only one
+
+-- the view of the only pass of a new board is consistent
 first_consistent : (places : ℕ) → Consistent (first_view places)
 first_consistent places = record {
   neat = record { published = refl; stands = tt };
@@ -80,6 +82,8 @@ stands_at (Claim j ∷ reads) order k l = let h = stands_at reads order k l in (
 stands_at (Lost c ∷ reads) order k l = let h = stands_at reads order k l in (inr h.0, h.1)
 
 -- ---- they are as many as are owned
+
+-- there are as many published places as there are words published for them
 as_many : (reads : List RawRead) → length (published_places reads) ≡ length (published_words reads)
 as_many [] = refl
 as_many (Done k words ∷ reads) =
@@ -105,6 +109,8 @@ pub all_published : (v : View) (n : ℕ) → OwnsAll v → OwnsBelow v n → n �
 all_published v n all owns = sym (length_own v n owns) ∙ all
 
 -- ---- a look publishes nothing
+
+-- reads of places passed by publish no words
 passed_words : (shape : Words) (c k : ℕ) (added reads : List RawRead) → Passed shape c k added →
     published_words (added ++ reads) ≡ published_words reads
 passed_words shape c k [] reads p = refl
@@ -115,6 +121,7 @@ passed_words shape c k (Claim j ∷ added) reads p = absurd p.0
 passed_words shape c k (Lost n ∷ added) reads p = absurd p.0
 passed_words shape c k (Done j words ∷ added) reads p = absurd p.0
 
+-- reads of places passed by leave the reads in order
 passed_order : (shape : Words) (c k : ℕ) (added reads : List RawRead) → Passed shape c k added → AreInOrder reads →
     AreInOrder (added ++ reads)
 passed_order shape c k [] reads p order = order
@@ -133,6 +140,7 @@ pub record Rests (v w : View) : Type 0 where
   pub words : published_words w.reads ≡ published_words v.reads
   pub order : AreInOrder w.reads
 
+-- a look down to place k leaves the pass with what it had published, and nothing else
 down_rests : (shape : Words) (c k : ℕ) (v w : View) → IsDownTo shape c k v w → AreInOrder v.reads → Rests v w
 down_rests shape c k v w d order =
     subst (Rests v) (sym d.view)

@@ -21,6 +21,7 @@ use Rattle.lp_script.specs.Sharing.{as_places}
 abbrev pub in_turn : List RawRead → List ExactRead
 in_turn reads = map exact_read (reverse reads)
 
+-- two lists of reads in their order are the older one and then the newer one
 in_turn-append : (more old : List RawRead) → in_turn (more ++ old) ≡ in_turn old ++ in_turn more
 in_turn-append more old =
     ap (map exact_read) (reverse-append more old) ∙ map-append exact_read (reverse old) (reverse more)

@@ -47,6 +47,8 @@ module _ (shape : Words) where
   look_sized reads found l = subst (Each IsSized) (sym l.all) (tt, down_sized l.count l.seen found l.down)
 
 -- ---- a put writes its words
+
+-- where a put is of all words of a basis, each place that it publishes has all words
 put_sized : (places : ℕ) (words : Words) (put : Put) (reads : List ExactRead) → length words ≡ basis_words →
     PutReads places words put reads → Each IsSized reads
 put_sized places words (Published k) reads sized p = subst (Each IsSized) (sym p.1) (tt, (tt, (sized, tt)))
@@ -54,6 +56,8 @@ put_sized places words (Full c) reads sized p = subst (Each IsSized) (sym p.1) (
 put_sized places words (Raced e) reads sized p = subst (Each IsSized) (sym p.2) (tt, (tt, tt))
 
 -- ---- what is to be published is a basis
+
+-- the words of the basis that a solve ends with are all words of a basis
 end_sized : (f : Form) (end : ExactSolveEnd) → IfSome (words_of_end f end) (λ words. length words ≡ basis_words)
 end_sized f (Ended (known.Optimal v) certificate (Some basis) pivots) = packed_length f basis
 end_sized f (Ended (known.Optimal v) certificate None pivots) = tt
@@ -101,6 +105,7 @@ module _ (places : ℕ) (old : State) (reads : List ExactRead) (replied : ExactR
   goes_sized (step.Looks shape) g =
       concluded_sized g.found g.worked g.looked (look_sized shape g.looked g.found g.look) g.works g.concludes
 
+-- each place that a step of a session publishes has all words of a basis
 pub step_sized : (places : ℕ) (old : State) (asked : ExactAsk) (reads : List ExactRead) (replied : ExactReply)
     (new : State) → AloneStep places old asked reads replied new → Each IsSized reads
 step_sized places old asked reads replied new s = goes_sized places old reads replied new s.begun s.goes_on

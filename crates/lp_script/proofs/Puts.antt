@@ -18,10 +18,12 @@ use Rattle.lp_script.specs.Sharing.{as_places}
 use Rattle.lp_script.proofs.Plays.{Played, played_each}
 use Rattle.lp_script.proofs.Only.{OwnsAll, all_published}
 
+-- the place behind those that are done is found at their number
 place_last : (done : List Words) (p : ExactPlace) → place_at (as_places done ++ p ∷ []) (length done) ≡ Some p
 place_last [] p = refl
 place_last (words ∷ done) p = place_last done p
 
+-- words written at the place behind those that are done are one more done place
 with_last : (done : List Words) (p : ExactPlace) (words : Words) →
     as_places (done ++ words ∷ []) ≡ with_place (as_places done ++ p ∷ []) (length done) (place.Done words)
 with_last [] p words = refl
@@ -31,6 +33,7 @@ with_last (w ∷ done) p words = ap (λ ps. place.Done w ∷ ps) (with_last done
 abbrev pub publication : ℕ → Words → List RawRead
 publication k words = Done k words ∷ Claim k ∷ Count k ∷ []
 
+-- a publication at the first free place is answered, and then one place more is done
 played_publication : (places k : ℕ) (done : List Words) (words : Words) → k ≡ length done → k < places →
     Played places done (publication k words) (done ++ words ∷ [])
 played_publication places k done words e inside =

@@ -37,6 +37,7 @@ use Rattle.lp_script.proofs.Moving.{moves_in_part, moves_broken_off, moves_all, 
 abbrev pub out_of : List (ℕ × ExactReply) → List ℕ
 out_of pairs = flat_map lines_of_reply pairs
 
+-- the output of the first n + 1 replies is that of the first n and then the lines of the next
 out_more : (pairs : List (ℕ × ExactReply)) (n : ℕ) (pair : ℕ × ExactReply) → n < length pairs →
     get_or pairs n pair ≡ pair → out_of (take (n + 1) pairs) ≡ out_of (take n pairs) ++ lines_of_reply pair
 out_more pairs n pair within is =
@@ -107,6 +108,7 @@ replies_of : (xs : List Exchange) → replies_out (map (λ x. x.session) xs) (ma
 replies_of [] = refl
 replies_of (x ∷ xs) = ap (λ zs. lines_of_reply (x.session, x.reply) ++ zs) (replies_of xs)
 
+-- the asks of exchanges are of the sessions of the exchanges
 sessions_in : (xs : List Exchange) →
     map (λ (asked : Asked ExactAsk). asked.session) (map asked_in xs) ≡ map (λ (x : Exchange). x.session) xs
 sessions_in [] = refl
@@ -121,6 +123,7 @@ unanswered workers places taken some =
     moves_in_part [] [] (λ session. opening) [] (record { asks = refl; runs = λ session. refl; played = refl }) some.0
     [] (Appends-nil taken) ([], refl) some.1
 
+-- lines read in part, with little read beyond them, are part of what is read
 reads_part : {before after : Option (List ℕ)} {lines : List (Line (List ℕ))} (front : ReadsFront before after lines) →
     ReadsLittleMore front.read lines → ReadsPart before after lines
 reads_part {before} {after} {lines} front near = record {

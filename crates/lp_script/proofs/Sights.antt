@@ -20,6 +20,7 @@ use Rattle.lp_script.specs.Sharing.{as_places}
 use Rattle.lp_script.proofs.Plays.{Stays}
 use Rattle.lp_script.proofs.Only.{stands_at, owns_all, all_published}
 
+-- a place below the number of done places is done, with its words
 place_done : (done : List Words) (n : ℕ) → n < length done →
     place_at (as_places done) n ≡ Some (place.Done (get_or done n []))
 place_done [] n l = absurd (omega (arith, l))
@@ -125,6 +126,7 @@ pub record Sees (v w : View) : Type 0 where
   pub reads : w.reads ≡ more ++ v.reads
   pub stays : Each (Stays v.places (published_words v.reads)) more
 
+-- what a whole pass reads in a look changes nothing of what it published
 pub look_sees : (shape : Words) (v w u : View) (look : Look) → Looks shape v look w → Consistent v → v.share ≡ 64 →
     AreInOrder v.reads → Consistent u → ((r : RawRead) → Has w.reads r → Has u.reads r) → Sees v w
 look_sees shape v w u (NoneReady c) d now whole order later stay =

@@ -25,6 +25,7 @@ pub states-replicate : (n : ℕ) → states_of (replicate n (at_rest opening)) �
 states-replicate zero = refl
 states-replicate (suc n) = ap (λ states. opening ∷ states) (states-replicate n)
 
+-- the state of session k among all states is that of the session that stands at k
 state-at : (all : List Standing) (k : ℕ) (d : Standing) → k < length all →
     state_at (states_of all) k ≡ (get_or all k d).state
 state-at all k d h = get_or-map (λ session. session.state) all k d opening h
