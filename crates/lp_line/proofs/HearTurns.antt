@@ -32,6 +32,7 @@ takes_more {before} {after} {old} {new} next g no_end no_over =
       given.bound,
     )
 
+-- given lines stay given with one more that is neither the end nor too long
 one_more : (passed : List (Line (List ℕ))) (next : Line (List ℕ)) → AreGiven passed → next ≢ line.End →
     next ≢ line.Over → AreGiven (passed ++ next ∷ [])
 one_more passed next given no_end no_over =

@@ -31,6 +31,7 @@ two_by_two-even (name ∷ value ∷ words) even =
     let rest = two_by_two-even words (omega arith) in
     ((name, value) ∷ rest.0, ap (option_map (λ pairs. (name, value) ∷ pairs)) rest.1)
 
+-- where the words behind a new column's cost are odd in number, reading them fails with `Word`
 pub odd_column : (name cost : List ℕ) (words : List (List ℕ)) → length words % 2 ≢ 0 →
     column_in name cost (two_by_two words) ≡ Err fault.Word
 odd_column name cost words odd = ap (column_in name cost) (two_by_two-odd words odd)

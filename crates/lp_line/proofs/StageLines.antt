@@ -83,11 +83,13 @@ module _ (limits : SizeLimits) where
 abbrev lines_of_certificate : NarrowRead → ℕ
 lines_of_certificate reader = reader.lines
 
+-- a certificate does not go on at the end of the input
 no_certificate_behind_end : (raw : Option certificate.ExactRaw) (next : certificate.ExactRaw) →
     certificate.step raw End ≡ progress.More next → ⊥
 unfolding step_by
 no_certificate_behind_end raw next e = cc
 
+-- what is said of a certificate's line and of more lines is what its reader makes of the line
 by_judgement : (old : NarrowRead) (line : Line (List ℕ)) (more : List (Line (List ℕ)))
     (outcome : certificate.Outcome) →
     certificate.step old.raw line ≡ outcome →
