@@ -21,6 +21,7 @@ use Rattle.spec_commands.specs.BasisOut.{basis_step, basis_said_from, basis_said
 use Rattle.lp_text_commands.specs.Hearing.{Hears}
 use Rattle.lp_text_commands.specs.Said.{MayTake}
 
+-- where the same is said of a text and a basis file, the models are the same
 same_model : (a b : Handed) → ◌≡◌ {A = Option BasisSaid} (Some (Ok a)) (Some (Ok b)) → a.model ≡ b.model
 same_model a b e = let same : a ≡ b = cc in ap (λ (h : Handed). h.model) same
 
@@ -64,6 +65,7 @@ module _ (limits : SizeLimits) (handed : Handed) where
       by (Ok (text.Done m)) rest h = ap text.Spelled (begun_model m (form_of (Some number_limit) m) lines h)
       by (Err code) rest h = absurd (cc)
 
+-- a model that is said of a text and a basis file is within the limits
 said_within : (limits : SizeLimits) (style : Style) (lines : List (Line (List ℕ))) (what : BasisSaid) →
     basis_said limits style lines ≡ Some what → MayTake (λ handed. IsModelWithin limits handed.model) what
 said_within limits style lines (Ok handed) h =

@@ -35,12 +35,14 @@ text_counts style n (Ok (text.More s)) next e = subst (λ a. lines_in a ≤ n) (
 text_counts style n (Ok (text.Done m)) next e = subst (λ a. lines_in a ≤ n) (on_same _ next e) (omega arith)
 text_counts style n (Err code) next e = cc
 
+-- behind a line of a certificate, the next stage has read no more lines than were read
 certificate_counts : (m : Model) (n : ℕ) (o : certificate.Outcome) (next : reading.Stage) →
     reading.behind_certificate m n o ≡ reading.On next → lines_in next ≤ n
 certificate_counts m n (progress.More raw) next e = subst (λ a. lines_in a ≤ n) (on_same _ next e) (omega arith)
 certificate_counts m n (progress.Done raw) next e = cc
 certificate_counts m n progress.Unfit next e = cc
 
+-- a line leads to a stage that has read at most one line more
 step_counts : (at next : reading.Stage) (line : Line (List ℕ)) → check_step at line ≡ reading.On next →
     lines_in next ≤ lines_in at + 1
 unfolding check_step
@@ -49,6 +51,7 @@ step_counts (reading.InText style s n) next line e = text_counts style (n + 1) (
 step_counts (reading.InCertificate m raw n) next line e =
     certificate_counts m (n + 1) (certificate.step raw line) next e
 
+-- a stage of the code has read as many lines as the definition's stage
 count_is : (at : CheckStage) → lines_in (stage_of at) ≡ count_of at
 count_is (stage.Text reader) = refl
 count_is (stage.Certificate model reader) = refl

@@ -29,6 +29,7 @@ pub exact_fits : (m : Model) (budget : ℕ) (starting : Option (List Status)) (e
 exact_fits m budget starting (Answered a) is = let h : IsExactAnswer m a = is in h.0.0
 exact_fits m budget starting Open is = tt
 
+-- the basis that an exact answer leaves, if any, is one of the model's form
 leaves : (m : Model) (f : Form) (a : RationalAnswer) (basis : Option (List Status)) →
     form_of (Some number_limit) m ≡ Ok f → IfSome basis (IsBasisOfAnswer m a.certificate) →
     IfSome basis (λ basis. IsBasisOf f basis)
@@ -49,6 +50,7 @@ unfolding ended_lines
 open_line m end before after (Ok u) e h = h ∙ ap (λ end. before ++ exact_lines m end) (sym e)
 open_line m end before after (Err why) e h = tt
 
+-- a known answer's line, its origin's line and the certificate's lines, joined one way, are joined the other
 joined : (before k o rest : List ℕ) → ((((before ++ k) ++ 10 ∷ []) ++ o) ++ 10 ∷ []) ++ rest
     ≡ before ++ ((k ++ 10 ∷ []) ++ ((o ++ 10 ∷ []) ++ rest))
 joined before k o rest =
@@ -73,6 +75,7 @@ answer_lines m a before t u v w after lines (Err why) is_t is_u is_v is_w are is
 
 -- ---- the whole
 
+-- the whole lines of an exact end, by the model's form, are the lines with the basis
 whole_is : (m : Model) (end : RationalEnd) → whole_lines m (form_of (Some number_limit) m) end ≡ based_lines m end
 whole_is m (Answered a) = refl
 whole_is m Open = refl
@@ -82,6 +85,7 @@ whole_based : (m : Model) (form : Result Form (FormFault ℚ)) (end : RationalEn
     form_of (Some number_limit) m ≡ form → whole_lines m form end ≡ based_lines m end
 whole_based m form end formed = ap (λ o. whole_lines m o end) (sym formed) ∙ whole_is m end
 
+-- where the model has no form, the whole lines of an exact end are its lines without a basis
 formless_is : (m : Model) (why : FormFault ℚ) (end : RationalEnd) → exact_lines m end ≡ whole_lines m (Err why) end
 formless_is m why (Answered a) = sym (append-nil (exact_lines m (Answered a)))
 formless_is m why Open = refl

@@ -39,6 +39,7 @@ within_buffer {mid} {old} {read} {bytes} u over =
     let f = over.near in
     omega arith
 
+-- a list with an element at the end and more behind it is the list with the element and more behind it
 append_one : {A : Type 0} (xs : List A) (x : A) (more : List A) → (xs ++ x ∷ []) ++ more ≡ xs ++ x ∷ more
 append_one xs x more = append_assoc xs (x ∷ []) more
 

@@ -37,6 +37,7 @@ use Rattle.spec_commands.specs.IisOut.{side_line, point_lines, found_lines, end_
 
 -- ---- lines in a row
 
+-- one line with its end is the line and a newline
 ended_one : (line : List ℕ) → ended_lines (line ∷ []) ≡ line ++ 10 ∷ []
 unfolding ended_lines
 ended_one line = append-nil (line ++ 10 ∷ [])
@@ -62,6 +63,7 @@ pub item_holds : {A : Type 0} (P : A → Type 0) (xs : List A) (at : ℕ) (x : A
 item_holds P xs at x e all =
     subst P (get_or_from_slice_get xs at x x e) (all at x (slice_get_within xs at x e))
 
+-- where x stands at `at`, the first `at` + 1 elements are the first `at` and then x
 taken_more : {A : Type 0} (xs : List A) (at : ℕ) (x : A) → slice_get xs at ≡ Some x →
     take (at + 1) xs ≡ take at xs ++ x ∷ []
 taken_more xs at x e =
@@ -69,6 +71,7 @@ taken_more xs at x e =
     ap (λ k. take k xs) one ∙ take-suc xs at x (slice_get_within xs at x e)
     ∙ ap (λ y. take at xs ++ y ∷ []) (get_or_from_slice_get xs at x x e)
 
+-- the first `at` elements of a longer list are `at` many
 length_taken : {A : Type 0} (xs : List A) (at : ℕ) → at < length xs → length (take at xs) ≡ at
 length_taken [] at l = absurd (omega arith)
 length_taken (x ∷ xs) zero l = refl
@@ -118,6 +121,7 @@ some_part name v is_zero e h =
 abbrev pub numbered : Model → ℕ → List ℚ → List (List ℕ)
 numbered m number z = (codes "POINT " ++ decimal number) ∷ column_lines m X z
 
+-- the lines of points with one more are those of the points and then those of the new one
 point_more : (m : Model) (n : ℕ) (points : List (List ℚ)) (z : List ℚ) →
     point_lines m n (points ++ z ∷ []) ≡ point_lines m n points ++ numbered m (n + length points + 1) z
 point_more m n [] z =
@@ -150,6 +154,7 @@ heading sides = codes "INFEASIBLE" ∷ (codes "IIS " ++ decimal (length sides)) 
 abbrev pub heading_text : List Side → List ℕ
 heading_text sides = (codes "INFEASIBLE\nIIS " ++ decimal (length sides)) ++ 10 ∷ []
 
+-- the two lines above the sides, with their ends, are the text of the heading
 heading_ended : (sides : List Side) → ended_lines (heading sides) ≡ heading_text sides
 unfolding ended_lines
 heading_ended sides =

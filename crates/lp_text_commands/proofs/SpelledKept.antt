@@ -21,6 +21,7 @@ use Rattle.lp_line.specs.Stages.{TextSays}
 use Rattle.lp_text_commands.specs.Hearing.{Agrees, Hears}
 use Rattle.lp_text_commands.specs.Said.{MayTake}
 
+-- where the same is said of two texts, the models are the same
 same_model : (m o : Model) → ◌≡◌ {A = Option TextSaid} (Some (Ok m)) (Some (Ok o)) → m ≡ o
 same_model m o e = cc
 
@@ -43,6 +44,7 @@ spelled_from style (next ∷ lines) s n m h = by (text.step usual_limits style s
     by (Ok (text.Done d)) rest h = ap text.Spelled (same_model d m h)
     by (Err code) rest h = absurd (cc)
 
+-- a model that is said of the lines of a text is usual
 said_kept : (style : Style) (lines : List (Line (List ℕ))) (what : TextSaid) → text_said style lines ≡ Some what →
     MayTake IsUsualModel what
 said_kept style lines (Ok m) h = usual_from_within m (spelled_kept usual_limits style lines m (spelled_from style lines
