@@ -4,8 +4,6 @@ use Rattle.std.proofs.Common.{Bool, true, false, cond, ap, sym, ◌∙◌, appen
 use Rattle.std.proofs.lemmas.List.Elements.{All-head, All-tail, All-push}
 use Rattle.spec_text.specs.declared.line.Line.{Line}
 use Rattle.spec_text.specs.declared.line.Line.TheVariants as line
-use Rattle.spec_edit.specs.Edited.{ExactEdit}
-use Rattle.spec_server.specs.declared.addressing.Addressed.{Addressed}
 use Rattle.spec_server.specs.declared.addressing.Addressing.{Addressing}
 use Rattle.spec_server.specs.declared.asks.Asked.{Asked}
 use Rattle.spec_server.specs.declared.command.Command.TheVariants as command
@@ -59,10 +57,10 @@ command_done session command.Check asked rest e = none_some asked rest e
 command_done session (command.Plain plain) asked rest e = record { alone = one_alone _ asked rest e; between = refl }
 command_done session (command.Bad fault) asked rest e = record { alone = one_alone _ asked rest e; between = refl }
 
-addressed_done : (found : Option (Addressed ExactEdit)) (asked : Asked ExactAsk) (rest : Asks) →
+addressed_done : (found : Option (Asked ExactCommand)) (asked : Asked ExactAsk) (rest : Asks) →
     asks_by found ≡ asked ∷ rest → IsDone rest (begun_by found)
 addressed_done None asked rest e = none_some asked rest e
-addressed_done (Some addressed) asked rest e = command_done addressed.session addressed.command asked rest e
+addressed_done (Some addressed) asked rest e = command_done addressed.session addressed.ask asked rest e
 
 body_done : (ends : Bool) (completed asked : Asked ExactAsk) (rest : Asks) (more : Pending) →
     ◌≡◌ {A = Asks} (cond ends (completed ∷ []) []) (asked ∷ rest) → IsDone rest (cond ends Between more)

@@ -21,11 +21,10 @@ use Rattle.spec_mps.specs.Steps as text
 use Rattle.spec_certificate.specs.declared.progress.Progress.TheVariants as progress
 use Rattle.spec_certificate.specs.Text.{step_by}
 use Rattle.spec_certificate.specs.NarrowText as certificate
-use Rattle.spec_edit.specs.Edited.{ExactEdit}
-use Rattle.spec_server.specs.declared.addressing.Addressed.{Addressed}
 use Rattle.spec_server.specs.declared.addressing.Addressing.{Addressing}
 use Rattle.spec_server.specs.declared.asks.Asked.{Asked}
 use Rattle.spec_server.specs.Addressing.{addressed_in}
+use Rattle.spec_server.specs.Command.{ExactCommand}
 use Rattle.spec_server.specs.Machine.{ExactAsk}
 use Rattle.spec_server.specs.Said.{Step, follow, said_by}
 use Rattle.spec_server.specs.TextSaid.{TextSaid, behind_line, text_step}
@@ -198,19 +197,19 @@ skips own here no_end e = leads_on (stage.Between own) (stage.Between own) here 
     (record {
       no_asks = fit_between (λ a p. asks_of_line a p here ≡ []) own (ap asks_by (sym e));
       fits = fit_between (λ a p. Fits a (pending_after_line a p here) (stage.Between own)) own
-          (subst (λ (found : Option (Addressed ExactEdit)). Fits own (begun_by found) (stage.Between own)) e refl);
+          (subst (λ (found : Option (Asked ExactCommand)). Fits own (begun_by found) (stage.Between own)) e refl);
     })
     (omega arith)
 
-pub commands : (own : Addressing) (here : Line (List ℕ)) (addressed : Addressed ExactEdit)
+pub commands : (own : Addressing) (here : Line (List ℕ)) (addressed : Asked ExactCommand)
     (made : code.Step ScriptStage Taken) → here ≢ line.End →
-    ◌≡◌ {A = Option (Addressed ExactEdit)} (Some addressed) (addressed_in own here) →
-    Begins addressed.session addressed.command made → Leads ScriptSays lines_in (stage.Between own) here made
+    ◌≡◌ {A = Option (Asked ExactCommand)} (Some addressed) (addressed_in own here) →
+    Begins addressed.session addressed.ask made → Leads ScriptSays lines_in (stage.Between own) here made
 commands own here addressed (step.On next) no_end e b = leads_on (stage.Between own) next here no_end
     (record {
       no_asks = fit_between (λ a p. asks_of_line a p here ≡ []) own (ap asks_by (sym e) ∙ b.none);
       fits = fit_between (λ a p. Fits a (pending_after_line a p here) next) own
-          (subst (λ (found : Option (Addressed ExactEdit)). Fits own (begun_by found) next) e (b.fits own));
+          (subst (λ (found : Option (Asked ExactCommand)). Fits own (begun_by found) next) e (b.fits own));
     })
     (omega (arith, b.counts))
 commands own here addressed (step.Says what) no_end e b =

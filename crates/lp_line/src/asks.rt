@@ -7,9 +7,6 @@ use lp_model::{Edit, UsualModel};
 /// What the words of a line ask.
 pub type Command = spec_server::Command<Edit>;
 
-/// A command with the number of its session.
-pub type Addressed = spec_server::Addressed<Edit>;
-
 /// A command of one line.
 pub type Plain = spec_server::Plain<Edit>;
 

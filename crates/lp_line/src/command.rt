@@ -6,11 +6,11 @@ ghost use Rattle.spec_server.specs.Command as commands;
 ghost use Rattle.spec_server.specs.EditCommand.{edit_by};
 ghost use Rattle.spec_server.specs.Addressing as lines;
 
-use crate::asks::{Addressed, Command, Plain};
+use crate::asks::{Command, Plain};
 use crate::edits::{EditStop, edit_by};
 use crate::words::{budget_of, command_word_of, session_of, style_of};
 use lp_base::{Bytes, Line, words};
-use spec_server::{Addressing, CommandWord, EditWord, LineFault};
+use spec_server::{Addressing, Asked, CommandWord, EditWord, LineFault};
 use std::alloc::{AllocError, Global};
 
 // The command `LOAD` with this form of the text, or a bad one where the word is no form.
@@ -87,12 +87,16 @@ fn command_of(alloc: Global, words: &[Bytes]) -> Result<Command, AllocError>
 }
 
 // The command that the words are, for this session.
-fn addressed(alloc: Global, session: u32, words: &[Bytes]) -> Result<Option<Addressed>, AllocError>
+fn addressed(
+    alloc: Global,
+    session: u32,
+    words: &[Bytes],
+) -> Result<Option<Asked<Command>>, AllocError>
     ensures { IfOk result (λ found. found ≡
-        Some (record { session = session; command = commands.command_of words.now })) }
+        Some (record { session = session; ask = commands.command_of words.now })) }
 {
-    let command = command_of(alloc, words)?;
-    Ok(Some(Addressed { session, command }))
+    let ask = command_of(alloc, words)?;
+    Ok(Some(Asked { session, ask }))
 }
 
 // The command behind the number of its session. A word that is no such number makes it a bad one of session 0.
@@ -100,14 +104,14 @@ fn addressed_to(
     alloc: Global,
     number: &[u8],
     words: &[Bytes],
-) -> Result<Option<Addressed>, AllocError>
+) -> Result<Option<Asked<Command>>, AllocError>
     ensures { IfOk result (λ found. found ≡ Some (lines.addressed_to (commands.session_of number.now) words.now)) }
 {
     match session_of(number) {
         Some(session) => addressed(alloc, session, words),
-        None => Ok(Some(Addressed {
+        None => Ok(Some(Asked {
             session: 0,
-            command: Command::Bad(LineFault::Word),
+            ask: Command::Bad(LineFault::Word),
         })),
     }
 }
@@ -117,7 +121,7 @@ fn addressed_by(
     alloc: Global,
     addressing: Addressing,
     words: &[Bytes],
-) -> Result<Option<Addressed>, AllocError>
+) -> Result<Option<Asked<Command>>, AllocError>
     ensures { IfOk result (λ found. found ≡ lines.addressed_by addressing words.now) }
 {
     let [first, behind @ ..] = words else {
@@ -145,7 +149,7 @@ fn text_command(
     alloc: Global,
     addressing: Addressing,
     text: &[u8],
-) -> Result<Option<Addressed>, AllocError>
+) -> Result<Option<Asked<Command>>, AllocError>
     ensures { IfOk result (λ found. found ≡ lines.addressed_in addressing (line.Text text.now)) }
 {
     if begins_with_hash(text) {
@@ -161,14 +165,14 @@ pub fn read(
     alloc: Global,
     addressing: Addressing,
     line: &Line,
-) -> Result<Option<Addressed>, AllocError>
+) -> Result<Option<Asked<Command>>, AllocError>
     ensures { IfOk result (λ found. found ≡ lines.addressed_in addressing line.now) }
 {
     match line {
         Line::Text(text) => text_command(alloc, addressing, text.as_slice()),
-        Line::Long(_) => Ok(Some(Addressed {
+        Line::Long(_) => Ok(Some(Asked {
             session: 0,
-            command: Command::Bad(LineFault::Long),
+            ask: Command::Bad(LineFault::Long),
         })),
         Line::End | Line::Over => Ok(None),
     }

@@ -4,7 +4,7 @@
 //! | Item | What it is | Where |
 //! |---|---|---|
 //! | `Ask`, `Asked`, `Reply` | what sessions are asked and reply, with the types of the code | src/asks |
-//! | `read`, `Addressed`, `Command` | what a line between two commands is | src/command, src/edits |
+//! | `read`, `Command` | what a line between two commands is | src/command, src/edits |
 //! | `hear`, `Heard` | reads lines up to the one at which something is said | src/hearing, specs/Hearing |
 //! | `Stage`, `Step` | what was read so far, and where the next line leads | src/hearing, src/stages, src/script |
 //! | `take`, `Taken` | reads the lines of the next ask | src/taking, specs/Takes |
@@ -38,7 +38,7 @@ mod wide;
 mod words;
 
 pub use answers::{fall_suffix, push_numbered, push_pivots};
-pub use asks::{Addressed, Answer, Ask, Asked, Command, Plain, Refusal, Reply};
+pub use asks::{Answer, Ask, Asked, Command, Plain, Refusal, Reply};
 pub use command::read;
 pub use halt::Halt;
 pub use hearing::{Heard, Stage, Step, hear};

@@ -11,7 +11,7 @@ ghost use Rattle.lp_line.specs.declared.hearing.Step.TheVariants as step;
 ghost use Rattle.lp_line.specs.declared.script.ScriptStage.TheVariants as stage;
 ghost use Rattle.lp_line.specs.declared.taking.Taken.TheVariants as taken;
 
-use crate::asks::{Addressed, Ask, Asked, Command};
+use crate::asks::{Ask, Asked, Command};
 use crate::body::{Body, close, pass};
 use crate::command::read;
 use crate::ends::{ends_certificate, ends_text};
@@ -91,11 +91,11 @@ fn line_in(
 }
 
 // What a command leads to: an ask that is complete, or a body that begins.
-fn begin(alloc: Global, addressed: Addressed) -> Step<ScriptStage, Taken>
-    ensures { Begins addressed.session addressed.command result }
+fn begin(alloc: Global, addressed: spec_server::Asked<Command>) -> Step<ScriptStage, Taken>
+    ensures { Begins addressed.session addressed.ask result }
 {
-    let Addressed { session, command } = addressed;
-    match command {
+    let session = addressed.session;
+    match addressed.ask {
         Command::Load(style) => Step::On(ScriptStage::Text {
             session,
             body: Body::Reading(Reader::new(alloc, style)),

@@ -9,9 +9,7 @@ use Rattle.spec_text.specs.Lines.{lines_of, ended_lines_of, input_limit}
 use Rattle.spec_text.specs.declared.line.Line.{Line}
 use Rattle.spec_text.specs.declared.line.Line.TheVariants as line
 use Rattle.spec_text.specs.Words.{words_of}
-use Rattle.spec_edit.specs.Edited.{ExactEdit}
 use Rattle.spec_server.specs.declared.asks.Asked.{Asked}
-use Rattle.spec_server.specs.declared.addressing.Addressed.{Addressed}
 use Rattle.spec_server.specs.declared.addressing.Addressing.TheVariants.{Alone}
 use Rattle.spec_server.specs.declared.command.Command.TheVariants.{Load, Check, Plain, Bad}
 use Rattle.spec_server.specs.Command.{ExactCommand}
@@ -36,7 +34,7 @@ IsPendingAlone Between = Unit {0}
 IsPendingAlone (Text session form body) = session ≡ 0
 IsPendingAlone (Certificate session body) = session ≡ 0
 
-abbrev IsLineAlone : Option (Addressed ExactEdit) → Type 0
+abbrev IsLineAlone : Option (Asked ExactCommand) → Type 0
 IsLineAlone None = Unit {0}
 IsLineAlone (Some addressed) = addressed.session ≡ 0
 
@@ -53,7 +51,7 @@ words_alone [] = tt
 words_alone (word ∷ words) = refl
 
 -- where an addressed command is for session 0, it is so whether a test drops it or keeps it
-text_alone : (t : Bool) (found : Option (Addressed ExactEdit)) → IsLineAlone found → IsLineAlone (cond t None found)
+text_alone : (t : Bool) (found : Option (Asked ExactCommand)) → IsLineAlone found → IsLineAlone (cond t None found)
 text_alone true found h = tt
 text_alone false found h = h
 
@@ -74,9 +72,9 @@ begun_alone session (Plain asked) h = tt
 begun_alone session (Bad fault) h = tt
 
 -- what is pending behind an addressed command for session 0, or behind none, is of session 0
-begun_by_alone : (found : Option (Addressed ExactEdit)) → IsLineAlone found → IsPendingAlone (begun_by found)
+begun_by_alone : (found : Option (Asked ExactCommand)) → IsLineAlone found → IsPendingAlone (begun_by found)
 begun_by_alone None h = tt
-begun_by_alone (Some addressed) h = begun_alone addressed.session addressed.command h
+begun_by_alone (Some addressed) h = begun_alone addressed.session addressed.ask h
 
 -- the asks of a command for session 0 are of session 0
 command_alone : (session : ℕ) (c : ExactCommand) → session ≡ 0 → AreAlone (asks_of_command session c)
@@ -86,9 +84,9 @@ command_alone session (Plain asked) h = (h, tt)
 command_alone session (Bad fault) h = (h, tt)
 
 -- the asks of an addressed command for session 0 are of session 0
-asks_by_alone : (found : Option (Addressed ExactEdit)) → IsLineAlone found → AreAlone (asks_by found)
+asks_by_alone : (found : Option (Asked ExactCommand)) → IsLineAlone found → AreAlone (asks_by found)
 asks_by_alone None h = tt
-asks_by_alone (Some addressed) h = command_alone addressed.session addressed.command h
+asks_by_alone (Some addressed) h = command_alone addressed.session addressed.ask h
 
 -- ---- any line
 

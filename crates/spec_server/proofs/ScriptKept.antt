@@ -18,8 +18,6 @@ use Rattle.spec_mps.proofs.SpelledKept.{spelled_kept}
 use Rattle.spec_certificate.specs.NarrowText as certificate
 use Rattle.spec_server.specs.declared.asks.Ask.TheVariants as ask
 use Rattle.spec_server.specs.declared.asks.Asked.{Asked}
-use Rattle.spec_edit.specs.Edited.{ExactEdit}
-use Rattle.spec_server.specs.declared.addressing.Addressed.{Addressed}
 use Rattle.spec_server.specs.declared.addressing.Addressing.{Addressing}
 use Rattle.spec_server.specs.declared.command.Command.TheVariants.{Load, Check, Plain, Bad}
 use Rattle.spec_server.specs.Addressing.{addressed_in}
@@ -60,9 +58,9 @@ command_asks_kept session (Plain asked) h = one_kept (record { session = session
 command_asks_kept session (Bad fault) h = one_kept (record { session = session; ask = ask.Bad fault }) tt
 
 -- where the numbers of an addressed command's edit may be kept, so may those of the asks that it makes
-asks_kept : (found : Option (Addressed ExactEdit)) → IsKeptLine found → AreKept (asks_by found)
+asks_kept : (found : Option (Asked ExactCommand)) → IsKeptLine found → AreKept (asks_by found)
 asks_kept None h = none_kept
-asks_kept (Some addressed) h = command_asks_kept addressed.session addressed.command h.1
+asks_kept (Some addressed) h = command_asks_kept addressed.session addressed.ask h.1
 
 -- where the model or the edit of an ask may be kept, so may those of its list, or of the empty one, by a test
 if_kept : (t : Bool) (session : ℕ) (asked : ExactAsk) → IsKeptAsk asked →

@@ -17,7 +17,6 @@ use Rattle.spec_edit.specs.Edited.{ExactEdit, IsKeptEdit}
 use Rattle.spec_mps.specs.declared.style.Style.{Style}
 use Rattle.spec_mps.specs.NumberText.{spelled_from}
 use Rattle.spec_server.specs.declared.asks.Asked.{Asked}
-use Rattle.spec_server.specs.declared.addressing.Addressed.{Addressed}
 use Rattle.spec_server.specs.declared.addressing.Addressing.{Addressing}
 use Rattle.spec_server.specs.declared.addressing.Addressing.TheVariants.{Numbered, Alone}
 use Rattle.spec_server.specs.declared.command.Command.TheVariants.{Load, Check, Plain, Bad}
@@ -63,9 +62,9 @@ IsKeptCommand Check = Unit {0}
 IsKeptCommand (Plain asked) = IsKeptPlain asked
 IsKeptCommand (Bad fault) = Unit {0}
 
-abbrev pub IsKeptLine : Option (Addressed ExactEdit) → Type 0
+abbrev pub IsKeptLine : Option (Asked ExactCommand) → Type 0
 IsKeptLine None = Unit {0}
-IsKeptLine (Some addressed) = (addressed.session ≤ 64) × IsKeptCommand addressed.command
+IsKeptLine (Some addressed) = (addressed.session ≤ 64) × IsKeptCommand addressed.ask
 
 -- where five tests are all true, the last one is
 last_test : (s t u v w : Bool) → s && t && u && v && w ≡ true → w ≡ true
@@ -162,7 +161,7 @@ words_kept addressing [] = tt
 words_kept addressing (word ∷ words) = addressed_from_kept addressing word words
 
 -- of two addressed commands for sessions of at most 64 with edits that may be kept, the one that a test takes is so
-choice : (t : Bool) (a b : Option (Addressed ExactEdit)) → IsKeptLine a → IsKeptLine b → IsKeptLine (cond t a b)
+choice : (t : Bool) (a b : Option (Asked ExactCommand)) → IsKeptLine a → IsKeptLine b → IsKeptLine (cond t a b)
 choice true a b h k = h
 choice false a b h k = k
 
@@ -183,9 +182,9 @@ begun_numbered session (Plain asked) h = tt
 begun_numbered session (Bad fault) h = tt
 
 -- where an addressed command is for a session of at most 64, what is pending behind it is so too
-begun_by_numbered : (found : Option (Addressed ExactEdit)) → IsKeptLine found → IsNumbered (begun_by found)
+begun_by_numbered : (found : Option (Asked ExactCommand)) → IsKeptLine found → IsNumbered (begun_by found)
 begun_by_numbered None h = tt
-begun_by_numbered (Some addressed) h = begun_numbered addressed.session addressed.command h.0
+begun_by_numbered (Some addressed) h = begun_numbered addressed.session addressed.ask h.0
 
 -- where what is pending is of a session of at most 64 in both ways, it is so in the one that a test takes
 pending_choice : (t : Bool) (a b : Pending) → IsNumbered a → IsNumbered b → IsNumbered (cond t a b)
@@ -226,10 +225,10 @@ command_asked session (Plain asked) a h e = subst (λ (b : Asked ExactAsk). b.se
 command_asked session (Bad fault) a h e = subst (λ (b : Asked ExactAsk). b.session ≤ 64) (first_asked _ a e) h
 
 -- where an addressed command for a session of at most 64 makes one ask, the ask is of such a session
-addressed_asked : (found : Option (Addressed ExactEdit)) (a : Asked ExactAsk) → IsKeptLine found →
+addressed_asked : (found : Option (Asked ExactCommand)) (a : Asked ExactAsk) → IsKeptLine found →
     asks_by found ≡ a ∷ [] → a.session ≤ 64
 addressed_asked None a h e = absurd (none_asked a e)
-addressed_asked (Some addressed) a h e = command_asked addressed.session addressed.command a h.0 e
+addressed_asked (Some addressed) a h e = command_asked addressed.session addressed.ask a h.0 e
 
 -- where a line of the body of a session of at most 64 makes one ask, the ask is of such a session
 body_asked : (t : Bool) (session : ℕ) (asked : ExactAsk) (a : Asked ExactAsk) → session ≤ 64 →

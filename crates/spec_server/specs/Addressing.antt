@@ -3,27 +3,26 @@ use Rattle.std.specs.Prelude.{ℕ, ◌==◌, Bool, false, Option, Some, None, Li
 use Rattle.spec_text.specs.declared.line.Line.{Line}
 use Rattle.spec_text.specs.declared.line.Line.TheVariants as line
 use Rattle.spec_text.specs.Words.{words_of}
-use Rattle.spec_edit.specs.Edited.{ExactEdit}
-use Rattle.spec_server.specs.declared.addressing.Addressed.{Addressed}
 use Rattle.spec_server.specs.declared.addressing.Addressing.{Addressing}
 use Rattle.spec_server.specs.declared.addressing.Addressing.TheVariants.{Numbered, Alone}
+use Rattle.spec_server.specs.declared.asks.Asked.{Asked}
 use Rattle.spec_server.specs.declared.command.Command.TheVariants.{Bad}
 use Rattle.spec_server.specs.declared.command.LineFault.TheVariants as fault
-use Rattle.spec_server.specs.Command.{session_of, command_of}
+use Rattle.spec_server.specs.Command.{ExactCommand, session_of, command_of}
 
 -- after the number of a session, or after a word that is none
-abbrev pub addressed_to : Option ℕ → List (List ℕ) → Addressed ExactEdit
-addressed_to None words = record { session = 0; command = Bad fault.Word }
-addressed_to (Some session) words = record { session = session; command = command_of words }
+abbrev pub addressed_to : Option ℕ → List (List ℕ) → Asked ExactCommand
+addressed_to None words = record { session = 0; ask = Bad fault.Word }
+addressed_to (Some session) words = record { session = session; ask = command_of words }
 
 -- a line's command and its session: the first word says the session where sessions are numbered, and is the command's
 -- word else
-abbrev pub addressed_from : Addressing → List ℕ → List (List ℕ) → Addressed ExactEdit
+abbrev pub addressed_from : Addressing → List ℕ → List (List ℕ) → Asked ExactCommand
 addressed_from Numbered first words = addressed_to (session_of first) words
-addressed_from Alone first words = record { session = 0; command = command_of (first ∷ words) }
+addressed_from Alone first words = record { session = 0; ask = command_of (first ∷ words) }
 
 -- by the words of a line; one without words is skipped
-abbrev pub addressed_by : Addressing → List (List ℕ) → Option (Addressed ExactEdit)
+abbrev pub addressed_by : Addressing → List (List ℕ) → Option (Asked ExactCommand)
 addressed_by addressing [] = None
 addressed_by addressing (first ∷ words) = Some (addressed_from addressing first words)
 
@@ -34,9 +33,9 @@ begins_with_hash (b ∷ bs) = b == 35
 
 -- A comment is skipped. A line that is too long is no command of any session. The ends of the input are no lines of a
 -- script.
-unfoldable pub addressed_in : Addressing → Line (List ℕ) → Option (Addressed ExactEdit)
+unfoldable pub addressed_in : Addressing → Line (List ℕ) → Option (Asked ExactCommand)
 addressed_in addressing (line.Text bytes) =
     if begins_with_hash bytes then None else addressed_by addressing (words_of bytes)
-addressed_in addressing (line.Long len) = Some (record { session = 0; command = Bad fault.Long })
+addressed_in addressing (line.Long len) = Some (record { session = 0; ask = Bad fault.Long })
 addressed_in addressing line.End = None
 addressed_in addressing line.Over = None

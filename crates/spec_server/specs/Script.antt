@@ -5,7 +5,6 @@ use Rattle.spec_text.specs.declared.line.Line.{Line}
 use Rattle.spec_text.specs.declared.line.Line.TheVariants as line
 use Rattle.spec_text.specs.Lines.{lines_of, ended_lines_of, input_limit}
 use Rattle.spec_text.specs.Words.{same, words_of}
-use Rattle.spec_edit.specs.Edited.{ExactEdit}
 use Rattle.spec_mps.specs.Cards.{begins_with_blank}
 use Rattle.spec_mps.specs.declared.style.Style.{Style}
 use Rattle.spec_mps.specs.Reader.{start}
@@ -15,7 +14,6 @@ use Rattle.spec_certificate.specs.NarrowText.{is_end}
 use Rattle.spec_certificate.specs.NarrowText as certificate
 use Rattle.spec_server.specs.declared.asks.Ask.TheVariants as ask
 use Rattle.spec_server.specs.declared.asks.Asked.{Asked}
-use Rattle.spec_server.specs.declared.addressing.Addressed.{Addressed}
 use Rattle.spec_server.specs.declared.addressing.Addressing.{Addressing}
 use Rattle.spec_server.specs.declared.command.Command.TheVariants.{Load, Check, Plain, Bad}
 use Rattle.spec_server.specs.Addressing.{addressed_in}
@@ -69,9 +67,9 @@ begun session (Plain asked) = Between
 begun session (Bad fault) = Between
 
 -- what is pending after a line that may begin a text or a certificate
-abbrev pub begun_by : Option (Addressed ExactEdit) → Pending
+abbrev pub begun_by : Option (Asked ExactCommand) → Pending
 begun_by None = Between
-begun_by (Some addressed) = begun addressed.session addressed.command
+begun_by (Some addressed) = begun addressed.session addressed.ask
 
 -- what is pending after a line
 abbrev pub pending_after_line : Addressing → Pending → Line (List ℕ) → Pending
@@ -89,9 +87,9 @@ asks_of_command session (Plain asked) = record { session = session; ask = ask.Pl
 asks_of_command session (Bad fault) = record { session = session; ask = ask.Bad fault } ∷ []
 
 -- the asks of a line by its command, where it has one
-abbrev pub asks_by : Option (Addressed ExactEdit) → List (Asked ExactAsk)
+abbrev pub asks_by : Option (Asked ExactCommand) → List (Asked ExactAsk)
 asks_by None = []
-asks_by (Some addressed) = asks_of_command addressed.session addressed.command
+asks_by (Some addressed) = asks_of_command addressed.session addressed.ask
 
 -- the ask that a line completes, if it completes one
 abbrev pub asks_of_line : Addressing → Pending → Line (List ℕ) → List (Asked ExactAsk)

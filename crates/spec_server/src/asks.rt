@@ -24,7 +24,8 @@ pub enum Ask<M, R, E> {
     Bad(LineFault),
 }
 
-/// An ask, with the number of its session. Session 0 is asked where a line names no session.
+/// An ask of type A, with the number of its session, which is 0 where a line names no session. A line between two
+/// commands asks a `Command`, and the lines of a whole command ask an `Ask`.
 #[derive(Drop)]
 pub struct Asked<A> {
     pub session: u32,

@@ -65,7 +65,7 @@ mod asks;
 mod command;
 mod halves;
 
-pub use addressing::{Addressed, Addressing};
+pub use addressing::Addressing;
 pub use answer::{Answer, How, LastAnswer, Publication};
 pub use asks::{Ask, Asked, Refusal, Reply};
 pub use command::{Command, CommandWord, EditWord, LineFault, Plain};

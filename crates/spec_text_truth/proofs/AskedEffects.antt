@@ -10,7 +10,6 @@ use Rattle.spec_model.specs.Kept.{usual_limits}
 use Rattle.spec_mps.specs.Reader.{start}
 use Rattle.spec_mps.specs.Steps.{Verdict, Spelled, Refused, judge}
 use Rattle.spec_certificate.specs.NarrowText as certificate
-use Rattle.spec_server.specs.declared.addressing.Addressed.{Addressed}
 use Rattle.spec_server.specs.declared.addressing.Addressing.{Addressing}
 use Rattle.spec_server.specs.declared.asks.Ask.TheVariants as ask
 use Rattle.spec_server.specs.declared.asks.Asked.{Asked}
@@ -63,10 +62,10 @@ command_effects session (commands.Plain command.Quit) = refl
 command_effects session (commands.Bad fault) = refl
 
 -- the effects of an addressed command, or of none, are those of the asks that the command makes
-by_effects : (o : Option (Addressed ExactEdit)) →
-    unwrap_or (option_map (λ a. asked_of a.session (effects_of a.command)) o) [] ≡ map asking_of (asks_by o)
+by_effects : (o : Option (Asked ExactCommand)) →
+    unwrap_or (option_map (λ a. asked_of a.session (effects_of a.ask)) o) [] ≡ map asking_of (asks_by o)
 by_effects None = refl
-by_effects (Some addressed) = command_effects addressed.session addressed.command
+by_effects (Some addressed) = command_effects addressed.session addressed.ask
 
 -- the effect of a text with a verdict is that of the ask which the verdict makes
 verdict_effect : (v : Verdict) → effect_of_text v ≡ effect_of (ask_of_verdict v)

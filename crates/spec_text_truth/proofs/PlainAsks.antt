@@ -23,7 +23,6 @@ use Rattle.spec_certificate.specs.Text.{words_step, step_by, settled, judge_by}
 use Rattle.spec_certificate.specs.Text as certificate_text
 use Rattle.spec_certificate.specs.NarrowText.{Outcome, Judgement, narrow}
 use Rattle.spec_certificate.specs.NarrowText as certificate
-use Rattle.spec_server.specs.declared.addressing.Addressed.{Addressed}
 use Rattle.spec_server.specs.declared.addressing.Addressing.{Addressing}
 use Rattle.spec_server.specs.declared.addressing.Addressing.TheVariants.{Numbered, Alone}
 use Rattle.spec_server.specs.declared.asks.Ask.TheVariants as ask
@@ -223,9 +222,9 @@ command_plain : (words : List (List ℕ)) → All HasNoFeed words → IsPlainCom
 command_plain [] h = tt
 command_plain (word ∷ behind) h = command_at_plain (command_word_of word) behind (All-tail HasNoFeed word behind h)
 
-abbrev IsPlainLine : Option (Addressed ExactEdit) → Type 0
+abbrev IsPlainLine : Option (Asked ExactCommand) → Type 0
 IsPlainLine None = Unit {0}
-IsPlainLine (Some addressed) = IsPlainCommand addressed.command
+IsPlainLine (Some addressed) = IsPlainCommand addressed.ask
 
 -- where no word has a line feed, the command to a session that is known or not has no name with one
 to_plain : (found : Option ℕ) (words : List (List ℕ)) → All HasNoFeed words → IsPlainLine (Some (addressed_to found words))
@@ -245,7 +244,7 @@ by_plain addressing [] h = tt
 by_plain addressing (word ∷ words) h = from_plain addressing word words h
 
 -- where an addressed command has no name with a line feed, it has none, dropped or kept
-choice_plain : (t : Bool) (found : Option (Addressed ExactEdit)) → IsPlainLine found → IsPlainLine (cond t None found)
+choice_plain : (t : Bool) (found : Option (Asked ExactCommand)) → IsPlainLine found → IsPlainLine (cond t None found)
 choice_plain true found h = tt
 choice_plain false found h = h
 
@@ -403,9 +402,9 @@ command_asks_plain session (Plain asked) h = one_plain session (ask.Plain asked)
 command_asks_plain session (Bad fault) h = one_plain session (ask.Bad fault) tt
 
 -- where an addressed command has no name with a line feed, the asks that it makes have none
-asks_by_plain : (found : Option (Addressed ExactEdit)) → IsPlainLine found → ArePlainAsks (asks_by found)
+asks_by_plain : (found : Option (Asked ExactCommand)) → IsPlainLine found → ArePlainAsks (asks_by found)
 asks_by_plain None h = none_plain
-asks_by_plain (Some addressed) h = command_asks_plain addressed.session addressed.command h
+asks_by_plain (Some addressed) h = command_asks_plain addressed.session addressed.ask h
 
 -- the ask that a text with a verdict makes has no name with a line feed
 verdict_plain : (v : Verdict) → IsPlainAsk (ask_of_verdict v)
@@ -448,9 +447,9 @@ begun_plain session (Plain asked) = tt
 begun_plain session (Bad fault) = tt
 
 -- what is pending behind an addressed command, or behind none, has no line with a line feed
-begun_by_plain : (found : Option (Addressed ExactEdit)) → IsPlainPending (begun_by found)
+begun_by_plain : (found : Option (Asked ExactCommand)) → IsPlainPending (begun_by found)
 begun_by_plain None = tt
-begun_by_plain (Some addressed) = begun_plain addressed.session addressed.command
+begun_by_plain (Some addressed) = begun_plain addressed.session addressed.ask
 
 -- where what is pending and a line have no line feed, what is pending behind the line has none
 pending_plain : (addressing : Addressing) (p : Pending) (next : Line (List ℕ)) → IsPlainPending p → IsPlainText next →

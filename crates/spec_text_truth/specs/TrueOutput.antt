@@ -168,7 +168,7 @@ asked_of session effects = map (λ effect. record { session = session; effect = 
 -- what a line asks, if it completes an ask
 abbrev pub asked_in_line : Addressing → Pending → Line (List ℕ) → List Asking
 asked_in_line addressing Between next =
-    unwrap_or (option_map (λ a. asked_of a.session (effects_of a.command)) (addressed_in addressing next)) []
+    unwrap_or (option_map (λ a. asked_of a.session (effects_of a.ask)) (addressed_in addressing next)) []
 asked_in_line addressing (Text session form body) next =
     asked_of session
     (if ends_text next then effect_of_text (judge usual_limits form start 1 (body ++ next ∷ [])) ∷ [] else [])

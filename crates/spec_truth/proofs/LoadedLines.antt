@@ -3,14 +3,12 @@ use Rattle.std.proofs.Common.{◌≡◌, ℕ, Bool, true, false, cond, List, [],
 use Rattle.std.proofs.Common.{ap, ◌⊎◌, inl, inr, append_assoc, append-nil, ◌≤◌, length, take}
 use Rattle.spec_text.specs.Lines.{lines_of, ended_lines_of, input_limit}
 use Rattle.spec_text.specs.declared.line.Line.{Line}
-use Rattle.spec_edit.specs.Edited.{ExactEdit}
 use Rattle.spec_model.specs.Model.{Model}
 use Rattle.spec_model.specs.Kept.{usual_limits}
 use Rattle.spec_mps.specs.declared.style.Style.{Style}
 use Rattle.spec_mps.specs.Reader.{start}
 use Rattle.spec_mps.specs.Steps.{Verdict, Spelled, Refused, judge}
 use Rattle.spec_certificate.specs.NarrowText as certificate
-use Rattle.spec_server.specs.declared.addressing.Addressed.{Addressed}
 use Rattle.spec_server.specs.declared.addressing.Addressing.{Addressing}
 use Rattle.spec_server.specs.declared.asks.Ask.TheVariants as ask
 use Rattle.spec_server.specs.declared.asks.Asked.{Asked}
@@ -47,9 +45,9 @@ module _ (addressing : Addressing) where
   one_of_command session (command.Plain asked) = inr (record { session = session; ask = ask.Plain asked }, refl)
   one_of_command session (command.Bad fault) = inr (record { session = session; ask = ask.Bad fault }, refl)
 
-  one_by : (o : Option (Addressed ExactEdit)) → AsksOne (asks_by o)
+  one_by : (o : Option (Asked ExactCommand)) → AsksOne (asks_by o)
   one_by None = inl refl
-  one_by (Some addressed) = one_of_command addressed.session addressed.command
+  one_by (Some addressed) = one_of_command addressed.session addressed.ask
 
   one_if : (t : Bool) (a : Asked ExactAsk) → AsksOne (cond t (a ∷ []) [])
   one_if true a = inr (a, refl)
@@ -125,7 +123,7 @@ module _ (addressing : Addressing) where
     load : Line (List ℕ)
     cut : front ≡ before ++ load ∷ body
     between : pending_after addressing p before ≡ Between
-    is_load : addressed_in addressing load ≡ Some (record { session = session; command = command.Load form })
+    is_load : addressed_in addressing load ≡ Some (record { session = session; ask = command.Load form })
     asked : asks_from addressing p front ≡ asks_from addressing p before
 
   -- the body was begun before
@@ -135,8 +133,8 @@ module _ (addressing : Addressing) where
     body_is : body ≡ begun_with ++ front
     asked : asks_from addressing p front ≡ []
 
-  abbrev addressed_as : ℕ → ExactCommand → Addressed ExactEdit
-  addressed_as session asked = record { session = session; command = asked }
+  abbrev addressed_as : ℕ → ExactCommand → Asked ExactCommand
+  addressed_as session asked = record { session = session; ask = asked }
 
   -- a text is begun by LOAD alone, with no lines
   record IsLoad (s : ℕ) (asked : ExactCommand) (session : ℕ) (form : Style) (begun_with : Lines) : Type 0 where
@@ -152,15 +150,15 @@ module _ (addressing : Addressing) where
   begun_text s (command.Plain asked) session form begun_with e = cc
   begun_text s (command.Bad fault) session form begun_with e = cc
 
-  record IsLoadLine (o : Option (Addressed ExactEdit)) (session : ℕ) (form : Style) (begun_with : Lines) : Type 0 where
-    is : o ≡ Some (record { session = session; command = command.Load form })
+  record IsLoadLine (o : Option (Asked ExactCommand)) (session : ℕ) (form : Style) (begun_with : Lines) : Type 0 where
+    is : o ≡ Some (record { session = session; ask = command.Load form })
     none : begun_with ≡ []
 
-  load_line : (o : Option (Addressed ExactEdit)) (session : ℕ) (form : Style) (begun_with : Lines) →
+  load_line : (o : Option (Asked ExactCommand)) (session : ℕ) (form : Style) (begun_with : Lines) →
       begun_by o ≡ Text session form begun_with → IsLoadLine o session form begun_with
   load_line None session form begun_with e = cc
   load_line (Some addressed) session form begun_with e =
-      let l = begun_text addressed.session addressed.command session form begun_with e in
+      let l = begun_text addressed.session addressed.ask session form begun_with e in
       record {
         is =
             ap (λ c. Some (addressed_as addressed.session c)) l.load
@@ -267,9 +265,9 @@ module _ (addressing : Addressing) where
   not_by_command s (command.Bad fault) session m e =
       let z : ◌≡◌ {A = ExactAsk} (ask.Bad fault) (ask.Loaded m) = ap (λ a. a.ask) (same_asked _ _ e) in cc
 
-  not_by : (o : Option (Addressed ExactEdit)) (session : ℕ) (m : Model) → asks_by o ≡ loaded session m ∷ [] → ⊥
+  not_by : (o : Option (Asked ExactCommand)) (session : ℕ) (m : Model) → asks_by o ≡ loaded session m ∷ [] → ⊥
   not_by None session m e = cc
-  not_by (Some addressed) session m e = not_by_command addressed.session addressed.command session m e
+  not_by (Some addressed) session m e = not_by_command addressed.session addressed.ask session m e
 
   not_judged : (j : certificate.Judgement) (m : Model) → ask_of_judgement j ≡ ask.Loaded m → ⊥
   not_judged (certificate.Spelled raw) m e = cc

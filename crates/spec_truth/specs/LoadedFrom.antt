@@ -23,5 +23,5 @@ pub record IsLoadedFrom (addressing : Addressing) (lines : List (Line (List ℕ)
   pub cut : lines ≡ front ++ command ∷ (body ++ behind)
   pub asked : asks_from addressing Between front ≡ before
   pub between : pending_after addressing Between front ≡ Between
-  pub is_load : addressed_in addressing command ≡ Some (record { session = session; command = Load style })
+  pub is_load : addressed_in addressing command ≡ Some (record { session = session; ask = Load style })
   pub spelled : Spells style body m
