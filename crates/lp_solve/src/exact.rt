@@ -214,27 +214,6 @@ fn formless(model: &Model, stop: FormStop) -> Result<ExactEnd, AllocError>
     }
 }
 
-// Solves a usual model exactly: makes its form and goes on by it, or ends as a model without a form.
-fn usual_exactly(
-    alloc: Global,
-    model: &Model,
-    budget: u64,
-    starting: Option<&Basis>,
-) -> Result<ExactEnd, AllocError>
-    requires usual { IsUsual model.now }
-    requires starting { IfSome starting (λ basis. HasBasis (Some number_limit) model.now basis.now) }
-    ensures { IfOk result (IsExactEnd model.now budget (option_map (λ basis. basis.now) starting.entry)) }
-{
-    match form(alloc, model) {
-        Ok(form) => {
-            let end = by_form(alloc, model, budget, &form, starting);
-            drop(form);
-            end
-        }
-        Err(stop) => formless(model, stop),
-    }
-}
-
 // Solves a model past the usual limits without a starting basis: bounds that clash are found without a run, else a
 // float run is asked.
 fn large_cold(alloc: Global, model: &Model) -> Result<ExactEnd, AllocError>
@@ -309,9 +288,15 @@ pub fn solve_exactly(
     requires { IfSome starting (λ basis. HasBasis (Some number_limit) model.now basis.now) }
     ensures { IfOk result (IsExactEnd model.now budget (option_map (λ basis. basis.now) starting.entry)) }
 {
-    if is_usual(model) {
-        usual_exactly(alloc, model, budget, starting)
-    } else {
-        large_exactly(alloc, model, budget, starting)
+    if !is_usual(model) {
+        return large_exactly(alloc, model, budget, starting);
+    }
+    match form(alloc, model) {
+        Ok(form) => {
+            let end = by_form(alloc, model, budget, &form, starting);
+            drop(form);
+            end
+        }
+        Err(stop) => formless(model, stop),
     }
 }
