@@ -19,13 +19,13 @@ use Rattle.spec_server.proofs.ScriptLemmas.{asks_from-append, pending_after-appe
 use Rattle.lp_base.specs.LinesState.{LinesState}
 use Rattle.lp_base.specs.declared.lines.LineStop.{LineStop}
 use Rattle.lp_base.specs.declared.lines.LineStop.TheVariants as stop
+use Rattle.lp_line.specs.declared.halt.Halt.TheVariants as halts
 use Rattle.lp_line.specs.declared.hearing.Heard.{Heard}
 use Rattle.lp_line.specs.declared.hearing.Heard.TheVariants as heard
 use Rattle.lp_line.specs.declared.script.ScriptStage.TheVariants as stage
-use Rattle.lp_line.specs.declared.taking.Taken.{Taken}
-use Rattle.lp_line.specs.declared.taking.Taken.TheVariants as taken
+use Rattle.lp_line.specs.Halt.{halt_of}
 use Rattle.lp_line.specs.Hearing.{IsGiven, AreGiven, HearsAt, HearsUntil, HearsAtEnd, HearsNext}
-use Rattle.lp_line.specs.Script.{taken_at, script_step, ScriptSays}
+use Rattle.lp_line.specs.Script.{NextAsk, taken_at, script_step, ScriptSays}
 use Rattle.lp_line.specs.Takes.{TakesNone, TakesNext, TakesMore}
 use Rattle.lp_line.proofs.ScriptTurns.{behind_step}
 
@@ -116,16 +116,16 @@ silent_lines addressing pending (here ∷ lines) given e =
           behind = λ more. behind_step addressing pending here (lines ++ more) [] no_end is ∙ later.behind more;
         }
     by (asked ∷ asks) is rest =
-        unsaid (taken.Ask asked) (sym (behind_step addressing pending here lines (asked ∷ asks) no_end is) ∙ e)
+        unsaid (Ok (Some asked)) (sym (behind_step addressing pending here lines (asked ∷ asks) no_end is) ∙ e)
 
 -- what one line says is an ask
-record SaysAsk (addressing : Addressing) (pending : Pending) (here : Line (List ℕ)) (what : Taken) : Type 0 where
+record SaysAsk (addressing : Addressing) (pending : Pending) (here : Line (List ℕ)) (what : NextAsk) : Type 0 where
   asked : Asked ExactAsk
-  is_said : what ≡ taken.Ask asked
+  is_said : what ≡ Ok (Some asked)
   asks : asks_of_line addressing pending here ≡ asked ∷ []
   between : pending_after_line addressing pending here ≡ Between
 
-says_ask : (addressing : Addressing) (pending : Pending) (here : Line (List ℕ)) (what : Taken) → here ≢ line.End →
+says_ask : (addressing : Addressing) (pending : Pending) (here : Line (List ℕ)) (what : NextAsk) → here ≢ line.End →
     said_by (script_step addressing) pending (here ∷ []) ≡ Some what → SaysAsk addressing pending here what
 says_ask addressing pending here what no_end e = by (asks_of_line addressing pending here) refl
   where
@@ -136,7 +136,7 @@ says_ask addressing pending here what no_end e = by (asks_of_line addressing pen
         record {
           asked = asked;
           is_said =
-              same_said what (taken.Ask asked)
+              same_said what (Ok (Some asked))
               (sym e ∙ behind_step addressing pending here [] (asked ∷ rest) no_end is);
           asks = is ∙ ap (λ (zs : Asks). asked ∷ zs) done.alone;
           between = done.between;
@@ -149,19 +149,25 @@ at_end addressing pending = refl
 
 -- ---- what was taken
 
-abbrev Say : Addressing → List (Line (List ℕ)) → Option Taken → Type 0
+abbrev Say : Addressing → List (Line (List ℕ)) → Option NextAsk → Type 0
 Say addressing lines answer = ScriptSays (stage.Between addressing) lines answer
 
 module _ (addressing : Addressing) (before after : Option (List ℕ)) (old new : LinesState) where
+  asked_at : (what : NextAsk) (h : HearsAt (Say addressing) before after old new what) →
+      SaysAsk addressing (pending_after addressing Between h.earlier) h.last what
+  asked_at what h =
+      let s = silent_lines addressing Between h.earlier h.given (h.silent addressing Between refl) in
+      says_ask addressing (pending_after addressing Between h.earlier) h.last what h.last_given.0
+      (sym (s.behind (h.last ∷ [])) ∙ h.says [] addressing Between refl)
+
   -- the last line completes an ask
-  takes_ask : (what : Taken) → HearsAt (Say addressing) before after old new what →
-      TakesNext addressing before after old new (Ok what)
+  takes_ask : (what : NextAsk) → HearsAt (Say addressing) before after old new what →
+      TakesNext addressing before after old new what
   takes_ask what h =
       let s = silent_lines addressing Between h.earlier h.given (h.silent addressing Between refl) in
       let pending : Pending = pending_after addressing Between h.earlier in
-      let a = says_ask addressing pending h.last what h.last_given.0
-      (sym (s.behind (h.last ∷ [])) ∙ h.says [] addressing Between refl) in
-      subst (λ (w : Taken). TakesNext addressing before after old new (Ok w)) (sym a.is_said)
+      let a = asked_at what h in
+      subst (λ (w : NextAsk). TakesNext addressing before after old new w) (sym a.is_said)
       (record {
         passed = h.earlier ++ h.last ∷ [];
         reads = h.reads;
@@ -189,13 +195,13 @@ module _ (addressing : Addressing) (before after : Option (List ℕ)) (old new :
 
   end_taken : (h : HearsUntil (Say addressing) before after old (Ok line.End)) (pending : Pending) →
       ending_by (pending_after addressing Between h.passed) ≡ ending_by pending →
-      TakesNext addressing before after old new (Ok (taken_at (ending_by pending)))
+      TakesNext addressing before after old new (taken_at (ending_by pending))
   unfolding none
   end_taken h Between e = record { none = none (Ok line.End) h; ends = e }
   end_taken h (Text session form body) e = record { none = none (Ok line.End) h; ends = e }
   end_taken h (Certificate session body) e = record { none = none (Ok line.End) h; ends = e }
 
-  said_at_end : (what : Taken) (h : HearsAtEnd (Say addressing) before after old what) →
+  said_at_end : (what : NextAsk) (h : HearsAtEnd (Say addressing) before after old what) →
       what ≡ taken_at (ending_by (pending_after addressing Between h.until.passed))
   said_at_end what h =
       let s = silent_lines addressing Between h.until.passed h.until.given (h.until.silent addressing Between refl) in
@@ -203,55 +209,77 @@ module _ (addressing : Addressing) (before after : Option (List ℕ)) (old new :
       (sym (h.says addressing Between refl) ∙ s.behind (line.End ∷ [])
       ∙ at_end addressing (pending_after addressing Between h.until.passed))
 
-  takes_end : (what : Taken) → HearsAtEnd (Say addressing) before after old what →
-      TakesNext addressing before after old new (Ok what)
+  takes_end : (what : NextAsk) → HearsAtEnd (Say addressing) before after old what →
+      TakesNext addressing before after old new what
   takes_end what h =
-      subst (λ (w : Taken). TakesNext addressing before after old new (Ok w)) (sym (said_at_end what h))
+      subst (λ (w : NextAsk). TakesNext addressing before after old new w) (sym (said_at_end what h))
       (end_taken h.until (pending_after addressing Between h.until.passed) refl)
 
-  takes_said : (what : Taken) → HearsNext (Say addressing) before after old new (Ok (heard.Says what)) →
-      TakesNext addressing before after old new (Ok what)
+  takes_said : (what : NextAsk) → HearsNext (Say addressing) before after old new (Ok (heard.Says what)) →
+      TakesNext addressing before after old new what
   takes_said what (inl h) = takes_ask what h
   takes_said what (inr h) = takes_end what h
 
-  pub takes : (found : Heard Taken) (what : Taken) → found ≡ heard.Says what →
-      HearsNext (Say addressing) before after old new (Ok found) → TakesNext addressing before after old new (Ok what)
+  pub takes : (found : Heard NextAsk) (what : NextAsk) → found ≡ heard.Says what →
+      HearsNext (Say addressing) before after old new (Ok found) → TakesNext addressing before after old new what
   takes found what is h =
-      takes_said what (subst (λ (f : Heard Taken). HearsNext (Say addressing) before after old new (Ok f)) is h)
+      takes_said what (subst (λ (f : Heard NextAsk). HearsNext (Say addressing) before after old new (Ok f)) is h)
 
-  pub too_long : (found : Heard Taken) → found ≡ heard.Over →
+  pub too_long : (found : Heard NextAsk) → found ≡ heard.Over →
       HearsNext (Say addressing) before after old new (Ok found) →
-      TakesNext addressing before after old new (Ok taken.Over)
+      TakesNext addressing before after old new (Err halts.Over)
   too_long found is h =
-      none (Ok line.Over) (subst (λ (f : Heard Taken). HearsNext (Say addressing) before after old new (Ok f)) is h)
+      none (Ok line.Over) (subst (λ (f : Heard NextAsk). HearsNext (Say addressing) before after old new (Ok f)) is h)
 
   stopped_by : (why : LineStop) → HearsNext (Say addressing) before after old new (Err why) →
-      TakesNext addressing before after old new (Err why)
+      TakesNext addressing before after old new (Err (halt_of why))
   stopped_by stop.Read h = none (Err stop.Read) h
   stopped_by stop.NoMemory h = h
 
-  pub stopped : (result : Result Taken LineStop) (why : LineStop) → result ≡ Err why →
+  pub stopped : (result : NextAsk) (why : LineStop) → result ≡ Err (halt_of why) →
       HearsNext (Say addressing) before after old new (Err why) → TakesNext addressing before after old new result
   stopped result why is h =
-      subst (λ (r : Result Taken LineStop). TakesNext addressing before after old new r) (sym is) (stopped_by why h)
+      subst (λ (r : NextAsk). TakesNext addressing before after old new r) (sym is) (stopped_by why h)
 
-  more_at : (what : Taken) → (old.given < new.given) × (new.given ≤ 2 ^ 26) → TakesMore old new (Ok what)
-  more_at (taken.Ask asked) more = more
-  more_at taken.End more = tt
-  more_at taken.Cut more = tt
-  more_at taken.Over more = tt
+  -- what is said of a script is no failed read
 
-  more_at_end : (ending : Ending) → TakesMore old new (Ok (taken_at ending))
+  no_fault_in : (asked : Asked ExactAsk) → ◌≡◌ {A = NextAsk} (Ok (Some asked)) (Err halts.Read) → ⊥
+  no_fault_in asked e = cc
+
+  no_fault_at : (ending : Ending) → taken_at ending ≡ Err halts.Read → ⊥
+  no_fault_at Ended e = cc
+  no_fault_at Cut e = cc
+  no_fault_at Over e = cc
+
+  said_no_fault : (what : NextAsk) → HearsNext (Say addressing) before after old new (Ok (heard.Says what)) →
+      what ≡ Err halts.Read → ⊥
+  said_no_fault what (inl h) e = let a = asked_at what h in no_fault_in a.asked (sym a.is_said ∙ e)
+  said_no_fault what (inr h) e = no_fault_at _ (sym (said_at_end what h) ∙ e)
+
+  pub no_fault : {P : Type 0} (found : Heard NextAsk) (what : NextAsk) → found ≡ heard.Says what →
+      HearsNext (Say addressing) before after old new (Ok found) → what ≡ Err halts.Read → P
+  no_fault found what is h e =
+      absurd (said_no_fault what
+      (subst (λ (f : Heard NextAsk). HearsNext (Say addressing) before after old new (Ok f)) is h) e)
+
+  -- an ask takes a byte at least
+
+  more_at : (what : NextAsk) → (old.given < new.given) × (new.given ≤ 2 ^ 26) → TakesMore old new what
+  more_at (Ok (Some asked)) more = more
+  more_at (Ok None) more = tt
+  more_at (Err halt) more = tt
+
+  more_at_end : (ending : Ending) → TakesMore old new (taken_at ending)
   more_at_end Ended = tt
   more_at_end Cut = tt
   more_at_end Over = tt
 
-  more_said : (what : Taken) → HearsNext (Say addressing) before after old new (Ok (heard.Says what)) →
-      TakesMore old new (Ok what)
+  more_said : (what : NextAsk) → HearsNext (Say addressing) before after old new (Ok (heard.Says what)) →
+      TakesMore old new what
   more_said what (inl h) = more_at what (h.grows, h.bound)
-  more_said what (inr h) = subst (λ (w : Taken). TakesMore old new (Ok w)) (sym (said_at_end what h)) (more_at_end _)
+  more_said what (inr h) = subst (λ (w : NextAsk). TakesMore old new w) (sym (said_at_end what h)) (more_at_end _)
 
-  pub takes_more : (found : Heard Taken) (what : Taken) → found ≡ heard.Says what →
-      HearsNext (Say addressing) before after old new (Ok found) → TakesMore old new (Ok what)
+  pub takes_more : (found : Heard NextAsk) (what : NextAsk) → found ≡ heard.Says what →
+      HearsNext (Say addressing) before after old new (Ok found) → TakesMore old new what
   takes_more found what is h =
-      more_said what (subst (λ (f : Heard Taken). HearsNext (Say addressing) before after old new (Ok f)) is h)
+      more_said what (subst (λ (f : Heard NextAsk). HearsNext (Say addressing) before after old new (Ok f)) is h)

@@ -37,12 +37,10 @@ use Rattle.lp_line.specs.declared.hearing.Step as code
 use Rattle.lp_line.specs.declared.hearing.Step.TheVariants as step
 use Rattle.lp_line.specs.declared.script.ScriptStage.{ScriptStage}
 use Rattle.lp_line.specs.declared.script.ScriptStage.TheVariants as stage
-use Rattle.lp_line.specs.declared.taking.Taken.{Taken}
-use Rattle.lp_line.specs.declared.taking.Taken.TheVariants as taken
 use Rattle.lp_line.specs.Body.{BodySays, PassesTo}
 use Rattle.lp_line.specs.Hearing.{LeadsOn, Leads}
-use Rattle.lp_line.specs.Script.{behind_asks, script_step, TextFits, CertificateFits, Fits, ScriptSays, lines_in}
-use Rattle.lp_line.specs.Script.{Begins, IsEndOf, verdict_said, judgement_said}
+use Rattle.lp_line.specs.Script.{NextAsk, behind_asks, script_step, TextFits, CertificateFits, Fits, ScriptSays}
+use Rattle.lp_line.specs.Script.{lines_in, Begins, IsEndOf, verdict_said, judgement_said}
 use Rattle.lp_line.specs.Stages.{NarrowRead, TextSays, CertificateSaid, certificate_step, CertificateSays}
 use Rattle.lp_line.specs.Stages as stages
 
@@ -153,7 +151,7 @@ pub behind_step : (addressing : Addressing) (pending : Pending) (here : Line (Li
     ≡ follow (behind_asks asks (pending_after_line addressing pending here))
     (λ next. said_by (script_step addressing) next more)
 behind_step addressing pending here more asks no_end e =
-    ap (λ (st : Step Pending Taken). follow st (λ next. said_by (script_step addressing) next more))
+    ap (λ (st : Step Pending NextAsk). follow st (λ next. said_by (script_step addressing) next more))
     (step_given addressing pending here no_end
     ∙ ap (λ (zs : List (Asked ExactAsk)). behind_asks zs (pending_after_line addressing pending here)) e)
 
@@ -176,10 +174,10 @@ leads_on from next here no_end g few = record {
 }
 
 -- a line completes this ask
-leads_to_ask : (from : ScriptStage) (here : Line (List ℕ)) (asked : Asked ExactAsk) (what : Taken) → here ≢ line.End →
+leads_to_ask : (from : ScriptStage) (here : Line (List ℕ)) (asked : Asked ExactAsk) (what : NextAsk) → here ≢ line.End →
     ((addressing : Addressing) (pending : Pending) → Fits addressing pending from →
     asks_of_line addressing pending here ≡ asked ∷ []) →
-    what ≡ taken.Ask asked → Leads ScriptSays lines_in from here (step.Says what)
+    what ≡ Ok (Some asked) → Leads ScriptSays lines_in from here (step.Says what)
 leads_to_ask from here asked what no_end asks is = λ more addressing pending fits.
     behind_step addressing pending here more (asked ∷ []) no_end (asks addressing pending fits) ∙ ap Some (sym is)
 
@@ -202,7 +200,7 @@ skips own here no_end e = leads_on (stage.Between own) (stage.Between own) here 
     (omega arith)
 
 pub commands : (own : Addressing) (here : Line (List ℕ)) (addressed : Asked ExactCommand)
-    (made : code.Step ScriptStage Taken) → here ≢ line.End →
+    (made : code.Step ScriptStage NextAsk) → here ≢ line.End →
     ◌≡◌ {A = Option (Asked ExactCommand)} (Some addressed) (addressed_in own here) →
     Begins addressed.session addressed.ask made → Leads ScriptSays lines_in (stage.Between own) here made
 commands own here addressed (step.On next) no_end e b = leads_on (stage.Between own) next here no_end
@@ -251,11 +249,11 @@ text_goes_on own held next here no_end e p = leads_on (stage.Text own held) (sta
     (omega (arith, p.counts))
 
 pub text_ends : (own : ℕ) (held next : Body TextRead TextSaid) (here : Line (List ℕ)) (said : TextSaid) (ask : ExactAsk)
-    (what : Taken) → here ≢ line.End →
+    (what : NextAsk) → here ≢ line.End →
     true ≡ ends_text here → PassesTo TextSays lines_read held here next →
     BodySays TextSays next (line.End ∷ []) (Some said) →
     ((verdict : text.Verdict) → verdict_said verdict ≡ said → ask_of_verdict verdict ≡ ask) →
-    what ≡ taken.Ask (record { session = own; ask = ask }) →
+    what ≡ Ok (Some (record { session = own; ask = ask })) →
     Leads ScriptSays lines_in (stage.Text own held) here (step.Says what)
 text_ends own held next here said ask what no_end e p closed asks is =
     leads_to_ask (stage.Text own held) here (record { session = own; ask = ask }) what no_end
@@ -305,11 +303,11 @@ certificate_goes_on own held next here no_end e p =
 
 pub certificate_ends : (own : ℕ) (held next : Body NarrowRead CertificateSaid)
     (here : Line (List ℕ)) (said : CertificateSaid) (ask : ExactAsk)
-    (what : Taken) → here ≢ line.End → true ≡ ends_certificate here →
+    (what : NextAsk) → here ≢ line.End → true ≡ ends_certificate here →
     PassesTo CertificateSays lines_of_certificate held here next →
     BodySays CertificateSays next (line.End ∷ []) (Some said) →
     ((judgement : certificate.Judgement) → judgement_said judgement ≡ said → ask_of_judgement judgement ≡ ask) →
-    what ≡ taken.Ask (record { session = own; ask = ask }) →
+    what ≡ Ok (Some (record { session = own; ask = ask })) →
     Leads ScriptSays lines_in (stage.Certificate own held) here (step.Says what)
 certificate_ends own held next here said ask what no_end e p closed asks is =
     leads_to_ask (stage.Certificate own held) here (record { session = own; ask = ask }) what no_end
@@ -325,7 +323,7 @@ certificate_ends own held next here said ask what no_end e p closed asks is =
 
 -- ---- the end of the input
 
-pub ends_so : (from : ScriptStage) (here : Line (List ℕ)) (end : Taken) → here ≡ line.End → IsEndOf from end →
+pub ends_so : (from : ScriptStage) (here : Line (List ℕ)) (end : NextAsk) → here ≡ line.End → IsEndOf from end →
     Leads ScriptSays lines_in from here (step.Says end)
 unfolding script_step
 ends_so from here end is e =
@@ -333,7 +331,7 @@ ends_so from here end is e =
     (λ more addressing pending fits. ap Some (e addressing pending fits))
 
 -- the same step
-pub leads_as : (from : ScriptStage) (here : Line (List ℕ)) (made is : code.Step ScriptStage Taken) → made ≡ is →
+pub leads_as : (from : ScriptStage) (here : Line (List ℕ)) (made is : code.Step ScriptStage NextAsk) → made ≡ is →
     Leads ScriptSays lines_in from here is → Leads ScriptSays lines_in from here made
 leads_as from here made is e h =
-    subst (λ (m : code.Step ScriptStage Taken). Leads ScriptSays lines_in from here m) (sym e) h
+    subst (λ (m : code.Step ScriptStage NextAsk). Leads ScriptSays lines_in from here m) (sym e) h

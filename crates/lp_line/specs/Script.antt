@@ -1,5 +1,5 @@
 -- Where the reading of a script stands, and what its lines say.
-use Rattle.std.specs.Prelude.{ℕ, ◌≡◌, ◌≤◌, ◌+◌, List, [], ◌∷◌, ◌++◌, Option, None, Ok, Err}
+use Rattle.std.specs.Prelude.{ℕ, ◌≡◌, ◌≤◌, ◌+◌, List, [], ◌∷◌, ◌++◌, Option, Some, None, Result, Ok, Err}
 use Rattle.spec_text.specs.declared.line.Line.{Line}
 use Rattle.spec_text.specs.declared.line.Line.TheVariants as line
 use Rattle.spec_model.specs.Kept.{usual_limits}
@@ -17,30 +17,34 @@ use Rattle.spec_server.specs.Script.{Pending, Between, Text, Certificate, Ending
 use Rattle.spec_server.specs.Script.{asks_of_command, pending_after_line, asks_of_line}
 use Rattle.lp_mps.specs.TextRead as text_reading
 use Rattle.lp_line.specs.declared.body.Body.{Body}
+use Rattle.lp_line.specs.declared.halt.Halt.{Halt}
+use Rattle.lp_line.specs.declared.halt.Halt.TheVariants as halts
 use Rattle.lp_line.specs.declared.hearing.Step as code
 use Rattle.lp_line.specs.declared.hearing.Step.TheVariants as step
 use Rattle.lp_line.specs.declared.script.ScriptStage.{ScriptStage}
 use Rattle.lp_line.specs.declared.script.ScriptStage.TheVariants as stage
-use Rattle.lp_line.specs.declared.taking.Taken.{Taken}
-use Rattle.lp_line.specs.declared.taking.Taken.TheVariants as taken
 use Rattle.lp_line.specs.Body.{BodySays, count_in}
 use Rattle.lp_line.specs.Stages.{NarrowRead, TextSays, CertificateSaid, certificate_step, CertificateSays}
 
 -- ---- the lines of a script, one by one, with all lines of a body
 
+-- the next ask, or that none comes before the input ends, or what halts the reading
+abbrev pub NextAsk : Type 0
+NextAsk = Result (Option (Asked ExactAsk)) Halt
+
 -- what is taken where the input ends
-abbrev pub taken_at : Ending → Taken
-taken_at Ended = taken.End
-taken_at Cut = taken.Cut
-taken_at Over = taken.Over
+abbrev pub taken_at : Ending → NextAsk
+taken_at Ended = Ok None
+taken_at Cut = Err halts.Cut
+taken_at Over = Err halts.Over
 
 -- after the asks of a line
-abbrev pub behind_asks : List (Asked ExactAsk) → Pending → Step Pending Taken
+abbrev pub behind_asks : List (Asked ExactAsk) → Pending → Step Pending NextAsk
 behind_asks [] next = On next
-behind_asks (asked ∷ more) next = Says (taken.Ask asked)
+behind_asks (asked ∷ more) next = Says (Ok (Some asked))
 
 -- where a line leads: an ask that it completes, or the next state of the script, or the script's end
-unfoldable pub script_step : Addressing → Pending → Line (List ℕ) → Step Pending Taken
+unfoldable pub script_step : Addressing → Pending → Line (List ℕ) → Step Pending NextAsk
 script_step addressing pending (line.Text bytes) =
     behind_asks (asks_of_line addressing pending (line.Text bytes))
     (pending_after_line addressing pending (line.Text bytes))
@@ -73,7 +77,7 @@ Fits addressing (Certificate session lines) (stage.Certificate own body) = (own 
 Fits addressing pending other = ⊥
 
 -- what lines say of a script that stands there
-abbrev pub ScriptSays : ScriptStage → List (Line (List ℕ)) → Option Taken → Type 0
+abbrev pub ScriptSays : ScriptStage → List (Line (List ℕ)) → Option NextAsk → Type 0
 ScriptSays here lines answer =
     (addressing : Addressing) (pending : Pending) → Fits addressing pending here →
     said_by (script_step addressing) pending lines ≡ answer
@@ -88,7 +92,7 @@ lines_in (stage.Certificate session body) =
 -- ---- parts of a step
 
 -- the end of a script that stands there
-abbrev pub IsEndOf : ScriptStage → Taken → Type 0
+abbrev pub IsEndOf : ScriptStage → NextAsk → Type 0
 IsEndOf here end =
     (addressing : Addressing) (pending : Pending) → Fits addressing pending here → taken_at (ending_by pending) ≡ end
 
@@ -99,11 +103,11 @@ pub record BeginsBody (session : ℕ) (command : ExactCommand) (next : ScriptSta
   pub counts : lines_in next ≤ 1
 
 -- the command's ask is complete
-abbrev pub Asks : List (Asked ExactAsk) → Taken → Type 0
-Asks asks what = (asked : Asked ExactAsk) × (what ≡ taken.Ask asked) × (asks ≡ asked ∷ [])
+abbrev pub Asks : List (Asked ExactAsk) → NextAsk → Type 0
+Asks asks what = (asked : Asked ExactAsk) × (what ≡ Ok (Some asked)) × (asks ≡ asked ∷ [])
 
 -- what a command leads to: a body, or its ask
-abbrev pub Begins : ℕ → ExactCommand → code.Step ScriptStage Taken → Type 0
+abbrev pub Begins : ℕ → ExactCommand → code.Step ScriptStage NextAsk → Type 0
 Begins session command (step.On next) = BeginsBody session command next
 Begins session command (step.Says what) = Asks (asks_of_command session command) what
 

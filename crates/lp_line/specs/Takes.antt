@@ -1,5 +1,5 @@
 -- What `take` reads of an input.
-use Rattle.std.specs.Prelude.{ℕ, ◌≡◌, ◌≤◌, ◌<◌, ◌^◌, List, [], ◌∷◌, ◌++◌, Option, Result, Ok, Err}
+use Rattle.std.specs.Prelude.{ℕ, ◌≡◌, ◌≤◌, ◌<◌, ◌^◌, List, [], ◌∷◌, ◌++◌, Option, Some, None, Result, Ok, Err}
 use Rattle.spec_text.specs.declared.line.Line.{Line}
 use Rattle.spec_text.specs.declared.line.Line.TheVariants as line
 use Rattle.spec_server.specs.declared.asks.Asked.{Asked}
@@ -11,8 +11,8 @@ use Rattle.lp_base.specs.Taking.{ReadsLines, ReadsUntil}
 use Rattle.lp_base.specs.declared.lines.LineStop.{LineStop}
 use Rattle.lp_base.specs.declared.lines.LineStop.TheVariants as stop
 use Rattle.lp_line.specs.Hearing.{AreGiven, TakesPart}
-use Rattle.lp_line.specs.declared.taking.Taken.{Taken}
-use Rattle.lp_line.specs.declared.taking.Taken.TheVariants as taken
+use Rattle.lp_line.specs.declared.halt.Halt.TheVariants as halts
+use Rattle.lp_line.specs.Script.{NextAsk}
 
 -- these lines were read, and the last of them completes this ask, the only one
 pub record TakesAsk (addressing : Addressing) (before after : Option (List ℕ)) (old new : LinesState)
@@ -42,21 +42,19 @@ pub record TakesEnd (addressing : Addressing) (before after : Option (List ℕ))
   pub none : TakesNone addressing before after old (Ok line.End)
   pub ends : ending_by (pending_after addressing Between none.passed) ≡ ending
 
--- what the reading of the next ask answers: the ask, or how the input ended, or what failed
+-- what the reading of the next ask answers: the ask, or that the input ended before one, or what halts the reading
 abbrev pub TakesNext : Addressing → Option (List ℕ) → Option (List ℕ) → LinesState → LinesState →
-    Result Taken LineStop →
-    Type 0
-TakesNext addressing before after old new (Ok (taken.Ask asked)) = TakesAsk addressing before after old new asked
-TakesNext addressing before after old new (Ok taken.End) = TakesEnd addressing before after old Ended
-TakesNext addressing before after old new (Ok taken.Cut) = TakesEnd addressing before after old Cut
-TakesNext addressing before after old new (Ok taken.Over) = TakesNone addressing before after old (Ok line.Over)
-TakesNext addressing before after old new (Err stop.Read) = TakesNone addressing before after old (Err stop.Read)
-TakesNext addressing before after old new (Err stop.NoMemory) = TakesPart before after old new
+    NextAsk → Type 0
+TakesNext addressing before after old new (Ok (Some asked)) = TakesAsk addressing before after old new asked
+TakesNext addressing before after old new (Ok None) = TakesEnd addressing before after old Ended
+TakesNext addressing before after old new (Err halts.Cut) = TakesEnd addressing before after old Cut
+TakesNext addressing before after old new (Err halts.Over) = TakesNone addressing before after old (Ok line.Over)
+TakesNext addressing before after old new (Err halts.Read) = TakesNone addressing before after old (Err stop.Read)
+TakesNext addressing before after old new (Err halts.NoMemory) = TakesPart before after old new
+TakesNext addressing before after old new (Err halts.Write) = ⊥
 
 -- an ask takes a byte at least
-abbrev pub TakesMore : LinesState → LinesState → Result Taken LineStop → Type 0
-TakesMore old new (Ok (taken.Ask asked)) = (old.given < new.given) × (new.given ≤ 2 ^ 26)
-TakesMore old new (Ok taken.End) = Unit {0}
-TakesMore old new (Ok taken.Cut) = Unit {0}
-TakesMore old new (Ok taken.Over) = Unit {0}
+abbrev pub TakesMore : LinesState → LinesState → NextAsk → Type 0
+TakesMore old new (Ok (Some asked)) = (old.given < new.given) × (new.given ≤ 2 ^ 26)
+TakesMore old new (Ok None) = Unit {0}
 TakesMore old new (Err why) = Unit {0}

@@ -7,7 +7,7 @@
 //! | `read`, `Command` | what a line between two commands is | src/command, src/edits |
 //! | `hear`, `Heard` | reads lines up to the one at which something is said | src/hearing, specs/Hearing |
 //! | `Stage`, `Step` | what was read so far, and where the next line leads | src/hearing, src/stages, src/script |
-//! | `take`, `Taken` | reads the lines of the next ask | src/taking, specs/Takes |
+//! | `take` | reads the lines of the next ask | src/taking, specs/Takes |
 //! | `Halt` | why a command halts before it has done all that is asked | src/halt, specs/Halt |
 //! | `answer_of`, `pivots_of`, `certificate_lines` | what is answered of what a solve ended with, its pivots and the lines of its certificate | src/solved |
 //! | `wide_lines`, `push_wide_known` | the lines that an exact solve is answered with, and the text of its answer | src/wide |
@@ -46,7 +46,7 @@ pub use printing::{print, print_lines, print_said};
 pub use solved::{answer_of, certificate_lines, pivots_of};
 pub use spec_server::{Addressing, How, LineFault, Publication};
 pub use stages::{CertificateSaid, LargeSaid, TextSaid};
-pub use taking::{Taken, take};
+pub use taking::take;
 pub use verdict::verdict_on;
 pub use wide::{push_wide_known, wide_lines};
 pub use words::number_to;

@@ -1,6 +1,6 @@
 // A script, line by line.
 // What owns much is let go by a call of `drop`: one step of a proof, where the end of a scope is one for each part.
-ghost use Rattle.std.specs.Prelude.{◌≡◌, ◌≢◌, ◌<◌, ◌+◌, ◌-◌, ◌^◌, IfOk};
+ghost use Rattle.std.specs.Prelude.{◌≡◌, ◌≢◌, ◌<◌, ◌+◌, ◌-◌, ◌^◌, IfOk, Ok, Some};
 ghost use Rattle.spec_text.specs.declared.line.Line.TheVariants.{End};
 ghost use Rattle.spec_server.specs.Script.{ask_of_verdict, ask_of_judgement};
 ghost use Rattle.spec_mps.specs.Steps.{Verdict};
@@ -9,15 +9,14 @@ ghost use Rattle.lp_line.specs.Hearing.{Leads};
 ghost use Rattle.lp_line.specs.Script.{ScriptSays, lines_in, Begins, IsEndOf, verdict_said, judgement_said};
 ghost use Rattle.lp_line.specs.declared.hearing.Step.TheVariants as step;
 ghost use Rattle.lp_line.specs.declared.script.ScriptStage.TheVariants as stage;
-ghost use Rattle.lp_line.specs.declared.taking.Taken.TheVariants as taken;
 
 use crate::asks::{Ask, Asked, Command};
 use crate::body::{Body, close, pass};
 use crate::command::read;
 use crate::ends::{ends_certificate, ends_text};
+use crate::halt::Halt;
 use crate::hearing::{Stage, Step};
 use crate::stages::{CertificateSaid, TextSaid};
-use crate::taking::Taken;
 use lp_base::Line;
 use lp_certificate::CertReader;
 use lp_mps::read::Reader;
@@ -38,8 +37,11 @@ pub enum ScriptStage {
     },
 }
 
+// Where a line of a script leads: on, or to the next ask, or to the end before one, or to what halts the reading.
+type ScriptStep = Step<ScriptStage, Result<Option<Asked>, Halt>>;
+
 impl Stage for ScriptStage {
-    type Said = Taken;
+    type Said = Result<Option<Asked>, Halt>;
 
     ghost use Rattle.std.specs.Prelude.{refl};
 
@@ -49,7 +51,7 @@ impl Stage for ScriptStage {
 
     ghost silent = { λ stage addressing pending fits. refl };
 
-    fn advance(self, alloc: Global, line: &Line) -> Result<Step<ScriptStage, Taken>, AllocError> {
+    fn advance(self, alloc: Global, line: &Line) -> Result<ScriptStep, AllocError> {
         match line {
             Line::End => {
                 let end = end_of(&self);
@@ -62,21 +64,17 @@ impl Stage for ScriptStage {
 }
 
 // How a script ends that the input's end finds at this stage: it is cut off in a body.
-fn end_of(stage: &ScriptStage) -> Taken
+fn end_of(stage: &ScriptStage) -> Result<Option<Asked>, Halt>
     ensures { IsEndOf stage.now result }
 {
     match stage {
-        ScriptStage::Between(_) => Taken::End,
-        ScriptStage::Text { .. } | ScriptStage::Certificate { .. } => Taken::Cut,
+        ScriptStage::Between(_) => Ok(None),
+        ScriptStage::Text { .. } | ScriptStage::Certificate { .. } => Err(Halt::Cut),
     }
 }
 
 // Reads a line of a script, which is not the input's end.
-fn line_in(
-    alloc: Global,
-    stage: ScriptStage,
-    line: &Line,
-) -> Result<Step<ScriptStage, Taken>, AllocError>
+fn line_in(alloc: Global, stage: ScriptStage, line: &Line) -> Result<ScriptStep, AllocError>
     requires small { lines_in stage < 2 ^ 32 - 1 }
     requires given { line.now ≢ End }
     ensures { IfOk result (Leads ScriptSays lines_in stage line.now) }
@@ -91,7 +89,7 @@ fn line_in(
 }
 
 // What a command leads to: an ask that is complete, or a body that begins.
-fn begin(alloc: Global, addressed: spec_server::Asked<Command>) -> Step<ScriptStage, Taken>
+fn begin(alloc: Global, addressed: spec_server::Asked<Command>) -> ScriptStep
     ensures { Begins addressed.session addressed.ask result }
 {
     let session = addressed.session;
@@ -110,10 +108,10 @@ fn begin(alloc: Global, addressed: spec_server::Asked<Command>) -> Step<ScriptSt
 }
 
 // The step that says this ask of this session.
-fn asked(session: u32, ask: Ask) -> Step<ScriptStage, Taken>
-    ensures { result ≡ step.Says (taken.Ask (record { session = session; ask = ask })) }
+fn asked(session: u32, ask: Ask) -> ScriptStep
+    ensures { result ≡ step.Says (Ok (Some (record { session = session; ask = ask }))) }
 {
-    Step::Says(Taken::Ask(Asked { session, ask }))
+    Step::Says(Ok(Some(Asked { session, ask })))
 }
 
 // Reads a line between two commands.
@@ -121,7 +119,7 @@ fn line_between(
     alloc: Global,
     addressing: Addressing,
     line: &Line,
-) -> Result<Step<ScriptStage, Taken>, AllocError>
+) -> Result<ScriptStep, AllocError>
     requires { line.now ≢ End }
     ensures { IfOk result (Leads ScriptSays lines_in (stage.Between addressing) line.now) }
 {
@@ -157,7 +155,7 @@ fn line_of_text(
     session: u32,
     body: Body<Reader, TextSaid>,
     line: &Line,
-) -> Result<Step<ScriptStage, Taken>, AllocError>
+) -> Result<ScriptStep, AllocError>
     requires small { lines_in (stage.Text session body) < 2 ^ 32 - 1 }
     requires given { line.now ≢ End }
     ensures { IfOk result (Leads ScriptSays lines_in (stage.Text session body) line.now) }
@@ -180,7 +178,7 @@ fn line_of_certificate(
     session: u32,
     body: Body<CertReader, CertificateSaid>,
     line: &Line,
-) -> Result<Step<ScriptStage, Taken>, AllocError>
+) -> Result<ScriptStep, AllocError>
     requires small { lines_in (stage.Certificate session body) < 2 ^ 32 - 1 }
     requires given { line.now ≢ End }
     ensures { IfOk result (Leads ScriptSays lines_in (stage.Certificate session body) line.now) }

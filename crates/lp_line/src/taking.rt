@@ -4,43 +4,31 @@ ghost use Rattle.lp_base.specs.Causes.{Rose};
 ghost use Rattle.lp_line.specs.Takes.{TakesMore, TakesNext};
 
 use crate::asks::Asked;
+use crate::halt::Halt;
 use crate::hearing::{Heard, hear};
 use crate::script::ScriptStage;
-use lp_base::{LineStop, Lines, Source};
+use lp_base::{Lines, Source};
 use spec_server::Addressing;
 use std::alloc::Global;
 
-/// What the next lines of an input are.
-#[derive(Drop)]
-pub enum Taken {
-    /// They complete this ask.
-    Ask(Asked),
-    /// The input has ended between two commands.
-    End,
-    /// The input has ended in a body.
-    Cut,
-    /// The input is longer than may be read.
-    Over,
-}
-
-/// Reads the lines up to the one that completes the next ask.
+/// Reads the lines up to the one that completes the next ask. There is none where the input ends between two commands.
 pub fn take<S: Source>(
     alloc: Global,
     addressing: Addressing,
     lines: &mut Lines,
     source: &mut S,
-) -> Result<Taken, LineStop>
+) -> Result<Option<Asked>, Halt>
     ensures taken { TakesNext addressing (S.left source.old) (S.left source.new) lines.old lines.new result }
 
     // An ask takes a byte at least.
     ensures more { TakesMore lines.old lines.new result }
 
     ensures later { S.read_faults source.old ≤ S.read_faults source.new }
-    ensures read { IsErrOf result LineStop.Read → Rose (S.read_faults source.old) (S.read_faults source.new) }
+    ensures read { IsErrOf result Halt.Read → Rose (S.read_faults source.old) (S.read_faults source.new) }
     ensures beside { S.beside_reads source.new ≡ S.beside_reads source.old }
 {
     match hear(alloc, ScriptStage::Between(addressing), lines, source)? {
-        Heard::Says(taken) => Ok(taken),
-        Heard::Over => Ok(Taken::Over),
+        Heard::Says(next) => next,
+        Heard::Over => Err(Halt::Over),
     }
 }

@@ -4,7 +4,7 @@
 -- `reads_nothing`: reading nothing is reading some lines.
 -- `takes_as`: a next ask that is taken with one outcome is taken with an equal one.
 -- `ends_early`: a reading that runs out of memory has read some lines.
-use Rattle.std.proofs.Common.{◌≡◌, ℕ, ◌≤◌, List, [], ◌∷◌, ◌++◌, Option, Ok, Err, refl, sym, ap, ◌∙◌, inl}
+use Rattle.std.proofs.Common.{◌≡◌, ◌≢◌, ℕ, ◌≤◌, List, [], ◌∷◌, ◌++◌, Option, Ok, Err, refl, sym, ap, ◌∙◌, inl}
 use Rattle.std.proofs.Common.{⊎_elim, append-nil, Result, subst}
 use Rattle.std.specs.Prelude.{All}
 use Rattle.std.specs.declared.alloc.AllocError.{AllocError}
@@ -21,9 +21,9 @@ use Rattle.lp_base.proofs.TakingLemmas.{reads_start, ReadsLines-append, ReadsUnt
 use Rattle.lp_base.proofs.TakingLemmas.{stops_with, stops_now}
 use Rattle.lp_base.specs.declared.lines.LineStop.TheVariants as line_stops
 use Rattle.lp_line.specs.Hearing.{TakesPart}
-use Rattle.lp_base.specs.declared.lines.LineStop.{LineStop}
-use Rattle.lp_line.specs.declared.taking.Taken.{Taken}
+use Rattle.lp_line.specs.Script.{NextAsk}
 use Rattle.lp_line.specs.Takes.{TakesAsk, TakesNone, TakesEnd, TakesNext}
+use Rattle.lp_line.specs.declared.halt.Halt.{Halt}
 use Rattle.lp_line.specs.declared.halt.Halt.TheVariants as halts
 use Rattle.lp_script.specs.declared.script.Script.{Script}
 use Rattle.lp_script.specs.Script.{IsRead, ReadsSome, ReadsScript, ReadsToEnd}
@@ -108,7 +108,7 @@ module _ {before now : Option (List ℕ)} {reading : LinesState} {asks : List (A
       numbered = r.numbered;
     }
 
-    pub read_cut : TakesEnd Numbered now after reading Cut → IsRead before after asks (Err halts.Cut)
+    read_cut : TakesEnd Numbered now after reading Cut → IsRead before after asks (Err halts.Cut)
     read_cut k = record {
       lines = r.lines ++ k.none.passed;
       asked = asked_none k.none.passed k.none.asks;
@@ -116,7 +116,7 @@ module _ {before now : Option (List ℕ)} {reading : LinesState} {asks : List (A
       numbered = r.numbered;
     }
 
-    pub read_past : TakesNone Numbered now after reading (Ok Over) → IsRead before after asks (Err halts.Over)
+    read_past : TakesNone Numbered now after reading (Ok Over) → IsRead before after asks (Err halts.Over)
     read_past k = record {
       lines = r.lines ++ k.passed;
       asked = asked_none k.passed k.asks;
@@ -124,7 +124,7 @@ module _ {before now : Option (List ℕ)} {reading : LinesState} {asks : List (A
       numbered = r.numbered;
     }
 
-    pub read_to_fault : TakesNone Numbered now after reading (Err line_stops.Read) →
+    read_to_fault : TakesNone Numbered now after reading (Err line_stops.Read) →
         IsRead before after asks (Err halts.Read)
     read_to_fault k = record {
       lines = r.lines ++ k.passed;
@@ -133,11 +133,20 @@ module _ {before now : Option (List ℕ)} {reading : LinesState} {asks : List (A
       numbered = r.numbered;
     }
 
+    -- something else than want of memory halted the reading
+    pub read_halted : (new : LinesState) (halt : Halt) → halt ≢ halts.NoMemory →
+        TakesNext Numbered now after reading new (Err halt) → IsRead before after asks (Err halt)
+    read_halted new halts.Cut other k = read_cut k
+    read_halted new halts.Over other k = read_past k
+    read_halted new halts.Read other k = read_to_fault k
+    read_halted new halts.Write other k = absurd k
+    read_halted new halts.NoMemory other k = absurd (other refl)
+
 -- what the same answer says
-pub takes_as : (before after : Option (List ℕ)) (old new : LinesState) (result is : Result Taken LineStop) →
+pub takes_as : (before after : Option (List ℕ)) (old new : LinesState) (result is : NextAsk) →
     result ≡ is → TakesNext Numbered before after old new result → TakesNext Numbered before after old new is
 takes_as before after old new result is same k =
-    subst (λ (r : Result Taken LineStop). TakesNext Numbered before after old new r) same k
+    subst (λ (r : NextAsk). TakesNext Numbered before after old new r) same k
 
 -- memory ran out
 pub ends_early : {before after : Option (List ℕ)} (result : Result Script AllocError) (why : AllocError) →

@@ -15,22 +15,21 @@ use Rattle.spec_server.specs.declared.asks.Asked.{Asked}
 use Rattle.spec_server.specs.Machine.{ExactAsk, ExactReply, State, opening}
 use Rattle.spec_server.specs.Step.{AloneStep}
 use Rattle.spec_server.specs.Exchanges.{Exchange, log_of}
-use Rattle.spec_server.specs.Script.{Between, Ending, asks_from, pending_after, ending_by}
+use Rattle.spec_server.specs.Script.{Between, Ending, Cut, asks_from, pending_after, ending_by}
 use Rattle.spec_server.specs.ScriptOut.{script_out}
 use Rattle.spec_server.proofs.RunLemmas.{script_out-append, updated}
 use Rattle.lp_base.specs.LinesState.{LinesState, at_start}
 use Rattle.lp_base.specs.Taking.{ReadsLines, ReadsAll, ReadsPart}
 use Rattle.lp_base.proofs.TakingLemmas.{reads_start, ReadsLines-append, ReadsUntil-append, stops_at_end, stops_over}
 use Rattle.lp_base.proofs.TakingLemmas.{stops_with, stops_now}
-use Rattle.lp_base.specs.declared.lines.LineStop.{LineStop}
 use Rattle.lp_base.specs.declared.lines.LineStop.TheVariants as line_stops
-use Rattle.lp_line.specs.declared.taking.Taken.{Taken}
+use Rattle.lp_line.specs.declared.halt.Halt.{Halt}
+use Rattle.lp_line.specs.Script.{NextAsk}
 use Rattle.lp_line.specs.Takes.{TakesAsk, TakesNone, TakesEnd, TakesNext}
 use Rattle.lp_script.specs.Sharing.{Sharing, as_places, SharesStep}
 use Rattle.lp_line.specs.declared.halt.Halt.TheVariants as halts
 use Rattle.lp_script.specs.Answer.{Together, opening_with, state_at, Answers, AnswersInPart}
 use Rattle.lp_script.specs.Run.{Moves, EndsInput, EndsSo}
-use Rattle.lp_line.specs.Halt.{halt_of}
 use Rattle.spec_server.specs.Streams.{streams}
 use Rattle.lp_script.proofs.OneMore.{exchange_of, one_run}
 use Rattle.lp_script.proofs.Answering.{one_run_to, one_log, one_line}
@@ -121,24 +120,6 @@ module _ {places : ℕ} {left_before left_now taken_before taken_now : Option (L
       IsSoFar places t.exchanges (t.lines ++ more) (state_at sessions.states) (as_places sessions.sharing.done)
   none_more more none = so_far_none places t.exchanges t.lines _ _ t.so_far t.between more none
 
-  -- no further ask came
-  pub stopped : (new : LinesState) (stop : LineStop) → TakesNext Numbered left_now left_after reading new (Err stop) →
-      (moves : Moves 1 places (streams left_before left_after taken_before taken_now))
-      × EndsSo moves (Err (halt_of stop))
-  stopped new line_stops.Read k =
-      let so = none_more k.passed k.asks in
-      let m = moves_broken_off t.exchanges (t.lines ++ k.passed) so.asks (runs_by_one places so) _ t.written
-      (whole_front t.exchanges) (stops_with line_stops.Read (ReadsUntil-append t.reads k.reads)).front in
-      (m.0, m.2 refl)
-  stopped new line_stops.NoMemory k = (
-    moves_in_part t.exchanges t.lines _ _ t.so_far k.passed (script_out t.exchanges) t.written (whole_front t.exchanges)
-        (⊎_elim
-        (λ r. stops_now (ReadsLines-append t.reads r))
-        (λ u. inl (stops_with line_stops.NoMemory (ReadsUntil-append t.reads u)))
-        k.reads),
-    tt,
-  )
-
   -- the input has ended
   pub ended : (ending : Ending) → TakesEnd Numbered left_now left_after reading ending →
       (moves : Moves 1 places (streams left_before left_after taken_before taken_now)) × EndsInput moves ending
@@ -150,7 +131,7 @@ module _ {places : ℕ} {left_before left_now taken_before taken_now : Option (L
       (m.0, m.1 refl)
 
   -- the input is longer than may be read
-  pub too_long : TakesNone Numbered left_now left_after reading (Ok Over) →
+  too_long : TakesNone Numbered left_now left_after reading (Ok Over) →
       (moves : Moves 1 places (streams left_before left_after taken_before taken_now)) × EndsSo moves (Err halts.Over)
   too_long k =
       let over = stops_over (ReadsUntil-append t.reads k.reads) in
@@ -158,6 +139,26 @@ module _ {places : ℕ} {left_before left_now taken_before taken_now : Option (L
       let m = moves_past t.exchanges (t.lines ++ k.passed) so.asks (runs_by_one places so) _ t.written
       (whole_front t.exchanges) over.front over.past in
       (m.0, m.1 refl)
+
+  -- no further ask came
+  pub stopped : (new : LinesState) (halt : Halt) → TakesNext Numbered left_now left_after reading new (Err halt) →
+      (moves : Moves 1 places (streams left_before left_after taken_before taken_now)) × EndsSo moves (Err halt)
+  stopped new halts.Read k =
+      let so = none_more k.passed k.asks in
+      let m = moves_broken_off t.exchanges (t.lines ++ k.passed) so.asks (runs_by_one places so) _ t.written
+      (whole_front t.exchanges) (stops_with line_stops.Read (ReadsUntil-append t.reads k.reads)).front in
+      (m.0, m.2 refl)
+  stopped new halts.NoMemory k = (
+    moves_in_part t.exchanges t.lines _ _ t.so_far k.passed (script_out t.exchanges) t.written (whole_front t.exchanges)
+        (⊎_elim
+        (λ r. stops_now (ReadsLines-append t.reads r))
+        (λ u. inl (stops_with line_stops.NoMemory (ReadsUntil-append t.reads u)))
+        k.reads),
+    tt,
+  )
+  stopped new halts.Cut k = ended Cut k
+  stopped new halts.Over k = too_long k
+  stopped new halts.Write k = absurd k
 
   -- an ask came, and was answered in part
   pub in_answer : (taken_after : Option (List ℕ)) (new : LinesState) (asked : Asked ExactAsk) →
@@ -186,7 +187,7 @@ module _ {places : ℕ} {left_before left_now taken_before taken_now : Option (L
       (sym (append-nil lines)) (stops_now (ReadsLines-append t.reads k.reads)))
 
 -- the same of what was taken
-pub takes_as : (before after : Option (List ℕ)) (old new : LinesState) (taken is : Taken) → taken ≡ is →
-    TakesNext Numbered before after old new (Ok taken) → TakesNext Numbered before after old new (Ok is)
+pub takes_as : (before after : Option (List ℕ)) (old new : LinesState) (taken is : NextAsk) → taken ≡ is →
+    TakesNext Numbered before after old new taken → TakesNext Numbered before after old new is
 takes_as before after old new taken is same k =
-    subst (λ (t : Taken). TakesNext Numbered before after old new (Ok t)) same k
+    subst (λ (t : NextAsk). TakesNext Numbered before after old new t) same k

@@ -8,7 +8,7 @@ ghost use Rattle.spec_server.specs.Streams.{streams};
 
 use crate::sessions::Sessions;
 use lp_base::{Lines, Sink, Source};
-use lp_line::{Addressing, Halt, Taken, take};
+use lp_line::{Addressing, Halt, take};
 use std::alloc::Global;
 
 /// Answers each ask of a script before it reads the next one, from its start and with all sessions as they open.
@@ -28,10 +28,8 @@ pub(crate) fn answer_asks<S: Source, K: Sink>(
 {
     loop {
         match take(alloc, Addressing::Numbered, lines, src)? {
-            Taken::Ask(asked) => sessions.answer(alloc, asked, out)?,
-            Taken::End => return Ok(()),
-            Taken::Cut => return Err(Halt::Cut),
-            Taken::Over => return Err(Halt::Over),
+            Some(asked) => sessions.answer(alloc, asked, out)?,
+            None => return Ok(()),
         }
     }
 }

@@ -3,8 +3,8 @@ ghost use Rattle.std.specs.Prelude.{IfOk, IsErrOf};
 ghost use Rattle.lp_base.specs.Causes.{Rose};
 ghost use Rattle.lp_script.specs.Script.{ReadsScript};
 
-use lp_base::{LineStop, Lines, Source};
-use lp_line::{Addressing, Asked, Halt, Taken, take};
+use lp_base::{Lines, Source};
+use lp_line::{Addressing, Asked, Halt, take};
 use std::alloc::{AllocError, Global};
 
 /// The asks that were read whole, and why no more were.
@@ -24,21 +24,15 @@ pub(crate) fn read_script<S: Source>(alloc: Global, src: &mut S) -> Result<Scrip
     let mut asks = Vec::new(alloc);
     loop {
         match take(alloc, Addressing::Numbered, &mut lines, src) {
-            Ok(Taken::Ask(asked)) => asks.push(asked)?,
-            Ok(Taken::End) => return Ok(Script { asks, end: Ok(()) }),
-            Ok(Taken::Cut) => return Ok(Script {
-                asks,
-                end: Err(Halt::Cut),
-            }),
-            Ok(Taken::Over) => return Ok(Script {
-                asks,
-                end: Err(Halt::Over),
-            }),
-            Err(LineStop::Read) => return Ok(Script {
-                asks,
-                end: Err(Halt::Read),
-            }),
-            Err(LineStop::NoMemory) => return Err(AllocError),
+            Ok(Some(asked)) => asks.push(asked)?,
+            Ok(None) => return Ok(Script { asks, end: Ok(()) }),
+            Err(halt) => match halt {
+                Halt::NoMemory => return Err(AllocError),
+                _ => return Ok(Script {
+                    asks,
+                    end: Err(halt),
+                }),
+            },
         }
     }
 }

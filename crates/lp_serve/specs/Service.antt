@@ -1,5 +1,5 @@
 -- The service of one link: the steps of its session, with the calls of a pass, and what is read and written of it.
-use Rattle.std.specs.Prelude.{ℕ, ◌≡◌, ◌++◌, List, [], ◌∷◌, Option, Result, Ok, Err}
+use Rattle.std.specs.Prelude.{ℕ, ◌≡◌, ◌++◌, List, [], ◌∷◌, Option, Some, None, Result, Ok, Err}
 use Rattle.spec_server.specs.declared.addressing.Addressing.TheVariants.{Alone}
 use Rattle.spec_server.specs.Exchanges.{Exchange}
 use Rattle.spec_server.specs.Machine.{ExactAsk, State, opening}
@@ -12,9 +12,8 @@ use Rattle.basis_board.specs.declared.seats.View.{View}
 use Rattle.basis_board.specs.Rule.{Consistent}
 use Rattle.basis_board.specs.PassReads.{reads_of}
 use Rattle.lp_base.specs.LinesState.{LinesState}
-use Rattle.lp_base.specs.declared.lines.LineStop.TheVariants as stop
+use Rattle.lp_line.specs.declared.halt.Halt.TheVariants as halts
 use Rattle.lp_line.specs.Takes.{TakesNext, TakesMore}
-use Rattle.lp_line.specs.declared.taking.Taken.TheVariants as taken
 use Rattle.lp_session.specs.Boarding.{StepCalls}
 
 -- ---- the steps of a session
@@ -37,13 +36,13 @@ Steps v old (x ∷ xs) w new =
 -- as `take` reads them; a link ends where none comes
 abbrev pub TakesAsk : Option (List ℕ) → Option (List ℕ) → LinesState → LinesState → Result ExactAsk LinkEnd → Type 0
 TakesAsk before after old new (Ok asked) =
-    TakesNext Alone before after old new (Ok (taken.Ask (record { session = 0; ask = asked })))
-    × TakesMore old new (Ok (taken.Ask (record { session = 0; ask = asked })))
-TakesAsk before after old new (Err end.Done) = TakesNext Alone before after old new (Ok taken.End)
-TakesAsk before after old new (Err end.Cut) = TakesNext Alone before after old new (Ok taken.Cut)
-TakesAsk before after old new (Err end.Over) = TakesNext Alone before after old new (Ok taken.Over)
-TakesAsk before after old new (Err end.Read) = TakesNext Alone before after old new (Err stop.Read)
-TakesAsk before after old new (Err end.NoMemory) = TakesNext Alone before after old new (Err stop.NoMemory)
+    TakesNext Alone before after old new (Ok (Some (record { session = 0; ask = asked })))
+    × TakesMore old new (Ok (Some (record { session = 0; ask = asked })))
+TakesAsk before after old new (Err end.Done) = TakesNext Alone before after old new (Ok None)
+TakesAsk before after old new (Err end.Cut) = TakesNext Alone before after old new (Err halts.Cut)
+TakesAsk before after old new (Err end.Over) = TakesNext Alone before after old new (Err halts.Over)
+TakesAsk before after old new (Err end.Read) = TakesNext Alone before after old new (Err halts.Read)
+TakesAsk before after old new (Err end.NoMemory) = TakesNext Alone before after old new (Err halts.NoMemory)
 TakesAsk before after old new (Err end.Write) = ⊥
 
 -- ---- the whole service

@@ -17,8 +17,8 @@ ghost use Rattle.spec_server.specs.Streams.{streams};
 ghost use Rattle.spec_server.specs.declared.addressing.Addressing.TheVariants.{Alone};
 
 use basis_board::{Board, Pass};
-use lp_base::{Bytes, LineStop, Lines, Link, LinkWork, send};
-use lp_line::{Addressing, Ask, Plain, Reply, Taken, print, take};
+use lp_base::{Bytes, Lines, Link, LinkWork, send};
+use lp_line::{Addressing, Ask, Halt, Plain, Reply, print, take};
 use lp_session::Session;
 use spec_serve::LinkEnd;
 use std::alloc::Global;
@@ -42,12 +42,13 @@ fn next_ask<L: Link>(alloc: Global, lines: &mut Lines, link: &mut L) -> Result<A
         ≡ sink_of (L.taken link.old) (L.write_faults link.old) }
 {
     match take(alloc, Addressing::Alone, lines, link) {
-        Ok(Taken::Ask(asked)) => Ok(asked.ask),
-        Ok(Taken::End) => Err(LinkEnd::Done),
-        Ok(Taken::Cut) => Err(LinkEnd::Cut),
-        Ok(Taken::Over) => Err(LinkEnd::Over),
-        Err(LineStop::Read) => Err(LinkEnd::Read),
-        Err(LineStop::NoMemory) => Err(LinkEnd::NoMemory),
+        Ok(Some(asked)) => Ok(asked.ask),
+        Ok(None) => Err(LinkEnd::Done),
+        Err(Halt::Cut) => Err(LinkEnd::Cut),
+        Err(Halt::Over) => Err(LinkEnd::Over),
+        Err(Halt::Read) => Err(LinkEnd::Read),
+        Err(Halt::Write) => Err(LinkEnd::Write),
+        Err(Halt::NoMemory) => Err(LinkEnd::NoMemory),
     }
 }
 
