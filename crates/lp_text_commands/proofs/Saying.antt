@@ -2,7 +2,8 @@
 --
 -- `basis_reads`: what `basis` says and writes, by its parts, is what the command reads and writes.
 -- `wide_basis_reads`: what `basis --wide` says and writes, by its parts, is what the command reads and writes.
-use Rattle.std.proofs.Common.{◌≡◌, ℕ, List, [], ◌++◌, Option, Result, Ok, Err, ap, sym, ◌∙◌, subst}
+use Rattle.std.proofs.Common.{◌≡◌, ℕ, List, [], ◌++◌, Option, Result, Ok, Err, OnOk, IfOk, ap, sym, ◌∙◌, subst}
+use Rattle.std.specs.declared.alloc.AllocError.{AllocError}
 use Rattle.std.specs.Io.KnownBytes.{Appends}
 use Rattle.std.proofs.KnownBytes.{Appends-nil}
 use Rattle.spec_text.specs.declared.line.Line.{Line}
@@ -35,7 +36,7 @@ use Rattle.lp_line.specs.declared.halt.Halt.TheVariants as halts
 use Rattle.lp_text_commands.specs.Prints.{Prints}
 use Rattle.lp_text_commands.specs.Said.{SaidOut, TextOut, misspelled_line}
 use Rattle.lp_text_commands.specs.Hearing.{Agrees, Hears, HearsSo, SaysSo}
-use Rattle.lp_text_commands.specs.Writing.{WritesAll, WritesInPart, WritesSo}
+use Rattle.lp_text_commands.specs.Writing.{SendsSo, WritesSo}
 use Rattle.spec_commands.specs.BasisOut.{InText, basis_said, BasisOut, basis_code, basis_fault_line}
 use Rattle.spec_commands.specs.SolveWideOut.{SolveWideOut}
 use Rattle.spec_commands.specs.BasisWideOut.{BasisWideOut}
@@ -127,37 +128,57 @@ says_out {G} {F} tells Out line code_of s result refused =
     by (Ok given) written out = out
     by (Err fault) written is = refused fault written is
 
--- ---- what is written of what is said
+-- ---- what is sent of a text that was printed
 
-module _ (Out : List ℕ → Type 0) (code : ℕ) (taken : Option (List ℕ)) where
-  -- where memory is wanting, nothing is
-  pub writes_none : (result : Result ExitStatus Halt) (got : Halt) → result ≡ Err got → got ≡ halts.NoMemory →
-      WritesSo Out code taken taken result
-  writes_none result got is same =
-      subst (λ (r : Result ExitStatus Halt). WritesSo Out code taken taken r) (sym (is ∙ ap Err same))
+module _ (printed : Result ExitStatus AllocError) (text : List ℕ) (taken : Option (List ℕ)) where
+  pub sends_none : (result : Result ExitStatus Halt) (got : Halt) → result ≡ Err got → got ≡ halts.NoMemory →
+      SendsSo printed text taken taken result
+  sends_none result got is same =
+      subst (λ (r : Result ExitStatus Halt). SendsSo printed text taken taken r) (sym (is ∙ ap Err same))
       (Appends-nil taken)
 
-  module _ (none text piece : List ℕ) (is_none : none ≡ []) (printed : Prints Out none text) (whole : piece ≡ text)
+  module _ (status : ExitStatus) (is_printed : printed ≡ Ok status) (piece : List ℕ) (whole : piece ≡ text)
       (now : Option (List ℕ)) where
-    same : piece ≡ printed.output
-    same = whole ∙ printed.behind ∙ ap (λ bs. bs ++ printed.output) is_none
+    pub sends : Appends taken now piece → SendsSo printed text taken now (Ok status)
+    sends sent = (is_printed, subst (Appends taken now) whole sent)
 
-    pub writes : Appends taken now piece → (is : ℕ) → is ≡ code → WritesAll Out code taken now is
-    writes written is e =
-        record {
-          output = printed.output;
-          is_output = printed.is_output;
-          written = subst (Appends taken now) same written;
-          status = e;
-        }
+    pub sends_in_part : Takes taken now piece → (result : Result ExitStatus Halt) (got : Halt) → result ≡ Err got →
+        got ≡ halts.Write → SendsSo printed text taken now result
+    sends_in_part sent result got is same =
+        subst (λ (r : Result ExitStatus Halt). SendsSo printed text taken now r) (sym (is ∙ ap Err same))
+        (status, is_printed, subst (Takes taken now) whole sent)
 
-    pub writes_in_part : Takes taken now piece → WritesInPart Out taken now
-    writes_in_part written =
-        record {
-          output = printed.output;
-          is_output = printed.is_output;
-          written = subst (Takes taken now) same written;
-        }
+module _ (Out : List ℕ → Type 0) (code : ℕ) (none text : List ℕ) (is_none : none ≡ []) (taken now : Option (List ℕ))
+  where
+    whole_output : (printed : Prints Out none text) → text ≡ printed.output
+    whole_output printed = printed.behind ∙ ap (λ bs. bs ++ printed.output) is_none
+
+    module _ (printed : Result ExitStatus AllocError) (prints : OnOk printed (Prints Out none text))
+        (has_code : IfOk printed (λ status. status.code ≡ code)) where
+      printed_so : (status : ExitStatus) → printed ≡ Ok status → Prints Out none text
+      printed_so status is =
+          subst (λ (r : Result ExitStatus AllocError). OnOk r (Prints Out none text)) is prints
+
+      -- what was sent is what may be written
+      pub writes_sent : (result : Result ExitStatus Halt) → SendsSo printed text taken now result →
+          WritesSo Out code taken now result
+      writes_sent (Ok status) sent =
+          let is = printed_so status sent.0 in record {
+            output = is.output;
+            is_output = is.is_output;
+            written = subst (Appends taken now) (whole_output is) sent.1;
+            status = subst (λ (r : Result ExitStatus AllocError). IfOk r (λ s. s.code ≡ code)) sent.0 has_code;
+          }
+      writes_sent (Err halts.Write) sent =
+          let is = printed_so sent.0 sent.1 in record {
+            output = is.output;
+            is_output = is.is_output;
+            written = subst (Takes taken now) (whole_output is) sent.2;
+          }
+      writes_sent (Err halts.NoMemory) sent = sent
+      writes_sent (Err halts.Read) sent = absurd sent
+      writes_sent (Err halts.Cut) sent = absurd sent
+      writes_sent (Err halts.Over) sent = absurd sent
 
 -- ---- from the start of a text on
 

@@ -1,5 +1,6 @@
 -- What is written of what was said.
 use Rattle.std.specs.Prelude.{ℕ, ◌≡◌, List, [], Option, Result, Ok, Err}
+use Rattle.std.specs.declared.alloc.AllocError.{AllocError}
 use Rattle.std.specs.Io.KnownBytes.{Appends}
 use Rattle.lp_base.specs.Beside.{Takes}
 use Rattle.lp_line.specs.declared.halt.Halt.{Halt}
@@ -27,3 +28,14 @@ WritesSo Out code before after (Err halts.NoMemory) = Appends before after []
 WritesSo Out code before after (Err halts.Read) = ⊥
 WritesSo Out code before after (Err halts.Cut) = ⊥
 WritesSo Out code before after (Err halts.Over) = ⊥
+
+-- what was sent of a text that was printed with a status, by the status or by what halted the command
+abbrev pub SendsSo : Result ExitStatus AllocError → List ℕ → Option (List ℕ) → Option (List ℕ) →
+    Result ExitStatus Halt → Type 0
+SendsSo printed text before after (Ok status) = (printed ≡ Ok status) × Appends before after text
+SendsSo printed text before after (Err halts.Write) =
+    (status : ExitStatus) × (printed ≡ Ok status) × Takes before after text
+SendsSo printed text before after (Err halts.NoMemory) = Appends before after []
+SendsSo printed text before after (Err halts.Read) = ⊥
+SendsSo printed text before after (Err halts.Cut) = ⊥
+SendsSo printed text before after (Err halts.Over) = ⊥

@@ -46,17 +46,19 @@ pub(crate) trait Command {
         may_make command given outcome → may_write command given (lines command given outcome) };
 }
 
-/// Runs the command, and then writes what it made.
+/// Writes what a run of the command made, if memory sufficed for the run.
 pub(crate) fn print<C: Command>(
     alloc: Global,
     command: &C,
     given: &C::Given,
+    made: Result<C::Outcome, AllocError>,
     to: &mut Bytes,
 ) -> Result<(), AllocError>
-    requires { C.takes command.now given.now }
+    requires takes { C.takes command.now given.now }
+    requires made { IfOk made (C.may_make command.now given.now) }
     ensures { OnOk result (Prints (C.may_write command.now given.now) to.old to.new) }
 {
-    let outcome = command.run(alloc, given)?;
+    let outcome = made?;
     let printed = command.write(alloc, given, &outcome, to);
     drop(outcome);
     printed

@@ -86,6 +86,7 @@ fn generated_text(alloc: Global, model: &Model) -> Result<Bytes, AllocError>
     ensures { IfOk result (SolvedOut model.now) }
 {
     let mut text = Bytes::new(alloc);
-    print(alloc, &SolveMade, model, &mut text)?;
+    let made = SolveMade.run(alloc, model);
+    print(alloc, &SolveMade, model, made, &mut text)?;
     Ok(text)
 }

@@ -4,7 +4,7 @@ ghost use Rattle.lp_base.specs.Causes.{Rose};
 ghost use Rattle.spec_text.specs.declared.line.Line.{Line as exact_line};
 ghost use Rattle.lp_text_commands.specs.Prints.{Prints};
 ghost use Rattle.lp_text_commands.specs.Hearing.{Agrees, HearsSo, SaysSo};
-ghost use Rattle.lp_text_commands.specs.Writing.{WritesSo};
+ghost use Rattle.lp_text_commands.specs.Writing.{SendsSo};
 ghost use Rattle.spec_server.specs.Streams.{streams};
 
 use crate::exit_status::ExitStatus;
@@ -48,18 +48,16 @@ pub(crate) fn hear_input<S: Source, T: Stage>(
     }
 }
 
-/// Writes what is said of an input.
-pub(crate) fn write_said<O: Output, K: Sink>(
-    alloc: Global,
-    said: O,
+/// Sends the text that was printed with this status, if memory sufficed for it.
+pub(crate) fn send_printed<K: Sink>(
+    printed: Result<ExitStatus, AllocError>,
+    text: Bytes,
     out: &mut K,
 ) -> Result<ExitStatus, Halt>
-    requires { O.can_print said }
-    ensures output { WritesSo (O.may_write said) (O.code said) (K.taken out.old) (K.taken out.new) result }
+    ensures output { SendsSo printed text (K.taken out.old) (K.taken out.new) result }
     ensures write { IsErrOf result Halt.Write → Rose (K.write_faults out.old) (K.write_faults out.new) }
 {
-    let mut text = Bytes::new(alloc);
-    let status = said.print(alloc, &mut text)?;
+    let status = printed?;
     send(out, text.as_slice())?;
     Ok(status)
 }
@@ -82,5 +80,7 @@ where
     ensures write { IsErrOf result Halt.Write → Rose (K.write_faults out.old) (K.write_faults out.new) }
 {
     let said = hear_input(alloc, first, src)?;
-    write_said(alloc, said, out)
+    let mut written = Bytes::new(alloc);
+    let printed = said.print(alloc, &mut written);
+    send_printed(printed, written, out)
 }

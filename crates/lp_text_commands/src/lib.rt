@@ -10,7 +10,7 @@
 //! |---|---|---|
 //! | `read_text` | reads the text that a source gives, and writes what the command says of it | src/text |
 //! | `ExitStatus` | how a command ended | src/exit_status |
-//! | `Command`, `print` | a command: its `run` and its `write`; both, one after the other | src/command |
+//! | `Command`, `print` | a command: its `run` and its `write`; and what is written of a run | src/command |
 //! | `say`, `Output` | reads an input, and writes what is said of it, whatever says it | src/hearing |
 //! | `print_reply` | writes the line of a reply | src/reply |
 //! | `say_text`, `Said` | the same of a text, whose model is given to a command | src/said |

@@ -12,7 +12,7 @@ ghost use Rattle.lp_text_commands.specs.Said.{MayTake, TextOut};
 
 use crate::command::{Command, print};
 use crate::exit_status::ExitStatus;
-use crate::hearing::{Output, hear_input, write_said};
+use crate::hearing::{Output, hear_input, send_printed};
 use lp_base::{Bytes, Sink, Source};
 use lp_line::{Halt, Refusal, Reply, TextSaid};
 use lp_model::Model;
@@ -37,7 +37,8 @@ impl<C: Command<Given = Model> + Drop> Output for Said<C> {
         let Said { said, command } = self;
         match said {
             Ok(model) => {
-                let printed = print(alloc, &command, model.model(), to);
+                let made = command.run(alloc, model.model());
+                let printed = print(alloc, &command, model.model(), made, to);
                 drop(model);
                 printed?;
                 Ok(ExitStatus::DONE)
@@ -64,5 +65,7 @@ pub(crate) fn say_text<C: Command<Given = Model> + Drop, S: Source, K: Sink>(
     ensures write { IsErrOf result Halt.Write → Rose (K.write_faults out.old) (K.write_faults out.new) }
 {
     let said = hear_input(alloc, text, src)?;
-    write_said(alloc, Said { said, command }, out)
+    let mut written = Bytes::new(alloc);
+    let printed = Said { said, command }.print(alloc, &mut written);
+    send_printed(printed, written, out)
 }

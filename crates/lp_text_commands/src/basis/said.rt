@@ -12,7 +12,7 @@ use crate::basis::stage::{BasisSaid, BasisStage};
 use crate::basis::starting::Handed;
 use crate::command::{Command, print};
 use crate::exit_status::ExitStatus;
-use crate::hearing::{Output, hear_input, write_said};
+use crate::hearing::{Output, hear_input, send_printed};
 use lp_base::{Bytes, Sink, Source};
 use lp_line::Halt;
 use lp_mps::read::ReaderWithin;
@@ -38,7 +38,8 @@ impl<C: Command<Given = Handed> + Drop> Output for SaidWithBasis<C> {
         let SaidWithBasis { said, command } = self;
         match said {
             Ok(handed) => {
-                let printed = print(alloc, &command, &handed, to);
+                let made = command.run(alloc, &handed);
+                let printed = print(alloc, &command, &handed, made, to);
                 drop(handed);
                 printed?;
                 Ok(ExitStatus::DONE)
@@ -70,5 +71,7 @@ pub(crate) fn say_basis<C: Command<Given = Handed> + Drop, S: Source, K: Sink>(
 {
     let text = ReaderWithin::new(alloc, limits, style);
     let said = hear_input(alloc, BasisStage::Text(text), src)?;
-    write_said(alloc, SaidWithBasis { said, command }, out)
+    let mut written = Bytes::new(alloc);
+    let printed = SaidWithBasis { said, command }.print(alloc, &mut written);
+    send_printed(printed, written, out)
 }

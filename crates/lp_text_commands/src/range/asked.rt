@@ -10,9 +10,9 @@ ghost use Rattle.lp_line.specs.Stages.{TextSays};
 ghost use Rattle.lp_text_commands.specs.Prints.{Prints};
 ghost use Rattle.lp_text_commands.specs.Hearing.{Agrees, SaysSo};
 
-use crate::command::print;
+use crate::command::{Command, print};
 use crate::exit_status::ExitStatus;
-use crate::hearing::{Output, hear_input, write_said};
+use crate::hearing::{Output, hear_input, send_printed};
 use crate::range::RangeAt;
 use crate::range::named::{place_of, print_unknown};
 use lp_base::{Bytes, Sink, Source};
@@ -66,7 +66,9 @@ fn print_model(
 {
     match place_of(model, moved, name) {
         Some(at) => {
-            print(alloc, &RangeAt { moved, at }, model, to)?;
+            let command = RangeAt { moved, at };
+            let made = command.run(alloc, model);
+            print(alloc, &command, model, made, to)?;
             Ok(ExitStatus::DONE)
         }
         None => {
@@ -93,5 +95,7 @@ pub(crate) fn say_range<S: Source, K: Sink>(
     ensures write { IsErrOf result Halt.Write → Rose (K.write_faults out.old) (K.write_faults out.new) }
 {
     let said = hear_input(alloc, text, src)?;
-    write_said(alloc, RangeAsked { said, moved, name }, out)
+    let mut written = Bytes::new(alloc);
+    let printed = RangeAsked { said, moved, name }.print(alloc, &mut written);
+    send_printed(printed, written, out)
 }

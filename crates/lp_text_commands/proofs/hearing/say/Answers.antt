@@ -1,6 +1,6 @@
 -- What is written of what is said.
 use Rattle.std.proofs.lemmas.Result.{err_from_is_err_and}
-use Rattle.lp_text_commands.proofs.Saying.{says_nothing, says}
+use Rattle.lp_text_commands.proofs.Saying.{says_nothing, says, writes_sent}
 use Rattle.lp_text_commands.proofs.hearing.say.Goals as goal
 
 pub returns-in_err-said-clause-output : goal.returns-in_err-said-clause-output
@@ -15,4 +15,8 @@ pub returns-clause-output : goal.returns-clause-output
 returns-clause-output g c = λ tells agrees.
     says tells g.T.Said.Output.may_write g.T.Said.Output.code (g.S.Source.left c.args.src.now)
     (g.S.Source.left c.hear_input.new.src) (g.K.Sink.taken c.args.out.now) c.in_ok-said.said
-    (c.in_ok-said.ensures.output tells agrees) _ c.write_said.result c.write_said.ensures.output
+    (c.in_ok-said.ensures.output tells agrees) _ c.send_printed.result
+    (writes_sent (g.T.Said.Output.may_write c.in_ok-said.said) (g.T.Said.Output.code c.in_ok-said.said)
+    c.new-written.result c.print-printed.new.to c.new-written.ensures (g.K.Sink.taken c.args.out.now) _
+    c.print-printed.result c.print-printed.ensures.output c.print-printed.ensures.status _
+    c.send_printed.ensures.output)

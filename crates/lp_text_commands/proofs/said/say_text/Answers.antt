@@ -4,12 +4,12 @@ use Rattle.spec_model.specs.Kept.{IsUsualModel}
 use Rattle.spec_server.specs.TextSaid.{text_said}
 use Rattle.spec_commands.specs.SolveOut.{solve_code}
 use Rattle.lp_text_commands.specs.Said.{TextOut}
-use Rattle.lp_text_commands.proofs.Saying.{says_nothing, says}
+use Rattle.lp_text_commands.proofs.Saying.{says_nothing, says, writes_sent}
 use Rattle.lp_text_commands.proofs.SpelledKept.{heard_kept, may_take, start_agrees}
 use Rattle.lp_text_commands.proofs.said.say_text.Goals as goal
 
-pub write_said-requires : goal.write_said-requires
-write_said-requires g c =
+pub print-printed-requires : goal.print-printed-requires
+print-printed-requires g c =
     may_take IsUsualModel (g.C.Command.takes c.args.command) c.in_ok-said.said c.requires.takes
     (heard_kept c.args.text.style (g.S.Source.left c.args.src.now) (g.S.Source.left c.hear_input.new.src)
     c.in_ok-said.said
@@ -31,4 +31,8 @@ returns-clause-output g c =
     (g.S.Source.left c.args.src.now) (g.S.Source.left c.hear_input.new.src) (g.K.Sink.taken c.args.out.now)
     c.in_ok-said.said
     (c.in_ok-said.ensures.output (text_said c.args.text.style)
-    (start_agrees c.args.text c.requires.state c.requires.lines)) _ c.write_said.result c.write_said.ensures.output
+    (start_agrees c.args.text c.requires.state c.requires.lines)) _ c.send_printed.result
+    (writes_sent (TextOut (g.C.Command.may_write c.args.command) c.in_ok-said.said) (solve_code c.in_ok-said.said)
+    c.new-written.result c.print-printed.new.to c.new-written.ensures (g.K.Sink.taken c.args.out.now) _
+    c.print-printed.result c.print-printed.ensures.output c.print-printed.ensures.status _
+    c.send_printed.ensures.output)
