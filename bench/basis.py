@@ -140,7 +140,8 @@ def counts(solver, colds, warms):
     said = f"From the bases of `{solver}`, `lpd basis` answers {sum(known)} of {len(warms)} models. The cold solve answers"
     said += f" {sum(cold.is_known() for cold in colds)}. Of the {len(refused)} that the cold solve refuses, `lpd basis` answers {len(won)}."
     others = sum(warm.is_known() and warm.start.endswith(REORDERED) for warm in won)
-    said += f" It answers {others} of these with the rows and columns in another order." if others else ""
+    which = "this answer" if len(won) == 1 else f"{others} of these answers"
+    said += f" For {which} the rows and columns were put in another order." if others else ""
     at_once = sum(warm.start.startswith("WARM") and warm.pivots == "0" for warm in warms)
     whys = [warm.start.split()[1].rstrip(",") for warm in warms if warm.start.startswith("FELL")]
     reasons = ", ".join(f"{whys.count(why)} {why}" for why in dict.fromkeys(whys))

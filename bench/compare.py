@@ -167,20 +167,20 @@ def summary(all_measured, others):
     answered = [mine for mine in all_measured if mine.answer[0] in ANSWERS]
     for other in others:
         for scope, found in [
-            ("an answered model", [m for m in answered if other.name in m.ratios]),
-            ("one of more than 20 ms", [m for m in answered if other.name in m.ratios and m.spent > 0.02]),
+            ("the answered models", [m for m in answered if other.name in m.ratios]),
+            ("those that take lpd more than 20 ms", [m for m in answered if other.name in m.ratios and m.spent > 0.02]),
         ]:
             if found:
                 worst = max(found, key=lambda m: m.ratios[other.name])
-                yield f"- lpd / {other.name}, at the most on {scope}: {worst.ratios[other.name]:.2f} ({worst.name})"
+                yield f"- the largest ratio lpd / {other.name}, over {scope}: {worst.ratios[other.name]:.2f} ({worst.name})"
     for scope, found in [
-        ("that fit 63 bits", [m for m in answered if m.bits and m.bits <= 63 and m.each(m.nonzeros)]),
-        ("of which some are longer", [m for m in answered if m.bits and m.bits > 63 and m.each(m.nonzeros)]),
+        ("whose numbers fit 63 bits", [m for m in answered if m.bits and m.bits <= 63 and m.each(m.nonzeros)]),
+        ("with longer numbers", [m for m in answered if m.bits and m.bits > 63 and m.each(m.nonzeros)]),
     ]:
         if found:
             worst = max(found, key=lambda m: m.each(m.nonzeros))
             spent = worst.each(worst.nonzeros) * 1e9
-            yield f"- ns for a non-zero, at the most on numbers {scope}: {spent:.0f} ({worst.name})"
+            yield f"- the most ns for an entry that is not 0, over the answered models {scope}: {spent:.0f} ({worst.name})"
 
 
 def since(all_measured):

@@ -148,7 +148,7 @@ class Ran(NamedTuple):
 
 
 # A small process that runs a command and puts down what that took: of a child of its own a process sees at least the memory that it
-# has itself, which here is 10 MB.
+# has itself, which here is some 8 MB.
 WATCHER = """
 import os, sys
 told = os.open(sys.argv[1], os.O_WRONLY)

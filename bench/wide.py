@@ -129,7 +129,7 @@ def beside(found):
         more = [f"`{name}`" for ratio, name in long if ratio > 2]
         names = f" ({', '.join(more)})" if more else ""
         yield f"On the {len(long)} models for which `esolver` takes 0.2 s or more, the solve takes at most {worst:.2f} times as long (`{name}`)."
-        yield f"On {len(more)} of these{names} it takes more than twice as long."
+        yield f"The solve takes more than twice as long as `esolver` on {len(more) or 'none'} of these models{names}."
 
 
 def summed_up(found, seconds):

@@ -110,9 +110,9 @@ QUESTIONS = [
     ("`UP` with 1e30", changed("UP BND x 3", "UP BND x 1e30"), False, {"4": "yes"}),
     ("two numbers of one row in a column", changed("y cost 2", "y cost 1 cost 1"), False, {"5": "the sum", "4": "one of them"}),
     ("a second `N` row with a right side", with_free_row(), False, READS),
-    ("two numbers of such a row in a column", with_free_row(number=" y other 1 other 2\n"), False, READS),
-    ("two right sides of such a row", with_free_row("BOUNDS", " RHS other 4\nBOUNDS"), False, READS),
-    ("a range of such a row", with_free_row("BOUNDS", "RANGES\n RNG other 2\nBOUNDS"), False, READS),
+    ("two numbers of a second `N` row in a column", with_free_row(number=" y other 1 other 2\n"), False, READS),
+    ("two right sides of a second `N` row", with_free_row("BOUNDS", " RHS other 4\nBOUNDS"), False, READS),
+    ("a range of a second `N` row", with_free_row("BOUNDS", "RANGES\n RNG other 2\nBOUNDS"), False, READS),
     ("`BOUNDS` before `RHS`", BOUNDS_FIRST, False, READS),
     ("the upper bound of whole-number columns without bounds", WHOLE, False, {"4": "none", "7": "1"}),
 ]
