@@ -76,7 +76,7 @@ turns_grow (Done k xs) ws us t =
           (λ (n : j ≡ k → ⊥). let p = t.others j n in omega arith) (cases_eq j k);
     }
 
--- the same, from words that are alike
+-- a read that turns some words into others turns words alike to them into those others
 turns_from : (vs ws us : List ℕ) (r : RawRead) → IsLike vs ws → Turns r ws us → Turns r vs us
 turns_from vs ws us (Count c) a t = like_on vs ws us a t
 turns_from vs ws us (Open k) a t = like_on vs ws us a t
@@ -384,7 +384,7 @@ hush ws us vs id v w r at more less had on =
       record { notes = notes_none v.moments v.moments refl; were_true = all },
     )
 
--- the same reads
+-- what is noted of reads is noted alike of equal reads
 pub same_notes : (ms : List Moment) (rs qs : List RawRead) → qs ≡ rs → (n : Note) → Has (notes ms qs) n →
     HadAlike (notes ms rs) n
 same_notes ms rs qs e n h = (n.read, subst (λ l. Has (notes ms l) n) e h, λ ws us t. t)

@@ -76,7 +76,7 @@ noted v r = record v { reads = r ∷ v.reads }
 abbrev pub claiming : View → ℕ → View
 claiming v k = record v { held = Some (k, []); reads = Claim k ∷ v.reads }
 
--- the held place with one stored word more
+-- a held place, with its stored words and then this one; where no place is held, none
 abbrev pub grown_held : Option (ℕ × List ℕ) → ℕ → Option (ℕ × List ℕ)
 grown_held None b = None
 grown_held (Some p) b = Some (p.0, p.1 ++ b ∷ [])

@@ -49,7 +49,7 @@ Puts v xs (Published k) w = IsPublished v xs k w
 Puts v xs (Full c) w = IsFull v c w
 Puts v xs (Raced e) w = IsRaced v e w
 
--- what was seen of place k before has the same first words
+-- words that were seen of a place, if it is place k, are the words xs as far as both go
 abbrev pub AgreesWith : ℕ → List ℕ → ℕ × List ℕ → Type 0
 AgreesWith k xs p = p.0 ≡ k → (i : ℕ) → i < length xs → i < length p.1 → slice_index p.1 i ≡ slice_index xs i
 

@@ -29,13 +29,13 @@ ghost use Rattle.basis_board.specs.Spelled.{Changes, AreSpelled, StepsAreReads};
 ghost use Rattle.basis_board.specs.Noted.{AnyKindIsAnswered};
 ghost use Rattle.basis_board.specs.Played.{WholeLogsArePlayed};
 
-/// A look of a pass reads one look.
+/// Where a pass looks on the board, its reads grow by this look alone.
 pub fn looks_are_read()
     ensures { (shape : Words) (before after : View) (look : Look) →
         Looks shape before look after → AddsLook shape look before after }
 {}
 
-/// A publication of a pass reads one put.
+/// Where a pass publishes on the board, its reads grow by this put alone.
 pub fn puts_are_read()
     ensures { (words : Words) (before after : View) (put : Put) →
         Puts before words put after → AddsPut words put before after }

@@ -55,7 +55,8 @@ impl TableRule<u8, Sight, u64> for BoardRule {
     ghost first = { first_sight };
 }
 
-/// A pass of a board, which claims no place between calls. It takes no bytes.
+/// The right of a worker to look at a board and to publish on it, with what was seen so far. It claims no place between
+/// calls, and takes no bytes.
 #[derive(Drop)]
 pub struct Pass {
     pub(crate) seat: Seat<u8, Sight>,

@@ -56,7 +56,7 @@ has_pending (WhatBecameOf pending) words step a = record {
   step_so = refl;
 }
 
--- it is pending, at a stage of which that agrees with what is awaited
+-- where a stage is equal to one with pending words that agrees with what is awaited, its step has these words pending
 at_stage : (st put : Stage) (aw : Awaits) (words : Words) (step : Pending → Step) → st ≡ put → Agrees st aw →
     (Agrees put aw → HasPending aw words step (step_of put aw)) → HasPending aw words step (step_of st aw)
 at_stage st put aw words step e a here =

@@ -74,7 +74,7 @@ pub record Kept : Type 0 where
   pub state : State
   pub step : Step
 
--- a session that has just opened
+-- what the code keeps of a session that has just opened: the opening state, and no step under way
 abbrev pub opening_kept : Kept
 opening_kept = record { state = opening; step = Idle }
 

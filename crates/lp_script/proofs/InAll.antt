@@ -164,7 +164,7 @@ module _ {C : Type 0} (is_ready : C → Part → Type 0) (shared : C) (board : B
       all : length old ≡ n
       all = sym (length-map old (λ (w : Worker Part). w.job)) ∙ ap length are ∙ many
 
--- the first of some workers
+-- the first worker of a list that is not empty
 first_of : (workers : List (Worker Part)) → 0 < length workers → Worker Part
 first_of [] l = absurd (omega (arith, l))
 first_of (w ∷ workers) l = w

@@ -33,6 +33,7 @@ use Rattle.lp_script.proofs.ExchangesSoFar.{IsSoFar, goes_on}
 
 -- ---- scripts by their length
 
+-- the ended asks of a script are those of the ended lines among its bytes, up to the limit of an input
 ended_asks : (read : List ℕ) →
     ended_asks_of Numbered read ≡ asks_from Numbered Between (ended_lines_of (take input_limit read))
 unfolding ended_asks_of
@@ -40,7 +41,7 @@ ended_asks read = refl
 
 -- ---- what was written
 
--- it is a prefix of the output of more exchanges
+-- a prefix of the output of exchanges is one of the output of these and others
 front_of : (written : List ℕ) (exchanges others : List Exchange) → IsPrefixOf written (script_out exchanges) →
     IsPrefixOf written (script_out (exchanges ++ others))
 front_of written exchanges others front = (

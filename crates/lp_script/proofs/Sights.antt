@@ -120,6 +120,7 @@ module _ (v u : View) (now : Consistent v) (order : AreInOrder v.reads) (later :
       ((λ session. (all ∙ sym (length-map done place.Done), refl)), tt)
 
 -- ---- a look
+
 -- what was read more changes nothing
 pub record Sees (v w : View) : Type 0 where
   pub more : List RawRead

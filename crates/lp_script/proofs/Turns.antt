@@ -47,6 +47,7 @@ pub record Turn (places : ℕ) (left_before left_now taken_before taken_now : Op
   pub places_stay : sessions.sharing.places ≡ places
   pub written : Appends taken_before taken_now (script_out exchanges)
 
+-- of n sessions that have just opened, each one's state is the opening one
 state-replicate : (n session : ℕ) → slice_index_or (replicate n opening) session opening ≡ opening
 state-replicate zero session = refl
 state-replicate (suc n) zero = refl
@@ -186,7 +187,7 @@ module _ {places : ℕ} {left_before left_now taken_before taken_now : Option (L
       (subst (λ (ls : List (Line (List ℕ))). ReadsPart left_before left_after ls ⊎ ReadsAll left_before left_after ls)
       (sym (append-nil lines)) (stops_now (ReadsLines-append t.reads k.reads)))
 
--- the same of what was taken
+-- a next ask that is taken with one outcome is taken with an equal one
 pub takes_as : (before after : Option (List ℕ)) (old new : LinesState) (taken is : NextAsk) → taken ≡ is →
     TakesNext Numbered before after old new taken → TakesNext Numbered before after old new is
 takes_as before after old new taken is same k =

@@ -15,11 +15,11 @@ use Rattle.lp_serve.specs.Service.{Steps}
 use Rattle.lp_serve.specs.Serving.{Served, Listened}
 use Rattle.lp_serve.specs.declared.desk.Desk.{Desk}
 
--- the listeners of desks, in their order
+-- the listeners of desks, in their order; a desk is what a worker has of a server
 abbrev pub nets_of : {N : Type 0} → List (Desk N) → List N
 nets_of {N} desks = map (λ (desk : Desk N). desk.net) desks
 
--- how its links ended
+-- how the links of a desk ended
 abbrev pub ends_in : {N : Type 0} → Desk N → List LinkEnd
 ends_in desk = desk.ends.items
 

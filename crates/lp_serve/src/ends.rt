@@ -57,7 +57,8 @@ fn print_ends(
     Ok(())
 }
 
-// The lines of the links of all desks.
+// How the links of all desks ended, where a desk is what one worker has of the server: a line for each link, with the
+// numbers of its worker and of the link.
 fn ends_text<N>(alloc: Global, desks: &[Desk<N>]) -> Result<Bytes, AllocError>
     ensures { IfOk result (λ text. text ≡ serve_out (map ends_in desks.now)) }
 {

@@ -33,6 +33,8 @@ use Rattle.lp_session.specs.declared.awaited.Awaited.TheVariants as awaited
 use Rattle.lp_session.specs.Parts.{FitsForm, BeginsSo, WorksSo, PublishesSo, pending_of, awaits_of, AwaitedFits}
 
 -- ---- a look
+
+-- a look leaves the board with as many places as it had
 places_kept : (shape : Words) (v w : View) (look : Look) → Looks shape v look w → w.places ≡ v.places
 places_kept shape v w (NoneReady c) d = ap (λ (x : View). x.places) d.view
 places_kept shape v w (Found k xs) f =
@@ -52,6 +54,8 @@ found_fits_form f shape v w look found is called told =
     (look_fits shape v w look called))
 
 -- ---- the reads of a look and a put
+
+-- where reads grow by some and then by others, they grow by both in that order
 reads_both : (xs made both ys zs : List ExactRead) → ys ≡ xs ++ made → zs ≡ ys ++ both → zs ≡ xs ++ (made ++ both)
 reads_both xs made both ys zs e f = f ∙ ap (λ rs. rs ++ both) e ∙ append_assoc xs made both
 

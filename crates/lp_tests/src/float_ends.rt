@@ -41,7 +41,7 @@ fn ends(
     has_answer(alloc, &model, end, wanted)
 }
 
-// Whether a short run from these statuses does.
+// Whether a short run in floats from these statuses ends at a basis with this answer.
 fn ends_near(
     alloc: Global,
     text: &str,

@@ -3,7 +3,7 @@ use lp_base::are_same;
 use lp_numtext::{WideFault, read_wide, wide_text};
 use std::alloc::Global;
 
-// A text is read as a number that is written so.
+// Whether a text is read as a number whose text is `wanted`.
 fn is_written(alloc: Global, text: &[u8], wanted: &[u8]) -> bool {
     let Ok(v) = read_wide(alloc, text) else {
         return false;

@@ -2,7 +2,7 @@
 --
 -- `text_done`: a command whose output was written whole tells so by its status.
 -- `text_halted`: a command that was halted tells by its status what halted it.
--- `does_as`: a command line that equals another one does the same.
+-- `does_as`: what a command line does, with its status, each command line equal to it does.
 use Rattle.std.proofs.Common.{◌≡◌, ◌⊎◌, ℕ, List, [], Option, Some, None, Ok, Err, arith, refl, sym, inl, inr, subst}
 use Rattle.std.specs.Io.KnownBytes.{Consumes}
 use denote.Ref.{Bor}

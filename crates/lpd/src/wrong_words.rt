@@ -105,7 +105,8 @@ fn line_of(alloc: Global, command: Head) -> Result<String, AllocError> {
     Ok(line)
 }
 
-// An option behind a blank; a switch has no value.
+// An option as a line of the usage shows it, behind a blank: ` [--NAME VALUE]`, or ` [--NAME]` for a switch, whose
+// value is empty.
 fn option_of(alloc: Global, name: &str, value: &str) -> Result<String, AllocError> {
     if value == "" {
         return format!(in alloc; " [--{name}]");

@@ -31,7 +31,7 @@ line_of : (is : ExactReply) (text : List ℕ) → wide_check_line is ≡ text ++
 unfolding wide_check_line
 line_of is text e = same_end (wide_reply_text is) text e
 
--- it is a yes with a value, or its text is that of all replies
+-- a reply is a yes with a value, or its wide text is its text
 pub valued_or_same : (is : ExactReply) →
     ((v : ℚ) × (is ≡ yes_to (known.Optimal v))) ⊎ (wide_reply_text is ≡ reply_text is)
 valued_or_same (reply.Loaded rows columns) = inr refl

@@ -17,7 +17,7 @@ ended_text = unended_text ++ 10 ∷ []
 abbrev pub too_wide_range : List ℕ
 too_wide_range = ended_lines (codes "OPTIMAL 5" ∷ codes "RANGE NONE NONE SLOPE 0" ∷ [])
 
--- the same in a list, behind the range that it has
+-- a list with two ranges of that row: the one that it has, and then one as if 0 were at most each number
 abbrev pub too_wide_ranges : List ℕ
 too_wide_ranges =
     ended_lines (codes "OPTIMAL 5" ∷ codes "rhs ROW RANGE 0 NONE SLOPE 0" ∷ codes "rhs ROW RANGE NONE NONE SLOPE 0" ∷ [])

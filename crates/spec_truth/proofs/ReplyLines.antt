@@ -34,7 +34,7 @@ yes_to what = reply.Checked (verdict.Yes what)
 
 -- ---- by their first bytes
 
--- it begins as OPTIMAL, INFEASIBLE or UNBOUNDED
+-- whether bytes begin as OPTIMAL, INFEASIBLE or UNBOUNDED do
 abbrev pub looks_known : List ℕ → Bool
 looks_known bytes = (first bytes == 73) || (first bytes == 85) || ((first bytes == 79) && (get_or bytes 1 0 == 80))
 
@@ -61,7 +61,7 @@ known_reply reply.Bye h = not_so h
 known_reply reply.Memory h = not_so h
 known_reply (reply.Refused why) h = not_so h
 
--- it begins as YES
+-- whether bytes begin as YES does
 abbrev pub looks_yes : List ℕ → Bool
 looks_yes bytes = first bytes == 89
 
@@ -85,7 +85,7 @@ yes_reply reply.Bye h = not_so h
 yes_reply reply.Memory h = not_so h
 yes_reply (reply.Refused why) h = not_so h
 
--- it begins as WIDE
+-- whether bytes begin as WIDE does
 abbrev looks_wide : List ℕ → Bool
 looks_wide bytes = first bytes == 87
 

@@ -98,8 +98,8 @@ pub fn wide_answers_are_true_of_the_model_then()
         × (line ≡ wide_known_text what) × Holds m what) }
 {}
 
-/// In each run of sessions, the text of a reply alone says what is true of the model that the session has then, as an
-/// answer or behind the word YES. After the word OPTIMAL stands the text of the optimal value.
+/// What the text of a reply says is true of the session's model at that point of each run of sessions, whether it is an
+/// answer or follows the word YES. After the word OPTIMAL stands the text of the optimal value.
 pub fn reply_texts_are_true_of_the_model_then()
     ensures optimal { (places : ℕ) (before behind : List Exchange) (x : Exchange) (text : List ℕ) →
         RunAlone places (before ++ x ∷ behind) → Says x.reply (codes "OPTIMAL " ++ text) →

@@ -9,8 +9,8 @@ use Rattle.spec_world.specs.World.{Server, ExactAct, ExactEvent, Idle, World, Wo
 abbrev pub by_session : ℕ → ExactAct → ExactEvent
 by_session session a = record { session = session; act = a }
 
--- Its session is asked, and does what it has to, while no other does anything, until this exchange is the last that has
--- ended.
+-- The session of an exchange is asked, and does what it has to, while no other session does anything, until this
+-- exchange is the last that has ended.
 pub record AskRuns (server : Server) (old : World) (x : Exchange) (new : World) : Type 0 where
   pub acts : List ExactAct
   pub run : WorldRun server old (map (by_session x.session) (act.Ask x.ask ∷ acts)) new
