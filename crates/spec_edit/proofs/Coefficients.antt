@@ -23,11 +23,13 @@ none_at k [] h = refl
 none_at k (e ∷ es) h =
     rw (ne_eqb e.0 k (All-head (λ e. e.0 ≢ k) e es h)) (none_at k es (All-tail (λ e. e.0 ≢ k) e es h))
 
+-- entries at other rows, put in front, leave the coefficient in row k
 behind_others : (k : ℕ) (xs ys : List (ℕ × ℚ)) → All (λ e. e.0 ≢ k) xs → entry_of (xs ++ ys) k ≡ entry_of ys k
 behind_others k [] ys h = refl
 behind_others k (e ∷ xs) ys h =
     rw (ne_eqb e.0 k (All-head (λ e. e.0 ≢ k) e xs h)) (behind_others k xs ys (All-tail (λ e. e.0 ≢ k) e xs h))
 
+-- entries at other rows, put behind, leave the coefficient in row k
 before_others : (k : ℕ) (xs ys : List (ℕ × ℚ)) → All (λ e. e.0 ≢ k) ys → entry_of (xs ++ ys) k ≡ entry_of xs k
 before_others k [] ys h = none_at k ys h
 before_others k (e ∷ xs) ys h = ap (cond (eqb e.0 k) e.1) (before_others k xs ys h)
@@ -48,6 +50,7 @@ passes_at p k h (e ∷ es) = by (p e.0) refl (passes_at p k h es)
 
 -- ---- an entry that is put
 
+-- the entry v in row i, or none where v is 0, gives v in row i
 entry_if-own : (i : ℕ) (v : ℚ) → entry_of (entry_if i v) i ≡ v
 entry_if-own i v = by (eq_ℚ v 0ℚ) refl
   where
@@ -104,6 +107,7 @@ entry_of-with_entry i v es k = ⊎_elim at (⊎_elim lower higher) (cases_order 
 
 -- ---- a row that is gone
 
+-- the tests of two equations agree where each equation follows from the other
 same_tests : (a b c d : ℕ) → (a ≡ b → c ≡ d) → (c ≡ d → a ≡ b) → eqb a b ≡ eqb c d
 same_tests a b c d f g = by (eqb a b) refl
   where
@@ -111,6 +115,7 @@ same_tests a b c d f g = by (eqb a b) refl
     by true e = sym (eq-eqb c d (f (eqb-true a b e)))
     by false e = sym (ne_eqb c d (λ q. eqb-false a b e (g q)))
 
+-- what has a number once number i is removed had an old number other than i
 skipping-other : (i k : ℕ) → i ≢ skipping i k
 skipping-other i k = by (ltb k i) refl
   where
@@ -118,6 +123,7 @@ skipping-other i k = by (ltb k i) refl
     by true e q = let l : k < i = ltb-true k i e in absurd (omega arith)
     by false e q = let l : i ≤ k = ltb-false k i e in absurd (omega arith)
 
+-- once number i is removed, another number a becomes k just where a is the old number of k
 renumbered-skipping : (i a k : ℕ) → a ≢ i → eqb (renumbered i a) k ≡ eqb a (skipping i k)
 renumbered-skipping i a k n = by (ltb i a) (ltb k i) refl refl
   where

@@ -11,14 +11,17 @@ use Rattle.spec_edit.specs.Meaning.{adds_or_removes, KeepsNames}
 use Rattle.spec_edit.proofs.NameLemmas.{row_names-changed, column_names-changed}
 use Rattle.spec_edit.proofs.Searches.{same_ok, at_column, at_entry, right_side-ok, range-ok}
 
+-- a change of one row that leaves the row's name leaves all names of the model
 at_a_row : (m : Model) (i : ℕ) (change : ExactRow → ExactRow) → i < height m →
     (change (row m i)).name ≡ (row m i).name → KeepsNames m (changed_row change m i)
 at_a_row m i change l e = record { objective = refl; rows = row_names-changed m i change l e; columns = refl }
 
+-- a change of one column that leaves the column's name leaves all names of the model
 at_a_column : (m : Model) (j : ℕ) (change : ExactColumn → ExactColumn) → j < width m →
     (change (column m j)).name ≡ (column m j).name → KeepsNames m (changed_column change m j)
 at_a_column m j change l e = record { objective = refl; rows = refl; columns = column_names-changed m j change l e }
 
+-- a new right side of a row or of the objective leaves all names of the model
 right_side-names : (m n : Model) (name : Name) (v : ℚ) → with_right_side m name v ≡ Ok n → KeepsNames m n
 right_side-names m n name v h =
     ⊎_elim
@@ -26,6 +29,7 @@ right_side-names m n name v h =
     (λ s. subst (KeepsNames m) s.model (at_a_row m s.place (λ (r : ExactRow). record r { rhs = v }) s.inside refl))
     (right_side-ok m n name v h)
 
+-- an accepted edit that adds or removes no row and no column leaves all names
 pub edited-names : (m n : Model) (e : ExactEdit) → adds_or_removes e ≡ false → edited m e ≡ Ok n → KeepsNames m n
 unfolding edited
 edited-names m n (AddRow name kind rhs range) other h = absurd (cc)

@@ -19,6 +19,7 @@ use Rattle.spec_edit.proofs.Keeping.{with_cost-kept, with_coefficient-kept, with
 use Rattle.spec_edit.proofs.Keeping.{with_range-kept, with_offset-kept, with_sense-kept}
 use Rattle.spec_edit.proofs.NewColumns.{new_column-kept}
 
+-- a new row of numbers of 127 bits that is not refused keeps a model within the usual limits
 new_row-kept : (m n : Model) (r : ExactRow) → IsModelWithin usual_limits m → IsNarrowRow r → new_row m r ≡ Ok n →
     IsModelWithin usual_limits n
 unfolding new_row
@@ -31,6 +32,7 @@ new_row-kept m n r k narrow h =
     (with_row-kept m r k (leb-false row_limit (height m) c.0) (not-false (is_row_name r.name) a.0) b.0
     (fits r.kind r.range d.0) narrow)
 
+-- a new right side of 127 bits that is not refused keeps a model within the usual limits
 right_side-kept : (m n : Model) (name : Name) (v : ℚ) → IsModelWithin usual_limits m → IsNarrow v →
     with_right_side m name v ≡ Ok n →
     IsModelWithin usual_limits n
@@ -40,6 +42,7 @@ right_side-kept m n name v k narrow h =
     (λ s. subst (IsModelWithin usual_limits) s.model (with_rhs-kept m s.place v k s.inside narrow))
     (right_side-ok m n name v h)
 
+-- an edit of kept numbers that is not refused keeps a model within the usual limits
 pub edited-kept : (m n : Model) (e : ExactEdit) → IsModelWithin usual_limits m → IsKeptEdit e → edited m e ≡ Ok n →
     IsModelWithin usual_limits n
 unfolding edited

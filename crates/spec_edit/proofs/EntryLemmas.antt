@@ -22,7 +22,7 @@ use Rattle.spec_model.specs.Kept.{AreEntries}
 use Rattle.spec_model.proofs.Pairs.{AllPairs-weaker, AllPairs-map, AllPairs-append}
 use Rattle.spec_edit.specs.Changes.{entry_if, with_entry, renumbered, without_entry}
 
--- entries below a row, and then such from it on
+-- entries in order below row i, then entries in order from it on, are in order
 joined : (n i : ℕ) (xs ys : List (ℕ × ℚ)) → AreEntries n xs → AreEntries n ys → All (λ e. e.0 < i) xs →
     All (λ e. i ≤ e.0) ys → AreEntries n (xs ++ ys)
 joined n i xs ys h k below above =
@@ -35,6 +35,7 @@ joined n i xs ys h k below above =
       not_zero = All-append (λ e. e.1 ≢ 0ℚ) xs ys h.not_zero k.not_zero;
     }
 
+-- entries in order stay in order where a test takes some of them out
 filtered : (n : ℕ) (p : ℕ × ℚ → Bool) (es : List (ℕ × ℚ)) → AreEntries n es → AreEntries n (filter p es)
 filtered n p es h =
     record {
@@ -45,6 +46,7 @@ filtered n p es h =
 
 -- ---- an entry that is put
 
+-- two fractions that the test finds different are different
 differs : (v w : ℚ) → eq_ℚ v w ≡ false → v ≢ w
 differs v w e g = let h : eq_ℚ v w ≡ true = eq_test v w g in cc
 
@@ -65,6 +67,7 @@ entry_if-row i v = by (eq_ℚ v 0ℚ)
     by true = All-nil (λ e. e.0 ≡ i)
     by false = All-cons (λ e. e.0 ≡ i) (i, v) [] refl (All-nil (λ e. e.0 ≡ i))
 
+-- the entry v in row i, or none where v is 0, is in order where i exists
 entry_if-kept : (n i : ℕ) (v : ℚ) → i < n → AreEntries n (entry_if i v)
 entry_if-kept n i v l = by (eq_ℚ v 0ℚ) refl
   where
@@ -103,6 +106,7 @@ with_entry-kept n i v es h l =
     here : (P : ℕ → Type 0) → P i → All (λ e. P e.0) (entry_if i v)
     here P p = All-weaker (λ e. e.0 ≡ i) (λ e. P e.0) (λ e q. subst P (sym q) p) (entry_if i v) (entry_if-row i v)
 
+-- the entry v in row i, or none where v is 0, has 127 bits where v has them
 entry_if-narrow : (i : ℕ) (v : ℚ) → IsNarrow v → All (λ e. IsNarrow e.1) (entry_if i v)
 entry_if-narrow i v h = by (eq_ℚ v 0ℚ)
   where
@@ -121,6 +125,7 @@ with_entry-narrow i v es h k =
 
 -- ---- a row that is gone
 
+-- once row i of n rows is removed, another row's number is below n - 1
 renumbered-< : (n i k : ℕ) → k < n → k ≢ i → i < n → renumbered i k < n - 1
 renumbered-< n i k l ne m = by (ltb i k) refl
   where
@@ -128,6 +133,7 @@ renumbered-< n i k l ne m = by (ltb i k) refl
     by true e = let f : i < k = ltb-true i k e in omega arith
     by false e = let f : k ≤ i = ltb-false i k e in omega arith
 
+-- once row i is removed, two other rows keep their order
 renumbered-mono : (i j k : ℕ) → j ≢ i → k ≢ i → j < k → renumbered i j < renumbered i k
 renumbered-mono i j k p q l = by (ltb i j) (ltb i k) refl refl
   where

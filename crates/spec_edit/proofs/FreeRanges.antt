@@ -13,7 +13,7 @@ use Rattle.spec_edit.specs.declared.edit.EditFault.TheVariants.{FreeRow}
 use Rattle.spec_edit.specs.Changes.{with_range}
 use Rattle.spec_edit.specs.Edited.{OrFault, ◌>>=◌, known, is_ranged_free, with_new_range, edited}
 
--- what a new range of the row with a name makes
+-- a new range is refused for a free row, and else set at its row
 at_place : (m : Model) (name : Name) (i : ℕ) (range : Option ℚ) → row_place m name ≡ Some i →
     edited m (SetRange name range)
     ≡ cond {A = OrFault Model} (is_ranged_free (row m i).kind range) (Err (FreeRow name)) (Ok (with_range m i range))
@@ -28,6 +28,7 @@ range_refused m name i v e free =
     at_place m name i (Some v) e
     ∙ ap (λ t. cond {A = OrFault Model} t (Err (FreeRow name)) (Ok (with_range m i (Some v)))) free
 
+-- a free row whose range fits its kind stays as it is where its range is taken away
 without_range : (r : ExactRow) → FitsKind r.kind r.range → is_free r.kind ≡ true → record r { range = None } ≡ r
 without_range r fits free = by r.range refl fits
   where

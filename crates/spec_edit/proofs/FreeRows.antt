@@ -25,6 +25,7 @@ skipping_below i a h = rw (lt-ltb a i h) refl
 pub skipping_from : (i a : ℕ) → i ≤ a → skipping i a ≡ a + 1
 skipping_from i a h = rw (le-ltb a i h) refl
 
+-- each number is between the limits of a free row
 free_between : (kind : Kind) (b : ℚ) (range : Option ℚ) (v : ℚ) → is_free kind ≡ true → IsBetween (limits_by kind b range) v
 free_between L b range v e = absurd (cc)
 free_between G b range v e = absurd (cc)

@@ -52,7 +52,7 @@ Distinct = AllPairs (λ x y. x ≢ y)
 
 -- ---- other rows or columns
 
--- other rows that fit the columns, another sense and another offset
+-- a kept model may be kept with other rows that fit it, another sense and offset
 other_rows-kept : {limits : SizeLimits} (m : Model) (sense : Sense) (offset : ℚ) (rows : List ExactRow) →
     IsModelWithin limits m → IsNarrow offset →
     length rows ≤ limits.rows → All (λ r. IsTrue (is_row_name r.name)) rows → All HasFitRange rows →
@@ -73,6 +73,7 @@ other_rows-kept m sense offset rows k narrow few named ranges fit distinct narro
       narrow_columns = k.narrow_columns;
     }
 
+-- a kept model may be kept with other columns that fit it
 other_columns-kept : {limits : SizeLimits} (m : Model) (columns : List ExactColumn) → IsModelWithin limits m →
     length columns ≤ limits.columns →
     All (IsKeptColumn (height m)) columns → Distinct (map name_of_column columns) → All IsNarrowColumn columns →
@@ -126,10 +127,12 @@ with_column-kept m c k few new kept narrow =
 abbrev pub lowered : ℕ → ExactColumn → ExactColumn
 lowered i c = record c { entries = without_entry i c.entries }
 
+-- a column that may be kept may be kept without one of its rows
 lowered-kept : (n i : ℕ) → i < n → (c : ExactColumn) → IsKeptColumn n c → IsKeptColumn (n - 1) (lowered i c)
 lowered-kept n i l c k =
     record { name = k.name; lower = k.lower; upper = k.upper; entries = without_entry-kept n i c.entries k.entries l }
 
+-- a column of numbers of 127 bits stays one without one of its rows
 lowered-narrow : (i : ℕ) (c : ExactColumn) → IsNarrowColumn c → IsNarrowColumn (lowered i c)
 lowered-narrow i c k =
     record { cost = k.cost; lower = k.lower; upper = k.upper; entries = without_entry-narrow i c.entries k.entries }
@@ -180,6 +183,7 @@ without_column-kept m j k l =
 
 -- ---- a row or a column that is changed
 
+-- a kept model may be kept where one row changes to a fitting one of its name
 changed_row-kept : {limits : SizeLimits} (m : Model) (i : ℕ) (change : ExactRow → ExactRow) →
     IsModelWithin limits m → i < height m →
     (change (row m i)).name ≡ (row m i).name → HasFitRange (change (row m i)) → IsNarrowRow (change (row m i)) →
@@ -194,6 +198,7 @@ changed_row-kept m i change k l named fit narrow =
     (subst (λ names. Distinct (m.objective ∷ names)) (sym (row_names-changed m i change l named)) k.rows_distinct)
     (All-set IsNarrowRow m.rows i (change (row m i)) narrow k.narrow_rows)
 
+-- a kept model may be kept where one column changes to a fitting one of its name
 changed_column-kept : {limits : SizeLimits} (m : Model) (j : ℕ) (change : ExactColumn → ExactColumn) →
     IsModelWithin limits m → j < width m →
     (change (column m j)).name ≡ (column m j).name → IsKeptColumn (height m) (change (column m j)) →
@@ -262,7 +267,7 @@ with_range-kept m i range k l fit narrow =
     changed_row-kept m i (λ (r : ExactRow). record r { range = range }) k l refl fit
     (record { rhs = (k.narrow_rows i no_row l).rhs; range = narrow })
 
--- the rows as they are, with another sense and another offset
+-- a kept model may be kept with another sense and an offset of 127 bits
 same_rows-kept : {limits : SizeLimits} (m : Model) (sense : Sense) (v : ℚ) → IsModelWithin limits m → IsNarrow v →
     IsModelWithin limits (record m { sense = sense; offset = v })
 same_rows-kept m sense v k narrow =

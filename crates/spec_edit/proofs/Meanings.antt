@@ -23,6 +23,7 @@ use Rattle.spec_edit.proofs.Coefficients.{none_at, entry_of-with_entry, entry_of
 
 -- ---- a coefficient
 
+-- a test, and true, is that test
 and_true : (t : Bool) → t && true ≡ t
 and_true true = refl
 and_true false = refl
@@ -53,6 +54,7 @@ pub column-lowered : (m : Model) (i j : ℕ) → column (without_row m i) j ≡ 
 unfolding without_entry
 column-lowered m i j = get_or-map (lowered i) m.columns j no_column
 
+-- once row i is removed, each row is the one that had its old number
 others : (m : Model) (i a : ℕ) → i < height m → row (without_row m i) a ≡ row m (skipping i a)
 others m i a l = by (ltb a i) refl
   where

@@ -22,6 +22,7 @@ use Rattle.spec_edit.specs.Changes.{changed_row, changed_column}
 use Rattle.spec_edit.specs.Edited.{is_row_taken, is_column_taken}
 use Rattle.spec_edit.proofs.ListLemmas.{map-set_unseen}
 
+-- where a search finds no position, no element of the list passes the test
 position-None : {X : Type 0} (p : X → Bool) (xs : List X) → is_some (position p xs) ≡ false → All (λ x. p x ≡ false) xs
 position-None p xs h = λ k d l. fails_before_first p xs k d (by (ltb (position_or_len p xs) (length xs)) refl h k l)
   where

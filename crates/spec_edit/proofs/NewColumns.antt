@@ -38,6 +38,7 @@ puts_pair m before p pairs es out h =
     let b = test_ok (is_given p.0 before) _ _ out a.2 in
     record { place = a.0; names = known_ok (row_place m p.0) p.0 a.0 a.1; first = b.0; rest = b.1 }
 
+-- entries in order, with the entries of more pairs put in, are in order
 entries_of-kept : (m : Model) (before pairs : Pairs) (es out : List (ℕ × ℚ)) →
     entries_of m before pairs es ≡ Ok out → AreEntries (height m) es → AreEntries (height m) out
 entries_of-kept m before [] es out h k = subst (AreEntries (height m)) (same_ok es out h) k
@@ -46,6 +47,7 @@ entries_of-kept m before (p ∷ pairs) es out h k =
     entries_of-kept m (before ++ p ∷ []) pairs (with_entry s.place p.1 es) out s.rest
     (with_entry-kept (height m) s.place p.1 es k (row_inside m p.0 s.place s.names))
 
+-- entries of 127 bits, with the entries of pairs of 127 bits put in, are of 127 bits
 entries_of-narrow : (m : Model) (before pairs : Pairs) (es out : List (ℕ × ℚ)) →
     entries_of m before pairs es ≡ Ok out → All (λ e. IsNarrow e.1) es → All (λ p. IsNarrow p.1) pairs →
     All (λ e. IsNarrow e.1) out
@@ -58,6 +60,7 @@ entries_of-narrow m before (p ∷ pairs) es out h k narrow =
 
 -- ---- the column
 
+-- the empty list is a list of entries in order
 no_entries : (n : ℕ) → AreEntries n []
 no_entries n =
     record {
@@ -70,6 +73,7 @@ pub column_of-kept : (n : ℕ) (name : Name) (cost : ℚ) (es : List (ℕ × ℚ
     IsKeptColumn n (column_of name cost es)
 column_of-kept n name cost es named k = record { name = named; lower = zero_bound; upper = tt; entries = k }
 
+-- a new column whose cost and entries have 127 bits has numbers of 127 bits
 column_of-narrow : (name : Name) (cost : ℚ) (es : List (ℕ × ℚ)) → IsNarrow cost → All (λ e. IsNarrow e.1) es →
     IsNarrowColumn (column_of name cost es)
 column_of-narrow name cost es c k = record { cost = c; lower = zero_narrow; upper = tt; entries = k }

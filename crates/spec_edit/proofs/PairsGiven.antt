@@ -23,17 +23,20 @@ abbrev given_or : ℚ → Name → Pairs → ℚ
 given_or d name [] = d
 given_or d name (p ∷ pairs) = cond (same p.0 name) p.1 (given_or d name pairs)
 
+-- what pairs give to a name, 0 if nothing, is the number that they give to it
 given_or-zero : (name : Name) (pairs : Pairs) → given_or 0ℚ name pairs ≡ given_to name pairs
 given_or-zero name [] = refl
 given_or-zero name (p ∷ pairs) = ap (cond (same p.0 name) p.1) (given_or-zero name pairs)
 
 -- ---- names of pairs
 
+-- a name that pairs have is one that these pairs with more behind them have
 given_more : (name : Name) (before more : Pairs) → is_given name before ≡ true → is_given name (before ++ more) ≡ true
 given_more name before more h =
     list_any-append (λ (p : Name × ℚ). same p.0 name) before more
     ∙ or_left (is_given name before) (is_given name more) h
 
+-- pairs have the name of the pair that is put at their end
 given_last : (name : Name) (before : Pairs) (p : Name × ℚ) → same p.0 name ≡ true →
     is_given name (before ++ p ∷ []) ≡ true
 given_last name before p h =
@@ -60,6 +63,7 @@ not_again m name d before (p ∷ pairs) es out g h =
 
 -- ---- the entries
 
+-- an entry is what the pairs give to its row's name, or else the old one
 pairs_stand : (m : Model) → IsModel m → (before pairs : Pairs) (es out : List (ℕ × ℚ)) →
     entries_of m before pairs es ≡ Ok out → (i : ℕ) → i < height m →
     entry_of out i ≡ given_or (entry_of es i) (row m i).name pairs
@@ -95,6 +99,7 @@ pairs_stand m k before (p ∷ pairs) es out h i l =
 
 -- ---- the column
 
+-- a new column goes last, with the numbers that its pairs give to the rows
 pub column-with_pairs : (m n : Model) (name : Name) (cost : ℚ) (pairs : Pairs) → IsModel m →
     new_column m name cost pairs ≡ Ok n → IsWithPairs m n pairs
 column-with_pairs m n name cost pairs k h =

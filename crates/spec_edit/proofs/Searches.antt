@@ -52,11 +52,13 @@ pub record AtPlace (count : ℕ) (n : Model) (change : ℕ → Model) : Type 0 w
   pub inside : place < count
   pub model : change place ≡ n
 
+-- an accepted change at a found place is a change at a place below the count
 at_place : (found : OrFault ℕ) (count : ℕ) (n : Model) (change : ℕ → Model) → ((k : ℕ) → found ≡ Ok k → k < count) →
     (found >>= λ k. Ok (change k)) ≡ Ok n → AtPlace count n change
 at_place found count n change within h =
     let a = step_ok found _ n h in record { place = a.0; inside = within a.0 a.1; model = same_ok (change a.0) n a.2 }
 
+-- the number that is found for a row's name is below the number of rows
 named_inside : (m : Model) (name : Name) (i : ℕ) → row_named m name ≡ Ok i → i < height m
 named_inside m name i h = row_inside m name i (known_ok (row_place m name) name i h)
 
