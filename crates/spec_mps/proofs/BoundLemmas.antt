@@ -25,9 +25,11 @@ pub record IsWithin (limit q : ℚ) : Type 0 where
   pub above : neg_ℚ limit <ℚ q
   pub below : q <ℚ limit
 
+-- the negative of a number that is at most 0 is at least 0
 negative_turned : (q : ℚ) → q ≤ℚ 0ℚ → 0ℚ ≤ℚ neg_ℚ q
 negative_turned q h = subst (λ x. x ≤ℚ neg_ℚ q) neg-zero (neg_mono q 0ℚ h)
 
+-- the negative of a number that is at least 0 is at most 0
 positive_turned : (q : ℚ) → 0ℚ ≤ℚ q → neg_ℚ q ≤ℚ 0ℚ
 positive_turned q h = subst (λ x. neg_ℚ q ≤ℚ x) neg-zero (neg_mono 0ℚ q h)
 
@@ -62,7 +64,7 @@ abs_from_within limit q w = by (int_lt q.num (pos 0))
 
 -- ---- texts
 
--- what is a number has parts of this value
+-- where a text is read as a number, it has parts, and their value is that number
 number_value : (o : Option NumberParts) (q : ℚ) → number_by o ≡ Is q →
     (p : NumberParts) × (o ≡ Some p) × (value_of p ≡ q)
 unfolding number_by

@@ -44,7 +44,7 @@ use Rattle.spec_mps.specs.Steps.{take_sense, data_card}
 use Rattle.spec_mps.proofs.CheckSteps.{step_ok, must_ok, need_ok, same_ok}
 use Rattle.spec_mps.proofs.Sets.{Sets, Sides, Ranges, part_of, pair_of, card_is}
 
--- the texts of a card that has a shape of its section
+-- a card that has a shape of its section gives the texts of its fields
 shaped_texts : (style : Style) (part : Section) (fields : Fields) (texts : List (List ℕ)) →
     shaped style part fields ≡ Ok texts → texts_of fields ≡ texts
 unfolding shaped
@@ -75,6 +75,7 @@ pub record RowsDid (limits : SizeLimits) (s : State) (fields : Fields) (t : Stat
   pub few : (is_first s kind || ltb (length s.rows) limits.rows) ≡ true
   pub new : with_row s kind (text_at 2 fields) ≡ t
 
+-- a row that is added without fault did what a card of ROWS does
 add_row_did : {limits : SizeLimits} (s : State) (kind : Kind) (fields : Fields) (t : State) →
     row_type_of (text_at 1 fields) ≡ Some kind →
     add_row limits s kind (text_at 2 fields) ≡ Ok t → RowsDid limits s fields t
@@ -126,6 +127,7 @@ pairs_keep put run puts K f (pair ∷ pairs) done s t h k =
     subst (λ l. K l t) (append_assoc done (pair ∷ []) pairs)
     (pairs_keep put run puts K f pairs (done ++ pair ∷ []) a.0 t a.2 (f done s pair a.0 a.1 k))
 
+-- a pair without fault put the number of its text at its name's target
 pair_did : (put : State → Target → ℚ → Check State) (s : State) (pair : List ℕ × List ℕ) (t : State) →
     (need (place_of s pair.0) code.UnknownRow >>= λ place. number_in pair.1 >>= λ v. put s place v) ≡ Ok t →
     PairDid put s pair t
@@ -134,7 +136,7 @@ pair_did put s pair t h =
     let b = step_ok (number_in pair.1) _ t a.2 in
     record { place = a.0; value = b.0; place_is = a.1; number_is = b.1; did = b.2 }
 
--- a run that takes one step for each pair
+-- a run that takes one step for each pair puts all pairs, where each step puts its own
 puts_by : (put : State → Target → ℚ → Check State) (step : State → List ℕ × List ℕ → Check State)
     (run : State → List (List ℕ × List ℕ) → Check State) → ((s t : State) → run s [] ≡ Ok t → s ≡ t) →
     ((s : State) (pair : List ℕ × List ℕ) (pairs : List (List ℕ × List ℕ)) →
@@ -163,6 +165,7 @@ side_puts =
 abbrev pub put_ranged : State → Target → ℚ → Check State
 put_ranged s place v = ranged_row place >>= λ row. put_range s row v
 
+-- a pair of RANGES without fault put its number as the range of its name's target
 range_did : (s : State) (pair : List ℕ × List ℕ) (t : State) → range_pair s pair.0 pair.1 ≡ Ok t →
     PairDid put_ranged s pair t
 unfolding range_pair
@@ -217,6 +220,7 @@ pub data Opens (limits : SizeLimits) (s : State) (name : Name) (t : State) : Typ
       } ≡ t) →
       Opens limits s name t
 
+-- a column that is opened without fault is the open one again, or a new one
 opened_did : {limits : SizeLimits} (s : State) (name : Name) (t : State) → opened limits s name ≡ Ok t →
     Opens limits s name t
 unfolding opened
@@ -246,6 +250,7 @@ pub record ColumnsDid (limits : SizeLimits) (s : State) (texts : List (List ℕ)
   pub opens : Opens limits s name between
   pub pairs : column_pairs between (pairs_of more) ≡ Ok t
 
+-- the texts of a card of COLUMNS without fault did what such a card does
 column_by_did : {limits : SizeLimits} (s : State) (texts : List (List ℕ)) (t : State) →
     column_by limits s texts ≡ Ok t → ColumnsDid limits s texts t
 column_by_did s [] t h = absurd (cc)
@@ -281,6 +286,7 @@ pub data SetDid (s : State) (card : SetAndPairs)
       SetDid s card does t
   Skipped : (other : is_used s.set card.set ≡ false) → (same : s ≡ t) → SetDid s card does t
 
+-- a card of RHS or RANGES does its pairs where its set is in use
 set_did : (s : State) (card : SetAndPairs) (does : State → List (List ℕ × List ℕ) → Check State) (t : State) →
     cond (is_used s.set card.set) (does (record s { set = Some card.set }) card.pairs) (Ok s) ≡ Ok t →
     SetDid s card does t

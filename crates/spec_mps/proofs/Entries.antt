@@ -28,7 +28,7 @@ abbrev pub Climbs : ℕ → ℕ → List Target → List (ℕ × ℚ) → Type 0
 Climbs n low paired [] = Unit {0}
 Climbs n low paired (e ∷ es) = IsEntry n low paired e × Climbs n (suc e.0) paired es
 
--- one more number does no harm
+-- a target among those that have a number is among them with one more
 among_more : (t u : Target) (paired : List Target) → is_among t paired ≡ true → is_among t (u ∷ paired) ≡ true
 among_more t u paired h = by (same_target t u) (is_among t paired) h
   where
@@ -36,6 +36,7 @@ among_more t u paired h = by (same_target t u) (is_among t paired) h
     by true b e = refl
     by false b e = e
 
+-- an entry of a row that has a number stays one where one more target has a number
 entry_more : (n low : ℕ) (u : Target) (paired : List Target) (e : ℕ × ℚ) → IsEntry n low paired e →
     IsEntry n low (u ∷ paired) e
 entry_more n low u paired e h =
@@ -51,6 +52,7 @@ pub climbs_more : (n low : ℕ) (u : Target) (paired : List Target) (es : List (
 climbs_more n low u paired [] h = tt
 climbs_more n low u paired (e ∷ es) h = (entry_more n low u paired e h.0, climbs_more n (suc e.0) u paired es h.1)
 
+-- an entry of one of n rows is one of more rows
 entry_higher : (n m low : ℕ) (paired : List Target) (e : ℕ × ℚ) → n ≤ m → IsEntry n low paired e →
     IsEntry m low paired e
 entry_higher n m low paired e l h =
@@ -63,10 +65,11 @@ climbs_higher n m low paired [] l h = tt
 climbs_higher n m low paired (e ∷ es) l h =
     (entry_higher n m low paired e l h.0, climbs_higher n m (suc e.0) paired es l h.1)
 
+-- a row is among the targets that have a number once it has one
 itself : (i : ℕ) (paired : List Target) → is_among (target.Row i) (target.Row i ∷ paired) ≡ true
 itself i paired = rw (eq-eqb i i refl) refl
 
--- a row that has no number is that of no entry
+-- a row that has no number is not one that has a number
 apart : (i j : ℕ) (paired : List Target) → is_among (target.Row i) paired ≡ false →
     is_among (target.Row j) paired ≡ true → i ≢ j
 apart i j paired p q e =
@@ -101,15 +104,18 @@ climbs_put n low i v paired (e ∷ es) l k z p h =
         let le : e.0 ≤ i = ltb-false i e.0 t in
         (entry_more n low (target.Row i) paired e h.0, rest (omega arith))
 
+-- entries that climb over n rows are all in rows below n
 inside_all : (n low : ℕ) (paired : List Target) (es : List (ℕ × ℚ)) → Climbs n low paired es → All (λ e. e.0 < n) es
 inside_all n low paired [] h = All-nil (λ e. e.0 < n)
 inside_all n low paired (e ∷ es) h = All-cons (λ e. e.0 < n) e es h.0.inside (inside_all n (suc e.0) paired es h.1)
 
+-- entries that climb are all other than 0
 not_zero_all : (n low : ℕ) (paired : List Target) (es : List (ℕ × ℚ)) → Climbs n low paired es → All (λ e. e.1 ≢ 0ℚ) es
 not_zero_all n low paired [] h = All-nil (λ e. e.1 ≢ 0ℚ)
 not_zero_all n low paired (e ∷ es) h =
     All-cons (λ e. e.1 ≢ 0ℚ) e es h.0.not_zero (not_zero_all n (suc e.0) paired es h.1)
 
+-- entries that climb from row low on are all above each row below low
 above_all : (n low m : ℕ) (paired : List Target) (es : List (ℕ × ℚ)) → m < low → Climbs n low paired es →
     All (λ e. m < e.0) es
 above_all n low m paired [] l h = All-nil (λ e. m < e.0)
@@ -122,6 +128,7 @@ above_all n low m paired (e ∷ es) l h =
     by2 : low ≤ e.0 → m < suc e.0
     by2 k = omega arith
 
+-- entries that climb are in ascending rows
 ascending_all : (n low : ℕ) (paired : List Target) (es : List (ℕ × ℚ)) → Climbs n low paired es →
     AllPairs (λ d e. d.0 < e.0) es
 ascending_all n low paired [] h = λ i j d l k. absurd (omega arith)

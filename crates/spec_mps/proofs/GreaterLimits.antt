@@ -31,33 +31,40 @@ use Rattle.spec_mps.specs.Steps.{Verdict, Spelled, settled, judge, SpellsWithin}
 abbrev Extends : {A : Type 0} → Check A → Check A → Type 0
 Extends {A = A} check other = (a : A) → check ≡ Ok a → other ≡ Ok a
 
+-- each check lets pass no less than itself
 same_check : {A : Type 0} (check : Check A) → Extends check check
 same_check check a h = h
 
+-- two checks let pass no less with a next check that lets pass no less
 behind_same : {A B : Type 0} (check : Check A) (f g : A → Check B) → ((a : A) → Extends (f a) (g a)) →
     Extends (check >>= f) (check >>= g)
 behind_same (Ok a) f g k b h = k a b h
 behind_same (Err fault) f g k b h = absurd (cc)
 
+-- two checks let pass no less with a first check that lets pass no less
 before_same : {A B : Type 0} (check other : Check A) (f : A → Check B) → Extends check other →
     Extends (check >>= f) (other >>= f)
 before_same {A = A} (Ok a) other f e b h = subst (λ (c : Check A). (c >>= f) ≡ Ok b) (sym (e a refl)) h
 before_same (Err fault) other f e b h = absurd (cc)
 
+-- a test and a check let pass no less with a test that passes more
 behind_test : {B : Type 0} (t u : Bool) (code : Code) (f : ⊤ → Check B) → (t ≡ true → u ≡ true) →
     Extends (must t code >>= f) (must u code >>= f)
 behind_test true u code f e b h = rw (e refl) h
 behind_test false u code f e b h = absurd (cc)
 
+-- two cases let pass no less with an other case that lets pass no less
 in_other_case : {A : Type 0} (t : Bool) (first check other : Check A) → Extends check other →
     Extends (cond t first check) (cond t first other)
 in_other_case true first check other e = same_check first
 in_other_case false first check other e = e
 
+-- a test, or a count below a limit, that passes does so with a greater limit
 more_room : (t : Bool) (n few many : ℕ) → few ≤ many → (t || ltb n few) ≡ true → (t || ltb n many) ≡ true
 more_room true n few many l h = refl
 more_room false n few many l h = lt-ltb n many (omega (arith, ltb-true n few h))
 
+-- a step and next lines that let pass no less spell the same model
 settled_more : (n : ℕ) (next further : State → Verdict) (o other : Outcome) (m : Model) → Extends o other →
     ((t : State) → next t ≡ Spelled m → further t ≡ Spelled m) → settled n next o ≡ Spelled m →
     settled n further other ≡ Spelled m

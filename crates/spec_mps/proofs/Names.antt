@@ -19,6 +19,7 @@ none_pass p (x ∷ xs) h =
     let n = or_parts (p x) (list_any p xs) h in
     All-cons (λ x. p x ≡ false) x xs n.0 (none_pass p xs n.1)
 
+-- where a search finds nothing, the first element fails and the others have no place
 no_place : (n l : ℕ) (t : Bool) →
     cond (ltb (cond (not t) (1 + n) 0) (suc l)) (Some (cond (not t) (1 + n) 0)) None ≡ None →
     (t ≡ false) × (cond (ltb n l) (Some n) None ≡ None)

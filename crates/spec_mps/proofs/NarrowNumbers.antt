@@ -21,20 +21,24 @@ use Rattle.spec_mps.proofs.RoundTrip.{zero_value}
 
 -- ---- fractions
 
+-- a whole number whose size is within the limit has 127 bits
 whole_narrow : (n : ℤ) → unsigned_abs n ≤ number_limit → IsNarrow (whole n)
 unfolding whole
 whole_narrow n h = record { top = h; bottom = omega arith }
 
 -- ---- numbers
 
+-- the size of a number with a sign is the number without it
 signed_size : (negative : Bool) (n : ℕ) → unsigned_abs (signed negative n) ≡ n
 signed_size true n = abs-neg_ℤ (pos n)
 signed_size false n = refl
 
+-- a number within the limit, with a sign, has a size within the limit
 signed_narrow : (negative : Bool) (n : ℕ) → nat_le n number_limit ≡ true →
     unsigned_abs (signed negative n) ≤ number_limit
 signed_narrow negative n h = subst (λ k. k ≤ number_limit) (sym (signed_size negative n)) (leb-true n number_limit h)
 
+-- parts of a number within the width have a value of 127 bits
 value_narrow : (p : NumberParts) → is_narrow p ≡ true → IsNarrow (value_of p)
 unfolding is_narrow value_of
 value_narrow (Decimal negative zero (pos e)) h = subst IsNarrow (sym (zero_value negative (pos e))) zero_narrow
@@ -52,6 +56,7 @@ value_narrow (Quotient negative top bottom) h =
 pub same_number : (p q : ℚ) → Is p ≡ Is q → p ≡ q
 same_number p q e = cc
 
+-- a number that parts are read as has 127 bits
 parts_narrow : (o : Option NumberParts) (q : ℚ) → number_by o ≡ Is q → IsNarrow q
 unfolding number_by
 parts_narrow None q e = absurd (cc)
@@ -67,6 +72,7 @@ number_narrow text q e = parts_narrow (parts_of text) q e
 
 -- ---- bounds
 
+-- a text that is read as a finite bound is read as that number
 finite_is : (reading : NumberReading) (q : ℚ) → as_bound reading ≡ Finite q → reading ≡ Is q
 finite_is (Is v) q e = let same : v ≡ q = cc in ap Is same
 finite_is number.Shape q e = cc

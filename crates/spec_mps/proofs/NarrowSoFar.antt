@@ -35,7 +35,7 @@ pub record AreNarrow (o : ℚ) (rs : List ExactRow) (cs : List ExactColumn) (c :
 pub none_narrow : AreNarrow 0ℚ [] [] None
 none_narrow = record { offset = zero_narrow; rows = All-nil IsNarrowRow; columns = All-nil IsNarrowColumn; column = tt }
 
--- the number of a text
+-- the number that a text gives without fault has 127 bits
 answer_narrow : (text : List ℕ) (reading : NumberReading) (v : ℚ) → number_of text ≡ reading →
     coded (answer reading) ≡ Ok v → IsNarrow v
 answer_narrow text (number.Is q) v e h = subst IsNarrow (same_ok q v h) (number_narrow text q e)
@@ -59,11 +59,13 @@ changed_all P zero change (x ∷ xs) f h = All-cons P (change x) xs (f x (All-he
 changed_all P (suc i) change (x ∷ xs) f h =
     All-cons P x (changed_at i change xs) (All-head P x xs h) (changed_all P i change xs f (All-tail P x xs h))
 
+-- all columns have numbers of 127 bits where the closed and the open ones have
 whole_narrow : (columns : List ExactColumn) (column : Option ExactColumn) → All IsNarrowColumn columns →
     IfSome column IsNarrowColumn → All IsNarrowColumn (columns_with columns column)
 whole_narrow columns None h k = h
 whole_narrow columns (Some c) h k = All-push IsNarrowColumn columns c h k
 
+-- a number of 127 bits that is put in leaves entries of 127 bits
 put_narrow : (i : ℕ) (v : ℚ) (es : List (ℕ × ℚ)) → IsNarrow v → All (λ e. IsNarrow e.1) es →
     All (λ e. IsNarrow e.1) (put_entry i v es)
 put_narrow i v [] n h = All-cons (λ (e : ℕ × ℚ). IsNarrow e.1) (i, v) [] n h
@@ -75,6 +77,7 @@ put_narrow i v (e ∷ es) n h = go (ltb i e.0) (put_narrow i v es n (All-tail (�
     go false k =
         All-cons (λ (e : ℕ × ℚ). IsNarrow e.1) e (put_entry i v es) (All-head (λ (e : ℕ × ℚ). IsNarrow e.1) e es h) k
 
+-- a number of 127 bits leaves a column with numbers of 127 bits
 with_number_narrow : (c : ExactColumn) (t : Target) (v : ℚ) → IsNarrow v → IsNarrowColumn c →
     IsNarrowColumn (with_number c t v)
 with_number_narrow c Objective v n h = record { cost = n; lower = h.lower; upper = h.upper; entries = h.entries }
@@ -85,11 +88,13 @@ with_number_narrow c (Row i) v n h = go (eq_ℚ v 0ℚ)
     go false =
         record { cost = h.cost; lower = h.lower; upper = h.upper; entries = put_narrow i v c.entries n h.entries }
 
+-- a number of 127 bits leaves the open column, if any, with numbers of 127 bits
 last_narrow : (column : Option ExactColumn) (t : Target) (v : ℚ) → IsNarrow v → IfSome column IsNarrowColumn →
     IfSome (option_map (λ c. with_number c t v) column) IsNarrowColumn
 last_narrow None t v n h = tt
 last_narrow (Some c) t v n h = with_number_narrow c t v n h
 
+-- bounds of 127 bits leave a column with numbers of 127 bits
 bounded_narrow : (lowered : Bool) (card : BoundCard) (c : ExactColumn) → SetsAll IsNarrow card → IsNarrowColumn c →
     IsNarrowColumn (bounded lowered card c)
 bounded_narrow lowered (SetsUpper u) c n k = go (is_negative u && not lowered)

@@ -27,7 +27,7 @@ use Rattle.spec_mps.proofs.Agree.{same_reading}
 
 -- ---- digits that are a whole number
 
--- what is left of the digits, with the power of ten that was taken off
+-- digits cut of their last zeros are read as the number with these zeros
 cut_value : (negative : Bool) (s z n : ℕ) (e : ℤ) → s * 10 ^ z ≡ n → z ≤ most_zeros → e ≡ pos z →
     wide_by (Some (Decimal negative s e)) ≡ Is (over (signed negative n) 1)
 unfolding wide_by is_near value_of
@@ -43,6 +43,7 @@ cut_value negative (suc s) z n (pos k) h w q =
     (ap (λ m. Is (whole (signed negative m))) (ap (λ m. suc s * 10 ^ m) same ∙ h)
     ∙ ap Is (sym (over-one (signed negative n))))
 
+-- digits that spell n, no more than zeros may be, are read as n with its sign
 digits_value : (negative : Bool) (digits : List ℕ) (n : ℕ) → spelled digits ≡ n → length digits ≤ most_zeros →
     wide_by (Some (scaled negative digits [] (pos 0))) ≡ Is (over (signed negative n) 1)
 unfolding scaled
@@ -53,6 +54,7 @@ digits_value negative digits n e w =
     ap (λ ds. wide_by (Some (Decimal negative (spelled (without_zeros ds)) (pos 0 +ℤ pos (length digits) -ℤ pos (length (without_zeros ds)))))) back
     ∙ cut_value negative (spelled (without_zeros digits)) c.zeros n _ (sym c.size ∙ e) (omega (arith, l, w)) (omega (arith, ints, l))
 
+-- digits alone that spell n are read at any width as n with its sign
 read_plain : (negative : Bool) (digits : List ℕ) (n : ℕ) → list_all is_ascii_digit digits ≡ true → 0 < length digits →
     spelled digits ≡ n → length digits ≤ most_zeros →
     wide_by (unsigned_parts negative (before_first is_slash digits) (behind is_slash digits))
@@ -76,6 +78,7 @@ read_plain negative digits n h k e w =
 
 -- ---- a quotient
 
+-- digits, a slash and digits are read at any width as their quotient
 read_quotient : (negative : Bool) (top bottom : List ℕ) (n den : ℕ) → list_all is_ascii_digit top ≡ true →
     list_all is_ascii_digit bottom ≡ true → 0 < length top → 0 < length bottom → spelled top ≡ n →
     spelled bottom ≡ den → 0 < den →
@@ -91,6 +94,7 @@ read_quotient negative top bottom n den h g k m e f p =
 abbrev signed_text : Bool → List ℕ → List ℕ
 signed_text negative body = cond negative (45 ∷ []) [] ++ body
 
+-- a sign in front of a digit is taken off in reading at any width
 sign_off : (negative : Bool) (b : ℕ) (bs : List ℕ) → is_ascii_digit b ≡ true →
     wide_of (signed_text negative (b ∷ bs))
     ≡ wide_by (unsigned_parts negative (before_first is_slash (b ∷ bs)) (behind is_slash (b ∷ bs)))
@@ -98,18 +102,21 @@ unfolding wide_of parts_of
 sign_off true b bs h = refl
 sign_off false b bs h = rw (no_sign b h, no_minus b h) refl
 
+-- a sign in front of digits and more is taken off in reading at any width
 off : (negative : Bool) (digits rest : List ℕ) → list_all is_ascii_digit digits ≡ true → 0 < length digits →
     wide_of (signed_text negative (digits ++ rest))
     ≡ wide_by (unsigned_parts negative (before_first is_slash (digits ++ rest)) (behind is_slash (digits ++ rest)))
 off negative [] rest h k = absurd (omega arith)
 off negative (b ∷ digits) rest h k = sign_off negative b (digits ++ rest) (and_parts _ _ h).0
 
+-- a sign in front of digits alone is taken off in reading at any width
 off_all : (negative : Bool) (digits : List ℕ) → list_all is_ascii_digit digits ≡ true → 0 < length digits →
     wide_of (signed_text negative digits)
     ≡ wide_by (unsigned_parts negative (before_first is_slash digits) (behind is_slash digits))
 off_all negative [] h k = absurd (omega arith)
 off_all negative (b ∷ digits) h k = sign_off negative b digits (and_parts _ _ h).0
 
+-- the signed text of n / den, if not too long, is read at any width as that number
 as_past : (negative : Bool) (n den : ℕ) → 0 < den → length (past_text n den) ≤ most_zeros →
     wide_of (signed_text negative (past_text n den)) ≡ Is (over (signed negative n) den)
 unfolding past_text
@@ -131,6 +138,7 @@ as_past negative n den p w = by (eqb den 1) refl w
 
 -- ---- within the width
 
+-- a fraction of 127 bits is within the width by the test
 within_is : (q : ℚ) → IsNarrow q → is_within q ≡ true
 within_is q n = and_from _ _ (le-leb _ _ n.top) (le-leb _ _ n.bottom)
 
@@ -144,6 +152,7 @@ text_is q narrow e = ap (by_width q) e
 pub same_text : (q : ℚ) → IsNarrow q → wide_text q ≡ number_text q
 same_text q n = text_is q true (within_is q n)
 
+-- the text of z / den, if not too long, is read at any width as that number
 signed_past : (z : ℤ) (den : ℕ) → 0 < den →
     length (signed_text (int_lt z (pos 0)) (past_text (unsigned_abs z) den)) ≤ most_zeros →
     wide_of (signed_text (int_lt z (pos 0)) (past_text (unsigned_abs z) den)) ≡ Is (over z den)

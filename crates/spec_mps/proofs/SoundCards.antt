@@ -69,11 +69,13 @@ pub record IsSound (limits : SizeLimits) (s : State) : Type 0 where
 
 -- ---- names of rows
 
+-- a name for which a search finds no target is neither the objective's nor a row's
 untaken : (t : Bool) (o : Option ℕ) → cond t (Some Objective) (row_at o) ≡ None → (t ≡ false) × (o ≡ None)
 untaken true o h = cc
 untaken false None h = (refl, refl)
 untaken false (Some i) h = cc
 
+-- a name that is neither the objective's nor one of others is none of all these
 beside_objective : (o : Option Name) (names : List Name) (name : Name) → is_objective o name ≡ false →
     All (λ n. n ≢ name) names → All (λ n. n ≢ name) (option_to_list o ++ names)
 beside_objective None names name f h = h
@@ -88,7 +90,7 @@ free_name s name h =
     beside_objective s.objective (row_names s.rows) name u.0
     (others (λ (r : ExactRow). r.name) name s.rows (nowhere (λ (r : ExactRow). same r.name name) s.rows u.1))
 
--- a name stands for a row that there is
+-- a name stands for the objective or for a row that there is
 place_inside : (s : State) (name : Name) (place : Target) → place_of s name ≡ Some place →
     IsInside (length (row_names s.rows)) place
 unfolding place_of
@@ -107,6 +109,7 @@ place_inside s name place h =
 
 -- ---- ROWS
 
+-- a row of a new name leaves a sound state sound where there is room
 with_row_sound : {limits : SizeLimits} (s : State) (kind : Kind) (name : Name) → is_row_name name ≡ true →
     place_of s name ≡ None →
     (is_first s kind || ltb (length s.rows) limits.rows) ≡ true → IsSound limits s →
@@ -154,6 +157,7 @@ rows_card_sound style s fields t h sound =
 
 -- ---- COLUMNS
 
+-- a sound state stays sound where a column of a valid name is opened
 opens_sound : {limits : SizeLimits} (s : State) (name : Name) (t : State) → is_name name ≡ true →
     Opens limits s name t → IsSound limits s → IsSound limits t
 opens_sound s name t named (Same known same) sound = subst (IsSound _) same sound
@@ -171,10 +175,12 @@ opens_sound s name t named (New other free few new) sound =
       narrow = new_narrow s.offset s.rows s.columns s.column sound.narrow name;
     })
 
+-- the number of a pair that is put has 127 bits
 pair_narrow : {put : State → Target → ℚ → Check State} {s : State} {pair : List ℕ × List ℕ} {t : State} →
     (p : PairDid put s pair t) → IsNarrow p.value
 pair_narrow {pair = pair} p = in_narrow pair.1 p.value p.number_is
 
+-- a sound state stays sound where a pair of COLUMNS is entered
 entered_sound : {limits : SizeLimits} (s : State) (pair : List ℕ × List ℕ) (t : State) → PairDid enter s pair t →
     IsSound limits s → IsSound limits t
 unfolding enter
@@ -199,13 +205,14 @@ columns_card_sound {limits = limits} style s fields t h sound =
 
 -- ---- RHS and RANGES
 
+-- a change of one row that leaves each row's name leaves the names of all rows
 changed_rows : (i : ℕ) (change : ExactRow → ExactRow) (rows : List ExactRow) →
     ((r : ExactRow) → (change r).name ≡ r.name) → row_names (changed_at i change rows) ≡ row_names rows
 changed_rows i change [] same_name = refl
 changed_rows zero change (r ∷ rows) same_name = ap (λ name. name ∷ row_names rows) (same_name r)
 changed_rows (suc i) change (r ∷ rows) same_name = ap (λ names. r.name ∷ names) (changed_rows i change rows same_name)
 
--- a number of a row, which keeps its name
+-- a number of 127 bits at a row, which keeps its name, leaves a sound state sound
 row_sound : {limits : SizeLimits} (s : State) (t : Target) (i : ℕ) (change : ExactRow → ExactRow) →
     ((r : ExactRow) → (change r).name ≡ r.name) → ((r : ExactRow) → IsNarrowRow r → IsNarrowRow (change r)) →
     All HasFitRange (changed_at i change s.rows) → IsSound limits s →
@@ -221,6 +228,7 @@ row_sound {limits = limits} s t i change same_name small fit sound =
       narrow = row_narrow s.offset s.rows s.columns s.column sound.narrow i change small;
     }
 
+-- a sound state stays sound where a pair of RHS is put
 put_side_sound : {limits : SizeLimits} (s : State) (pair : List ℕ × List ℕ) (t : State) → PairDid put_side s pair t →
     IsSound limits s → IsSound limits t
 unfolding put_side
@@ -243,7 +251,7 @@ put_side_sound {limits = limits} s pair t p sound = by p.place p.did
         (λ r k. record { rhs = pair_narrow p; range = k.range })
         (changed_all HasFitRange i (λ r. record r { rhs = p.value }) s.rows (λ r k. k) sound.fit) sound)
 
--- a range of a row that is not free
+-- a range of a row that is not free leaves all rows with ranges that fit their kinds
 ranged_fit : (i : ℕ) (v : ℚ) (rows : List ExactRow) → is_free (get_or rows i no_row).kind ≡ false →
     All HasFitRange rows → All HasFitRange (changed_at i (λ r. record r { range = Some v }) rows)
 ranged_fit i v [] f h = h
@@ -253,6 +261,7 @@ ranged_fit (suc i) v (r ∷ rows) f h =
     All-cons HasFitRange r (changed_at i (λ r. record r { range = Some v }) rows) (All-head HasFitRange r rows h)
     (ranged_fit i v rows f (All-tail HasFitRange r rows h))
 
+-- a sound state stays sound where a pair of RANGES is put
 put_range_sound : {limits : SizeLimits} (s : State) (pair : List ℕ × List ℕ) (t : State) → PairDid put_ranged s pair t →
     IsSound limits s → IsSound limits t
 unfolding new_range
@@ -270,6 +279,7 @@ put_range_sound {limits = limits} s pair t p sound = by p.place p.did
     by Objective h = absurd (cc)
     by (Row i) h = new i (put_range_did s i p.value t h)
 
+-- a sound state stays sound with a set in use
 with_set : {limits : SizeLimits} (s : State) (set : Option Name) → IsSound limits s →
     IsSound limits (record s { set = Some set })
 with_set s set sound = record { rows = sound.rows; fit = sound.fit; columns = sound.columns; narrow = sound.narrow }
@@ -288,6 +298,7 @@ ranges_card_sound style s fields t h sound =
 
 -- ---- BOUNDS
 
+-- bounds of 127 bits, less than 10 ^ 20 from 0, leave a sound state sound
 with_bound_sound : {limits : SizeLimits} (s : State) (place : ℕ) (card : BoundCard) →
     SetsAll (λ q. abs_ℚ q <ℚ infinite) card →
     SetsAll IsNarrow card → IsSound limits s → IsSound limits (with_bound s place card)
@@ -304,6 +315,7 @@ with_bound_sound s place card small narrow sound =
           (get_or s.lowered place false) card narrow;
     }
 
+-- a sound state stays sound after a card of BOUNDS
 bound_sound : {limits : SizeLimits} (s : State) (kind : BoundKind) (texts : BoundTexts) (t : State) →
     BoundDid s kind texts t → IsSound limits s →
     IsSound limits t

@@ -62,6 +62,7 @@ no_columns =
 
 -- ---- more rows, and more numbers
 
+-- the open column, if there is one, may be open over more rows than there are
 open_higher : (n m : ℕ) (paired : List Target) (column : Option ExactColumn) → n ≤ m → IfSome column (IsOpen n paired) →
     IfSome column (IsOpen m paired)
 open_higher n m paired None l h = h
@@ -84,6 +85,7 @@ more_rows n m columns column paired l s =
       last = open_higher n m paired column l s.last;
     }
 
+-- the open column, if there is one, may be open with one more target that has a number
 open_more : (n : ℕ) (t : Target) (paired : List Target) (column : Option ExactColumn) →
     IfSome column (IsOpen n paired) → IfSome column (IsOpen n (t ∷ paired))
 open_more n t paired None h = h
@@ -117,6 +119,7 @@ pub closed : {limits : SizeLimits} (n : ℕ) (columns : List ExactColumn) (colum
 closed n columns column paired s =
     record { few = s.few; distinct = s.distinct; each = close_column n paired columns column s.each s.last; last = tt }
 
+-- the names of columns with a new one behind them are their names and then the new one's
 named_new : (columns : List ExactColumn) (name : Name) →
     column_names (columns ++ new_column name ∷ []) ≡ column_names columns ++ name ∷ []
 named_new columns name = map-append (λ (c : ExactColumn). c.name) columns (new_column name ∷ [])
@@ -155,6 +158,7 @@ number_name c (Row i) v = go (eq_ℚ v 0ℚ)
     go true = refl
     go false = refl
 
+-- an open column stays open with a number at a target that had none
 number_open : (n : ℕ) (paired : List Target) (c : ExactColumn) (t : Target) (v : ℚ) → IsInside n t →
     is_among t paired ≡ false → IsOpen n paired c → IsOpen n (t ∷ paired) (with_number c t v)
 number_open n paired c Objective v i f o =
@@ -186,6 +190,7 @@ number_open n paired c (Row i) v k f o = go (eq_ℚ v 0ℚ) refl
           entries = climbs_put n 0 i v paired c.entries (omega arith) k (differs e) f o.entries;
         }
 
+-- a number of the open column leaves the names of all columns
 number_names : (columns : List ExactColumn) (column : Option ExactColumn) (t : Target) (v : ℚ) →
     column_names (columns_with columns (option_map (λ c. with_number c t v) column))
     ≡ column_names (columns_with columns column)
@@ -195,6 +200,7 @@ number_names columns (Some c) t v =
     ∙ ap (λ name. column_names columns ++ name ∷ []) (number_name c t v)
     ∙ sym (map-append (λ (c : ExactColumn). c.name) columns (c ∷ []))
 
+-- the open column, if any, stays open with a number at a target that had none
 number_last : (n : ℕ) (paired : List Target) (column : Option ExactColumn) (t : Target) (v : ℚ) → IsInside n t →
     is_among t paired ≡ false → IfSome column (IsOpen n paired) →
     IfSome (option_map (λ c. with_number c t v) column) (IsOpen n (t ∷ paired))
@@ -229,6 +235,7 @@ bounded_name lowered (SetsUpper u) c = go (is_negative u && not lowered)
 bounded_name lowered (SetsLower l) c = refl
 bounded_name lowered (SetsBoth l u) c = refl
 
+-- bounds less than 10 ^ 20 from 0 leave a column that may be kept
 bounded_kept : (n : ℕ) (lowered : Bool) (card : BoundCard) (c : ExactColumn) → IsSmall card → IsKeptColumn n c →
     IsKeptColumn n (bounded lowered card c)
 bounded_kept n lowered (SetsUpper u) c small k = go (is_negative u && not lowered)
@@ -241,12 +248,14 @@ bounded_kept n lowered (SetsLower l) c small k =
 bounded_kept n lowered (SetsBoth l u) c small k =
     record { name = k.name; lower = small.0; upper = small.1; entries = k.entries }
 
+-- a card's bounds for a column leave the names of all columns
 changed_names : (place : ℕ) (lowered : Bool) (card : BoundCard) (columns : List ExactColumn) →
     column_names (changed_at place (bounded lowered card) columns) ≡ column_names columns
 changed_names place lowered card [] = refl
 changed_names zero lowered card (c ∷ cs) = ap (λ name. name ∷ column_names cs) (bounded_name lowered card c)
 changed_names (suc place) lowered card (c ∷ cs) = ap (λ names. c.name ∷ names) (changed_names place lowered card cs)
 
+-- columns with the same names have the same names with one open column behind them
 names_with : (columns others : List ExactColumn) (column : Option ExactColumn) →
     column_names columns ≡ column_names others →
     column_names (columns_with columns column) ≡ column_names (columns_with others column)

@@ -31,12 +31,14 @@ use Rattle.spec_mps.proofs.CardsDid.{sense_did}
 
 -- ---- sections
 
+-- a sound state stays sound where a sense is taken
 take_sense_sound : {limits : SizeLimits} (s : State) (text : List ℕ) (t : State) → take_sense s text ≡ Ok t →
     IsSound limits s → IsSound limits t
 take_sense_sound s text t h sound =
     subst (IsSound _) (sense_did s text t h).3
     (record { rows = sound.rows; fit = sound.fit; columns = sound.columns; narrow = sound.narrow })
 
+-- a sound state stays sound after a card of OBJSENSE
 sense_card_sound : {limits : SizeLimits} (style : Style) (s : State) (fields : Fields) (t : State) →
     sense_card style s fields ≡ Ok t →
     IsSound limits s → IsSound limits t
@@ -45,6 +47,7 @@ sense_card_sound style s fields t h sound =
     let a = step_ok (shaped style section.Sense fields) _ t h in
     take_sense_sound s (text_at 1 fields) t a.2 sound
 
+-- a sound state stays sound where a section begins
 begun_sound : {limits : SizeLimits} (s : State) (part : Section) → IsSound limits s → IsSound limits (begun s part)
 begun_sound s part sound =
     record {
@@ -54,11 +57,13 @@ begun_sound s part sound =
       narrow = closed_narrow s.offset s.rows s.columns s.column sound.narrow;
     }
 
+-- a sound state stays sound with a sense beside OBJSENSE, or none
 sense_beside_sound : {limits : SizeLimits} (s : State) (word : List ℕ) (t : State) → sense_beside s word ≡ Ok t →
     IsSound limits s → IsSound limits t
 sense_beside_sound s [] t h sound = subst (IsSound _) (same_ok s t h) sound
 sense_beside_sound s (b ∷ bs) t h sound = take_sense_sound s (b ∷ bs) t h sound
 
+-- a sound state stays sound after a heading
 headed_sound : {limits : SizeLimits} (s : State) (part : Section) (word : List ℕ) (t : State) →
     headed s part word ≡ Ok t → IsSound limits s →
     IsSound limits t
@@ -78,11 +83,13 @@ headed_sound s part word t h sound = subst (IsSound _) (same_ok s t h) sound
 
 -- ---- the model
 
+-- what holds of each element of a list's image holds of the image of each of the list's elements
 All-unmap : {X Y : Type 0} (P : X → Type 0) (f : Y → X) (ys : List Y) → All P (map f ys) → All (λ y. P (f y)) ys
 All-unmap P f [] h = All-nil (λ y. P (f y))
 All-unmap P f (y ∷ ys) h =
     All-cons (λ y. P (f y)) y ys (All-head P (f y) (map f ys) h) (All-unmap P f ys (All-tail P (f y) (map f ys) h))
 
+-- two models are the same where the verdicts that spell them are
 pub same_spelled : (m o : Model) → Spelled m ≡ Spelled o → m ≡ o
 same_spelled m o h = cc
 

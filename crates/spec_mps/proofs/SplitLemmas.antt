@@ -31,6 +31,7 @@ position_past test (b ∷ front) rest h =
     let p = or_parts (test b) (list_any test front) h in
     rw (p.0, position_past test front rest p.1) (omega arith)
 
+-- where no byte of a text passes, the first that does is at the length of the text
 position_whole : (test : ℕ → Bool) (text : List ℕ) → list_any test text ≡ false →
     position_or_len test text ≡ length text
 position_whole test [] h = refl

@@ -11,15 +11,19 @@ use Rattle.spec_mps.proofs.WrittenColumns.{HasNoneBeside}
 use Rattle.spec_mps.proofs.WrittenFixed.{IsCell, none_1, none_2, none_3, none_4, type_card_read}
 use Rattle.spec_mps.proofs.WrittenFixed.{number_card_read, unbound_card_read, bound_card_read}
 
+-- BND, the set of written bounds, is a word
 bound_set : IsWord (codes "BND")
 bound_set = record { some = refl; printable = refl }
 
+-- a word that has room in a field of fixed form fits the columns of that field
 in_cell : (column size : ℕ) (w : List ℕ) → HasNoneBeside column size → IsItem Fixed size w → IsCell column size w
 in_cell column size w none h = record { word = h.word; fits = h.room; none = none }
 
+-- BND, the set of written bounds, fits the columns of field 2
 set_cell : IsCell 5 8 (codes "BND")
 set_cell = record { word = bound_set; fits = omega arith; none = none_2 }
 
+-- the data cards of a written text are read as their fields in both forms
 pub cards_are_read_back : (style : Style) → AreReadBack style
 cards_are_read_back Free =
     record {

@@ -13,6 +13,7 @@ use Rattle.spec_mps.specs.Sides.{changed_at}
 use Rattle.spec_mps.proofs.WrittenRows.{IsAbsent}
 use Rattle.spec_mps.proofs.WrittenPlaces.{same_itself}
 
+-- an element with a name that none before it has is the first with that name
 len_behind : {X : Type 0} (f : X → Name) (name : Name) (done : List X) (x : X) (more : List X) →
     IsAbsent name (map f done) → f x ≡ name → position_or_len (λ y. same (f y) name) (done ++ x ∷ more) ≡ length done
 len_behind f name [] x more h e = rw (e, same_itself name) refl

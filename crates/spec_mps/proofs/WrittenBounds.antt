@@ -42,6 +42,7 @@ use Rattle.spec_mps.proofs.WrittenKinds.{value_known, value_shape, value_is, nam
 abbrev pub used_set : Option (Option Name)
 used_set = Some (Some (codes "BND"))
 
+-- a card of BOUNDS whose texts are read gives its column the bounds that it says
 bound_card_read : (style : Style) (s : State) (fields : Fields) (kind : BoundKind)
     (texts : BoundTexts) (place : ℕ) (card : BoundCard) → bound_kind_of (text_at 1 fields) ≡ Ok kind →
     bound_texts style kind fields ≡ Ok texts → is_used s.set texts.set ≡ true
@@ -50,6 +51,7 @@ bound_card_read : (style : Style) (s : State) (fields : Fields) (kind : BoundKin
 unfolding bounds_card use_bound
 bound_card_read style s fields kind texts place card known shape used there is = rw (known, shape, used, there, is) refl
 
+-- a written card of BOUNDS that is read back gives its column the bounds that it says
 bound_step : (style : Style) (s t : State) (fields : Fields) (kind : BoundKind)
     (texts : BoundTexts) (place : ℕ) (card : BoundCard) → s.part ≡ Some section.Bounds →
     IsReadBack style fields → bound_kind_of (text_at 1 (read_as style fields)) ≡ Ok kind
@@ -76,6 +78,7 @@ pub record AreBefore (name : Name) (done : List ExactColumn) (lowered : List Boo
   pub absent : IsAbsent name (column_names done)
   pub alike : length lowered ≡ length done
 
+-- a card's bounds change the column behind those that are done, and its mark
 put_behind : (s : State) (done : List ExactColumn) (c : ExactColumn) (more : List ExactColumn) (before : List Bool)
     (b : Bool) (after : List Bool) (set : Option (Option Name)) (card : BoundCard) → length before ≡ length done
     → with_bound (bounding s (done ++ c ∷ more) (before ++ b ∷ after) set) (length done) card
@@ -100,6 +103,7 @@ abbrev pub spot : State → List ExactColumn → ExactColumn → List ExactColum
     Option (Option Name) → State
 spot s done c more before b after set = bounding s (done ++ c ∷ more) (before ++ b ∷ after) set
 
+-- a card's bounds that make c into d do so behind the columns that are done
 set_there : (s : State) (done : List ExactColumn) (c d : ExactColumn) (more : List ExactColumn) (before : List Bool)
     (b : Bool) (after : List Bool) (card : BoundCard) → length before ≡ length done → bounded b card c ≡ d
     → with_bound (spot s done c more before b after used_set) (length done) card
@@ -108,6 +112,7 @@ set_there s done c d more before b after card e change =
     put_behind s done c more before b after used_set card e
     ∙ ap (λ x. spot s done x more before (b || sets_lower card) after used_set) change
 
+-- a written card with a value gives its column the bounds that it says
 value_goes : (style : Style) (s : State) (done : List ExactColumn) (c d : ExactColumn)
     (more : List ExactColumn) (before : List Bool) (b : Bool) (after : List Bool)
     (set : Option (Option Name)) (kind : BoundKind) (q : ℚ) → s.part ≡ Some section.Bounds →
@@ -125,6 +130,7 @@ value_goes style s done c d more before b after set kind q e place used takes na
     (place_behind (λ x. x.name) c.name done c more place.absent refl) (value_is kind q takes h)
     (set_there s done c d more before b after (says kind q) place.alike change)
 
+-- a written card without a value gives its column the bounds that it says
 name_goes : (style : Style) (s : State) (done : List ExactColumn) (c d : ExactColumn)
     (more : List ExactColumn) (before : List Bool) (b : Bool) (after : List Bool)
     (set : Option (Option Name)) (kind : BoundKind) → s.part ≡ Some section.Bounds →
@@ -143,6 +149,7 @@ name_goes style s done c d more before b after set kind e place used takes name 
 
 -- ---- room
 
+-- a card of BOUNDS that has room has room for its name and its number
 value_room : (style : Style) (word : List ℕ) (name : Name) (q : ℚ) → RoomFor style (bound_card word name q ∷ []) →
     HasRoom style 8 name × HasRoom style 12 (number_text q)
 value_room Free word name q h = (tt, tt)
@@ -154,6 +161,7 @@ value_room Fixed word name q h =
     let d = field_narrow (field_at 4 (number_text q)) [] c.1 in
     (ltb-false 8 (length name) c.0, ltb-false 12 (length (number_text q)) d.0)
 
+-- a card of BOUNDS without a value that has room has room for its name
 name_room : (style : Style) (word : List ℕ) (name : Name) → RoomFor style (unbound_card word name ∷ []) →
     HasRoom style 8 name
 name_room Free word name h = tt
@@ -173,10 +181,13 @@ IsBounded style s done c more before after set cards =
     × Goes style (spot s done (bare_column c) more before false after set) cards (spot s done c more before b after q)
     × (is_used q (Some (codes "BND")) ≡ true)
 
--- an upper bound where the lower one is set, or where it is not negative
+-- ---- an upper bound where the lower one is set, or where it is not negative
+
+-- where a card has set the lower bound, a card that sets the upper one leaves it
 upper_lowered : (c : ExactColumn) (u : ℚ) → bounded true (SetsUpper (Some u)) c ≡ record c { upper = Some u }
 upper_lowered c u = rw (and_right (lt_ℚ u 0ℚ) false refl) refl
 
+-- a number that is above 0 by the test is not below 0 by the test
 not_below : (u : ℚ) → lt_ℚ 0ℚ u ≡ true → lt_ℚ u 0ℚ ≡ false
 not_below u h = not_lt_test u 0ℚ (by (≤ℚ_total 0ℚ u))
   where
@@ -184,10 +195,12 @@ not_below u h = not_lt_test u 0ℚ (by (≤ℚ_total 0ℚ u))
     by (inl k) = k
     by (inr k) = absurd (not_from_lt 0ℚ u (lt_if 0ℚ u h) k)
 
+-- where no card has set the lower bound, a card that sets an upper one above 0 leaves it
 upper_positive : (c : ExactColumn) (u : ℚ) → lt_ℚ 0ℚ u ≡ true →
     bounded false (SetsUpper (Some u)) c ≡ record c { upper = Some u }
 upper_positive c u h = rw (not_below u h) refl
 
+-- the written cards of a column's bounds are read as these bounds of the column
 pub column_bounded : (style : Style) (s : State) (done : List ExactColumn) (c : ExactColumn)
     (more : List ExactColumn) (before after : List Bool) (set : Option (Option Name)) →
     s.part ≡ Some section.Bounds → AreBefore c.name done before

@@ -41,6 +41,7 @@ use Rattle.spec_mps.proofs.WrittenBounds.{IsBounded, bounding, spot, column_name
 abbrev bounds_of : List ExactColumn → WrittenCards
 bounds_of columns = flat_map (λ c. bound_cards c.name c.lower c.upper) columns
 
+-- a bound that may be kept and has 127 bits may stand on a written card
 bound_number : (o : Option ℚ) → IsBound o → IfSome o IsNarrow → IfSome o IsBoundNumber
 bound_number None h k = tt
 bound_number (Some q) h k = record { narrow = k; small = h }
@@ -52,10 +53,12 @@ AreBounded style s done rest before set =
     × Goes style (bounding s (done ++ map bare_column rest) (before ++ map (λ c. false) rest) set)
     (bounds_of rest) (bounding s (done ++ rest) bs q)
 
+-- one more column that is done adds its name to the names that are done
 names_next : (done : List ExactColumn) (c : ExactColumn) →
     column_names done ++ c.name ∷ [] ≡ column_names (done ++ c ∷ [])
 names_next done c = sym (map-append (λ x. x.name) done (c ∷ []))
 
+-- the written cards of columns still to come give these their bounds
 bounds_go : (style : Style) (height : ℕ) (s : State) (done rest : List ExactColumn)
     (before : List Bool) (set : Option (Option Name)) → s.part ≡ Some section.Bounds →
     All (IsKeptColumn height) rest → All IsNarrowColumn rest
@@ -101,12 +104,14 @@ bounds_go style height s done (c ∷ rest) before set e kept narrow fresh alike 
 
 -- ---- the section, which is there where bounds are not the usual ones
 
+-- a column without its bounds has the usual bounds
 usual_is : (c : ExactColumn) (lower upper : Option ℚ) → is_usual lower upper ≡ true →
     bare_column c ≡ record c { lower = lower; upper = upper }
 usual_is c None upper h = cc
 usual_is c (Some l) None h = ap (λ x. record c { lower = Some x; upper = None }) (sym (eq_if l 0ℚ h))
 usual_is c (Some l) (Some u) h = cc
 
+-- where all columns have the usual bounds, they are the same without their bounds
 none_bounded : (columns : List ExactColumn) → list_any has_bounds columns ≡ false → map bare_column columns ≡ columns
 none_bounded [] h = refl
 none_bounded (c ∷ columns) h =
@@ -163,6 +168,7 @@ bounds_are_read style m kept room s h =
 
 -- ---- the end
 
+-- a state that has all of a model makes that model
 is_model : (s : State) (m : Model) → IsWhole s m → model_by s m.objective ≡ m
 unfolding model_by
 is_model s m h = let k = h.known in rw (k.name, k.sense, h.offset, h.rows, k.none_open, h.columns) refl

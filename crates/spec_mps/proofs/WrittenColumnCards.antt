@@ -35,6 +35,7 @@ use Rattle.spec_mps.proofs.WrittenRows.{goes_one}
 use Rattle.spec_mps.proofs.WrittenParts.{number_fields}
 use Rattle.spec_mps.proofs.WrittenPlaces.{number_is_in}
 
+-- a written card of COLUMNS is read as its column, its name and the text of its number
 read_number : (style : Style) (part : Option Section) (group name : Name) (value : ℚ) →
     part ≡ Some section.Columns → IsItem style 8 group → IsItem style 8 name → IsItem style 12 (number_text value)
     → reading_of style part (line_text style (number_card group name value))
@@ -45,6 +46,7 @@ read_number Fixed part group name value e h k l =
     ap (λ p. reading_of Fixed p (line_text Fixed (number_card group name value))) e
     ∙ ((cards_are_read_back Fixed).numbers group name (number_text value) h k l).read
 
+-- a column, a name and a text of a number are of the shape of COLUMNS
 has_number_shape : (style : Style) (group name text : List ℕ) →
     shaped style section.Columns (read_as style (number_fields group name text)) ≡ Ok (group ∷ name ∷ text ∷ [])
 unfolding shaped has_shape
@@ -56,6 +58,7 @@ no_marker : (name : Name) → is_row_name name ≡ true → same name (codes "'M
 unfolding is_row_name
 no_marker name h = not-true (same name (codes "'MARKER'")) (and_parts (is_name name) (not (same name (codes "'MARKER'"))) h).1
 
+-- a card of COLUMNS opens its column, and then enters its pair
 columns_read : (style : Style) (s t u : State) (group name text : List ℕ) → is_name group ≡ true →
     is_row_name name ≡ true → opened usual_limits s group ≡ Ok t → column_pair t name text ≡ Ok u
     → columns_card usual_limits style s (read_as style (number_fields group name text)) ≡ Ok u
@@ -65,6 +68,7 @@ columns_read Free s t u group name text g n o p =
 columns_read Fixed s t u group name text g n o p =
     rw (no_marker name n, has_number_shape Fixed group name text, g, o, p) refl
 
+-- a pair of a known name and a number's text enters that number there
 pair_read : (s u : State) (name : Name) (value : ℚ) (t : Target) → place_of s name ≡ Some t → IsNarrow value →
     enter s t value ≡ Ok u → column_pair s name (number_text value) ≡ Ok u
 unfolding column_pair

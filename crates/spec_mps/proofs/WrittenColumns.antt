@@ -22,6 +22,7 @@ IsPrinted w = list_all is_printable w ≡ true
 abbrev pub blanks : ℕ → List ℕ
 blanks n = replicate n 32
 
+-- a printed byte is no space
 no_space : (b : ℕ) → is_printable b ≡ true → is_space b ≡ false
 no_space b h =
     let p = and_parts (nat_le 33 b) (nat_le b 126) h in
@@ -30,27 +31,33 @@ no_space b h =
 
 -- ---- blanks at both ends
 
+-- blanks are spaces alone
 all_blank : (n : ℕ) → list_all is_space (blanks n) ≡ true
 all_blank zero = refl
 all_blank (suc n) = all_blank n
 
+-- blanks have nothing behind the spaces at their front
 front_blank : (n : ℕ) → without_front (blanks n) ≡ []
 front_blank zero = refl
 front_blank (suc n) = front_blank n
 
+-- blanks have nothing before the spaces at their end
 end_blank : (n : ℕ) → without_end (blanks n) ≡ []
 end_blank zero = refl
 end_blank (suc n) = rw (all_blank n) refl
 
+-- a printed text with blanks behind it is that text without the spaces at its end
 end_printed : (w : List ℕ) (n : ℕ) → IsPrinted w → without_end (w ++ blanks n) ≡ w
 end_printed [] n h = end_blank n
 end_printed (b ∷ w) n h =
     let p = and_parts (is_printable b) (list_all is_printable w) h in
     rw (no_space b p.0) (ap (λ v. b ∷ v) (end_printed w n p.1))
 
+-- a text that begins with no space loses nothing with the spaces at its front
 front_kept : (b : ℕ) (bs : List ℕ) → is_space b ≡ false → without_front (b ∷ bs) ≡ b ∷ bs
 front_kept b bs h = rw h refl
 
+-- a printed text with blanks behind it is that text without the spaces at both ends
 trimmed : (w : List ℕ) (n : ℕ) → IsPrinted w → without_end (without_front (w ++ blanks n)) ≡ w
 trimmed [] n h = ap without_end (front_blank n)
 trimmed (b ∷ w) n h =
@@ -59,25 +66,27 @@ trimmed (b ∷ w) n h =
 
 -- ---- what stands between two columns
 
+-- the first k bytes of a text that begins with k blanks or more are k blanks
 take_blanks : (k n : ℕ) (rest : List ℕ) → k ≤ n → take k (blanks n ++ rest) ≡ blanks k
 take_blanks zero n rest h = refl
 take_blanks (suc k) zero rest h = absurd (omega arith)
 take_blanks (suc k) (suc n) rest h = ap (λ l. 32 ∷ l) (take_blanks k n rest (omega arith))
 
--- up to this many bytes of a text with trailing blanks
+-- the first bytes of a text with enough blanks behind it are the text and the blanks that fit
 reach : (w rest : List ℕ) (n k size : ℕ) → size ≡ length w + k → k ≤ n →
     take size (w ++ (blanks n ++ rest)) ≡ w ++ blanks k
 reach [] rest n k size e h = ap (λ t. take t (blanks n ++ rest)) (omega arith) ∙ take_blanks k n rest h
 reach (b ∷ w) rest n k zero e h = absurd (omega arith)
 reach (b ∷ w) rest n k (suc size) e h = ap (λ l. b ∷ l) (reach w rest n k size (omega arith) h)
 
--- the bytes after a prefix
+-- the bytes behind a prefix, up to a size, are the first bytes of what stands behind the prefix
 window : (front cell : List ℕ) (size total : ℕ) → total ≡ length front + size →
     drop (length front) (take total (front ++ cell)) ≡ take size cell
 window [] cell size total e = ap (λ t. take t cell) (omega arith)
 window (b ∷ front) cell size zero e = absurd (omega arith)
 window (b ∷ front) cell size (suc total) e = window front cell size total (omega arith)
 
+-- the first bytes of a list are no more than all
 short : (n : ℕ) (l : List ℕ) → length (take n l) ≤ length l
 short zero l = omega arith
 short (suc n) [] = omega arith
@@ -115,12 +124,14 @@ column_past line first last h =
 
 -- ---- no byte is misplaced
 
+-- a printed byte is no tab
 no_tab : (b : ℕ) → is_printable b ≡ true → (b == 9) ≡ false
 no_tab b h =
     let p = and_parts (nat_le 33 b) (nat_le b 126) h in
     let low : 33 ≤ b = leb-true 33 b p.0 in
     ne_eqb b 9 (λ e. omega arith)
 
+-- a test and another one that asks for false do not both pass
 never : (s t : Bool) → s && (false || (t && false)) ≡ false
 never true true = refl
 never true false = refl
@@ -137,6 +148,7 @@ placed_blanks column (suc n) rest =
 abbrev pub HasNoneBeside : ℕ → ℕ → Type 0
 HasNoneBeside first size = (k : ℕ) → first ≤ k → k < first + size → is_beside k ≡ false
 
+-- a printed byte in a column of a field is not misplaced
 text_byte : (column b : ℕ) → is_printable b ≡ true → is_beside column ≡ false → is_misplaced column b ≡ false
 text_byte column b h none = rw (no_tab b h, none) (and_right (nat_le column 62) false refl)
 

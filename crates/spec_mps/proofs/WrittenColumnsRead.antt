@@ -43,6 +43,7 @@ record IsWithin (m : Model) (s : State) : Type 0 where
 abbrev at : State → List ExactColumn → Option ExactColumn → List Bool → List Target → State
 at s columns column lowered paired = record s { columns = columns; column = column; lowered = lowered; paired = paired }
 
+-- a state with a model's rows has them with any columns and targets that have a number
 rows_at : (m : Model) (s : State) (columns : List ExactColumn)
     (column : Option ExactColumn) (lowered : List Bool) (paired : List Target) →
     HasRowsOf m s → HasRowsOf m (at s columns column lowered paired)
@@ -62,6 +63,7 @@ paired_by paired (e ∷ es) = paired_by (Row e.0 ∷ paired) es
 abbrev entry_card : Model → ExactColumn → ℕ × ℚ → WrittenCard
 entry_card m c e = number_card c.name (row m e.0).name e.1
 
+-- the written card of an entry puts it behind the open column's other entries
 entry_goes : (style : Style) (m : Model) (s : State) (c : ExactColumn) (columns : List ExactColumn)
     (lowered : List Bool) (es : List (ℕ × ℚ)) (e : ℕ × ℚ) (paired : List Target) → IsModel m → IsWithin m s
     → e.0 < length m.rows →
@@ -79,6 +81,7 @@ entry_goes style m s c columns lowered es e paired kept within inside card z bel
     (entered before (with_entries c es) (Row e.0) e.1 refl (not_paired e.0 paired p)
     ∙ ap after (entry_put (bare_column c) es e z below))
 
+-- the written cards of entries put them behind the open column's other entries
 entries_go : (style : Style) (m : Model) (s : State) (c : ExactColumn) (columns : List ExactColumn)
     (lowered : List Bool) (low : ℕ) (es rest : List (ℕ × ℚ)) (paired : List Target) →
     IsModel m → IsWithin m s → is_name c.name ≡ true
@@ -122,6 +125,7 @@ entries_go style m s c columns lowered low es (e ∷ rest) paired kept within na
 
 -- ---- a column
 
+-- the written cards of a column make it the open column, without its bounds
 column_goes : (style : Style) (m : Model) (s : State) (c : ExactColumn) (columns : List ExactColumn)
     (column : Option ExactColumn) (lowered : List Bool) (paired : List Target) → IsModel m → IsWithin m s
     → IsKeptColumn (length m.rows) c → IsNarrowColumn c → is_open column c.name ≡ false →
@@ -161,15 +165,18 @@ column_goes style m s c columns column lowered paired kept within k n closed abs
 abbrev names_of_columns : List ExactColumn → List Name
 names_of_columns columns = map (λ c. c.name) columns
 
+-- a column of a list has a name just where the name is one of their names
 any_named : (columns : List ExactColumn) (name : Name) →
     list_any (λ c. same c.name name) columns ≡ list_any (λ n. same n name) (names_of_columns columns)
 any_named [] name = refl
 any_named (c ∷ columns) name = ap (λ t. same c.name name || t) (any_named columns name)
 
+-- where neither of two tests passes, the second does not
 last_part : (s t : Bool) → s || t ≡ false → t ≡ false
 last_part true t e = cc
 last_part false t e = e
 
+-- a name that no column has, the open one among them, is not that of the open one
 not_open : (columns : List ExactColumn) (column : Option ExactColumn) (name : Name) →
     list_any (λ c. same c.name name) (columns_with columns column) ≡ false → is_open column name ≡ false
 not_open columns None name h = refl
@@ -183,6 +190,7 @@ not_open columns (Some c) name h =
 
 -- ---- all columns
 
+-- the written cards of columns and the heading RHS put the columns behind those before
 columns_go : (style : Style) (m : Model) (s : State) (cs columns : List ExactColumn)
     (column : Option ExactColumn) (lowered : List Bool) (paired : List Target) → IsModel m → IsWithin m s
     → All (IsKeptColumn (length m.rows)) cs → All IsNarrowColumn cs →
@@ -236,6 +244,7 @@ columns_go style m s (c ∷ cs) columns column lowered paired kept within k n ne
 
 -- ---- the section
 
+-- the written cards of COLUMNS are read as the model's columns, without bounds
 pub columns_are_read : (style : Style) (m : Model) → IsUsualModel m → Fits style m → ColumnsAreRead style m
 unfolding columns_cards
 columns_are_read style m kept fits s none =

@@ -30,6 +30,7 @@ abbrev pub Ascend : ℕ → ℕ → List (ℕ × ℚ) → Type 0
 Ascend n low [] = Unit {0}
 Ascend n low (e ∷ es) = IsNext n low e × Ascend n (suc e.0) es
 
+-- entries of 127 bits in ascending rows from low on, none 0, ascend from low
 ascend_from : (n low : ℕ) (es : List (ℕ × ℚ)) → All (λ e. low ≤ e.0) es → All (λ e. e.0 < n) es →
     AllPairs (λ d e. d.0 < e.0) es → All (λ e. e.1 ≢ 0ℚ) es → All (λ e. IsNarrow e.1) es → Ascend n low es
 ascend_from n low [] above inside ascending not_zero narrow = tt
@@ -89,12 +90,14 @@ not_paired i [] h = refl
 not_paired i (Objective ∷ ts) h = not_paired i ts h
 not_paired i (Row j ∷ ts) h = grind (arith, not_paired i ts h.1)
 
+-- a number of a row above those of all entries is put behind them
 put_behind : (i : ℕ) (v : ℚ) (es : List (ℕ × ℚ)) → AreBelow i es → put_entry i v es ≡ es ++ (i, v) ∷ []
 put_behind i v [] h = refl
 put_behind i v (e ∷ es) h =
     let less : e.0 < i = h.0 in
     rw (le-ltb i e.0 (omega arith), put_behind i v es h.1) refl
 
+-- a number other than 0 is not 0 by the test
 differs : (v : ℚ) → v ≢ 0ℚ → eq_ℚ v 0ℚ ≡ false
 differs v h = by (eq_ℚ v 0ℚ) refl
   where

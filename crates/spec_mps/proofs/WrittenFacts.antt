@@ -25,7 +25,7 @@ pub record IsStart (n : Name) (sense_read : Option Sense) (o : Option Name)
 abbrev pub HasStart : State → Model → Type 0
 HasStart s m = IsStart s.name s.sense s.objective s.seen.columns s.column m
 
--- as a section begins
+-- what no later section changes is known with no column open as a section begins
 pub start_closed : (s : State) (m : Model) → HasStart s m →
     IsStart s.name s.sense s.objective s.seen.columns None m
 start_closed s m k =

@@ -39,7 +39,7 @@ pub within : (first last : ℕ) (line more : List ℕ) → last ≤ length line 
 unfolding in_columns
 within first last line more h = rw (take-append-le last line more h) refl
 
--- a text with blanks after it, in its columns
+-- a printed text with blanks behind it is what stands in its columns
 cell_read : (front w : List ℕ) (n first last size : ℕ) → IsPrinted w →
     length front + 1 ≡ first → length front + size ≡ last → length w ≤ size → size ≤ length w + n
     → in_columns first last ((front ++ w) ++ blanks n) ≡ w
@@ -52,9 +52,11 @@ cell_read front w n first last size h a b fits far =
 abbrev pub IsPlaced : List ℕ → Type 0
 IsPlaced line = (rest : List ℕ) → misplaced_from 1 (line ++ rest) ≡ misplaced_from (length line + 1) rest
 
+-- no byte of an empty line is misplaced
 none_placed : IsPlaced []
 none_placed rest = refl
 
+-- blanks behind a line without misplaced bytes add none
 blanks_placed : (line : List ℕ) (n : ℕ) → IsPlaced line → IsPlaced (line ++ blanks n)
 blanks_placed line n h rest =
     let a : length (line ++ blanks n) ≡ length line + length (blanks n) = length-append line (blanks n) in
@@ -62,6 +64,7 @@ blanks_placed line n h rest =
     ap (misplaced_from 1) (append_assoc line (blanks n) rest) ∙ h (blanks n ++ rest)
     ∙ placed_blanks (length line + 1) n rest ∙ ap (λ k. misplaced_from k rest) (omega arith)
 
+-- a printed text that fits its field, behind a line without misplaced bytes, adds none
 text_placed : (line w : List ℕ) (column size : ℕ) → IsPlaced line → length line + 1 ≡ column → IsPrinted w →
     length w ≤ size → HasNoneBeside column size → IsPlaced (line ++ w)
 text_placed line w column size h e p fits none rest =
@@ -69,6 +72,7 @@ text_placed line w column size h e p fits none rest =
     ap (misplaced_from 1) (append_assoc line w rest) ∙ h (w ++ rest) ∙ ap (λ k. misplaced_from k (w ++ rest)) e
     ∙ placed_text column size w rest p fits none ∙ ap (λ k. misplaced_from k rest) (omega arith)
 
+-- a line without misplaced bytes has no first one
 whole_placed : (line : List ℕ) → IsPlaced line → misplaced_from 1 line ≡ None
 whole_placed line h = ap (misplaced_from 1) (sym (append-nil line)) ∙ h []
 
@@ -79,6 +83,7 @@ abbrev are_inside : ℕ → ℕ → Bool
 are_inside first zero = true
 are_inside first (suc size) = not (is_beside (first + size)) && are_inside first size
 
+-- a field whose columns are inside by the test has no columns beside the fields
 none_beside : (first size : ℕ) → are_inside first size ≡ true → HasNoneBeside first size
 none_beside first zero h k a b = absurd (omega arith)
 none_beside first (suc size) h k a b =
@@ -100,13 +105,17 @@ pub none_4 : HasNoneBeside 25 12
 none_4 = none_beside 25 12 refl
 
 -- ---- a line that begins with a blank and has a word is a data card
+
+-- a word is not blank
 word_not_blank : (w : List ℕ) → IsWord w → list_all is_blank w ≡ false
 word_not_blank [] h = cc
 word_not_blank (b ∷ w) h = rw (no_blank b (and_parts (is_printable b) (list_all is_printable w) h.printable).0) refl
 
+-- a line with a word at its end is not blank
 with_word : (line w : List ℕ) → IsWord w → list_all is_blank (line ++ w) ≡ false
 with_word line w h = list_all-append is_blank line w ∙ rw (word_not_blank w h) (and_right (list_all is_blank line) false refl)
 
+-- blanks are plain bytes
 plain_blanks : (n : ℕ) → list_all is_plain (blanks n) ≡ true
 plain_blanks zero = refl
 plain_blanks (suc n) = plain_blanks n
@@ -118,6 +127,7 @@ by_columns : (line : List ℕ) (fs : Fields) → begins_with_star line ≡ false
 unfolding fixed_fields is_skipped
 by_columns line fs star blank plain word none here = rw (star, stripped_plain line plain, word, blank, none, here) refl
 
+-- a word that stands in the columns of a field is that field
 a_field : (n : ℕ) (w : List ℕ) → IsWord w → field_of n w ≡ field_at n w ∷ []
 a_field n [] h = cc
 a_field n (b ∷ w) h = refl
@@ -139,6 +149,7 @@ pub record IsCell (column size : ℕ) (w : List ℕ) : Type 0 where
   pub fits : length w ≤ size
   pub none : HasNoneBeside column size
 
+-- a front with a word in its cell is the front of the next cell
 cell_front : (line w : List ℕ) (at column size next : ℕ) → IsFront line at → at + 1 ≡ column →
     IsCell column size w → at + size ≤ next → IsFront (cell next line w) next
 cell_front line w at column size next h e c room =
@@ -158,7 +169,7 @@ cell_front line w at column size next h e c room =
           (text_placed line w column size h.placed (ap (λ k. k + 1) h.long ∙ e) c.word.printable c.fits c.none);
     }
 
--- what stands in the cell, and all that stood before it
+-- a word that is put in its cell behind a front is what stands in the cell's columns
 cell_is : (line w : List ℕ) (at column last size next : ℕ) → IsFront line at → at + 1 ≡ column → at + size ≡ last →
     IsCell column size w → at + size ≤ next → in_columns column last (cell next line w) ≡ w
 cell_is line w at column last size next h e f c room =
@@ -168,6 +179,7 @@ cell_is line w at column last size next h e f c room =
     cell_read line w (next - length (line ++ w)) column last size c.word.printable
     (omega arith) (omega arith) c.fits (omega arith)
 
+-- a word in a cell behind a line leaves what stands in the line's columns
 cell_keeps : (line w : List ℕ) (first last next : ℕ) → last ≤ length line →
     in_columns first last (cell next line w) ≡ in_columns first last line
 cell_keeps line w first last next h =
@@ -202,22 +214,24 @@ last_is line w at column last size h e f c =
     let l = h.long in
     column_last line w column last size c.word.printable (omega arith) (omega arith) c.fits
 
+-- one blank is the front of a cell behind column 1
 one_blank : IsFront (32 ∷ []) 1
 one_blank = record { long = refl; plain = refl; placed = blanks_placed [] 1 none_placed }
 
+-- four blanks are the front of a cell behind column 4
 four_blanks : IsFront (32 ∷ 32 ∷ 32 ∷ 32 ∷ []) 4
 four_blanks = record { long = refl; plain = refl; placed = blanks_placed [] 4 none_placed }
 
 -- ---- the four kinds of cards
 
--- fields 5 and 6 are never written
+-- a line with nothing in fields 5 and 6 has the fields 1 to 4 alone
 six_fields : (line k a b c : List ℕ) → in_columns 2 3 line ≡ k → in_columns 5 12 line ≡ a →
     in_columns 15 22 line ≡ b → in_columns 25 36 line ≡ c → in_columns 40 47 line ≡ [] → in_columns 50 61 line ≡ []
     → column_fields line ≡ field_of 1 k ++ field_of 2 a ++ field_of 3 b ++ field_of 4 c
 unfolding column_fields
 six_fields line k a b c c1 c2 c3 c4 c5 c6 = rw (c1, c2, c3, c4, c5, c6, append-nil, append-nil) refl
 
--- what stands in the first four fields of a line, which has nothing behind them
+-- a line that ends before field 5 is read as its fields 1 to 4
 cut_read : (line k a b c : List ℕ) (limit : ℕ) (fs : Fields) → IsEnded line limit → limit ≤ 36 →
     begins_with_star line ≡ false → begins_with_blank line ≡ true → in_columns 2 3 line ≡ k →
     in_columns 5 12 line ≡ a → in_columns 15 22 line ≡ b → in_columns 25 36 line ≡ c
@@ -250,7 +264,7 @@ record HasTwo (k a line : List ℕ) : Type 0 where
   first : in_columns 2 3 line ≡ k
   second : in_columns 5 12 line ≡ a
 
--- a set alone
+-- a set alone stands in field 2, with nothing in field 1
 group_cell : (a : List ℕ) → IsCell 5 8 a → HasTwo [] a (cell 14 (32 ∷ 32 ∷ 32 ∷ 32 ∷ []) a)
 unfolding in_columns
 group_cell a ha =
@@ -261,7 +275,7 @@ group_cell a ha =
       second = cell_is start a 4 5 12 8 14 four_blanks refl refl ha (omega arith);
     }
 
--- a kind and a set
+-- a kind and a set stand in fields 1 and 2
 kind_cells : (k a : List ℕ) → IsCell 2 2 k → IsCell 5 8 a → HasTwo k a (cell 14 (cell 4 (32 ∷ []) k) a)
 kind_cells k a hk ha =
     let two : List ℕ = cell 4 (32 ∷ []) k in
@@ -275,7 +289,7 @@ kind_cells k a hk ha =
       second = cell_is two a 4 5 12 8 14 front refl refl ha (omega arith);
     }
 
--- then a name and a number
+-- a kind or none, a set, a name and a number are read as the fields 1 to 4
 four_read : (three k a b c : List ℕ) (fs : Fields) → HasTwo k a three → IsCell 15 8 b → IsCell 25 12 c →
     begins_with_star (cell 24 three b ++ c) ≡ false → begins_with_blank (cell 24 three b ++ c) ≡ true →
     field_of 1 k ++ field_of 2 a ++ field_of 3 b ++ field_of 4 c ≡ fs

@@ -24,7 +24,7 @@ use Rattle.spec_mps.specs.Reader.{State}
 use Rattle.spec_mps.specs.Steps.{More, begun, section_card, step, on_reading, reading_of}
 use Rattle.spec_mps.specs.Written.{field_at}
 
--- what both forms read alike
+-- a line that both forms read alike is read so in each style
 alike : (style : Style) (part : Option Section) (line : List ℕ) (reading : CardReading) → free_fields line ≡ reading →
     fixed_fields line ≡ reading → reading_of style part line ≡ reading
 alike Free part line reading a b = a

@@ -48,10 +48,12 @@ says Fr q = SetsBoth None None
 says Mi q = SetsLower None
 says Pl q = SetsUpper None
 
+-- the written word of each kind of bounds is a word
 word_is : (kind : BoundKind) → IsWord (bound_word kind)
 word_is Up = record { some = refl; printable = refl }
 word_is kind = record { some = refl; printable = refl }
 
+-- the written word of each kind of bounds is read as that kind
 word_known : (kind : BoundKind) → bound_kind_of (bound_word kind) ≡ Ok kind
 unfolding bound_kind_of
 word_known Up = refl
@@ -77,6 +79,7 @@ pub record IsBoundNumber (q : ℚ) : Type 0 where
   pub narrow : IsNarrow q
   pub small : abs_ℚ q <ℚ infinite
 
+-- the text of a number that may be a bound is read as that finite bound
 bound_reads : (q : ℚ) → IsBoundNumber q → bound_in (number_text q) ≡ Ok (value.Finite q)
 unfolding bound_in
 bound_reads q h =

@@ -24,6 +24,7 @@ no_feed (b ∷ line) h =
     let low : 32 ≤ b = leb-true 32 b q.0 in
     All-cons (λ x. x ≢ 10) b line (λ e. omega arith) (no_feed line p.1)
 
+-- a plain line, a line feed and more text are that line and the lines of that text
 one_line : (line more : List ℕ) → IsPlainLine line → lines_of ((line ++ 10 ∷ []) ++ more) ≡ Text line ∷ lines_of more
 one_line line more h =
     ap lines_of (append_assoc line (10 ∷ []) more) ∙ lines_of_line line more (no_feed line h.plain)

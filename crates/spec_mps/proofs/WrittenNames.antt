@@ -30,6 +30,7 @@ use Rattle.spec_mps.proofs.WrittenRows.{IsAbsent, AreFresh, AreRows}
 
 -- ---- words
 
+-- a name whose length is above 0 has bytes
 some_bytes : (name : Name) → nat_lt 0 (length name) ≡ true → has_bytes name ≡ true
 some_bytes [] h = cc
 some_bytes (b ∷ name) h = refl
@@ -47,6 +48,7 @@ row_name_word name h = name_word name (and_parts _ _ h).0
 
 -- ---- distinct names
 
+-- a name absent from names and other than a last one is absent from both
 absent_next : (name : Name) (seen : List Name) (last : Name) → IsAbsent name seen → last ≢ name →
     IsAbsent name (seen ++ last ∷ [])
 absent_next name seen last h k = list_any-append (λ n. same n name) seen (last ∷ []) ∙ rw (h, not_same last name k) refl
@@ -67,6 +69,7 @@ fresh_names first names k = (fresh [] (first ∷ names) (λ i d a. refl) k).1
 
 -- ---- room in fixed form
 
+-- where a field under a test, or else another, gives no text, neither is there
 cond_none : (t : Bool) (f : Field) (o : Option Field) → option_map (λ g. g.text) (cond t (Some f) o) ≡ None →
     (t ≡ false) × (option_map (λ g. g.text) o ≡ None)
 cond_none true f o h = cc
@@ -76,14 +79,17 @@ pub field_narrow : (f : Field) (fs : Fields) → option_map (λ g. g.text) (find
     (is_wide f ≡ false) × (option_map (λ g. g.text) (find is_wide fs) ≡ None)
 field_narrow f fs h = cond_none (is_wide f) f (find is_wide fs) h
 
+-- where the first field that is there of two gives no text, the first gives none
 front_none : (x y : Option Field) → option_map (λ g. g.text) (option_or x y) ≡ None → option_map (λ g. g.text) x ≡ None
 front_none None y h = refl
 front_none (Some f) y h = cc
 
+-- where the first field that is there of two gives no text, the second gives none
 back_none : (x y : Option Field) → option_map (λ g. g.text) (option_or x y) ≡ None → option_map (λ g. g.text) y ≡ None
 back_none None y h = h
 back_none (Some f) y h = cc
 
+-- the first text too wide on two lists of cards is on the first, or else on the second
 in_both : (cs ds : WrittenCards) →
     first_wide (cs ++ ds) ≡ option_map (λ g. g.text)
     (option_or (find is_wide (flat_map data_fields cs)) (find is_wide (flat_map data_fields ds)))

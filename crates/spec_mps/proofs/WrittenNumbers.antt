@@ -21,6 +21,7 @@ use Rattle.spec_mps.specs.NumberWritten.{last_digits, pointed, quotient_text, pl
 use Rattle.spec_mps.specs.NumberWritten.{places, size_text, number_text, IsWord}
 use Rattle.spec_mps.proofs.DigitLemmas.{digit_is, spelled_decimal, last_are_digits}
 
+-- a decimal digit is a printed byte
 printed_digit : (b : ℕ) → is_ascii_digit b ≡ true → is_printable b ≡ true
 printed_digit b h =
     let p = digit_is b h in let low = p.low in let high = p.high in
@@ -35,6 +36,7 @@ pub has_some : (ds : List ℕ) → 0 < length ds → has_bytes ds ≡ true
 has_some [] h = absurd (omega arith)
 has_some (d ∷ ds) h = refl
 
+-- the digits of a number within the limit are a word
 decimal_word : (n : ℕ) → n ≤ number_limit → IsWord (decimal n)
 decimal_word n h =
     let s = spelled_decimal n h in
@@ -46,10 +48,12 @@ longer [] more h k = cc
 longer (b ∷ w) more h k =
     record { some = refl; printable = list_all-append is_printable (b ∷ w) more ∙ rw (h.printable, k) refl }
 
+-- the text of a quotient of two numbers within the limit is a word
 quotient_word : (n den : ℕ) → n ≤ number_limit → den ≤ number_limit → IsWord (quotient_text n den)
 unfolding quotient_text
 quotient_word n den h k = longer (decimal n) (47 ∷ decimal den) (decimal_word n h) (decimal_word den k).printable
 
+-- the text of a number within the limit, with places behind a point, is a word
 pointed_word : (d n : ℕ) → n ≤ number_limit → IsWord (pointed d n)
 unfolding pointed
 pointed_word d n h =
@@ -57,6 +61,7 @@ pointed_word d n h =
     longer (decimal (n / 10 ^ d)) (46 ∷ last_digits d n)
     (decimal_word (n / 10 ^ d) (omega arith)) (printed (last_digits d n) (last_are_digits d n))
 
+-- the text of a fraction within the limit, with places or as a quotient, is a word
 placed_word : (n den : ℕ) (o : Option ℕ) → n ≤ number_limit → den ≤ number_limit → IsWord (placed n den o)
 unfolding placed
 placed_word n den None h k = quotient_word n den h k
@@ -67,6 +72,7 @@ placed_word n den (Some d) h k = by (nat_le (n * (10 ^ d / den)) number_limit) r
     by true e = pointed_word d (n * (10 ^ d / den)) (leb-true (n * (10 ^ d / den)) number_limit e)
     by false e = quotient_word n den h k
 
+-- the text of a fraction within the limit, without its sign, is a word
 size_word : (n den : ℕ) → n ≤ number_limit → den ≤ number_limit → IsWord (size_text n den)
 unfolding size_text
 size_word n den h k = by (den == 1)

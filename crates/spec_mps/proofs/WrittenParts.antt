@@ -41,6 +41,7 @@ has_numbers section.Ranges = true
 has_numbers section.Bounds = true
 has_numbers section.End = false
 
+-- in RHS, RANGES and BOUNDS a line is read as a data card of its form
 reading_is : (style : Style) (part : Section) (line : List ℕ) → has_numbers part ≡ true →
     reading_of style (Some part) line ≡ reading_in style line
 reading_is Free part line h = refl

@@ -38,13 +38,14 @@ number_is_in q h = ap (λ reading. coded (answer reading)) (read_written q h.top
 pub same_itself : (name : Name) → same name name ≡ true
 same_itself name = (same_is_equal name name).1 refl
 
--- names of rows, by their places
+-- a first name that differs from all behind it differs from the name of the row at each place
 names_differ : (rows : List ExactRow) (first : Name) (i : ℕ) → AllPairs (λ x y. x ≢ y) (first ∷ names_of rows) →
     i < length rows → first ≢ (get_or rows i no_row).name
 names_differ rows first i h l e =
     h 0 (suc i) [] (omega arith) (omega (arith, length-map rows (λ (r : ExactRow). r.name)))
     (e ∙ sym (get_or-map (λ (r : ExactRow). r.name) rows i no_row))
 
+-- among rows of distinct names, the first place of a row's name is that row's place
 passed : (rows : List ExactRow) (i : ℕ) → AllPairs (λ x y. x ≢ y) (names_of rows) → i < length rows →
     position_or_len (λ r. same r.name (get_or rows i no_row).name) (map bare_row rows) ≡ i
 passed [] i h l = absurd (omega arith)
@@ -56,6 +57,7 @@ passed (r ∷ rows) (suc i) h l =
       passed rows i (AllPairs-tail (λ x y. x ≢ y) r.name (names_of rows) h) less,
     ) (omega arith)
 
+-- among rows of distinct names, a search for a row's name finds that row's place
 position_of : (rows : List ExactRow) (i : ℕ) → AllPairs (λ x y. x ≢ y) (names_of rows) → i < length rows →
     position (λ r. same r.name (get_or rows i no_row).name) (map bare_row rows) ≡ Some i
 position_of rows i h l = rw (passed rows i h l, length-map rows bare_row, lt-ltb i (length rows) l) refl

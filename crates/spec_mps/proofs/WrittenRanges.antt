@@ -40,10 +40,12 @@ ranges_of rows = flat_map (λ r. range_cards r.name r.range) rows
 abbrev NeedsRange : Style → ExactRow → Type 0
 NeedsRange style r = (v : ℚ) → r.range ≡ Some v → IsNumberCard style r.name v × (is_free r.kind ≡ false)
 
+-- a list is the same with each element as it is
 as_they_are : (rows : List ExactRow) → map (λ r. r) rows ≡ rows
 as_they_are [] = refl
 as_they_are (r ∷ rows) = ap (λ l. r ∷ l) (as_they_are rows)
 
+-- the written cards of the rows' ranges give the rows without ranges their ranges
 ranges_go : (style : Style) (s : State) (objective : Name) (rows : List ExactRow)
     (paired : List Target) (set : Option (Option Name)) → s.part ≡ Some section.Ranges →
     s.objective ≡ Some objective → AllNeed (NeedsRange style) rows
@@ -89,6 +91,7 @@ ranges_go style s objective rows paired set e o known fresh unpaired used =
 
 -- ---- the section, which is there where a row has a range
 
+-- a row that may be kept, and whose range has room, has what its card needs
 range_known : (style : Style) (r : ExactRow) → IsWord r.name → FitsKind r.kind r.range → IsNarrowRow r →
     RoomFor style (range_cards r.name r.range) → NeedsRange style r
 range_known style r word fit h room v z = (
@@ -97,6 +100,7 @@ range_known style r word fit h room v z = (
   subst (FitsKind r.kind) z fit,
 )
 
+-- where no row has a range, the rows are the same without their ranges
 none_ranged : (rows : List ExactRow) → list_any has_range rows ≡ false → map rangeless rows ≡ rows
 none_ranged [] h = refl
 none_ranged (r ∷ rows) h =
@@ -108,6 +112,7 @@ none_ranged (r ∷ rows) h =
     absent None e = refl
     absent (Some v) e = cc
 
+-- the section RANGES of a written text, where it is there, is read as the rows' ranges
 pub ranges_are_read : (style : Style) (m : Model) → IsModel m → RoomFor style (ranges_cards m) → (s : State) →
     HasNoRanges s m → (t : State) × Goes style s (ranges_cards m) t × HasNoBounds t m
 unfolding ranges_cards

@@ -64,6 +64,7 @@ pub record HasItsRoom (style : Style) (m : Model) : Type 0 where
   pub ranges : RoomFor style (ranges_cards m)
   pub bounds : RoomFor style (bounds_cards m)
 
+-- a model that fits a form has room for all its cards in that form
 whole_room : (style : Style) (m : Model) → Fits style m → RoomFor style (cards_of m)
 unfolding too_wide
 whole_room Free m fits = tt

@@ -56,6 +56,7 @@ goes_then style s t u card cards h k =
 abbrev pub type_fields : List ℕ → Name → Fields
 type_fields type name = field_at 1 type ∷ field_at 2 name ∷ []
 
+-- a written card of ROWS is read as its type and its name
 read_type : (style : Style) (part : Option Section) (type : List ℕ) (name : Name) →
     part ≡ Some section.Rows → IsItem style 2 type → IsItem style 8 name
     → reading_of style part (line_text style (type_card type name)) ≡ Is (Given (type_fields type name))
@@ -64,12 +65,14 @@ read_type Fixed part type name e h k =
     ap (λ p. reading_of Fixed p (line_text Fixed (type_card type name))) e
     ∙ ((cards_are_read_back Fixed).types type name h k).read
 
+-- a type and a name are of the shape of ROWS
 has_type_shape : (style : Style) (type : List ℕ) (name : Name) →
     shaped style section.Rows (type_fields type name) ≡ Ok (type ∷ name ∷ [])
 unfolding shaped has_shape
 has_type_shape Free type name = refl
 has_type_shape Fixed type name = refl
 
+-- a card of ROWS with a known type adds its row
 type_read : (style : Style) (s t : State) (type : List ℕ) (name : Name) (kind : Kind) →
     row_type_of type ≡ Some kind → add_row usual_limits s kind name ≡ Ok t →
     rows_card usual_limits style s (type_fields type name) ≡ Ok t
@@ -86,6 +89,7 @@ type_step style s t type name kind e h k known added =
     ∙ ap (λ p. more (data_card usual_limits style p s (type_fields type name))) e
     ∙ ap more (type_read style s t type name kind known added)
 
+-- the word of each kind of rows is a word that has room in field 1
 kind_item : (style : Style) (kind : Kind) → IsItem style 2 (kind_word kind)
 kind_item Free L = record { word = record { some = refl; printable = refl }; room = tt }
 kind_item Free G = record { word = record { some = refl; printable = refl }; room = tt }
@@ -96,6 +100,7 @@ kind_item Fixed G = record { word = record { some = refl; printable = refl }; ro
 kind_item Fixed E = record { word = record { some = refl; printable = refl }; room = omega arith }
 kind_item Fixed N = record { word = record { some = refl; printable = refl }; room = omega arith }
 
+-- the word of each kind of rows is read as that kind
 kind_known : (kind : Kind) → row_type_of (kind_word kind) ≡ Some kind
 unfolding row_type_of
 kind_known L = refl
@@ -103,6 +108,7 @@ kind_known G = refl
 kind_known E = refl
 kind_known N = refl
 
+-- a row of a new valid name is added last where there is room
 row_added : (s : State) (objective : Name) (kind : Kind) (name : Name) → s.objective ≡ Some objective →
     is_row_name name ≡ true → place_of s name ≡ None → length s.rows < row_limit →
     add_row usual_limits s kind name ≡ Ok (record s { rows = s.rows ++ new_row kind name ∷ [] })
@@ -138,6 +144,7 @@ AreFresh seen (name ∷ names) = IsAbsent name seen × AreFresh (seen ++ name �
 abbrev pub names_of : List ExactRow → List Name
 names_of rows = map (λ r. r.name) rows
 
+-- the first place of a name that no row has is the number of rows
 all_past : (rows : List ExactRow) (name : Name) → IsAbsent name (names_of rows) →
     position_or_len (λ r. same r.name name) rows ≡ length rows
 all_past [] name h = refl
@@ -145,10 +152,12 @@ all_past (r ∷ rows) name h =
     let p = or_parts (same r.name name) (list_any (λ n. same n name) (names_of rows)) h in
     rw (p.0, all_past rows name p.1) (omega arith)
 
+-- a search for a name that no row has finds nothing
 position_absent : (rows : List ExactRow) (name : Name) → IsAbsent name (names_of rows) →
     position (λ r. same r.name name) rows ≡ None
 position_absent rows name h = rw (all_past rows name h, le-ltb (length rows) (length rows) (omega arith)) refl
 
+-- a name that neither the objective nor a row has stands for no target
 place_absent : (s : State) (objective name : Name) → s.objective ≡ Some objective →
     IsAbsent name (objective ∷ names_of s.rows) → place_of s name ≡ None
 unfolding place_of
@@ -161,6 +170,7 @@ abbrev pub AreRows : Style → List ExactRow → Type 0
 AreRows style [] = Unit {0}
 AreRows style (r ∷ rows) = IsItem style 8 r.name × (is_row_name r.name ≡ true) × AreRows style rows
 
+-- one more row that is read adds its name behind the others
 names_next : (objective : Name) (rows : List ExactRow) (r : ExactRow) →
     (objective ∷ names_of rows) ++ r.name ∷ [] ≡ objective ∷ names_of (rows ++ bare_row r ∷ [])
 names_next objective rows r = ap (λ l. objective ∷ l) (sym (map-append (λ q. q.name) rows (bare_row r ∷ [])))

@@ -34,18 +34,22 @@ room_for_rows Fixed m h fits =
     let b = field_narrow (field_at 2 m.objective) rest a.1 in
     (record { word = row_name_word m.objective h; room = ltb-false 8 (length m.objective) b.0 }, b.1)
 
+-- the type N is a word that has room in field 1
 type_item : (style : Style) → IsItem style 2 (codes "N")
 type_item Free = record { word = record { some = refl; printable = refl }; room = tt }
 type_item Fixed = record { word = record { some = refl; printable = refl }; room = omega arith }
 
+-- the type N is read as the kind N
 type_known : row_type_of (codes "N") ≡ Some N
 unfolding row_type_of
 type_known = refl
 
+-- before all cards of ROWS a name stands for no target
 nowhere : (s : State) (name : Name) → HasNoRows s → place_of (begun s section.Rows) name ≡ None
 unfolding place_of
 nowhere s name h = rw (h.no_objective, h.no_row) refl
 
+-- the section ROWS of a written text is read as the model's objective and rows
 pub rows_are_read : (style : Style) (m : Model) → IsUsualModel m → Fits style m → RowsAreRead style m
 unfolding rows_cards
 rows_are_read style m kept fits s none =

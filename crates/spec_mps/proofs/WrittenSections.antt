@@ -7,7 +7,7 @@ use Rattle.spec_mps.proofs.WrittenSteps.{Goes}
 use Rattle.spec_mps.proofs.WrittenRows.{goes_none, goes_then}
 use Rattle.spec_mps.proofs.WrittenRoom.{RoomFor, room_back}
 
--- with its heading and its cards, or not at all
+-- a section that is written with its heading and cards, or not at all, is read either way
 pub section_read : (style : Style) (s one : State) (heading : WrittenCard) (cards : WrittenCards) (P : State → Type 0) →
     Goes style s (heading ∷ []) one → (RoomFor style cards → (t : State) × Goes style one cards t × P t) →
     (there : Bool) → RoomFor style (cond there (heading ∷ cards) []) → (there ≡ false → P s) →

@@ -46,18 +46,22 @@ Takes Ranges kind = is_free kind ≡ false
 
 -- ---- one card
 
+-- a word of three letters is a word that has room in a field of 8 columns
 letters_item : (style : Style) (a b c : ℕ) → IsWord (a ∷ b ∷ c ∷ []) → IsItem style 8 (a ∷ b ∷ c ∷ [])
 letters_item Free a b c h = record { word = h; room = tt }
 letters_item Fixed a b c h = record { word = h; room = omega arith }
 
+-- the written sets of RHS and RANGES have room in a field of 8 columns
 group_item : (sets : Sets) (style : Style) → IsItem style 8 (group_of sets)
 group_item Sides style = letters_item style 82 72 83 (record { some = refl; printable = refl })
 group_item Ranges style = letters_item style 82 78 71 (record { some = refl; printable = refl })
 
+-- RHS and RANGES are sections whose cards have numbers
 numbered : (sets : Sets) → has_numbers (part_of sets) ≡ true
 numbered Sides = refl
 numbered Ranges = refl
 
+-- a set, a name and a text of a number are of the shape of RHS and of RANGES
 set_shape : (sets : Sets) (style : Style) (name : Name) (text : List ℕ) →
     shaped style (part_of sets) (read_as style (number_fields (group_of sets) name text))
     ≡ Ok (group_of sets ∷ name ∷ text ∷ [])
@@ -67,6 +71,7 @@ set_shape Sides Fixed name text = refl
 set_shape Ranges Free name text = refl
 set_shape Ranges Fixed name text = refl
 
+-- a card of RHS or RANGES whose set is in use does what its pair does
 card_read : (sets : Sets) (style : Style) (s t : State) (name : Name) (text : List ℕ) →
     is_used s.set (Some (group_of sets)) ≡ true →
     pair_of sets (record s { set = Some (Some (group_of sets)) }) name text ≡ Ok t →
@@ -91,6 +96,7 @@ card_goes sets style s t name v e card used put =
 
 -- ---- the card of a row
 
+-- a pair of a row's name and a number's text gives the row that number
 row_put : (sets : Sets) (s : State) (name : Name) (text : List ℕ) (n : ℕ) (v : ℚ) →
     Takes sets (get_or s.rows n no_row).kind →
     place_of s name ≡ Some (Row n) → number_in text ≡ Ok v → is_among (Row n) s.paired ≡ false →

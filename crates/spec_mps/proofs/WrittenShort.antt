@@ -69,6 +69,7 @@ column_small n = by (n == 1) (n == 2) (n == 3) (n == 4) (n == 5)
 pub blanks_len : (k : ℕ) (line : List ℕ) → length (line ++ replicate k 32) ≡ length line + k
 blanks_len k line = length-append line (replicate k 32) ∙ ap (λ m. length line + m) (length-replicate k 32)
 
+-- blanks up to a column of at most 50 make a line at most 50 bytes longer
 up_to : (column : ℕ) (line : List ℕ) → column ≤ 50 →
     length (line ++ replicate (column - 1 - length line) 32) ≤ length line + 50
 up_to column line h =
@@ -76,10 +77,12 @@ up_to column line h =
     blanks_len (column - 1 - length line) line in
     omega arith
 
+-- blanks up to a field make a line at most 50 bytes longer
 padded_fits : (style : Style) (n : ℕ) (line : List ℕ) → length (padded style n line) ≤ length line + 50
 padded_fits Free n line = let a = length-append line (32 ∷ []) in omega arith
 padded_fits Fixed n line = up_to (first_column n) line (column_small n)
 
+-- short fields make a line longer by at most 150 bytes each
 line_fits : (style : Style) (line : List ℕ) (fs : Fields) → AreShort fs →
     length (with_fields style line fs) ≤ length line + 150 * length fs
 line_fits style line [] h = omega arith
@@ -94,10 +97,12 @@ pub plain_both : (a b : List ℕ) → list_all is_plain a ≡ true → list_all 
     list_all is_plain (a ++ b) ≡ true
 plain_both a b h k = list_all-append is_plain a b ∙ rw (h, k) refl
 
+-- blanks are plain bytes
 plain_blanks : (n : ℕ) → list_all is_plain (replicate n 32) ≡ true
 plain_blanks zero = refl
 plain_blanks (suc n) = plain_blanks n
 
+-- plain bytes with blanks up to a field behind them are plain bytes
 plain_padded : (style : Style) (n : ℕ) (line : List ℕ) → list_all is_plain line ≡ true →
     list_all is_plain (padded style n line) ≡ true
 plain_padded Free n line h = plain_both line (32 ∷ []) h refl
@@ -105,6 +110,7 @@ plain_padded Fixed n line h =
     plain_both line (replicate (first_column n - 1 - length line) 32) h
     (plain_blanks (first_column n - 1 - length line))
 
+-- plain bytes with short fields behind them are plain bytes
 line_plain : (style : Style) (line : List ℕ) (fs : Fields) → list_all is_plain line ≡ true → AreShort fs →
     list_all is_plain (with_fields style line fs) ≡ true
 line_plain style line [] h k = h
@@ -138,10 +144,12 @@ name_short name h =
     let l : length name ≤ 64 = leb-true (length name) 64 q.1 in
     record { fits = omega arith; plain = plain_text name p.1 }
 
+-- a valid name of a row is a short text
 row_name_short : (name : Name) → is_row_name name ≡ true → IsShort name
 unfolding is_row_name
 row_name_short name h = name_short name (and_parts _ _ h).0
 
+-- a valid name of a model is a short text
 model_name_short : (name : Name) → is_model_name name ≡ true → IsShort name
 unfolding is_model_name
 model_name_short name h =
@@ -151,9 +159,11 @@ model_name_short name h =
 
 -- ---- numbers
 
+-- the digits of a number within the limit are at most 39
 decimal_fits : (n : ℕ) → n ≤ number_limit → length (decimal n) ≤ 39
 decimal_fits n h = length-decimal-le_wide 39 n (omega arith) (omega arith) (omega arith)
 
+-- the text of a quotient of two numbers within the limit has at most 79 bytes
 quotient_fits : (n den : ℕ) → n ≤ number_limit → den ≤ number_limit → length (quotient_text n den) ≤ 79
 unfolding quotient_text
 quotient_fits n den h k =
@@ -162,6 +172,7 @@ quotient_fits n den h k =
     let c = decimal_fits den k in
     omega arith
 
+-- a number within the limit with fewer than 19 places has at most 79 bytes
 pointed_fits : (d n : ℕ) → n ≤ number_limit → d < 19 → length (pointed d n) ≤ 79
 unfolding pointed
 pointed_fits d n h k =
@@ -171,6 +182,7 @@ pointed_fits d n h k =
     let c = length-last d n in
     omega arith
 
+-- a fraction within the limit, with places or as a quotient, has at most 79 bytes
 placed_fits : (n den : ℕ) (o : Option ℕ) → n ≤ number_limit → den ≤ number_limit → ((d : ℕ) → o ≡ Some d → d < 19) →
     length (placed n den o) ≤ 79
 unfolding placed
@@ -182,6 +194,7 @@ placed_fits n den (Some d) h k few = by (nat_le (n * (10 ^ d / den)) number_limi
     by true e = pointed_fits d (n * (10 ^ d / den)) (leb-true (n * (10 ^ d / den)) number_limit e) (few d refl)
     by false e = quotient_fits n den h k
 
+-- a fraction within the limit has at most 79 bytes without its sign
 size_fits : (n den : ℕ) → n ≤ number_limit → den ≤ number_limit → length (size_text n den) ≤ 79
 unfolding size_text places
 size_fits n den h k = by (den == 1)
@@ -190,7 +203,7 @@ size_fits n den h k = by (den == 1)
     by true = let a = decimal_fits n h in omega arith
     by false = placed_fits n den (places den) h k (λ d e. (found_place 19 0 den d e).0)
 
--- the text of a number of 127 bits
+-- the text of a number of 127 bits has at most 80 bytes
 number_fits : (q : ℚ) → IsNarrow q → length (number_text q) ≤ 80
 unfolding number_text
 number_fits q h = by (int_lt q.num (pos 0))
@@ -202,6 +215,7 @@ number_fits q h = by (int_lt q.num (pos 0))
     by true = let s = size in omega arith
     by false = let s = size in omega arith
 
+-- the text of a number of 127 bits is a short text
 number_short : (q : ℚ) → IsNarrow q → IsShort (number_text q)
 number_short q h =
     let f = number_fits q h in
@@ -212,12 +226,15 @@ number_short q h =
 abbrev pub AreShortCards : WrittenCards → Type 0
 AreShortCards cards = All IsShortCard cards
 
+-- one short card makes a list of short cards
 one_short : (card : WrittenCard) → IsShortCard card → AreShortCards (card ∷ [])
 one_short card h = All-cons IsShortCard card [] h (All-nil IsShortCard)
 
+-- two short cards make a list of short cards
 two_short : (a b : WrittenCard) → IsShortCard a → IsShortCard b → AreShortCards (a ∷ b ∷ [])
 two_short a b h k = All-cons IsShortCard a (b ∷ []) h (one_short b k)
 
+-- lists of short cards, one behind the other, make a list of short cards
 all_short : {X : Type 0} (f : X → WrittenCards) (xs : List X) → All (λ x. AreShortCards (f x)) xs →
     AreShortCards (flat_map f xs)
 all_short f [] h = All-nil IsShortCard
@@ -225,6 +242,7 @@ all_short f (x ∷ xs) h =
     All-append IsShortCard (f x) (flat_map f xs) (h 0 x (omega arith))
     (all_short f xs (λ i d a. h (suc i) d (omega arith)))
 
+-- a card of a short set or column, a short name and a number of 127 bits is short
 number_card_short : (group name : Name) (q : ℚ) → IsShort group → IsShort name → IsNarrow q →
     IsShortCard (number_card group name q)
 number_card_short group name q g h k = ((g, (h, (number_short q k, tt))), omega arith)
@@ -234,17 +252,20 @@ name_card_short [] h = (record { fits = omega arith; plain = refl }, tt, omega a
 name_card_short (b ∷ bs) h =
     (record { fits = omega arith; plain = refl }, (model_name_short (b ∷ bs) h, tt), omega arith)
 
+-- the cards that say a sense are short
 sense_short : (sense : Sense) → AreShortCards (sense_cards sense)
 sense_short Min = All-nil IsShortCard
 sense_short Max =
     one_short (section_card (codes "OBJSENSE MAX")) (record { fits = omega arith; plain = refl }, tt, omega arith)
 
+-- the word of each kind of rows is a short text
 kind_short : (kind : Kind) → IsShort (kind_word kind)
 kind_short L = record { fits = omega arith; plain = refl }
 kind_short G = record { fits = omega arith; plain = refl }
 kind_short E = record { fits = omega arith; plain = refl }
 kind_short N = record { fits = omega arith; plain = refl }
 
+-- the cards of ROWS of a kept model are short
 rows_short : (m : Model) → IsModel m → AreShortCards (rows_cards m)
 unfolding rows_cards
 rows_short m kept =
@@ -257,6 +278,7 @@ rows_short m kept =
       omega arith,
     ))))
 
+-- the cards of COLUMNS of one column of a kept model are short
 column_short : (m : Model) (c : ExactColumn) → IsModel m → IsKeptColumn (length m.rows) c → IsNarrowColumn c →
     AreShortCards (column_cards m c)
 column_short m c kept k n =
@@ -269,6 +291,7 @@ column_short m c kept k n =
     (row m (get_or c.entries i d).0).name (kept.rows (get_or c.entries i d).0 no_row (k.entries.inside i d a)))
     (n.entries i d a)))
 
+-- the cards of COLUMNS of a kept model are short
 columns_short : (m : Model) → IsModel m → AreShortCards (columns_cards m)
 unfolding columns_cards
 columns_short m kept =
@@ -277,6 +300,7 @@ columns_short m kept =
     (all_short (column_cards m) m.columns
     (λ i d a. column_short m (get_or m.columns i d) kept (kept.columns i d a) (kept.narrow_columns i d a)))
 
+-- the cards of a right side of 127 bits with a short name are short
 side_short : (name : Name) (q : ℚ) → IsShort name → IsNarrow q → AreShortCards (side_cards name q)
 side_short name q h k = by (eq_ℚ q 0ℚ)
   where
@@ -286,6 +310,7 @@ side_short name q h k = by (eq_ℚ q 0ℚ)
         one_short (number_card (codes "RHS") name q)
         (number_card_short (codes "RHS") name q (record { fits = omega arith; plain = refl }) h k)
 
+-- the cards of RHS of a kept model are short
 sides_short : (m : Model) → IsModel m → AreShortCards (sides_cards m)
 unfolding sides_cards
 sides_short m kept =
@@ -298,12 +323,14 @@ sides_short m kept =
     (all_short (λ r. side_cards r.name r.rhs) m.rows (λ i d a. side_short (get_or m.rows i d).name (get_or m.rows
     i d).rhs (row_name_short (get_or m.rows i d).name (kept.rows i d a)) (kept.narrow_rows i d a).rhs)))
 
+-- the cards of a range of 127 bits, or of none, with a short name are short
 range_short : (name : Name) (o : Option ℚ) → IsShort name → IfSome o IsNarrow → AreShortCards (range_cards name o)
 range_short name None h k = All-nil IsShortCard
 range_short name (Some v) h k =
     one_short (number_card (codes "RNG") name v)
     (number_card_short (codes "RNG") name v (record { fits = omega arith; plain = refl }) h k)
 
+-- the cards of RANGES of a kept model are short
 ranges_short : (m : Model) → IsModel m → AreShortCards (ranges_cards m)
 unfolding ranges_cards
 ranges_short m kept = by (list_any has_range m.rows)
@@ -318,17 +345,21 @@ ranges_short m kept = by (list_any has_range m.rows)
         d).range (row_name_short (get_or m.rows i d).name (kept.rows i d a)) (kept.narrow_rows i d a).range))
     by false = All-nil IsShortCard
 
+-- a card of BOUNDS with a short kind, a short name and a value of 127 bits is short
 value_short : (kind : List ℕ) (name : Name) (q : ℚ) → IsShort kind → IsShort name → IsNarrow q →
     IsShortCard (bound_card kind name q)
 value_short kind name q g h k =
     ((g, (record { fits = omega arith; plain = refl }, (h, (number_short q k, tt)))), omega arith)
 
+-- a card of BOUNDS with a short kind, a short name and no value is short
 unbound_short : (kind : List ℕ) (name : Name) → IsShort kind → IsShort name → IsShortCard (unbound_card kind name)
 unbound_short kind name g h = ((g, (record { fits = omega arith; plain = refl }, (h, tt))), omega arith)
 
+-- two plain bytes are a short text
 two_bytes : (a b : ℕ) → is_plain a && (is_plain b && true) ≡ true → IsShort (a ∷ b ∷ [])
 two_bytes a b h = record { fits = omega arith; plain = h }
 
+-- the cards of the bounds of 127 bits of a column with a short name are short
 bound_short : (name : Name) (lower upper : Option ℚ) → IsShort name → IfSome lower IsNarrow → IfSome upper IsNarrow →
     AreShortCards (bound_cards name lower upper)
 bound_short name None None h l u =
@@ -356,6 +387,7 @@ bound_short name (Some l) (Some u) h k n = by (eq_ℚ l u) (eq_ℚ l 0ℚ && lt_
         two_short (bound_card (codes "LO") name l) (bound_card (codes "UP") name u)
         (value_short (codes "LO") name l (two_bytes 76 79 refl) h k) up
 
+-- the cards of BOUNDS of a kept model are short
 bounds_short : (m : Model) → IsModel m → AreShortCards (bounds_cards m)
 unfolding bounds_cards
 bounds_short m kept = by (list_any has_bounds m.columns)

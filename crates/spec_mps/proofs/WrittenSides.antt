@@ -29,9 +29,11 @@ NeedsSide style r = eq_ℚ r.rhs 0ℚ ≡ false → IsNumberCard style r.name r.
 abbrev pub sides_of : List ExactRow → WrittenCards
 sides_of rows = flat_map (λ r. side_cards r.name r.rhs) rows
 
+-- a row whose right side is 0 is, without its range, the row without both
 zero_side : (r : ExactRow) → eq_ℚ r.rhs 0ℚ ≡ true → bare_row r ≡ rangeless r
 zero_side r e = ap (λ b. record (bare_row r) { rhs = b }) (sym (eq_if r.rhs 0ℚ e))
 
+-- the written cards of the rows' right sides give the rows without right sides theirs
 pub sides_go : (style : Style) (s : State) (objective : Name) (rows : List ExactRow)
     (paired : List Target) (set : Option (Option Name)) → s.part ≡ Some section.RightSides →
     s.objective ≡ Some objective → AllNeed (NeedsSide style) rows

@@ -29,6 +29,7 @@ use Rattle.spec_mps.proofs.WrittenSides.{NeedsSide, sides_of, sides_go}
 
 -- ---- the rows
 
+-- a row that may be kept, and whose right side has room, has what its card needs
 side_known : (style : Style) (r : ExactRow) → IsWord r.name → FitsKind r.kind r.range → IsNarrowRow r →
     RoomFor style (side_cards r.name r.rhs) → NeedsSide style r
 side_known style r word fit h room z =
@@ -46,6 +47,7 @@ record HasOffset (s : State) (m : Model) : Type 0 where
   pub unpaired : IsUnpaired 0 s.paired
   pub used : is_used s.set (Some (codes "RHS")) ≡ true
 
+-- once the offset is read, the written cards of the rows' right sides are read as these
 rows_sided : (style : Style) (m : Model) → IsModel m → RoomFor style (sides_of m.rows) → (s : State) → HasOffset s m →
     (t : State) × Goes style s (sides_of m.rows) t × HasNoRanges t m
 rows_sided style m kept room s h =
@@ -70,20 +72,24 @@ rows_sided style m kept room s h =
 
 -- ---- the objective
 
+-- the objective's name stands for the objective
 place_of_objective : (s : State) (objective : Name) → s.objective ≡ Some objective →
     place_of s objective ≡ Some Objective
 unfolding place_of
 place_of_objective s objective o = rw (o, same_itself objective) refl
 
+-- a pair of the objective's name and a number's text makes the offset the negative of that number
 offset_put : (s : State) (objective : Name) (text : List ℕ) (b : ℚ) → s.objective ≡ Some objective →
     number_in text ≡ Ok b → s.paired ≡ [] →
     side_pair s objective text ≡ Ok (record s { offset = neg_ℚ b; paired = Objective ∷ s.paired })
 unfolding side_pair put_side
 offset_put s objective text b o reads h = rw (place_of_objective s objective o, reads, h) refl
 
+-- an offset whose negative is 0 by the test is 0
 no_offset : (q : ℚ) → eq_ℚ (neg_ℚ q) 0ℚ ≡ true → q ≡ 0ℚ
 no_offset q e = sym (neg-neg q) ∙ ap neg_ℚ (eq_if (neg_ℚ q) 0ℚ e) ∙ neg-zero
 
+-- the written cards of RHS are read as the offset and the rows' right sides
 pub sides_are_read : (style : Style) (m : Model) → IsModel m →
     RoomFor style (side_cards m.objective (neg_ℚ m.offset) ++ sides_of m.rows) → (s : State) → HasNoSides s m
     → (t : State) × Goes style s (side_cards m.objective (neg_ℚ m.offset) ++ sides_of m.rows) t × HasNoRanges t m

@@ -30,6 +30,7 @@ use Rattle.spec_mps.proofs.WrittenRows.{goes_one, goes_then}
 pub heading_word : IsWord (codes "NAME")
 heading_word = record { some = refl; printable = refl }
 
+-- the words of a written line NAME are NAME and the model's name
 named_words : (style : Style) (b : ℕ) (bs : List ℕ) → IsWord (b ∷ bs) →
     words_of (line_text style (name_card (b ∷ bs))) ≡ codes "NAME" ∷ (b ∷ bs) ∷ []
 unfolding words_of
@@ -39,11 +40,13 @@ named_words Fixed b bs h =
     parts_word_then (codes "NAME") (32 ∷ 32 ∷ 32 ∷ 32 ∷ 32 ∷ 32 ∷ 32 ∷ 32 ∷ 32 ∷ b ∷ bs) heading_word
     ∙ ap (λ ws. codes "NAME" ∷ ws) (parts_word (b ∷ bs) h)
 
+-- the bytes of a written line NAME with a name are plain
 plain_name : (style : Style) (b : ℕ) (bs : List ℕ) → IsWord (b ∷ bs) →
     list_all is_plain (line_text style (name_card (b ∷ bs))) ≡ true
 plain_name Free b bs h = plain_text (b ∷ bs) h.printable
 plain_name Fixed b bs h = plain_text (b ∷ bs) h.printable
 
+-- a written line NAME with a name is read as a heading of these two words
 named_read : (style : Style) (b : ℕ) (bs : List ℕ) → IsWord (b ∷ bs) →
     reading_of style None (line_text style (name_card (b ∷ bs)))
     ≡ Is (Heading (field_at 1 (codes "NAME") ∷ field_at 2 (b ∷ bs) ∷ []))
@@ -53,11 +56,13 @@ named_read Free b bs h =
 named_read Fixed b bs h =
     rw (stripped_plain (line_text Fixed (name_card (b ∷ bs))) (plain_name Fixed b bs h), named_words Fixed b bs h) refl
 
+-- a written line NAME without a name is read as a heading of that one word
 unnamed_read : (style : Style) → reading_of style None (codes "NAME") ≡ Is (Heading (field_at 1 (codes "NAME") ∷ []))
 unfolding free_fields fixed_fields is_skipped word_fields words_of
 unnamed_read Free = refl
 unnamed_read Fixed = refl
 
+-- a written line NAME leads from the start to the state with the model's name
 name_step : (style : Style) (name : Name) → is_model_name name ≡ true →
     step usual_limits style start (Text (line_text style (name_card name))) ≡ Ok (More (named name))
 unfolding step section_card section_of is_model_name
@@ -68,6 +73,7 @@ name_step style (b ∷ bs) h =
     record { some = refl; printable = (and_parts (nat_le (length (b ∷ bs)) 64) (list_all is_printable (b ∷ bs)) h).1 } in
     ap (on_reading usual_limits style start) (named_read style b bs word) ∙ rw h refl
 
+-- a written line OBJSENSE MAX is read as a heading of these two words
 sense_read : (style : Style) →
     reading_of style (Some section.Name) (codes "OBJSENSE MAX")
     ≡ Is (Heading (field_at 1 (codes "OBJSENSE") ∷ field_at 2 (codes "MAX") ∷ []))
@@ -75,6 +81,7 @@ unfolding free_fields fixed_fields is_skipped word_fields words_of
 sense_read Free = refl
 sense_read Fixed = refl
 
+-- a written line OBJSENSE MAX leads from the state with a name to that with the sense MAX
 sense_step : (style : Style) (name : Name) →
     step usual_limits style (named name) (Text (codes "OBJSENSE MAX")) ≡ Ok (More (with_start_of name Max))
 unfolding step section_card section_of sense_of take_sense

@@ -53,7 +53,7 @@ record IsFresh (seen : Seen) : Type 0 where
   ranges : seen.ranges ≡ false
   bounds : seen.bounds ≡ false
 
--- what holds of each such state, holds of the one before ROWS
+-- what holds of all states with a name and a sense alone holds before ROWS
 at_start : (P : State → Type 0) (name : Name) (sense : Sense) →
     ((part : Option Section) (seen : Seen) (o : Option Sense) → IsFresh seen → sense_or_min o ≡ sense →
     P (started part seen name o)) → P (with_start_of name sense)
@@ -64,12 +64,14 @@ at_start P name Max f =
     f (Some section.Sense) (with_section (with_section start.seen section.Name) section.Sense) (Some Max)
     (record { rows = refl; columns = refl; right_sides = refl; ranges = refl; bounds = refl }) refl
 
+-- the state before ROWS of a written text has no rows
 rows_first : (name : Name) (sense : Sense) → HasNoRows (with_start_of name sense)
 rows_first name sense =
     at_start HasNoRows name sense
     (λ part seen o fresh e.
     record { no_section = fresh.rows; no_objective = refl; no_row = refl })
 
+-- the state after ROWS of a written text has the model's rows and no columns
 columns_then : (m : Model) (sense : Sense) → HasNoColumns (with_rows_of (with_start_of m.name sense) m) m
 columns_then m sense =
     at_start (λ s. HasNoColumns (with_rows_of s m) m) m.name sense (λ part seen o fresh e.
@@ -84,6 +86,7 @@ columns_then m sense =
       none_lowered = refl;
     })
 
+-- the state after COLUMNS of a written text has the model's columns and no right sides
 sides_then : (m : Model) → HasNoSides (with_columns_of (with_rows_of (with_start_of m.name m.sense) m) m) m
 sides_then m =
     at_start (λ s. HasNoSides (with_columns_of (with_rows_of s m) m) m) m.name m.sense (λ part seen o fresh e.
@@ -101,7 +104,7 @@ sides_then m =
 
 -- ---- the cards
 
--- the heading RHS belongs to the cards before it
+-- four lists of cards, one behind the other, are the same however they are grouped
 regroup : (a c : WrittenCards) (r s : WrittenCards) → (a ++ (c ++ r)) ++ s ≡ (a ++ c) ++ (r ++ s)
 regroup a c r s = append_assoc a (c ++ r) s ∙ ap (λ l. a ++ l) (append_assoc c r s) ∙ sym (append_assoc a c (r ++ s))
 
@@ -114,6 +117,7 @@ body m =
     (name_card m.name ∷ sense_cards m.sense) ++ rows_cards m
     ++ columns_cards m ++ sides_cards m ++ ranges_cards m ++ bounds_cards m
 
+-- the cards up to RHS lead to a state with all but ranges and bounds
 sides_goes : (style : Style) (m : Model) → IsUsualModel m → Fits style m → ColumnsAreRead style m
     → (t : State) × Goes style start
     ((name_card m.name ∷ sense_cards m.sense) ++ rows_cards m ++ columns_cards m ++ sides_cards m) t × HasNoRanges t m
@@ -140,6 +144,7 @@ sides_goes style m kept fits columns_are_read =
       right.2,
     )
 
+-- the cards before ENDATA lead to a state that has all of the model
 body_goes : (style : Style) (m : Model) → IsUsualModel m → Fits style m → ColumnsAreRead style m →
     (t : State) × Goes style start (body m) t × IsWhole t m
 body_goes style m kept fits columns_are_read =
@@ -151,6 +156,7 @@ body_goes style m kept fits columns_are_read =
     let to_ranges = goes_append style start a.0 b.0 first (ranges_cards m) a.1 b.1 in
     (c.0, goes_append style start b.0 c.0 (first ++ ranges_cards m) (bounds_cards m) to_ranges c.1, c.2)
 
+-- the lines of a written text's cards spell the model
 cards_spell : (style : Style) (m : Model) → IsUsualModel m → Fits style m → ColumnsAreRead style m →
     judge usual_limits style start 1 (card_lines style (cards_of m)) ≡ Spelled m
 unfolding cards_of
@@ -164,6 +170,7 @@ cards_spell style m kept fits columns_are_read =
 
 -- ---- the text
 
+-- the lines of a written text spell the model
 text_spells : (style : Style) (m : Model) → IsUsualModel m → Fits style m → ColumnsAreRead style m →
     Spells style (lines_of (cards_text style (cards_of m))) m
 text_spells style m kept fits columns_are_read =

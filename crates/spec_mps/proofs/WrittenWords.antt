@@ -38,6 +38,7 @@ no_blank b h =
     let low : 33 ≤ b = leb-true 33 b p.0 in
     rw (ne_eqb b 32 (λ e. omega arith), ne_eqb b 9 (λ e. omega arith)) refl
 
+-- a printed text has no blank
 no_blanks : (w : List ℕ) → list_all is_printable w ≡ true → All (λ b. is_blank b ≡ false) w
 no_blanks [] h = All-nil (λ b. is_blank b ≡ false)
 no_blanks (b ∷ w) h =
@@ -61,6 +62,7 @@ abbrev pub joined : List (List ℕ) → List ℕ
 joined [] = []
 joined (w ∷ ws) = 32 ∷ (w ++ joined ws)
 
+-- the parts of words that are joined by single blanks are those words
 parts_joined : (ws : List (List ℕ)) → AreWords ws → parts (joined ws) ≡ ws
 parts_joined [] h = refl
 parts_joined (w ∷ []) h = ap parts (append-nil w) ∙ parts_word w h.0
@@ -75,12 +77,14 @@ words_of_joined ws h = parts_joined ws h
 abbrev pub is_plain : ℕ → Bool
 is_plain b = nat_le 32 b && nat_le b 126
 
+-- a plain byte is no carriage return
 no_return : (b : ℕ) → is_plain b ≡ true → (b == 13) ≡ false
 no_return b h =
     let p = and_parts (nat_le 32 b) (nat_le b 126) h in
     let low : 32 ≤ b = leb-true 32 b p.0 in
     ne_eqb b 13 (λ e. omega arith)
 
+-- no place of a line of plain bytes holds a carriage return
 no_return_at : (line : List ℕ) (n : ℕ) → list_all is_plain line ≡ true → (get_or line n 0 == 13) ≡ false
 no_return_at [] n h = refl
 no_return_at (b ∷ line) zero h = no_return b (and_parts (is_plain b) (list_all is_plain line) h).0
@@ -89,6 +93,7 @@ no_return_at (b ∷ line) (suc n) h = no_return_at line n (and_parts (is_plain b
 pub stripped_plain : (line : List ℕ) → list_all is_plain line ≡ true → strip_carriage_return line ≡ line
 stripped_plain line h = rw (no_return_at line (length line - 1) h) refl
 
+-- a printed byte is plain
 plain_of : (b : ℕ) → is_printable b ≡ true → is_plain b ≡ true
 plain_of b h =
     let p = and_parts (nat_le 33 b) (nat_le b 126) h in
@@ -99,11 +104,13 @@ plain_text [] h = refl
 plain_text (b ∷ w) h =
     let p = and_parts (is_printable b) (list_all is_printable w) h in rw (plain_of b p.0, plain_text w p.1) refl
 
+-- words that are joined by single blanks have plain bytes alone
 plain_joined : (ws : List (List ℕ)) → AreWords ws → list_all is_plain (joined ws) ≡ true
 plain_joined [] h = refl
 plain_joined (w ∷ ws) h =
     rw (list_all-append is_plain w (joined ws), plain_text w h.0.printable, plain_joined ws h.1) refl
 
+-- a line of words that are joined by single blanks is not skipped
 not_skipped : (w : List ℕ) (ws : List (List ℕ)) → AreWords (w ∷ ws) → is_skipped (joined (w ∷ ws)) ≡ false
 unfolding is_skipped
 not_skipped [] ws h = cc
