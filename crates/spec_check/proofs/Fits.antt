@@ -18,16 +18,18 @@ use Rattle.spec_check.specs.Raw.{ExactPart, ExactRaw, ExactKind}
 use Rattle.spec_check.specs.Settle.{Settled, ◌>>=◌, known, place_of, with_value}
 use Rattle.spec_check.specs.Settle.{is_given, blank, put, put_all, certificate_by, certificate_for}
 
--- what an answer came from
+-- where two steps in turn give a result, the first gave something from which the second gave the result
 after_ok : {A B : Type 0} (o : Settled A) (next : A → Settled B) (b : B) → (o >>= next) ≡ Ok b →
     (a : A) × (o ≡ Ok a) × (next a ≡ Ok b)
 after_ok (Ok a) next b e = (a, refl, e)
 after_ok (Err fault) next b e = cc
 
+-- where a name is known as number k, the search for the name found k
 known_ok : (o : Option ℕ) (name : Name) (k : ℕ) → known o name ≡ Ok k → o ≡ Some k
 known_ok None name k e = cc
 known_ok (Some j) name k e = cc
 
+-- a certificate that fits a model still fits it with another number put in
 with_value_fits : (m : Model) (letter : Letter) (k : ℕ) (v : ℚ) (cert : Certificate (List ℚ)) → IsFor m cert →
     IsFor m (with_value letter k v cert)
 with_value_fits m X k v (Optimal x y) f = (length-set x k v ∙ f.0, f.1)
@@ -43,6 +45,7 @@ with_value_fits m X k v (Unbounded x r) f = (length-set x k v ∙ f.0, f.1)
 with_value_fits m Y k v (Unbounded x r) f = f
 with_value_fits m R k v (Unbounded x r) f = (f.0, length-set r k v ∙ f.1)
 
+-- a certificate that fits a model still fits it with one part more
 put_fits : (m : Model) (before : List ExactPart) (p : ExactPart) (cert next : Certificate (List ℚ)) → IsFor m cert →
     put m before p cert ≡ Ok next → IsFor m next
 unfolding put
@@ -62,6 +65,7 @@ put_fits m before p cert next f e =
         subst (IsFor m) (ok_same (with_value p.letter k p.value cert) next h)
         (with_value_fits m p.letter k p.value cert f)
 
+-- a certificate that fits a model still fits it with all its parts put in
 all_fit : (m : Model) (before parts : List ExactPart) (cert last : Certificate (List ℚ)) → IsFor m cert →
     put_all m before parts cert ≡ Ok last → IsFor m last
 all_fit m before [] cert last f e = subst (IsFor m) (ok_same cert last e) f
@@ -69,6 +73,7 @@ all_fit m before (p ∷ parts) cert last f e =
     let a = after_ok (put m before p cert) (λ next. put_all m (before ++ p ∷ []) parts next) last e in
     all_fit m (before ++ p ∷ []) parts a.0 last (put_fits m before p cert a.0 f a.1) a.2
 
+-- the blank certificate of a kind fits the model that it was made for
 blank_fits : (m : Model) (k : ExactKind) (cert : Certificate (List ℚ)) → blank 0ℚ m k ≡ Ok cert → IsFor m cert
 unfolding blank
 blank_fits m kind.Optimal cert e =
@@ -81,6 +86,7 @@ blank_fits m (kind.Clash name) cert e =
     subst (IsFor m) (ok_same (Clash a.0) cert a.2)
     (column_inside m name a.0 (known_ok (column_place m name) name a.0 a.1))
 
+-- a certificate that was settled for a model fits that model
 pub settled_fits : (m : Model) (raw : ExactRaw) (cert : Certificate (List ℚ)) → certificate_for m raw ≡ Ok cert →
     IsFor m cert
 unfolding certificate_by

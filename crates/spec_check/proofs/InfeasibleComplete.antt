@@ -24,13 +24,16 @@ use Rattle.spec_check.specs.Run.{rows_ask_run, columns_give_run, infeasible_run,
 use Rattle.spec_check.proofs.StepsComplete.{then_ok, need_true, from_all, plus_all}
 use Rattle.spec_check.proofs.StepsComplete.{sum_all, lower_all, upper_all, ordered}
 
+-- where a bound is given, weighing it by d without a limit on numbers adds d times the bound
 weighed_at_all : (n : ℕ) (d : ℚ) (o : Option ℚ) (b s : ℚ) → o ≡ Some b →
     weighed_at n None d o s ≡ Ok (s +ℚ d *ℚ or_zero o)
 weighed_at_all n d o b s e = subst (λ z. weighed_at n None d z s ≡ Ok (s +ℚ d *ℚ or_zero z)) (sym e) (plus_all d b s)
 
+-- a run that gives s gives s plus d times 0
 nothing : (s d : ℚ) → ◌≡◌ {A = Run ℚ} (Ok s) (Ok (s +ℚ d *ℚ 0ℚ))
 nothing s d = ap Ok (sym (+ℚ_zero s) ∙ ap (λ z. s +ℚ z) (sym (*ℚ_zero d)))
 
+-- where the bound that d asks for is given, weighing without a limit on numbers adds d times the bound
 weighed_all : (n : ℕ) (l : Limits) (d s : ℚ) → HasLimit l d → weighed n None l d s ≡ Ok (s +ℚ d *ℚ asked l d)
 weighed_all n l d s h = by (lt_ℚ 0ℚ d) (lt_ℚ d 0ℚ) refl refl
   where
@@ -41,6 +44,7 @@ weighed_all n l d s h = by (lt_ℚ 0ℚ d) (lt_ℚ d 0ℚ) refl refl
     by false true p q = let w = h.below (lt_if d 0ℚ q) in weighed_at_all n d l.upper w.0 s w.1
     by false false p q = nothing s d
 
+-- where row i has the limit that its multiplier asks for, the run adds the multiplier times that limit
 row_all : (m : Model) (y : List ℚ) (i : ℕ) (s : ℚ) → HasLimit (limits m i) (part y i) →
     row_asks_run None m y i s ≡ Ok (s +ℚ part y i *ℚ asked (limits m i) (part y i))
 row_all m y i s h = by (lt_ℚ 0ℚ d) (lt_ℚ d 0ℚ) refl refl
@@ -69,6 +73,7 @@ row_all m y i s h = by (lt_ℚ 0ℚ d) (lt_ℚ d 0ℚ) refl refl
         (upper_all (row m i)) (weighed_at_all 1 d l.upper w.0 s w.1)
     by false false p q = nothing s d
 
+-- where column j has the bound that the multipliers' part asks for, the run adds the part times that bound
 column_all : (m : Model) (y : List ℚ) (j : ℕ) (s : ℚ) → HasLimit (turned_limits (bounds m j)) (priced m y j)
     → column_gives_run None m y j s ≡ Ok (s +ℚ priced m y j *ℚ asked (turned_limits (bounds m j)) (priced m y j))
 column_all m y j s h =
@@ -77,11 +82,13 @@ column_all m y j s h =
     (sum_all (height m) (λ i. part y i) (λ i. coefficient m i j))
     (weighed_all 2 (turned_limits (bounds m j)) (priced m y j) s h)
 
+-- where v is below k, the order of v and k is less
 less_test : (o : Ordering) (v k : ℚ) → order v k ≡ o → v <ℚ k → is_lt o ≡ true
 less_test Less v k e h = refl
 less_test Equal v k e h = absurd (<ℚ_irrefl k (subst (λ z. z <ℚ k) ((order_equal v k).0 e) h))
 less_test Greater v k e h = clash_ℚ v k h (<ℚ-le k v ((order_greater v k).0 e))
 
+-- where v is above k, the order of v and k is greater
 greater_test : (o : Ordering) (v k : ℚ) → order v k ≡ o → k <ℚ v → is_gt o ≡ true
 greater_test Less v k e h = clash_ℚ k v h (<ℚ-le v k ((order_less v k).0 e))
 greater_test Equal v k e h = absurd (<ℚ_irrefl k (subst (λ z. k <ℚ z) ((order_equal v k).0 e) h))

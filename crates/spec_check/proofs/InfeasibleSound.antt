@@ -31,31 +31,38 @@ pub record Weighed (l : Limits) (d s u : ℚ) : Type 0 where
   pub there : HasLimit l d
   pub sum : u ≡ s +ℚ d *ℚ asked l d
 
+-- where weighing a bound by d gives a sum, the bound is given and d times it was added
 weighed_at_ok : (n : ℕ) (limit : Option ℕ) (d : ℚ) (o : Option ℚ) (s u : ℚ) → weighed_at n limit d o s ≡ Ok u →
     (b : ℚ) × (o ≡ Some b) × (u ≡ s +ℚ d *ℚ b)
 weighed_at_ok n limit d None s u e = cc
 weighed_at_ok n limit d (Some b) s u e = (b, refl, plus_ok limit d b s u e)
 
--- with a multiplier above 0, with one below 0, and with none
+-- ---- with a multiplier above 0, with one below 0, and with none
+
+-- where d is above 0, adding d times the lower limit has weighed the limit that d asks for
 above_weighed : (l : Limits) (d s u b : ℚ) → 0ℚ <ℚ d → l.lower ≡ Some b → u ≡ s +ℚ d *ℚ b → Weighed l d s u
 above_weighed l d s u b p e h = record {
   there = record { above = λ _. (b, e); below = λ k. clash_ℚ 0ℚ d p (<ℚ-le d 0ℚ k) };
   sum = h ∙ ap (λ z. s +ℚ d *ℚ z) (sym (rw (lt_test 0ℚ d p) (ap or_zero e)));
 }
 
+-- where d is below 0, adding d times the upper limit has weighed the limit that d asks for
 below_weighed : (l : Limits) (d s u b : ℚ) → d <ℚ 0ℚ → l.upper ≡ Some b → u ≡ s +ℚ d *ℚ b → Weighed l d s u
 below_weighed l d s u b p e h = record {
   there = record { above = λ k. clash_ℚ 0ℚ d k (<ℚ-le d 0ℚ p); below = λ _. (b, e) };
   sum = h ∙ ap (λ z. s +ℚ d *ℚ z) (sym (rw (not_lt_test 0ℚ d (<ℚ-le d 0ℚ p), lt_test d 0ℚ p) (ap or_zero e)));
 }
 
+-- where d is neither above nor below 0, adding nothing has weighed what d asks for
 none_weighed : (l : Limits) (d s u : ℚ) → lt_ℚ 0ℚ d ≡ false → lt_ℚ d 0ℚ ≡ false → s ≡ u → Weighed l d s u
 none_weighed l d s u p q h = record {
   there = record { above = λ k. clash_ℚ 0ℚ d k (le_if_not 0ℚ d p); below = λ k. clash_ℚ d 0ℚ k (le_if_not d 0ℚ q) };
   sum = sym h ∙ sym (+ℚ_zero s) ∙ ap (λ z. s +ℚ z) (sym (*ℚ_zero d)) ∙ ap (λ z. s +ℚ d *ℚ z) (sym (rw (p, q) refl));
 }
 
--- the limit that a row's multiplier asks for
+-- ---- the limit that a row's multiplier asks for
+
+-- where the run of row i gives a sum, it has weighed the limit that the row's multiplier asks for
 row_ok : (limit : Option ℕ) (m : Model) (y : List ℚ) (i : ℕ) (s u : ℚ) → row_asks_run limit m y i s ≡ Ok u →
     Weighed (limits m i) (part y i) s u
 row_ok limit m y i s u e = by (lt_ℚ 0ℚ d) (lt_ℚ d 0ℚ) refl refl e
@@ -81,6 +88,7 @@ row_ok limit m y i s u e = by (lt_ℚ 0ℚ d) (lt_ℚ d 0ℚ) refl refl e
         below_weighed (limits m i) d s u w.0 (lt_if d 0ℚ q) (sym (upper_ok limit (row m i) a.0 a.1) ∙ w.1) w.2
     by false false p q h = none_weighed (limits m i) d s u p q (ok_same s u h)
 
+-- where the run of weighing limits by d gives a sum, it has weighed the limit that d asks for
 weighed_ok : (n : ℕ) (limit : Option ℕ) (l : Limits) (d s u : ℚ) → weighed n limit l d s ≡ Ok u → Weighed l d s u
 weighed_ok n limit l d s u e = by (lt_ℚ 0ℚ d) (lt_ℚ d 0ℚ) refl refl e
   where
@@ -92,6 +100,7 @@ weighed_ok n limit l d s u e = by (lt_ℚ 0ℚ d) (lt_ℚ d 0ℚ) refl refl e
         let w = weighed_at_ok n limit d l.upper s u h in below_weighed l d s u w.0 (lt_if d 0ℚ q) w.1 w.2
     by false false p q h = none_weighed l d s u p q (ok_same s u h)
 
+-- where the run of column j gives a sum, it has weighed the bound that the multipliers' part asks for
 column_ok : (limit : Option ℕ) (m : Model) (y : List ℚ) (j : ℕ) (s u : ℚ) → column_gives_run limit m y j s ≡ Ok u →
     Weighed (turned_limits (bounds m j)) (priced m y j) s u
 column_ok limit m y j s u e =
@@ -100,7 +109,7 @@ column_ok limit m y j s u e =
     (products_ok limit (height m) (λ i. part y i) (λ i. coefficient m i j) a.0 a.1)
     (weighed_ok 2 limit (turned_limits (bounds m j)) a.0 s u a.2)
 
--- a number that each of them changes by what it weighs
+-- where each step weighs a limit and all give v, each limit asked for is given and v is the sum of all
 total_ok : (n : ℕ) (f : ℕ → ℚ → Run ℚ) (l : ℕ → Limits) (d : ℕ → ℚ) →
     ((k : ℕ) (s u : ℚ) → f k s ≡ Ok u → Weighed (l k) (d k) s u) → (v : ℚ) → steps n f 0ℚ ≡ Ok v
     → ((k : ℕ) → k < n → HasLimit (l k) (d k)) × (v ≡ sum_below n (λ k. d k *ℚ asked (l k) (d k)))

@@ -18,6 +18,8 @@ use Rattle.spec_check.proofs.StepsComplete.{then_ok, need_true, each_all, from_a
 use Rattle.spec_check.proofs.StepsComplete.{upper_all, stands_test, tight_test, columns_all, activity_all, rows_all}
 
 -- ---- complementary multipliers
+
+-- without a limit the run of a column's reduced cost gives the reduced cost
 reduced_all : (m : Model) (y : List ℚ) (j : ℕ) → reduced_run None m y j ≡ Ok (reduced m y j)
 reduced_all m y j =
     from_all (signed m.sense (cost m j)) (height m)
@@ -26,6 +28,7 @@ reduced_all m y j =
     ∙ ap (λ s. Ok (signed m.sense (cost m j) +ℚ s))
     (sym (neg-sum_below (height m) (λ i. part y i *ℚ coefficient m i j)))
 
+-- where column j stands at the bound that its reduced cost asks for, the run accepts the column
 column_tight_all : (m : Model) (x y : List ℚ) (j : ℕ) → IsTight (bounds m j) (reduced m y j) (part x j) →
     column_tight_run None m x y j ≡ Ok tt
 column_tight_all m x y j t =
@@ -33,6 +36,7 @@ column_tight_all m x y j t =
     (λ d. need 3 (is_tight (bounds m j) d (part x j))) tt (reduced_all m y j)
     (need_true 3 _ (tight_test (bounds m j) (reduced m y j) (part x j) t))
 
+-- where a run gives the activity of row i as a limit, the test that the row stands there succeeds
 stands_all : (m : Model) (x : List ℚ) (i : ℕ) (run : Run (Option ℚ)) (o : Option ℚ) →
     run ≡ Ok o → o ≡ Some (activity m x i)
     → (activity_run None m x i >>= λ v. run >>= λ l. need 4 (stands_at l v)) ≡ Ok tt
@@ -40,6 +44,7 @@ stands_all m x i run o e s =
     then_ok (activity_run None m x i) (activity m x i) _ tt (activity_all m x i)
     (then_ok run o (λ l. need 4 (stands_at l (activity m x i))) tt e (need_true 4 _ (stands_test o (activity m x i) s)))
 
+-- where row i stands at the limit that its multiplier asks for, the run accepts the row
 row_tight_all : (m : Model) (x y : List ℚ) (i : ℕ) → IsTight (limits m i) (part y i) (activity m x i) →
     row_tight_run None m x y i ≡ Ok tt
 row_tight_all m x y i t = by (lt_ℚ 0ℚ d) (lt_ℚ d 0ℚ) refl refl
@@ -61,12 +66,15 @@ row_tight_all m x y i t = by (lt_ℚ 0ℚ d) (lt_ℚ d 0ℚ) refl refl
     by false false p q = refl
 
 -- ---- the value
+
+-- without a limit the run of a point's value gives the value
 value_all : (m : Model) (x : List ℚ) → value_run None m x ≡ Ok (value_of m x)
 value_all m x =
     then_ok (cost_run None m x) (cost_of m x) (λ s. step Add s m.offset (add None s m.offset))
     (value_of m x) (sum_all (width m) (cost m) (λ j. part x j))
     (added (cost_of m x) m.offset)
 
+-- where the conditions of an optimal point hold, the run without a limit says that its value is optimal
 pub optimal_all : (m : Model) (x y : List ℚ) → ChecksOptimal m x y →
     optimal_run None m x y ≡ Ok (known.Optimal (value_of m x))
 optimal_all m x y h =

@@ -21,6 +21,8 @@ use Rattle.spec_check.proofs.StepsSound.{after_ok, need_ok, each_ok, sum_ok, les
 use Rattle.spec_check.proofs.StepsSound.{lower_ok, upper_ok, stands_from, tight_from, activity_ok, feasible_ok}
 
 -- ---- complementary multipliers
+
+-- where the run of a column's reduced cost gives a number, it is the reduced cost
 reduced_ok : (limit : Option ℕ) (m : Model) (y : List ℚ) (j : ℕ) (d : ℚ) → reduced_run limit m y j ≡ Ok d →
     d ≡ reduced m y j
 reduced_ok limit m y j d e =
@@ -29,6 +31,7 @@ reduced_ok limit m y j d e =
     (λ k u w p h. less_ok limit (part y k) (coefficient m k j) u w h) d e
     ∙ ap (λ s. signed m.sense (cost m j) +ℚ s) (sym (neg-sum_below (height m) (λ i. part y i *ℚ coefficient m i j)))
 
+-- where the run accepts column j, the column stands at the bound that its reduced cost asks for
 column_tight_ok : (limit : Option ℕ) (m : Model) (x y : List ℚ) (j : ℕ) → column_tight_run limit m x y j ≡ Ok tt →
     IsTight (bounds m j) (reduced m y j) (part x j)
 column_tight_ok limit m x y j e =
@@ -36,7 +39,7 @@ column_tight_ok limit m x y j e =
     subst (λ d. IsTight (bounds m j) d (part x j)) (reduced_ok limit m y j a.0 a.1)
     (tight_from (bounds m j) a.0 (part x j) (need_ok 3 _ tt a.2))
 
--- the limit that is asked for is the activity
+-- where the test that row i stands at a limit succeeds, the limit is the row's activity
 stands_ok : (limit : Option ℕ) (m : Model) (x : List ℚ) (i : ℕ) (run : Run (Option ℚ)) (o : Option ℚ) →
     ((l : Option ℚ) → run ≡ Ok l → l ≡ o)
     → (activity_run limit m x i >>= λ v. run >>= λ l. need 4 (stands_at l v)) ≡ Ok tt → o ≡ Some (activity m x i)
@@ -45,6 +48,7 @@ stands_ok limit m x i run o g e =
     let b = after_ok run (λ l. need 4 (stands_at l a.0)) tt a.2 in
     sym (g b.0 b.1) ∙ stands_from b.0 a.0 (need_ok 4 _ tt b.2) ∙ ap Some (activity_ok limit m x i a.0 a.1)
 
+-- where the run accepts row i, the row stands at the limit that its multiplier asks for
 row_tight_ok : (limit : Option ℕ) (m : Model) (x y : List ℚ) (i : ℕ) → row_tight_run limit m x y i ≡ Ok tt →
     IsTight (limits m i) (part y i) (activity m x i)
 row_tight_ok limit m x y i e = by (lt_ℚ 0ℚ d) (lt_ℚ d 0ℚ) refl refl e
@@ -75,12 +79,15 @@ row_tight_ok limit m x y i e = by (lt_ℚ 0ℚ d) (lt_ℚ d 0ℚ) refl refl e
         }
 
 -- ---- the value
+
+-- where the run of a point's value gives a number, it is the point's value
 value_ok : (limit : Option ℕ) (m : Model) (x : List ℚ) (v : ℚ) → value_run limit m x ≡ Ok v → v ≡ value_of m x
 value_ok limit m x v e =
     let a = after_ok (cost_run limit m x) (λ s. step Add s m.offset (add limit s m.offset)) v e in
     added limit a.0 m.offset v a.2
     ∙ ap (λ z. z +ℚ m.offset) (products_ok limit (width m) (cost m) (λ j. part x j) a.0 a.1)
 
+-- where the run accepts an optimal point, its conditions hold and the value that is said is the point's
 pub optimal_ok : (limit : Option ℕ) (m : Model) (x y : List ℚ) (said : Known ℚ) → length x ≡ width m →
     optimal_run limit m x y ≡ Ok said → ChecksOptimal m x y × (said ≡ known.Optimal (value_of m x))
 optimal_ok limit m x y said n e =

@@ -26,11 +26,13 @@ pub length-made : (n : ℕ) (f : ℕ → ℚ) → length (made n f) ≡ n
 length-made zero f = refl
 length-made (suc n) f = ap suc (length-made n (λ i. f (suc i)))
 
+-- part j of a list made from a function is what the function gives at j
 part-made : (n : ℕ) (f : ℕ → ℚ) (j : ℕ) → j < n → part (made n f) j ≡ f j
 part-made zero f j h = absurd (let k : ⊥ = omega arith in k)
 part-made (suc n) f zero h = refl
 part-made (suc n) f (suc j) h = part-made n (λ i. f (suc i)) j (omega arith)
 
+-- a weighted sum at a point moved by t along a ray is the sum at the point plus t times the ray's sum
 ray_sum : (n : ℕ) (a x r : ℕ → ℚ) (t : ℚ) →
     sum_below n (λ j. a j *ℚ (x j +ℚ t *ℚ r j)) ≡ sum_below n (λ j. a j *ℚ x j) +ℚ t *ℚ sum_below n (λ j. a j *ℚ r j)
 ray_sum n a x r t =
@@ -38,6 +40,7 @@ ray_sum n a x r t =
     ∙ sum_below-+ℚ n (λ j. a j *ℚ x j) (λ j. t *ℚ (a j *ℚ r j))
     ∙ ap (λ s. sum_below n (λ j. a j *ℚ x j) +ℚ s) (sym (*ℚ-sum_below t n (λ j. a j *ℚ r j)))
 
+-- a number at or above a lower limit stays so along a ray that does not fall where the limit is given
 lower_along : (o : Option ℚ) (v r t : ℚ) → 0ℚ ≤ℚ t → IfSome o (λ k. k ≤ℚ v) → IfSome o (λ _. 0ℚ ≤ℚ r) →
     IfSome o (λ k. k ≤ℚ (v +ℚ t *ℚ r))
 lower_along None v r t p h g = tt
@@ -45,6 +48,7 @@ lower_along (Some k) v r t p h g =
     subst (λ a. a ≤ℚ (v +ℚ t *ℚ r)) (+ℚ_zero k)
     (+ℚ_mono₂ k v 0ℚ (t *ℚ r) h (subst (λ a. a ≤ℚ (t *ℚ r)) (*ℚ_zero t) (*ℚ_mono 0ℚ r t p g)))
 
+-- a number at or below an upper limit stays so along a ray that does not rise where the limit is given
 upper_along : (o : Option ℚ) (v r t : ℚ) → 0ℚ ≤ℚ t → IfSome o (λ k. v ≤ℚ k) → IfSome o (λ _. r ≤ℚ 0ℚ) →
     IfSome o (λ k. (v +ℚ t *ℚ r) ≤ℚ k)
 upper_along None v r t p h g = tt
@@ -52,6 +56,7 @@ upper_along (Some k) v r t p h g =
     subst (λ a. (v +ℚ t *ℚ r) ≤ℚ a) (+ℚ_zero k)
     (+ℚ_mono₂ v k (t *ℚ r) 0ℚ h (subst (λ a. (t *ℚ r) ≤ℚ a) (*ℚ_zero t) (*ℚ_mono r 0ℚ t p g)))
 
+-- a number between limits stays between them along a ray that the limits allow
 along : (l : Limits) (v r t w : ℚ) → 0ℚ ≤ℚ t → IsBetween l v → Allows l r → w ≡ v +ℚ t *ℚ r → IsBetween l w
 along l v r t w p b a e =
     subst (IsBetween l) (sym e) (record {
@@ -63,6 +68,7 @@ along l v r t w p b a e =
 abbrev step : ℚ → ℚ → ℚ → ℚ
 step v s w = whole (pos (suc (floor ((v -ℚ w) *ℚ inverse (neg_ℚ s)))))
 
+-- where s is below 0, the step for v, s and w along s takes v below w
 far_enough : (v s w : ℚ) → s <ℚ 0ℚ → (v +ℚ step v s w *ℚ s) <ℚ w
 far_enough v s w h =
     let d : ℚ = neg_ℚ s in
@@ -84,6 +90,7 @@ far_enough v s w h =
     moved₂ : (s w t : ℚ) → neg_ℚ s *ℚ t +ℚ (w +ℚ t *ℚ s) ≡ w
     moved₂ s w t = simp ring
 
+-- where a ray's signed cost is below 0, some step along the ray makes v better than w
 better_along : (s : Sense) (v w r : ℚ) → signed s r <ℚ 0ℚ → (t : ℚ) × (0ℚ ≤ℚ t) × IsBetter s (v +ℚ t *ℚ r) w
 better_along Min v w r h = (step v r w, whole_least _, far_enough v r w h)
 better_along Max v w r h = (

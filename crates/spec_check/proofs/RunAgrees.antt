@@ -26,15 +26,18 @@ use Rattle.spec_check.specs.Run.{weighed_at, weighed, row_asks_run, priced_run, 
 use Rattle.spec_check.specs.Run.{crossed_run, clash_run, row_allows_run, better_run, unbounded_run}
 use Rattle.spec_check.proofs.StoppedRuns.{plus_is, less_is}
 
+-- a run agrees with itself
 same : {A : Type 0} (o : Run A) → Agrees o o
 unfolding Agrees
 same o = inl refl
 
+-- where two next steps agree on each result, one run followed by either of them agrees
 goes_on : {A B : Type 0} (o : Run A) (f g : A → Run B) → ((a : A) → Agrees (f a) (g a)) → Agrees (o >>= f) (o >>= g)
 unfolding Agrees
 goes_on (Ok a) f g h = h a
 goes_on (Err e) f g h = inl refl
 
+-- where two runs agree, and their next steps agree on each result, the runs with these steps agree
 after_agrees : {A B : Type 0} (o u : Run A) (f g : A → Run B) → Agrees o u → ((a : A) → Agrees (f a) (g a)) →
     Agrees (o >>= f) (u >>= g)
 unfolding Agrees
@@ -44,13 +47,14 @@ after_agrees o u f g h k =
     (λ p. inr (p.0, ap (λ z. z >>= f) p.1))
     h
 
+-- an operation that gives nothing but y, or is refused, agrees with the operation that gives y
 step_agrees : {A : Type 0} (op : Op) (v w : ℚ) (a b : Option A) (y : A) → ((x : A) → a ≡ Some x → x ≡ y) → b ≡ Some y →
     Agrees (step op v w a) (step op v w b)
 unfolding Agrees
 step_agrees op v w (Some x) b y g u = inl (ap (λ z. step op v w z) (ap Some (g x refl) ∙ sym u))
 step_agrees op v w None b y g u = inr (record { op = op; a = v; b = w }, refl)
 
--- a row's limit
+-- a row's limit from an operation that gives nothing but y, or is refused, agrees with the limit y
 some_agrees : (op : Op) (v w : ℚ) (a b : Option ℚ) (y : ℚ) → ((x : ℚ) → a ≡ Some x → x ≡ y) → b ≡ Some y →
     Agrees (refused_as stop.Past (told op v w a >>= λ s. Ok (Some s)))
     (refused_as stop.Past (told op v w b >>= λ s. Ok (Some s)))
@@ -59,14 +63,17 @@ some_agrees op v w (Some x) b y g u =
     inl (ap (λ z. refused_as stop.Past (told op v w z >>= λ s. Ok (Some s))) (ap Some (g x refl) ∙ sym u))
 some_agrees op v w None b y g u = inr (record { op = op; a = v; b = w }, refl)
 
+-- where the runs on either side of a test agree, the choices between them agree
 choice_agrees : {A : Type 0} (t : Bool) (a b c d : Run A) → Agrees a c → Agrees b d → Agrees (cond t a b) (cond t c d)
 choice_agrees true a b c d h k = h
 choice_agrees false a b c d h k = k
 
+-- where two tests agree at each index, testing all indexes below n agrees
 each_agrees : (n : ℕ) (f g : ℕ → Run ⊤) → ((i : ℕ) → Agrees (f i) (g i)) → Agrees (each n f) (each n g)
 each_agrees zero f g h = same (Ok tt)
 each_agrees (suc n) f g h = after_agrees (each n f) (each n g) (λ _. f n) (λ _. g n) (each_agrees n f g h) (λ _. h n)
 
+-- where two steps agree at each index and number, n of them from the same number agree
 steps_agrees : (s : ℚ) (n : ℕ) (f g : ℕ → ℚ → Run ℚ) → ((i : ℕ) (u : ℚ) → Agrees (f i u) (g i u)) →
     Agrees (steps n f s) (steps n g s)
 steps_agrees s zero f g h = same (Ok s)

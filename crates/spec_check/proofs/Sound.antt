@@ -28,9 +28,11 @@ use Rattle.spec_check.specs.Checks.{or_zero, HasLimit, turned_limits, priced, Ch
 use Rattle.spec_check.proofs.Duality.{Between, Feasible, optimal, infeasible}
 use Rattle.spec_check.proofs.Ray.{unbounded_holds}
 
+-- what holds of the number that an option has, if any, holds of k where the option has k
 at_some : (P : ℚ → Type 0) (o : Option ℚ) → IfSome o P → (k : ℚ) → o ≡ Some k → P k
 at_some P o h k e = subst (λ o. IfSome o P) e h
 
+-- a number between limits is at least the lower one and at most the upper one, where they are given
 between : (l : Limits) (v : ℚ) → IsBetween l v → Between l.lower l.upper v
 between l v b = record { low = at_some (λ k. k ≤ℚ v) l.lower b.lower; high = at_some (λ k. v ≤ℚ k) l.upper b.upper }
 
@@ -49,15 +51,19 @@ module _ (m : Model) where
     rows = λ i h. between (limits m i) (activity m z i) (f.rows i h);
   }
 
--- the signed cost of a point
+-- ---- the signed cost of a point
+
+-- a signed cost times a number is the signed product of the two
 signed_product : (s : Sense) (c z : ℚ) → signed s c *ℚ z ≡ signed s (c *ℚ z)
 signed_product Min c z = refl
 signed_product Max c z = neg-*ℚ c z
 
+-- for either sense, 0 with the sign of the sense is 0
 signed_zero : (s : Sense) → signed s 0ℚ ≡ 0ℚ
 signed_zero Min = refl
 signed_zero Max = neg-zero
 
+-- a signed sum of two numbers is the sum of the signed numbers
 signed_sum : (s : Sense) (a b : ℚ) → signed s (a +ℚ b) ≡ signed s a +ℚ signed s b
 signed_sum Min a b = refl
 signed_sum Max a b = simp ring
@@ -69,6 +75,7 @@ signed-sum_below s (suc n) c z =
     subst₂ (λ a b. a +ℚ b ≡ signed s (sum_below n (λ j. c j *ℚ z j) +ℚ c n *ℚ z n))
     (sym (signed-sum_below s n c z)) (sym (signed_product s (c n) (z n))) (sym (signed_sum s _ _))
 
+-- where v is at most w, both signed, w is no better than v, with the same offset on both
 not_better : (s : Sense) (v w off : ℚ) → signed s v ≤ℚ signed s w → ¬ (IsBetter s (w +ℚ off) (v +ℚ off))
 not_better Min v w off h b = clash_ℚ _ _ b (+ℚ_mono v w off h)
 not_better Max v w off h b = clash_ℚ _ _ b (+ℚ_mono w v off (neg_mono_back w v h))
@@ -114,6 +121,7 @@ asked_weighs l d v t = by (lt_ℚ 0ℚ d) (lt_ℚ d 0ℚ) refl refl
         let e : d ≡ 0ℚ = ≤ℚ_antisym d 0ℚ (le_if_not 0ℚ d p) (le_if_not d 0ℚ q) in
         ap (λ z. z *ℚ 0ℚ) e ∙ zero-*ℚ 0ℚ ∙ sym (ap (λ z. z *ℚ v) e ∙ zero-*ℚ v)
 
+-- where Farkas multipliers check, the model is infeasible
 infeasible_holds : (m : Model) (y : List ℚ) → ChecksInfeasible m y → IsInfeasible m
 infeasible_holds m y h z f =
     infeasible (width m) (height m) (coefficient m) (below_of m)
@@ -130,6 +138,7 @@ infeasible_holds m y h z f =
     h.less
     (feasible_for m z f)
 
+-- where a column's bounds check to be a clash, the model is infeasible
 clash_holds : (m : Model) (j : ℕ) → ChecksClash m j → IsInfeasible m
 clash_holds m j h z f =
     let b : IsBetween (bounds m j) (part z j) = f.columns j h.inside in

@@ -108,22 +108,26 @@ upper_all r = ap (refused_as stop.Past) (limit_all (upper_of r))
 pub ordered : (v k : ℚ) → step Cmp v k (compare None v k) ≡ Ok (order v k)
 ordered v k = comes Cmp v k (compare None v k) (order v k) (compare_unlimited v k)
 
+-- where v is at least k, the order of v and k is not less
 not_less_test : (o : Ordering) (v k : ℚ) → order v k ≡ o → k ≤ℚ v → not (is_lt o) ≡ true
 not_less_test Less v k e h = clash_ℚ v k ((order_less v k).0 e) h
 not_less_test Equal v k e h = refl
 not_less_test Greater v k e h = refl
 
+-- where v is at most k, the order of v and k is not greater
 not_greater_test : (o : Ordering) (v k : ℚ) → order v k ≡ o → v ≤ℚ k → not (is_gt o) ≡ true
 not_greater_test Less v k e h = refl
 not_greater_test Equal v k e h = refl
 not_greater_test Greater v k e h = clash_ℚ k v ((order_greater v k).0 e) h
 
+-- where v is at least a bound, if one is given, the run without a limit finds it so
 least_all : (n : ℕ) (o : Option ℚ) (v : ℚ) → IfSome o (λ k. k ≤ℚ v) → at_least n None o v ≡ Ok tt
 least_all n None v h = refl
 least_all n (Some k) v h =
     then_ok (step Cmp v k (compare None v k)) (order v k) (λ o. need n (not (is_lt o))) tt
     (ordered v k) (need_true n _ (not_less_test (order v k) v k refl h))
 
+-- where v is at most a bound, if one is given, the run without a limit finds it so
 most_all : (n : ℕ) (o : Option ℚ) (v : ℚ) → IfSome o (λ k. v ≤ℚ k) → at_most n None o v ≡ Ok tt
 most_all n None v h = refl
 most_all n (Some k) v h =
@@ -143,6 +147,8 @@ tight_test l d v t = by (lt_ℚ 0ℚ d) (lt_ℚ d 0ℚ) refl refl
     by false false p q = refl
 
 -- ---- a feasible point
+
+-- where a point's value in column j is within the column's bounds, the run accepts the column
 column_within_all : (m : Model) (x : List ℚ) (j : ℕ) → IsBetween (bounds m j) (part x j) →
     column_within_run None m x j ≡ Ok tt
 column_within_all m x j b =
@@ -155,6 +161,7 @@ columns_all m x f = each_all (width m) (column_within_run None m x) (λ j p. col
 pub activity_all : (m : Model) (z : List ℚ) (i : ℕ) → activity_run None m z i ≡ Ok (activity m z i)
 activity_all m z i = sum_all (width m) (λ j. coefficient m i j) (λ j. part z j)
 
+-- where row i's activity is within the row's limits, the run without a limit accepts the row
 row_within_all : (m : Model) (x : List ℚ) (i : ℕ) → IsBetween (limits m i) (activity m x i) →
     row_within_run None m x i ≡ Ok tt
 row_within_all m x i b =

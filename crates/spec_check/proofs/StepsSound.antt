@@ -123,6 +123,7 @@ products_ok limit n f g v e =
 pub added : (limit : Option ℕ) (v w x : ℚ) → step Add v w (add limit v w) ≡ Ok x → x ≡ v +ℚ w
 added limit v w x e = add_gives limit v w x (step_ok Add v w (add limit v w) x e)
 
+-- a run that gives a result when its refusal is told as another kind of stop gives that result itself
 refused_ok : {A : Type 0} (o : exact.Run A) (a : A) → refused_as stop.Past o ≡ Ok a → o ≡ Ok a
 refused_ok (Ok b) a h = ap Ok (ok_same b a h)
 refused_ok (Err p) a h = err_not_ok (stop.Past p) a h
@@ -182,6 +183,8 @@ tight_from l d v e = record {
 }
 
 -- ---- a feasible point
+
+-- where the run accepts column j, the point's value there is within the column's bounds
 column_within_ok : (limit : Option ℕ) (m : Model) (x : List ℚ) (j : ℕ) → column_within_run limit m x j ≡ Ok tt →
     IsBetween (bounds m j) (part x j)
 column_within_ok limit m x j e =
@@ -197,6 +200,7 @@ pub activity_ok : (limit : Option ℕ) (m : Model) (z : List ℚ) (i : ℕ) (v :
     v ≡ activity m z i
 activity_ok limit m z i v e = products_ok limit (width m) (λ j. coefficient m i j) (λ j. part z j) v e
 
+-- where the run accepts row i, the row's activity is within its limits
 row_within_ok : (limit : Option ℕ) (m : Model) (x : List ℚ) (i : ℕ) → row_within_run limit m x i ≡ Ok tt →
     IsBetween (limits m i) (activity m x i)
 row_within_ok limit m x i e =

@@ -15,14 +15,17 @@ use Rattle.spec_check.specs.Run.{not_below, not_above, column_allows_run, row_al
 use Rattle.spec_check.proofs.StepsSound.{after_ok, need_ok, each_ok, products_ok}
 use Rattle.spec_check.proofs.StepsSound.{lower_ok, upper_ok, activity_ok, feasible_ok}
 
+-- where the test that a ray does not fall below succeeds, it is at least 0 if a lower limit is given
 below_from : (o : Option ℚ) (r : ℚ) → not_below o r ≡ true → IfSome o (λ _. 0ℚ ≤ℚ r)
 below_from None r e = tt
 below_from (Some k) r e = le_if_not r 0ℚ (not-true _ e)
 
+-- where the test that a ray does not rise above succeeds, it is at most 0 if an upper limit is given
 above_from : (o : Option ℚ) (r : ℚ) → not_above o r ≡ true → IfSome o (λ _. r ≤ℚ 0ℚ)
 above_from None r e = tt
 above_from (Some k) r e = le_if_not 0ℚ r (not-true _ e)
 
+-- where the run accepts column j, the column's bounds allow the ray
 column_allows_ok : (m : Model) (r : List ℚ) (j : ℕ) → column_allows_run m r j ≡ Ok tt → Allows (bounds m j) (part r j)
 column_allows_ok m r j e =
     let a =
@@ -33,6 +36,7 @@ column_allows_ok m r j e =
       upper = above_from (bounds m j).upper (part r j) (need_ok 3 _ tt a.2);
     }
 
+-- where the run accepts row i, the row's limits allow the ray's activity
 row_allows_ok : (limit : Option ℕ) (m : Model) (r : List ℚ) (i : ℕ) → row_allows_run limit m r i ≡ Ok tt →
     Allows (limits m i) (activity m r i)
 row_allows_ok limit m r i e =
@@ -50,6 +54,7 @@ row_allows_ok limit m r i e =
           (above_from d.0 a.0 (need_ok 4 _ tt d.2));
     })
 
+-- where the run finds a ray better, the ray's signed cost is below 0
 better_ok : (limit : Option ℕ) (m : Model) (r : List ℚ) (t : ⊤) → better_run limit m r ≡ Ok t →
     signed m.sense (cost_of m r) <ℚ 0ℚ
 better_ok limit m r t e =
@@ -57,6 +62,7 @@ better_ok limit m r t e =
     subst (λ z. signed m.sense z <ℚ 0ℚ) (products_ok limit (width m) (cost m) (λ j. part r j) a.0 a.1)
     (lt_if (signed m.sense a.0) 0ℚ (need_ok 5 _ t a.2))
 
+-- where the run accepts a ray, its conditions hold and the run says that the model is unbounded
 pub unbounded_ok : (limit : Option ℕ) (m : Model) (x r : List ℚ) (said : Known ℚ) → length x ≡ width m →
     unbounded_run limit m x r ≡ Ok said → ChecksUnbounded m x r × (said ≡ known.Unbounded)
 unbounded_ok limit m x r said n e =
