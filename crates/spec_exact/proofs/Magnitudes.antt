@@ -18,9 +18,11 @@ use Rattle.spec_exact.proofs.Order.{from_num, ≤ℚ_antisym, ≤ℚ_refl, <ℚ-
 use Rattle.spec_exact.proofs.Ruleset.{neg-neg, neg-zero}
 use Rattle.spec_exact.proofs.Strict.{neg_strict, by_sign}
 
+-- a fraction whose numerator is not below 0 is at least 0
 num_positive : (x : ℚ) → int_lt x.num (pos 0) ≡ false → 0ℚ ≤ℚ x
 num_positive x e = from_num x (at_most_in _ _ (lt-false x.num (pos 0) e))
 
+-- a fraction whose numerator is below 0 is at most 0
 num_negative : (x : ℚ) → int_lt x.num (pos 0) ≡ true → x ≤ℚ 0ℚ
 unfolding whole
 num_negative x e = record { at_most = by x.num x.den (below_in _ _ (lt-true x.num (pos 0) e)) }

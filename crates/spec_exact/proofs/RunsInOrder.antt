@@ -29,10 +29,13 @@ pub refused_then : {A B E : Type 0} (kind : Past ℚ → E) (o : Run A) (next : 
 refused_then kind (Ok a) next = refl
 refused_then kind (Err e) next = refl
 
+-- where k is below n, k + 1 and what is left up to n are together n
 up_to : (k n : ℕ) → k < n → suc k + (n - suc k) ≡ n
 up_to k n h = omega arith
 
 -- ---- steps
+
+-- where n steps end in an error, more steps end in the same error
 steps_stay : {A E : Type 0} (n d : ℕ) (f : ℕ → A → Result A E) (a : A) (e : E) → steps n f a ≡ Err e →
     steps (n + d) f a ≡ Err e
 steps_stay n zero f a e h = (let z : n + 0 ≡ n = omega arith in ap (λ k. steps k f a) z) ∙ h
@@ -53,6 +56,8 @@ steps_stop k n f a b e p h g =
     (steps_stay (suc k) (n - suc k) f a e (ap (λ o. o >>= λ b. f k b) h ∙ g))
 
 -- ---- lists
+
+-- where a list of n items ends in a refusal, a list of more items ends in the same refusal
 list_stays : {A : Type 0} (n d : ℕ) (f : ℕ → Run A) (e : Past ℚ) → list_run n f ≡ Err e → list_run (n + d) f ≡ Err e
 list_stays n zero f e h = (let z : n + 0 ≡ n = omega arith in ap (λ k. list_run k f) z) ∙ h
 list_stays n (suc d) f e h =
