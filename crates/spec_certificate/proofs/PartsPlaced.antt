@@ -45,6 +45,7 @@ IsFree letter parts = (name : Name) → is_given letter name parts ≡ false
 pub free_at_first : (letter : Letter) → IsFree letter []
 free_at_first letter name = refl
 
+-- the part of a number with one letter gives none with another letter
 none_of : (letter other : Letter) (name own : Name) (v : ℚ) → same_letter other letter ≡ false →
     is_given letter name (part_if other own v) ≡ false
 none_of letter other name own v h = by (eq_ℚ v 0ℚ)
@@ -62,6 +63,7 @@ free_behind letter other names values (suc n) h name =
     ∙ ap₂ (λ (s t : Bool). s || t) (free_behind letter other names values n h name)
     (none_of letter other name (names n) (part values n) h)
 
+-- the part of a number with one name gives none with another name
 not_named : (letter : Letter) (name own : Name) (v : ℚ) → same own name ≡ false →
     is_given letter name (part_if letter own v) ≡ false
 not_named letter name own v h = by (eq_ℚ v 0ℚ)

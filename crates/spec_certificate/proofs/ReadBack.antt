@@ -47,13 +47,16 @@ raw_of kind parts = record { kind = kind; parts = parts }
 
 -- ---- lines
 
+-- the words of a text that is one word are that word alone
 one_word : (w : List ℕ) → IsWord w → words_of w ≡ w ∷ []
 unfolding words_of
 one_word w h = parts_word w h
 
+-- the text END is a word
 end_word : IsWord (codes "END")
 end_word = record { some = refl; printable = refl }
 
+-- the words of a line with CLASH and a name are CLASH and that name
 clash_words : (name : List ℕ) → IsWord name → words_of (codes "CLASH" ++ 32 ∷ name) ≡ codes "CLASH" ∷ name ∷ []
 unfolding words_of
 clash_words name h =
@@ -202,12 +205,16 @@ module _ (read : Reading ℚ) (text : ℚ → List ℕ) where
   read_back_by m (Clash j) h f n = clash_back m j h f
 
 -- ---- numbers of 127 bits
+
+-- the text of a narrow number is a word that is read as the number
 narrow_back : (v : ℚ) → IsNarrow v → IsReadable narrow number_text v
 narrow_back v n = record { word = number_word v n.top n.bottom; back = ap value_in (read_written v n.top n.bottom) }
 
+-- where all numbers of a list are narrow, the text of each is read as the number
 all_back : (xs : List ℚ) → All IsNarrow xs → All (IsReadable narrow number_text) xs
 all_back xs h = λ k d l. narrow_back (get_or xs k d) (h k d l)
 
+-- where a certificate's numbers are narrow, the text of each is read as the number
 numbers_back : (cert : Certificate (List ℚ)) → IsNarrowCertificate cert → AllNumbers (IsReadable narrow number_text) cert
 numbers_back (Optimal x y) n = (all_back x n.0, all_back y n.1)
 numbers_back (Infeasible y) n = all_back y n
@@ -219,12 +226,16 @@ pub read_back : (m : Model) (cert : Certificate (List ℚ)) → IsModel m → Is
 read_back m cert h f n = read_back_by narrow number_text m cert h f (numbers_back cert n)
 
 -- ---- numbers of any width
+
+-- the text of a short number of any width is a word that is read as the number
 wide_back : (v : ℚ) → IsShortNumber v → IsReadable wide wide_text v
 wide_back v n = record { word = wide_word v; back = ap wide_in (read_again v n) }
 
+-- where all numbers of a list are short, the text of each in any width is read as the number
 all_wide : (xs : List ℚ) → All IsShortNumber xs → All (IsReadable wide wide_text) xs
 all_wide xs h = λ k d l. wide_back (get_or xs k d) (h k d l)
 
+-- where a certificate's numbers are short, the text of each in any width is read as the number
 numbers_wide : (cert : Certificate (List ℚ)) → AllNumbers IsShortNumber cert →
     AllNumbers (IsReadable wide wide_text) cert
 numbers_wide (Optimal x y) n = (all_wide x n.0, all_wide y n.1)

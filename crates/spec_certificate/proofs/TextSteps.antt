@@ -58,11 +58,13 @@ module _ {F : Type 0} (read : Reading F) where
 
 -- ---- a part that is written
 
+-- the text of a letter is a word
 letter_word : (letter : Letter) → IsWord (letter_text letter)
 letter_word X = record { some = refl; printable = refl }
 letter_word Y = record { some = refl; printable = refl }
 letter_word R = record { some = refl; printable = refl }
 
+-- the text of a letter is read as that letter
 letter_known : (letter : Letter) → letter_of (letter_text letter) ≡ Some letter
 unfolding letter_of
 letter_known X = refl

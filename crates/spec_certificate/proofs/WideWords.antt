@@ -10,11 +10,13 @@ use Rattle.spec_mps.specs.WideWritten.{all_digits, past_text, is_within, wide_te
 use Rattle.spec_mps.proofs.AllDigits.{spelled_all}
 use Rattle.spec_mps.proofs.ReadBack.{text_is}
 
+-- the digits of a number are a word
 digits_word : (n : ℕ) → IsWord (all_digits n)
 digits_word n =
     let s = spelled_all n in
     record { some = has_some (all_digits n) s.some; printable = printed (all_digits n) s.digits }
 
+-- the text of a numerator and a denominator of any width is a word
 past_word : (n den : ℕ) → IsWord (past_text n den)
 unfolding past_text
 past_word n den = by (nat_eq den 1)
@@ -23,10 +25,12 @@ past_word n den = by (nat_eq den 1)
     by true = digits_word n
     by false = longer (all_digits n) (47 ∷ all_digits den) (digits_word n) (digits_word den).printable
 
+-- the text of a numerator and a denominator is a word, with a minus before it or without
 signed_word : (negative : Bool) (n den : ℕ) → IsWord (cond negative (45 ∷ []) [] ++ past_text n den)
 signed_word true n den = record { some = refl; printable = (past_word n den).printable }
 signed_word false n den = past_word n den
 
+-- the text of a number of any width is a word
 pub wide_word : (q : ℚ) → IsWord (wide_text q)
 wide_word q = by (is_within q) refl
   where
