@@ -46,6 +46,7 @@ pub first_some : (x y : Option Field) (item : List ℕ) → option_map (λ f. f.
 first_some None y item h = cc
 first_some (Some f) y item h = h
 
+-- the first wide field of two lists of cards is the first list's, or else the second list's
 find_both : (cs ds : WrittenCards) →
     find is_wide (flat_map data_fields (cs ++ ds))
     ≡ option_or (find is_wide (flat_map data_fields cs)) (find is_wide (flat_map data_fields ds))
@@ -67,6 +68,7 @@ wide_first Fixed cs ds item h =
     ap (option_map (λ f. f.text)) (find_both cs ds)
     ∙ first_some (find is_wide (flat_map data_fields cs)) (find is_wide (flat_map data_fields ds)) item h
 
+-- the text of two lists of cards is the text of the first and then that of the second
 cards_text-append : (style : Style) (cs ds : WrittenCards) →
     cards_text style (cs ++ ds) ≡ cards_text style cs ++ cards_text style ds
 cards_text-append style cs ds = flat_map-append (λ card. line_text style card ++ 10 ∷ []) cs ds
@@ -144,6 +146,7 @@ pub each_done : {X : Type 0} (style : Style) (f : X → WrittenCards) (xs : List
     length xs ≤ n → IsAdded style (flat_map f (take n xs)) a b → IsAdded style (flat_map f xs) a b
 each_done style f xs n a b all h = rw (sym (ap (flat_map f) (take_all n xs all))) h
 
+-- seven lists of cards put together one by one are the first three and then the last four
 regroup : (a b c d e f g : WrittenCards) →
     ((((((a ++ b) ++ c) ++ d) ++ e) ++ f) ++ g) ≡ ((a ++ b) ++ c) ++ (((d ++ e) ++ f) ++ g)
 regroup a b c d e f g = simp append_assoc

@@ -20,7 +20,7 @@ use Rattle.lp_mps.proofs.NewNames.{name_of, names_new}
 
 -- ---- a column by its name
 
--- a test that asks for the name alone
+-- a test that asks for the name alone passes an item of a list exactly where it passes a name
 any_named : {X : Type 0} (p : X → Bool) (q : Name → Bool) (f : X → Name) → ((x : X) → p x ≡ q (f x)) →
     (xs : List X) → list_any p xs ≡ list_any q (map f xs)
 any_named p q f e [] = refl

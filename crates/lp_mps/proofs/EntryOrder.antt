@@ -37,6 +37,7 @@ record IsAbove (n : ℕ) (es : Entries) : Type 0 where
   above : (j : ℕ) (d : Entry) → j < length es → n ≤ (get_or es j d).0
   order : IsOrdered es
 
+-- entries behind a first one in order are in order, of its row or later ones
 first_above : (e : Entry) (es : Entries) → IsOrdered (e ∷ es) → IsAbove e.0 es
 first_above e es h =
     record {
@@ -44,12 +45,14 @@ first_above e es h =
       order = λ i j d l m. h (suc i) (suc j) d (omega arith) (omega arith);
     }
 
+-- an entry in front of ordered entries of its row or later ones makes ordered entries
 in_front : (e : Entry) (es : Entries) → IsAbove e.0 es → IsOrdered (e ∷ es)
 in_front e es h zero zero d l m = omega arith
 in_front e es h zero (suc j) d l m = h.above j d (omega arith)
 in_front e es h (suc i) zero d l m = absurd (omega arith)
 in_front e es h (suc i) (suc j) d l m = h.order i j d (omega arith) (omega arith)
 
+-- a first entry of row n or later, before ordered ones of its row or later, makes them all of row n or later
 front_above : (n : ℕ) (x : Entry) (es : Entries) → n ≤ x.0 → IsAbove x.0 es → IsAbove n (x ∷ es)
 front_above n x es l h = record { above = by; order = in_front x es h }
   where
@@ -57,10 +60,11 @@ front_above n x es l h = record { above = by; order = in_front x es h }
     by zero d m = l
     by (suc j) d m = let g : x.0 ≤ (get_or es j d).0 = h.above j d (omega arith) in omega arith
 
+-- entries in order are of the first one's row or later ones
 all_above : (e : Entry) (es : Entries) → IsOrdered (e ∷ es) → IsAbove e.0 (e ∷ es)
 all_above e es h = front_above e.0 e es (omega arith) (first_above e es h)
 
--- put among entries of rows that are at least n
+-- an entry of row n or later, put among such entries, leaves entries of row n or later, in order
 put-above : (n i : ℕ) (v : ℚ) → n ≤ i → (es : Entries) → IsAbove n es → IsAbove n (put_entry i v es)
 put-above n i v l [] h =
     front_above n (i, v) [] l (record { above = λ j d m. absurd (omega arith); order = h.order })
@@ -76,13 +80,16 @@ put-above n i v l (e ∷ es) h =
         front_above n (i, v) (e ∷ es) l (front_above i e es (omega arith) behind)
     go false q behind low more = front_above n e (put_entry i v es) low (more (ltb-false i e.0 q) behind)
 
+-- an entry put among ordered entries leaves them in order
 put-ordered : (i : ℕ) (v : ℚ) (es : Entries) → IsOrdered es → IsOrdered (put_entry i v es)
 put-ordered i v es h = (put-above 0 i v (omega arith) es (record { above = λ j d l. omega arith; order = h })).order
 
+-- entries put one by one among ordered entries leave them in order
 all-ordered : (placed es : Entries) → IsOrdered placed → IsOrdered (put_all placed es)
 all-ordered placed [] h = h
 all-ordered placed (e ∷ es) h = all-ordered (put_entry e.0 e.1 placed) es (put-ordered e.0 e.1 placed h)
 
+-- a list without entries is in order
 none-ordered : IsOrdered []
 none-ordered i j d l m = absurd (omega arith)
 
@@ -91,6 +98,7 @@ none-ordered i j d l m = absurd (omega arith)
 abbrev tie : Entry → Entry → Bool
 tie = ties (λ x y. is_lt (nat_cmp x.0 y.0))
 
+-- comparing two numbers gives less exactly where the first is below the second
 before_is : (a b : ℕ) → is_lt (nat_cmp a b) ≡ ltb a b
 before_is a b = go (ltb a b) (eqb a b)
   where
@@ -99,18 +107,22 @@ before_is a b = go (ltb a b) (eqb a b)
     go false true = refl
     go false false = refl
 
+-- an entry of the same row is a tie
 tie_same : (x e : Entry) → x.0 ≡ e.0 → tie x e ≡ true
 tie_same x e h =
     rw (before_is x.0 e.0, before_is e.0 x.0, le-ltb x.0 e.0 (omega (arith, h)), le-ltb e.0 x.0 (omega (arith, h)))
     refl
 
+-- an entry of a later row is no tie
 tie_later : (x e : Entry) → x.0 < e.0 → tie x e ≡ false
 tie_later x e h = rw (before_is x.0 e.0, lt-ltb x.0 e.0 h) refl
 
+-- an entry of an earlier row is no tie
 tie_earlier : (x e : Entry) → e.0 < x.0 → tie x e ≡ false
 tie_earlier x e h =
     rw (before_is x.0 e.0, before_is e.0 x.0, le-ltb x.0 e.0 (omega (arith, h)), lt-ltb e.0 x.0 h) refl
 
+-- an entry of another row is no tie
 tie_other : (x e : Entry) → x.0 ≢ e.0 → tie x e ≡ false
 tie_other x e h = go (ltb x.0 e.0) refl
   where
@@ -118,14 +130,14 @@ tie_other x e h = go (ltb x.0 e.0) refl
     go true q = tie_later x e (ltb-true x.0 e.0 q)
     go false q = tie_earlier x e (let l : e.0 ≤ x.0 = ltb-false x.0 e.0 q in grind (arith, h, l))
 
--- none among entries of later rows
+-- among entries of later rows none is a tie
 none_tie : (x : Entry) (n : ℕ) → x.0 < n → (es : Entries) → IsAbove n es → filter (tie x) es ≡ []
 none_tie x n l [] h = refl
 none_tie x n l (e ∷ es) h =
     let low : n ≤ e.0 = h.above 0 e (omega arith) in
     rw (tie_later x e (omega arith)) (none_tie x e.0 (omega arith) es (first_above e es h.order))
 
--- one that is put before later rows
+-- the ties of x are the same with an entry before others of later rows as with it behind them
 filter_front : (x d : Entry) (n : ℕ) → d.0 < n → (es : Entries) → IsAbove n es →
     filter (tie x) (d ∷ es) ≡ filter (tie x) es ++ filter (tie x) (d ∷ [])
 filter_front x d n l es h = go (eqb x.0 d.0) refl
@@ -137,12 +149,13 @@ filter_front x d n l es h = go (eqb x.0 d.0) refl
         rw (tie_same x d same, none_tie x n low es h) refl
     go false q = rw (tie_other x d (eqb-false x.0 d.0 q)) (sym (append-nil (filter (tie x) es)))
 
+-- an entry that a test keeps in front of two joined lists is kept in front of the first one
 joined : (t : Bool) (e : Entry) (es more : Entries) →
     cond t (e ∷ (es ++ more)) (es ++ more) ≡ cond t (e ∷ es) es ++ more
 joined true e es more = refl
 joined false e es more = refl
 
--- of one row, one that is put in comes after those that stand there
+-- of one row, an entry that is put in comes after those that stand there
 filter_put : (x : Entry) (i : ℕ) (v : ℚ) (es : Entries) → IsOrdered es →
     filter (tie x) (put_entry i v es) ≡ filter (tie x) es ++ filter (tie x) ((i, v) ∷ [])
 filter_put x i v [] h = refl
@@ -157,6 +170,7 @@ filter_put x i v (e ∷ es) h = go (ltb i e.0) refl (filter_put x i v es (first_
         ap (λ fs. cond (tie x e) (e ∷ fs) fs) more
         ∙ joined (tie x e) e (filter (tie x) es) (filter (tie x) ((i, v) ∷ []))
 
+-- of one row, entries put in one by one come after those that stand there, in their order
 filter_all : (x : Entry) (placed es : Entries) → IsOrdered placed →
     filter (tie x) (put_all placed es) ≡ filter (tie x) placed ++ filter (tie x) es
 filter_all x placed [] h = sym (append-nil (filter (tie x) placed))
@@ -168,10 +182,11 @@ filter_all x placed (e ∷ es) h =
 
 -- ---- lists in order that have the same entries of each row, in the same order
 
+-- an entry is a tie of itself, so it stays first among its ties
 own : (x : Entry) (es : Entries) → filter (tie x) (x ∷ es) ≡ x ∷ filter (tie x) es
 own x es = rw (tie_same x x refl) refl
 
--- where some entry has this row, the first is no later
+-- where some entry of a list has the row of x, the first is of no later row
 first_low : (x : Entry) (n : ℕ) (es : Entries) → IsAbove n es → (y : Entry) (ys : Entries) →
     filter (tie x) es ≡ y ∷ ys → n ≤ x.0
 first_low x n es h y ys e = go (ltb x.0 n) refl
@@ -182,6 +197,7 @@ first_low x n es h y ys e = go (ltb x.0 n) refl
         omega (arith, long))
     go false q = ltb-false x.0 n q
 
+-- where two lists with the same first entry have the same ties of x, so have the lists behind it
 rest_same : (x u v : Entry) (us vs : Entries) → u ≡ v → filter (tie x) (u ∷ us) ≡ filter (tie x) (v ∷ vs) →
     filter (tie x) us ≡ filter (tie x) vs
 rest_same x u v us vs same e = go (tie x u) (e ∙ ap (λ z. filter (tie x) (z ∷ vs)) (sym same))
@@ -192,6 +208,7 @@ rest_same x u v us vs same e = go (tie x u) (e ∙ ap (λ z. filter (tie x) (z �
     go true e = ap (drop 1) e
     go false e = e
 
+-- two lists in order that have the same ties of each entry are the same
 same_entries : (us vs : Entries) → IsOrdered us → IsOrdered vs →
     ((x : Entry) → filter (tie x) us ≡ filter (tie x) vs) → us ≡ vs
 same_entries [] [] g h f = refl

@@ -17,26 +17,31 @@ use Rattle.lp_mps.specs.declared.write.stop.WriteStop.TheVariants.{TooWide, NoMe
 use Rattle.lp_mps.specs.Adds.{IsAdded, Names, fields_of, is_wide_in, wide_field, wide_in}
 use Rattle.lp_mps.proofs.AddSteps.{first_none, first_some}
 
+-- a line with two lists of fields is the line with the first and then with the second
 with_fields-append : (style : Style) (line : List ℕ) (fs gs : Fields) →
     with_fields style line (fs ++ gs) ≡ with_fields style (with_fields style line fs) gs
 with_fields-append style line [] gs = refl
 with_fields-append style line (f ∷ fs) gs = with_fields-append style (padded style f.number line ++ f.text) fs gs
 
+-- where no field of a first list is wide, the wide field of both lists is that of the second
 wide_behind : (style : Style) (fs gs : Fields) → wide_field style fs ≡ None →
     wide_field style (fs ++ gs) ≡ wide_field style gs
 wide_behind style fs gs h =
     ap (option_map (λ f. f.text)) (find-append (is_wide_in style) fs gs)
     ∙ first_none (find (is_wide_in style) fs) (find (is_wide_in style) gs) h
 
+-- the wide field of a first list is the wide field of both lists
 wide_first : (style : Style) (fs gs : Fields) (item : List ℕ) → wide_field style fs ≡ Some item →
     wide_field style (fs ++ gs) ≡ Some item
 wide_first style fs gs item h =
     ap (option_map (λ f. f.text)) (find-append (is_wide_in style) fs gs)
     ∙ first_some (find (is_wide_in style) fs) (find (is_wide_in style) gs) item h
 
+-- a field that tests as wide is the wide field of the list with it alone
 wide_one : (style : Style) (f : Field) → is_wide_in style f ≡ true → wide_field style (f ∷ []) ≡ Some f.text
 wide_one style f h = rw h refl
 
+-- where a field does not test as wide, the list with it alone has no wide field
 narrow_one : (style : Style) (f : Field) → is_wide_in style f ≡ false → wide_field style (f ∷ []) ≡ None
 narrow_one style f h = rw h refl
 
@@ -83,10 +88,12 @@ puts_done style fs n start line all narrow here = (
 
 -- ---- a card of fields
 
+-- in the free style no field is wide
 free_narrow : (fs : Fields) → wide_field Free fs ≡ None
 free_narrow [] = refl
 free_narrow (f ∷ fs) = free_narrow fs
 
+-- the wide field of a card alone is the wide field among its fields
 wide_card : (style : Style) (fs : Fields) → wide_in style (Data fs ∷ []) ≡ wide_field style fs
 wide_card Free fs = sym (free_narrow fs)
 wide_card Fixed fs = ap (λ gs. wide_field Fixed gs) (append-nil fs)

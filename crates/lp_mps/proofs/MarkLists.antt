@@ -13,16 +13,19 @@ use Rattle.spec_mps.specs.Reader.{is_among, same_target}
 use Rattle.lp_mps.specs.Marks.{mark_of, target_of}
 use Rattle.lp_mps.proofs.ListItems.{list_any-reverse}
 
+-- the mark of a target is another mark exactly where the targets of both are the same
 same_mark : (t : Target) (k : Option ℕ) → option_eq nat_eq (mark_of t) k ≡ same_target t (target_of k)
 same_mark Objective None = refl
 same_mark Objective (Some j) = refl
 same_mark (Row i) None = refl
 same_mark (Row i) (Some j) = refl
 
+-- the target of the mark of a target is that target
 target_back : (t : Target) → target_of (mark_of t) ≡ t
 target_back Objective = refl
 target_back (Row i) = refl
 
+-- the mark of a target is among marks exactly where the target is among their targets
 marked : (t : Target) (marks : List (Option ℕ)) →
     list_any (option_eq nat_eq (mark_of t)) marks ≡ list_any (same_target t) (map target_of marks)
 marked t [] = refl

@@ -28,6 +28,7 @@ use Rattle.lp_mps.specs.Named.{AreRows}
 
 -- ---- a name that stands for nothing
 
+-- a name that stands for nothing has no place among the rows
 no_row_placed : (a : Bool) (o : Option ℕ) → cond a (Some Objective) (row_at o) ≡ None → o ≡ None
 no_row_placed true o h = absurd (cc)
 no_row_placed false None h = refl
@@ -97,11 +98,13 @@ pub names_current : (xs : List ExactColumn) (c d : ExactColumn) → name_of d �
 names_current xs c d e =
     map-append name_of xs (d ∷ []) ∙ ap (λ n. map name_of xs ++ n ∷ []) e ∙ sym (map-append name_of xs (c ∷ []))
 
+-- the names of columns with a current one are those of the columns and then the current one's
 names_parted : (xs : List ExactColumn) (c : Option ExactColumn) →
     map name_of (columns_with xs c) ≡ map name_of xs ++ map name_of (columns_with [] c)
 names_parted xs None = sym (append-nil (map name_of xs))
 names_parted xs (Some c) = map-append name_of xs (c ∷ [])
 
+-- putting the entries of the current column in order leaves the column's name
 name_sorted : (c : Option ExactColumn) →
     map name_of (columns_with [] (option_map ordered c)) ≡ map name_of (columns_with [] c)
 name_sorted None = refl

@@ -19,13 +19,14 @@ use Rattle.spec_mps.specs.Sides.{is_used, set_and_pairs, new_range, put_range, r
 use Rattle.lp_mps.specs.declared.read.numbers.Numbers.TheVariants.{Entries, Sides, Ranges}
 use Rattle.lp_mps.specs.Numbers.{put_if, place_by, pair_by, pairs_by, set_by, set_card}
 
--- two checks in turn
+-- where two checks are the same, and so is what follows each result, the checks in turn are the same
 next : {A : Type 0} (a b : Check A) (f g : A → Check State) → a ≡ b → ((x : A) → f x ≡ g x) → (a >>= f) ≡ (b >>= g)
 next (Ok x) b f g e h = h x ∙ ap (λ c. c >>= g) e
 next (Err code) b f g e h = ap (λ c. c >>= g) e
 
 -- ---- one by one
 
+-- a pair of an entry is checked the same by both definitions
 entry_is : (s : State) (name : Name) (text : List ℕ) → pair_by Entries s name text ≡ column_pair s name text
 unfolding column_pair enter
 entry_is s name text = next (need (place_of s name) code.UnknownRow) _ _ _ refl by
@@ -33,6 +34,7 @@ entry_is s name text = next (need (place_of s name) code.UnknownRow) _ _ _ refl 
     by : (t : Target) → place_by Entries s text t ≡ (number_in text >>= λ v. enter s t v)
     by t = refl
 
+-- a pair of a right side is checked the same by both definitions
 side_is : (s : State) (name : Name) (text : List ℕ) → pair_by Sides s name text ≡ side_pair s name text
 unfolding side_pair put_side
 side_is s name text = next (need (place_of s name) code.UnknownRow) _ _ _ refl by
@@ -41,6 +43,7 @@ side_is s name text = next (need (place_of s name) code.UnknownRow) _ _ _ refl b
     by Objective = refl
     by (Row i) = refl
 
+-- a pair of a range is checked the same by both definitions
 range_is : (s : State) (name : Name) (text : List ℕ) → pair_by Ranges s name text ≡ range_pair s name text
 unfolding range_pair put_range new_range
 range_is s name text = next (need (place_of s name) code.UnknownRow) _ _ _ refl by
@@ -61,21 +64,25 @@ pub entries_are : (s : State) (ps : List (List ℕ × List ℕ)) → pairs_by En
 entries_are s [] = refl
 entries_are s (p ∷ ps) = next _ _ _ _ (entry_is s p.0 p.1) (λ t. entries_are t ps)
 
+-- pairs of right sides in turn are checked the same by both definitions
 sides_are : (s : State) (ps : List (List ℕ × List ℕ)) → pairs_by Sides s ps ≡ side_pairs s ps
 sides_are s [] = refl
 sides_are s (p ∷ ps) = next _ _ _ _ (side_is s p.0 p.1) (λ t. sides_are t ps)
 
+-- pairs of ranges in turn are checked the same by both definitions
 ranges_are : (s : State) (ps : List (List ℕ × List ℕ)) → pairs_by Ranges s ps ≡ range_pairs s ps
 ranges_are s [] = refl
 ranges_are s (p ∷ ps) = next _ _ _ _ (range_is s p.0 p.1) (λ t. ranges_are t ps)
 
 -- ---- on cards
 
+-- a card of right sides, with its set and pairs, is checked the same by both definitions
 side_set : (s : State) (card : SetAndPairs) → set_by Sides s card ≡ rhs_by s card
 unfolding rhs_by
 side_set s card =
     ap (λ c. cond (is_used s.set card.set) c (Ok s)) (sides_are (record s { set = Some card.set }) card.pairs)
 
+-- a card of ranges, with its set and pairs, is checked the same by both definitions
 range_set : (s : State) (card : SetAndPairs) → set_by Ranges s card ≡ ranges_by s card
 unfolding ranges_by
 range_set s card =

@@ -22,20 +22,24 @@ use Rattle.spec_mps.specs.Bounds.{BoundTexts, bound_texts_by, bound_texts, takes
 use Rattle.spec_model.specs.Model.{Name}
 use Rattle.lp_mps.specs.BoundSeen.{texts_by}
 
+-- a number is not odd exactly where the next one is odd
 odd_more : (n : ℕ) → not (nat_eq (n % 2) 1) ≡ nat_eq (suc n % 2) 1
 odd_more n = grind (arith, nat_tests)
 
--- the number of an odd list
+-- a list tests as odd exactly where its length is odd
 odd_length : (ts : List (List ℕ)) → is_odd ts ≡ nat_eq (length ts % 2) 1
 odd_length [] = refl
 odd_length (t ∷ ts) = ap not (odd_length ts) ∙ odd_more (length ts)
 
+-- a list of even length does not test as odd
 is_even : (ts : List (List ℕ)) → length ts % 2 ≡ 0 → is_odd ts ≡ false
 is_even ts h = odd_length ts ∙ grind (arith, nat_tests)
 
+-- a list whose length is not even tests as odd
 odd_is : (ts : List (List ℕ)) → length ts % 2 ≢ 0 → is_odd ts ≡ true
 odd_is ts h = odd_length ts ∙ grind (arith, nat_tests)
 
+-- where no set's name comes first, all texts make pairs
 without_set : (ts : List (List ℕ)) → set_and_pairs_by false ts ≡ record { set = None; pairs = pairs_of ts }
 without_set [] = refl
 without_set (t ∷ ts) = refl
@@ -66,7 +70,7 @@ few_pairs [] h = refl
 few_pairs (f ∷ []) h = refl
 few_pairs (f ∷ g ∷ fs) h = absurd (omega arith)
 
--- texts by their places
+-- the texts of a bound by their first four places are those by the list
 texts_places : (b : Bool) (ts : List (List ℕ)) →
     texts_by b (slice_get ts 0) (slice_get ts 1) (slice_get ts 2) (slice_get ts 3) ≡ bound_texts_by b ts
 texts_places true [] = refl
