@@ -52,6 +52,7 @@ zeros_kept (d ∷ ds) h = rw h (by (eqb d 48) h (zeros_kept ds))
     by true h i = ap (λ n. 1 + n) (i h)
     by false h i = refl
 
+-- digits test as all 0 exactly where there are as many leading zeros as digits
 are_all_zeros : (ds : List ℕ) → list_all is_zero ds ≡ eqb (prefix_len is_zero ds) (length ds)
 are_all_zeros [] = refl
 are_all_zeros (d ∷ ds) = by (eqb d 48) (are_all_zeros ds)
@@ -64,6 +65,7 @@ are_all_zeros (d ∷ ds) = by (eqb d 48) (are_all_zeros ds)
     by true i = i ∙ more _ _
     by false i = sym (ne_eqb 0 (suc (length ds)) (λ e. omega (arith, e)))
 
+-- digits that are all 0 leave none without their trailing zeros
 none_kept : (ds : List ℕ) → list_all is_zero ds ≡ true → without_zeros ds ≡ []
 none_kept [] h = refl
 none_kept (d ∷ ds) h = rw h refl
@@ -100,6 +102,7 @@ size_huge negative s c (negsuc e) low high = by (int_lt (pos 20) (pos (suc c) +�
         let p : 10 ^ suc c ≤ 10 ^ (20 + suc e) = pow-le-pow_right (omega arith) {i = suc c} {j = 20 + suc e} k in
         sym (lt-leb (10 ^ 20 * 10 ^ suc e) s (omega (arith, pow-add 10 20 (suc e))))
 
+-- a whole number below another one tests as below it
 lt_is : (x y : ℤ) → x <ℤ y → int_lt x y ≡ true
 lt_is x y h = by (int_lt x y) refl
   where
@@ -130,6 +133,7 @@ near_same t n w z a b = by t (min n far) (cases_min n)
         lt_is (pos 20) (signed false m +ℤ pos w -ℤ pos z) (omega (arith, ints))
         ∙ sym (lt_is (pos 20) (signed false n +ℤ pos w -ℤ pos z) (omega (arith, ints)))
 
+-- a decimal whose digits spell 0 is not huge
 zero_huge : (negative : Bool) (e : ℤ) → false ≡ is_huge (Decimal negative 0 e)
 unfolding is_huge
 zero_huge negative (pos e) =
@@ -151,6 +155,7 @@ zeros_off ds h z =
     by zero n e ne = absurd (ne (e ∙ omega arith))
     by (suc s) n e ne = omega arith
 
+-- where k is z plus c + 1, e plus w less z is c + 1 plus what e plus w less k is
 place : (e : ℤ) (w z c k : ℕ) → k ≡ z + suc c → e +ℤ pos w -ℤ pos z ≡ pos (suc c) +ℤ (e +ℤ pos w -ℤ pos k)
 place e w z c k h = omega (arith, ints)
 
@@ -198,6 +203,7 @@ record IsQuotient (high whole : ℕ) : Type 0 where
   low : 10 ^ 20 * high ≤ whole
   up : whole < 10 ^ 20 * suc high
 
+-- digits without the first n are digits
 drop_digits : (n : ℕ) (ds : List ℕ) → list_all is_ascii_digit ds ≡ true → list_all is_ascii_digit (drop n ds) ≡ true
 drop_digits n ds h =
     let e : (list_all is_ascii_digit (take n ds) && list_all is_ascii_digit (drop n ds)) ≡ true =
@@ -205,6 +211,7 @@ drop_digits n ds h =
     ∙ ap (list_all is_ascii_digit) (take-append-drop n ds) ∙ h in
     (and_parts _ _ e).1
 
+-- digits without the last twenty spell the quotient by 10 ^ 20 of what all of them spell
 high_digits : (ds : List ℕ) → list_all is_ascii_digit ds ≡ true →
     IsQuotient (spelled (take (length ds - 20) ds)) (spelled ds)
 high_digits ds h = by (leb 20 (length ds)) refl

@@ -14,6 +14,7 @@ use Rattle.std.proofs.lemmas.List.{take_all}
 use Rattle.spec_mps.specs.NumberText.{is_point, are_digits, behind, exponent_of, scaled, decimal_of, mantissa_of}
 use Rattle.spec_mps.proofs.SplitLemmas.{whole}
 
+-- some byte passes a test exactly where the first place that passes is before the end
 any_place : (test : ℕ → Bool) (text : List ℕ) → list_any test text ≡ ltb (position_or_len test text) (length text)
 any_place test [] = refl
 any_place test (b ∷ text) = by (test b) (any_place test text)

@@ -39,6 +39,7 @@ use Rattle.lp_numtext.specs.declared.parts.Parts.TheVariants as parts
 
 -- ---- the value against 10 ^ 20
 
+-- where n / d is at most m / e, n times e is at most m times d
 over_back : (n m : ℤ) (d e : ℕ) → 0 < d → 0 < e → over n d ≤ℚ over m e → (n *ℤ pos e) ≤ℤ (m *ℤ pos d)
 over_back n m d e p q h = by (over n d) (over m e) (over_cross n d p) (over_cross m e q) h
   where
@@ -55,31 +56,39 @@ over_back n m d e p q h = by (over n d) (over m e) (over_cross n d p) (over_cros
         ∙ by_ring (m ∷ pos x.den ∷ pos y.den ∷ pos d ∷ []) (v0 ⊗ v2 ⊗ (v1 ⊗ v3)) (v0 ⊗ v3 ⊗ (v1 ⊗ v2)) refl)
         (≤ℤ-times _ _ (d * e) h.at_most))
 
+-- where n times e is below m times d, n / d is below m / e
 over_strict : (n m : ℤ) (d e : ℕ) → 0 < d → 0 < e → (n *ℤ pos e) <ℤ (m *ℤ pos d) → over n d <ℚ over m e
 over_strict n m d e p q h = lt_from_not _ _ (λ k. clash _ _ h (over_back m n e d q p k))
   where
     clash : (a b : ℤ) → a <ℤ b → b ≤ℤ a → ⊥
     clash a b h k = omega (arith, ints)
 
--- 10 ^ 20, and its negative, as quotients
+-- ---- 10 ^ 20, and its negative, as quotients
+
+-- the quotient of 10 ^ 20 by 1 is the number from which on bounds are infinite
 top_limit : over (pos (10 ^ 20)) 1 ≡ infinite
 top_limit = over-one (pos (10 ^ 20))
 
+-- the quotient of the negative of 10 ^ 20 by 1 is the negative of the number for infinite bounds
 low_limit : over (neg_ℤ (pos (10 ^ 20))) 1 ≡ neg_ℚ infinite
 unfolding neg_ℚ whole
 low_limit = over-parts (neg_ℚ infinite)
 
+-- the negative of the number for infinite bounds is below that number
 limits : neg_ℚ infinite <ℚ infinite
 limits =
     subst₂ ◌<ℚ◌ low_limit top_limit
     (over_strict (neg_ℤ (pos (10 ^ 20))) (pos (10 ^ 20)) 1 1 (omega arith) (omega arith) (omega (arith, ints)))
 
+-- where x is below y, x does not test as at least y
 lt_from : (x y : ℚ) → x <ℚ y → is_at_least y x ≡ false
 lt_from x y h = ap not (lt_test x y h)
 
+-- where x is at least y, x tests as at least y
 le_from : (x y : ℚ) → y ≤ℚ x → is_at_least y x ≡ true
 le_from x y h = ap not (not_lt_test x y h)
 
+-- a quotient whose size is at least 10 ^ 20 is the infinite bound of its sign
 huge_value : (negative : Bool) (n d : ℕ) (r : NumberReading) → 0 < d → 10 ^ 20 * d ≤ n →
     bound_by_value (over (signed negative n) d) r ≡ infinity negative
 unfolding bound_by_value
@@ -95,6 +104,7 @@ huge_value true n d r p h =
     let lt : over (neg_ℤ (pos n)) d <ℚ infinite = ≤ℚ-<ℚ_trans _ (neg_ℚ infinite) _ le limits in
     rw (lt_from (over (neg_ℤ (pos n)) d) infinite lt, le_from (neg_ℚ infinite) (over (neg_ℤ (pos n)) d) le) refl
 
+-- a quotient whose size is below 10 ^ 20 is the bound that its reading gives
 small_value : (negative : Bool) (n d : ℕ) (r : NumberReading) → 0 < d → n < 10 ^ 20 * d →
     bound_by_value (over (signed negative n) d) r ≡ as_bound r
 unfolding bound_by_value
@@ -117,6 +127,7 @@ small_value negative n d r p h =
     down true = omega (arith, ints)
     down false = omega (arith, ints)
 
+-- a quotient is an infinite bound where its size tests as at least 10 ^ 20, and else its reading's bound
 tested : (negative : Bool) (n d : ℕ) (r : NumberReading) → 0 < d →
     bound_by_value (over (signed negative n) d) r ≡ cond (leb (10 ^ 20 * d) n) (infinity negative) (as_bound r)
 tested negative n d r p = by (leb (10 ^ 20 * d) n) refl
@@ -131,6 +142,7 @@ pub IsProper : NumberParts → Type 0
 IsProper (Decimal negative s e) = Unit {0}
 IsProper (Quotient negative top bottom) = 0 < bottom
 
+-- the value of proper parts is an infinite bound where they are huge, and else their reading's bound
 by_size : (p : NumberParts) (r : NumberReading) → IsProper p →
     bound_by_value (value_of p) r ≡ cond (is_huge p) (infinity (sign_of p)) (as_bound r)
 unfolding value_of is_huge IsProper
