@@ -33,13 +33,17 @@ use Rattle.spec_exact.proofs.Zero.{four_pass, two_pass}
 use Rattle.lp_frac.specs.Less.{IsSmall, IsShort, IsShortProduct, IsDenominator, less_num, less_den}
 use Rattle.lp_frac.proofs.ProductSizes.{fitted_size}
 
+-- a number within a bound that is within the limit passes the test of the limit
 test : (n k : ℕ) → n ≤ k → k ≤ number_limit → fits (Some number_limit) n ≡ true
 test n k h g = le-leb n number_limit (le_trans h g)
 
 -- ---- a product
+
+-- a whole number divided by another one is no larger in size
 part_le : (a : ℤ) (g : ℕ) → unsigned_abs (int_div a (pos g)) ≤ unsigned_abs a
 part_le a g = subst (λ k. k ≤ unsigned_abs a) (sym (abs-int_div a g)) (div-le_self (unsigned_abs a) g)
 
+-- where the products of numerators and of denominators are within the limit, the product is not refused
 mul_fits : (v w : ℚ) → unsigned_abs v.num * unsigned_abs w.num ≤ number_limit → v.den * w.den ≤ number_limit →
     mul (Some number_limit) v w ≡ Some (v *ℚ w)
 unfolding mul
@@ -53,14 +57,18 @@ mul_fits v w h k =
     ∙ ap (λ (x : ℚ). Some x) (product_exact v w)
 
 -- ---- a sum, and a difference
+
+-- the size of a sum is at most the sum of the sizes
 abs-sum : (x y : ℤ) → unsigned_abs (x +ℤ y) ≤ unsigned_abs x + unsigned_abs y
 abs-sum x y = omega (arith, ints)
 
+-- a whole number times a quotient of d is in size at most its size times d
 times_le : (a : ℤ) (d g : ℕ) → unsigned_abs (a *ℤ pos (d / g)) ≤ unsigned_abs a * d
 times_le a d g =
     subst (λ n. n ≤ unsigned_abs a * d) (sym (unsigned_abs-mul a (pos (d / g))))
     (mul-le-mul (omega arith) (div-le_self d g))
 
+-- where the sum of the cross products' sizes and the denominators' product are within the limit, the sum is not refused
 add_fits : (v w : ℚ) → unsigned_abs v.num * w.den + unsigned_abs w.num * v.den ≤ number_limit →
     v.den * w.den ≤ number_limit →
     add (Some number_limit) v w ≡ Some (v +ℚ w)
@@ -76,6 +84,7 @@ add_fits v w h k =
     (test _ _ (mul-le-mul (div-le_self v.den _) (div-le_self w.den _)) k)
     ∙ ap (λ (x : ℚ). Some x) (sum_exact v w)
 
+-- where the cross products' sizes together and the denominators' product are within the limit, v less w is not refused
 sub_fits : (v w : ℚ) → unsigned_abs v.num * w.den + unsigned_abs w.num * v.den ≤ number_limit →
     v.den * w.den ≤ number_limit →
     sub (Some number_limit) v w ≡ Some (v -ℚ w)
@@ -89,23 +98,28 @@ record IsBelow (q : ℚ) (n d : ℕ) : Type 0 where
   num : unsigned_abs q.num ≤ n
   den : q.den ≤ d
 
+-- the parts of n / d in lowest terms are at most n in size and d
 over_below : (n : ℤ) (d : ℕ) → 0 < d → IsBelow (over n d) (unsigned_abs n) d
 unfolding over
 over_below n zero p = absurd (omega arith)
 over_below n (suc d) p =
     record { num = part_le n (gcd (unsigned_abs n) (suc d)); den = div-le_self (suc d) (gcd (unsigned_abs n) (suc d)) }
 
+-- the parts of a product in lowest terms are at most the products of the parts
 product_below : (v w : ℚ) → IsBelow (v *ℚ w) (unsigned_abs v.num * unsigned_abs w.num) (v.den * w.den)
 unfolding ◌*ℚ◌
 product_below v w =
     subst (λ n. IsBelow (over (v.num *ℤ w.num) (v.den * w.den)) n (v.den * w.den))
     (unsigned_abs-mul v.num w.num) (over_below (v.num *ℤ w.num) (v.den * w.den) (mul-pos v.positive w.positive))
 
+-- a product in lowest terms has the same cross products as the products of the parts
 product_cross : (v w : ℚ) → (v.num *ℤ w.num) *ℤ pos (v *ℚ w).den ≡ (v *ℚ w).num *ℤ pos (v.den * w.den)
 unfolding ◌*ℚ◌
 product_cross v w = over_cross (v.num *ℤ w.num) (v.den * w.den) (mul-pos v.positive w.positive)
 
 -- ---- both
+
+-- s less v times w is the numerator computed for it over the denominator computed for it
 less_exact : (v w s : ℚ) →
     s -ℚ v *ℚ w ≡ over (less_num v.num v.den w.num w.den s.num s.den) (less_den v.den w.den s.den)
 unfolding ◌+ℚ◌ neg_ℚ
@@ -123,6 +137,7 @@ less_exact v w s =
         ∙ by_ring (e ∷ pos f ∷ n ∷ pos q ∷ pos d ∷ [])
         (v0 ⊗ v3 ⊗ v4 ⊗ v1 ⊖ v2 ⊗ v3 ⊗ (v1 ⊗ v1)) ((v0 ⊗ v4 ⊖ v2 ⊗ v1) ⊗ (v1 ⊗ v3)) refl
 
+-- where all products of the parts are within the limit, s less v times w is not refused
 less_fits : (v w s : ℚ) → unsigned_abs v.num * unsigned_abs w.num ≤ number_limit → v.den * w.den ≤ number_limit →
     unsigned_abs s.num * (v.den * w.den) + unsigned_abs v.num * unsigned_abs w.num * s.den ≤ number_limit →
     s.den * (v.den * w.den) ≤ number_limit →

@@ -29,6 +29,7 @@ pub record IsComputed (w : Width) (u z : ℤ) (n : ℕ) : Type 0 where
   pub bound : unsigned_abs z ≤ n
   pub size : unsigned_abs (to_z w (of_z w u)) ≤ n
 
+-- a number of at most a size that the width holds is computed as it is
 computed : (w : Width) (u z : ℤ) (n : ℕ) → u ≡ z → unsigned_abs z ≤ n → n < 2 ^ hbits w → IsComputed w u z n
 computed w u z n e h k =
     let f : SFits w u = subst (SFits w) (sym e) (fits_signed_from_abs w z (omega (arith, h, k))) in
@@ -47,6 +48,8 @@ pub cast_is : (v w : Width) (x : ℤ) → SFits v x → 2 ^ hbits v ≤ 2 ^ hbit
 cast_is v w x f h = to_z-of_z (cast_fits v w x f h) ∙ to_z-of_z f
 
 -- ---- products
+
+-- where the product of two sizes fits the width, the product of the numbers is computed as it is
 product : (w : Width) (u v x y : ℤ) (m n : ℕ) → u ≡ x → v ≡ y → unsigned_abs x ≤ m → unsigned_abs y ≤ n →
     m * n < 2 ^ hbits w → IsComputed w (u *ℤ v) (x *ℤ y) (m * n)
 product w u v x y m n eu ev hx hy h =
@@ -77,6 +80,8 @@ scaled w e p m n f he hp k l =
     product w _ _ e (pos p) m n (to_z-of_z f) (to_z_pos w p (omega (arith, hp, k))) he hp l
 
 -- ---- differences
+
+-- the size of a difference is at most the sum of the sizes
 abs-diff : (x y : ℤ) → unsigned_abs (x -ℤ y) ≤ unsigned_abs x + unsigned_abs y
 abs-diff x y = omega (arith, ints)
 
