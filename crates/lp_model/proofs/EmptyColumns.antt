@@ -16,7 +16,7 @@ use Rattle.spec_model.specs.Model.{ExactColumn}
 use Rattle.spec_edit.specs.Changes.{without_entry}
 use Rattle.spec_edit.proofs.Keeping.{lowered}
 
--- what a map in place has not come to is as it was
+-- an item that a map in place has not come to yet is as it was
 passed : {X : Type 0} (f : X → X) (xs ys : List X) (k : ℕ) (d : X) → k < length xs →
     ys ≡ map f (take k xs) ++ drop k xs → get_or ys k d ≡ get_or xs k d
 passed f xs ys k d l e =

@@ -25,6 +25,7 @@ comparisons_rise es row h =
     grind (arith, h i j (0, 0ℚ), λ (same : i ≡ j). ap (λ k. (get_or es k (0, 0ℚ)).0) same) in
     grind (arith, nat_tests))
 
+-- where each place below k has an entry of an earlier row, all of the first k entries are of earlier rows
 all_before : (es : Entries) (k row : ℕ) → ((i : ℕ) (d : ℕ × ℚ) → i < k → i < length es → (get_or es i d).0 < row) →
     All (λ e. e.0 < row) (take k es)
 all_before es k row h = λ i d l.
@@ -32,12 +33,14 @@ all_before es k row h = λ i d l.
     let e : get_or (take k es) i d ≡ get_or es i d = get_or-take k es i d inside.0 in
     rw e (h i d inside.0 inside.1)
 
+-- where each place from k on has an entry of a later row, all entries from k on are of later rows
 all_behind : (es : Entries) (k row : ℕ) → ((i : ℕ) (d : ℕ × ℚ) → k ≤ i → i < length es → row < (get_or es i d).0) →
     All (λ e. row < e.0) (drop k es)
 all_behind es k row h = λ i d l.
     let e : get_or (drop k es) i d ≡ get_or es (k + i) d = get_or-drop k es i d in
     rw e (h (k + i) d (omega arith) (omega (arith, length-drop k es)))
 
+-- what a binary search for a row gives is the place where the row's entry stands or belongs
 pub searched : (es : Entries) (row : ℕ) → AreAscending es → (r : Result ℕ ℕ) → IsSearchInRange r (length es) →
     IsBinarySearchResult (λ e. nat_cmp e.0 row) es r → IsPlace row es r
 searched es row h (Ok k) inside equal =

@@ -11,7 +11,7 @@ use Rattle.spec_model.specs.Model.{entry_of}
 use Rattle.lp_model.specs.Place.{StandsAt, BelongsAt}
 use Rattle.lp_model.proofs.Splits.{Entries, parts_around}
 
--- entries of rows before it are passed over
+-- entries of earlier rows in front of others leave the entry of row i as it is
 passed : (i : ℕ) (front rest : Entries) → All (λ e. e.0 < i) front → entry_of (front ++ rest) i ≡ entry_of rest i
 passed i [] rest h = refl
 passed i (e ∷ es) rest h =
@@ -19,6 +19,7 @@ passed i (e ∷ es) rest h =
     ap (λ t. cond t e.1 (entry_of (es ++ rest) i)) (ne_eqb e.0 i (λ q. omega arith))
     ∙ passed i es rest (All-tail (λ e. e.0 < i) e es h)
 
+-- where all entries are of later rows, row i has the entry 0
 none_behind : (i : ℕ) (es : Entries) → All (λ e. i < e.0) es → entry_of es i ≡ 0ℚ
 none_behind i [] h = refl
 none_behind i (e ∷ es) h =

@@ -60,11 +60,13 @@ module _ (place at : ℕ) (old es : Entries) (so_far : AreLowered place at old e
 
 -- ---- a row that is taken out
 
+-- removing item k leaves the first k items as they are
 take-remove : (es : Entries) (k : ℕ) → k < length es → take k (remove es k) ≡ take k es
 take-remove es k l =
     let e : length (take k es) ≡ k = length-take-le k es (omega arith) in
     ap (λ n. take n (remove es k)) (sym e) ∙ take-append_seam (take k es) (drop (suc k) es)
 
+-- the items from place k on, once item k is removed, are those that were behind it
 drop-remove : (es : Entries) (k : ℕ) → k < length es → drop k (remove es k) ≡ drop (k + 1) es
 drop-remove es k l =
     let e : length (take k es) ≡ k = length-take-le k es (omega arith) in

@@ -59,7 +59,7 @@ module _ {X : Type 0} (p : X → Bool) (q : Name → Bool) (f : X → Name) (e :
 
 -- ---- one name more
 
--- a name that no name of a list is
+-- a name that differs from each name of a list is not found among them
 other_names : (name : Name) (xs : List Name) → All (λ x. x ≢ name) xs → list_any (same name) xs ≡ false
 other_names name xs h =
     list_any_none (same name) xs

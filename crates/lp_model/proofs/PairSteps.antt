@@ -89,7 +89,7 @@ module _ (m : Model) (seen pairs : Pairs) (k : ℕ) (es : Entries) (p : Name × 
       ≡ entries_of m (take k pairs) (drop k pairs) es
   read_on i e f = goes_on m pairs k es p here l i (place (Some i) e) f
 
--- whether one of the first k pairs has a name, as it was asked
+-- what was answered on whether one of the first k pairs has a name is whether one has it
 pub given_so : (name again : Name) (pairs list : Pairs) (k : ℕ) (answer t : Bool) → again ≡ name → list ≡ pairs →
     answer ≡ is_given again (take k list) → answer ≡ t → is_given name (take k pairs) ≡ t
 given_so name again pairs list k answer t e f g h =

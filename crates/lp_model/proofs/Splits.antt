@@ -21,22 +21,25 @@ lower e = (e.0 - 1, e.1)
 
 -- ---- filters that keep all, or nothing
 
+-- a filter that all items pass leaves the list as it is
 filter-all : {X : Type 0} (p : X → Bool) (xs : List X) → All (λ x. p x ≡ true) xs → filter p xs ≡ xs
 filter-all p [] h = refl
 filter-all p (x ∷ xs) h =
     rw (All-head (λ x. p x ≡ true) x xs h) (ap (λ ys. x ∷ ys) (filter-all p xs (All-tail (λ x. p x ≡ true) x xs h)))
 
+-- a filter that no item passes leaves an empty list
 filter-none : {X : Type 0} (p : X → Bool) (xs : List X) → All (λ x. p x ≡ false) xs → filter p xs ≡ []
 filter-none p [] h = refl
 filter-none p (x ∷ xs) h =
     rw (All-head (λ x. p x ≡ false) x xs h) (filter-none p xs (All-tail (λ x. p x ≡ false) x xs h))
 
+-- two functions that give the same for each item of a list map the list to the same
 map-same : {X Y : Type 0} (f g : X → Y) (xs : List X) → All (λ x. f x ≡ g x) xs → map f xs ≡ map g xs
 map-same f g [] h = refl
 map-same f g (x ∷ xs) h =
     ap₂ ◌∷◌ (All-head (λ x. f x ≡ g x) x xs h) (map-same f g xs (All-tail (λ x. f x ≡ g x) x xs h))
 
--- what a filter leaves of three parts
+-- a filter leaves of three lists together what it leaves of each, in turn
 three : {X : Type 0} (p : X → Bool) (xs ys zs us vs ws : List X) → filter p xs ≡ us → filter p ys ≡ vs →
     filter p zs ≡ ws → filter p (xs ++ (ys ++ zs)) ≡ us ++ (vs ++ ws)
 three p xs ys zs us vs ws e f g = filter-append p xs (ys ++ zs) ∙ ap₂ ◌++◌ e (filter-append p ys zs ∙ ap₂ ◌++◌ f g)
@@ -89,9 +92,11 @@ module _ (i : ℕ) (front own back : Entries) (own_row : All (λ e. e.0 ≡ i) o
 
 -- ---- the entry that is put
 
+-- where the coefficient is 0, no entry is put
 put-zero : (i : ℕ) (v : ℚ) → v ≡ 0ℚ → entry_if i v ≡ []
 put-zero i v e = rw (eq_test v 0ℚ e) refl
 
+-- where the coefficient is not 0, one entry is put
 put-other : (i : ℕ) (v : ℚ) → v ≢ 0ℚ → entry_if i v ≡ (i, v) ∷ []
 put-other i v n = by (eq_ℚ v 0ℚ) refl
   where
@@ -101,10 +106,12 @@ put-other i v n = by (eq_ℚ v 0ℚ) refl
 
 -- ---- at a place
 
+-- the entries before place k, the one there and those behind it are together all entries
 pub parts_around : (es : Entries) (k : ℕ) (d : ℕ × ℚ) → k < length es →
     take k es ++ ((get_or es k d ∷ []) ++ drop (k + 1) es) ≡ es
 parts_around es k d l = rw (add-one, ← drop-cons es k d) (take-append-drop k es)
 
+-- a list whose item k is set is the items before it, the new one and those behind
 set-parts : {X : Type 0} (xs : List X) (k : ℕ) (x : X) → k < length xs → set xs k x ≡ take k xs ++ (x ∷ drop (k + 1) xs)
 set-parts xs k x l = sym (take-append-drop k (set xs k x)) ∙ ap₂ ◌++◌ (take-set xs k x) (drop-set xs k x l)
 

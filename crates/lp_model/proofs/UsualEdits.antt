@@ -49,6 +49,7 @@ module _ (limits : SizeLimits) (m : Model) (k : IsWithin limits m) where
 
 -- ---- edits
 
+-- a usual model with a new row, where that is allowed, is usual
 new_row-usual : (m n : Model) (r : ExactRow) → IsUsual m → new_row m r ≡ Ok n → IsUsual n
 unfolding new_row
 new_row-usual m n r k h =
@@ -62,6 +63,7 @@ new_row-usual m n r k h =
       few_columns = k.few_columns;
     })
 
+-- a usual model with a new column, where that is allowed, is usual
 new_column-usual : (m n : Model) (name : Name) (cost : ℚ) (pairs : Pairs) → IsUsual m →
     new_column m name cost pairs ≡ Ok n → IsUsual n
 new_column-usual m n name cost pairs k h =
@@ -72,6 +74,7 @@ new_column-usual m n name cost pairs k h =
       few_columns = omega (arith, length-append m.columns (column_of name cost s.entries ∷ []), s.few);
     })
 
+-- a usual model with another right side of a row, where that is allowed, is usual
 right_side-usual : (m n : Model) (name : Name) (v : ℚ) → IsUsual m → with_right_side m name v ≡ Ok n → IsUsual n
 right_side-usual m n name v k h =
     ⊎_elim
@@ -79,6 +82,7 @@ right_side-usual m n name v k h =
     (λ s. subst IsUsual s.model (row_set-within usual_limits m k s.place _))
     (right_side-ok m n name v h)
 
+-- a usual model after an edit that is allowed is usual
 edited-usual : (m n : Model) (e : ExactEdit) → IsUsual m → edited m e ≡ Ok n → IsUsual n
 unfolding edited
 edited-usual m n (AddRow name kind rhs range) k h =
@@ -105,7 +109,7 @@ edited-usual m n (SetBound name bounds) k h =
 edited-usual m n (SetSense sense) k h =
     subst IsUsual (same_ok (with_sense m sense) n h) (record { few_rows = k.few_rows; few_columns = k.few_columns })
 
--- whatever the edit is answered
+-- a usual model is usual after an edit, whatever the edit is answered
 pub still_usual : (m n : Model) (e : ExactEdit) (result : Result ⊤ EditError) → IsUsual m → Applies m e n result →
     IsUsual n
 still_usual m n e (Ok done) k h = edited-usual m n e k h
