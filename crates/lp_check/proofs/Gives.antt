@@ -89,6 +89,7 @@ most_is l k v o t e f g n =
     ap (λ z. at_most n None z v) e ∙ ap (λ z. z >>= λ o. need n (not (is_gt o))) (ordered v k)
     ∙ ap (λ z. need n (not z)) (sym (g ∙ ap is_gt f))
 
+-- two numbers whose order is not equal do not test as equal
 differs : (k v : ℚ) → (order k v ≡ Equal → ⊥) → false ≡ eq_ℚ k v
 differs k v h = by (eq_ℚ k v) refl
   where
@@ -96,6 +97,7 @@ differs k v h = by (eq_ℚ k v) refl
     by true e = absurd (h ((order_equal k v).1 (eq_if k v e)))
     by false e = refl
 
+-- the order of two numbers is equal exactly where they test as equal
 equal_order : (k v : ℚ) → is_eq (order k v) ≡ eq_ℚ k v
 equal_order k v = by (order k v) refl
   where
@@ -210,6 +212,8 @@ pub by_test : (n : ℕ) (t b : Bool) (r : Run (known.the_data ℚ)) → r ≡ (n
 by_test n t b r e f = e ∙ ap (λ z. need n z >>= λ _. Ok known.Infeasible) f
 
 -- ---- rays
+
+-- a whole number is above 0 exactly where its negative is below 0
 turned_sign : (z : ℤ) → int_lt (pos 0) z ≡ int_lt (neg_ℤ z) (pos 0)
 turned_sign z = grind (arith, ints)
 
@@ -248,6 +252,8 @@ unfolding check_run
 ray_all m x r a b c d e = rw (a, b, c, d, e) refl
 
 -- ---- conditions where the rows' sums and the reduced costs are given
+
+-- tests that are the same at each index below n end in the same way
 each_same : (n : ℕ) (f g : ℕ → Run ⊤) → ((i : ℕ) → i < n → f i ≡ g i) → each n f ≡ each n g
 each_same zero f g h = refl
 each_same (suc n) f g h =
@@ -279,6 +285,7 @@ allows_are m r sums h =
     each_same (height m) _ _ (λ i l. ap (given.row_allows m i) (h.1 i l)
     ∙ sym (ap (λ o. o >>= λ v. given.row_allows m i v) (activity_all m r i)))
 
+-- without a limit the run of a point's cost gives the cost
 cost_all : (m : Model) (z : List ℚ) → cost_run None m z ≡ Ok (cost_of m z)
 cost_all m z = sum_all (width m) (cost m) (λ j. part z j)
 

@@ -42,6 +42,8 @@ use Rattle.lp_check.specs.declared.wide.certificate.Verdict.{Verdict}
 use Rattle.lp_check.specs.declared.wide.certificate.Verdict.TheVariants.{Yes, No}
 
 -- ---- one number
+
+-- a whole number t above 0 is above 0 as a fraction
 above_zero : (t : ℕ) → 0 < t → 0ℚ <ℚ whole (pos t)
 unfolding whole
 above_zero t h = record { below = omega (arith, ints, h) }
@@ -60,22 +62,28 @@ less_times t a b h = by (lt_ℚ a b) refl
     by false e =
         not_lt_test _ _ (*ℚ_mono b a (whole (pos t)) (<ℚ-le 0ℚ (whole (pos t)) (above_zero t h)) (le_if_not a b e))
 
+-- 0 taken t times is 0
 none_times : (t : ℕ) → multiple t 0ℚ ≡ 0ℚ
 none_times t = *ℚ_zero (whole (pos t))
 
+-- a number taken t times is above 0 exactly where the number is
 above_times : (t : ℕ) (a : ℚ) → 0 < t → lt_ℚ 0ℚ (multiple t a) ≡ lt_ℚ 0ℚ a
 above_times t a h = ap (λ z. lt_ℚ z (multiple t a)) (sym (none_times t)) ∙ less_times t 0ℚ a h
 
+-- a number taken t times is below 0 exactly where the number is
 below_times : (t : ℕ) (a : ℚ) → 0 < t → lt_ℚ (multiple t a) 0ℚ ≡ lt_ℚ a 0ℚ
 below_times t a h = ap (λ z. lt_ℚ (multiple t a) z) (sym (none_times t)) ∙ less_times t a 0ℚ h
 
 -- ---- lists and sums
+
+-- part j of a list whose numbers are taken t times is part j of the list, taken t times
 part_map : (t : ℕ) (z : List ℚ) (j : ℕ) → part (map (multiple t) z) j ≡ multiple t (part z j)
 part_map t [] zero = sym (none_times t)
 part_map t [] (suc j) = sym (none_times t)
 part_map t (v ∷ z) zero = refl
 part_map t (v ∷ z) (suc j) = part_map t z j
 
+-- a weighted sum of numbers taken t times is their weighted sum, taken t times
 times_weighed : (t n : ℕ) (f : ℕ → ℚ) (z : List ℚ) →
     sum_below n (λ j. f j *ℚ part (map (multiple t) z) j) ≡ multiple t (sum_below n (λ j. f j *ℚ part z j))
 times_weighed t n f z =
@@ -83,9 +91,11 @@ times_weighed t n f z =
     (λ j _. ap (λ a. f j *ℚ a) (part_map t z j) ∙ *ℚ_left_comm (f j) (whole (pos t)) (part z j))
     ∙ sym (*ℚ-sum_below (whole (pos t)) n (λ j. f j *ℚ part z j))
 
+-- the cost of a point taken t times is the point's cost, taken t times
 cost_times : (m : Model) (z : List ℚ) (t : ℕ) → cost_of m (map (multiple t) z) ≡ multiple t (cost_of m z)
 cost_times m z t = times_weighed t (width m) (cost m) z
 
+-- multipliers taken t times have as their part in column j the multipliers' part, taken t times
 priced_times : (m : Model) (y : List ℚ) (j t : ℕ) → priced m (map (multiple t) y) j ≡ multiple t (priced m y j)
 priced_times m y j t =
     sum_below_same (height m) _ (λ i. multiple t (part y i *ℚ coefficient m i j))
@@ -108,6 +118,8 @@ pub cost_is : (m : Model) (z numbers : List ℚ) (t : ℕ) (s c : ℚ) → 0 < t
 cost_is m z numbers t s c h e f g = undone t c (cost_of m z) h (g ∙ f ∙ ap (cost_of m) e ∙ cost_times m z t)
 
 -- ---- reduced costs
+
+-- w c less w p is w times c less p
 difference_times : (w c p : ℚ) → w *ℚ c -ℚ w *ℚ p ≡ w *ℚ (c -ℚ p)
 difference_times w c p = by_ring_ℚ (w ∷ c ∷ p ∷ []) (v0 ⊗ v1 ⊖ v0 ⊗ v2) (v0 ⊗ (v1 ⊖ v2)) refl
 
@@ -131,6 +143,7 @@ abbrev scaled : ℕ → Run ℚ → Run ℚ
 scaled t (Ok v) = Ok (multiple t v)
 scaled t (Err e) = Err e
 
+-- where each step takes numbers taken t times to its result taken t times, so do n steps
 steps_times : (t n : ℕ) (f g : ℕ → ℚ → Run ℚ) (a b : ℚ) → b ≡ multiple t a →
     ((k : ℕ) (s : ℚ) → g k (multiple t s) ≡ scaled t (f k s)) → steps n g b ≡ scaled t (steps n f a)
 steps_times t zero f g a b e h = ap Ok e
@@ -141,10 +154,12 @@ steps_times t (suc n) f g a b e h =
     by (Ok s) = h n s
     by (Err e) = refl
 
+-- w s plus w d times b is w times s plus d b
 onto_times : (w d b s : ℚ) → w *ℚ s +ℚ w *ℚ d *ℚ b ≡ w *ℚ (s +ℚ d *ℚ b)
 onto_times w d b s =
     by_ring_ℚ (w ∷ d ∷ b ∷ s ∷ []) (v0 ⊗ v3 ⊕ v0 ⊗ v1 ⊗ v2) (v0 ⊗ (v3 ⊕ v1 ⊗ v2)) refl
 
+-- weighing a bound by d taken t times, onto s taken t times, gives the sum taken t times
 weighed_at_times : (t n : ℕ) (d : ℚ) (l : Option ℚ) (s : ℚ) →
     weighed_at n None (multiple t d) l (multiple t s) ≡ scaled t (weighed_at n None d l s)
 weighed_at_times t n d None s = refl
@@ -152,7 +167,7 @@ weighed_at_times t n d (Some b) s =
     plus_all (multiple t d) b (multiple t s) ∙ ap Ok (onto_times (whole (pos t)) d b s)
     ∙ sym (ap (scaled t) (plus_all d b s))
 
--- by the sign of a number that is taken so many times
+-- the choice by the sign of d taken t times, among results taken t times, is the choice by d, taken t times
 by_signs : (t : ℕ) (d : ℚ) (p q r p' q' r' : Run ℚ) → 0 < t → p' ≡ scaled t p → q' ≡ scaled t q → r' ≡ scaled t r →
     cond (lt_ℚ 0ℚ (multiple t d)) p' (cond (lt_ℚ (multiple t d) 0ℚ) q' r')
     ≡ scaled t (cond (lt_ℚ 0ℚ d) p (cond (lt_ℚ d 0ℚ) q r))
@@ -164,6 +179,7 @@ by_signs t d p q r p' q' r' h e f g =
     by false true = f
     by false false = g
 
+-- with multipliers and the sum taken t times, what row i asks for gives the sum taken t times
 row_asks_times : (m : Model) (y : List ℚ) (t i : ℕ) (s : ℚ) → 0 < t →
     row_asks_run None m (map (multiple t) y) i (multiple t s) ≡ scaled t (row_asks_run None m y i s)
 row_asks_times m y t i s h =
@@ -180,12 +196,14 @@ row_asks_times m y t i s h =
         ap (λ z. z >>= λ l. weighed_at 1 None (multiple t (part y i)) l (multiple t s)) e
         ∙ weighed_at_times t 1 (part y i) l s ∙ sym (ap (λ z. scaled t (z >>= λ l. weighed_at 1 None (part y i) l s)) e)
 
+-- without a limit the run of the multipliers' part in a column gives that part
 priced_all : (m : Model) (y : List ℚ) (j : ℕ) → priced_run None m y j ≡ Ok (priced m y j)
 priced_all m y j = sum_all (height m) (λ i. part y i) (λ i. coefficient m i j)
 
 pub priced_is : (m : Model) (y : List ℚ) (j : ℕ) (p : ℚ) → p ≡ priced m y j → priced_run None m y j ≡ Ok p
 priced_is m y j p e = priced_all m y j ∙ ap Ok (sym e)
 
+-- with multipliers and the sum taken t times, what column j gives makes the sum taken t times
 column_gives_times : (m : Model) (y : List ℚ) (t j : ℕ) (s : ℚ) → 0 < t →
     column_gives_run None m (map (multiple t) y) j (multiple t s) ≡ scaled t (column_gives_run None m y j s)
 column_gives_times m y t j s h =
@@ -196,6 +214,7 @@ column_gives_times m y t j s h =
     (weighed_at_times t 2 (priced m y j) (turned_limits (bounds m j)).upper s) refl
     ∙ sym (ap (λ o. scaled t (o >>= λ g. weighed 2 None (turned_limits (bounds m j)) g s)) (priced_all m y j))
 
+-- the order of v and w is less exactly where v tests as below w
 judged_by : (v w : ℚ) → is_lt (order v w) ≡ lt_ℚ v w
 judged_by v w = by (order v w) refl
   where
@@ -204,7 +223,7 @@ judged_by v w = by (order v w) refl
     by Equal e = sym (not_lt_test v w (subst (λ z. z ≤ℚ v) ((order_equal v w).0 e) (≤ℚ_refl v)))
     by Greater e = sym (not_lt_test v w (<ℚ-le w v ((order_greater v w).0 e)))
 
--- numbers that are taken so many times show what they show
+-- Farkas multipliers taken t times are judged as the multipliers are
 infeasible_times : (m : Model) (y numbers : List ℚ) (t : ℕ) → 0 < t → numbers ≡ map (multiple t) y →
     check_run None m (Infeasible numbers) ≡ check_run None m (Infeasible y)
 unfolding check_run

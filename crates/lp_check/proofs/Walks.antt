@@ -29,22 +29,27 @@ use Rattle.spec_model.specs.Kept.{AreEntries}
 use Rattle.spec_model.specs.Model.{Model, height, column, coefficient, cost, entry_of, part}
 
 -- ---- the entry of a row
+
+-- the entry of row i from place k on is the one at k where that is of row i, and else the one behind
 next_is : (es : List (ℕ × ℚ)) (k i : ℕ) (e : ℕ × ℚ) → k < length es → e ≡ get_or es k e →
     entry_of (drop k es) i ≡ cond (eqb e.0 i) e.1 (entry_of (drop (k + 1) es) i)
 next_is es k i e l h =
     ap (λ xs. entry_of xs i) (drop_more es k e l)
     ∙ ap (λ (x : ℕ × ℚ). cond (eqb x.0 i) x.1 (entry_of (drop (k + 1) es) i)) (sym h)
 
+-- where the entry at place k is of row i, it is the entry of row i from k on
 entry_here : (es : List (ℕ × ℚ)) (k i : ℕ) (e : ℕ × ℚ) → k < length es → e ≡ get_or es k e → e.0 ≡ i →
     entry_of (drop k es) i ≡ e.1
 entry_here es k i e l h q =
     next_is es k i e l h ∙ ap (λ t. cond t e.1 (entry_of (drop (k + 1) es) i)) (eq-eqb e.0 i q)
 
+-- where the entry at place k is of another row, the entry of row i from k on is the one behind k
 entry_on : (es : List (ℕ × ℚ)) (k i : ℕ) (e : ℕ × ℚ) → k < length es → e ≡ get_or es k e → ¬ (e.0 ≡ i) →
     entry_of (drop k es) i ≡ entry_of (drop (k + 1) es) i
 entry_on es k i e l h o =
     next_is es k i e l h ∙ ap (λ t. cond t e.1 (entry_of (drop (k + 1) es) i)) (ne_eqb e.0 i o)
 
+-- where all entries are of later rows, row i has the entry 0
 none_behind : (i : ℕ) (es : List (ℕ × ℚ)) → All (λ e. i < e.0) es → entry_of es i ≡ 0ℚ
 none_behind i [] h = refl
 none_behind i (e ∷ es) h =
@@ -128,9 +133,12 @@ cost_more m z j s t c x e f g h =
     ∙ ap (λ n. sum_below n (λ k. cost m k *ℚ part z k)) (sym (add-one j))
 
 -- ---- a column's coefficients times the numbers of their rows
+
+-- the last two of three numbers that are added may change places
 swap_last : (a b c : ℚ) → a +ℚ b +ℚ c ≡ a +ℚ c +ℚ b
 swap_last a b c = +ℚ_assoc a b c ∙ ap (λ z. a +ℚ z) (+ℚ_comm b c) ∙ sym (+ℚ_assoc a c b)
 
+-- where f and g differ at r alone, where g is 0, the weighted sum of f is that of g plus the term of r
 taken_out : (n r : ℕ) (y f g : ℕ → ℚ) → r < n → g r ≡ 0ℚ → ((i : ℕ) → i ≢ r → f i ≡ g i) →
     sum_below n (λ i. y i *ℚ f i) ≡ sum_below n (λ i. y i *ℚ g i) +ℚ f r *ℚ y r
 taken_out zero r y f g h z s = absurd (omega (arith, h))
