@@ -9,7 +9,7 @@ use Rattle.std.proofs.lemmas.Iterator.Splits.{YieldsList-from_slice_split}
 use Rattle.std.proofs.lemmas.Iterator.Consumers.{YieldsList-end}
 use Rattle.spec_text.specs.Words.{is_blank}
 
--- at its end it has seen all parts; it begins at s, which is what `split` made of the line by a test for blanks
+-- a loop over what `split` made of a line by the test for blanks has seen all parts at its end
 pub blank_parts_all : {F : Type 0} {g : _} {f : F} {s made : Split ℕ F} (line : List ℕ) → s ≡ made →
     split_rest made ≡ line → split_done made ≡ false → split_callee made ≡ f →
     ((x : ℕ) (b : Bool) (q : F) → CalledAt g f x b q → (q ≡ f) × (b ≡ is_blank x)) →

@@ -40,6 +40,7 @@ run_kept k len room count kept new raw run is len_is room_is count_is new_is =
     ∙ ap (λ xs. take k raw ++ xs) (take_min (k - length raw) run)
     ∙ sym (take-append k raw run)
 
+-- the last byte of a line with a run behind it is the last byte of the run
 at_last : (raw run : List ℕ) → 0 < length run →
     get_or (raw ++ run) (length (raw ++ run) - 1) 0 ≡ get_or run (length run - 1) 0
 at_last raw run some =

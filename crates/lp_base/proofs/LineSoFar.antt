@@ -75,7 +75,7 @@ SoFar-run {before} {after} {old} {cur} {new} s r = record {
   ended = r.ended ∙ s.ended;
 }
 
--- a line is given
+-- a call that gives the line of some bytes answers with that line
 gives_line : (before after : Option (List ℕ)) (old : LinesState)
     (bytes : List ℕ) (new : LinesState) (raw : List ℕ) (line : Line (List ℕ)) →
     line ≡ line_of raw → GivesLine after old bytes new line → AnswersWith before after old bytes new (Ok line)
@@ -170,12 +170,13 @@ breaks_off {before} {mid} after {old} {cur} {new} s kept none live same bound =
       };
     }
 
--- the input had ended before this call, or ends in it
+-- where the input has ended for the state before the last read, it has ended for the state at the call
 had_ended : {before mid : Option (List ℕ)} (after : Option (List ℕ)) (old cur : LinesState) → cur.ended ≡ old.ended →
     (old.ended ≡ true → mid ≡ before) → HasEnded cur mid after → HasEnded old before after
 had_ended after old cur same idle (inl h) = inl (sym same ∙ h.0, h.1 ∙ idle (sym same ∙ h.0))
 had_ended after old cur same idle (inr h) = inr (sym same ∙ h.0, h.1)
 
+-- where the input had not ended before and has ended now, the source is at its end
 at_end_now : {mid : Option (List ℕ)} (after : Option (List ℕ)) (cur : LinesState) → cur.ended ≡ false →
     HasEnded cur mid after → IsAtEnd after
 at_end_now after cur live (inl h) = absurd (let e = h.0 in cc)

@@ -6,7 +6,7 @@ use Rattle.lp_base.specs.LinkMemory.{event_of, events_of}
 use Rattle.lp_base.specs.declared.mem_event.MemEvent.{MemEvent}
 use Rattle.lp_base.proofs.Logs.{out-append}
 
--- after one event more
+-- after one more event, the links that are out are those before with what the event does to them
 pub out_after : (log now : List MemEvent) (event : MemEvent) → now ≡ log ++ event ∷ [] →
     links_out 0 (events_of now) ≡ links_out (links_out 0 (events_of log)) (event_of event ∷ [])
 out_after log now event more =

@@ -14,6 +14,7 @@ use Rattle.lp_base.specs.declared.part.Part.{Part}
 abbrev pub passed : LinesState → ℕ → LinesState
 passed old count = record { ahead = drop count old.ahead; given = old.given + count; ended = old.ended }
 
+-- a line feed found within the room parts all bytes into those before it, the line feed and those behind
 cut_found : (room at : ℕ) (all : List ℕ) → at < length (take room all) → slice_index (take room all) at ≡ 10 →
     all ≡ take at (take room all) ++ 10 ∷ drop (at + 1) all
 cut_found room at all within is =
@@ -24,6 +25,7 @@ cut_found room at all within is =
     (sym (take-take at room all (omega arith)))
     (drop_more all at 0 (omega arith) ∙ ap (λ (b : ℕ). b ∷ drop (at + 1) all) byte)
 
+-- the bytes within the room and those behind are together all bytes
 cut_plain : (room : ℕ) (all : List ℕ) → all ≡ take room all ++ drop (length (take room all)) all
 cut_plain room all =
     sym (take-append-drop (length (take room all)) all)

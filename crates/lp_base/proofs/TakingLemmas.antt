@@ -49,9 +49,12 @@ use Rattle.lp_base.proofs.KeptLemmas.{take-append}
 use Rattle.lp_base.proofs.LineSoFar.{state_is}
 
 -- ---- what a text begins with
+
+-- a text without bytes begins with no lines
 begins_with_none : BeginsWith [] []
 begins_with_none = record { all = λ more. refl; ended = λ more. refl }
 
+-- bytes without a line feed, and then a line feed, begin with the line of these bytes
 begins_with_line : (raw : List ℕ) (line : Line (List ℕ)) → All (λ b. b ≢ 10) raw →
     line ≡ line_of (strip_carriage_return raw) → BeginsWith (raw ++ 10 ∷ []) (line ∷ [])
 begins_with_line raw line plain is = record {
@@ -63,6 +66,7 @@ begins_with_line raw line plain is = record {
       ∙ ap (λ (l : Line (List ℕ)). l ∷ ended_lines_of more) (sym is);
 }
 
+-- two texts that begin with lines, one behind the other, begin with the lines of both
 BeginsWith-append : {raw : List ℕ} {lines : List (Line (List ℕ))} {more : List ℕ} {others : List (Line (List ℕ))} →
     BeginsWith raw lines → BeginsWith more others → BeginsWith (raw ++ more) (lines ++ others)
 BeginsWith-append {raw} {lines} {more} {others} b d = record {
@@ -74,12 +78,12 @@ BeginsWith-append {raw} {lines} {more} {others} b d = record {
       ∙ ap (λ ls. lines ++ ls) (d.ended rest) ∙ sym (append_assoc lines others (ended_lines_of rest));
 }
 
--- where nothing follows, these are all the lines
+-- the lines of a whole text that begins with lines are these lines
 begins_whole : {raw : List ℕ} {lines : List (Line (List ℕ))} → BeginsWith raw lines → lines_of raw ≡ lines
 begins_whole {raw} {lines} b =
     ap lines_of (sym (append-nil raw)) ∙ b.all [] ∙ ap (λ ls. lines ++ ls) lines_of_none ∙ append-nil lines
 
--- the ended lines of a prefix of the text
+-- the ended lines of a text up to the limit are those that it begins with and those of the rest
 ended_front : {raw : List ℕ} {lines : List (Line (List ℕ))} (limit : ℕ) (rest : List ℕ) → BeginsWith raw lines →
     length raw ≤ limit →
     ended_lines_of (take limit (raw ++ rest)) ≡ lines ++ ended_lines_of (take (limit - length raw) rest)
@@ -88,7 +92,7 @@ ended_front {raw} {lines} limit rest b within =
     ap ended_lines_of (take-append limit raw rest ∙ ap (λ (xs : List ℕ). xs ++ take (limit - length raw) rest) short)
     ∙ b.ended (take (limit - length raw) rest)
 
--- no line ends in the rest
+-- where no line ends in the rest, the ended lines up to the limit are those that the text begins with
 plain_front : {raw : List ℕ} {lines : List (Line (List ℕ))} (limit : ℕ) (rest : List ℕ) → BeginsWith raw lines →
     length raw ≤ limit → All (λ b. b ≢ 10) rest → ended_lines_of (take limit (raw ++ rest)) ≡ lines
 plain_front {raw} {lines} limit rest b within plain =
@@ -97,7 +101,7 @@ plain_front {raw} {lines} limit rest b within plain =
     (ended_lines_of_last (take (limit - length raw) rest) (All-take (λ b. b ≢ 10) (limit - length raw) rest plain))
     ∙ append-nil lines
 
--- no line ends in the rest as far as the limit
+-- where no line ends in the rest up to the limit, the ended lines are those that the text begins with
 plain_to_limit : {raw : List ℕ} {lines : List (Line (List ℕ))} (limit : ℕ) (front rest : List ℕ) →
     BeginsWith raw lines → length raw + length front ≡ limit → All (λ b. b ≢ 10) front →
     ended_lines_of (take limit (raw ++ (front ++ rest))) ≡ lines
@@ -111,18 +115,20 @@ plain_to_limit {raw} {lines} limit front rest b len plain =
     ∙ append-nil lines
 
 -- ---- lines, call by call
+
+-- where the input has not ended, the bytes that lines are told of begin with these lines
 tells_begun : (ended : Bool) (after : Option (List ℕ)) (raw ahead : List ℕ) (lines : List (Line (List ℕ))) →
     ended ≡ false → Tells ended after raw ahead lines → BeginsWith raw lines
 tells_begun true after raw ahead lines live t = cc
 tells_begun false after raw ahead lines live t = t
 
--- where the input has not ended, more lines may follow
+-- where the input has not ended, the bytes of the lines that were taken begin with these lines
 begun : {after : Option (List ℕ)} {old new : LinesState} {bytes : List ℕ} {lines : List (Line (List ℕ))}
     (t : TakesLines after old bytes new lines) →
     new.ended ≡ false → BeginsWith t.raw lines
 begun {after} {old} {new} {bytes} {lines} t live = tells_begun new.ended after t.raw new.ahead lines live t.told
 
--- none, where the input has not ended
+-- where the input has not ended, no lines are taken where nothing is read
 takes_none : (after : Option (List ℕ)) (state : LinesState) → state.ended ≡ false →
     TakesLines after state [] state []
 takes_none after state live = record {
@@ -135,7 +141,7 @@ takes_none after state live = record {
   told = subst (λ (b : Bool). Tells b after [] state.ahead []) (sym live) begins_with_none;
 }
 
--- one line
+-- a line that a call gives is one line that was taken
 takes_line : {after : Option (List ℕ)} {old : LinesState}
     {bytes : List ℕ} {new : LinesState} {line : Line (List ℕ)} →
     GivesLine after old bytes new line → TakesLines after old bytes new (line ∷ [])
@@ -173,6 +179,7 @@ takes_line {after} {old} {bytes} {new} {line} g =
     })
     g.taken
 
+-- bytes that begin with lines, before bytes that others are told of, are told of by all these lines
 Tells-append : (ended : Bool) (after : Option (List ℕ))
     (raw more ahead : List ℕ) (lines others : List (Line (List ℕ))) →
     BeginsWith raw lines → Tells ended after more ahead others → Tells ended after (raw ++ more) ahead (lines ++ others)
@@ -180,7 +187,7 @@ Tells-append true after raw more ahead lines others b t =
     record { all = b.all more ∙ ap (λ ls. lines ++ ls) t.all; none = t.none; at_end = t.at_end }
 Tells-append false after raw more ahead lines others b t = BeginsWith-append b t
 
--- more lines
+-- lines that were taken, and others taken after them, were taken together
 TakesLines-append : {mid after : Option (List ℕ)} {first old new : LinesState}
     {bytes more : List ℕ} {lines others : List (Line (List ℕ))} →
     TakesLines mid first bytes old lines → TakesLines after old more new others →
@@ -200,6 +207,7 @@ TakesLines-append {mid} {after} {first} {old} {new} {bytes} {more} {lines} {othe
       told = Tells-append new.ended after t.raw u.raw new.ahead lines others (begun t u.live) u.told;
     }
 
+-- where the input has ended and nothing is ahead, the lines told of bytes are the lines of the whole input
 tells_end : (ended : Bool) (mid after : Option (List ℕ)) (old : LinesState)
     (raw before ahead : List ℕ) (lines : List (Line (List ℕ))) →
     ended ≡ old.ended → ahead ≡ [] → HasEnded old mid after → Tells ended mid raw before lines →
@@ -211,7 +219,7 @@ tells_end false mid after old raw before ahead lines same none (inl h) t = absur
 tells_end false mid after old raw before ahead lines same none (inr h) t =
     record { all = begins_whole t; none = none; at_end = h.1 }
 
--- the end
+-- where lines were taken and then the end was given, the lines were taken up to the end
 pub takes_end : {mid after : Option (List ℕ)} {first old new : LinesState}
     {bytes more : List ℕ} {lines : List (Line (List ℕ))} →
     TakesLines mid first bytes old lines → GivesEnd mid after old more new →
@@ -235,18 +243,20 @@ takes_end {mid} {after} {first} {old} {new} {bytes} {more} {lines} t g =
     }
 
 -- ---- where a reader stops that began at the start of its input
+
+-- where the flag says that the input has ended, the lines told of bytes are those of the whole input
 tells_whole : (ended : Bool) (after : Option (List ℕ)) (raw ahead : List ℕ) (lines : List (Line (List ℕ))) →
     ended ≡ true → Tells ended after raw ahead lines → IsWhole after raw ahead lines
 tells_whole true after raw ahead lines e t = t
 tells_whole false after raw ahead lines e t = cc
 
--- no more lines were taken than may be read
+-- the lines that were taken from the start on have at most 2 ^ 26 bytes
 raw_within : {after : Option (List ℕ)} {new : LinesState} {read : List ℕ} {lines : List (Line (List ℕ))}
     (t : TakesLines after at_start read new lines) →
     length t.raw ≤ 2 ^ 26
 raw_within t = let bound = t.bound (omega arith) in omega (arith, t.count)
 
--- all bytes that were read, from the start on
+-- the bytes read from the start on, and more, are those of the lines taken, those ahead and the more
 read_so_far : {mid : Option (List ℕ)} {old : LinesState} {read : List ℕ} {lines : List (Line (List ℕ))}
     (t : TakesLines mid at_start read old lines) (bytes : List ℕ) →
     read ++ bytes ≡ t.raw ++ (old.ahead ++ bytes)
@@ -292,7 +302,8 @@ told_over {mid} {old} {read} {bytes} {lines} t over =
     )
 
 -- ---- how much more was read
--- the lines that were taken, a part of the next one, and little after it
+
+-- where a part of a line and at most 4,096 bytes follow the lines taken, little more was read than these
 more_behind : {mid : Option (List ℕ)} {old : LinesState} {read : List ℕ} {lines : List (Line (List ℕ))} →
     TakesLines mid at_start read old lines → old.ended ≡ false → (bytes part rest : List ℕ) →
     old.ahead ++ bytes ≡ part ++ rest → All (λ b. b ≢ 10) part → length rest ≤ 4096 →
@@ -307,21 +318,25 @@ more_behind t live bytes part rest cut plain near = record {
   near = near;
 }
 
+-- where the source fails, little more was read than the lines that were taken
 more_at_fault : {mid : Option (List ℕ)} {old new : LinesState} {read bytes : List ℕ} {lines : List (Line (List ℕ))} →
     TakesLines mid at_start read old lines → IsBrokenOff old bytes new → ReadsLittleMore (read ++ bytes) lines
 more_at_fault {old = old} {bytes = bytes} t broken =
     let part = old.ahead ++ bytes in
     more_behind t broken.live bytes part [] (sym (append-nil part)) broken.plain (omega arith)
 
+-- past the limit, little more was read than the lines that were taken
 more_at_over : {mid : Option (List ℕ)} {old : LinesState} {read bytes : List ℕ} {lines : List (Line (List ℕ))} →
     TakesLines mid at_start read old lines → IsOver old bytes → ReadsLittleMore (read ++ bytes) lines
 more_at_over {bytes = bytes} t over = more_behind t over.live bytes over.raw over.rest over.cut over.plain over.near
 
+-- where memory runs out, little more was read than the lines that were taken
 more_at_want : {mid : Option (List ℕ)} {old : LinesState} {read bytes : List ℕ} {lines : List (Line (List ℕ))} →
     TakesLines mid at_start read old lines → IsGivenUp old bytes → ReadsLittleMore (read ++ bytes) lines
 more_at_want {bytes = bytes} t given_up =
     more_behind t given_up.live bytes given_up.raw given_up.rest given_up.cut given_up.plain given_up.near
 
+-- where the input has not ended, little more was read than the lines that were taken
 more_now : {after : Option (List ℕ)} {new : LinesState} {read : List ℕ} {lines : List (Line (List ℕ))} →
     TakesLines after at_start read new lines → new.ended ≡ false → ReadsLittleMore read lines
 more_now {new = new} t live =
@@ -336,7 +351,7 @@ more_now {new = new} t live =
       near = omega arith;
     }
 
--- wherever else it stops, the lines that were taken come first
+-- where the input has not ended, the lines that were taken are the first that end within the limit
 told_in_part : {mid : Option (List ℕ)} {old : LinesState} {read : List ℕ} {lines : List (Line (List ℕ))} →
     TakesLines mid at_start read old lines → old.ended ≡ false → (bytes : List ℕ) →
     (more : List (Line (List ℕ))) × (ended_lines_of (take input_limit (read ++ bytes)) ≡ lines ++ more)
@@ -399,7 +414,7 @@ pub reads_start : (left : Option (List ℕ)) (state : LinesState) → state ≡ 
 reads_start left state is =
     subst (λ (r : LinesState). ReadsLines left left at_start r []) (sym is) (reads_none left at_start)
 
--- an end that stays
+-- lines that were taken before an end that stays are all the lines taken behind it too
 same_taken : {mid after : Option (List ℕ)} {first old new : LinesState}
     {bytes more : List ℕ} {lines others : List (Line (List ℕ))} →
     TakesLines mid first bytes old lines → StaysEnded mid after old more new others →
@@ -412,12 +427,15 @@ same_taken {mid} {after} {first} {old} {new} {bytes} {more} {lines} {others} t u
     (subst (λ (bs : List ℕ). TakesLines mid first bs old lines)
     (sym (ap (λ xs. bytes ++ xs) u.unread ∙ append-nil bytes)) t)))
 
+-- two lists without items are together a list without items
 both_none : {A : Type 0} {xs ys : List A} → xs ≡ [] → ys ≡ [] → xs ++ ys ≡ []
 both_none {ys = ys} e f = ap (λ zs. zs ++ ys) e ∙ f
 
+-- where a state has ended and is kept, it has ended
 ended_still : {old new : LinesState} → old.ended ≡ true → new ≡ old → new.ended ≡ true
 ended_still is same = ap (λ (r : LinesState). r.ended) same ∙ is
 
+-- no flag is both true and false
 true_is_not_false : {b : Bool} → b ≡ true → b ≡ false → ⊥
 true_is_not_false t f = cc
 
@@ -457,15 +475,17 @@ reads_line {mid = mid} {after = after} {old = old} {new = new} line r g no_end n
     let given = given_line mid after old g.bytes new line no_end no_over g.gives in
     ReadsLines-append r (record { bytes = g.bytes; moved = g.moved; taken = inl (takes_line given) })
 
--- the end is reported again
+-- where the end is reported again, the source stays as it is
 stays_left : {mid after : Option (List ℕ)} (old : LinesState) → old.ended ≡ true → HasEnded old mid after → after ≡ mid
 stays_left old is (inl h) = h.1
 stays_left old is (inr h) = absurd (true_is_not_false is h.0)
 
+-- where two lists together have no items, neither has any
 front_none : {A : Type 0} (xs ys : List A) → xs ++ ys ≡ [] → (xs ≡ []) × (ys ≡ [])
 front_none [] ys e = (refl, e)
 front_none (x ∷ xs) ys e = absurd (let h = e in cc)
 
+-- an end that stays, and is given again, stays
 ends_again : {before mid after : Option (List ℕ)} {first old new : LinesState}
     {bytes more : List ℕ} {lines : List (Line (List ℕ))} →
     StaysEnded before mid first bytes old lines → GivesEnd mid after old more new →
