@@ -51,7 +51,7 @@ bound_of AtLower l u e c = cc
 bound_of AtUpper l u e c = c
 bound_of AtZero l u e c = cc
 
--- a column that is neither basic nor at its upper bound has the status that its bounds give first
+-- a column that is neither basic nor at its upper bound has the first status for its bounds
 usual_is : (s : Status) (l u : Option ℚ) → is_basic s ≡ false → is_at_upper s ≡ false → CanStand s l u →
     s ≡ first_status l u
 usual_is Basic l u b a c = cc

@@ -35,7 +35,7 @@ abbrev also : {A B : Type 0} (o u : Run A) (f g : A → Run B) → Agrees as_it_
     ((a : A) → Agrees as_it_is (f a) (g a)) → Agrees as_it_is (o >>= f) (u >>= g)
 also o u f g h k = agrees_then as_it_is o u f g h k
 
--- a refusal of factors is a refusal of the run
+-- where factoring at a limit agrees with factoring without one, so does what a run makes of both
 stop_agrees : (o u : Result Factors (NoFactors ℚ)) → Agrees factor.Past o u →
     Agrees stop.Past (factor_stop o) (factor_stop u)
 stop_agrees o u h = by u h.exact h.same

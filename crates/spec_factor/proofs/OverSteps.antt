@@ -134,19 +134,19 @@ places_of f F cost b w pairs s stands = record {
   stands = stands;
 }
 
--- the places of a tableau are places of the tableau bare of its entries
+-- the places of a tableau are places of the tableau without its rows and reduced costs
 to_bare : (f : Form) (t : Tableau) (basic : List ℕ) (pairs : List Pair) → Places f t basic pairs →
     Places f (bare_with t basic) basic pairs
 to_bare f t basic pairs h =
     record { all = h.all; in_range = h.in_range; marked = h.marked; placed = h.placed; stands = h.stands }
 
--- the places of a tableau bare of its entries are places of the tableau itself
+-- the places of a tableau without its rows and reduced costs are places of the tableau itself
 from_bare : (f : Form) (t : Tableau) (basic : List ℕ) (pairs : List Pair) → Places f (bare_with t basic) basic pairs →
     Places f t basic pairs
 from_bare f t basic pairs h =
     record { all = h.all; in_range = h.in_range; marked = h.marked; placed = h.placed; stands = h.stands }
 
--- where two tableaus are the same when bare, the places of one are places of the other
+-- where two tableaus are the same without rows and reduced costs, places of one are places of the other
 places_as : (f : Form) (t u : Tableau) (basic : List ℕ) (pairs : List Pair) →
     bare_with t basic ≡ bare_with u basic → Places f t basic pairs → Places f u basic pairs
 places_as f t u basic pairs e h =

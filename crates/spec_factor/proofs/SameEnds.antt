@@ -167,7 +167,7 @@ module _ (f : Form) (starts : List (RowStart ℚ)) (costs : List ℚ) (b : Bound
       (subst (λ d. SeesFor f starts costs b t st few basic pairs g None d selection.tableau) e l.sees) c
       (l.choice ∙ ap Ok e))
 
--- the basis of an end is the same at a tableau and at the tableau bare of its entries
+-- the basis of an end is the same at a tableau and without its rows and reduced costs
 pub basis_same : (t : Tableau) (basic : List ℕ) (end : PrimalEnd) → basis_at (bare_with t basic) end ≡ basis_at t end
 basis_same t basic Optimal = refl
 basis_same t basic (Unbounded j up) = refl

@@ -76,6 +76,8 @@ module _ (m : ℕ) (pairs : List Pair) (basis : Matrix) (stands : StandsFor m pa
             ∙ sym (is.each r l ∙ row_at (backward m pairs (read c)) (read c) (rows_solved (read c)) r l);
       }
 
+-- ---- one more pair
+
 -- the pair of a column makes of the column the unit vector of the pair's place
 pair_unit : (e : Pair) (v : ℕ → ℚ) (i : ℕ) → v e.place ≢ 0ℚ → pair_at e e.place ≡ v e.place → pair_at e i ≡ v i →
     forward_one e v i ≡ delta e.place i

@@ -104,7 +104,7 @@ among_both xs x ys =
     (All-weaker (λ s. is_listed (x ∷ ys) s ≡ true) (λ s. is_listed (xs ++ x ∷ ys) s ≡ true) (listed_right xs (x ∷ ys)) ys
     (All-weaker (λ s. is_listed ys s ≡ true) (λ s. is_listed (x ∷ ys) s ≡ true) (listed_more x ys) ys (all_listed ys)))
 
--- one that is listed is the one between, or is among the others
+-- a side that is not x, and is listed with x between the others, is listed among the others
 listed_between : (xs : List Side) (x : Side) (ys : List Side) (s : Side) → same_side s x ≡ false →
     is_listed (xs ++ x ∷ ys) s ≡ true → is_listed (xs ++ ys) s ≡ true
 unfolding is_listed

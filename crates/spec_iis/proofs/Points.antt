@@ -95,7 +95,8 @@ module _ (m : Model) (sides : List Side) where
         (side_there (record { row = true; at = i; upper = true })) h
 
 -- ---- the points
--- what is within an end that is chosen is within the end
+
+-- a number between limits of which some are chosen is within each end that is chosen
 within_chosen : (upper : Bool) (a b : Bool) (l : Limits) (v : ℚ) → (if_listed_of upper a b ≡ true) →
     IsBetween (chosen a b l) v → IsWithin upper (end_of upper l) v
 within_chosen true a b l v h g = subst (λ t. IfSome (if_listed t l.upper) (λ k. v ≤ℚ k)) h g.upper

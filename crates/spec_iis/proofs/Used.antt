@@ -53,7 +53,8 @@ listed_if true s h = listed_first s []
 listed_if false s h = absurd (let z : false ≡ true = h in cc)
 
 -- ---- multipliers
--- the one that is used is the one that is asked for
+
+-- a multiplier is tight at the limit that it asks for, where only the limits that it uses stay
 tight_if : (l : Limits) (d : ℚ) → HasLimit l d →
     Tight (if_listed (lt_ℚ 0ℚ d) l.lower) (if_listed (lt_ℚ d 0ℚ) l.upper) d (asked l d)
 tight_if l d h = record {
@@ -61,7 +62,7 @@ tight_if l d h = record {
   below = λ p. ap (λ t. if_listed t l.upper) (lt_test d 0ℚ p) ∙ asked_below l d h p;
 }
 
--- a limit that is used is met
+-- what holds of a bound where a test holds, holds of the number that stays by the test
 met_if : (P : ℚ → Type 0) (t : Bool) (o : Option ℚ) → (t ≡ true → IfSome o P) → (k : ℚ) → if_listed t o ≡ Some k → P k
 met_if P true o h k e = subst (λ o. IfSome o P) e (h refl)
 met_if P false o h k e = absurd (let z : None ≡ Some k = e in cc)

@@ -127,7 +127,7 @@ pub record Shifted (m : Model) (j : ℕ) (v : ℚ) (k : ℕ) (x : Model) : Type 
   pub done : (r : ℕ) → r < k → row x r ≡ record (row m r) { rhs = (row m r).rhs -ℚ coefficient m r j *ℚ v }
   pub rest : (r : ℕ) → k ≤ r → row x r ≡ row m r
 
--- where k right sides are moved and row k takes its moved one, k + 1 right sides are moved
+-- where the first k right sides are moved and row k takes its moved one, the first k + 1 are moved
 shifted_more : (m : Model) (j : ℕ) (v : ℚ) (k : ℕ) (x : Model) (b : ℚ) → k < height m → Shifted m j v k x →
     b ≡ (row m k).rhs -ℚ coefficient m k j *ℚ v → Shifted m j v (suc k) (with_rhs x k b)
 shifted_more m j v k x b l h e =
@@ -178,7 +178,7 @@ column_others m j k l = by (ltb k j) refl
     by true e = get_or-remove_below m.columns j no_column k (ltb-true k j e) l
     by false e = get_or-remove_above m.columns j no_column k (ltb-false k j e) l
 
--- the columns are those of m, with one less
+-- where x has the columns of m, those of x without column j are those of m at the indexes that skip j
 fixed_columns : (m x : Model) (j : ℕ) (offset : ℚ) → x.columns ≡ m.columns → j < width m → (k : ℕ) →
     column (without_column (with_offset x offset) j) k ≡ column m (skipping j k)
 fixed_columns m x j offset e l k =

@@ -53,8 +53,7 @@ none_kept m i e none a p q =
     ⊎_elim (λ l. none a (omega (arith, l)) q)
     (λ l. let same : i ≡ a = omega (arith, l, p) in ap (λ a. is_free (row m a).kind) (sym same) ∙ e) (cases_lt i a)
 
--- What holds of each model with itself, where none of its rows is free, and of a model where it holds of the same without
--- one free row, holds of a model and the same without all of them.
+-- what holds without free rows and passes over one free row holds over the free ones of the first k rows
 along : (P : Model → Model → Type 0) → ((m : Model) → NoneFrom 0 m → P m m) →
     ((m n : Model) (i : ℕ) → i < height m → is_free (row m i).kind ≡ true → P (without_row m i) n → P m n) →
     (k : ℕ) (m : Model) → k ≤ height m → NoneFrom k m → P m (without_free_below k m)
@@ -320,14 +319,14 @@ abbrev IsLess : Model → Model → Type 0
 IsLess m n = (c : ExactCertificate) → IsFor m c →
     Checks m c ↔ (TakesNoFreeRow m c × Checks n (without_free_multipliers m c))
 
--- where no row is free, a certificate checks exactly where it checks without free rows' multipliers
+-- where no row is free, a certificate checks exactly where its free rows have 0 and the rest checks
 less_same : Same IsLess
 less_same m none c f = (
   λ h. (none_taken m none c, subst (Checks m) (sym (none_gone m none c f)) h),
   λ h. subst (Checks m) (none_gone m none c f) h.1,
 )
 
--- if certificates check exactly as without free rows once free row i is removed, they do so before
+-- where certificates check exactly if free rows have 0 and the rest checks once free row i is gone, so they do before
 less_one : Less IsLess
 less_one m n i l e h c f =
     let f' = fits_less m i l c f in

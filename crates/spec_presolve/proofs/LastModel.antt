@@ -45,7 +45,7 @@ pub record EndsWell (limit : Option ℕ) (m : Model) (r : Reductions) : Type 0 w
   pub none_applies : chosen limit r.last ≡ Ok (choice.Halt r.halt)
   pub count : length r.steps + (width r.last + height r.last) ≡ width m + height m
 
--- where the choice for the first model is to halt, the reductions end where none applies and none is counted
+-- where the choice for the first model is to halt, none applies to the last model, and none was made
 halted_ends : (limit : Option ℕ) (m : Model) (h : Halt) (r : Reductions) → chosen limit m ≡ Ok (choice.Halt h) →
     ◌≡◌ {A = Reductions} (record { steps = []; last = m; halt = h }) r → EndsWell limit m r
 halted_ends limit m h r c e = subst (EndsWell limit m) e (record { none_applies = c; count = omega arith })

@@ -63,7 +63,7 @@ first_ok {A} n f o h =
     steps_ok (λ k x. (a : A) → x ≡ Some a → Found k f a) n (λ k found. unless found (f k)) None o h
     (λ a e. none_not a e) (λ i x y _ p k. first_step i f x y p k)
 
--- what holds of an option, and of each option that a run gives, holds of the first, unless none, or else the run
+-- what holds of a first find, and of each find of a run, holds of the first find or else the run's
 unless_keeps : {A : Type 0} (Q : Option A → Type 0) (o : Option A) (run : Run (Option A)) (x : Option A) → Q o →
     ((y : Option A) → run ≡ Ok y → Q y) → unless o run ≡ Ok x → Q x
 unless_keeps Q None run x q k h = k x h

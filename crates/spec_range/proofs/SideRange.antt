@@ -384,7 +384,7 @@ module _ (m : Model) (ls : List (Option ℚ × Option ℚ)) (h : Limited m ls) (
           given (λ e. IsRange (with_rhs m i) basis (row m i).rhs v (record { ends = e; slope = slope })) no_ends e h
           (alone (λ z. (let y : false ≡ true = sym a ∙ basic_test (status_at t s) z in cc)) d)
 
--- where a basis keeps an optimal model, the range found for row i's right side is its range
+-- where a basis keeps a model with an optimal value, the range found for row i's right side is its range
 pub side_range_is : (limit : Option ℕ) (m : Model) (f : Form) (basis : List Status) (i : ℕ) (r : Range ℚ) (v : ℚ) →
     form_of limit m ≡ Ok f → i < height m → Keeps m basis → IsOptimal m v → side_range limit m f basis i ≡ Ok r →
     IsRange (with_rhs m i) basis (row m i).rhs v r

@@ -23,6 +23,8 @@ use Rattle.spec_runs.proofs.EndTight.{tight_structural, tight_logical, weight_at
 use Rattle.spec_simplex.proofs.FirstPhase.{cost_before, balance_positive}
 
 -- ---- multipliers and the limits at which values stand
+
+-- a value tight at limits for a multiplier is tight at the turned limits for the multiplier's negative
 tight_turned : (l : Limits) (d p v : ℚ) → d ≡ neg_ℚ p → IsTight l d v → IsTight (turned_limits l) p v
 tight_turned l d p v e t = record {
   above = λ h. t.below (subst₂ ◌<ℚ◌ (sym e) neg-zero (neg_strict 0ℚ p h));

@@ -60,6 +60,8 @@ module _ (limit : Option ℕ) (budget : ℕ) (m : Model) where
           (answers_agree _ None 0 (clash_accepted limit m j q))
       by (Err (fault.Past p)) u q (inl z) = inr (p, refl)
 
+-- ---- without a limit
+
 -- without a limit, a solve whose certificate is accepted does not end with a refused operation
 checked_never_past : (m : Model) (c : Certificate (List ℚ)) (basis : Option (List Status)) (pivots : ℕ) →
     IsAccepted None m c → (p : Past ℚ) → ¬ (answered None m c basis pivots ≡ outcome.Past p)

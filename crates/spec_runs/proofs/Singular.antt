@@ -152,7 +152,8 @@ module _ (limit : Option ℕ) (f : Form) (basis : List Status) (j : ℕ)
   }
 
 -- ---- the run
--- a stop is that of some step, and those before it gave results
+
+-- where n steps end in an error, some step stops with it, and those before it gave a result
 stops_at : {A E : Type 0} (n : ℕ) (f : ℕ → A → Result A E) (a : A) (e : E) → steps n f a ≡ Err e →
     (i : ℕ) × (i < n) × (x : A) × (steps i f a ≡ Ok x) × (f i x ≡ Err e)
 stops_at zero f a e h = ok_not_err a e h

@@ -104,7 +104,7 @@ column_narrow f k n = All-made IsNarrow f.rows (λ i. column_entry f i k) (λ i 
 
 -- ---- signs
 
--- a narrow number times the sign with which a row begins is narrow
+-- a narrow number times the entry of a logical column in its row is narrow
 signed_by : (s : RowStart ℚ) (v : ℚ) → IsNarrow v → IsNarrow (logical_sign s *ℚ v)
 signed_by (Within w) v n = subst IsNarrow (sym (one-*ℚ v)) n
 signed_by (Above gap) v n = subst IsNarrow (sym (one-*ℚ v)) n

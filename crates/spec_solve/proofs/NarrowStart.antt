@@ -186,7 +186,7 @@ sum_of_row f i v h =
 
 -- ---- no gap, and one that is a difference
 
--- where there is no gap, the gap found is narrow, as there is none
+-- a gap that is not there is narrow
 no_gap : (gap : Option ℚ) → (let r : Run (Option ℚ) = Ok None in r) ≡ Ok gap → NarrowBound gap
 no_gap gap h = let e : None ≡ gap = cc in subst NarrowBound e tt
 
@@ -244,7 +244,7 @@ row_start_narrow f i s h =
 
 -- ---- the tableau
 
--- where structural, logical and artificial columns have narrow numbers at k, column k has one
+-- where the numbers for structural, logical and artificial columns are narrow, that of column k is narrow
 by_column_narrow : (f : Form) (k : ℕ) (s : ℚ) (l a : ℕ → ℚ) → IsNarrow s → ((r : ℕ) → IsNarrow (l r)) →
     ((r : ℕ) → IsNarrow (a r)) → IsNarrow (by_column f k s l a)
 by_column_narrow f k s l a p q r = by (nat_lt k f.cols) (nat_lt k (f.cols + f.rows))
