@@ -3,8 +3,8 @@
 -- `zeros_first`: where not all digits in front are 0, the zeros at the start of both lists are those of the front.
 -- `zeros_both`: where all digits in front are 0, the zeros at the start of both lists go on behind them.
 -- `decimal_small`: a decimal whose digits are all 0 is not huge.
--- `decimal_huge`: a decimal is huge exactly where its first digit that is not 0 stands more than 20 places before the
---   point.
+-- `decimal_huge`: a decimal is huge exactly where its first digit that is not 0, moved by the exponent, stands more than
+--   20 places before the point.
 -- `quotient_huge`: a quotient is huge exactly where its numerator without the last 20 digits is at least its
 --   denominator.
 use Rattle.std.proofs.Common.{◌≡◌, ℕ, zero, suc, ◌+◌, ◌-◌, ◌*◌, ◌^◌, ◌<◌, ◌≤◌, min, Bool, true}

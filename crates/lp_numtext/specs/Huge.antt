@@ -8,6 +8,7 @@ is_huge (Decimal negative s (pos e)) = nat_le (10 ^ 20) (s * 10 ^ e)
 is_huge (Decimal negative s (negsuc e)) = nat_le (10 ^ 20 * 10 ^ suc e) s
 is_huge (Quotient negative top bottom) = nat_le (10 ^ 20 * bottom) top
 
+-- the number has a minus sign
 abbrev pub sign_of : NumberParts → Bool
 sign_of (Decimal negative s e) = negative
 sign_of (Quotient negative top bottom) = negative

@@ -24,6 +24,7 @@ fn is_infinity(word: &[u8]) -> bool
     word.eq_ignore_ascii_case(b"inf") || word.eq_ignore_ascii_case(b"infinity")
 }
 
+// The infinite bound of this sign.
 fn infinity(is_negative: bool) -> BoundValue<Frac>
     ensures { Ok result ≡ bound_answer (bound.infinity is_negative) }
 {
@@ -46,6 +47,7 @@ fn zeros_in_front(front: Digits, back: Digits) -> usize
     }
 }
 
+// Whether a decimal's size is 10^20 or more: its first digit that is not 0 has the 21st place or a higher one.
 fn decimal_is_huge(d: Decimal) -> bool
     ensures { result ≡ is_huge (decimal_seen d.entry) }
 {
@@ -57,6 +59,7 @@ fn decimal_is_huge(d: Decimal) -> bool
     shifted(d.exponent, d.front.len(), zeros) > i128::from(INFINITE_POWER)
 }
 
+// Whether a quotient's size is 10^20 or more: its numerator without 20 digits is at least the denominator.
 fn quotient_is_huge(q: Quotient) -> bool
     ensures { result ≡ is_huge (quotient_seen q.entry) }
 {
@@ -75,6 +78,7 @@ fn is_huge(parts: Parts) -> bool
     }
 }
 
+// The finite bound of these parts, as `number` reads them.
 #[tactic(auto, using(crate::proofs::ValueSteps::finite_answer, crate::proofs::ValueSteps::fault_answer))]
 fn finite(parts: Parts) -> Result<BoundValue<Frac>, NumFault>
     ensures { result ≡ bound_answer (bound.as_bound (number_by (Some (parts_seen parts.entry)))) }

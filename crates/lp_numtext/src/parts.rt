@@ -37,6 +37,7 @@ pub enum Parts<'a> {
     Quotient(Quotient<'a>),
 }
 
+// Whether there is a digit before the point or after it.
 fn has_digit(front: Digits, back: Digits) -> bool
     ensures { result ≡ number.are_digits (front.entry.bytes.now ++ back.entry.bytes.now) }
 {
@@ -49,7 +50,7 @@ impl<'a> Exponent<'a> {
     ghost use Rattle.spec_mps.specs.NumberText as number;
     ghost use Rattle.lp_numtext.specs.Seen.{exponent_seen};
 
-    // What follows the mark, and 0 where there is none.
+    // The exponent that follows the mark, and 0 where there is no mark.
     #[tactic(auto, unfolding(spec_mps::specs::NumberText::exponent_of))]
     fn parse(mark: Option<&'a [u8]>) -> Option<Exponent<'a>>
         ensures { option_map exponent_seen result ≡ number.exponent_of (option_copied mark.entry) }
@@ -71,7 +72,7 @@ impl<'a> Decimal<'a> {
     ghost use Rattle.spec_mps.specs.NumberText as number;
     ghost use Rattle.lp_numtext.specs.Seen.{decimal_seen};
 
-    // A text with neither sign nor slash.
+    // The decimal that a text with neither sign nor slash is, or `None` where it is of another shape.
     #[tactic(auto, unfolding(spec_mps::specs::NumberText::mantissa_of, spec_mps::specs::NumberText::decimal_of))]
     fn parse(is_negative: bool, body: &'a [u8]) -> Option<Decimal<'a>>
         ensures { option_map decimal_seen result ≡ number.mantissa_of is_negative
@@ -100,6 +101,7 @@ impl<'a> Quotient<'a> {
     ghost use Rattle.spec_mps.specs.NumberText as number;
     ghost use Rattle.lp_numtext.specs.Seen.{quotient_seen};
 
+    // The quotient of two lists of digits, or `None` where one is empty or has another byte, or the second spells 0.
     #[tactic(auto, unfolding(spec_mps::specs::NumberText::quotient_of))]
     fn parse(is_negative: bool, top: &'a [u8], bottom: &'a [u8]) -> Option<Quotient<'a>>
         ensures { option_map quotient_seen result ≡ number.quotient_of is_negative top.now bottom.now }
@@ -133,6 +135,7 @@ impl<'a> Parts<'a> {
         }
     }
 
+    // Whether the text has a minus sign.
     #[tactic(auto, unfolding(spec_mps::specs::NumberText::scaled))]
     pub(crate) fn is_negative(self) -> bool
         ensures { result ≡ sign_of (parts_seen self.entry) }

@@ -13,6 +13,7 @@ pub(crate) enum Separator {
     Point,
 }
 
+// Whether a byte is this separator.
 fn is_separator(separator: Separator, b: u8) -> bool
     ensures { result ≡ separates separator b }
 {
@@ -23,13 +24,14 @@ fn is_separator(separator: Separator, b: u8) -> bool
     }
 }
 
+// The place of the first such separator.
 fn place(text: &[u8], separator: Separator) -> Option<usize>
     ensures { result ≡ position (separates separator) text.now }
 {
     text.iter().position(|b| is_separator(separator, *b))
 }
 
-// What stands before the first such separator, and what follows it, where there is one.
+// The text before the first such separator, and the text behind it. Without one, the whole text and `None`.
 pub(crate) fn split(text: &[u8], separator: Separator) -> (&[u8], Option<&[u8]>)
     ensures before { result.0.now ≡ before_first (separates separator) text.now }
     ensures behind { option_copied result.1 ≡ number.behind (separates separator) text.now }
@@ -40,6 +42,7 @@ pub(crate) fn split(text: &[u8], separator: Separator) -> (&[u8], Option<&[u8]>)
     }
 }
 
+// Whether a text begins with a minus sign.
 pub(crate) fn is_negative(text: &[u8]) -> bool
     ensures { result ≡ number.is_negative text.now }
 {
@@ -49,6 +52,7 @@ pub(crate) fn is_negative(text: &[u8]) -> bool
     }
 }
 
+// The text without one sign at its start.
 pub(crate) fn without_sign(text: &[u8]) -> &[u8]
     ensures { result.now ≡ number.without_sign text.now }
 {

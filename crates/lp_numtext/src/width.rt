@@ -4,12 +4,14 @@ ghost use Rattle.lp_numtext.specs.Within as width;
 
 use lp_frac::LARGEST;
 
+// The number, unless it is past `LARGEST`.
 pub(crate) fn within(n: u128) -> Option<u128>
     ensures { result ≡ width.within n }
 {
     if n <= LARGEST { Some(n) } else { None }
 }
 
+// The product, unless it is past `LARGEST`.
 pub(crate) fn product(n: u128, k: u128) -> Option<u128>
     ensures { result ≡ width.within (n * k) }
 {

@@ -10,6 +10,7 @@ use std::alloc::{AllocError, Global};
 // The most digits after a point.
 const MAX_PLACES: u32 = 18;
 
+// Appends the decimal digits of `n`.
 fn write_whole(alloc: Global, n: u128, to: &mut Bytes) -> Result<(), AllocError>
     ensures { OnOk result (to.new ≡ to.old ++ decimal n) }
 {
@@ -17,6 +18,7 @@ fn write_whole(alloc: Global, n: u128, to: &mut Bytes) -> Result<(), AllocError>
     to.extend(text.as_bytes())
 }
 
+// Appends the last `places` digits of `n`, with zeros in front where it has fewer.
 fn write_last_digits(n: u128, places: u32, to: &mut Bytes) -> Result<(), AllocError>
     requires { places ≤ MAX_PLACES }
     ensures { OnOk result (to.new ≡ to.old ++ number_written.last_digits places n) }
@@ -28,6 +30,7 @@ fn write_last_digits(n: u128, places: u32, to: &mut Bytes) -> Result<(), AllocEr
     Ok(())
 }
 
+// Appends `n / 10^places` as a decimal with `places` digits after its point.
 #[tactic(auto, unfolding(spec_mps::specs::NumberWritten::pointed))]
 fn write_pointed(alloc: Global, n: u128, places: u32, to: &mut Bytes) -> Result<(), AllocError>
     requires { places ≤ MAX_PLACES }
@@ -38,6 +41,7 @@ fn write_pointed(alloc: Global, n: u128, places: u32, to: &mut Bytes) -> Result<
     write_last_digits(n, places, to)
 }
 
+// Appends `n`, a slash and `den`.
 #[tactic(auto, unfolding(spec_mps::specs::NumberWritten::quotient_text))]
 fn write_quotient(alloc: Global, n: u128, den: u128, to: &mut Bytes) -> Result<(), AllocError>
     ensures { OnOk result (to.new ≡ to.old ++ number_written.quotient_text n den) }
@@ -47,7 +51,7 @@ fn write_quotient(alloc: Global, n: u128, den: u128, to: &mut Bytes) -> Result<(
     write_whole(alloc, den, to)
 }
 
-// The least number of places after the point that a fraction with this denominator takes, where 18 are enough.
+// How many places after the point a fraction with this denominator takes, or `None` where 18 are too few.
 fn places(den: u128) -> Option<u32>
     requires { 0 < den }
     ensures value { result ≡ number_written.places den }
@@ -61,6 +65,7 @@ fn places(den: u128) -> Option<u32>
     None
 }
 
+// Appends `n / den`: as a whole number, as a decimal of at most 18 places, or else as a quotient.
 #[tactic(auto, unfolding(spec_mps::specs::NumberWritten::size_text, spec_mps::specs::NumberWritten::placed))]
 fn write_size(alloc: Global, n: u128, den: u128, to: &mut Bytes) -> Result<(), AllocError>
     requires { 0 < den }
