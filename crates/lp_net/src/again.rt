@@ -7,7 +7,7 @@ ghost use Rattle.lp_base.specs.Causes.{HasCause};
 use lp_base::Failed;
 use std::io::{ErrorKind, Read, Write};
 
-/// A read that is tried again.
+/// Reads into the buffer. A read that a signal interrupts is tried again.
 pub fn read_again<R: Read>(from: &mut R, buf: &mut [u8]) -> Result<usize, Failed>
     ensures bound { ReadsAtMost result buf.new }
     ensures bytes { ReadConsumes (R.remaining from.old) (R.remaining from.new) result buf.new }
@@ -22,7 +22,7 @@ pub fn read_again<R: Read>(from: &mut R, buf: &mut [u8]) -> Result<usize, Failed
     Err(Failed)
 }
 
-/// A write that is tried again. One that takes nothing is a fault.
+/// Writes some of the piece. A write that a signal interrupts is tried again, and one that takes nothing is a fault.
 pub fn write_again<W: Write>(to: &mut W, piece: &[u8]) -> Result<usize, Failed>
     ensures bound { WritesAtMost result piece.now }
     ensures some { IfOk result (λ count. 0 < count) }
@@ -38,7 +38,7 @@ pub fn write_again<W: Write>(to: &mut W, piece: &[u8]) -> Result<usize, Failed>
     Err(Failed)
 }
 
-/// The same result, after its fault was counted.
+/// Gives the result as it is, and raises the count of faults by one where it is an error.
 pub fn counted(did: Result<usize, Failed>, faults: &mut u64) -> Result<usize, Failed>
     ensures same { result ≡ did }
     ensures cause { HasCause faults.old faults.new result }

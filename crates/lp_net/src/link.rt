@@ -31,6 +31,7 @@ pub struct TcpLink {
 }
 
 impl TcpLink {
+    /// A link on an accepted stream, by the peer's address and the time when it was accepted. Nothing is counted yet.
     pub fn new(stream: TcpStream, peer: SocketAddr, since: Option<Instant>) -> Self {
         TcpLink {
             stream,
@@ -72,7 +73,7 @@ fn drop_rest<R: Clock>(rt: &R, stream: &mut TcpStream) -> io::Result<()> {
     Ok(())
 }
 
-// So many bytes more, where the call did not fail.
+// The count of bytes after a call, which adds those that it moved, and none where it failed.
 fn with_more(bytes: u64, did: &Result<usize, Failed>) -> u64 {
     match did {
         Ok(count) => bytes.saturating_add(*count as u64),
@@ -87,6 +88,7 @@ impl Source for TcpLink {
 
     ghost beside_reads = { λ link. sink_of None link.write_faults };
 
+    // Reads from the stream, and counts the bytes or the fault.
     fn read(&mut self, buf: &mut [u8]) -> Result<usize, Failed> {
         let read = read_again(&mut self.stream, buf);
         self.bytes_read = with_more(self.bytes_read, &read);
@@ -101,6 +103,7 @@ impl Sink for TcpLink {
 
     ghost beside_writes = { λ link. source_of None link.read_faults };
 
+    // Writes to the stream, and counts the bytes or the fault.
     fn write(&mut self, piece: &[u8]) -> Result<usize, Failed> {
         let written = write_again(&mut self.stream, piece);
         self.bytes_written = with_more(self.bytes_written, &written);

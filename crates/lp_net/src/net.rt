@@ -22,7 +22,7 @@ pub struct TcpNet<'a, R> {
 }
 
 impl<'a, R> TcpNet<'a, R> {
-    /// The lines say the worker's number.
+    /// A listener on this socket, of which nothing was given yet. Its lines say the worker's number.
     pub fn new(rt: &'a R, socket: Option<&'a TcpListener>, worker: u32) -> Self {
         TcpNet {
             rt,
@@ -51,6 +51,7 @@ fn next_link<R: Clock>(rt: &R, socket: &TcpListener) -> Result<TcpLink, Failed> 
     Err(Failed)
 }
 
+// Whether an accept that failed in this way is tried again: a signal came, or the peer went away.
 fn is_passing(kind: ErrorKind) -> bool {
     kind == ErrorKind::Interrupted || kind == ErrorKind::ConnectionAborted
 }
@@ -62,6 +63,7 @@ impl<'a, R: Clock + Eprint> Listen for TcpNet<'a, R> {
 
     ghost accept_faults = { λ net. net.faults };
 
+    // Waits for the next link of the socket. A fault is counted, and so is that there is no socket.
     fn accept(&mut self) -> Result<TcpLink, Failed> {
         if let Some(socket) = self.socket {
             if let Ok(link) = next_link(self.rt, socket) {
@@ -72,6 +74,7 @@ impl<'a, R: Clock + Eprint> Listen for TcpNet<'a, R> {
         Err(Failed)
     }
 
+    // Closes the link and writes its line on standard error, or counts the line as dropped.
     fn give_back(&mut self, link: TcpLink, report: LinkReport) {
         self.links = self.links.saturating_add(1);
         let line = LinkLine::of(
