@@ -13,10 +13,11 @@ pub record SourceState : Type 0 where
   pub left : Option (List ℕ)
   pub read_faults : ℕ
 
--- nothing stands there
+-- the state of a sink where there is none
 abbrev pub no_sink : SinkState
 no_sink = record { taken = None; write_faults = 0 }
 
+-- the state of a source where there is none
 abbrev pub no_source : SourceState
 no_source = record { left = None; read_faults = 0 }
 

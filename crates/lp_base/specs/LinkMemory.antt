@@ -15,14 +15,15 @@ mem_link_state link = record {
   sink = sink_of (Some (bytes_taken link.sink)) (sink_faults link.sink);
 }
 
--- nothing was written to it
+-- nothing was written to the link
 abbrev pub IsUnwritten : MemLink → Type 0
 IsUnwritten link = bytes_taken link.sink ≡ []
 
--- the events that were remembered
+-- an event that the listener in memory remembers, by the link's state then
 abbrev pub event_of : MemEvent → LinkEvent
 event_of (Given link) = links.Given (mem_link_state link.value)
 event_of (Returned link) = links.Returned (mem_link_state link.value)
 
+-- the events that the listener in memory remembers, in their order
 abbrev pub events_of : List MemEvent → List LinkEvent
 events_of log = map event_of log

@@ -36,6 +36,6 @@ pub record ListenerState : Type 0 where
   pub log : Option (List LinkEvent)
   pub accept_faults : ℕ
 
--- by what it tells
+-- the state of a listener, by the functions that tell of it
 abbrev pub listener_of : {N : Type 0} → (N → Option (List LinkEvent)) → (N → ℕ) → N → ListenerState
 listener_of log faults net = record { log = log net; accept_faults = faults net }

@@ -25,5 +25,6 @@ next_accept net = net.calls.next
 abbrev pub failing_accepts : MemListen → List ℕ
 failing_accepts net = net.calls.fails.items
 
+-- how many accepts have failed
 abbrev pub listen_faults : MemListen → ℕ
 listen_faults net = net.calls.faults

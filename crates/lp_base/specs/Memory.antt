@@ -20,13 +20,15 @@ next_read s = s.calls.next
 abbrev pub failing_reads : MemSource → List ℕ
 failing_reads s = s.calls.fails.items
 
+-- how many reads have failed
 abbrev pub source_faults : MemSource → ℕ
 source_faults s = s.calls.faults
 
+-- the bytes that were written
 abbrev pub bytes_taken : MemSink → List ℕ
 bytes_taken s = s.bytes.items
 
--- the number of the next write, in the same way
+-- the number of the next write, from 1; past the end of its type it stays
 abbrev pub next_write : MemSink → ℕ
 next_write s = s.calls.next
 
@@ -34,5 +36,6 @@ next_write s = s.calls.next
 abbrev pub failing_writes : MemSink → List ℕ
 failing_writes s = s.calls.fails.items
 
+-- how many writes have failed
 abbrev pub sink_faults : MemSink → ℕ
 sink_faults s = s.calls.faults

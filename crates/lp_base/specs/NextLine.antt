@@ -110,7 +110,7 @@ pub record IsGivenUp (old : LinesState) (bytes : List ℕ) : Type 0 where
   pub cut : old.ahead ++ bytes ≡ raw ++ rest
   pub near : length rest ≤ 4096
 
--- the answer, with the bytes that were read in the call
+-- an answer of `next` is right, with the bytes that were read in the call
 abbrev pub AnswersWith : Option (List ℕ) → Option (List ℕ) → LinesState → List ℕ → LinesState →
     Result (Line (List ℕ)) LineStop → Type 0
 AnswersWith before after old bytes new (Ok (Text text)) = GivesLine after old bytes new (Text text)

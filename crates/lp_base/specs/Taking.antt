@@ -90,7 +90,7 @@ pub record ReadsToFault (before after : Option (List ℕ)) (lines : List (Line (
   pub front : ReadsFront before after lines
   pub near : ReadsLittleMore front.read lines
 
--- there may be more of them
+-- the input was read in part, and more lines than these may end in it
 pub record ReadsPart (before after : Option (List ℕ)) (lines : List (Line (List ℕ))) : Type 0 where
   pub more : List (Line (List ℕ))
   pub front : ReadsFront before after (lines ++ more)

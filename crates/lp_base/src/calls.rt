@@ -15,7 +15,7 @@ pub struct Calls {
 }
 
 impl Calls {
-    /// None was made yet, and those with these numbers will fail.
+    /// No call was made yet. Those with these numbers will fail.
     pub fn new(fails: Vec<u64>) -> Self
         ensures { result ≡ record { fails = fails; next = 1; faults = 0 } }
     {

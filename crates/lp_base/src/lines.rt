@@ -129,7 +129,7 @@ impl Lines {
         Ok(line.last_line())
     }
 
-    // As many bytes were given as may be.
+    // Whether as many bytes were given as an input may have.
     fn is_full(&self) -> bool
         ensures full { IsTrue result ↔ (self.now.given ≡ 2 ^ 26) }
         ensures bound { self.now.given ≤ 2 ^ 26 }
@@ -137,7 +137,7 @@ impl Lines {
         self.given == MAX_INPUT
     }
 
-    // Reads on where nothing is ahead.
+    // Reads into the buffer where no byte is ahead, and says whether some are then.
     fn has_more<S: Source>(&mut self, source: &mut S) -> Result<bool, Failed>
         ensures moved { ReadsOn (S.left source.old) (S.left source.new) self.old self.new result }
         ensures ended { self.old.ended ≡ true → (result ≡ Ok false) × (S.left source.new ≡ S.left source.old) }

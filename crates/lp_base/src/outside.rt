@@ -20,7 +20,7 @@ pub trait Source {
     /// How often it has failed. It never falls.
     ghost read_faults: { Self → ℕ };
 
-    /// What stands beside it on the same object, which a read leaves.
+    /// The state of the sink on the same object, which a read leaves as it is.
     ghost beside_reads: { Self → SinkState };
 
     /// Moves bytes from the start of what is left. None, with room for some, is the end.
@@ -39,7 +39,7 @@ pub trait Sink {
     /// How often it has failed. It never falls.
     ghost write_faults: { Self → ℕ };
 
-    /// What stands beside it on the same object, which a write leaves.
+    /// The state of the source on the same object, which a write leaves as it is.
     ghost beside_writes: { Self → SourceState };
 
     /// Takes some bytes from the start of the piece.

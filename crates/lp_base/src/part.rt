@@ -13,7 +13,7 @@ const CARRIAGE_RETURN: u8 = b'\r';
 // The most bytes of a line that is kept.
 const MAX_LINE: u64 = 16_384;
 
-/// Its first bytes, one more than a line may have, its length and its last byte.
+/// The part of a line that was read: its first bytes, at most one more than a line may have, its length and its last byte.
 #[derive(Drop)]
 pub struct Part {
     bytes: Vec<u8>,

@@ -6,7 +6,7 @@ ghost use Rattle.lp_base.specs.Tables.{beside};
 use crate::{Bytes, Texts, are_same};
 use std::alloc::{AllocError, Global};
 
-/// What stands beside the first text that a word is, or else the last value.
+/// The value of the first line that has the word among its texts, or else the last value.
 #[macro_export]
 macro_rules! by_word {
     ($word:expr, { $($($text:literal)|+ => $value:expr,)+ _ => $other:expr $(,)? }) => {
