@@ -5,8 +5,6 @@
 //! |---|---|---|
 //! | `read` | the fraction that a text is | src/reading |
 //! | `read_bound` | the bound that a text is | src/bounds |
-//! | `Parts`, `Digits` | the parts of a number's text, and digits, of any width | src/parts, src/digits |
-//! | `shifted`, `without_zeros` | a decimal as a whole number and a power of ten | src/reading |
 //! | `number_text` | the text of a fraction | src/writing |
 //! | `write` | the same, after other text | src/writing |
 //! | `read_wide`, `WideFault`, `wide_text` | the same for fractions of any width | src/wide |
@@ -25,9 +23,7 @@ mod width;
 mod writing;
 
 pub use bounds::read_bound;
-pub use digits::Digits;
-pub use parts::{Decimal, Exponent, Parts, Quotient};
-pub use reading::{read, shifted, signed, without_zeros};
+pub use reading::read;
 pub use spec_mps::{BoundValue, NumFault};
 pub use wide::{WideFault, read_wide, wide_text};
 pub use writing::{number_text, write};

@@ -5,34 +5,34 @@ ghost use Rattle.spec_mps.specs.NumberText as number;
 use crate::digits::Digits;
 use crate::pieces::{Separator, is_negative, split, without_sign};
 
-/// A whole number, as the power of ten by which a decimal is scaled.
+// A whole number, as the power of ten by which a decimal is scaled.
 #[derive(Clone, Copy)]
-pub struct Exponent<'a> {
-    pub is_negative: bool,
-    pub digits: Digits<'a>,
+pub(crate) struct Exponent<'a> {
+    pub(crate) is_negative: bool,
+    pub(crate) digits: Digits<'a>,
 }
 
-/// The digits before and after the point, and the exponent.
+// The digits before and after the point, and the exponent.
 #[derive(Clone, Copy)]
-pub struct Decimal<'a> {
-    pub is_negative: bool,
-    pub front: Digits<'a>,
-    pub back: Digits<'a>,
-    pub exponent: Exponent<'a>,
+pub(crate) struct Decimal<'a> {
+    pub(crate) is_negative: bool,
+    pub(crate) front: Digits<'a>,
+    pub(crate) back: Digits<'a>,
+    pub(crate) exponent: Exponent<'a>,
 }
 
-/// Two whole numbers, the second of which is not 0.
+// Two whole numbers, the second of which is not 0.
 #[derive(Clone, Copy)]
-pub struct Quotient<'a> {
-    pub is_negative: bool,
-    pub top: Digits<'a>,
-    pub bottom: Digits<'a>,
+pub(crate) struct Quotient<'a> {
+    pub(crate) is_negative: bool,
+    pub(crate) top: Digits<'a>,
+    pub(crate) bottom: Digits<'a>,
     ghost not_zero: { 0 < number.spelled bottom.bytes.now },
 }
 
-/// A text that is of a number's shape.
+// A text that is of a number's shape.
 #[derive(Clone, Copy)]
-pub enum Parts<'a> {
+pub(crate) enum Parts<'a> {
     Decimal(Decimal<'a>),
     Quotient(Quotient<'a>),
 }
@@ -123,9 +123,9 @@ impl<'a> Parts<'a> {
     ghost use Rattle.lp_numtext.specs.Huge.{sign_of};
     ghost use Rattle.lp_numtext.specs.Seen.{parts_seen};
 
-    /// The parts of the text, if it is of a number's shape.
+    // The parts of the text, if it is of a number's shape.
     #[tactic(auto, unfolding(spec_mps::specs::NumberText::parts_of, spec_mps::specs::NumberText::unsigned_parts))]
-    pub fn parse(text: &'a [u8]) -> Option<Parts<'a>>
+    pub(crate) fn parse(text: &'a [u8]) -> Option<Parts<'a>>
         ensures { option_map parts_seen result ≡ number.parts_of text.now }
     {
         let is_negative = is_negative(text);
