@@ -5,9 +5,9 @@ ghost use Rattle.lp_base.specs.Causes.{Rose, HasCause};
 
 use crate::Failed;
 
-/// Numbers calls, from 1, and says which of them fail.
+// Numbers calls, from 1, and says which of them fail.
 #[derive(Drop)]
-pub struct Calls {
+pub(crate) struct Calls {
     fails: Vec<u64>,
     // The number of the next call, which stays at the end of its type.
     next: u64,
@@ -15,8 +15,8 @@ pub struct Calls {
 }
 
 impl Calls {
-    /// No call was made yet. Those with these numbers will fail.
-    pub fn new(fails: Vec<u64>) -> Self
+    // No call was made yet. Those with these numbers will fail.
+    pub(crate) fn new(fails: Vec<u64>) -> Self
         ensures { result ≡ record { fails = fails; next = 1; faults = 0 } }
     {
         Calls {
@@ -26,8 +26,8 @@ impl Calls {
         }
     }
 
-    /// Counts a call, which fails where it is listed.
-    pub fn begin(&mut self) -> Result<(), Failed>
+    // Counts a call, which fails where it is listed.
+    pub(crate) fn begin(&mut self) -> Result<(), Failed>
         ensures fails { self.new.fails ≡ self.old.fails }
         ensures next { self.new.next ≡ min (self.old.next + 1) (2 ^ 64 - 1) }
         ensures listed { IsErr result ↔ Contains self.old.fails.items self.old.next }
@@ -41,8 +41,8 @@ impl Calls {
         Ok(())
     }
 
-    /// Counts a fault.
-    pub fn fail(&mut self) -> Failed
+    // Counts a fault.
+    pub(crate) fn fail(&mut self) -> Failed
         ensures fails { self.new.fails ≡ self.old.fails }
         ensures next { self.new.next ≡ self.old.next }
         ensures later { self.old.faults ≤ self.new.faults }

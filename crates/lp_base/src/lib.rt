@@ -6,7 +6,6 @@
 //! | `Source`, `Sink` | where bytes come from, and where they go | src/outside |
 //! | `send` | writes all of a piece | src/outside |
 //! | `MemSource`, `MemSink` | both in memory, which fail at the calls that are listed | src/memory |
-//! | `Calls` | numbers calls, and says which of them fail | src/calls |
 //! | `Lines`, `Line` | the lines of a source, one by one | src/lines |
 //! | `Feed` | what a reader of texts answers at a line | src/feed |
 //! | `Bytes`, `Name`, `Texts` | lists of bytes, and a list of them | src/bytes |
@@ -44,7 +43,6 @@ mod report;
 mod word;
 
 pub use bytes::{Bytes, Name, Texts, are_same};
-pub use calls::Calls;
 pub use feed::Feed;
 pub use lines::{Line, LineStop, Lines};
 pub use link::Link;

@@ -10,7 +10,8 @@ ghost use Rattle.lp_base.specs.Memory.{unread, unread_pieces, next_read, failing
 ghost use Rattle.lp_base.specs.Memory.{bytes_taken, next_write, failing_writes, sink_faults};
 ghost use Rattle.lp_base.specs.Pieces.{filled, pieces_left, bytes_of, first_given, left_behind};
 
-use crate::{Calls, Failed, Sink, Source, Texts};
+use crate::calls::Calls;
+use crate::{Failed, Sink, Source, Texts};
 use std::alloc::Global;
 
 /// Gives one piece per read, cut where the buffer is shorter; empty pieces are skipped.
