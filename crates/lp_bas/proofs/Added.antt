@@ -23,6 +23,7 @@ use Rattle.std.proofs.lemmas.List.{take_more}
 use Rattle.spec_mps.specs.declared.style.Style.TheVariants.{Free}
 use Rattle.spec_mps.specs.Written.{WrittenCard, WrittenCards, cards_text, line_text}
 
+-- the text of cards and others behind them is the text of the first and then that of the others
 text-append : (cs ds : WrittenCards) → cards_text Free (cs ++ ds) ≡ cards_text Free cs ++ cards_text Free ds
 text-append cs ds = flat_map-append (λ card. line_text Free card ++ 10 ∷ []) cs ds
 
