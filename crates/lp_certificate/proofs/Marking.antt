@@ -21,28 +21,35 @@ use Rattle.lp_certificate.specs.declared.given.Given.{Given}
 use Rattle.lp_certificate.specs.Marks.{marks_of, with_mark, HasMarks, AreMarks}
 
 -- ---- names by their places
+
+-- the row at the place to which a name leads has that name
 row_named : (m : Model) (name : Name) (k : ℕ) → row_place m name ≡ Some k → (get_or m.rows k no_row).name ≡ name
 unfolding row_place
 row_named m name k e =
     same_true _ name (position-Some (λ (r : ExactRow). same r.name name) m.rows k no_row e).1
 
+-- the column at the place to which a name leads has that name
 column_named : (m : Model) (name : Name) (k : ℕ) → column_place m name ≡ Some k → (get_or m.columns k no_column).name ≡ name
 unfolding column_place
 column_named m name k e =
     same_true _ name (position-Some (λ (c : ExactColumn). same c.name name) m.columns k no_column e).1
 
+-- two names that lead to one place, by one letter, are equal
 one_name : (m : Model) (letter : Letter) (a b : Name) (k : ℕ) → place_of m letter a ≡ Some k → place_of m letter b ≡ Some k →
     a ≡ b
 one_name m X a b k e f = sym (column_named m a k e) ∙ column_named m b k f
 one_name m Y a b k e f = sym (row_named m a k e) ∙ row_named m b k f
 one_name m R a b k e f = sym (column_named m a k e) ∙ column_named m b k f
 
+-- two equal names lead, by one letter, to one place
 one_place : (m : Model) (letter : Letter) (a b : Name) (j k : ℕ) → place_of m letter a ≡ Some j → place_of m letter b ≡ Some k →
     a ≡ b → j ≡ k
 one_place m letter a b j k e f g =
     let h : Some j ≡ Some k = sym e ∙ ap (place_of m letter) g ∙ f in cc
 
 -- ---- no mark yet
+
+-- in a list of unset marks no mark is set at any place
 none_at : (n k : ℕ) → get_or (replicate n false) k false ≡ false
 none_at zero zero = refl
 none_at zero (suc k) = refl
@@ -50,10 +57,13 @@ none_at (suc n) zero = refl
 none_at (suc n) (suc k) = none_at n k
 
 -- ---- one of two tests
+
+-- where a is b and c is false, a is true just where b or c is
 either : (a b c : Bool) → a ≡ b → c ≡ false → a ≡ (b || c)
 either a true c e f = e
 either a false c e f = e ∙ sym f
 
+-- where a and c are true, a is true just where b or c is
 all_true : (a b c : Bool) → a ≡ true → c ≡ true → a ≡ (b || c)
 all_true a true c e f = e
 all_true a false c e f = e ∙ sym f
