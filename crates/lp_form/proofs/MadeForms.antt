@@ -33,6 +33,8 @@ column_more f xs j before after v put so_far is l =
     put ∙ ap₂ (λ ys y. ys ++ y ∷ []) so_far is ∙ sym (map_more f xs j no_column l)
 
 -- ---- one row more
+
+-- where a list is front and then f of each item done, pushing f of one item more keeps it so
 pushed : {A B : Type 0} (f : A → B) (front : List B) (done : List A) (a : A) (all : List B) →
     all ≡ front ++ map f done → all ++ f a ∷ [] ≡ front ++ map f (done ++ a ∷ [])
 pushed f front done a all h =
