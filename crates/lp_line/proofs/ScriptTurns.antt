@@ -44,15 +44,18 @@ use Rattle.lp_line.specs.Script.{lines_in, Begins, IsEndOf, verdict_said, judgem
 use Rattle.lp_line.specs.Stages.{NarrowRead, TextSays, CertificateSaid, certificate_step, CertificateSays}
 use Rattle.lp_line.specs.Stages as stages
 
+-- what lines say is one thing: two things that they say are equal
 same_said : {A : Type 0} (a b : A) → ◌≡◌ {A = Option A} (Some a) (Some b) → a ≡ b
 same_said a b e = cc
 
 -- ---- where all lines of a text were read, its end says the verdict
 
+-- the end of the input, in any state of a text, refuses the text as cut off
 text_cut : (form : Style) (s : State) → text.step usual_limits form s line.End ≡ Err Cut
 unfolding text.step
 text_cut form s = refl
 
+-- the lines of a text and then the end of the input say the verdict on these lines
 text_judged : (form : Style) (s : State) (n : ℕ) (lines : List (Line (List ℕ))) →
     said_by (text_step usual_limits form) (record { state = s; lines = n }) (lines ++ line.End ∷ []) ≡
     Some (verdict_said (text.judge usual_limits form s (n + 1) lines))
@@ -72,10 +75,12 @@ text_judged form s n (here ∷ lines) = by (text.step usual_limits form s here) 
     by (Ok (text.Done m)) rest = refl
     by (Err code) rest = refl
 
+-- the end of the input, in any state of a certificate, finds it unfit
 certificate_cut : (raw : Option certificate.ExactRaw) → certificate.step raw line.End ≡ progress.Unfit
 unfolding step_by
 certificate_cut raw = refl
 
+-- the lines of a certificate and then the end of the input say the judgement of these lines
 certificate_judged : (raw : Option certificate.ExactRaw) (n : ℕ) (lines : List (Line (List ℕ))) →
     said_by certificate_step (record { raw = raw; lines = n }) (lines ++ line.End ∷ []) ≡
     Some (judgement_said (certificate.judge raw (n + 1) lines))
@@ -104,6 +109,7 @@ lines_read reader = reader.lines
 abbrev lines_of_certificate : NarrowRead → ℕ
 lines_of_certificate reader = reader.lines
 
+-- where what is held fits the lines of a text, what is held behind one line more fits all of them
 text_passes : (form : Style) (lines : List (Line (List ℕ))) (held next : Body TextRead TextSaid)
     (here : Line (List ℕ)) →
     TextFits form lines held → PassesTo TextSays lines_read held here next → TextFits form (lines ++ here ∷ []) next
@@ -112,12 +118,14 @@ text_passes form lines held next here fits p = λ more answer h.
     more)
     ∙ fits (here ∷ more) answer (p.behind more answer h)
 
+-- where what is held fits the lines of a text, what the end of the input says is the verdict on them
 text_closes : (form : Style) (lines : List (Line (List ℕ))) (held : Body TextRead TextSaid) (what : TextSaid) →
     TextFits form lines held → BodySays TextSays held (line.End ∷ []) (Some what) →
     verdict_said (text.judge usual_limits form start 1 lines) ≡ what
 text_closes form lines held what fits h =
     same_said _ what (sym (text_judged form start 0 lines) ∙ fits (line.End ∷ []) (Some what) h)
 
+-- where what is held fits the lines of a certificate, what is held behind one line more fits all of them
 certificate_passes : (lines : List (Line (List ℕ)))
     (held next : Body NarrowRead CertificateSaid) (here : Line (List ℕ)) →
     CertificateFits lines held → PassesTo CertificateSays lines_of_certificate held here next →
@@ -126,6 +134,7 @@ certificate_passes lines held next here fits p = λ more answer h.
     ap (said_by certificate_step (record { raw = None; lines = 0 })) (append_assoc lines (here ∷ []) more)
     ∙ fits (here ∷ more) answer (p.behind more answer h)
 
+-- where what is held fits the lines of a certificate, what the end of the input says is their judgement
 certificate_closes : (lines : List (Line (List ℕ))) (held : Body NarrowRead CertificateSaid)
     (what : CertificateSaid) →
     CertificateFits lines held → BodySays CertificateSays held (line.End ∷ []) (Some what) →
@@ -135,6 +144,7 @@ certificate_closes lines held what fits h =
 
 -- ---- steps
 
+-- a line other than the end steps a script to what the asks say that it completes, or to the state behind it
 step_given : (addressing : Addressing) (pending : Pending) (here : Line (List ℕ)) → here ≢ line.End →
     script_step addressing pending here ≡
     behind_asks (asks_of_line addressing pending here) (pending_after_line addressing pending here)
@@ -162,6 +172,7 @@ record GoesTo (from : ScriptStage) (here : Line (List ℕ)) (next : ScriptStage)
   fits : (addressing : Addressing) (pending : Pending) → Fits addressing pending from →
       Fits addressing (pending_after_line addressing pending here) next
 
+-- a line that completes no ask and fits the next stage leads a script on to that stage
 leads_on : (from next : ScriptStage) (here : Line (List ℕ)) → here ≢ line.End → GoesTo from here next →
     lines_in next ≤ lines_in from + 1 →
     LeadsOn ScriptSays lines_in from here next
@@ -183,6 +194,7 @@ leads_to_ask from here asked what no_end asks is = λ more addressing pending fi
 
 -- ---- a line between two commands
 
+-- what holds between two commands holds of each script that fits the stage between two commands
 fit_between : (P : Addressing → Pending → Type 0) (own : Addressing) → P own Between →
     (addressing : Addressing) (pending : Pending) → Fits addressing pending (stage.Between own) → P addressing pending
 fit_between P own h addressing Between f = subst (λ (a : Addressing). P a Between) f h
@@ -216,6 +228,7 @@ commands own here addressed (step.Says what) no_end e b =
 
 -- ---- a line in the text of a model
 
+-- what holds in a text of any lines that fit what is held holds of each script that fits the stage of the text
 fit_text : (P : Addressing → Pending → Type 0) (own : ℕ) (held : Body TextRead TextSaid) →
     ((addressing : Addressing) (form : Style) (lines : List (Line (List ℕ))) → TextFits form lines held →
     P addressing (Text own form lines)) →
@@ -268,6 +281,7 @@ text_ends own held next here said ask what no_end e p closed asks is =
 
 -- ---- a line in a certificate
 
+-- what holds in a certificate of lines that fit what is held holds of each script that fits its stage
 fit_certificate : (P : Addressing → Pending →
     Type 0) (own : ℕ) (held : Body NarrowRead CertificateSaid) →
     ((addressing : Addressing) (lines : List (Line (List ℕ))) → CertificateFits lines held →
