@@ -73,6 +73,7 @@ refused_on : (run : Tableau → Run (Range ℚ)) (start : Start) →
 refused_on run (Ok t) = refl
 refused_on run (Err p) = refl
 
+-- a range that is read off the start of the code is the range that the stated start from the basis gives
 read_off : (run : Tableau → Run (Range ℚ)) (m : Model) (f : Form) (basis : List Status) (start : Start) (result : Run (Range ℚ)) →
     IsFrom m f basis start → result ≡ (start >>= run) →
     (start_from (Some number_limit) f basis >>= λ t. refused_as stops.Past (run t)) ≡ refused_as stops.Past result
