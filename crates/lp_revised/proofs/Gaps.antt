@@ -51,6 +51,8 @@ pub bound : ℕ → Entries → ℕ → ℕ
 bound m es c = cond (nat_lt c (length es)) (row_at es c) m
 
 -- ---- where an operand is 0
+
+-- a narrow number is within the limit of numbers
 within : (v : ℚ) → IsNarrow v → IsWithin number_limit v
 within v n = record { num_fits = n.top; den_fits = n.bottom }
 
@@ -65,6 +67,8 @@ less_zero_right q s n k =
     ∙ ap (told Sub s 0ℚ) (sub_right number_limit s (within s k))
 
 -- ---- where entries stand
+
+-- a place at which entries are not 0 is the place of one of the entries
 found_entry : (es : Entries) (i : ℕ) → entry_of es i ≢ 0ℚ → (c : ℕ) × (c < length es) × (row_at es c ≡ i)
 found_entry [] i n = absurd (n refl)
 found_entry (e ∷ es) i n =
@@ -156,6 +160,7 @@ pub record DoneTo (f : ℕ → Run ℚ) (b : ℕ) (start w : List ℚ) : Type 0 
 pub none_done : (f : ℕ → Run ℚ) (start : List ℚ) → DoneTo f 0 start start
 none_done f start = record { all = refl; done = refl; rest = λ i l. refl }
 
+-- where f gives the item at place b, the list stays and the run is done to b + 1
 one_still : (f : ℕ → Run ℚ) (b : ℕ) (start w : List ℚ) → DoneTo f b start w → b < length w → f b ≡ Ok (get_or w b 0ℚ) →
     DoneTo f (b + 1) start w
 one_still f b start w d l e = record {
@@ -195,6 +200,8 @@ pub whole_done : (f : ℕ → Run ℚ) (m : ℕ) (start w : List ℚ) → DoneTo
 whole_done f m start w d e = d.done ∙ ap Ok (ap (λ k. take k w) (sym (d.all ∙ e)) ∙ take-length w)
 
 -- ---- steps, of which some do nothing
+
+-- where the steps from b on leave the state as it is, b + n steps end as b steps do
 steps_still : {A : Type 0} (f : ℕ → A → Run A) (a s : A) (b n : ℕ) → steps b f a ≡ Ok s →
     ((i : ℕ) → b ≤ i → i < b + n → f i s ≡ Ok s) → steps (b + n) f a ≡ Ok s
 steps_still f a s b zero h k = ap (λ i. steps i f a) (let z : b + 0 ≡ b = omega arith in z) ∙ h

@@ -34,6 +34,7 @@ pub open_next : (columns : Columns) (v : List ℚ) (i : ℕ) → open_place colu
     open_place columns v (i + 1) ≡ None
 open_next columns v i h e = ap (open_place columns v) (add-one i) ∙ ap₂ (λ o c. or_open o i c) h e
 
+-- where p is the least open place among the first i, it is the least among the first i + n
 stays : (columns : Columns) (v : List ℚ) (i p n : ℕ) → open_place columns v i ≡ Some p →
     open_place columns v (i + n) ≡ Some p
 stays columns v i p zero h = (let z : i + 0 ≡ i = omega arith in ap (open_place columns v) z) ∙ h

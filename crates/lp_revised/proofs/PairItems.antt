@@ -19,9 +19,11 @@ use Rattle.spec_edit.proofs.Coefficients.{none_at}
 use Rattle.lp_revised.specs.Eta.{AreItems, pair_of}
 use Rattle.lp_revised.proofs.Gaps.{Entries}
 
+-- entries whose places are below n have places below n + 1
 wider : (n : ℕ) (es : Entries) → All (λ e. e.0 < n) es → All (λ e. e.0 < n + 1) es
 wider n es h = All-weaker (λ (e : ℕ × ℚ). e.0 < n) (λ e. e.0 < n + 1) (λ e l. omega (arith, l)) es h
 
+-- entries whose places are below n have no entry at n
 others : (n : ℕ) (es : Entries) → All (λ e. e.0 < n) es → All (λ e. e.0 ≢ n) es
 others n es h = All-weaker (λ (e : ℕ × ℚ). e.0 < n) (λ e. e.0 ≢ n) (λ e l z. let y : ⊥ = omega (arith, l, z) in y) es h
 
@@ -30,6 +32,7 @@ pushed_other : (es : Entries) (n i : ℕ) (v : ℚ) → n ≢ i → entry_of (es
 pushed_other [] n i v d = rw (ne_eqb n i d) refl
 pushed_other (e ∷ es) n i v d = ap (cond (nat_eq e.0 i) e.1) (pushed_other es n i v d)
 
+-- where no entry stands at place n, pushing v there makes the item at n be v
 pushed_own : (es : Entries) (n : ℕ) (v : ℚ) → All (λ e. e.0 ≢ n) es → entry_of (es ++ (n, v) ∷ []) n ≡ v
 pushed_own [] n v h = rw (eq-eqb n n refl) refl
 pushed_own (e ∷ es) n v h =

@@ -13,6 +13,7 @@ use Rattle.spec_simplex.specs.Tableau.{Tableau, form_columns}
 use Rattle.spec_factor.specs.Factors.{Pair, btran_run}
 use Rattle.spec_factor.specs.Revised.{Revised, sign_of, basic_costs, multipliers_run}
 
+-- a number is the sign of a logical column whose row starts within its limits, times that number
 one_times : (v : ℚ) → v ≡ logical_sign (Within 0ℚ) *ℚ v
 one_times v = sym (one-*ℚ v)
 
@@ -37,6 +38,7 @@ module _ (starts : List (RowStart ℚ)) (t : Tableau) (k : ℕ) (v : ℚ) where
   pub above_as_it_is : (g : ℚ) → sign_of starts t k ≡ logical_sign (Above g) → v ≡ sign_of starts t k *ℚ v
   above_as_it_is g e = one_times v ∙ ap (λ a. a *ℚ v) (sym e)
 
+-- btran of the basic costs by the state's pairs gives the multipliers of the state
 pub multipliers_are : (starts : List (RowStart ℚ)) (costs : List ℚ) (s : Revised) (places : ℕ) (pairs : List Pair)
     (list : List ℚ) (r : Run (List ℚ))
     → places ≡ s.bare.rows → pairs ≡ s.pairs → list ≡ basic_costs starts costs s.bare →
