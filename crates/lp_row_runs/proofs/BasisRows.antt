@@ -215,6 +215,8 @@ module _ {T : Type 0} (value : T → ℕ) (f : Form) (basis : List Status) (e : 
   }
 
 -- ---- the reduced costs
+
+-- reduced costs at the start from a basis are costs less each row times the cost of its basic column
 start_costs : (f : Form) (basis : List Status) (t : Tableau) → start_from None f basis ≡ Ok t → (k : ℕ) →
     k < all_columns t →
     reduced_at t k ≡ cost_at f.cost k -ℚ sum_below t.rows (λ i. cost_at f.cost (basic_at t i) *ℚ entry_at t i k)

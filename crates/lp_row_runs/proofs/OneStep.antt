@@ -104,5 +104,7 @@ module _ {T : Type 0} (value : T → ℕ) (budget used : ℕ) (t : Tableau) (r :
       record { tableau = d.tableau; reached = d.reached; shown = d.shown; ends = c.same ∙ d.ends }
 
 -- ---- the rows are whole, and as many
+
+-- two steps that keep the rows whole, and as many, keep them so together
 pub kept : {T : Type 0} (value : T → ℕ) (r s v : RowTableau T) → Keeps value r s → Keeps value s v → Keeps value r v
 kept value r s v h k = record { whole = k.whole; rows = k.rows ∙ h.rows; cols = k.cols ∙ h.cols }

@@ -112,6 +112,8 @@ inside_read value r t i n k row low low' high high' v w h s row_is k_is n_is v_i
     (inside d w.positive)))
 
 -- ---- no basic column leaves
+
+-- a value that is within its bounds is not past either of them
 not_past : (below : Bool) (l u : Option ℚ) (v c : ℚ) → IsInside l u v → IsPast (way below) l u v c → ⊥
 not_past true l u v c i p = clash_ℚ v c p.1 (subst (λ l. IfSome l (λ c. c ≤ℚ v)) p.0 i.lower)
 not_past false l u v c i p = clash_ℚ c v p.1 (subst (λ u. IfSome u (λ c. v ≤ℚ c)) p.0 i.upper)

@@ -47,6 +47,8 @@ start_without limit f t e =
     ((start_agrees limit f).same)
 
 -- ---- what is reached
+
+-- a tableau of given equations, costs and bounds, with its values within these, is one that a run reaches
 reached_of : (m n : ℕ) (f : Matrix) (cost : ℕ → ℚ) (b : Bounds) (u : Tableau) → IsTableauOf m n f cost b u →
     IsWithinBounds m n b u → IsReached u
 reached_of m n f cost b u s w =

@@ -82,6 +82,8 @@ rows_more value d i n x equations entry rows now row so_far is same e =
     })
 
 -- ---- a list of zeros
+
+-- pushing a number leaves each number before it as it was
 at-append : {T : Type 0} (value : T → ℕ) (xs : List (Signed T)) (x : Signed T) (k : ℕ) → k < length xs →
     at value (xs ++ x ∷ []) k ≡ at value xs k
 at-append value [] x k h = absurd (omega arith)

@@ -66,11 +66,13 @@ start_size limit f t start =
     let z : with_reduced (begun f o.0) p.0 ≡ t = cc in
     subst (λ t. (f.rows ≡ t.rows) × (f.cols ≡ t.cols)) z (refl, refl)
 
+-- where a form has the start t, its two phases are those from t
 phases_are : (budget : ℕ) (f : Form) (t : Tableau) → start_of None f ≡ Ok t →
     phases_run None budget f ≡ start_run budget f t
 unfolding phases_run
 phases_are budget f t h = ap (λ o. refused_as stop.Past o >>= start_run budget f) h
 
+-- the form of a model has a cost of each structural and logical column
 has_costs : (limit : Option ℕ) (m : Model) (f : Form) → form_of limit m ≡ Ok f → HasCosts f
 has_costs limit m f e = let o = form_is limit m f e in subst HasCosts o.2 (cost_length m o.0 o.1)
 
@@ -85,6 +87,8 @@ whole_ends of limit budget m f t result formed start k =
     (k (has_costs limit m f formed) (start_reached limit f t (form_proper limit m f formed) start))
 
 -- ---- with fractions in the certificate
+
+-- an end over rows, with fractions in its certificate, is the end on whole tableaus
 same_end : (end : PhasesEnd) → over_end (row_end (λ q. q) end) ≡ answer_of end
 same_end (Infeasible t used) = refl
 same_end (Finished e) =
