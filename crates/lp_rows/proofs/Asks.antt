@@ -51,10 +51,13 @@ row-is value r i row w h e =
     subst (IsRow value (width r)) (sym e) (All-get_or (IsRow value (width r)) r.rows.items i row h w.each_row)
 
 -- ---- tests of 0
+
+-- a whole number that is 0 has the magnitude 0
 whole-none : (negative : Bool) (s : ℕ) → whole negative s ≡ pos 0 → s ≡ 0
 whole-none true s e = omega (arith, ap unsigned_abs e, ints)
 whole-none false s e = omega (arith, ap unsigned_abs e)
 
+-- where n over a positive denominator is 0, n is 0
 over-none : (n : ℤ) (d : ℕ) → 0 < d → over n d ≡ 0ℚ → n ≡ pos 0
 unfolding whole_ℚ
 over-none n d p e =
@@ -62,6 +65,7 @@ over-none n d p e =
     ∙ subst (λ (x : ℚ). n *ℤ pos x.den ≡ x.num *ℤ pos d) e (over_cross n d p)
     ∙ by_ring (pos d ∷ []) (lit (pos 0) ⊗ v0) (lit (pos 0)) refl
 
+-- 0 over a positive denominator is 0
 none-over : (n : ℤ) (d : ℕ) → 0 < d → n ≡ pos 0 → over n d ≡ 0ℚ
 none-over n d p e =
     over-same n (pos 0) d 1 p (omega arith)

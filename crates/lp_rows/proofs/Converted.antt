@@ -68,12 +68,14 @@ unfolding fractions
 fractions_map value [] d = refl
 fractions_map value (x ∷ xs) d = ap (λ ys. over (whole_of value x) d ∷ ys) (fractions_map value xs d)
 
+-- a list of numbers on a denominator has as many fractions as numbers
 length-fractions : {T : Type 0} (value : T → ℕ) (xs : List (Signed T)) (d : ℕ) →
     length (fractions value xs d) ≡ length xs
 unfolding fractions
 length-fractions value [] d = refl
 length-fractions value (x ∷ xs) d = omega (arith, length-fractions value xs d)
 
+-- the fractions of a list with a number pushed are those of the list, and then the number's
 fractions_more : {T : Type 0} (value : T → ℕ) (xs : List (Signed T)) (x : Signed T) (d : ℕ) →
     fractions value (xs ++ x ∷ []) d ≡ fractions value xs d ++ over (whole_of value x) d ∷ []
 unfolding fractions

@@ -39,10 +39,13 @@ now_written value f old new row m size r l n =
     subst (λ xs. AreNow value f (length old) xs m) (sym (written size new old (n.len ∙ sym (ap length r) ∙ l))) n
 
 -- ---- over an entry
+
+-- 1 is not 0
 one_is_not_zero : 1ℚ ≢ 0ℚ
 unfolding whole_ℚ
 one_is_not_zero e = absurd (omega (arith, ap (λ (q : ℚ). unsigned_abs q.num) e))
 
+-- a number whose product with some other is 1 is not 0
 not_zero : (y z : ℚ) → y *ℚ z ≡ 1ℚ → y ≢ 0ℚ
 not_zero y z e h =
     one_is_not_zero (sym e ∙ ap (λ u. u *ℚ z) h ∙ *ℚ_comm 0ℚ z ∙ *ℚ_zero z)
@@ -56,11 +59,13 @@ by_inverse x y z e =
     ∙ ap (λ u. x *ℚ inverse y *ℚ u) e
     ∙ *ℚ_one (x *ℚ inverse y)
 
+-- s with a sign, times d turned by that sign, is d * s
 turned_square : (b : Bool) (d s : ℕ) → whole b s *ℤ turned_if b (pos d) *ℤ pos 1 ≡ pos 1 *ℤ pos (d * s)
 turned_square true d s =
     by_ring (pos s ∷ pos d ∷ []) (minus v0 ⊗ minus v1 ⊗ lit (pos 1)) (lit (pos 1) ⊗ (v1 ⊗ v0)) refl
 turned_square false d s = by_ring (pos s ∷ pos d ∷ []) (v0 ⊗ v1 ⊗ lit (pos 1)) (lit (pos 1) ⊗ (v1 ⊗ v0)) refl
 
+-- n turned by a sign, times d * s, is n times d turned by that sign, times s
 turned_cross : (b : Bool) (n : ℤ) (d s : ℕ) → turned_if b n *ℤ pos (d * s) ≡ n *ℤ turned_if b (pos d) *ℤ pos s
 turned_cross true n d s = by_ring (n ∷ pos d ∷ pos s ∷ []) (minus v0 ⊗ (v1 ⊗ v2)) (v0 ⊗ minus v1 ⊗ v2) refl
 turned_cross false n d s = by_ring (n ∷ pos d ∷ pos s ∷ []) (v0 ⊗ (v1 ⊗ v2)) (v0 ⊗ v1 ⊗ v2) refl

@@ -38,6 +38,8 @@ none_behind t n (suc d) h f =
     (none_behind t n d h (λ k l i. f k l (omega (arith, i)))) (f (n + d) (omega arith) (omega arith))
 
 -- ---- by the sign
+
+-- the way of a column by the sign of its reduced cost is the way by the reduced cost
 way_is : (s : Status) (d : ℚ) (o : Ordering) → o ≡ sign d → way_of s o ≡ way_by s d
 way_is Basic d o e = refl
 way_is AtLower d o e = by o ∙ ap (λ a. cond a (Some true) None) (below_zero d o e)

@@ -22,18 +22,22 @@ use Rattle.lp_rows.specs.Held.{HoldsParts}
 use Rattle.lp_rows.proofs.GrowingRows.{made_of}
 
 -- ---- where columns stand that are not basic
+
+-- the value of a column that is not basic, and stands where its status says, is the bound its status names
 stands_so : (s : Status) (l u : Option ℚ) (v : ℚ) → s ≢ Basic → Stands s l u v → v ≡ stand s l u
 stands_so Basic l u v n h = absurd (n refl)
 stands_so AtLower l u v n h = sym (ap or_zero h)
 stands_so AtUpper l u v n h = sym (ap or_zero h)
 stands_so AtZero l u v n h = h.2
 
+-- a column with the bounds 0 and 0 is at 0, whatever its status
 stand_none : (s : Status) → stand s (Some 0ℚ) (Some 0ℚ) ≡ 0ℚ
 stand_none Basic = refl
 stand_none AtLower = refl
 stand_none AtUpper = refl
 stand_none AtZero = refl
 
+-- in a tableau that a run reaches, each nonbasic column has the value of the bound its status names
 reached_stands : (t : Tableau) → IsReached t → (k : ℕ) → k < all_columns t → status_at t k ≢ Basic →
     value_at t k ≡ stand (status_at t k) (lower_at t k) (upper_at t k)
 reached_stands t r k l n =

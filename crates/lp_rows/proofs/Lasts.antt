@@ -35,10 +35,12 @@ over_none e p =
     (by_ring (pos e ∷ []) (lit (pos 0) ⊗ lit (pos 1)) (lit (pos 0) ⊗ v0) refl)
     ∙ sym (whole_over (pos 0))
 
+-- n * e over e is the whole number n
 over-whole : (n : ℤ) (e : ℕ) → 0 < e → over (n *ℤ pos e) e ≡ over n 1
 over-whole n e p =
     over-same (n *ℤ pos e) n e 1 p (omega arith) (by_ring (n ∷ pos e ∷ []) (v0 ⊗ v1 ⊗ lit (pos 1)) (v0 ⊗ v1) refl)
 
+-- n * m over e is n / e times m
 over-product : (n m : ℤ) (e : ℕ) → 0 < e → over (n *ℤ m) e ≡ over n e *ℚ over m 1
 over-product n m e p = ap (over (n *ℤ m)) (sym (mul-one e)) ∙ sym (over-* n m e 1 p (omega arith))
 

@@ -24,6 +24,7 @@ zero_is n d e f = ap₂ (λ n d. over (pos n) d) e f ∙ sym (whole_over (pos 0)
 pub one_is : (n d : ℕ) → n ≡ 1 → d ≡ 1 → over (pos n) d ≡ 1ℚ
 one_is n d e f = ap₂ (λ n d. over (pos n) d) e f ∙ sym (whole_over (pos 1))
 
+-- a magnitude with the other sign makes the negative of the whole number
 turned : (negative : Bool) (n : ℕ) → whole (not negative) n ≡ neg_ℤ (whole negative n)
 turned true n = by_ring (pos n ∷ []) v0 (minus (minus v0)) refl
 turned false n = refl

@@ -47,6 +47,7 @@ moves_by n v a c x y theta e h l d =
     second : (x a theta i : ℚ) → (x -ℚ (x -ℚ a *ℚ theta)) *ℚ i ≡ theta *ℚ (a *ℚ i)
     second x a theta i = simp ring
 
+-- v + r * s is s * r + v
 onward : (v s r : ℚ) → v +ℚ r *ℚ s ≡ s *ℚ r +ℚ v
 onward v s r = simp ring
 

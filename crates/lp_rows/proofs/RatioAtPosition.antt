@@ -56,6 +56,8 @@ by_some None P Q f h = h
 by_some (Some a) P Q f h = f a h
 
 -- ---- an entry of 0
+
+-- where the magnitude of an entry is 0, the comparison of the entry with 0 says equal, turned or not
 no_sign : (up b : Bool) (size : ℕ) → size ≡ 0 → Equal ≡ int_cmp (turned_if (not up) (whole b size)) (pos 0)
 no_sign up b size e =
     subst (λ n. Equal ≡ int_cmp (turned_if (not up) (whole b n)) (pos 0)) (sym e) (by up b)

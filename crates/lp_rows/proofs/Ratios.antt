@@ -33,11 +33,13 @@ use Rattle.lp_rows.specs.Ratio.{gap_by}
 use Rattle.lp_rows.proofs.Cleared.{over_neg}
 use Rattle.lp_rows.proofs.Divided.{by_inverse}
 
+-- a natural number over a positive denominator is at least 0
 not_below : (s e : ℕ) → 0 < e → 0ℚ ≤ℚ over (pos s) e
 not_below s e p =
     subst (λ z. z ≤ℚ over (pos s) e) (sym (whole_over (pos 0)))
     (≤ℚ-over (pos 0) (pos s) 1 e (omega arith) p (omega (arith, ints)))
 
+-- the magnitude of a number with a sign, over a positive denominator, is its magnitude over the denominator
 abs_over : (b : Bool) (s e : ℕ) → 0 < e → abs_ℚ (over (whole b s) e) ≡ over (pos s) e
 abs_over false s e p = abs_above (over (pos s) e) (not_below s e p)
 abs_over true s e p =

@@ -65,6 +65,8 @@ entry_is value r t i j row s l m g =
     ∙ sym (s.entries i j (omega (arith, l, s.rows)) (omega (arith, m, s.rows, s.cols)))
 
 -- ---- how a column moves
+
+-- where rows show a tableau, the basic column that is read at position i is the tableau's
 basic_is : {T : Type 0} (value : T → ℕ) (r : RowTableau T) (t : Tableau) (i b : ℕ) → Shows value r t →
     IsWhole value r → i < height r → b ≡ get_or r.basic.items i b → basic_at t i ≡ b
 basic_is value r t i b s w l g =

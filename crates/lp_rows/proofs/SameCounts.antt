@@ -39,6 +39,7 @@ whole_on n d p =
     once : (d : ℕ) → 1 * d ≡ d
     once d = omega arith
 
+-- n over d, turned as the column moves, is n turned so over d
 directed_on : (up : Bool) (n : ℤ) (d : ℕ) → 0 < d → over (turned_if (not up) n) d ≡ directed up (over n d)
 directed_on true n d p = refl
 directed_on false n d p = over_neg n d p

@@ -21,17 +21,21 @@ pub of_some : {A : Type 0} (P : A → Type 0) (o : Option A) (a : A) → o ≡ S
 of_some P o a e h = subst (λ o. IfSome o P) e h
 
 -- ---- by the whole numbers alone
+
+-- the fractions of numbers on d are their whole numbers, each over d
 fractions_wholes : {T : Type 0} (value : T → ℕ) (xs : List (Signed T)) (d : ℕ) →
     fractions value xs d ≡ map (λ z. over z d) (wholes value xs)
 unfolding fractions
 fractions_wholes value [] d = refl
 fractions_wholes value (x ∷ xs) d = ap (λ ys. over (whole_of value x) d ∷ ys) (fractions_wholes value xs d)
 
+-- the entry of row i in column k, of rows of whole numbers with a denominator each that d multiplies; else 0
 row_in : ℕ → List (List ℤ × ℕ) → ℕ → ℕ → ℚ
 row_in d [] i k = 0ℚ
 row_in d (r ∷ rows) zero k = get_or (map (λ z. over z (d * r.1)) r.0) k 0ℚ
 row_in d (r ∷ rows) (suc i) k = row_in d rows i k
 
+-- the entry of row i in column k depends on the whole numbers and denominators of the rows alone
 row_at-in : {T : Type 0} (value : T → ℕ) (d : ℕ) (rows : List (Row T)) (i k : ℕ) →
     row_at value d rows i k ≡ row_in d (map (whole_row value) rows) i k
 unfolding row_in
@@ -40,11 +44,13 @@ row_at-in value d (r ∷ rows) zero k =
     ap (λ xs. get_or xs k 0ℚ) (fractions_wholes value r.numbers.items (d * value r.denominator))
 row_at-in value d (r ∷ rows) (suc i) k = row_at-in value d rows i k
 
+-- a bound on d is its whole number over d, where there is a bound
 bound_in : {T : Type 0} (value : T → ℕ) (d : ℕ) (o : Option (Signed T)) →
     bound_of value d o ≡ option_map (λ z. over z d) (option_map (whole_of value) o)
 bound_in value d None = refl
 bound_in value d (Some b) = refl
 
+-- the bound of column k on d is the whole number of bound k over d, where there is a bound
 bound_at-in : {T : Type 0} (value : T → ℕ) (d : ℕ) (xs : List (Option (Signed T))) (k : ℕ) →
     bound_of value d (get_or xs k None) ≡ option_map (λ z. over z d) (get_or (whole_bounds value xs) k None)
 bound_at-in value d xs k =

@@ -26,6 +26,8 @@ use Rattle.lp_rows.specs.Second.{fraction_of, IsPricedRow, AreZeroed, IsBegun}
 use Rattle.lp_rows.proofs.Taken.{stated_costs}
 
 -- ---- a list of bounds
+
+-- a bound of magnitude 0 on a positive denominator is 0
 zero_is : {T : Type 0} (value : T → ℕ) (x : T) (d : ℕ) → value x ≡ 0 → 0 < d →
     bound_of value d (Some (record { negative = false; size = x })) ≡ Some 0ℚ
 zero_is value x d e p =
@@ -34,6 +36,7 @@ zero_is value x d e p =
     (by_ring (pos d ∷ []) (lit (pos 0) ⊗ lit (pos 1)) (lit (pos 0) ⊗ v0) refl)
     ∙ sym (whole_over (pos 0)))
 
+-- where the bounds from n to k are 0, and bound k is set to 0, those from n to k + 1 are 0
 pub zeroed_more : {T : Type 0} (value : T → ℕ) (n k : ℕ) (old new : List (Option (Signed T))) (x : T) → n ≤ k →
     k < length new → value x ≡ 0 → AreZeroed value n k old new →
     AreZeroed value n (k + 1) old (set new k (Some (record { negative = false; size = x })))

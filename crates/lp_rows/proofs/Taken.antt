@@ -32,6 +32,7 @@ use Rattle.lp_rows.proofs.Asks.{row-at}
 pub nothing_off : (a b : ℚ) → a ≡ a -ℚ 0ℚ *ℚ b
 nothing_off a b = simp (*ℚ_comm 0ℚ b, *ℚ_zero b, ring)
 
+-- the cost of a column below n is the row's fraction in that column
 cost_there : {T : Type 0} (value : T → ℕ) (n : ℕ) (row : Row T) (k : ℕ) → k < n →
     cost_in value n row k ≡ fraction_of value row k
 cost_there value n row k h = ap (λ c. cond c (fraction_of value row k) 0ℚ) (less k n h)
@@ -39,6 +40,7 @@ cost_there value n row k h = ap (λ c. cond c (fraction_of value row k) 0ℚ) (l
     less : (k n : ℕ) → k < n → nat_lt k n ≡ true
     less k n h = grind (arith, h)
 
+-- the cost of a column from n on is 0
 cost_past : {T : Type 0} (value : T → ℕ) (n : ℕ) (row : Row T) (k : ℕ) → n ≤ k → cost_in value n row k ≡ 0ℚ
 cost_past value n row k h = ap (λ c. cond c (fraction_of value row k) 0ℚ) (not_less k n h)
   where
