@@ -18,6 +18,8 @@ use Rattle.spec_runs.proofs.FlippedStatuses.{IsFlip, flip_shape}
 use Rattle.lp_simplex.specs.Starts.{HasPlace, IsSeated}
 
 -- ---- one flip
+
+-- the status at the other bound is not that of a basic column
 goes_to_bound : (up : Bool) → other_bound up ≢ Basic
 goes_to_bound true e = let z : AtUpper ≡ Basic = e in cc
 goes_to_bound false e = let z : AtLower ≡ Basic = e in cc

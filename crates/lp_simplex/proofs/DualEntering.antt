@@ -24,6 +24,7 @@ no_way AtLower = refl
 no_way AtUpper = refl
 no_way AtZero = refl
 
+-- a column that goes some way in the dual ratio test has an entry other than 0
 has_entry : (b below : Bool) (s : Status) (a : ℚ) (up : Bool) → cond b None (way_by s (directed below a)) ≡ Some up →
     a ≢ 0ℚ
 has_entry true below s a up h e = let z : None ≡ Some up = h in cc

@@ -16,6 +16,7 @@ pub record MayEnter (t : Tableau) (n : ℕ) (e : Entering) : Type 0 where
   pub inside : e.col < n
   pub way : way_at t e.col ≡ Some e.up
 
+-- the entering column of the first n may enter in the direction that is named
 may_enter_below : (t : Tableau) (n : ℕ) (x : Entering) → entering_below t n ≡ Some x → MayEnter t n x
 may_enter_below t zero x h = let z : None ≡ Some x = h in cc
 may_enter_below t (suc n) x h = by (entering_below t n) (way_at t n) refl refl h (λ p. may_enter_below t n x p)

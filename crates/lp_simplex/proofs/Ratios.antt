@@ -39,6 +39,7 @@ pub directed_zero : (up : Bool) (a : ℚ) → a ≡ 0ℚ → directed up a ≡ 0
 directed_zero true a e = e
 directed_zero false a e = ap neg_ℚ e ∙ neg-zero
 
+-- turning the first factor of a product as the column moves is turning the second
 directed_times : (up : Bool) (r a : ℚ) → directed up r *ℚ a ≡ r *ℚ directed up a
 directed_times true r a = refl
 directed_times false r a = neg-*ℚ r a ∙ sym (*ℚ-neg r a)
@@ -55,6 +56,7 @@ abs_not_zero a n = by (int_lt a.num (pos 0))
 up_to : (v u r d : ℚ) → r *ℚ neg_ℚ d ≡ u -ℚ v → v -ℚ r *ℚ d ≡ u
 up_to v u r d h = ap (λ x. v +ℚ x) (sym (*ℚ-neg r d) ∙ h) ∙ simp ring
 
+-- where r * d is v - l, v less r * d is l
 down_to : (v l r d : ℚ) → r *ℚ d ≡ v -ℚ l → v -ℚ r *ℚ d ≡ l
 down_to v l r d h = ap (λ x. v -ℚ x) h ∙ simp ring
 
@@ -63,9 +65,11 @@ pub record IsGap (up : Bool) (a : ℚ) (lower upper : Option ℚ) (v gap : ℚ) 
   pub entry : a ≢ 0ℚ
   pub lands : (r : ℚ) → r *ℚ abs_ℚ a ≡ gap → NamesBound to lower upper (v -ℚ directed up r *ℚ a)
 
+-- a value less r, turned as the column moves, times a, is the value less r times a turned so
 moved_is : (up : Bool) (v r a : ℚ) → v -ℚ directed up r *ℚ a ≡ v -ℚ r *ℚ directed up a
 moved_is up v r a = ap (λ x. v -ℚ x) (directed_times up r a)
 
+-- where a basic value rises, its distance to an upper bound is a gap: the move by the ratio lands at the bound
 rises : (limit : Option ℕ) (up : Bool) (a : ℚ) (lower upper : Option ℚ) (v gap : ℚ) (to : Status) →
     directed up a <ℚ 0ℚ → rise_run limit upper v ≡ Ok (Some (gap, to)) → IsGap up a lower upper v gap to
 rises limit up a lower None v gap to d h = cc
@@ -87,6 +91,7 @@ rises limit up a lower (Some u) v gap to d h =
               (ap (λ x. r *ℚ x) (sym (abs_falling up a d)) ∙ k ∙ sym same ∙ difference_ok limit u v g e)));
         })
 
+-- where a basic value falls, its distance to a lower bound is a gap: the move by the ratio lands at the bound
 falls : (limit : Option ℕ) (up : Bool) (a : ℚ) (lower upper : Option ℚ) (v gap : ℚ) (to : Status) →
     0ℚ <ℚ directed up a → fall_run limit lower v ≡ Ok (Some (gap, to)) → IsGap up a lower upper v gap to
 falls limit up a None upper v gap to d h = cc

@@ -21,6 +21,8 @@ use Rattle.lp_simplex.proofs.Ratios.{quotient_ok}
 use Rattle.lp_simplex.specs.Starts.{HasPlace, IsSeated, CanEnter}
 
 -- ---- it may be made
+
+-- where a status names a bound at v, it names the bound at which a column of that status stands
 stands_there : (to : Status) (lower upper : Option ℚ) (v : ℚ) → NamesBound to lower upper v →
     NamesBound to lower upper (stand to lower upper)
 stands_there Basic lower upper v h = h
@@ -54,6 +56,8 @@ can_pivot limit t p j to gap theta c g q = record {
         ∙ less (value_at t (basic_at t p)) (stand to (lower_at t (basic_at t p)) (upper_at t (basic_at t p)))
 
 -- ---- what it leaves
+
+-- a status that names a bound is not that of a basic column
 names_no_basic : (to : Status) (lower upper : Option ℚ) (v : ℚ) → NamesBound to lower upper v → to ≢ Basic
 names_no_basic Basic lower upper v h e = h
 names_no_basic AtLower lower upper v h e = cc
