@@ -35,6 +35,7 @@ use Rattle.lp_tableau.specs.Based.{AreInside, StopsAt, based_run, stand_in}
 abbrev width_of : Form → ℕ
 width_of f = f.cols + f.rows + f.rows
 
+-- m equal items behind n items make n + m items
 more_by : {A : Type 0} (xs : List A) (n m : ℕ) (x : A) → length xs ≡ n → length (xs ++ replicate m x) ≡ n + m
 more_by xs n m x e = omega (arith, length-append xs (replicate m x), length-replicate m x, e)
 

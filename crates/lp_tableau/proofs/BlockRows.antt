@@ -29,6 +29,7 @@ pub length-rows_of : (n m : ℕ) (xs : List ℚ) → length (rows_of n m xs) ≡
 length-rows_of n zero xs = refl
 length-rows_of n (suc m) xs = ap suc (length-rows_of n m (drop n xs))
 
+-- the n places of row 0 and those of i rows more are the places of i + 1 rows
 next_at : (n i : ℕ) → n + i * n ≡ suc i * n
 next_at n i = omega (arith, suc-mul i n)
 
@@ -110,15 +111,19 @@ module _ (n m i k : ℕ) (xs : List ℚ) (rows : List (List ℚ)) (e : rows_of n
   set_is v = set-rows_of n m i k xs v row column_in ∙ ap (λ rows. set rows i (set (get_or rows i []) k v)) e
 
 -- ---- fractions within the limit
+
+-- 0 is within the limit of numbers
 zero_within : IsWithin number_limit 0ℚ
 unfolding whole
 zero_within = record { num_fits = omega arith; den_fits = omega arith }
 
+-- where all items of a list are within the limit, so is what is read at any place of it
 within_item : (xs : List ℚ) (k : ℕ) → All (IsWithin number_limit) xs → IsWithin number_limit (get_or xs k 0ℚ)
 within_item xs k h =
     ⊎_elim (λ l. All-get_or (IsWithin number_limit) xs k 0ℚ l h)
     (λ g. subst (IsWithin number_limit) (sym (get_or_past xs k 0ℚ g)) zero_within) (cases_lt k (length xs))
 
+-- where all items of a block are within the limit, so is the entry of any row in any column
 within_rows : (n m : ℕ) (xs : List ℚ) (i k : ℕ) → All (IsWithin number_limit) xs →
     IsWithin number_limit (at_place (rows_of n m xs) i k)
 within_rows n zero xs i k h = within_item [] k (λ j d l. absurd (omega (arith, l)))

@@ -41,6 +41,7 @@ pub record IsDone (k : ℕ) (f : ℕ → Run ℚ) (old new : List ℚ) : Type 0 
 pub none_done : (f : ℕ → Run ℚ) (old : List ℚ) → IsDone 0 f old old
 none_done f old = record { done = refl; rest = refl; len = refl }
 
+-- lists that are equal behind their first k items are equal behind their first k + 1
 drop_one_more : (k : ℕ) (xs ys : List ℚ) → drop k xs ≡ drop k ys → drop (k + 1) xs ≡ drop (k + 1) ys
 drop_one_more k xs ys e = sym (drop-drop 1 k xs) ∙ ap (drop 1) e ∙ drop-drop 1 k ys
 

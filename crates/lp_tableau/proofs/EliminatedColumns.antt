@@ -32,6 +32,8 @@ use Rattle.lp_tableau.specs.Grid.{IsGrid}
 use Rattle.lp_tableau.specs.Based.{AreInside, StopsAt}
 
 -- ---- the least open position
+
+-- where p is the least open position among the first n, it is the least among the first n + d
 stays : (e : Elimination) (j n d p : ℕ) → open_below e j n ≡ Some p → open_below e j (n + d) ≡ Some p
 stays e j n zero p h = (let z : n + 0 ≡ n = omega arith in ap (open_below e j) z) ∙ h
 stays e j n (suc d) p h =
@@ -48,6 +50,7 @@ open_at e j k n h l g =
     let z : suc k + (n - suc k) ≡ n = omega arith in
     subst (λ i. open_below e j i ≡ Some k) z (stays e j (suc k) (n - suc k) k (ap₂ (λ o b. or_place o k b) h g))
 
+-- where the test of a and not b holds, b is false
 both : (a b : Bool) → a && not b ≡ true → b ≡ false
 both true true h = let z : false ≡ true = h in cc
 both true false h = refl
@@ -95,6 +98,7 @@ pub record Solving (limit : Option ℕ) (f : Form) (basis : List Status)
   pub places : length basic ≡ f.rows
   pub inside : AreInside (f.cols + f.rows + f.rows) basic
 
+-- where no position has a column, each column that a position has is below n
 none_inside : (n m : ℕ) → AreInside n (replicate m None)
 none_inside n zero = All-nil (λ (o : Option ℕ). IfSome o (λ k. k < n))
 none_inside n (suc m) = All-cons (λ (o : Option ℕ). IfSome o (λ k. k < n)) None (replicate m None) tt (none_inside n m)

@@ -46,6 +46,7 @@ pub record HoldsPart (f : Form) (j : ℕ) (entries : List (ℕ × ℚ)) (rows : 
   pub column : (i : ℕ) → i < f.rows → at_place rows i j ≡ entry_of entries i
   pub rest : (i k : ℕ) → i < f.rows → j < k → k < f.cols → at_place rows i k ≡ 0ℚ
 
+-- rows that have these entries of column j have one entry more where v is written in row r
 one_put : (f : Form) (j : ℕ) (entries : List (ℕ × ℚ)) (rows : List (List ℚ)) (r : ℕ) (v : ℚ) → j < f.cols →
     r < f.rows → HoldsPart f j entries rows → HoldsPart f j ((r, v) ∷ entries) (with_item rows r j v)
 one_put f j entries rows r v l h o =

@@ -21,6 +21,8 @@ use Rattle.lp_tableau.specs.Twins.{signed}
 use Rattle.spec_exact.specs.Run.{Run, ◌>>=◌, product_run, difference_run, quotient_run, less_product}
 
 -- ---- products
+
+-- the magnitude of a product's numerator is that of the product of the reduced magnitudes
 product_size : (a : ℤ) (b : ℕ) (c : ℤ) (d : ℕ) →
     unsigned_abs (product_num a b c d)
     ≡ unsigned_abs a / gcd (unsigned_abs a) d * (unsigned_abs c / gcd (unsigned_abs c) b)
@@ -31,10 +33,12 @@ product_size a b c d =
 abbrev size_fits : Option ℕ → ℕ → ℕ → ℕ → ℕ → Bool
 size_fits limit a b c d = fits limit (a / gcd a d * (c / gcd c b)) && fits limit (b / gcd c b * (d / gcd a d))
 
+-- the denominators and the magnitudes of the numerators tell whether a product fits the limit
 fits_by_size : (limit : Option ℕ) (a : ℤ) (b : ℕ) (c : ℤ) (d : ℕ) →
     product_fits limit a b c d ≡ size_fits limit (unsigned_abs a) b (unsigned_abs c) d
 fits_by_size limit a b c d = ap (λ (n : ℕ). fits limit n && fits limit (product_den a b c d)) (product_size a b c d)
 
+-- a product at a limit is the exact product where its parts fit the limit, and none elsewhere
 mul_is : (limit : Option ℕ) (v w : ℚ) →
     mul limit v w ≡ cond (size_fits limit (unsigned_abs v.num) v.den (unsigned_abs w.num) w.den) (Some (v *ℚ w)) None
 unfolding mul
@@ -46,10 +50,12 @@ abbrev negated : Option ℚ → Option ℚ
 negated None = None
 negated (Some x) = Some (neg_ℚ x)
 
+-- negating what is x where a test holds gives the negative of x where it holds
 negated_cond : (t : Bool) (x : ℚ) → negated (cond t (Some x) None) ≡ cond t (Some (neg_ℚ x)) None
 negated_cond true x = refl
 negated_cond false x = refl
 
+-- a number times the negative of w is the negative of its product with w, and refused where that one is
 mul_right_neg : (limit : Option ℕ) (v w : ℚ) → mul limit v (neg_ℚ w) ≡ negated (mul limit v w)
 unfolding neg_ℚ
 mul_right_neg limit v w =
@@ -58,6 +64,7 @@ mul_right_neg limit v w =
     (abs-neg_ℤ w.num) (*ℚ-neg v w)
     ∙ sym (negated_cond _ (v *ℚ w)) ∙ ap negated (sym (mul_is limit v w))
 
+-- the negative of v times a number is the negative of v's product with it, and refused where that one is
 mul_left_neg : (limit : Option ℕ) (v w : ℚ) → mul limit (neg_ℚ v) w ≡ negated (mul limit v w)
 unfolding neg_ℚ
 mul_left_neg limit v w =
@@ -71,14 +78,17 @@ abbrev sum_sizes : Option ℕ → ℕ → ℕ → ℕ → ℕ → ℕ → Bool
 sum_sizes limit l r s b d =
     fits limit l && fits limit r && fits limit s && fits limit (b / gcd b d * (d / gcd s (gcd b d)))
 
+-- the denominators and the magnitudes of the addends and of their sum tell whether a sum fits the limit
 sum_fits_by : (limit : Option ℕ) (a : ℤ) (b : ℕ) (c : ℤ) (d : ℕ) →
     sum_fits limit a b c d ≡ sum_sizes limit (unsigned_abs (left_num a b c d))
     (unsigned_abs (right_num a b c d)) (unsigned_abs (whole_sum a b c d)) b d
 sum_fits_by limit a b c d = refl
 
+-- a whole number's negative, times k, has the magnitude of the number times k
 left_neg : (a : ℤ) (k : ℕ) → unsigned_abs (neg_ℤ a *ℤ pos k) ≡ unsigned_abs (a *ℤ pos k)
 left_neg a k = unsigned_abs-mul (neg_ℤ a) (pos k) ∙ ap (λ n. n * k) (abs-neg_ℤ a) ∙ sym (unsigned_abs-mul a (pos k))
 
+-- the sum of two products has the magnitude of the sum with both of their first factors negated
 whole_neg : (a c : ℤ) (m k : ℕ) →
     unsigned_abs (neg_ℤ a *ℤ pos m +ℤ neg_ℤ c *ℤ pos k) ≡ unsigned_abs (a *ℤ pos m +ℤ c *ℤ pos k)
 whole_neg a c m k =
@@ -86,6 +96,7 @@ whole_neg a c m k =
     (by_ring (a ∷ c ∷ pos m ∷ pos k ∷ []) (minus v0 ⊗ v2 ⊕ minus v1 ⊗ v3) (minus (v0 ⊗ v2 ⊕ v1 ⊗ v3)) refl)
     ∙ abs-neg_ℤ (a *ℤ pos m +ℤ c *ℤ pos k)
 
+-- a sum with both addends negated fits the limit just where the sum fits
 sum_fits_neg : (limit : Option ℕ) (a : ℤ) (b : ℕ) (c : ℤ) (d : ℕ) →
     sum_fits limit (neg_ℤ a) b (neg_ℤ c) d ≡ sum_fits limit a b c d
 sum_fits_neg limit a b c d =
@@ -95,11 +106,13 @@ sum_fits_neg limit a b c d =
     ∙ ap (λ (s : ℕ). sum_sizes limit (unsigned_abs (left_num a b c d)) (unsigned_abs (right_num a b c d)) s b d)
     (whole_neg a c (d / gcd b d) (b / gcd b d))
 
+-- a sum at a limit is the exact sum where its parts fit the limit, and none elsewhere
 add_is : (limit : Option ℕ) (v w : ℚ) →
     add limit v w ≡ cond (sum_fits limit v.num v.den w.num w.den) (Some (v +ℚ w)) None
 unfolding add
 add_is limit v w = ap (λ (x : ℚ). cond (sum_fits limit v.num v.den w.num w.den) (Some x) None) (sum_exact v w)
 
+-- the sum of two negatives is the negative of the sum, and refused where the sum is
 add_neg : (limit : Option ℕ) (v w : ℚ) → add limit (neg_ℚ v) (neg_ℚ w) ≡ negated (add limit v w)
 unfolding neg_ℚ
 add_neg limit v w =
@@ -107,35 +120,43 @@ add_neg limit v w =
     ∙ ap₂ (λ (t : Bool) (x : ℚ). cond t (Some x) None) (sum_fits_neg limit v.num v.den w.num w.den) (sym (neg-+ℚ v w))
     ∙ sym (negated_cond _ (v +ℚ w)) ∙ ap negated (sym (add_is limit v w))
 
+-- the difference of two negatives is the negative of the difference, and refused where the difference is
 sub_neg : (limit : Option ℕ) (v w : ℚ) → sub limit (neg_ℚ v) (neg_ℚ w) ≡ negated (sub limit v w)
 unfolding sub
 sub_neg limit v w = add_neg limit v (neg_ℚ w)
 
+-- the negative of v divided by w is the negative of v / w, and refused where v / w is
 div_neg : (limit : Option ℕ) (v w : ℚ) → div limit (neg_ℚ v) w ≡ negated (div limit v w)
 unfolding div
 div_neg limit v w = mul_left_neg limit v (inverse w)
 
 -- ---- runs
+
+-- where an operation with a result gives z, the one with the negated result gives the negative of z
 told_neg : (op : Op) (v w x y : ℚ) (o : Option ℚ) (z : ℚ) → told op v w o ≡ Ok z →
     told op x y (negated o) ≡ Ok (neg_ℚ z)
 told_neg op v w x y (Some u) z e = let f : u ≡ z = cc in ap (λ (q : ℚ). Ok (neg_ℚ q)) f
 told_neg op v w x y None z e = cc
 
+-- where v / w gives z, the negative of v divided by w gives the negative of z
 quotient_neg : (limit : Option ℕ) (v w z : ℚ) → quotient_run limit v w ≡ Ok z →
     quotient_run limit (neg_ℚ v) w ≡ Ok (neg_ℚ z)
 quotient_neg limit v w z e =
     ap (told Div (neg_ℚ v) w) (div_neg limit v w) ∙ told_neg Div v w (neg_ℚ v) w (div limit v w) z e
 
+-- where v * w gives z, v times the negative of w gives the negative of z
 product_neg : (limit : Option ℕ) (v w z : ℚ) → product_run limit v w ≡ Ok z →
     product_run limit v (neg_ℚ w) ≡ Ok (neg_ℚ z)
 product_neg limit v w z e =
     ap (told Mul v (neg_ℚ w)) (mul_right_neg limit v w) ∙ told_neg Mul v w v (neg_ℚ w) (mul limit v w) z e
 
+-- where v - w gives z, the difference of their negatives gives the negative of z
 difference_neg : (limit : Option ℕ) (v w z : ℚ) → difference_run limit v w ≡ Ok z →
     difference_run limit (neg_ℚ v) (neg_ℚ w) ≡ Ok (neg_ℚ z)
 difference_neg limit v w z e =
     ap (told Sub (neg_ℚ v) (neg_ℚ w)) (sub_neg limit v w) ∙ told_neg Sub v w (neg_ℚ v) (neg_ℚ w) (sub limit v w) z e
 
+-- where s - v * w gives z, with w and s negated it gives the negative of z
 less_neg : (limit : Option ℕ) (v w s z : ℚ) → less_product limit v w s ≡ Ok z →
     less_product limit v (neg_ℚ w) (neg_ℚ s) ≡ Ok (neg_ℚ z)
 less_neg limit v w s z e = by (product_run limit v w) refl e

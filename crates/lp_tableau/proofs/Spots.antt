@@ -67,6 +67,8 @@ row_kept p a b f old new d l h e =
     record { row = all_kept f (get_or old p []) (get_or new p []) a b d.row l h e; frame = d.frame }
 
 -- ---- the list of columns
+
+-- columns that cover a row up to column n cover it up to n + 1 with n added as the last one
 more : (row : List ℚ) (a n : ℕ) (ks : List ℕ) → a ≤ n → Covers row a n ks → Covers row a (n + 1) (ks ++ n ∷ [])
 more row a n [] l c = (record { from = l; inside = omega arith; before = c }, λ k h g. absurd (omega (arith, h, g)))
 more row a n (k ∷ ks) l c =
@@ -75,6 +77,7 @@ more row a n (k ∷ ks) l c =
       more row (k + 1) n ks (omega (arith, x.inside)) c.1,
     )
 
+-- columns that cover a row up to column n cover it up to n + 1 where the row is 0 in column n
 zero_more : (row : List ℚ) (a n : ℕ) (ks : List ℕ) → get_or row n 0ℚ ≡ 0ℚ → Covers row a n ks → Covers row a (n + 1) ks
 zero_more row a n [] e c =
     λ k h g. ⊎_elim (λ s. ap (λ i. get_or row i 0ℚ) s ∙ e) (λ ne. c k h (omega (arith, g, ne))) (cases_eq k n)

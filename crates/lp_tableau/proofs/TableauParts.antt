@@ -39,6 +39,8 @@ use Rattle.lp_frac.specs.declared.stop.Stop.TheVariants as cold
 use Rattle.lp_tableau.proofs.Pivots.{RepricedFrom}
 
 -- ---- a block of rows
+
+-- m rows of width n, one after the other, have m * n items
 length-flat : (n m : ℕ) (f : ℕ → List ℚ) → ((i : ℕ) → length (f i) ≡ n) → length (flat m f) ≡ m * n
 length-flat n zero f h = omega arith
 length-flat n (suc m) f h = omega (arith, length-append (flat m f) (f m), length-flat n m f h, h m, suc-mul m n)
@@ -54,6 +56,7 @@ rows_of-append n (suc m) xs ys h g =
     ∙ ap (λ rows. take n xs ∷ rows)
     (rows_of-append n m (drop n xs) ys (omega (arith, length-drop n xs, h, suc-mul m n)) g)
 
+-- the rows of a block that was made of m rows of width n are these rows
 rows_of-flat : (n m : ℕ) (f : ℕ → List ℚ) → ((i : ℕ) → length (f i) ≡ n) → rows_of n m (flat m f) ≡ made m f
 rows_of-flat n zero f h = refl
 rows_of-flat n (suc m) f h =
@@ -64,16 +67,20 @@ rows_of-flat n (suc m) f h =
 abbrev pub width_of : Form → ℕ
 width_of f = f.cols + f.rows + f.rows
 
+-- each row of the start is as wide as the tableau
 length-start_row : (f : Form) (starts : List (RowStart ℚ)) (i : ℕ) → length (start_row f starts i) ≡ width_of f
 length-start_row f starts i = length-made (width_of f) (start_entry f (start_at starts i) i)
 
+-- the logical and the artificial column of row i are columns of the tableau
 basic_inside : (f : Form) (i : ℕ) (b : Bool) → i < f.rows → cond b (f.cols + f.rows + i) (f.cols + i) < width_of f
 basic_inside f i true h = omega arith
 basic_inside f i false h = omega arith
 
+-- each row of the start without artificial columns has an entry of each structural and logical column
 length-start_front : (f : Form) (starts : List (RowStart ℚ)) (i : ℕ) → length (start_front f starts i) ≡ f.cols + f.rows
 length-start_front f starts i = length-made (f.cols + f.rows) (start_entry f (start_at starts i) i)
 
+-- the rows of the start without artificial columns, one after the other, are a block
 block_is : (f : Form) (starts : List (RowStart ℚ)) (xs : List ℚ) → IsForm f → xs ≡ flat f.rows (start_front f starts) →
     IsBlock f.rows (f.cols + f.rows) xs
 block_is f starts xs g e =
@@ -135,6 +142,7 @@ equations_are f starts e =
     (λ i l. ap (λ s. made (width_of f) (start_entry f s i))
     (ap (λ xs. start_at xs i) e ∙ get_or-replicate f.rows i (Within 0ℚ) (Within 0ℚ) l))
 
+-- the items at the first n + m places are those at the first n and those at the m behind
 made_parts : (n m : ℕ) (f : ℕ → ℚ) → made (n + m) f ≡ made n f ++ made m (λ r. f (n + r))
 made_parts n zero f = (let z : n + 0 ≡ n = omega arith in ap (λ k. made k f) z) ∙ sym (append-nil (made n f))
 made_parts n (suc m) f =
@@ -142,11 +150,13 @@ made_parts n (suc m) f =
     ∙ ap (λ xs. xs ++ f (n + m) ∷ []) (made_parts n m f)
     ∙ append_assoc (made n f) (made m (λ r. f (n + r))) (f (n + m) ∷ [])
 
+-- the twins of rows with one pushed are those of the rows, and then the pushed row with its twins
 twinned_push : (c : ℕ) (turned : List Bool) (rows : List (List ℚ)) (row : List ℚ) →
     twinned c turned (rows ++ row ∷ []) ≡ twinned c turned rows ++ with_twins c turned row ∷ []
 twinned_push c turned [] row = refl
 twinned_push c turned (x ∷ rows) row = ap (λ ys. with_twins c turned x ∷ ys) (twinned_push c turned rows row)
 
+-- m rows of a function, with twins, are the rows of the function each with its twins
 twinned_made : (c : ℕ) (turned : List Bool) (m : ℕ) (f : ℕ → List ℚ) →
     twinned c turned (made m f) ≡ made m (λ i. with_twins c turned (f i))
 twinned_made c turned zero f = refl
@@ -159,10 +169,12 @@ sign_is (Within v) = refl
 sign_is (Below gap) = neg-neg 1ℚ
 sign_is (Above gap) = refl
 
+-- 0 with a sign is 0
 zero_is : (b : Bool) → signed b 0ℚ ≡ 0ℚ
 zero_is true = neg-zero
 zero_is false = refl
 
+-- the entry of row i in logical column r, with the sign of where row r starts, is 1 in row r and 0 elsewhere
 one_is : (starts : List (RowStart ℚ)) (i r : ℕ) →
     signed (is_below (start_at starts r)) (one_at i r (logical_sign (start_at starts i))) ≡ one_at i r 1ℚ
 one_is starts i r = ⊎_elim same other (cases_eq i r)

@@ -21,12 +21,15 @@ use Rattle.lp_tableau.proofs.Done.{grid_row}
 use Rattle.lp_tableau.proofs.NegatedOperands.{quotient_signed, less_signed}
 
 -- ---- lists of runs
+
+-- runs that are equal at each of n places give equal lists
 list_same : (n : ℕ) (f g : ℕ → Run ℚ) → ((k : ℕ) → k < n → g k ≡ f k) → list_run n g ≡ list_run n f
 list_same zero f g h = refl
 list_same (suc n) f g h =
     ap₂ (λ o p. o >>= λ xs. p >>= λ x. Ok (xs ++ x ∷ []))
     (list_same n f g (λ k l. h k (omega (arith, l)))) (h n (omega arith))
 
+-- where a run over n places gives a row, the run at place k gives the row's item k
 list_item : (n : ℕ) (f : ℕ → Run ℚ) (row : List ℚ) → list_run n f ≡ Ok row → (k : ℕ) → k < n →
     f k ≡ Ok (get_or row k 0ℚ)
 list_item zero f row e k h = absurd (omega (arith, h))
@@ -47,12 +50,14 @@ list_item (suc n) f row e k h = by (λ ys. list_item n f ys) (list_run n f) (f n
     by ih (Ok ys) (Err p) a b g = cc
     by ih (Err p) o a b g = cc
 
+-- where a run over n places is refused, a run over d more places is refused with that error
 list_err : (n d : ℕ) (f : ℕ → Run ℚ) (e : Past ℚ) → list_run n f ≡ Err e → list_run (n + d) f ≡ Err e
 list_err n zero f e h = (let z : n + 0 ≡ n = omega arith in ap (λ k. list_run k f) z) ∙ h
 list_err n (suc d) f e h =
     (let z : n + suc d ≡ suc (n + d) = omega arith in ap (λ k. list_run k f) z)
     ∙ ap (λ o. o >>= λ xs. f (n + d) >>= λ x. Ok (xs ++ x ∷ [])) (list_err n d f e h)
 
+-- where a run over n places gives a row, and those behind give g, the run over all gives the row and then g
 list_onto : (n m : ℕ) (f : ℕ → Run ℚ) (g : ℕ → ℚ) (row : List ℚ) → list_run n f ≡ Ok row →
     ((r : ℕ) → r < m → f (n + r) ≡ Ok (g r)) → list_run (n + m) f ≡ Ok (row ++ made m g)
 list_onto n zero f g row e h =
@@ -64,22 +69,27 @@ list_onto n (suc m) f g row e h =
     ∙ ap Ok (append_assoc row (made m g) (g m ∷ []))
 
 -- ---- what is read of rows with twins
+
+-- row i of rows with twins is row i with its twins
 twinned_row : (c : ℕ) (turned : List Bool) (rows : List (List ℚ)) (i : ℕ) → i < length rows →
     get_or (twinned c turned rows) i [] ≡ with_twins c turned (get_or rows i [])
 twinned_row c turned [] i h = absurd (omega (arith, h))
 twinned_row c turned (row ∷ rows) zero h = refl
 twinned_row c turned (row ∷ rows) (suc i) h = twinned_row c turned rows i (omega (arith, h))
 
+-- rows with twins are as many as the rows
 length-twinned : (c : ℕ) (turned : List Bool) (rows : List (List ℚ)) → length (twinned c turned rows) ≡ length rows
 length-twinned c turned [] = refl
 length-twinned c turned (row ∷ rows) = ap suc (length-twinned c turned rows)
 
+-- replacing row i and then adding twins is adding twins and then replacing row i by the row with its twins
 twinned_set : (c : ℕ) (turned : List Bool) (rows : List (List ℚ)) (i : ℕ) (row : List ℚ) →
     twinned c turned (set rows i row) ≡ set (twinned c turned rows) i (with_twins c turned row)
 twinned_set c turned [] i row = refl
 twinned_set c turned (x ∷ rows) zero row = refl
 twinned_set c turned (x ∷ rows) (suc i) row = ap (λ zs. with_twins c turned x ∷ zs) (twinned_set c turned rows i row)
 
+-- a row with twins is longer than the row by the number of its twins
 length-with_twins : (c : ℕ) (turned : List Bool) (row : List ℚ) →
     length (with_twins c turned row) ≡ length row + length turned
 length-with_twins c turned row =
@@ -183,6 +193,8 @@ module _ (limit : Option ℕ) (c m : ℕ) (turned : List Bool) (rows : List (Lis
       rows i new r w
 
 -- ---- rows that are seen with their twins
+
+-- where each row has c + m items, each row with its m twins has c + m + m
 all_wide : (c m : ℕ) (turned : List Bool) (rows : List (List ℚ)) → length turned ≡ m →
     All (λ row. length row ≡ c + m) rows → All (λ row. length row ≡ c + m + m) (twinned c turned rows)
 all_wide c m turned [] t h = All-nil (λ row. length row ≡ c + m + m)
@@ -192,6 +204,7 @@ all_wide c m turned (row ∷ rows) t h =
     omega (arith, length-with_twins c turned row, w, t))
     (all_wide c m turned rows t (All-tail (λ row. length row ≡ c + m) row rows h))
 
+-- where m rows have c + m items each, the rows with twins are m rows of c + m + m items
 grid_twinned : (c m : ℕ) (turned : List Bool) (rows : List (List ℚ)) → length turned ≡ m → IsGrid m (c + m) rows →
     IsGrid m (c + m + m) (twinned c turned rows)
 grid_twinned c m turned rows t g =
