@@ -185,6 +185,7 @@ module _ (Out : List ℕ → Type 0) (code : ℕ) (none text : List ℕ) (is_non
 abbrev Asked : Type 0
 Asked = TextCommand (Bor (List ℕ))
 
+-- a command equal to another reads a text as the other one does
 reads_as : (command is : Asked) (style : Style) (s : Streams) (result : Result ExitStatus Halt) → command ≡ is →
     ReadsText (spelled_text is) style s result → ReadsText (spelled_text command) style s result
 reads_as command is style s result e h =
