@@ -13,6 +13,7 @@ use Rattle.spec_model.specs.declared.parts.Sense.TheVariants.{Min, Max}
 use Rattle.spec_model.specs.Model.{Model}
 use Rattle.spec_model.specs.Truth.{IsBetter, IsOptimal, IsUnbounded}
 
+-- two values, neither of which is better than the other, are equal
 same_best : (s : Sense) (v w : ℚ) → ¬ (IsBetter s v w) → ¬ (IsBetter s w v) → v ≡ w
 same_best Min v w f g = ≤ℚ_antisym v w (by_le v w (λ h. h) (λ h. absurd (g h))) (by_le w v (λ h. h) (λ h. absurd (f h)))
 same_best Max v w f g = ≤ℚ_antisym v w (by_le v w (λ h. h) (λ h. absurd (f h))) (by_le w v (λ h. h) (λ h. absurd (g h)))

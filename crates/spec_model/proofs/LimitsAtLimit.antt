@@ -14,6 +14,7 @@ use Rattle.spec_model.specs.declared.parts.RowLimit.{RowLimit}
 use Rattle.spec_model.specs.declared.parts.RowLimit.TheVariants.{Absent, Given, Sum, Difference}
 use Rattle.spec_model.specs.Model.{limit_of, limit_run}
 
+-- where an operation that is not refused gives v, a limit that it makes is v
 some_ok : (o : Run ℚ) (v : ℚ) → ((x : ℚ) → o ≡ Ok x → x ≡ v) → (l : Option ℚ) → (o >>= λ x. Ok (Some x)) ≡ Ok l →
     l ≡ Some v
 some_ok (Ok x) v f l h = sym (ok_same (Some x) l h) ∙ ap Some (f x refl)

@@ -78,6 +78,7 @@ row_known m name i h =
     let p = position-Some (λ (r : ExactRow). same r.name name) m.rows i no_row h in
     (p.0, same_true (row m i).name name p.1)
 
+-- a name that leads to column j is the name of column j, and j is the number of a column
 column_known : (m : Model) (name : Name) (j : ℕ) → column_place m name ≡ Some j →
     (j < width m) × ((column m j).name ≡ name)
 unfolding column_place
