@@ -25,10 +25,12 @@ parts_more : (x : List ℕ) (parts : List (List ℕ)) → (y : List ℕ) (more :
 parts_more x [] y more h = cc
 parts_more x (z ∷ zs) y more h = refl
 
+-- putting a byte onto the first part leaves at least one part
 onto_some : (b : ℕ) (parts : List (List ℕ)) → (y : List ℕ) × (more : List (List ℕ)) × (onto_first b parts ≡ y ∷ more)
 onto_some b [] = (b ∷ [], [], refl)
 onto_some b (p ∷ ps) = (b ∷ p, ps, refl)
 
+-- splitting bytes gives at least one part
 split_some : (p : ℕ → Bool) (bs : List ℕ) → (y : List ℕ) × (more : List (List ℕ)) × (slice_split p bs ≡ y ∷ more)
 split_some p [] = ([], [], refl)
 split_some p (b ∷ bs) =
@@ -44,6 +46,7 @@ lines_first line more h =
     ap lines_of_parts (slice_split_at (λ b. eqb b 10) line 10 more h refl)
     ∙ parts_more line (slice_split (λ b. eqb b 10) more) s.0 s.1 s.2
 
+-- where no byte of a line is a line feed, the test for a line feed fails at each
 tests_false : (line : List ℕ) → All (λ b. b ≢ 10) line → All (λ b. eqb b 10 ≡ false) line
 tests_false line h = All-weaker (λ b. b ≢ 10) (λ b. eqb b 10 ≡ false) (λ b n. search (rules, tests)) line h
 
@@ -53,6 +56,7 @@ pub lines_of_line : (line more : List ℕ) → All (λ b. b ≢ 10) line →
 unfolding lines_of
 lines_of_line line more h = ap (λ ls. map line_of ls) (lines_first line more (tests_false line h))
 
+-- the last part is a line where it has a byte
 last_line : (x : List ℕ) → 0 < length x → lines_of_parts (x ∷ []) ≡ x ∷ []
 last_line x some = grind (arith, nat_tests)
 
