@@ -12,3 +12,9 @@ pub mod Steps
 pub mod Written
 pub mod WideText
 pub mod WideWritten
+pub mod BoundCards
+pub mod ColumnCards
+pub mod Meaning
+pub mod NumberCards
+pub mod RowCards
+pub mod TextCards

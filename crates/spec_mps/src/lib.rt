@@ -1,4 +1,4 @@
-//! Texts of models: lines, cards, and the model that they spell.
+//! Texts of models: lines, cards, the model that they spell, and what a text means.
 //!
 //! | Item | What it is | Where |
 //! |---|---|---|
@@ -20,6 +20,7 @@
 //! | `Spells`, `Refuses` | what a whole text is within the usual limits | specs/Steps |
 //! | `is_skipped` | the lines that count for nothing | specs/Cards |
 //! | `wide_of`, `wide_text` | numbers of any width as text, both ways, with their laws | src/wide, specs/WideText |
+//! | `Means` | what a text means, in the words of linear programs, with laws on every text that spells a model | src/meaning, specs/Meaning |
 //!
 //! The format is MPS (IBM Mathematical Programming System Extended, Program Reference Manual, 1971, and the free form
 //! of later readers): docs/FORMATS.md.
@@ -28,6 +29,7 @@
 mod bound_kind;
 mod card;
 mod fault;
+mod meaning;
 mod number;
 mod section;
 mod style;
@@ -53,6 +55,11 @@ ghost use Rattle.spec_mps.specs.Steps.{IsJudged, Spells, SpellsWithin};
 pub use bound_kind::BoundKind;
 pub use card::Card;
 pub use fault::{Code, MpsFault};
+pub use meaning::{
+    bounds_cards_are_bounds, columns_cards_are_columns, later_rows_of_type_n_are_free_rows,
+    lone_objectives_leave_rows_with_limits, ranges_cards_are_ranges, rhs_cards_are_right_sides,
+    rows_cards_are_rows, rows_have_limits, texts_have_one_meaning, titles_are_names_and_senses,
+};
 pub use number::{BoundValue, NumFault};
 pub use section::{Section, Seen};
 pub use style::Style;

@@ -1,5 +1,0 @@
-use Rattle.spec_meaning.proofs.BoundsSaid.{bounds_said}
-use Rattle.spec_meaning.proofs.bounds_cards_are_bounds.Goals as goal
-
-pub returns : goal.returns
-returns c = bounds_said

@@ -1,8 +1,0 @@
-use Rattle.spec_meaning.proofs.RangesKept.{range_by_kind, no_range_said}
-use Rattle.spec_meaning.proofs.ranges_cards_are_ranges.Goals as goal
-
-pub returns-clause-rows : goal.returns-clause-rows
-returns-clause-rows c = range_by_kind
-
-pub returns-clause-objective : goal.returns-clause-objective
-returns-clause-objective c = no_range_said

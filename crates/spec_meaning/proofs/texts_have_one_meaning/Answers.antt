@@ -1,8 +1,0 @@
-use Rattle.spec_meaning.proofs.OneMeaning.{spelled_means, one_meaning}
-use Rattle.spec_meaning.proofs.texts_have_one_meaning.Goals as goal
-
-pub returns-clause-meant : goal.returns-clause-meant
-returns-clause-meant c = spelled_means
-
-pub returns-clause-one : goal.returns-clause-one
-returns-clause-one c = one_meaning
