@@ -50,7 +50,7 @@ fn room_of(
 
 // ---- sums of rows
 
-// Sums for so many rows.
+// So many sums, each of nothing: one for each row, for products to be added to.
 fn no_sums(alloc: Global, len: usize) -> Result<Vec<Sum>, AllocError> {
     let mut list = Vec::with_capacity(alloc, len)?;
     for _ in 0..len {

@@ -13,7 +13,8 @@ pub(crate) enum Separator {
     Point,
 }
 
-// Whether a byte is this separator.
+// Whether a byte is this separator: `/` between numerator and denominator; `e`, `E`, `d` or `D` before an exponent; or
+// `.`.
 fn is_separator(separator: Separator, b: u8) -> bool
     ensures { result ≡ separates separator b }
 {

@@ -31,7 +31,7 @@ pub(crate) enum Progress {
     Stopped,
 }
 
-// The number 0.
+// The number 0, for a turn of rows in which no value is to be moved.
 fn none<T: Words>() -> Signed<T>
     ensures { whole result.negative (T.value result.size) ≡ pos 0 }
 {

@@ -1,4 +1,5 @@
-// The widths of words. A run is made in words of one width; where a number does not fit, it goes on in wider ones.
+// The ladder of words: their widths, from the narrowest to the widest. A run is made in words of one width; where a
+// number does not fit, it goes on in wider ones.
 ghost use Rattle.std.specs.Prelude.{◌≡◌, ℕ, IfOk, IfSome};
 ghost use Rattle.spec_simplex.specs.Begins.{IsProper};
 ghost use Rattle.spec_simplex.specs.Eliminate.{IsBasisOf};
@@ -37,7 +38,9 @@ pub(crate) trait Widths {
     /// Whether there are any words of these widths.
     const ANY: bool;
 
-    /// Goes on with a run from where it stands in narrower words.
+    /// Goes on with a run, to its end, from the state at which a number did not fit narrower words. It goes on in the
+    /// first of these words, and in wider ones where a number does not fit. There is no end where no words are wide
+    /// enough, or the run gives up.
     fn resume<S: Words, N: Listed>(
         alloc: Global,
         form: &Form,

@@ -60,8 +60,9 @@ pub fn singular_bases_depend()
         (j : ℕ) × (x : ℕ → ℚ) × IsDependent f basis j x }
 {}
 
-/// A primal feasible tableau has each value within its bounds. A dual feasible one
-/// has, after its flips, reduced costs of the signs that their statuses want.
+/// What the fit of a tableau says of its values or reduced costs holds, so the method that it names may go on. Where it
+/// is primal, each value is within its bounds. Where it is dual, the reduced costs have, after its flips, the signs
+/// that their statuses want.
 pub fn fits_mean_methods()
     ensures primal { (limit : Option ℕ) (m n : ℕ) (f : Matrix) (cost : ℕ → ℚ) (b : Bounds) (t : Tableau) →
         IsBased m n f cost b t → IsOrdered (n + m + m) b →

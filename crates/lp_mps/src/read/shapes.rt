@@ -8,7 +8,8 @@ ghost use Rattle.spec_mps.specs.Shapes as shapes;
 use crate::card::Field;
 use spec_mps::{BoundKind, Section, Style};
 
-/// Whether the fields have these numbers.
+/// Whether the fields of a line are those with these numbers, in this order, and no others: `[1, 2, 3]` for fields 1 to
+/// 3.
 fn has_numbers(fields: &[Field], numbers: &[u32]) -> bool
     ensures { result ≡ same (numbers_of fields.now) numbers.now }
 {
