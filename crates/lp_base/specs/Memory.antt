@@ -20,7 +20,7 @@ next_read s = s.calls.next
 abbrev pub failing_reads : MemSource → List ℕ
 failing_reads s = s.calls.fails.items
 
--- how many reads have failed
+-- how many reads of a source in memory have failed
 abbrev pub source_faults : MemSource → ℕ
 source_faults s = s.calls.faults
 

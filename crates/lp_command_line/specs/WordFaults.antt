@@ -30,7 +30,7 @@ spelled (Twice word) = Twice word.now
 spelled (NoValue word) = NoValue word.now
 spelled (NotValue option value) = NotValue option.now value.now
 
--- the same where there may be none
+-- the fault of the words with its words spelled, where there is a fault
 abbrev pub told : Option (WordFault (Bor (List ℕ))) → Option Fault
 told = option_map spelled
 

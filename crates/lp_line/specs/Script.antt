@@ -55,7 +55,7 @@ script_step addressing pending line.End = Says (taken_at (ending_by pending))
 script_step addressing pending line.Over =
     behind_asks (asks_of_line addressing pending line.Over) (pending_after_line addressing pending line.Over)
 
--- ---- the same from what is held of a body
+-- ---- what is held of a body says of its further lines what a script says
 
 -- a body that was read so far says of its further lines what all its lines say
 abbrev pub TextFits : Style → List (Line (List ℕ)) → Body text_reading.TextRead TextSaid → Type 0
@@ -63,7 +63,7 @@ TextFits form lines body =
     (more : List (Line (List ℕ))) (answer : Option TextSaid) → BodySays TextSays body more answer →
     said_by (text_step usual_limits form) (record { state = start; lines = 0 }) (lines ++ more) ≡ answer
 
--- the same of a certificate's text
+-- a certificate that was read so far says of its further lines what all its lines say
 abbrev pub CertificateFits : List (Line (List ℕ)) → Body NarrowRead CertificateSaid → Type 0
 CertificateFits lines body =
     (more : List (Line (List ℕ))) (answer : Option CertificateSaid) → BodySays CertificateSays body more answer →

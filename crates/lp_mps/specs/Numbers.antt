@@ -46,7 +46,7 @@ put_by numbers s t v = do
   _ ← must (not (is_among t s.paired)) code.EntryRepeated
   Ok (with_by numbers (record s { paired = t ∷ s.paired }) t v)
 
--- the same where there is a target, and else nothing
+-- a target, where there is one, is given a number that it had not
 abbrev pub put_if : Numbers → State → Option Target → ℚ → Check State
 put_if numbers s None v = Ok s
 put_if numbers s (Some t) v = put_by numbers s t v

@@ -45,7 +45,7 @@ certificate_in of (Finished e) = certificate_as of e.tableau (Some e.end)
 abbrev pub row_end : {N : Type 0} → (ℚ → N) → PhasesEnd → RowEnd N
 row_end of end = record { certificate = certificate_in of end; basis = basis_of end; pivots = pivots_of end }
 
--- the same for what both phases give: an end, or why there is none
+-- what the code keeps of what both phases give: an end, with its certificate in a kind of numbers, or why there is none
 abbrev pub row_end_in : {N : Type 0} → (ℚ → N) → Result PhasesEnd (RunStop ℚ) → Result (RowEnd N) (RunStop ℚ)
 row_end_in of (Ok end) = Ok (row_end of end)
 row_end_in of (Err stop) = Err stop

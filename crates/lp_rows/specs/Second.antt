@@ -28,8 +28,8 @@ pub record IsLess {T : Type 0} (value : T → ℕ) (r : RowTableau T) (i : ℕ) 
       fraction_of value old k -ℚ cost_in value (width r) old
       (get_or r.basic.items i 0) *ℚ row_at value 1 r.rows.items i k
 
--- The same of the first n positions, each by the cost that its basic column had first: of each basic column the other
--- rows have no entry.
+-- The new costs are the old ones less the rows of the first n positions, each row times the old cost of its basic
+-- column. So it is where the rows show a tableau in which each basic column has an entry in its own row alone.
 pub record IsLessRows {T : Type 0} (value : T → ℕ) (r : RowTableau T) (n : ℕ) (old new : Row T) : Type 0 where
   pub row : IsRow value (width r) new
   pub less : (t : Tableau) → IsUnit t.rows (entry_at t) (basic_at t) → Shows value r t → (cost : ℕ → ℚ) →

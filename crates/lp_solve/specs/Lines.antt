@@ -1,7 +1,7 @@
 -- How many digits the numerator and the denominator of a number of a certificate may have, each.
 use Rattle.std.specs.Prelude.{ℕ, ◌^◌}
 
--- how many digits each may have: together somewhat fewer than a line takes
+-- how many digits a numerator may have, and a denominator: both together somewhat fewer than a line takes
 unfoldable pub half_line : ℕ
 half_line = 7680
 

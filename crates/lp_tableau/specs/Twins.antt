@@ -10,7 +10,7 @@ use Rattle.lp_tableau.specs.Grid.{IsGrid}
 abbrev pub signed : Bool → ℚ → ℚ
 signed b v = if b then neg_ℚ v else v
 
--- the twin of the row's item in column c + r
+-- the twin of the row's item in column c + r: the item itself, or its negative
 abbrev pub twin : ℕ → List Bool → List ℚ → ℕ → ℚ
 twin c turned row r = signed (get_or turned r false) (get_or row (c + r) 0ℚ)
 
@@ -23,7 +23,8 @@ abbrev pub twinned : ℕ → List Bool → List (List ℚ) → List (List ℚ)
 twinned c turned [] = []
 twinned c turned (row ∷ rows) = with_twins c turned row ∷ twinned c turned rows
 
--- rows of c items and m others, which have a twin each; no more than a tableau has
+-- Rows of c items and m others, no more than a tableau has. Each of the m others has a twin, which is not in these
+-- rows: the item itself, or its negative where `turned` says so.
 pub record IsTwinned (c m : ℕ) (turned : List Bool) (rows : List (List ℚ)) : Type 0 where
   pub few_rows : m ≤ 256
   pub few_columns : c ≤ 512

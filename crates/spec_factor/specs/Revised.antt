@@ -107,6 +107,8 @@ unfoldable pub entering_run : Option ℕ → Form → List ℚ → List ℚ → 
 entering_run limit f costs y t = steps (all_columns t) (λ k e. or_priced limit f costs y t k e) None
 
 -- ---- the tableau as a step sees it: of its rows the entries in column j alone, which is z by places after ftran
+
+-- the entry in column j at position p: item p of z, with the sign of the basic column there
 abbrev pub seen_entry : List (RowStart ℚ) → Tableau → List ℚ → ℕ → ℚ
 seen_entry starts t z p = sign_of starts t (basic_at t p) *ℚ get_or z p 0ℚ
 

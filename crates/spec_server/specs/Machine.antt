@@ -187,7 +187,7 @@ plain_due state command.Wide = wide_due state state.model
 plain_due state command.Quit = Replies reply.Bye opening
 plain_due state (command.Change e) = change_due state state.model e
 
--- what is due to an ask
+-- what a session in this state does for an ask: it replies and is in the next state, or it solves a model
 abbrev pub due : State → ExactAsk → Due
 due state (ask.Plain asked) = plain_due state asked
 due state (ask.Loaded m) =

@@ -126,6 +126,8 @@ unfoldable pub choice_run : Option ℕ → Tableau → Run (Choice ℚ)
 choice_run limit t = choice_of limit t (entering t)
 
 -- ---- moving: column j moves by theta, and the basic columns with it, but for that of one position, if one is named
+
+-- whether position i is the one that is named, if one is
 abbrev pub is_place : Option ℕ → ℕ → Bool
 is_place None i = false
 is_place (Some p) i = nat_eq i p
