@@ -188,7 +188,7 @@ certified_all m kept points cert f h = record {
   without = filtered_points m kept points f;
 }
 
--- the same with other names for its parts
+-- a search that stands ahead so stands ahead so with parts equal to its own
 pub ahead_same : (m : Model) (all kept kept' rest : List Side) (points points' : List (List ℚ)) (clash clash' : List Side) →
     kept' ≡ kept → points' ≡ points → clash' ≡ clash → IsAhead m all kept rest points clash →
     IsAhead m all kept' rest points' clash'

@@ -80,7 +80,7 @@ lowered-own i k es less new h e f =
     ∙ ap₂ (λ xs ys. xs ++ map lower ys) (take-remove es k h.inside) (drop-remove es k h.inside)
     ∙ sym (without-own i k es h)
 
--- it had no entry, and the rows from there on were lowered
+-- where row i has no entry, lowering the rows of the entries from its place on takes the row out
 pub lowered-none : (i k : ℕ) (es new : Entries) → BelongsAt i k es → new ≡ take k es ++ map lower (drop k es) →
     new ≡ without_entry i es
 lowered-none i k es new h f = f ∙ sym (without-none i k es h)

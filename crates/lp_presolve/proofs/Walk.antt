@@ -21,7 +21,7 @@ pub entry_here : (es : List (ℕ × ℚ)) (k i : ℕ) (e : ℕ × ℚ) → k < l
 entry_here es k i e l h q =
     next_is es k i e l h ∙ ap (λ t. cond t e.1 (entry_of (drop (k + 1) es) i)) (eq-eqb e.0 i q)
 
--- it is another row's
+-- where entry k is of another row than i, the entry of row i from place k on is the one from place k + 1 on
 pub entry_on : (es : List (ℕ × ℚ)) (k i : ℕ) (e : ℕ × ℚ) → k < length es → e ≡ get_or es k e → ¬ (e.0 ≡ i) →
     entry_of (drop k es) i ≡ entry_of (drop (k + 1) es) i
 entry_on es k i e l h o =

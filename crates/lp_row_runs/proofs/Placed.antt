@@ -160,7 +160,7 @@ module _ {T : Type 0} (value : T → ℕ) (d h n : ℕ) (x : ℕ → ℚ) (equat
           row_at-on value new d n i n positive t.rows (omega (arith, l, a.len, t.len)) (omega arith) ∙ value_is i l;
     }
 
--- the same, by what a call gives
+-- where a call moved the last numbers of the rows that it was lent, those of the tableau's rows are moved
 moved_here : {T : Type 0} (value : T → ℕ) (k n : ℕ) (v : ℚ) (old new : RowTableau T) (lent rows : List (Row T)) →
     n ≡ width old → lent ≡ old.rows.items → new.rows.items ≡ rows → AreMoved value n k v lent rows →
     AreMoved value (width old) k v old.rows.items new.rows.items

@@ -86,7 +86,8 @@ cleared value old new other j d e m a b g size negative same column p q f h i t 
 pub written : {A : Type 0} (n : ℕ) (xs ys : List A) → length xs ≡ n → take n (xs ++ drop (length xs) ys) ≡ xs
 written n xs ys e = ap (λ k. take k (xs ++ drop (length xs) ys)) (sym e) ∙ take-append_seam xs (drop (length xs) ys)
 
--- the same, where `row` and `by` are what was lent of both rows, and n is how many numbers the first has room for
+-- A row is cleared where `row` and `by` are what was lent of it and of the other row, and n is how many numbers the
+-- first has room for.
 pub cleared_written : {T : Type 0} (value : T → ℕ) (old new other row by : List (Signed T)) (j d e m a b g size n : ℕ)
     (negative : Bool) → length other ≡ length old → j < length old → 0 < d → 0 < e → a * g ≡ e → b * g ≡ size →
     m ≡ d * a → at value old j ≡ whole negative size → row ≡ old → by ≡ other → length row ≡ n →

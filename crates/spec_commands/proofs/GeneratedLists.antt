@@ -26,7 +26,7 @@ map-map : {X Y Z : Type 0} (g : Y → Z) (f : X → Y) (xs : List X) → map g (
 map-map g f [] = refl
 map-map g f (x ∷ xs) = ap (λ ys. g (f x) ∷ ys) (map-map g f xs)
 
--- the same of a part of each element
+-- where R holds of a part of each two of n made elements, in their order, it holds so in the list of the parts
 pub AllPairs-map : {X Y : Type 0} (R : Y → Y → Type 0) (g : X → Y) (f : ℕ → X) (n : ℕ) →
     ((i j : ℕ) → i < j → j < n → R (g (f i)) (g (f j))) → AllPairs R (map g (map f (range_with_len 0 n)))
 AllPairs-map R g f n h =

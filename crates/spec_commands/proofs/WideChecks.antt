@@ -32,7 +32,7 @@ use Rattle.spec_commands.specs.CheckWideOut.{behind_wide, wide_verdict_on, wide_
 use Rattle.spec_server.specs.Said.{follow, said_by}
 use Rattle.spec_server.proofs.Truth.{checked}
 
--- it is past 127 bits
+-- a verdict that a number is past 127 bits
 abbrev pub IsPast : Verdict ℚ → Type 0
 IsPast v = (p : Past ℚ) × (v ≡ verdict.Past p)
 

@@ -123,7 +123,7 @@ heading_did s words p h =
     let c = and_parts (may_follow s.seen a.0) (not (has_begun s.seen a.0)) b.0 in
     (a.0, record { part_is = a.1; may = c.0; new = not-true _ c.1; did = b.1 })
 
--- it is ENDATA, or another section
+-- a heading is ENDATA and the text is finished, or it begins another section
 data Begun (s : State) (part : Section) (word : List ℕ) (p : Progress) : Type 0 where
   Ended : (part_is : part ≡ section.End) → (did : finished s ≡ Ok p) → Begun s part word p
   Began : (other : is_section (Some part) section.End ≡ false) → (next : State) →

@@ -38,7 +38,7 @@ use Rattle.spec_presolve.proofs.InRows.{Alone, row_empty, row_alone}
 
 -- ---- what is first
 
--- it is found at a place
+-- f gives this item at one of n places
 pub record Found {A : Type 0} (n : ℕ) (f : ℕ → Run (Option A)) (a : A) : Type 0 where
   pub place : ℕ
   pub inside : place < n

@@ -105,7 +105,7 @@ pub at_side_ok : (limit : Option ℕ) (upper : Bool) (v : ℚ) (e x : Ends ℚ) 
 at_side_ok limit true v e x h = at_most_ok limit v e x h
 at_side_ok limit false v e x h = at_least_ok limit v e x h
 
--- the same condition in other words
+-- ends that one condition cuts are cut by each equivalent condition
 pub cuts_as : (e x : Ends ℚ) (P Q : ℚ → Type 0) → ((t : ℚ) → P t ↔ Q t) → Cuts e P x → Cuts e Q x
 cuts_as e x P Q h c t = (
   λ i. let o = (c t).0 i in (o.0, (h t).0 o.1),

@@ -34,7 +34,7 @@ pub then_kept : {A B : Type 0} (P : A → Type 0) (Q : B → Type 0) (read : Rea
 then_kept P Q (Ok a) next h go = go a h
 then_kept P Q (Err why) next h go = tt
 
--- the same, where nothing is asked of that value
+-- what is read next has Q where it has it whatever value was read before
 pub any_kept : {A B : Type 0} (Q : B → Type 0) (read : Reads A) (next : A → Reads B) → ((a : A) → IfOk (next a) Q) →
     IfOk (read >>= next) Q
 any_kept Q (Ok a) next go = go a

@@ -21,6 +21,7 @@ use Rattle.spec_simplex.proofs.Moved.{moved_length, moved_ray}
 use Rattle.spec_simplex.proofs.Tables.{same_table, stand_is}
 use Rattle.spec_simplex.proofs.Pivots.{Leaves, enters_before}
 
+-- a number turned as the entering column moves is the number times the sign of its way
 pub directed_is : (up : Bool) (v : ℚ) → directed up v ≡ sign (way up) *ℚ v
 directed_is true v = up v
   where
