@@ -15,7 +15,7 @@
 -- `ranges_did`: a RANGES card that is taken puts its ranges, or is skipped because another set is used.
 -- `set_keeps`: what the choice of a set and each pair keep, a whole card of RHS or RANGES keeps.
 -- `bounds_did`: a card of BOUNDS that is taken has a kind and texts, and sets a column's bounds or is of an unused set.
-use Rattle.std.proofs.Common.{◌≡◌, ℕ, ◌+◌, Bool, true, false, not, ◌||◌, cond, ltb, Option, Some, is_none, Ok, Err}
+use Rattle.std.proofs.Common.{◌≡◌, ℕ, Bool, true, false, not, ◌||◌, cond, ltb, Option, Some, is_none, Ok, Err}
 use Rattle.std.proofs.Common.{List, [], ◌∷◌, ◌++◌, length, get_or, refl, sym, ◌∙◌, subst, codes, append-nil, append_assoc}
 use Rattle.std.specs.List.{list_any, position}
 use Rattle.spec_text.specs.Words.{same}

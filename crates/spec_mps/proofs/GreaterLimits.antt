@@ -24,7 +24,7 @@ use Rattle.spec_mps.specs.Fields.{Fields, CardReading, Is, Misplaced, text_at}
 use Rattle.spec_mps.specs.Reader.{State, start, place_of, is_first, add_row, rows_card, whole_columns, is_open, opened}
 use Rattle.spec_mps.specs.Reader.{column_by, column_pairs, pairs_of, marker_field, columns_card}
 use Rattle.spec_mps.specs.Shapes.{row_type_of, shaped}
-use Rattle.spec_mps.specs.Steps.{Progress, More, Done, Outcome, more, data_card, on_card, on_reading, reading_of, step}
+use Rattle.spec_mps.specs.Steps.{Progress, More, Done, Outcome, data_card, on_card, on_reading, reading_of, step}
 use Rattle.spec_mps.specs.Steps.{Verdict, Spelled, settled, judge, SpellsWithin}
 
 -- the other check lets pass what the first one does

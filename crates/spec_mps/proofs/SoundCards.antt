@@ -5,7 +5,7 @@
 -- `rhs_card_sound`: a card of RHS that is taken keeps the state sound.
 -- `ranges_card_sound`: a card of RANGES that is taken keeps the state sound.
 -- `bounds_card_sound`: a card of BOUNDS that is taken keeps the state sound.
-use Rattle.std.proofs.Common.{◌≡◌, ◌≢◌, ℕ, zero, suc, ◌+◌, ◌<◌, ◌≤◌, Bool, true, false, ◌||◌, not}
+use Rattle.std.proofs.Common.{◌≡◌, ◌≢◌, ℕ, zero, suc, ◌<◌, ◌≤◌, Bool, true, false, ◌||◌, not}
 use Rattle.std.proofs.Common.{cond, ltb, Option, Some, None, is_none, Ok, List, [], ◌∷◌, ◌++◌, length}
 use Rattle.std.proofs.Common.{map, All, refl, sym, ap, subst, arith, get_or, length-append}
 use borrow.Author.Tests.{ltb-true}

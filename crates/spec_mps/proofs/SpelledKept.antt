@@ -1,5 +1,5 @@
 -- What a text spells is a model that may be kept.
-use Rattle.std.proofs.Common.{◌≡◌, ◌≤◌, ℕ, ◌+◌, Option, Some, is_some, Ok, Err, List, []}
+use Rattle.std.proofs.Common.{◌≡◌, ℕ, ◌+◌, Option, Some, is_some, Ok, Err, List, []}
 use Rattle.std.proofs.Common.{◌∷◌, length, map, All, IsTrue, refl, subst, arith, ◌&&◌, not}
 use Rattle.std.proofs.lemmas.List.{length-map}
 use Rattle.std.proofs.lemmas.List.Elements.{All-nil, All-cons, All-head, All-tail}
