@@ -20,22 +20,27 @@ impl Number for Frac {
 
     ghost writing = { narrow_writing };
 
+    // The number of 127 bits that the text is, if it is one.
     fn read(_: Global, text: &[u8]) -> Result<Option<Frac>, AllocError> {
         Ok(number_of(text))
     }
 
+    // The number 0.
     fn zero(_: Global) -> Result<Frac, AllocError> {
         Ok(zero())
     }
 
+    // A copy of the number, which takes no memory.
     fn copied(&self, _: Global) -> Result<Frac, AllocError> {
         Ok(*self)
     }
 
+    // Whether the number is 0, so that no line is written for it.
     fn is_none(&self) -> bool {
         is_none(*self)
     }
 
+    // Adds the text of the number.
     fn write(&self, alloc: Global, text: &mut Bytes) -> Result<(), AllocError> {
         lp_numtext::write(alloc, *self, text)
     }

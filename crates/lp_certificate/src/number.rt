@@ -16,23 +16,23 @@ pub trait Number: Drop {
     // how one is written
     ghost writing: { Writing Self };
 
-    /// The number that a text is.
+    /// The number that a text is, if it is one.
     fn read(alloc: Global, text: &[u8]) -> Result<Option<Self>, AllocError>
         ensures { IfOk result (λ value. value ≡ reading text.now) };
 
-    /// 0.
+    /// The number 0.
     fn zero(alloc: Global) -> Result<Self, AllocError>
         ensures { IfOk result (λ value. value ≡ nothing) };
 
-    /// The same number again.
+    /// A copy of the number.
     fn copied(&self, alloc: Global) -> Result<Self, AllocError>
         ensures { IfOk result (λ value. value ≡ self.now) };
 
-    /// Whether it is 0.
+    /// Whether the number is 0, so that no line is written for it.
     fn is_none(&self) -> bool
         ensures { result ≡ writing.is_none self.now };
 
-    /// Adds the text of it.
+    /// Adds the text of the number.
     fn write(&self, alloc: Global, text: &mut Bytes) -> Result<(), AllocError>
         ensures { OnOk result (text.new ≡ text.old ++ writing.text self.now) };
 }

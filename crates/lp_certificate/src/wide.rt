@@ -21,22 +21,27 @@ impl Number for Ratio {
 
     ghost writing = { wide_writing };
 
+    // The number of any width that the text is, if it is one.
     fn read(alloc: Global, text: &[u8]) -> Result<Option<Ratio>, AllocError> {
         number_of(alloc, text)
     }
 
+    // The number 0.
     fn zero(alloc: Global) -> Result<Ratio, AllocError> {
         Ratio::zero(alloc)
     }
 
+    // A copy of the number, in memory of its own.
     fn copied(&self, alloc: Global) -> Result<Ratio, AllocError> {
         Ratio::copied(self, alloc)
     }
 
+    // Whether the number is 0, so that no line is written for it.
     fn is_none(&self) -> bool {
         is_none(self)
     }
 
+    // Adds the text of the number.
     fn write(&self, alloc: Global, text: &mut Bytes) -> Result<(), AllocError> {
         let written = wide_text(alloc, self)?;
         text.extend(written.as_slice())

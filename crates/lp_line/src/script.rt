@@ -51,6 +51,7 @@ impl Stage for ScriptStage {
 
     ghost silent = { λ stage addressing pending fits. refl };
 
+    // Where a line leads a script, or what it says: at the end of the input how the script ends.
     fn advance(self, alloc: Global, line: &Line) -> Result<ScriptStep, AllocError> {
         match line {
             Line::End => {

@@ -29,6 +29,7 @@ impl Stage for Reader {
 
     ghost silent = { λ _. refl };
 
+    // Feeds a line to the reader of a model's text: the reader goes on, or the model or the fault is said.
     fn advance(mut self, alloc: Global, line: &Line) -> Result<Step<Reader, TextSaid>, AllocError> {
         match self.feed(alloc, line) {
             Feed::More => Ok(Step::On(self)),
@@ -50,6 +51,7 @@ impl Stage for LargeReader {
 
     ghost silent = { λ _. refl };
 
+    // Feeds a line to the reader of a large model's text: the reader goes on, or the model or the fault is said.
     fn advance(
         mut self,
         alloc: Global,
@@ -75,6 +77,7 @@ impl Stage for CertReader {
 
     ghost silent = { λ _. refl };
 
+    // Feeds a line to the reader of a certificate: it goes on, or the certificate or the unfit line is said.
     fn advance(
         mut self,
         alloc: Global,

@@ -82,6 +82,7 @@ pub(crate) trait Widths {
 impl Widths for NoMore {
     const ANY: bool = false;
 
+    // There are no words left to go on in.
     fn resume<S: Words, N: Listed>(
         _alloc: Global,
         _form: &Form,
@@ -91,6 +92,7 @@ impl Widths for NoMore {
         Ok(None)
     }
 
+    // There are no words that the start might fit.
     fn run_cold<N: Listed>(
         _alloc: Global,
         _form: &Form,
@@ -101,6 +103,7 @@ impl Widths for NoMore {
         Ok(None)
     }
 
+    // There are no words in which the equations might be solved.
     fn run_warm(
         _alloc: Global,
         _form: &Form,
@@ -115,6 +118,8 @@ impl Widths for NoMore {
 impl<T: Words, W: Widths> Widths for Then<T, W> {
     const ANY: bool = true;
 
+    // Goes on in the words `T`, and in wider ones where a number does not fit. There is no end where the state itself
+    // does not fit `T`.
     fn resume<S: Words, N: Listed>(
         alloc: Global,
         form: &Form,
@@ -131,6 +136,7 @@ impl<T: Words, W: Widths> Widths for Then<T, W> {
         }
     }
 
+    // Runs from the start in the words `T` if it fits them, and else in wider ones.
     fn run_cold<N: Listed>(
         alloc: Global,
         form: &Form,
@@ -148,6 +154,7 @@ impl<T: Words, W: Widths> Widths for Then<T, W> {
         }
     }
 
+    // Runs from the basis in the words `T` if the equations can be solved in them, and else in wider ones.
     fn run_warm(
         alloc: Global,
         form: &Form,

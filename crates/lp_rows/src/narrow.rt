@@ -69,6 +69,7 @@ impl Listed for Frac {
 
     ghost fits = { IsNarrow };
 
+    // The fraction of a number in a row, if it has at most 127 bits.
     fn from_row<T: Words>(_: Global, v: RowFraction<T>) -> Result<Option<Frac>, AllocError> {
         Ok(kept(fraction(v)))
     }

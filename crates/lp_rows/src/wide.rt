@@ -49,6 +49,7 @@ impl Listed for Ratio {
 
     ghost fits = { λ r. Unit {0} };
 
+    // The fraction of a number in a row, of any width.
     fn from_row<T: Words>(alloc: Global, v: RowFraction<T>) -> Result<Option<Ratio>, AllocError> {
         let r = ratio(alloc, shared(v))?;
         Ok(Some(r))

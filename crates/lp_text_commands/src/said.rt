@@ -33,6 +33,7 @@ impl<C: Command<Given = Model> + Drop> Output for Said<C> {
 
     ghost code = { λ s. solve_code s.said };
 
+    // Runs the command on the model that was read, and adds what it writes; or adds the line of its fault.
     fn print(self, alloc: Global, to: &mut Bytes) -> Result<ExitStatus, AllocError> {
         let Said { said, command } = self;
         match said {

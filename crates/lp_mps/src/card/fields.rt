@@ -41,6 +41,7 @@ impl Field {
 
 // What a place holds before a field is put there.
 impl MadeWith<Global> for Field {
+    // A field without bytes, of number 0.
     fn made_with(alloc: Global) -> Self {
         Field {
             number: 0,

@@ -34,6 +34,7 @@ impl<C: Command<Given = Handed> + Drop> Output for SaidWithBasis<C> {
 
     ghost code = { λ s. reading.basis_code s.said };
 
+    // Runs the command on the model and basis that were read, and adds what it writes; or adds the line of their fault.
     fn print(self, alloc: Global, to: &mut Bytes) -> Result<ExitStatus, AllocError> {
         let SaidWithBasis { said, command } = self;
         match said {
