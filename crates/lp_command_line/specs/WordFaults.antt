@@ -67,33 +67,41 @@ plain_fault plain word false = Some (NotPlain plain word)
 
 -- ---- the values of options
 
+-- the fault of the value behind `--workers`, if it is no number of workers
 abbrev pub workers_fault : List Word → Option Fault
 workers_fault words = value_fault [] (codes "--workers") words (is_some (workers_given (value_in [] (codes "--workers") words)))
 
+-- the fault of the value behind `--each`, if it is no number of links
 abbrev pub links_fault : List Word → Option Fault
 links_fault words = value_fault [] (codes "--each") words (is_some (links_given (value_in [] (codes "--each") words)))
 
+-- the fault of the value behind `--places`, if it is no number of places
 abbrev pub places_fault : List Word → Option Fault
 places_fault words = value_fault [] (codes "--places") words (is_some (places_given (value_in [] (codes "--places") words)))
 
+-- the fault of the value behind `--form`, if it names no form of texts
 abbrev pub form_fault : OptionNames → List Word → Option Fault
 form_fault switches words =
     value_fault switches (codes "--form") words (is_some (form_given (value_in switches (codes "--form") words)))
 
 -- ---- the words behind each command's word
 
+-- the fault of the words behind `run`, if one has a fault
 abbrev pub run_fault : List Word → Option Fault
 run_fault words =
     option_or (option_or (option_fault (codes "--workers" ∷ codes "--places" ∷ []) [] words) (workers_fault words))
     (places_fault words)
 
+-- the fault of the words behind a command on a text, if one has a fault: such a command takes `--form` alone
 abbrev pub text_fault : List Word → Option Fault
 text_fault words = option_or (option_fault (codes "--form" ∷ []) [] words) (form_fault [] words)
 
+-- the fault of the words behind a command that takes `--form` and `--wide`, if one has a fault
 abbrev pub wide_fault : List Word → Option Fault
 wide_fault words =
     option_or (option_fault (codes "--form" ∷ codes "--wide" ∷ []) wide_switch words) (form_fault wide_switch words)
 
+-- the fault of the words behind `range` that name one number and may choose a form, if one has a fault
 abbrev pub number_fault : List Word → Option Fault
 number_fault (what ∷ name ∷ words) =
     option_or
@@ -106,6 +114,7 @@ abbrev pub range_fault : List Word → Option Fault
 range_fault [] = Some TooFew
 range_fault (what ∷ words) = if is_all what then text_fault words else number_fault (what ∷ words)
 
+-- the fault of the words behind `generate`, if one has a fault
 abbrev pub generate_fault : List Word → Option Fault
 generate_fault (seed ∷ rows ∷ columns ∷ words) =
     option_or
@@ -115,6 +124,7 @@ generate_fault (seed ∷ rows ∷ columns ∷ words) =
     (option_fault [] [] words)
 generate_fault words = Some TooFew
 
+-- the fault of the words behind `serve`, if one has a fault
 abbrev pub serve_fault : List Word → Option Fault
 serve_fault [] = Some TooFew
 serve_fault (address ∷ words) =

@@ -55,6 +55,7 @@ Adds style cards before after (Err stop) = Names (wide_in style cards) stop
 abbrev pub front_cards : Model → WrittenCards
 front_cards m = name_card m.name ∷ sense_cards m.sense ++ rows_cards m ++ columns_cards m
 
+-- the cards of a model's text after those of COLUMNS
 abbrev pub back_cards : Model → WrittenCards
 back_cards m = sides_cards m ++ ranges_cards m ++ bounds_cards m ++ section_card (codes "ENDATA") ∷ []
 

@@ -12,9 +12,11 @@ use Rattle.lp_numtext.specs.declared.parts.Parts.TheVariants as parts
 abbrev pub exponent_seen : Exponent → ℤ
 exponent_seen e = signed e.is_negative (spelled e.digits.bytes.now)
 
+-- a decimal that the code holds, as the parts of a number's text
 abbrev pub decimal_seen : Decimal → NumberParts
 decimal_seen d = scaled d.is_negative d.front.bytes.now d.back.bytes.now (exponent_seen d.exponent)
 
+-- a quotient that the code holds, as the parts of a number's text
 abbrev pub quotient_seen : Quotient → NumberParts
 quotient_seen q = number.Quotient q.is_negative (spelled q.top.bytes.now) (spelled q.bottom.bytes.now)
 

@@ -39,6 +39,7 @@ usual_status f k = if nat_lt k f.cols then lower_first f k else Basic
 
 -- ---- what was read so far
 
+-- what the cards of a basis file have said so far
 pub record State : Type 0 where
   pub begun : Bool  -- whether there was a card
   pub marks : List (Option Status)  -- of each structural and then each logical column, the status that a card gave it

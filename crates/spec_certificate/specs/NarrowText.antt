@@ -22,20 +22,26 @@ narrow text = value_in (number_of text)
 abbrev pub Outcome : Type 0
 Outcome = OutcomeOf ℚ
 
+-- what one line does to what was read of a certificate, with numbers of 127 bits
 abbrev pub step : Option ExactRaw → Line (List ℕ) → Outcome
 step = step_by narrow
 
+-- the lines lead what was read of a certificate on to this, with numbers of 127 bits
 abbrev pub Leads : Option ExactRaw → List (Line (List ℕ)) → Option ExactRaw → Type 0
 Leads = LeadsBy narrow
 
+-- what is found of a certificate's text with numbers of 127 bits
 abbrev pub Judgement : Type 0
 Judgement = JudgementOf ℚ
 
+-- what lines are found to be, behind what was read and from the line with this number on, with numbers of 127 bits
 abbrev pub judge : Option ExactRaw → ℕ → List (Line (List ℕ)) → Judgement
 judge = judge_by narrow
 
+-- the lines spell this certificate, with numbers of 127 bits
 abbrev pub Spells : List (Line (List ℕ)) → ExactRaw → Type 0
 Spells = SpellsBy narrow
 
+-- the lines are refused as a certificate with numbers of 127 bits, at the line with this number
 abbrev pub Refuses : List (Line (List ℕ)) → ℕ → Type 0
 Refuses = RefusesBy narrow

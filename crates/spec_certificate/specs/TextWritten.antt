@@ -74,27 +74,37 @@ unfoldable pub certificate_lines_by : {F : Type 0} → Writing F → Model → C
 certificate_lines_by write m cert = (kind_text m cert ∷ all_part_lines_by write m cert) ++ codes "END" ∷ []
 
 -- ---- with numbers of 127 bits
+
+-- the line of a part: its letter, its name and its number, of 127 bits
 abbrev pub part_text : Letter → Name → ℚ → List ℕ
 part_text = part_text_by narrow_writing
 
+-- the line of a part with a number of 127 bits, or no line where the number is 0
 abbrev pub part_lines : Letter → Name → ℚ → List (List ℕ)
 part_lines = part_lines_by narrow_writing
 
+-- the lines of the first parts, by their places, with numbers of 127 bits
 abbrev pub lines_below : Letter → (ℕ → Name) → List ℚ → ℕ → List (List ℕ)
 lines_below = lines_below_by narrow_writing
 
+-- the lines of a letter's parts for the columns of a model, with numbers of 127 bits
 abbrev pub column_lines : Model → Letter → List ℚ → List (List ℕ)
 column_lines = column_lines_by narrow_writing
 
+-- the lines of a letter's parts for the rows of a model, with numbers of 127 bits
 abbrev pub row_lines : Model → Letter → List ℚ → List (List ℕ)
 row_lines = row_lines_by narrow_writing
 
+-- the lines of all parts of a certificate, with numbers of 127 bits
 abbrev pub all_part_lines : Model → Certificate (List ℚ) → List (List ℕ)
 all_part_lines = all_part_lines_by narrow_writing
 
+-- the lines of a certificate with numbers of 127 bits: its kind, its parts, and END
 abbrev pub certificate_lines : Model → Certificate (List ℚ) → List (List ℕ)
 certificate_lines = certificate_lines_by narrow_writing
 
 -- ---- with numbers of any width
+
+-- the lines of a certificate with numbers of any width: its kind, its parts, and END
 abbrev pub wide_certificate_lines : Model → Certificate (List ℚ) → List (List ℕ)
 wide_certificate_lines = certificate_lines_by wide_writing

@@ -71,6 +71,8 @@ pub record ChecksInfeasible (m : Model) (y : List ℚ) : Type 0 where
   pub less : columns_give m y <ℚ rows_ask m y
 
 -- ---- a column whose lower bound is above its upper bound
+
+-- column j shows that no point is feasible: its lower bound is above its upper one
 pub record ChecksClash (m : Model) (j : ℕ) : Type 0 where
   pub inside : j < width m
   pub low : ℚ

@@ -81,6 +81,8 @@ abbrev pub is_tight : Limits → ℚ → ℚ → Bool
 is_tight l d v = cond (lt_ℚ 0ℚ d) (stands_at l.lower v) (cond (lt_ℚ d 0ℚ) (stands_at l.upper v) true)
 
 -- ---- a feasible point: conditions 1 and 2
+
+-- whether column j of the point is within its bounds, under a limit; else condition 1 fails
 abbrev pub column_within_run : Option ℕ → Model → List ℚ → ℕ → Run ⊤
 column_within_run limit m x j =
     at_least 1 limit (bounds m j).lower (part x j) >>= λ _. at_most 1 limit (bounds m j).upper (part x j)
@@ -105,6 +107,8 @@ abbrev pub rows_run : Option ℕ → Model → List ℚ → Run ⊤
 rows_run limit m x = each (height m) (row_within_run limit m x)
 
 -- ---- complementary multipliers: conditions 3 and 4
+
+-- the reduced cost of column j with these multipliers, for the objective to be made least
 abbrev pub reduced_run : Option ℕ → Model → List ℚ → ℕ → Run ℚ
 reduced_run limit m y j =
     steps (height m) (λ i d. less_product limit (part y i) (coefficient m i j) d) (signed m.sense (cost m j))
@@ -123,6 +127,8 @@ row_tight_run limit m x y i =
     (activity_run limit m x i >>= λ v. upper_run limit (row m i) >>= λ u. need 4 (stands_at u v)) (Ok tt))
 
 -- ---- the value
+
+-- the sum of the costs times a point or a ray
 abbrev pub cost_run : Option ℕ → Model → List ℚ → Run ℚ
 cost_run limit m z = sum_run limit (width m) (cost m) (λ j. part z j)
 

@@ -19,8 +19,8 @@ use Rattle.spec_check.specs.Raw.{PartOf, RawOf, ExactRaw, ExactKind}
 abbrev pub Settled : Type 0 → Type 0
 Settled A = Result A (SettleFault Name)
 
--- the next step goes on with a result; a fault ends all
 infixl 1 ◌>>=◌
+-- the next step goes on with a result; a fault ends all
 abbrev pub ◌>>=◌ : {A B : Type 0} → Settled A → (A → Settled B) → Settled B
 (Ok a) >>= next = next a
 (Err fault) >>= next = Err fault

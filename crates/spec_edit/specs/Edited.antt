@@ -29,8 +29,8 @@ ExactEdit = Edit Name ℚ Pairs Limits
 abbrev pub OrFault : Type 0 → Type 0
 OrFault A = Result A (EditFault Name)
 
--- the next step goes on with a result; a fault ends the edit
 infixl 1 ◌>>=◌
+-- the next step goes on with a result; a fault ends the edit
 abbrev pub ◌>>=◌ : {A B : Type 0} → OrFault A → (A → OrFault B) → OrFault B
 (Ok a) >>= next = next a
 (Err fault) >>= next = Err fault

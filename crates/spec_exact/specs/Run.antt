@@ -11,8 +11,8 @@ use Rattle.spec_exact.specs.declared.past.Past.{Past}
 abbrev pub Run : Type 0 → Type 0
 Run A = Result A (Past ℚ)
 
--- the next part of a run goes on with a result; an error ends the run
 infixl 1 ◌>>=◌
+-- the next part of a run goes on with a result; an error ends the run
 abbrev pub ◌>>=◌ : {A B E : Type 0} → Result A E → (A → Result B E) → Result B E
 (Ok a) >>= next = next a
 (Err e) >>= next = Err e
@@ -27,15 +27,19 @@ refused_as kind (Err p) = Err (kind p)
 abbrev pub sum_run : Option ℕ → ℚ → ℚ → Run ℚ
 sum_run limit v w = told Add v w (add limit v w)
 
+-- the difference v - w at a limit, or the refusal with both operands
 abbrev pub difference_run : Option ℕ → ℚ → ℚ → Run ℚ
 difference_run limit v w = told Sub v w (sub limit v w)
 
+-- the product v * w at a limit, or the refusal with both operands
 abbrev pub product_run : Option ℕ → ℚ → ℚ → Run ℚ
 product_run limit v w = told Mul v w (mul limit v w)
 
+-- the quotient v / w at a limit, or the refusal with both operands
 abbrev pub quotient_run : Option ℕ → ℚ → ℚ → Run ℚ
 quotient_run limit v w = told Div v w (div limit v w)
 
+-- the order of v and w at a limit, or the refusal with both operands
 abbrev pub order_run : Option ℕ → ℚ → ℚ → Run Ordering
 order_run limit v w = told Cmp v w (compare limit v w)
 

@@ -119,6 +119,8 @@ unfoldable pub factor_run : Option ℕ → Form → List Status → Result Facto
 factor_run limit f basis = choose_all limit f basis (f.cols + f.rows) >>= λ s. Ok (factors_of s)
 
 -- ---- replace: column k, a list by rows, takes place p
+
+-- the factors after column k, given as a list by rows, takes place p
 unfoldable pub replace_run : Option ℕ → ℕ → Factors → ℕ → ℕ → List ℚ → Run Factors
 replace_run limit m s p k column =
     ftran_run limit m s.pairs column >>= λ v.

@@ -80,6 +80,8 @@ only_column_at m sides j =
     }
 
 -- ---- the whole, whose objective is 0
+
+-- the model with these sides alone, and the objective 0
 unfoldable pub only : Model → List Side → Model
 only m sides =
     record {

@@ -106,6 +106,8 @@ abbrev pub bounds_of : ExactColumn → Limits
 bounds_of c = record { lower = c.lower; upper = c.upper }
 
 -- ---- rows, columns and entries by their numbers
+
+-- what is read where there is no row of this number
 abbrev pub no_row : ExactRow
 no_row = record { name = []; kind = L; rhs = 0ℚ; range = None }
 

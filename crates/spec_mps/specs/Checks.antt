@@ -5,6 +5,7 @@ use Rattle.spec_mps.specs.declared.fault.Code.TheVariants as code
 use Rattle.spec_mps.specs.declared.number.NumFault.{NumFault}
 use Rattle.spec_mps.specs.declared.number.NumFault.TheVariants as fault
 
+-- a result, or the code of what is wrong with a text
 abbrev pub Check : Type 0 → Type 0
 Check A = Result A Code
 

@@ -64,6 +64,7 @@ abbrev pub without_front : List ℕ → List ℕ
 without_front [] = []
 without_front (b ∷ bs) = if is_space b then without_front bs else b ∷ bs
 
+-- the bytes without the blanks at their end
 abbrev pub without_end : List ℕ → List ℕ
 without_end [] = []
 without_end (b ∷ bs) = if list_all is_space (b ∷ bs) then [] else b ∷ without_end bs

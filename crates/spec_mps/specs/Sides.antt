@@ -32,6 +32,7 @@ abbrev pub set_and_pairs_by : Bool → List (List ℕ) → SetAndPairs
 set_and_pairs_by true (set ∷ texts) = record { set = Some set; pairs = pairs_of texts }
 set_and_pairs_by odd texts = record { set = None; pairs = pairs_of texts }
 
+-- the set's name and the pairs of a card of RHS or RANGES: an odd number of texts has a name first
 unfoldable pub set_and_pairs : List (List ℕ) → SetAndPairs
 set_and_pairs texts = set_and_pairs_by (is_odd texts) texts
 

@@ -208,6 +208,7 @@ RefusesWithin limits style lines n fault = judge limits style start 1 lines ≡ 
 abbrev pub Spells : Style → List (Line (List ℕ)) → Model → Type 0
 Spells = SpellsWithin usual_limits
 
+-- the lines are refused within the usual limits, at the line of this number and with this code
 abbrev pub Refuses : Style → List (Line (List ℕ)) → ℕ → Code → Type 0
 Refuses = RefusesWithin usual_limits
 

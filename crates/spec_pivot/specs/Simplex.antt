@@ -105,6 +105,8 @@ pub record Enters (n : ℕ) (b : Bounds) (t : Table) (way : Way) (j : ℕ) : Typ
   pub least : (k : ℕ) (w : Way) → k < j → ¬ (IsEligible b t w k)
 
 -- ---- the move
+
+-- 1 where a column rises, -1 where it falls
 abbrev pub sign : Way → ℚ
 sign Up = 1ℚ
 sign Down = neg_ℚ 1ℚ

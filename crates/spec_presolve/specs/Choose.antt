@@ -33,6 +33,8 @@ abbrev pub first : {A : Type 0} → ℕ → (ℕ → Run (Option A)) → Run (Op
 first n f = steps n (λ k found. unless found (f k)) None
 
 -- ---- bounds that clash
+
+-- whether a lower bound is above an upper one, where both are there
 abbrev pub crossed : Option ℕ → Option ℚ → Option ℚ → Run Bool
 crossed limit None upper = Ok false
 crossed limit (Some l) None = Ok false

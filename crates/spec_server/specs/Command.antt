@@ -22,6 +22,7 @@ ExactCommand = Command ExactEdit
 
 -- ---- words
 
+-- whether a byte is a digit
 abbrev pub is_digit : ℕ → Bool
 is_digit b = nat_le 48 b && nat_le b 57
 

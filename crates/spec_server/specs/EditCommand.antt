@@ -34,6 +34,7 @@ abbrev pub ◌>>=◌ : {A B : Type 0} → Reads A → (A → Reads B) → Reads 
 
 -- ---- one word
 
+-- what is wrong with an edit's line where a number's text has this fault
 abbrev pub number_fault : NumFault → LineFault
 number_fault number.Shape = fault.Number
 number_fault number.Wide = fault.Wide

@@ -18,6 +18,8 @@ use Rattle.spec_simplex.specs.declared.ends.StartStop.{StartStop}
 use Rattle.spec_simplex.specs.declared.ends.StartStop.TheVariants as stop
 
 -- ---- bases
+
+-- the status that a basis gives column k
 abbrev pub basis_at : List Status → ℕ → Status
 basis_at basis k = get_or basis k Basic
 
@@ -147,6 +149,8 @@ abbrev pub with_values : Tableau → List ℚ → Tableau
 with_values t values = record t { value = values }
 
 -- ---- the whole: elimination, values, and the reduced costs for the form's costs
+
+-- a tableau after elimination, with its values and its reduced costs for the form's costs
 abbrev pub filled_run : Option ℕ → Form → Tableau → Run Tableau
 filled_run limit f t =
     valued_run limit t >>= λ values.

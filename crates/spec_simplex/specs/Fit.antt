@@ -13,6 +13,8 @@ use Rattle.spec_simplex.specs.declared.ends.Fit.TheVariants.{Primal, Dual, Unfit
 use Rattle.spec_simplex.specs.declared.ends.Leaving.{Leaving}
 
 -- ---- the first basic column that is outside its bounds
+
+-- whether the value v is below a lower bound, where there is one
 abbrev pub below_lower : Option ℕ → Option ℚ → ℚ → Run Bool
 below_lower limit None v = Ok false
 below_lower limit (Some l) v = order_run limit v l >>= λ o. Ok (is_lt o)
@@ -82,6 +84,8 @@ all_meet t zero = true
 all_meet t (suc n) = all_meet t n && meets_need_at t n
 
 -- ---- the fit
+
+-- what the fit of a tableau is, by the basic column that has to leave, if one has
 abbrev pub fit_by : Tableau → Option Leaving → Fit
 fit_by t None = Primal
 fit_by t (Some x) = if all_meet t (all_columns t) then Dual else Unfit

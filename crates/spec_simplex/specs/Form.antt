@@ -57,10 +57,14 @@ abbrev pub form_cost : Form → ℕ → ℚ
 form_cost f k = get_or f.cost k 0ℚ
 
 -- ---- the limits of a row, the lower one first
+
+-- the lower and the upper limit of a row
 abbrev pub limits_run : Option ℕ → ExactRow → Run (Option ℚ × Option ℚ)
 limits_run limit r = lower_run limit r >>= λ l. upper_run limit r >>= λ u. Ok (l, u)
 
 -- ---- a fault where the bounds of column j clash
+
+-- a fault of column j where its lower bound is found greater than its upper one
 abbrev pub clash_by : ℕ → Ordering → Result (Unit {0}) (FormFault ℚ)
 clash_by j Less = Ok tt
 clash_by j Equal = Ok tt
@@ -77,11 +81,15 @@ abbrev pub column_clash : Option ℕ → Model → ℕ → Result (Unit {0}) (Fo
 column_clash limit m j = bounds_clash limit j (column m j).lower (column m j).upper
 
 -- ---- the cost to be made least
+
+-- the cost that is to be made least: c, or its negative where the sense is Max
 abbrev pub least_cost : Sense → ℚ → ℚ
 least_cost Min c = c
 least_cost Max c = neg_ℚ c
 
 -- ---- the form: the columns of the model, then its rows
+
+-- the form of a model, by the limits of its rows
 abbrev pub formed : Model → List (Option ℚ × Option ℚ) → Form
 formed m limits =
     record {

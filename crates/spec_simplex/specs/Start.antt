@@ -15,6 +15,8 @@ use Rattle.spec_exact.specs.Run.{plus_product, less_product, steps, list_run, ma
 use Rattle.spec_simplex.specs.Tableau.{Tableau, all_columns, basic_at, entry_at, or_zero, stand}
 
 -- ---- the structural columns
+
+-- the status at which a structural column begins: at its lower bound, else its upper one, else at 0
 abbrev pub first_status : Option ℚ → Option ℚ → Status
 first_status (Some l) upper = AtLower
 first_status None (Some u) = AtUpper
@@ -25,6 +27,8 @@ abbrev pub first_value : Form → ℕ → ℚ
 first_value f j = stand (first_status (form_lower f j) (form_upper f j)) (form_lower f j) (form_upper f j)
 
 -- ---- the rows
+
+-- the sum of row i at the values that the structural columns begin with
 abbrev pub row_sum : Option ℕ → Form → ℕ → Run ℚ
 row_sum limit f i = steps f.cols (λ j s. plus_product limit (form_entry f i j) (first_value f j) s) 0ℚ
 
@@ -67,6 +71,8 @@ row_start limit f i =
     row_start_by limit (form_upper f (f.cols + i)) v gap
 
 -- ---- what a row's logical and its artificial begin with
+
+-- the status at which the logical column of a row begins
 abbrev pub logical_status : RowStart ℚ → Status
 logical_status (Within v) = Basic
 logical_status (Below gap) = AtLower
@@ -116,6 +122,8 @@ is_wanting (Below gap) = true
 is_wanting (Above gap) = true
 
 -- ---- the tableau
+
+-- how row i starts
 abbrev pub start_at : List (RowStart ℚ) → ℕ → RowStart ℚ
 start_at starts i = get_or starts i (Within 0ℚ)
 
@@ -170,6 +178,8 @@ begun f starts =
     }
 
 -- ---- reduced costs, for a list of costs in which all others are 0
+
+-- the cost of column k in a list of costs, and 0 past its end
 abbrev pub cost_at : List ℚ → ℕ → ℚ
 cost_at costs k = get_or costs k 0ℚ
 
@@ -187,6 +197,8 @@ abbrev pub with_reduced : Tableau → List ℚ → Tableau
 with_reduced t reduced = record t { reduced = reduced }
 
 -- ---- the start, with the reduced costs of phase one: its costs are 1 for each artificial that is basic
+
+-- the cost of a row's artificial column in phase one: 1 where it is basic
 abbrev pub first_cost : RowStart ℚ → ℚ
 first_cost (Within v) = 0ℚ
 first_cost (Below gap) = 1ℚ

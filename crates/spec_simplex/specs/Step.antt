@@ -107,6 +107,8 @@ best_run limit t e =
     range_run limit e (lower_at t e.col) (upper_at t e.col) >>= λ best. steps t.rows (best_with limit t e) best
 
 -- ---- what the step does
+
+-- a flip of the entering column where no position stops it, and else a pivot at the position
 abbrev pub choice_at : Entering → Best ℚ → Option ℕ → Choice ℚ
 choice_at e best None = Flip e.col
 choice_at e best (Some i) = Pivot i e.col (directed e.up best.ratio) best.to
@@ -144,6 +146,8 @@ moved_run limit t j theta but =
     steps t.rows (λ i values. if is_place but i then Ok values else moved_at limit t j theta i values) t.value
 
 -- ---- a flip: column j goes to its other bound
+
+-- whether a flip of a column of this status rises
 abbrev pub flip_way : Status → Bool
 flip_way AtLower = true
 flip_way Basic = false

@@ -10,6 +10,7 @@ use Rattle.spec_model.specs.Kept.{row_limit, column_limit}
 use Rattle.spec_pivot.specs.declared.status.Status.{Status}
 use Rattle.spec_pivot.specs.declared.status.Status.TheVariants.{Basic, AtLower, AtUpper, AtZero}
 
+-- the equations of a form solved for the basic columns, with values, reduced costs, statuses and bounds
 pub record Tableau : Type 0 where
   pub rows : ℕ
   pub cols : ℕ  -- the structural ones
@@ -34,6 +35,8 @@ abbrev pub is_artificial : Tableau → ℕ → Bool
 is_artificial t k = nat_le (form_columns t) k
 
 -- ---- by the numbers of positions and columns
+
+-- the number of row i in column k, and 0 past the rows or their ends
 abbrev pub at_place : List (List ℚ) → ℕ → ℕ → ℚ
 at_place rows i k = get_or (get_or rows i []) k 0ℚ
 
