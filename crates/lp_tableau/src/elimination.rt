@@ -1,4 +1,5 @@
-// The rows of a pivot, without the columns that are twins of others.
+// The rows of a pivot, without the columns that are twins: artificial columns, each of which is its row's logical
+// column or the negative of that.
 ghost use Rattle.std.specs.Prelude.{◌≡◌, ◌≢◌, ◌<◌, ◌≤◌, ◌+◌, [], Some, length, get_or, take};
 ghost use Rattle.spec_exact.specs.Fraction.{0ℚ};
 ghost use Rattle.spec_exact.specs.Narrow.{number_limit};

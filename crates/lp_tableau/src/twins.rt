@@ -1,5 +1,5 @@
-// The rows of a tableau without its artificial columns, each of which is its row's logical, or its
-// negative, all through: an operation on the one gives, up to the sign, what it gives on the other.
+// The rows of a tableau without its artificial columns. Each of these is a twin: its row's logical column, or the
+// negative of that, all through. An operation on the one gives, up to the sign, what it gives on the other.
 ghost use Rattle.std.specs.Prelude.{◌≡◌, ◌≢◌, ◌<◌, ◌≤◌, ◌+◌, [], Some, length, get_or};
 ghost use Rattle.spec_exact.specs.Fraction.{0ℚ};
 ghost use Rattle.spec_exact.specs.Narrow.{number_limit};
