@@ -3,7 +3,7 @@ use Rattle.std.specs.Prelude.{ℕ, ◌≡◌, ◌<◌, ◌+◌, ◌-◌, ◌++�
 use Rattle.lp_base.specs.declared.outside.Failed.{Failed}
 use Rattle.lp_base.specs.LinkState.{LinkState, IsNothing}
 
--- a link was given or came back, as it then was
+-- an event of a listener: it gave a link, or took one back, and the link was so at that time
 pub data LinkEvent : Type 0 where
   Given : (link : LinkState) → LinkEvent
   Returned : (link : LinkState) → LinkEvent

@@ -312,7 +312,8 @@ fn correct_all(state: &mut State) {
     }
 }
 
-// Makes all numbers anew.
+// Makes the factors, the reduced costs and the basic values anew from the numbers of the program, with each nonbasic
+// column at the bound that suits its reduced cost.
 fn rebuild(alloc: Global, state: &mut State, program: &Program) -> Result<(), AllocError> {
     refactor(alloc, state, program)?;
     reduce(state, program)?;

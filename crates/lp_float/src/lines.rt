@@ -2,7 +2,7 @@
 use crate::number::{index_at, put_index};
 use std::alloc::{AllocError, Global};
 
-/// Lines of numbers, each number with its index.
+/// Lines of a sparse matrix, its rows or its columns: the numbers that are not 0, each with its index in the line.
 pub(crate) struct Lines {
     ends: Vec<usize>,
     entries: Vec<(usize, f64)>,
@@ -17,7 +17,7 @@ impl Drop for Lines {
 }
 
 impl Lines {
-    /// No lines.
+    /// A matrix without lines, to which lines are added one by one.
     pub(crate) fn new(alloc: Global) -> Self {
         Lines {
             ends: Vec::new(alloc),

@@ -227,7 +227,7 @@ fn primal_step(
     )
 }
 
-// Makes all numbers anew.
+// Makes the factors, the basic values and the reduced costs anew from the numbers of the program.
 fn rebuild(alloc: Global, state: &mut State, program: &Program) -> Result<(), AllocError> {
     refactor(alloc, state, program)?;
     evaluate(state, program)?;

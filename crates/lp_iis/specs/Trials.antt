@@ -13,7 +13,7 @@ use Rattle.spec_iis.specs.Found.{EndsCold, ShowsInfeasible}
 use Rattle.lp_iis.specs.declared.trial.Trial.{Trial}
 use Rattle.lp_iis.specs.declared.trial.Trial.TheVariants.{Infeasible, Point, Stopped}
 
--- what a certificate says of its model
+-- what a certificate says of its model: that a point is feasible, or that none is
 abbrev pub trial_by : Certificate (List ℚ) → Trial
 trial_by (Optimal x y) = Point x
 trial_by (Unbounded x r) = Point x

@@ -138,7 +138,8 @@ fn put_row_rates(
     Ok(())
 }
 
-// The rates of the basic columns, with numbers of any width.
+// The rates at which the basic columns move, 0 of the others, where those that are not basic move so: by sums of any
+// width.
 fn long_rates(
     alloc: Global,
     program: &Program<'_>,

@@ -3,11 +3,11 @@ use Rattle.std.specs.Prelude.{ℕ, Ok}
 use Rattle.spec_model.specs.Model.{Model, Name}
 use Rattle.spec_edit.specs.Edited.{OrFault, ◌>>=◌, row_named, column_named}
 
--- the change of the row with a name
+-- the model changed at the row with a name, or the fault that no row has it
 abbrev pub at_row : Model → Name → (ℕ → Model) → OrFault Model
 at_row m name change = row_named m name >>= λ i. Ok (change i)
 
--- the change of the column with a name
+-- the model changed at the column with a name, or the fault that no column has it
 abbrev pub at_column : Model → Name → (ℕ → Model) → OrFault Model
 at_column m name change = column_named m name >>= λ j. Ok (change j)
 

@@ -52,7 +52,7 @@ pub record HoldsParts {T : Type 0} (value : T → ℕ) (t : Tableau) (r : RowTab
 abbrev pub whole_of : {T : Type 0} → (T → ℕ) → Signed T → ℤ
 whole_of value n = whole n.negative (value n.size)
 
--- the numbers of a list, as whole numbers
+-- the whole numbers of a list of numbers with a sign and a magnitude
 abbrev pub wholes : {T : Type 0} → (T → ℕ) → List (Signed T) → List ℤ
 wholes value ns = map (whole_of value) ns
 

@@ -47,7 +47,7 @@ plus_product limit v w s = refused_as stop.Past (exact.plus_product limit v w s)
 abbrev pub less_product : Option ℕ → ℚ → ℚ → ℚ → Run ℚ
 less_product limit v w s = refused_as stop.Past (exact.less_product limit v w s)
 
--- the sum of f k * g k for k below n
+-- the sum of f k * g k for k below n, or the first operation that the limit refuses
 abbrev pub sum_run : Option ℕ → ℕ → (ℕ → ℚ) → (ℕ → ℚ) → Run ℚ
 sum_run limit n f g = steps n (λ k s. plus_product limit (f k) (g k) s) 0ℚ
 

@@ -75,7 +75,7 @@ IisOut (Ok m) written =
     (found : ExactIis) × MayFind m opening_budget found × (written ≡ ended_lines (iis_lines m found))
 IisOut (Err fault) written = written ≡ check_line (reply.Refused (refusal.Misspelled fault))
 
--- the status of it
+-- the status of the command `iis`: 9 where it writes that its text spells no model, else 0
 abbrev pub iis_code : TextSaid → ℕ
 iis_code (Ok m) = 0
 iis_code (Err fault) = 9

@@ -33,7 +33,7 @@ outside_by limit upper v false = above_upper limit upper v >>= λ above. Ok (if 
 abbrev pub outside_run : Option ℕ → Option ℚ → Option ℚ → ℚ → Run (Option Bool)
 outside_run limit lower upper v = below_lower limit lower v >>= outside_by limit upper v
 
--- column k leaves, if its value is outside its bounds
+-- column k as the one that leaves, if its value is outside its bounds
 abbrev pub leaving_at : Option ℕ → Tableau → ℕ → Run (Option Leaving)
 leaving_at limit t k =
     outside_run limit (lower_at t k) (upper_at t k) (value_at t k) >>=

@@ -12,7 +12,7 @@ fn has_entry<T: Words>(row: &Row<T>, j: usize) -> bool {
     }
 }
 
-// How many numbers of a row are not 0. Those of one word are changed about as quickly as they are counted, so a quarter
+// About how many numbers of a row are not 0. Those of one word are changed about as quickly as they are counted, so a quarter
 // of them stands for the count.
 fn entry_count<T: Words>(row: &Row<T>) -> usize {
     if T::width() == 64 {

@@ -50,7 +50,7 @@ fn basic_value<T: Words>(tab: &RowTableau<T>, i: usize) -> Option<RowFraction<T>
     last_number(&tab.rows[i], last, tab.denominator)
 }
 
-// The number of a row's last column, on a further denominator.
+// The last number of a row as a fraction, whose denominator is the row's times `denominator`.
 fn last_number<T: Words>(row: &Row<T>, last: usize, denominator: T) -> Option<RowFraction<T>>
     requires row { IsRow T.value last row.now }
     ensures { IfSome result (λ v. fraction_of T.value v ≡
