@@ -13,6 +13,7 @@ use Rattle.lp_rows.specs.declared.tableau.tableau.RowTableau.{RowTableau}
 use Rattle.lp_rows.specs.Shows.{width}
 
 -- ---- the lists of spec_runs, of another kind of numbers
+
 -- the values of the structural columns
 abbrev pub point_as : {N : Type 0} → (ℚ → N) → Tableau → List N
 point_as of t = made t.cols (λ j. of (value_at t j))

@@ -13,6 +13,7 @@ use Rattle.lp_rows.specs.declared.tableau.tableau.RowTableau.{RowTableau}
 use Rattle.lp_rows.specs.Shows.{IsRow, row_at}
 
 -- ---- rows of fractions
+
 -- the numbers are these fractions, and the last one this value on a further denominator d
 pub record IsRowOf {T : Type 0} (value : T → ℕ) (list : List ℚ) (last : ℚ) (d : ℕ) (row : Row T) : Type 0 where
   pub is_row : IsRow value (length list) row
@@ -48,6 +49,7 @@ pub record HoldsParts {T : Type 0} (value : T → ℕ) (t : Tableau) (r : RowTab
   pub positive : 0 < value r.denominator
 
 -- ---- whole numbers
+
 -- a sign and a magnitude as a whole number
 abbrev pub whole_of : {T : Type 0} → (T → ℕ) → Signed T → ℤ
 whole_of value n = whole n.negative (value n.size)

@@ -12,6 +12,7 @@ use Rattle.lp_rows.specs.declared.tableau.tableau.RowTableau.{RowTableau}
 use Rattle.lp_rows.specs.Shows.{IsRow, Shows, row_at, width}
 
 -- ---- costs
+
 -- the number of column k of a row, as a fraction
 abbrev pub fraction_of : {T : Type 0} → (T → ℕ) → Row T → ℕ → ℚ
 fraction_of value row k = fraction_at value row.numbers.items (value row.denominator) k
@@ -45,6 +46,7 @@ pub record IsPricedRow {T : Type 0} (value : T → ℕ) (r : RowTableau T) (cost
       get_or costs k 0ℚ -ℚ sum_below t.rows (λ i. get_or costs (basic_at t i) 0ℚ *ℚ entry_at t i k)
 
 -- ---- bounds
+
 -- the bounds from that of column n up to that of column m are 0, and those before are as they were
 pub record AreZeroed {T : Type 0} (value : T → ℕ) (n m : ℕ) (old new : List (Option (Signed T))) : Type 0 where
   pub len : length new ≡ length old

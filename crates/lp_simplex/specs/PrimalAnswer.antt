@@ -18,6 +18,7 @@ Runs answer t used (Ok end) = answer ≡ Ok (record { end = end; tableau = t; us
 Runs answer t used (Err stop) = answer ≡ Err stop
 
 -- ---- how many steps are made before a stop
+
 -- a flip or a pivot makes u of t
 pub record IsStep (t u : Tableau) : Type 0 where
   pub choice : Choice ℚ

@@ -41,6 +41,7 @@ pub record IsNarrowGrid (rows : List (List ℚ)) : Type 0 where
   pub each : (i k : ℕ) → IsWithin number_limit (at_place rows i k)
 
 -- ---- the columns in which a row is not 0
+
 -- the row is 0 from column a up to column b
 abbrev pub ZeroFrom : List ℚ → ℕ → ℕ → Type 0
 ZeroFrom row a b = (k : ℕ) → a ≤ k → k < b → get_or row k 0ℚ ≡ 0ℚ

@@ -32,6 +32,7 @@ pub record IsTwinned (c m : ℕ) (turned : List Bool) (rows : List (List ℚ)) :
   pub grid : IsGrid m (c + m) rows
 
 -- ---- the steps of a pivot on the rows without twins
+
 -- row p over a number
 unfoldable pub scaled_by : Option ℕ → ℕ → List (List ℚ) → ℕ → ℚ → Run (List (List ℚ))
 scaled_by limit n rows p by =

@@ -15,6 +15,7 @@ use Rattle.spec_exact.specs.Run.{made}
 use Rattle.spec_simplex.specs.Eliminate.{basis_at, basics_below}
 
 -- ---- two bits for each column
+
 -- which bounds there are
 abbrev pub bounds_code : Option ℚ → Option ℚ → ℕ
 bounds_code None None = 0
@@ -45,6 +46,7 @@ suits AtUpper bounds = nat_le 2 bounds
 suits AtZero bounds = nat_eq bounds 0
 
 -- ---- words
+
 -- how many columns there can be
 abbrev pub places : ℕ
 places = 768
@@ -63,6 +65,7 @@ abbrev pub code_at : ℕ → List ℕ → ℕ → ℕ
 code_at first words c = get_or words (first + c / 32) 0 / 2 ^ (2 * (c % 32)) % 4
 
 -- ---- of a form and a basis
+
 -- the two bits for the bounds of column c of a form
 abbrev pub form_code : Form → ℕ → ℕ
 form_code f c = bounds_code (form_lower f c) (form_upper f c)
@@ -80,6 +83,7 @@ unfoldable pub packed : Form → List Status → List ℕ
 packed f basis = shape_of f ++ words_of (basis_code basis)
 
 -- ---- of words
+
 -- the number of rows, by word 0
 abbrev pub rows_of : List ℕ → ℕ
 rows_of words = get_or words 0 0 / 65536

@@ -52,6 +52,7 @@ abbrev pub sum_run : Option ℕ → ℕ → (ℕ → ℚ) → (ℕ → ℚ) → 
 sum_run limit n f g = steps n (λ k s. plus_product limit (f k) (g k) s) 0ℚ
 
 -- ---- a row's limits
+
 -- the lower limit of a row, or the refusal of its operation
 abbrev pub lower_run : Option ℕ → ExactRow → Run (Option ℚ)
 lower_run limit r = refused_as stop.Past (model.lower_run limit r)
@@ -61,6 +62,7 @@ abbrev pub upper_run : Option ℕ → ExactRow → Run (Option ℚ)
 upper_run limit r = refused_as stop.Past (model.upper_run limit r)
 
 -- ---- tests
+
 -- condition n asks that v is at least a lower limit
 abbrev pub at_least : ℕ → Option ℕ → Option ℚ → ℚ → Run ⊤
 at_least n limit None v = Ok tt

@@ -23,6 +23,7 @@ refused_as kind (Ok a) = Ok a
 refused_as kind (Err p) = Err (kind p)
 
 -- ---- one operation
+
 -- each gives its result, or the refusal with its two operands
 abbrev pub sum_run : Option ℕ → ℚ → ℚ → Run ℚ
 sum_run limit v w = told Add v w (add limit v w)
@@ -44,6 +45,7 @@ abbrev pub order_run : Option ℕ → ℚ → ℚ → Run Ordering
 order_run limit v w = told Cmp v w (compare limit v w)
 
 -- ---- two operations: v * w onto s, and off s
+
 -- s + v * w
 abbrev pub plus_product : Option ℕ → ℚ → ℚ → ℚ → Run ℚ
 plus_product limit v w s = product_run limit v w >>= λ p. sum_run limit s p
@@ -53,6 +55,7 @@ abbrev pub less_product : Option ℕ → ℚ → ℚ → ℚ → Run ℚ
 less_product limit v w s = product_run limit v w >>= λ p. difference_run limit s p
 
 -- ---- many
+
 -- f 0, f 1 .. f (n - 1) in order, each applied to the result of the one before it
 abbrev pub steps : {A E : Type 0} → ℕ → (ℕ → A → Result A E) → A → Result A E
 steps zero f a = Ok a

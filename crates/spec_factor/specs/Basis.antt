@@ -50,6 +50,7 @@ abbrev pub with_column : Matrix → ℕ → List ℚ → Matrix
 with_column basis p column r s = cond (nat_eq s p) (get_or column r 0ℚ) (basis r s)
 
 -- ---- bases of a form
+
 -- the matrix of the columns at the places
 abbrev pub basis_of : Form → List ℕ → Matrix
 basis_of f basic r s = column_entry f r (get_or basic s 0)

@@ -32,6 +32,7 @@ pub record Factors : Type 0 where
   pub basic : List ℕ  -- of each place, its column
 
 -- ---- the columns of the form's equations
+
 -- the entry of column k of the form's equations in row i
 abbrev pub column_entry : Form → ℕ → ℕ → ℚ
 column_entry f i k = if nat_lt k f.cols then neg_ℚ (form_entry f i k) else one_at i (k - f.cols) 1ℚ
@@ -41,6 +42,7 @@ abbrev pub column_of : Form → ℕ → List ℚ
 column_of f k = made f.rows (λ i. column_entry f i k)
 
 -- ---- ftran: from a list by rows to the solution by places, with the pairs from first to last
+
 -- the item at the pair's place is divided; each other one loses its entry's part of it
 unfoldable pub forward_run : Option ℕ → ℕ → Pair → List ℚ → Run (List ℚ)
 forward_run limit m e v =
@@ -53,6 +55,7 @@ ftran_run limit m [] v = Ok v
 ftran_run limit m (e ∷ es) v = forward_run limit m e v >>= λ w. ftran_run limit m es w
 
 -- ---- btran: from a list by places to the solution by rows, with the pairs from last to first
+
 -- the item at the pair's place loses the others' parts, and is divided
 unfoldable pub backward_run : Option ℕ → ℕ → Pair → List ℚ → Run (List ℚ)
 backward_run limit m e v =
@@ -66,6 +69,7 @@ btran_run limit m [] v = Ok v
 btran_run limit m (e ∷ es) v = btran_run limit m es v >>= λ w. backward_run limit m e w
 
 -- ---- factor: the basic columns one by one in the order of their numbers
+
 -- the pairs so far, and the columns of the places that have one
 pub record Chosen : Type 0 where
   pub pairs : List Pair

@@ -24,6 +24,7 @@ use Rattle.spec_factor.specs.Revised.{Revised, bare_of, refactor_run, Selection}
 use Rattle.spec_factor.specs.Revised.{selection_run, flip_over_run, pivot_over_run}
 
 -- ---- steps up to an end
+
 -- how steps ended, with what the last one saw and the count of pivots and flips
 pub record RevisedEnded : Type 0 where
   pub end : PrimalEnd
@@ -58,6 +59,7 @@ over_from limit f starts costs (suc left) used s =
     over_or_next limit f s used (λ u. over_from limit f starts costs left (used + 1) u) selection selection.choice
 
 -- ---- the two phases
+
 -- the selection where phase one makes no step
 abbrev pub nothing_seen : Revised → Selection
 nothing_seen s = record { multipliers = []; tableau = s.bare; choice = End Optimal }
@@ -125,6 +127,7 @@ over_run limit budget f =
     over_phases limit budget f starts s
 
 -- ---- beside the run on whole tableaus
+
 -- the certificate, the basis and the count of an end on whole tableaus
 abbrev pub answer_of : PhasesEnd → OverEnd
 answer_of e = record { certificate = certificate_of e; basis = basis_of e; pivots = pivots_of e }
@@ -135,6 +138,7 @@ answer_in (Ok e) = Ok (answer_of e)
 answer_in (Err s) = Err s
 
 -- ---- the check, at the same limit, of a model that has this form
+
 -- how a solve ends after the run over factors
 abbrev pub after_over : Option ℕ → Model → Result OverEnd (RunStop ℚ) → ExactSolveEnd
 after_over limit m (Ok a) = answered limit m a.certificate a.basis a.pivots

@@ -37,6 +37,7 @@ abbrev pub bare_of : Tableau → Tableau
 bare_of t = record t { entries = []; reduced = [] }
 
 -- ---- artificial columns
+
 -- An artificial stands in the factors as its row's logical, whose column it is up to the sign of the row's start.
 abbrev pub sign_of : List (RowStart ℚ) → Tableau → ℕ → ℚ
 sign_of starts t k = if is_artificial t k then logical_sign (start_at starts (k - form_columns t)) else 1ℚ
@@ -54,6 +55,7 @@ abbrev pub standing : Tableau → ℕ → ℕ
 standing t k = if nat_le t.cols k && is_basic (status_at t (k + t.rows)) then k + t.rows else k
 
 -- ---- taking factors anew: the positions are then the places of the factors
+
 -- The basic columns of a run are never dependent: so the last case never comes.
 abbrev pub factor_stop : Result Factors (NoFactors ℚ) → Result Factors (RunStop ℚ)
 factor_stop (Ok s) = Ok s
@@ -77,6 +79,7 @@ abbrev pub refreshed_run : Option ℕ → Form → Revised → Result Revised (R
 refreshed_run limit f s = if nat_eq s.replaced replacements then refactor_run limit f s.bare else Ok s
 
 -- ---- pricing
+
 -- the cost of the basic column at each place
 abbrev pub basic_costs : List (RowStart ℚ) → List ℚ → Tableau → List ℚ
 basic_costs starts costs t = made t.rows (λ p. sign_of starts t (basic_at t p) *ℚ cost_at costs (basic_at t p))
@@ -118,6 +121,7 @@ seen starts t j z =
     record t { entries = made t.rows (λ p. made (suc j) (λ k. if nat_eq k j then seen_entry starts t z p else 0ℚ)) }
 
 -- ---- the choice
+
 -- what a step sees and chooses
 pub record Selection : Type 0 where
   pub multipliers : List ℚ
@@ -140,6 +144,7 @@ selection_run limit f starts costs s =
     selection_with limit f starts s y e
 
 -- ---- the flip, and the pivot: it changes the values, and then the column is replaced
+
 -- the state after a flip of column j
 unfoldable pub flip_over_run : Option ℕ → Revised → Tableau → ℕ → Run Revised
 flip_over_run limit s t j = flip_run limit t j >>= λ u. Ok (record s { bare = bare_of u })

@@ -12,6 +12,7 @@ use Rattle.spec_iis.specs.declared.side.Side.{Side}
 use Rattle.spec_iis.specs.Sides.{is_listed}
 
 -- ---- which sides are listed
+
 -- whether the lower side of a row, or of a column, with number k is listed
 abbrev pub has_lower : List Side → Bool → ℕ → Bool
 has_lower sides of_row k = is_listed sides (record { row = of_row; at = k; upper = false })

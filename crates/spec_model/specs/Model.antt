@@ -153,6 +153,7 @@ abbrev pub coefficient : Model → ℕ → ℕ → ℚ
 coefficient m i j = entry_of (column m j).entries i
 
 -- ---- points
+
 -- z_j, the value of column j at the point z
 abbrev pub part : List ℚ → ℕ → ℚ
 part z j = get_or z j 0ℚ

@@ -10,6 +10,7 @@ use Rattle.spec_pivot.specs.Tableau.{Matrix}
 use Rattle.spec_pivot.specs.Simplex.{Bounds, IsFixed, IsInside, Table, sign, after_pivot}
 
 -- ---- reduced costs
+
 -- the reduced cost has the sign that suits the status: no move of the column may lower the cost
 abbrev pub Suits : Status → ℚ → Type 0
 Suits Basic d = Unit {0}
@@ -26,6 +27,7 @@ abbrev pub IsOrdered : ℕ → Bounds → Type 0
 IsOrdered n b = (k : ℕ) (l u : ℚ) → k < n → b.lower k ≡ Some l → b.upper k ≡ Some u → l ≤ℚ u
 
 -- ---- the column that leaves
+
 -- the value v is past the bound c, and has to go this way to come back to it
 abbrev pub IsPast : Way → Option ℚ → Option ℚ → ℚ → ℚ → Type 0
 IsPast Up lower upper v c = (lower ≡ Some c) × (v <ℚ c)
@@ -42,6 +44,7 @@ pub record Leaves (m : ℕ) (b : Bounds) (t : Table) (way : Way) (p : ℕ) (c : 
   pub past : IsPast way (b.lower (t.basic p)) (b.upper (t.basic p)) (t.value (t.basic p)) c
 
 -- ---- the column that enters
+
 -- row p, or its negative where the leaving column has to fall
 abbrev pub row_of : Table → Way → ℕ → ℕ → ℚ
 row_of t way p k = sign way *ℚ t.entry p k
@@ -69,6 +72,7 @@ pub record IsCheapest (n : ℕ) (b : Bounds) (t : Table) (way : Way) (p j : ℕ)
   pub least : (k : ℕ) → k < n → IsCandidate b t way p k → ratio t p j ≤ℚ ratio t p k
 
 -- ---- the step
+
 -- how far column j rises, so that the column at position p comes to c
 abbrev pub shift : Table → ℕ → ℕ → ℚ → ℚ
 shift t p j c = (t.value (t.basic p) -ℚ c) *ℚ inverse (t.entry p j)
@@ -78,6 +82,7 @@ abbrev pub after_dual : ℕ → Table → Way → ℕ → ℕ → ℚ → Table
 after_dual m t way p j c = after_pivot m t Up j p (shift t p j c) (bound_behind way)
 
 -- ---- the ends
+
 -- the values x solve the m rows of f over n columns, within the bounds
 pub record IsSolution (m n : ℕ) (f : Matrix) (b : Bounds) (x : ℕ → ℚ) : Type 0 where
   pub solves : (i : ℕ) → i < m → sum_below n (λ k. f i k *ℚ x k) ≡ 0ℚ

@@ -9,6 +9,7 @@ use Rattle.spec_pivot.specs.declared.status.Way.TheVariants.{Up, Down}
 use Rattle.spec_pivot.specs.Tableau.{Matrix, Spans, delta, IsUnit, pivot_row, pivoted, entered}
 
 -- ---- bounds
+
 -- the two bounds of each column, as far as they are there, and which columns never enter, as artificial ones
 pub record Bounds : Type 0 where
   pub lower : ℕ → Option ℚ
@@ -36,6 +37,7 @@ Stands AtUpper l u v = u ≡ Some v
 Stands AtZero l u v = (l ≡ None) × (u ≡ None) × (v ≡ 0ℚ)
 
 -- ---- tableaus
+
 -- the entries by position and column, the basic column of each position, and each column's value,
 -- reduced cost and status
 pub record Table : Type 0 where
@@ -79,6 +81,7 @@ pub record SameTableau (m n : ℕ) (t u : Table) : Type 0 where
   pub rows : (r i : ℕ) → r < m → i < m → t.basic r ≡ u.basic i → (k : ℕ) → t.entry r k ≡ u.entry i k
 
 -- ---- the entering column
+
 -- a column of this status can move that way
 abbrev pub CanMove : Way → Status → Type 0
 CanMove Up AtLower = Unit {0}
@@ -129,6 +132,7 @@ IsBlockedAt m b t way j theta i =
     IsBlocked b (t.basic i) (moved m t way j theta (t.basic i)) (ray m t way j (t.basic i))
 
 -- ---- steps
+
 -- the statuses with v for column k
 abbrev pub status_set : (ℕ → Status) → ℕ → Status → ℕ → Status
 status_set s k v i = cond (nat_eq i k) v (s i)

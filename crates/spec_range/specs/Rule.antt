@@ -24,6 +24,7 @@ use Rattle.spec_range.specs.declared.range.Ends.{Ends}
 use Rattle.spec_range.specs.declared.range.Range.{Range}
 
 -- ---- the ends so far
+
 -- every number
 abbrev pub no_ends : Ends ℚ
 no_ends = record { low = None; high = None }
@@ -63,6 +64,7 @@ abbrev pub at_side : Option ℕ → Bool → ℚ → Ends ℚ → Run (Ends ℚ)
 at_side limit upper v e = if upper then at_most limit v e else at_least limit v e
 
 -- ---- the cost of a column
+
 -- A column's reduced cost is 0 where the cost is v. Its status lets the reduced cost have one sign alone, and if it
 -- falls as the cost grows, v is an upper end for a column at its lower bound.
 abbrev pub ends_by : Option ℕ → Status → Bool → ℚ → Ends ℚ → Run (Ends ℚ)
@@ -119,6 +121,7 @@ cost_run limit m t j =
     cost_ends limit m.sense (cost m j) t j >>= λ e. Ok (record { ends = e; slope = value_at t j })
 
 -- ---- the right side of a row
+
 -- the right side b with which the bound, as it moves along, comes to v, the value of the basic logical
 abbrev pub shifted_run : Option ℕ → ℚ → ℚ → Option ℚ → Run (Option ℚ)
 shifted_run limit b v None = Ok None
@@ -169,6 +172,7 @@ side_run limit m t i =
     Ok (record { ends = e; slope = least_cost m.sense (reduced_at t (t.cols + i)) })
 
 -- ---- from a basis of the model's form
+
 -- the range of the cost of column j
 unfoldable pub cost_range : Option ℕ → Model → Form → List Status → ℕ → Result (Range ℚ) (StartStop ℚ)
 cost_range limit m f basis j = start_from limit f basis >>= λ t. refused_as stop.Past (cost_run limit m t j)

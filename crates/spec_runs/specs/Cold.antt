@@ -32,6 +32,7 @@ abbrev pub ExactSolveEnd : Type 0
 ExactSolveEnd = SolveEnd ℚ (List ℚ) (List Status)
 
 -- ---- certificates of ends
+
 -- the values of the model's columns
 abbrev pub point : Tableau → List ℚ
 point t = made t.cols (value_at t)
@@ -66,6 +67,7 @@ certificate_of (Infeasible t used) = certificate.Infeasible (multipliers t)
 certificate_of (Finished e) = certificate_at e.tableau e.end
 
 -- ---- the basis of an optimal end
+
 -- a logical whose row's artificial is basic counts as basic in its place
 abbrev pub basis_status : Tableau → ℕ → Status
 basis_status t k = if nat_le t.cols k && is_basic (status_at t (k + t.rows)) then Basic else status_at t k
@@ -86,6 +88,7 @@ pivots_of (Infeasible t used) = used
 pivots_of (Finished e) = e.used
 
 -- ---- the certificate is checked, at the same limit
+
 -- A certificate of an end is always accepted, or an operation is refused: so the last case never comes.
 abbrev pub checked : Certificate (List ℚ) → Option (List Status) → ℕ → Result (Known ℚ) (CheckStop ℚ) → ExactSolveEnd
 checked certificate basis pivots (Ok answer) = outcome.Ended answer certificate basis pivots
@@ -97,6 +100,7 @@ abbrev pub answered : Option ℕ → Model → Certificate (List ℚ) → Option
 answered limit m certificate basis pivots = checked certificate basis pivots (check_run limit m certificate)
 
 -- ---- the whole solve
+
 -- how a solve ends after both phases
 abbrev pub after_phases : Option ℕ → Model → Result PhasesEnd (Spending ℚ) → ExactSolveEnd
 after_phases limit m (Ok e) = answered limit m (certificate_of e) (basis_of e) (pivots_of e)

@@ -36,6 +36,7 @@ use Rattle.spec_simplex.specs.Fit.{fit_run}
 use Rattle.spec_simplex.specs.Dual.{DualEnded, dual_run}
 
 -- ---- one kind of stop as another
+
 -- a result whose stop is taken as another kind of stop
 abbrev pub stopped_as : {A D E : Type 0} → (D → E) → Result A D → Result A E
 stopped_as kind (Ok a) = Ok a
@@ -52,6 +53,7 @@ run_stop (stop.Past p) = fall.Past p
 run_stop stop.Spent = fall.Spent
 
 -- ---- the run
+
 -- how a run from a basis ended: by the primal or by the dual method
 pub data WarmEnd : Type 0 where
   ByPrimal : PrimalEnded → WarmEnd
@@ -71,6 +73,7 @@ warm_run limit budget f basis =
     run_by limit budget t fit
 
 -- ---- certificates of ends
+
 -- the entries of a position's row in the rows' logicals, or their negatives
 abbrev pub row_multipliers : Tableau → ℕ → Bool → List ℚ
 row_multipliers t p below = made t.rows (λ i. directed below (entry_at t p (t.cols + i)))
@@ -86,6 +89,7 @@ warm_certificate (ByPrimal e) = certificate_at e.tableau e.end
 warm_certificate (ByDual e) = dual_certificate e.tableau e.end
 
 -- ---- the basis of an optimal end
+
 -- the basis that the dual method leaves, if that is of an optimum
 abbrev pub dual_basis : Tableau → DualEnd → Option (List Status)
 dual_basis t Optimal = basis_at t primal.Optimal
@@ -102,6 +106,7 @@ warm_pivots (ByPrimal e) = e.used
 warm_pivots (ByDual e) = e.used
 
 -- ---- the certificate is checked, at the same limit
+
 -- how a warm start ends, in exact numbers
 abbrev pub WarmResult : Type 0
 WarmResult = Warm ℚ (List ℚ) (List Status)
@@ -117,6 +122,7 @@ abbrev pub answered : Option ℕ → Model → Certificate (List ℚ) → Option
 answered limit m certificate basis pivots = checked certificate basis pivots (check_run limit m certificate)
 
 -- ---- the whole
+
 -- how a warm start ends after its run
 abbrev pub after_run : Option ℕ → Model → Result WarmEnd (WarmStop ℚ) → WarmResult
 after_run limit m (Ok e) = answered limit m (warm_certificate e) (warm_basis e) (warm_pivots e)

@@ -22,6 +22,7 @@ use Rattle.spec_simplex.specs.declared.ends.DualChoice.TheVariants.{End, Pivot}
 use Rattle.spec_simplex.specs.Fit.{leaving_run, needs_flip_at}
 
 -- ---- flips
+
 -- a tableau, and how many flips and pivots led to it
 pub record Reached : Type 0 where
   pub tableau : Tableau
@@ -47,6 +48,7 @@ flips_run limit budget t =
     (record { tableau = t; used = 0 })
 
 -- ---- entering
+
 -- the position of column k: the last of the first n at which it is basic
 abbrev pub place_below : Tableau → ℕ → ℕ → ℕ
 place_below t k zero = 0
@@ -89,6 +91,7 @@ abbrev pub cheapest_run : Option ℕ → Tableau → ℕ → Bool → Run (Optio
 cheapest_run limit t p below = steps (all_columns t) (cheapest_with limit t p below) None
 
 -- ---- what a step does
+
 -- the bound that the leaving column has passed, to which it goes back
 abbrev pub passed_bound : Bool → Status
 passed_bound below = if below then AtLower else AtUpper
@@ -123,6 +126,7 @@ unfoldable pub dual_pivot_run : Option ℕ → Tableau → ℕ → ℕ → Statu
 dual_pivot_run limit t p j to = dual_pivot_by limit t p j (basic_at t p) to
 
 -- ---- steps up to an end
+
 -- how the dual method ended, with the last tableau and the count of flips and pivots
 pub record DualEnded : Type 0 where
   pub end : DualEnd

@@ -42,6 +42,7 @@ pub record IsBasisOf (f : Form) (basis : List Status) : Type 0 where
   pub count : basics_below basis (f.cols + f.rows) ≡ f.rows
 
 -- ---- elimination
+
 -- the rows so far, and the basic column of each position that has one
 pub record Elimination : Type 0 where
   pub rows : List (List ℚ)
@@ -95,6 +96,7 @@ eliminate_run limit f basis =
     steps (f.cols + f.rows) (λ j e. if is_basic (basis_at basis j) then solved_run limit f e j else Ok e) (unsolved f)
 
 -- ---- the tableau of these rows, in which only the columns that are not basic have their values,
+
 -- and none its reduced cost
 abbrev pub or_first : Option ℕ → ℕ
 or_first None = 0
@@ -133,6 +135,7 @@ with_basis f basis e =
     }
 
 -- ---- the values of the basic columns
+
 -- the value of the basic column at position i: 0 less each nonbasic column's entry times its value
 abbrev pub position_run : Option ℕ → Tableau → ℕ → Run ℚ
 position_run limit t i =

@@ -50,6 +50,7 @@ abbrev pub leaving_run : Option ℕ → Tableau → Run (Option Leaving)
 leaving_run limit t = steps (all_columns t) (leaving_with limit t) None
 
 -- ---- reduced costs
+
 -- a column of this status and reduced cost needs its other bound
 abbrev pub needs_flip : Status → ℚ → Bool
 needs_flip Basic d = false

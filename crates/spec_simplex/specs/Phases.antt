@@ -16,6 +16,7 @@ use Rattle.spec_simplex.specs.Start.{priced_run, with_reduced, start_of}
 use Rattle.spec_simplex.specs.Step.{choice_run, flip_run, pivot_run}
 
 -- ---- steps up to an end
+
 -- how steps ended, with the last tableau and the count of pivots and flips
 pub record PrimalEnded : Type 0 where
   pub end : PrimalEnd
@@ -48,6 +49,7 @@ run_from limit (suc left) used t =
     refused_as stop.Past (choice_run limit t) >>= end_or_next limit t used (λ u. run_from limit left (used + 1) u)
 
 -- ---- phase two: all artificials are fixed at 0, and the costs are the form's
+
 -- the m bounds from that of column n on are 0
 abbrev pub fixed_at_zero : ℕ → ℕ → List (Option ℚ) → List (Option ℚ)
 fixed_at_zero n zero bounds = bounds
@@ -67,6 +69,7 @@ phase_two_run limit f t =
     priced_run limit (without_artificials t) f.cost >>= λ reduced. Ok (with_reduced (without_artificials t) reduced)
 
 -- ---- the two phases
+
 -- phase one is needed: some artificial column is basic
 abbrev pub wants_phase_one : Tableau → Bool
 wants_phase_one t = list_any (λ k. is_artificial t k) t.basic

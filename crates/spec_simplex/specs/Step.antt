@@ -17,6 +17,7 @@ use Rattle.spec_simplex.specs.Tableau.{Tableau, all_columns, at_place, entry_at,
 use Rattle.spec_simplex.specs.Tableau.{status_at, lower_at, upper_at, is_artificial, is_fixed, or_zero, stand}
 
 -- ---- entering: the least column that may
+
 -- whether a column of this status and reduced cost rises or falls, if it may enter
 abbrev pub way_by : Status → ℚ → Option Bool
 way_by Basic d = None
@@ -44,6 +45,7 @@ abbrev pub entering : Tableau → Option Entering
 entering t = entering_below t (all_columns t)
 
 -- ---- the ratio test
+
 -- v, or its negative where the entering column falls
 abbrev pub directed : Bool → ℚ → ℚ
 directed up v = if up then v else neg_ℚ v
@@ -167,6 +169,7 @@ flip_run limit t j =
     Ok (flipped t j (other_bound (flip_way (status_at t j))) values)
 
 -- ---- a pivot at position p in column j
+
 -- the rows with row p divided by its entry in column j
 unfoldable pub scaled_run : Option ℕ → ℕ → List (List ℚ) → ℕ → ℕ → Run (List (List ℚ))
 scaled_run limit n rows p j =
@@ -226,6 +229,7 @@ pivot_run limit t p j theta to =
     Ok (exchanged (turned t shifted rows reduced) p j to)
 
 -- ---- conditions
+
 -- the status `to` names a bound that is there, and is v
 abbrev pub NamesBound : Status → Option ℚ → Option ℚ → ℚ → Type 0
 NamesBound Basic lower upper v = ⊥

@@ -30,6 +30,7 @@ IsChecked limit m (Past p) = ⊥
 IsChecked limit m Spent = ⊥
 
 -- ---- the relation
+
 -- how the cold part of a solve may end
 pub data MayEndCold (limit : Option ℕ) (budget : ℕ) (m : Model) (end : ExactSolveEnd) : Type 0 where
   -- with an answer, as the cold solve without a limit; and for a model without a form at the limit nothing but the cold
@@ -56,6 +57,7 @@ MayEnd limit budget m None solved = MayEndCold limit budget m solved.end × (sol
 MayEnd limit budget m (Some basis) solved = MayEndBy limit budget m (warm limit budget m basis) solved
 
 -- ---- the two stated runs
+
 -- by how the run over factors ended, and how the solve over whole tableaus ends
 abbrev pub or_tableaus : ExactSolveEnd → ExactSolveEnd → ExactSolveEnd
 or_tableaus (Ended known certificate basis pivots) other = Ended known certificate basis pivots
