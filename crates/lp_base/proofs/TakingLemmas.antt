@@ -381,6 +381,7 @@ told_now {after} {new} {read} {lines} t = by new.ended refl
         )
 
 -- ---- the same, with what was consumed of the source
+
 -- an answer by its name
 pub gives_as : {before after : Option (List ℕ)} {old new : LinesState} {line : Line (List ℕ)} (is : Line (List ℕ)) →
     line ≡ is → GivesNext before after old new (Ok line) → GivesNext before after old new (Ok is)
@@ -529,6 +530,7 @@ ReadsUntil-append r u =
     record { mid = u.mid; old = u.old; new = u.new; reads = ReadsLines-append r u.reads; gives = u.gives }
 
 -- ---- where a reader stops that began at the start of its input
+
 -- a reader that began there had not ended
 pub from_start : {before after : Option (List ℕ)} {bytes : List ℕ} {new : LinesState} {lines : List (Line (List ℕ))} →
     TakesLines after at_start bytes new lines ⊎ StaysEnded before after at_start bytes new lines →

@@ -186,6 +186,7 @@ in_lowest num den g p q h eg ep eq =
         ∙ by_ring (x ∷ pos y ∷ pos k ∷ []) (v0 ⊗ (v1 ⊗ v2)) (v0 ⊗ v2 ⊗ v1) refl ∙ ap (λ (z : ℤ). z *ℤ pos y) e
 
 -- ---- of short parts
+
 -- factors that bring the denominators to the same do
 pub scaled_same : (e : ℤ) (f : ℕ) (n : ℤ) (k p q : ℕ) → 0 < f → 0 < k → 0 < p → p * f ≡ q * k →
     over (e *ℤ pos p -ℤ n *ℤ pos q) (p * f) ≡ over (e *ℤ pos k -ℤ n *ℤ pos f) (k * f)

@@ -66,6 +66,7 @@ carried_single s r m i j a l u c o h g k =
     subst (λ run. Tells run o) (single_run s r m i j a l u c h (reduction_is s r (Single i j a l u) m h g)) k
 
 -- ---- over all of them
+
 -- the first one, and the others
 pub record Parted (first : Step) (rest : List Step) (rs : List (ExactReduction × Model)) : Type 0 where
   pub reduction : ExactReduction

@@ -151,6 +151,7 @@ module _ (m : ℕ) (es : Entries) (h : AreEntries m es) where
       let w : ⊥ = omega (arith, y, v, e) in w)))
 
 -- ---- lists whose items are replaced in order
+
 -- the first b items are those of the run, and the others as they were
 pub record DoneTo (f : ℕ → Run ℚ) (b : ℕ) (start w : List ℚ) : Type 0 where
   pub all : length w ≡ length start

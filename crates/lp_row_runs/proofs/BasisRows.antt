@@ -50,6 +50,7 @@ sum_past n (suc m) g none =
     ∙ sum_past n m g (λ k h l. none k h (omega (arith, l)))
 
 -- ---- values
+
 -- that of a basic column is what the others leave
 module _ (t : Tableau) (all : length t.value ≡ all_columns t)
     (units : IsUnit t.rows (entry_at t) (basic_at t)) (in_range : (i : ℕ) → i < t.rows → basic_at t i < all_columns t)

@@ -42,6 +42,7 @@ use Rattle.lp_rows.proofs.Read.{read_at}
 use Rattle.lp_rows.proofs.SameCounts.{basic_read}
 
 -- ---- a value beside a bound
+
 -- the value v over d e, and the bound b over d, as v and b e are
 stands_to : (v b : ℤ) (d e one : ℕ) (o : Ordering) → 0 < d → 0 < e → one ≡ 1 →
     o ≡ int_cmp (v *ℤ pos one) (b *ℤ pos e) → o ≡ order (over v (d * e)) (over b d)

@@ -51,6 +51,7 @@ use Rattle.lp_row_runs.specs.declared.elimination.Elimination.{Elimination}
 use Rattle.lp_row_runs.proofs.Placed.{turned_rows}
 
 -- ---- without a limit nothing is refused
+
 -- one column of the elimination
 abbrev solve_at : Form → List Status → ℕ → stated.Elimination → Result stated.Elimination (StartStop ℚ)
 solve_at f basis j e = cond (is_basic (basis_at basis j)) (solved_run None f e j) (Ok e)
@@ -82,6 +83,7 @@ solving_begins value f basis e u t = record {
         ∙ ap or_first (get_or-replicate f.rows i None None h)))
 
 -- ---- whether a position is open
+
 -- by whether it has a column, and whether its entry is 0
 pub open_is : (e : stated.Elimination) (j i : ℕ) (taken none : Bool) → taken ≡ not (has_none (get_or e.basic i None)) →
     none ≡ eq_ℚ (at_place e.rows i j) 0ℚ → cond taken false (not none) ≡ is_open e j i

@@ -42,6 +42,7 @@ abbrev one : ℕ → ℕ → ℚ
 one i r = one_at i r 1ℚ
 
 -- ---- rows
+
 -- an entry of the stated equations
 pub unsolved_at : (f : Form) (i k : ℕ) → i < f.rows → k < f.cols + f.rows →
     at_place (unsolved f).rows i k ≡ start_entry f (Within 0ℚ) i k

@@ -56,6 +56,7 @@ pub then_ends : {N E : Type 0} (of : ℚ → N) (whole mid : Result PhasesEnd (R
 then_ends of whole mid result e k = subst (λ whole. IfOk result (EndsAs of whole)) (sym e) k
 
 -- ---- the start
+
 -- the start has the form's rows and columns
 pub start_size : (limit : Option ℕ) (f : Form) (t : Tableau) → start_of limit f ≡ Ok t →
     (f.rows ≡ t.rows) × (f.cols ≡ t.cols)

@@ -96,6 +96,7 @@ pub moved_all : {T : Type 0} (value : T → ℕ) (r : RowTableau T) (t : Tableau
 moved_all value r t i j k up v s e is = is ∙ ap (moves_below t j up k) (e ∙ s.rows)
 
 -- ---- lists
+
 -- a number of a list is that of the same fraction
 pub listed_is : {N E : Type 0} (of : ℚ → N) (p q : ℚ) (o : Result (Option N) E) → p ≡ q →
     IfOk o (λ o. IfSome o (λ n. n ≡ of p)) → IfOk o (λ o. IfSome o (λ n. n ≡ of q))

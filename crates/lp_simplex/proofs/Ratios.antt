@@ -52,6 +52,7 @@ abs_not_zero a n = by (int_lt a.num (pos 0))
     by false e = n e
 
 -- ---- a gap
+
 -- by way of the upper bound, and by way of the lower one
 up_to : (v u r d : ℚ) → r *ℚ neg_ℚ d ≡ u -ℚ v → v -ℚ r *ℚ d ≡ u
 up_to v u r d h = ap (λ x. v +ℚ x) (sym (*ℚ-neg r d) ∙ h) ∙ simp ring
@@ -131,6 +132,7 @@ divides limit up a lower upper v gap to h =
     let g : IsGap up a lower upper v gap to = gap_is limit up a lower upper v gap to h in abs_not_zero a g.entry
 
 -- ---- the best
+
 -- the column stops itself
 pub record HasBoth (t : Tableau) (j : ℕ) : Type 0 where
   pub lower : (v : ℚ) × (lower_at t j ≡ Some v)

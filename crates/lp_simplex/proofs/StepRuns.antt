@@ -41,6 +41,7 @@ module _ (limit : Option ℕ) where
   next_at t used (Pivot p j theta to) n next = refl
 
 -- ---- how many steps are made
+
 -- up to u, where `now` are counted, and `used` before them
 pub record IsUnderWay (budget used : ℕ) (t : Tableau) (now : ℕ) (u : Tableau) : Type 0 where
   pub count : ℕ

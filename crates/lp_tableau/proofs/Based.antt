@@ -127,6 +127,7 @@ module _ (limit : Option ℕ) (t : Tableau) where
   values_filled i values e s = ap (λ n. steps n fill_at t.value) (sym e) ∙ s
 
 -- ---- the whole
+
 -- a list that was lent whole, and what is after it
 pub written_back : (n : ℕ) (new front rest now : List (Option ℕ)) (m : ℕ) → now ≡ take n (new ++ rest) →
     front ≡ replicate m None → length front ≡ n → length new ≡ m → now ≡ new

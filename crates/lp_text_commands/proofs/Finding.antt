@@ -39,6 +39,7 @@ found_read m budget sides cert points f =
     (used_read (Some number_limit) m r.certificate r.ends.may_answer.2) r.reached
 
 -- ---- the points
+
 -- a part for each column
 pub points_fit : (m : Model) (sides : List Side) (points : List (List ℚ)) → ArePointsWithout m sides points →
     All (λ z. length z ≡ width m) points

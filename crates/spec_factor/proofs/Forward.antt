@@ -49,6 +49,7 @@ forward-append [] fs v = refl
 forward-append (e ∷ es) fs v = forward-append es fs (forward_one e v)
 
 -- ---- combinations
+
 -- v is the combination of the n columns of t with the weights c
 abbrev pub Combines : ℕ → ℕ → Matrix → (ℕ → ℚ) → (ℕ → ℚ) → Type 0
 Combines m n t c v = (r : ℕ) → r < m → v r ≡ sum_below n (λ s. t r s *ℚ c s)

@@ -46,6 +46,7 @@ negative_product a b h f g =
     (λ e. clash_ℚ _ _ h (subst (λ x. 0ℚ ≤ℚ x) (sym (ap (λ y. y *ℚ b) e ∙ zero-*ℚ b)) (≤ℚ_refl 0ℚ)))
 
 -- ---- both ways: up towards an upper bound, and down towards a lower one
+
 -- a column that changes by r a unit moves that way
 abbrev pub Goes : Way → ℚ → Type 0
 Goes Up r = 0ℚ <ℚ r

@@ -55,6 +55,7 @@ pub helps_nonbasic : (s : Status) (a : ℚ) → Helps s a → ¬ (s ≡ Basic)
 helps_nonbasic s a h e = subst (λ s. Helps s a) e h
 
 -- ---- ratios
+
 -- r is the ratio of a candidate with this status, reduced cost and entry
 abbrev pub IsRatio : Status → ℚ → ℚ → ℚ → Type 0
 IsRatio Basic d a r = Unit {0}

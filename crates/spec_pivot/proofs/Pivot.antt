@@ -157,6 +157,7 @@ back m t p j h n = (
 )
 
 -- ---- unit columns
+
 -- where the row at p has 0, a pivot changes nothing
 pub pivot_row_zero : (t : Matrix) (p j k : ℕ) → t p k ≡ 0ℚ → pivot_row t p j k ≡ 0ℚ
 pivot_row_zero t p j k e = ap (λ x. x *ℚ inverse (t p j)) e ∙ zero-*ℚ _

@@ -73,6 +73,7 @@ never_none q k i (Some y) e = go (is_better q k (Some y)) e
     go false e = cc
 
 -- ---- all positions
+
 -- position p has the ratio and the column of x
 pub record IsFoundAt (r : ℕ → Option ℚ) (c : ℕ → ℕ) (m : ℕ) (x : Best) (p : ℕ) : Type 0 where
   pub in_range : p < m

@@ -194,6 +194,7 @@ module _ (m n : ℕ) (f : Matrix) (cost : ℕ → ℚ) (b : Bounds) (t : Table)
   }
 
 -- ---- what such a row shows
+
 -- each term is least at the bound that its sign asks for
 pub term_least : (l u : Option ℚ) (a w x : ℚ) → (0ℚ <ℚ a → l ≡ Some w) → (a <ℚ 0ℚ → u ≡ Some w) →
     IfSome l (λ k. k ≤ℚ x) → IfSome u (λ k. x ≤ℚ k) → (a *ℚ w) ≤ℚ (a *ℚ x)

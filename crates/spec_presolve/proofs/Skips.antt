@@ -21,6 +21,7 @@ use Rattle.spec_edit.specs.Meaning.{skipping}
 use Rattle.spec_edit.proofs.FreeRows.{skipping_from, skipping_below}
 
 -- ---- the other indexes
+
 -- each index below n + 1 is i, or one of the others
 pub by_skip : (P : ℕ → Type 0) (n i : ℕ) → P i → ((k : ℕ) → k < n → P (skipping i k)) → i ≤ n →
     (a : ℕ) → a < n + 1 → P a

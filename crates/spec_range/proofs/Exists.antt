@@ -28,6 +28,7 @@ use Rattle.spec_runs.proofs.FormCosts.{clash_is}
 use Rattle.spec_runs.proofs.LimitSteps.{from_agrees}
 
 -- ---- the elimination
+
 -- a form without bounds and costs
 abbrev pub skeleton : Form → Form
 skeleton f = record { rows = f.rows; cols = f.cols; entries = f.entries; lower = []; upper = []; cost = [] }

@@ -88,6 +88,7 @@ still_ok limit b v lower upper e h x =
     )
 
 -- ---- a value that is carried along
+
 -- the value v of a basic column, whose entry is a, when the right side goes from b to x
 abbrev carried_value : ℚ → ℚ → ℚ → ℚ → ℚ
 carried_value b v a x = v +ℚ (x -ℚ b) *ℚ neg_ℚ a

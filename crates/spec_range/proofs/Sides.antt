@@ -30,6 +30,7 @@ use Rattle.spec_range.proofs.MovedNumbers.{rebounded_is, carried, carried_is}
 use Rattle.spec_range.proofs.RangedTableau.{form_bounds, bounded}
 
 -- ---- limits
+
 -- a bound that goes along by v
 abbrev pub shifted : ℚ → Option ℚ → Option ℚ
 shifted v None = None

@@ -62,6 +62,7 @@ clash_accepted limit m j e =
     let c = clash_is limit m j e in accepted limit m (certificate.Clash j) (record { for = c.inside; checks = c })
 
 -- ---- by what the checker says
+
 -- the check of an accepted certificate says what it shows, or that an operation is refused
 pub by_accepted : (limit : Option ℕ) (m : Model) (c : Certificate (List ℚ)) → IsAccepted limit m c →
     (P : Result (Known ℚ) (CheckStop ℚ) → Type 0) → (check_run limit m c ≡ Ok (shown m c) → P (Ok (shown m c))) →
@@ -111,6 +112,7 @@ module _ (limit : Option ℕ) (budget : ℕ) (m : Model) (P : ExactSolveEnd → 
       with_form (Err (fault.Past v)) p = past v
 
 -- ---- the laws
+
 -- a true end with this answer and this certificate
 pub end_is_true : (limit : Option ℕ) (m : Model) (a answer : Known ℚ) (d c : Certificate (List ℚ)) →
     IsTrueEnd limit m a d → a ≡ answer → d ≡ c → Holds m answer × (check_run limit m c ≡ Ok answer)

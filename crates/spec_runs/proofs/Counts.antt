@@ -26,6 +26,7 @@ nonbasic_test AtUpper n = refl
 nonbasic_test AtZero n = refl
 
 -- ---- the count
+
 -- how many of the first n positions have a column
 abbrev pub filled : List (Option ℕ) → ℕ → ℕ
 filled basic zero = 0

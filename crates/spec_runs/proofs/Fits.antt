@@ -80,6 +80,7 @@ outside_is limit l u v side h =
         subst (OutsideIs l u v) z (up o.0 b (above_is limit u v o.0 o.1))
 
 -- ---- the first of many
+
 -- a basic column of the first n, past its bound
 pub record IsLeaving (t : Tableau) (n : ℕ) (x : Leaving) : Type 0 where
   pub inside : x.col < n

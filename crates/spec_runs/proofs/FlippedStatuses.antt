@@ -38,6 +38,7 @@ use Rattle.spec_runs.proofs.Fits.{met_suits}
 use Rattle.spec_exact.proofs.Results.{ok_same, err_not_ok}
 
 -- ---- a column that needs its other bound
+
 -- a column is at one bound, has the other one, and its reduced cost has the sign that belongs to the other one
 pub record IsWrong (s : Status) (d : ℚ) (l u : Option ℚ) (up : Bool) : Type 0 where
   pub can_move : CanMove (way up) s

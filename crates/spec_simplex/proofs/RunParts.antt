@@ -68,6 +68,7 @@ less_ok limit v w s x h =
     difference_ok limit s p.0 x p.2 ∙ ap (λ a. s -ℚ a) (product_ok limit v w p.0 p.1)
 
 -- ---- many
+
 -- what each step keeps
 pub steps_ok : {A E : Type 0} (P : ℕ → A → Type 0) (n : ℕ) (f : ℕ → A → Result A E) (a b : A) →
     steps n f a ≡ Ok b → P 0 a

@@ -33,6 +33,7 @@ use Rattle.spec_simplex.proofs.Pivots.{enters_before}
 use Rattle.spec_simplex.proofs.Flips.{directed_is}
 
 -- ---- magnitudes
+
 -- the magnitude of an entry, by the way of the column
 pub abs_falling : (up : Bool) (a : ℚ) → directed up a <ℚ 0ℚ → abs_ℚ a ≡ neg_ℚ (directed up a)
 abs_falling true a h = abs_below a h
@@ -135,6 +136,7 @@ one_of P new x Equal p q = by (nat_lt new.col x.col)
 one_of P new x Greater p q = q
 
 -- ---- the test of a tableau
+
 -- what is known of the column's own range
 pub record IsRange (t : Tableau) (e : Entering) (x : Best ℚ) : Type 0 where
   pub to : x.to ≡ other_bound e.up
