@@ -312,8 +312,8 @@ fn correct_all(state: &mut State) {
     }
 }
 
-// Makes the factors, the reduced costs and the basic values anew from the numbers of the program, with each nonbasic
-// column at the bound that suits its reduced cost.
+// Makes the factors, the reduced costs and the basic values anew from the numbers of the program. Reduced costs that
+// are wrong are brought right before the values are made.
 fn rebuild(alloc: Global, state: &mut State, program: &Program) -> Result<(), AllocError> {
     refactor(alloc, state, program)?;
     reduce(state, program)?;
