@@ -3,7 +3,6 @@ ghost use Rattle.std.specs.Prelude.{◌≡◌, ◌++◌, OnOk, codes, decimal};
 ghost use Rattle.spec_server.specs.declared.asks.Reply.TheVariants as replies;
 ghost use Rattle.spec_server.specs.Output as output;
 
-use crate::asks::Answer;
 use lp_base::Bytes;
 use lp_check::{Known, Verdict};
 use lp_frac::{Op, Past};
@@ -46,8 +45,8 @@ fn past_front(op: Op) -> &'static [u8]
     }
 }
 
-// Adds to a text that an operation is past 127 bits, with its operands.
-fn push_past(alloc: Global, past: &Past, to: &mut Bytes) -> Result<(), AllocError>
+/// Adds to a text that an operation is past 127 bits, with its operands.
+pub(crate) fn push_past(alloc: Global, past: &Past, to: &mut Bytes) -> Result<(), AllocError>
     ensures { OnOk result (to.new ≡ to.old ++ output.past_text past.now) }
 {
     to.extend(past_front(past.op))?;
@@ -56,8 +55,8 @@ fn push_past(alloc: Global, past: &Past, to: &mut Bytes) -> Result<(), AllocErro
     lp_numtext::write(alloc, past.b, to)
 }
 
-// Adds to a text what is known of a model.
-fn push_known(alloc: Global, known: &Known, to: &mut Bytes) -> Result<(), AllocError>
+/// Adds to a text what is known of a model.
+pub(crate) fn push_known(alloc: Global, known: &Known, to: &mut Bytes) -> Result<(), AllocError>
     ensures { OnOk result (to.new ≡ to.old ++ output.known_text known.now) }
 {
     match known {
@@ -85,17 +84,6 @@ pub(crate) fn push_verdict(
         }
         Verdict::No(condition) => push_numbered(alloc, b"NO ", u64::from(*condition), to),
         Verdict::Past(past) => push_past(alloc, past, to),
-    }
-}
-
-/// Adds a solve's answer to a text.
-pub(crate) fn push_answer(alloc: Global, answer: &Answer, to: &mut Bytes) -> Result<(), AllocError>
-    ensures { OnOk result (to.new ≡ to.old ++ output.answer_text answer.now) }
-{
-    match answer {
-        Answer::Known(known) => push_known(alloc, known, to),
-        Answer::Past(past) => push_past(alloc, past, to),
-        Answer::Spent(budget) => push_numbered(alloc, b"SPENT ", *budget, to),
     }
 }
 

@@ -16,9 +16,6 @@ pub type Ask = spec_server::Ask<UsualModel, RawCertificate, Edit>;
 /// An ask with the number of its session.
 pub type Asked = spec_server::Asked<Ask>;
 
-/// What a solve answers.
-pub type Answer = spec_server::Answer<Frac>;
-
 /// What a session replies.
 pub type Reply = spec_server::Reply<Name, Frac, Bytes, Texts>;
 

@@ -38,7 +38,7 @@ mod wide;
 mod words;
 
 pub use answers::{fall_suffix, push_numbered, push_pivots};
-pub use asks::{Answer, Ask, Asked, Command, Plain, Refusal, Reply};
+pub use asks::{Ask, Asked, Command, Plain, Refusal, Reply};
 pub use command::read;
 pub use halt::Halt;
 pub use hearing::{Heard, Stage, Step, hear};

@@ -3,7 +3,7 @@ ghost use Rattle.std.specs.Prelude.{◌≡◌, ◌++◌, ◌∷◌, [], OnOk, On
 ghost use Rattle.spec_text.specs.Lines.{IsPrefixOf};
 ghost use Rattle.spec_server.specs.Output as output;
 
-use crate::answers::{push_answer, push_found, push_number, push_numbered, push_verdict};
+use crate::answers::{push_found, push_known, push_number, push_numbered, push_past, push_verdict};
 use crate::asks::Reply;
 use crate::refusals::push_refusal;
 use lp_base::{Bytes, Texts};
@@ -32,7 +32,9 @@ fn push_reply(alloc: Global, reply: &Reply, to: &mut Bytes) -> Result<(), AllocE
             push_numbered(alloc, b"TEXT ", count_of_lines(text.as_slice()) as u64, to)
         }
         Reply::Done => to.extend(b"OK"),
-        Reply::Answered(answer) => push_answer(alloc, answer, to),
+        Reply::Known(known) => push_known(alloc, known, to),
+        Reply::Past(past) => push_past(alloc, past, to),
+        Reply::Spent(budget) => push_numbered(alloc, b"SPENT ", *budget, to),
         Reply::Certified(lines) => push_numbered(alloc, b"CERT ", lines.len() as u64, to),
         Reply::Found {
             how,
@@ -80,7 +82,9 @@ fn push_lines_behind(reply: &Reply, to: &mut Bytes) -> Result<(), AllocError>
         Reply::Certified(lines) | Reply::Wide(lines) => print_lines(lines, to),
         Reply::Loaded(_, _)
         | Reply::Done
-        | Reply::Answered(_)
+        | Reply::Known(_)
+        | Reply::Past(_)
+        | Reply::Spent(_)
         | Reply::Found { .. }
         | Reply::Checked(_)
         | Reply::Bye

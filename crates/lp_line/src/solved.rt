@@ -3,24 +3,24 @@ ghost use Rattle.std.specs.Prelude.{◌≡◌, ℕ, IfOk};
 ghost use Rattle.spec_solve.specs.Answers.{MayAnswer};
 ghost use Rattle.spec_server.specs.Machine as machine;
 
+use crate::asks::Reply;
 use lp_base::Texts;
 use lp_certificate::cert_text;
 use lp_form::Basis;
 use lp_frac::{Frac, Fracs};
 use lp_model::Model;
-use spec_server::Answer;
 use std::alloc::{AllocError, Global};
 
 type End = spec_check::SolveEnd<Frac, Fracs, Basis>;
 
-/// The answer of a solve within a budget.
-pub fn answer_of(budget: u32, solved: &End) -> Answer<Frac>
+/// The reply to a solve within a budget.
+pub fn answer_of(budget: u32, solved: &End) -> Reply
     ensures { result ≡ machine.answer_of budget solved.now }
 {
     match solved {
-        End::Ended { answer, .. } => Answer::Known(*answer),
-        End::Past(past) => Answer::Past(*past),
-        End::Spent => Answer::Spent(u64::from(budget)),
+        End::Ended { answer, .. } => Reply::Known(*answer),
+        End::Past(past) => Reply::Past(*past),
+        End::Spent => Reply::Spent(u64::from(budget)),
     }
 }
 

@@ -75,7 +75,7 @@ fn send_reply<L: Link>(alloc: Global, reply: &Reply, link: &mut L) -> Result<(),
 // Counts a command that got this reply, and what it took if it is an answer.
 fn count(work: &mut LinkWork, reply: &Reply, session: &Session) {
     work.commands = work.commands.saturating_add(1);
-    if let Reply::Answered(_) = reply {
+    if let Reply::Known(_) | Reply::Past(_) | Reply::Spent(_) = reply {
         let pivots = session.pivots().unwrap_or(0);
         work.pivots = work.pivots.saturating_add(pivots);
     }

@@ -229,7 +229,7 @@ impl Holding {
             how,
             publication,
         });
-        Reply::Answered(answer)
+        answer
     }
 
     /// The pivots and flips of the last answer, where it has them.

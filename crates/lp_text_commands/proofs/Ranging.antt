@@ -83,7 +83,7 @@ none_behind m end is = (λ moved at. refl, refl)
 
 -- the line of the answer of an end
 abbrev pub answered : ExactSolveEnd → List ℕ
-answered end = check_line (reply.Answered (answer_of opening_budget end))
+answered end = check_line (answer_of opening_budget end)
 
 pub with_range : (moved : Moved) (m : Model) (at : ℕ) (end : ExactSolveEnd) (text : List ℕ) →
     range_text moved m at end ≡ text → range_lines moved m at end ≡ answered end ++ text

@@ -200,7 +200,7 @@ whole m sides cert points =
 
 -- the line of an answer
 pub answer_line : (end : ExactSolveEnd) →
-    check_line (reply.Answered (answer_of opening_budget end)) ≡ ended_lines (end_words end ∷ [])
+    check_line (answer_of opening_budget end) ≡ ended_lines (end_words end ∷ [])
 unfolding ended_lines check_line reply_text
 answer_line end = sym (append-nil (end_words end ++ 10 ∷ []))
 

@@ -19,7 +19,7 @@ use Rattle.spec_commands.specs.BasisWideOut.{origin_text, based_text}
 -- what is written of a solve: its answer, how it was found, and its certificate
 abbrev pub end_lines : Model → SolveEnd → List ℕ
 end_lines m solved =
-    check_line (reply.Answered (answer_of opening_budget solved.end)) ++ reading.route_line solved
+    check_line (answer_of opening_budget solved.end) ++ reading.route_line solved
     ++ ended_lines (lines_of_solved m solved.end)
 
 -- what is written of an exact solve, without the basis of its answer

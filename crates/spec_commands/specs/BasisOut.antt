@@ -97,7 +97,7 @@ final_text m form end = []
 -- the answer's line, how it was found, its certificate, and the basis
 unfoldable pub basis_lines : Model → SolveEnd → List ℕ
 basis_lines m solved =
-    check_line (reply.Answered (answer_of opening_budget solved.end)) ++ route_line solved
+    check_line (answer_of opening_budget solved.end) ++ route_line solved
     ++ ended_lines (lines_of_solved m solved.end) ++ final_text m (form_of (Some number_limit) m) solved.end
 
 -- the line of a fault

@@ -29,7 +29,7 @@ size_text m =
 unfoldable pub generated_lines : Model → ExactSolveEnd → List ℕ
 generated_lines m solved =
     size_text m
-    ++ check_line (reply.Answered (answer_of opening_budget solved))
+    ++ check_line (answer_of opening_budget solved)
     ++ codes "PIVOTS "
     ++ pivots_text (pivots_of_solved solved)
     ++ 10 ∷ []

@@ -16,7 +16,7 @@ use Rattle.spec_iis.specs.Found.{ExactIis, MayFind}
 use Rattle.spec_server.specs.declared.asks.Reply.TheVariants as reply
 use Rattle.spec_server.specs.declared.asks.Refusal.TheVariants as refusal
 use Rattle.spec_server.specs.Machine.{opening_budget, answer_of}
-use Rattle.spec_server.specs.Output.{check_line, answer_text, ended_lines}
+use Rattle.spec_server.specs.Output.{check_line, reply_text, ended_lines}
 use Rattle.spec_server.specs.TextSaid.{TextSaid}
 
 -- ---- a side
@@ -61,7 +61,7 @@ found_lines m sides cert points =
 
 -- what a solve ended with, as a search that stops prints it
 abbrev pub end_words : ExactSolveEnd → List ℕ
-end_words end = answer_text (answer_of opening_budget end)
+end_words end = reply_text (answer_of opening_budget end)
 
 -- the answer's line, and what was found or why nothing was
 abbrev pub iis_lines : Model → ExactIis → List (List ℕ)

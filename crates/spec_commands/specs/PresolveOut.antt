@@ -7,7 +7,6 @@ use Rattle.spec_presolve.specs.declared.presolved.Why.TheVariants as why
 use Rattle.spec_presolve.specs.declared.presolved.Way.{Way}
 use Rattle.spec_presolve.specs.declared.presolved.Way.TheVariants.{Reduced, Plain}
 use Rattle.spec_presolve.specs.Presolved.{ExactWhy, ExactPresolved, IsPresolved}
-use Rattle.spec_server.specs.declared.answer.Answer.TheVariants as answer
 use Rattle.spec_server.specs.declared.asks.Reply.TheVariants as reply
 use Rattle.spec_server.specs.declared.asks.Refusal.TheVariants as refusal
 use Rattle.spec_server.specs.Machine.{opening_budget}
@@ -17,7 +16,7 @@ use Rattle.spec_commands.specs.SolveOut.{solved_lines}
 
 -- the refused operation, or that the budget is spent
 abbrev pub why_line : ExactWhy → List ℕ
-why_line (why.Past q) = check_line (reply.Answered (answer.Past q))
+why_line (why.Past q) = check_line (reply.Past q)
 why_line why.Spent = codes "SPENT" ++ 10 ∷ []
 
 -- the rows and columns that are left

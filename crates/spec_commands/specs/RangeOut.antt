@@ -17,7 +17,6 @@ use Rattle.spec_runs.specs.Solve.{SolveEnd}
 use Rattle.spec_solve.specs.Answers.{IsSolved}
 use Rattle.spec_range.specs.declared.range.Range.{Range}
 use Rattle.spec_range.specs.Rule.{cost_range, side_range}
-use Rattle.spec_server.specs.declared.answer.Answer.TheVariants as answer
 use Rattle.spec_server.specs.declared.asks.Reply.TheVariants as reply
 use Rattle.spec_server.specs.declared.asks.Refusal.TheVariants as refusal
 use Rattle.spec_server.specs.Machine.{opening_budget, answer_of}
@@ -57,7 +56,7 @@ range_line r =
 -- the range, or the operation that is past the limit; the basis of an optimum is never singular
 abbrev pub ranged_text : Result (Range ℚ) (StartStop ℚ) → List ℕ
 ranged_text (Ok r) = range_line r
-ranged_text (Err (stop.Past p)) = check_line (reply.Answered (answer.Past p))
+ranged_text (Err (stop.Past p)) = check_line (reply.Past p)
 ranged_text (Err stop.Singular) = []
 
 -- from this basis
@@ -74,7 +73,7 @@ range_text moved m at end = []
 -- the answer's line, and the range
 unfoldable pub range_lines : Moved → Model → ℕ → ExactSolveEnd → List ℕ
 range_lines moved m at solved =
-    check_line (reply.Answered (answer_of opening_budget solved)) ++ range_text moved m at solved
+    check_line (answer_of opening_budget solved) ++ range_text moved m at solved
 
 -- what a solve of the model ends with, cold and within the budget of a new session
 abbrev pub RangedOut : Moved → Model → ℕ → List ℕ → Type 0

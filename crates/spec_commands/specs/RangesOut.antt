@@ -55,7 +55,7 @@ ranges_text m end = []
 
 -- the answer's line, and the ranges
 unfoldable pub ranges_lines : Model → ExactSolveEnd → List ℕ
-ranges_lines m solved = check_line (reply.Answered (answer_of opening_budget solved)) ++ ranges_text m solved
+ranges_lines m solved = check_line (answer_of opening_budget solved) ++ ranges_text m solved
 
 -- what a solve of the model ends with, cold and within the budget of a new session; or the line of the fault
 abbrev pub RangesOut : TextSaid → List ℕ → Type 0

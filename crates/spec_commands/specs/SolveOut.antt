@@ -13,7 +13,7 @@ use Rattle.spec_server.specs.TextSaid.{TextSaid}
 -- the answer's line, and the lines of its certificate
 unfoldable pub solved_lines : Model → ExactSolveEnd → List ℕ
 solved_lines m solved =
-    check_line (reply.Answered (answer_of opening_budget solved)) ++ ended_lines (lines_of_solved m solved)
+    check_line (answer_of opening_budget solved) ++ ended_lines (lines_of_solved m solved)
 
 -- what a solve of the model ends with, cold and within the budget of a new session; or the line of the fault
 abbrev pub SolveOut : TextSaid → List ℕ → Type 0

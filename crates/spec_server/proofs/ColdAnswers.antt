@@ -13,7 +13,6 @@ use Rattle.spec_solve.proofs.TrueAnswers.{cold_found}
 use Rattle.spec_board.specs.Reads.{ExactRead}
 use Rattle.spec_server.specs.declared.asks.Ask.TheVariants as ask
 use Rattle.spec_server.specs.declared.asks.Reply.TheVariants as reply
-use Rattle.spec_server.specs.declared.answer.Answer.TheVariants as answer
 use Rattle.spec_server.specs.declared.command.Plain.TheVariants as command
 use Rattle.spec_server.specs.Machine.{ExactReply, State, solve_due, answer_of}
 use Rattle.spec_server.specs.Step.{AloneStep}
@@ -22,7 +21,7 @@ use Rattle.spec_server.proofs.Simply.{SolveStep, Does, WantsMemory, step_simply}
 module _ (budget : ℕ) (m : Model) (known : Known ℚ) (cert : Certificate (List ℚ))
     (basis : Option (List Status)) (pivots : ℕ)
     (found : cold (Some number_limit) budget m ≡ outcome.Ended known cert basis pivots) where
-  answers_known : (end : ExactSolveEnd) → MayAnswer m budget end → answer_of budget end ≡ answer.Known known
+  answers_known : (end : ExactSolveEnd) → MayAnswer m budget end → answer_of budget end ≡ reply.Known known
   answers_known end h =
       let k = cold_found m budget known cert basis pivots end found h in ap (answer_of budget) k.3
 
@@ -30,14 +29,14 @@ pub solve_answers : (places : ℕ) (old new : State) (reads : List ExactRead) (r
     (known : Known ℚ) (cert : Certificate (List ℚ)) (basis : Option (List Status)) (pivots : ℕ) →
     old.model ≡ Some m → cold (Some number_limit) old.budget m ≡ outcome.Ended known cert basis pivots →
     AloneStep places old (ask.Plain command.Solve) reads replied new →
-    (replied ≡ reply.Answered (answer.Known known)) ⊎ (replied ≡ reply.Memory)
+    (replied ≡ reply.Known known) ⊎ (replied ≡ reply.Memory)
 solve_answers places old new reads replied m known cert basis pivots held found s =
     by (step_simply places old reads replied new (ask.Plain command.Solve) s)
   where
     by : Does old (solve_due old old.model) replied new ⊎ WantsMemory old replied new →
-        (replied ≡ reply.Answered (answer.Known known)) ⊎ (replied ≡ reply.Memory)
+        (replied ≡ reply.Known known) ⊎ (replied ≡ reply.Memory)
     by (inl h) =
         let s : SolveStep old m replied new =
         subst (λ (model : Option Model). Does old (solve_due old model) replied new) held h in
-        inl (s.answer ∙ ap reply.Answered (answers_known old.budget m known cert basis pivots found s.end s.may_answer))
+        inl (s.answer ∙ answers_known old.budget m known cert basis pivots found s.end s.may_answer)
     by (inr h) = inr h.memory

@@ -22,6 +22,7 @@ use Rattle.spec_edit.specs.Edited.{ExactEdit, OrFault, IsKeptEdit, edited}
 use Rattle.spec_edit.proofs.EditsKeep.{edited-kept}
 use Rattle.spec_simplex.specs.declared.ends.FormFault.{FormFault}
 use Rattle.spec_simplex.specs.Form.{Form, form_of}
+use Rattle.spec_check.specs.declared.solve_end.SolveEnd.TheVariants as outcome
 use Rattle.spec_runs.specs.Cold.{ExactSolveEnd}
 use Rattle.spec_runs.specs.declared.ends.Route.TheVariants as route
 use Rattle.spec_solve.specs.Order.{cold_by, cold_over}
@@ -40,7 +41,7 @@ use Rattle.spec_server.specs.declared.command.Plain.TheVariants as command
 use Rattle.spec_server.specs.Machine.{ExactAsk, ExactReply, ExactLastAnswer, IsKeptAsk, State, is_memory, verdict_on}
 use Rattle.spec_server.specs.Machine.{check_reply, fixed_reply, text_reply, write_reply, cert_reply, how_reply, Due}
 use Rattle.spec_server.specs.Machine.{Replies, Solves, SolvesWide, solve_due, wide_due, edit_refusal, edit_due, change_due}
-use Rattle.spec_server.specs.Machine.{due}
+use Rattle.spec_server.specs.Machine.{due, answer_of}
 use Rattle.spec_server.specs.WideLines.{wide_lines}
 use Rattle.spec_server.specs.Step.{answered, with_answer, Begun, Answers, solve_begun, BegunBy, words_of_end, worked_with}
 use Rattle.spec_server.specs.Step.{Concludes, GoesOn, AloneStep}
@@ -274,10 +275,16 @@ ample_how : (last : Option ExactLastAnswer) → is_memory (how_reply last) ≡ f
 ample_how None = refl
 ample_how (Some last) = refl
 
+-- the reply to a solve is not `MEMORY`
+ample_answer : (budget : ℕ) (end : ExactSolveEnd) → is_memory (answer_of budget end) ≡ false
+ample_answer budget (outcome.Ended known certificate basis pivots) = refl
+ample_answer budget (outcome.Past p) = refl
+ample_answer budget outcome.Spent = refl
+
 -- the reply that is due to a solve is not `MEMORY`
 ample_solve : (state : State) (held : Option Model) → is_memory (due_reply state (solve_due state held)) ≡ false
 ample_solve state None = refl
-ample_solve state (Some m) = refl
+ample_solve state (Some m) = ample_answer state.budget (part_end state.budget m (form_of (Some number_limit) m))
 
 -- the reply that is due to a wide solve is not `MEMORY`
 ample_wide : (state : State) (held : Option Model) → is_memory (due_reply state (wide_due state held)) ≡ false

@@ -4,7 +4,6 @@
 -- `checked`: two replies of verdicts are the same only where their verdicts are.
 -- `accepted_is_true`: where a session accepts a certificate, it holds a model, and what the certificate says holds of
 --   it.
--- `answers_same`: two replies of answers are the same only where their answers are.
 -- `answered_is_true`: where a session answers a solve with a known answer, it holds a model, and the answer holds of
 --   it.
 use Rattle.std.proofs.Common.{◌≡◌, ℕ, List, Option, Some, None, Ok, Err, refl, sym, subst, inl, inr, ◌⊎◌}
@@ -32,8 +31,6 @@ use Rattle.spec_board.specs.Reads.{ExactRead}
 use Rattle.spec_server.specs.declared.asks.Ask.TheVariants as ask
 use Rattle.spec_server.specs.declared.asks.Reply.TheVariants as reply
 use Rattle.spec_server.specs.declared.asks.Refusal.TheVariants as refusal
-use Rattle.spec_server.specs.declared.answer.Answer.{Answer}
-use Rattle.spec_server.specs.declared.answer.Answer.TheVariants as answer
 use Rattle.spec_server.specs.declared.command.Plain.TheVariants as command
 use Rattle.spec_server.specs.Machine.{State, ExactReply, verdict_on, check_reply, solve_due, answer_of}
 use Rattle.spec_server.specs.Step.{AloneStep}
@@ -86,18 +83,15 @@ accepted_is_true places old new raw reads said s =
 
 -- the reply that answers what is known
 abbrev known_to : Known ℚ → ExactReply
-known_to said = reply.Answered (answer.Known said)
+known_to said = reply.Known said
 
-pub answers_same : (a b : Answer ℚ) → ◌≡◌ {A = ExactReply} (reply.Answered a) (reply.Answered b) → a ≡ b
-answers_same a b e = cc
-
--- two known answers are the same where they are so as answers
-knowns_same : (a b : Known ℚ) → ◌≡◌ {A = Answer ℚ} (answer.Known a) (answer.Known b) → a ≡ b
+-- two known answers are the same where they are so as replies
+knowns_same : (a b : Known ℚ) → ◌≡◌ {A = ExactReply} (reply.Known a) (reply.Known b) → a ≡ b
 knowns_same a b e = cc
 
 -- where a solve of a model ends with a known answer, this is true of the model
 solved_true : (m : Model) (budget : ℕ) (solved : ExactSolveEnd) (said : Known ℚ) → MayAnswer m budget solved →
-    answer.Known said ≡ answer_of budget solved → Holds m said
+    reply.Known said ≡ answer_of budget solved → Holds m said
 solved_true m budget (outcome.Ended known cert basis pivots) said h e =
     subst (Holds m) (sym (knowns_same said known e)) (ended_true m budget known cert basis pivots h)
 solved_true m budget (outcome.Past p) said h e = cc
@@ -116,7 +110,7 @@ due_true : (old new : State) (held : Option Model) (said : Known ℚ) →
     Does old (solve_due old held) (known_to said) new → (m : Model) × (held ≡ Some m) × Holds m said
 due_true old new None said h = absurd (refused_unknown said h.0)
 due_true old new (Some m) said h =
-    (m, refl, solved_true m old.budget h.end said h.may_answer (answers_same _ _ h.answer))
+    (m, refl, solved_true m old.budget h.end said h.may_answer h.answer)
 
 pub answered_is_true : (places : ℕ) (old new : State) (reads : List ExactRead) (said : Known ℚ) →
     AloneStep places old (ask.Plain command.Solve) reads (known_to said) new →

@@ -21,8 +21,6 @@ use Rattle.spec_edit.specs.Edited as edits
 use Rattle.spec_pivot.specs.declared.status.Status.{Status}
 use Rattle.spec_check.specs.declared.solve_end.SolveEnd.TheVariants as outcome
 use Rattle.spec_runs.specs.Cold.{ExactSolveEnd}
-use Rattle.spec_server.specs.declared.answer.Answer.{Answer}
-use Rattle.spec_server.specs.declared.answer.Answer.TheVariants as answer
 use Rattle.spec_server.specs.declared.answer.LastAnswer.{LastAnswer}
 use Rattle.spec_server.specs.declared.asks.Ask.{Ask}
 use Rattle.spec_server.specs.declared.asks.Ask.TheVariants as ask
@@ -111,11 +109,11 @@ abbrev pub write_reply : Option Model → Style → ExactReply
 write_reply None form = reply.Refused refusal.NoModel
 write_reply (Some m) form = text_reply m form
 
--- the answer of a solve within a budget
-abbrev pub answer_of : ℕ → ExactSolveEnd → Answer ℚ
-answer_of budget (outcome.Ended known certificate basis pivots) = answer.Known known
-answer_of budget (outcome.Past p) = answer.Past p
-answer_of budget outcome.Spent = answer.Spent budget
+-- the reply to a solve within a budget
+abbrev pub answer_of : ℕ → ExactSolveEnd → ExactReply
+answer_of budget (outcome.Ended known certificate basis pivots) = reply.Known known
+answer_of budget (outcome.Past p) = reply.Past p
+answer_of budget outcome.Spent = reply.Spent budget
 
 -- the lines of its certificate; none where it knows nothing of the model
 abbrev pub lines_of_solved : Model → ExactSolveEnd → List (List ℕ)

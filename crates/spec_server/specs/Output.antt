@@ -22,8 +22,6 @@ use Rattle.spec_board.specs.declared.read.Put.{Put}
 use Rattle.spec_board.specs.declared.read.Put.TheVariants as put
 use Rattle.spec_server.specs.declared.addressing.Addressing.{Addressing}
 use Rattle.spec_server.specs.declared.addressing.Addressing.TheVariants.{Numbered, Alone}
-use Rattle.spec_server.specs.declared.answer.Answer.{Answer}
-use Rattle.spec_server.specs.declared.answer.Answer.TheVariants as answer
 use Rattle.spec_server.specs.declared.answer.How.{How}
 use Rattle.spec_server.specs.declared.answer.How.TheVariants.{Cold, Basis, Fell}
 use Rattle.spec_server.specs.declared.answer.Publication.{Publication}
@@ -62,12 +60,6 @@ abbrev pub verdict_text : Verdict ℚ → List ℕ
 verdict_text (verdict.Yes what) = codes "YES " ++ known_text what
 verdict_text (verdict.No n) = codes "NO " ++ decimal n
 verdict_text (verdict.Past p) = past_text p
-
--- what a solve ended with, as it is printed
-abbrev pub answer_text : Answer ℚ → List ℕ
-answer_text (answer.Known what) = known_text what
-answer_text (answer.Past p) = past_text p
-answer_text (answer.Spent budget) = codes "SPENT " ++ decimal budget
 
 -- how an answer was found, its pivots and flips, and what was given of it to other sessions
 abbrev pub fall_text : Fall → List ℕ
@@ -147,7 +139,9 @@ unfoldable pub reply_text : ExactReply → List ℕ
 reply_text (reply.Loaded rows columns) = codes "LOADED " ++ decimal rows ++ codes " " ++ decimal columns
 reply_text (reply.Written text) = codes "TEXT " ++ decimal (count_of_lines text)
 reply_text reply.Done = codes "OK"
-reply_text (reply.Answered what) = answer_text what
+reply_text (reply.Known what) = known_text what
+reply_text (reply.Past p) = past_text p
+reply_text (reply.Spent budget) = codes "SPENT " ++ decimal budget
 reply_text (reply.Certified lines) = codes "CERT " ++ decimal (length lines)
 reply_text (reply.Found how pivots publication) =
     codes "HOW " ++ how_text how ++ codes " PIVOTS " ++ pivots_text pivots ++ codes " " ++ publication_text publication
@@ -170,7 +164,9 @@ abbrev pub lines_behind : ExactReply → List ℕ
 lines_behind (reply.Loaded rows columns) = []
 lines_behind (reply.Written text) = text
 lines_behind reply.Done = []
-lines_behind (reply.Answered what) = []
+lines_behind (reply.Known what) = []
+lines_behind (reply.Past p) = []
+lines_behind (reply.Spent budget) = []
 lines_behind (reply.Certified lines) = ended_lines lines
 lines_behind (reply.Found how pivots publication) = []
 lines_behind (reply.Checked what) = []

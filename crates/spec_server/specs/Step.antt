@@ -39,7 +39,7 @@ pub data Begun : Type 0 where
 
 -- the line of an answer
 abbrev pub answered : State → ExactSolveEnd → ExactReply
-answered old end = reply.Answered (answer_of old.budget end)
+answered old end = answer_of old.budget end
 
 -- the state that keeps it
 abbrev pub with_answer : State → ExactSolveEnd → How → Publication → State

@@ -1,20 +1,8 @@
-// What a solve answers, over the type F of numbers, L of lists of numbers and B of bases.
+// What a session keeps of a solve, over the type F of numbers, L of lists of numbers and B of bases.
 use spec_board::Put;
-use spec_check::{Known, SolveEnd};
-use spec_exact::Past;
+use spec_check::SolveEnd;
 use spec_runs::Fall;
 use std::fmt::Debug;
-
-/// What a solve answers.
-#[derive(Clone, Copy)]
-pub enum Answer<F: Debug> {
-    /// What is known of the model, by a certificate.
-    Known(Known<F>),
-    /// The operation that is past the limit.
-    Past(Past<F>),
-    /// This budget was not enough.
-    Spent(u64),
-}
 
 /// How an answer was found.
 #[derive(Clone, Copy)]

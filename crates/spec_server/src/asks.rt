@@ -1,9 +1,10 @@
 // What a session is asked and what it replies, over the type M of models, R of certificates as their texts have them, E
 // of edits, N of names, F of numbers, T of texts and L of lists of lines.
-use crate::answer::{Answer, How, Publication};
+use crate::answer::{How, Publication};
 use crate::command::{LineFault, Plain};
-use spec_check::Verdict;
+use spec_check::{Known, Verdict};
 use spec_edit::Which;
+use spec_exact::Past;
 use spec_mps::MpsFault;
 use std::fmt::Debug;
 
@@ -41,7 +42,12 @@ pub enum Reply<N, F: Debug, T, L> {
     Written(T),
     /// What was asked is so from now on.
     Done,
-    Answered(Answer<F>),
+    /// A solve knows this of the model, by a certificate.
+    Known(Known<F>),
+    /// A solve gave up at this operation, which is past the limit.
+    Past(Past<F>),
+    /// This budget was not enough for a solve.
+    Spent(u64),
     /// The lines of the last answer's certificate, if it has one.
     Certified(L),
     /// How the last answer was found. There are no pivots where it knows nothing of the model.

@@ -3,7 +3,7 @@
 //! | Item | What it is | Where |
 //! |---|---|---|
 //! | `Ask`, `Reply`, `Refusal` | what a session is asked, and what it replies | src/asks |
-//! | `Answer`, `LastAnswer` | what a solve answers, and what a session keeps of it | src/answer |
+//! | `LastAnswer` | what a session keeps of a solve | src/answer |
 //! | `How`, `Publication` | how an answer was found, and what other sessions were given of it | src/answer |
 //! | `Command`, `command_of` | what the words of a line ask its session | src/command, specs/Command |
 //! | `Addressing`, `addressed_in` | whether lines name sessions, and which | src/addressing, specs/Addressing |
@@ -44,7 +44,6 @@ ghost use Rattle.spec_pivot.specs.declared.status.Status.{Status};
 ghost use Rattle.spec_check.specs.declared.solve_end.SolveEnd.TheVariants as outcome;
 ghost use Rattle.spec_runs.specs.Cold.{cold};
 ghost use Rattle.spec_solve.specs.Answers.{MayAnswer};
-ghost use Rattle.spec_server.specs.declared.answer.Answer.TheVariants as answer;
 ghost use Rattle.spec_server.specs.declared.asks.Ask.TheVariants as ask;
 ghost use Rattle.spec_server.specs.declared.asks.Asked.{Asked as asked_of};
 ghost use Rattle.spec_server.specs.declared.asks.Reply.TheVariants as reply;
@@ -66,7 +65,7 @@ mod command;
 mod halves;
 
 pub use addressing::Addressing;
-pub use answer::{Answer, How, LastAnswer, Publication};
+pub use answer::{How, LastAnswer, Publication};
 pub use asks::{Ask, Asked, Refusal, Reply};
 pub use command::{Command, CommandWord, EditWord, LineFault, Plain};
 pub use halves::{Next, Started};
@@ -81,7 +80,7 @@ pub fn accepted_certificates_are_true()
 /// What a session answers to a solve is true of the model that it holds.
 pub fn answers_are_true()
     ensures { (places : ℕ) (old new : State) (reads : List ExactRead) (known : Known ℚ) →
-        AloneStep places old (ask.Plain command.Solve) reads (reply.Answered (answer.Known known)) new →
+        AloneStep places old (ask.Plain command.Solve) reads (reply.Known known) new →
         (m : Model) × (old.model ≡ Some m) × Holds m known }
 {}
 
@@ -91,7 +90,7 @@ pub fn solves_answer_as_the_cold_run()
         (known : Known ℚ) (cert : Certificate (List ℚ)) (basis : Option (List Status)) (pivots : ℕ) →
         old.model ≡ Some m → cold (Some number_limit) old.budget m ≡ outcome.Ended known cert basis pivots →
         AloneStep places old (ask.Plain command.Solve) reads replied new →
-        (replied ≡ reply.Answered (answer.Known known)) ⊎ (replied ≡ reply.Memory) }
+        (replied ≡ reply.Known known) ⊎ (replied ≡ reply.Memory) }
 {}
 
 /// The last answer that a session keeps stays one that its model may have.

@@ -25,10 +25,9 @@ use Rattle.spec_runs.specs.Cold.{ExactSolveEnd}
 use Rattle.spec_runs.specs.declared.ends.Route.{Route}
 use Rattle.spec_runs.specs.declared.ends.Route.TheVariants as route
 use Rattle.spec_runs.specs.Solve.{SolveEnd}
-use Rattle.spec_server.specs.declared.answer.Answer.{Answer}
 use Rattle.spec_server.specs.declared.asks.Reply.TheVariants as reply
 use Rattle.spec_solve.specs.Answers.{MayAnswer}
-use Rattle.spec_server.specs.Machine.{opening_budget, answer_of, lines_of_solved, pivots_of_solved, verdict_on}
+use Rattle.spec_server.specs.Machine.{ExactReply, opening_budget, answer_of, lines_of_solved, pivots_of_solved, verdict_on}
 use Rattle.spec_server.specs.Output.{reply_text, ended_lines, fall_text, pivots_text}
 use Rattle.spec_server.specs.Said.{follow, said_by}
 use Rattle.spec_commands.specs.CheckOut.{InText, InCertificate, behind_text, check_step, said_from, said}
@@ -129,9 +128,8 @@ module _ (style : Style) (lines : List (Line (List ℕ))) (m : Model) (after : L
   -- ---- what `solve` writes
 
   pub solve_accepted : (written : List ℕ) → SolveOut (Ok m) written →
-      (a : Answer ℚ) × (behind : List ℕ) × (written ≡ reply_text (reply.Answered a) ++ 10 ∷ behind)
+      (a : ExactReply) × (behind : List ℕ) × (written ≡ reply_text a ++ 10 ∷ behind)
       × IsAccepted style own a behind
-  unfolding reply_text
   solve_accepted written out = (
     answer_of opening_budget out.0.end,
     ended_lines (lines_of_solved m out.0.end),
@@ -142,9 +140,8 @@ module _ (style : Style) (lines : List (Line (List ℕ))) (m : Model) (after : L
   -- ---- what `presolve` writes
 
   pub presolve_accepted : (written : List ℕ) → PresolveOut (Ok m) written →
-      (way : Way ℚ) × (a : Answer ℚ) × (behind : List ℕ)
-      × (written ≡ way_line way ++ (reply_text (reply.Answered a) ++ 10 ∷ behind)) × IsAccepted style own a behind
-  unfolding reply_text
+      (way : Way ℚ) × (a : ExactReply) × (behind : List ℕ)
+      × (written ≡ way_line way ++ (reply_text a ++ 10 ∷ behind)) × IsAccepted style own a behind
   presolve_accepted written out = (
     out.0.way,
     answer_of opening_budget out.0.end,
@@ -185,10 +182,9 @@ front_no_feed solved =
 -- `basis` writes an answer's line, one more line, and then lines that `check` accepts for this answer
 pub basis_accepted : (style : Style) (lines : List (Line (List ℕ))) (handed : Handed) (written : List ℕ)
     (h : AreHanded usual_limits style lines handed) → BasisOut (Ok handed) written →
-    (a : Answer ℚ) × (how behind : List ℕ)
-    × (written ≡ reply_text (reply.Answered a) ++ 10 ∷ (how ++ 10 ∷ behind)) × HasNoFeed how
+    (a : ExactReply) × (how behind : List ℕ)
+    × (written ≡ reply_text a ++ 10 ∷ (how ++ 10 ∷ behind)) × HasNoFeed how
     × IsAccepted style (h.text.front ++ h.text.last ∷ []) a behind
-unfolding reply_text
 basis_accepted style lines handed written h out =
     let m : Model = handed.model in
     let end : ExactSolveEnd = out.0.end in
@@ -197,7 +193,7 @@ basis_accepted style lines handed written h out =
       route_front out.0,
       ended_lines (lines_of_solved m end) ++ final,
       out.2 ∙ basis_begins m out.0
-          ∙ ap (λ (bs : List ℕ). reply_text (reply.Answered (answer_of opening_budget end)) ++ 10 ∷ bs)
+          ∙ ap (λ (bs : List ℕ). reply_text (answer_of opening_budget end) ++ 10 ∷ bs)
           (route_ends out.0 (ended_lines (lines_of_solved m end) ++ final)),
       front_no_feed out.0,
       accepted_before style lines m h.behind h.text opening_budget end final out.1.may_answer,

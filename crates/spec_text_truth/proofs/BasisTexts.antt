@@ -23,12 +23,10 @@ use Rattle.spec_mps.specs.NumberText.{Is, number_of}
 use Rattle.spec_mps.specs.Reader.{start}
 use Rattle.spec_mps.specs.Steps as text
 use Rattle.spec_runs.specs.Solve.{SolveEnd}
-use Rattle.spec_server.specs.declared.answer.Answer.{Answer}
-use Rattle.spec_server.specs.declared.asks.Reply.TheVariants as reply
 use Rattle.spec_commands.specs.declared.basis.BasisFault.{BasisFault}
 use Rattle.spec_commands.specs.declared.basis.BasisFault.TheVariants as fault
-use Rattle.spec_server.specs.Machine.{opening_budget, answer_of, lines_of_solved}
-use Rattle.spec_server.specs.Output.{check_line, answer_text, reply_text, ended_lines}
+use Rattle.spec_server.specs.Machine.{ExactReply, opening_budget, answer_of, lines_of_solved}
+use Rattle.spec_server.specs.Output.{check_line, reply_text, ended_lines}
 use Rattle.spec_commands.specs.BasisOut.{Handed, BasisSaid, basis_said, route_line, final_text, basis_lines}
 use Rattle.spec_commands.specs.BasisOut.{basis_fault_line, BasisOut}
 use Rattle.spec_text_truth.specs.SpelledBasis.{BeginsWithText, form_at_limit}
@@ -62,10 +60,10 @@ behind_answer m solved =
     route_line solved ++ (ended_lines (lines_of_solved m solved.end) ++ final_text m (form_at_limit m) solved.end)
 
 pub basis_begins : (m : Model) (solved : SolveEnd) →
-    basis_lines m solved ≡ answer_text (answer_of opening_budget solved.end) ++ 10 ∷ behind_answer m solved
-unfolding basis_lines check_line reply_text
+    basis_lines m solved ≡ reply_text (answer_of opening_budget solved.end) ++ 10 ∷ behind_answer m solved
+unfolding basis_lines check_line
 basis_begins m solved =
-    let answer : List ℕ = answer_text (answer_of opening_budget solved.end) in
+    let answer : List ℕ = reply_text (answer_of opening_budget solved.end) in
     let certificate : List ℕ = ended_lines (lines_of_solved m solved.end) in
     let final : List ℕ = final_text m (form_at_limit m) solved.end in
     append_assoc ((answer ++ 10 ∷ []) ++ route_line solved) certificate final
@@ -96,9 +94,8 @@ no_fault why written letter h is e = apart 69 letter h (sym (ap first is ∙ fau
 pub answer_begins : (style : Style) (lines : List (Line (List ℕ))) (handed : Handed) (written : List ℕ) →
     basis_said usual_limits style lines ≡ Some (Ok handed) → BasisOut (Ok handed) written →
     text.Spells style lines handed.model
-    × ((a : Answer ℚ) × (behind : List ℕ) × (written ≡ reply_text (reply.Answered a) ++ 10 ∷ behind)
+    × ((a : ExactReply) × (behind : List ℕ) × (written ≡ reply_text a ++ 10 ∷ behind)
     × IsTrueOf handed.model a)
-unfolding reply_text
 answer_begins style lines handed written is out =
     let r = out_answered handed written out in
     (handed_spells usual_limits style lines handed is, (r.answer, r.behind, r.line, answer_holds handed.model r.answer r.shown))

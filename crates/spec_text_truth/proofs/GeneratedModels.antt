@@ -11,10 +11,8 @@ use Rattle.spec_mps.specs.NumberText.{Is, number_of}
 use Rattle.spec_commands.specs.Generated.{generated}
 use Rattle.spec_commands.proofs.GeneratedFeasible.{zero_feasible, bounded, height_is, width_is}
 use Rattle.spec_runs.specs.Cold.{ExactSolveEnd}
-use Rattle.spec_server.specs.declared.answer.Answer.{Answer}
-use Rattle.spec_server.specs.declared.asks.Reply.TheVariants as reply
-use Rattle.spec_server.specs.Machine.{opening_budget, answer_of, pivots_of_solved}
-use Rattle.spec_server.specs.Output.{check_line, answer_text, reply_text, pivots_text}
+use Rattle.spec_server.specs.Machine.{ExactReply, opening_budget, answer_of, pivots_of_solved}
+use Rattle.spec_server.specs.Output.{check_line, reply_text, pivots_text}
 use Rattle.spec_commands.specs.GenOut.{entry_count, size_text, generated_lines, SolvedOut, GenOut}
 use Rattle.spec_truth.specs.TrueAnswer.{IsTrueOf}
 use Rattle.spec_truth.proofs.ReplyLines.{looks_known}
@@ -51,9 +49,9 @@ size_no_feed m =
     (decimal_no_feed (entry_count m))
 
 record IsSizeAndAnswer (m : Model) (written : List ℕ) : Type 0 where
-  answer : Answer ℚ
+  answer : ExactReply
   behind : List ℕ
-  lines : written ≡ size_text m ++ answer_text answer ++ 10 ∷ behind
+  lines : written ≡ size_text m ++ reply_text answer ++ 10 ∷ behind
   shown : IsShownBy m answer
 
 -- what stands behind the answer's line, of the end of a solve
@@ -63,11 +61,11 @@ pivots_line solved = codes "PIVOTS " ++ (pivots_text (pivots_of_solved solved) +
 -- what `gen` writes of a model is the line of its size, the line of the answer, and what is behind them
 generated_begins : (m : Model) (solved : ExactSolveEnd) →
     generated_lines m solved
-    ≡ size_text m ++ answer_text (answer_of opening_budget solved) ++ 10 ∷ pivots_line solved
-unfolding generated_lines check_line reply_text pivots_line
+    ≡ size_text m ++ reply_text (answer_of opening_budget solved) ++ 10 ∷ pivots_line solved
+unfolding generated_lines check_line pivots_line
 generated_begins m solved =
     let size : List ℕ = size_text m in
-    let answer : List ℕ = answer_text (answer_of opening_budget solved) in
+    let answer : List ℕ = reply_text (answer_of opening_budget solved) in
     let pivots : List ℕ = pivots_text (pivots_of_solved solved) in
     let rest : List ℕ = codes "PIVOTS " ++ (pivots ++ 10 ∷ []) in
     append_assoc ((size ++ (answer ++ 10 ∷ [])) ++ codes "PIVOTS ") pivots (10 ∷ [])
@@ -88,9 +86,9 @@ out_answered m written out = record {
 
 -- the bytes of a size and an answer are two lines, each with its line feed, and what is behind them
 lines_are : (m : Model) (written : List ℕ) (r : IsSizeAndAnswer m written) →
-    written ≡ size_line m ++ 10 ∷ (answer_text r.answer ++ 10 ∷ r.behind)
+    written ≡ size_line m ++ 10 ∷ (reply_text r.answer ++ 10 ∷ r.behind)
 lines_are m written r =
-    let answer : List ℕ = answer_text r.answer in
+    let answer : List ℕ = reply_text r.answer in
     r.lines
     ∙ ap (λ (bs : List ℕ). bs ++ answer ++ 10 ∷ r.behind) (size_ends m)
     ∙ append_assoc (size_line m ++ 10 ∷ []) answer (10 ∷ r.behind)
@@ -100,14 +98,14 @@ lines_are m written r =
 first_line : (m : Model) (written size rest : List ℕ) (r : IsSizeAndAnswer m written) → HasNoFeed size →
     written ≡ size ++ 10 ∷ rest → size_line m ≡ size
 first_line m written size rest r no_feed e =
-    same_line (size_line m) size (answer_text r.answer ++ 10 ∷ r.behind) rest (size_no_feed m) no_feed
+    same_line (size_line m) size (reply_text r.answer ++ 10 ∷ r.behind) rest (size_no_feed m) no_feed
     (sym (lines_are m written r) ∙ e)
 
 -- behind the first line of the bytes of a size and an answer stands the line of the answer
 second_line : (m : Model) (written size rest : List ℕ) (r : IsSizeAndAnswer m written) → HasNoFeed size →
-    written ≡ size ++ 10 ∷ rest → answer_text r.answer ++ 10 ∷ r.behind ≡ rest
+    written ≡ size ++ 10 ∷ rest → reply_text r.answer ++ 10 ∷ r.behind ≡ rest
 second_line m written size rest r no_feed e =
-    same_rest (size_line m) size (answer_text r.answer ++ 10 ∷ r.behind) rest (size_no_feed m) no_feed
+    same_rest (size_line m) size (reply_text r.answer ++ 10 ∷ r.behind) rest (size_no_feed m) no_feed
     (sym (lines_are m written r) ∙ e)
 
 -- ---- the size
@@ -127,10 +125,9 @@ size_is seed rows columns =
 -- ---- the answer
 
 pub answer_follows : (seed rows columns : ℕ) (written : List ℕ) → GenOut seed rows columns written →
-    (a : Answer ℚ) × (behind : List ℕ)
-    × (written ≡ size_text (generated seed rows columns) ++ reply_text (reply.Answered a) ++ 10 ∷ behind)
+    (a : ExactReply) × (behind : List ℕ)
+    × (written ≡ size_text (generated seed rows columns) ++ reply_text a ++ 10 ∷ behind)
     × IsTrueOf (generated seed rows columns) a
-unfolding reply_text
 answer_follows seed rows columns written out =
     let m : Model = generated seed rows columns in
     let r = out_answered m written out in

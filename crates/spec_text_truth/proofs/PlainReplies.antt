@@ -46,9 +46,11 @@ use Rattle.spec_server.specs.declared.asks.Reply.TheVariants as reply
 use Rattle.spec_server.specs.declared.command.LineFault.{LineFault}
 use Rattle.spec_server.specs.declared.command.LineFault.TheVariants as line_fault
 use Rattle.spec_server.specs.declared.command.Plain.TheVariants as command
+use Rattle.spec_check.specs.declared.solve_end.SolveEnd.TheVariants as outcome
+use Rattle.spec_runs.specs.Cold.{ExactSolveEnd}
 use Rattle.spec_server.specs.Machine.{ExactAsk, ExactReply, ExactLastAnswer, State, settle_reply, verdict_on, check_reply}
 use Rattle.spec_server.specs.Machine.{fixed_reply, write_reply, cert_reply, how_reply, solve_due, wide_due, edit_refusal, edit_due}
-use Rattle.spec_server.specs.Machine.{change_due, due}
+use Rattle.spec_server.specs.Machine.{change_due, due, answer_of}
 use Rattle.spec_server.specs.Output.{reply_text, verdict_text, fall_text, how_text, pivots_text, put_text, publication_text}
 use Rattle.spec_server.specs.Output.{line_fault_text, fault_text, item_text, repeated_text, which_text, refusal_text}
 use Rattle.spec_server.specs.Output.{count_of_lines}
@@ -57,7 +59,7 @@ use Rattle.spec_server.proofs.Simply.{Does, WantsMemory, step_simply}
 use Rattle.spec_text_truth.specs.TrueOutput.{HasNoFeed}
 use Rattle.spec_text_truth.proofs.PlainText.{tested_no_feed, both_no_feed, decimal_no_feed}
 use Rattle.spec_text_truth.proofs.PlainWords.{printed_no_feed}
-use Rattle.spec_text_truth.proofs.TrueLines.{past_no_feed, known_no_feed, answer_no_feed}
+use Rattle.spec_text_truth.proofs.TrueLines.{past_no_feed, known_no_feed, spent_no_feed}
 use Rattle.spec_text_truth.proofs.PlainAsks.{IsPlainEdit, IsPlainRaw, IsPlainAsk}
 use Rattle.spec_text_truth.proofs.PlainFaults.{IsPlainFault, edited_plain}
 use Rattle.spec_text_truth.proofs.PlainSettles.{IsPlainSettle, certificate_plain}
@@ -201,7 +203,9 @@ reply_no_feed (reply.Written text) h =
     both_no_feed (codes "TEXT ") (decimal (count_of_lines text)) (tested_no_feed (codes "TEXT ") refl)
     (decimal_no_feed (count_of_lines text))
 reply_no_feed reply.Done h = tested_no_feed (codes "OK") refl
-reply_no_feed (reply.Answered what) h = answer_no_feed what
+reply_no_feed (reply.Known what) h = known_no_feed what
+reply_no_feed (reply.Past p) h = past_no_feed p
+reply_no_feed (reply.Spent budget) h = spent_no_feed budget
 reply_no_feed (reply.Certified lines) h =
     both_no_feed (codes "CERT ") (decimal (length lines)) (tested_no_feed (codes "CERT ") refl)
     (decimal_no_feed (length lines))
@@ -310,13 +314,19 @@ check_plain : (held : Option Model) (raw : ExactRaw) → IsPlainRaw raw → IsPl
 check_plain None raw h = tt
 check_plain (Some m) raw h = verdict_plain m (certificate_for m raw) (certificate_plain m raw h)
 
+-- the reply to a solve has no name
+answer_plain : (budget : ℕ) (end : ExactSolveEnd) → IsPlainReply (answer_of budget end)
+answer_plain budget (outcome.Ended known certificate basis pivots) = tt
+answer_plain budget (outcome.Past p) = tt
+answer_plain budget outcome.Spent = tt
+
 module _ (old new : State) (replied : ExactReply) where
   as_stated : (stated : ExactReply) → replied ≡ stated → IsPlainReply stated → IsPlainReply replied
   as_stated stated e h = subst IsPlainReply (sym e) h
 
   solve_plain : (held : Option Model) → Does old (solve_due old held) replied new → IsPlainReply replied
   solve_plain None d = as_stated _ d.0 tt
-  solve_plain (Some m) d = as_stated _ d.answer tt
+  solve_plain (Some m) d = as_stated _ d.answer (answer_plain old.budget d.end)
 
   wide_due_plain : (held : Option Model) → Does old (wide_due old held) replied new → IsPlainReply replied
   wide_due_plain None d = as_stated _ d.0 tt

@@ -18,10 +18,8 @@ use Rattle.spec_mps.specs.Steps.{Spells}
 use Rattle.spec_presolve.specs.declared.presolved.Way.{Way}
 use Rattle.spec_presolve.specs.declared.presolved.Way.TheVariants.{Reduced, Plain}
 use Rattle.spec_presolve.specs.Presolved.{ExactPresolved}
-use Rattle.spec_server.specs.declared.answer.Answer.{Answer}
-use Rattle.spec_server.specs.declared.asks.Reply.TheVariants as reply
-use Rattle.spec_server.specs.Machine.{opening_budget, answer_of, lines_of_solved}
-use Rattle.spec_server.specs.Output.{answer_text, reply_text, ended_lines}
+use Rattle.spec_server.specs.Machine.{ExactReply, opening_budget, answer_of, lines_of_solved}
+use Rattle.spec_server.specs.Output.{reply_text, ended_lines}
 use Rattle.spec_server.specs.TextSaid.{TextSaid, text_said}
 use Rattle.spec_commands.specs.PresolveOut.{way_line, presolved_lines, PresolveOut}
 use Rattle.spec_truth.specs.TrueAnswer.{IsTrueOf}
@@ -37,14 +35,14 @@ use Rattle.spec_text_truth.proofs.SolvedTexts.{solved_begins}
 
 pub record IsWayAndAnswer (m : Model) (written : List ℕ) : Type 0 where
   pub way : Way ℚ
-  pub answer : Answer ℚ
+  pub answer : ExactReply
   pub behind : List ℕ
-  pub lines : written ≡ way_line way ++ (answer_text answer ++ 10 ∷ behind)
+  pub lines : written ≡ way_line way ++ (reply_text answer ++ 10 ∷ behind)
   pub shown : IsShownBy m answer
 
 pub presolved_begins : (m : Model) (p : ExactPresolved) →
     presolved_lines m p
-    ≡ way_line p.way ++ (answer_text (answer_of opening_budget p.end) ++ 10 ∷ ended_lines (lines_of_solved m p.end))
+    ≡ way_line p.way ++ (reply_text (answer_of opening_budget p.end) ++ 10 ∷ ended_lines (lines_of_solved m p.end))
 unfolding presolved_lines
 presolved_begins m p = ap (λ (bs : List ℕ). way_line p.way ++ bs) (solved_begins m p.end)
 
@@ -98,16 +96,15 @@ module _ (style : Style) (lines : List (Line (List ℕ))) (m : Model) (what : Te
   told : IsWayAndAnswer m written
   told = answered style lines m what written is out spells
 
-  pub presolved_answer : (way : Way ℚ) × (a : Answer ℚ) × (behind : List ℕ)
-      × (written ≡ way_line way ++ (reply_text (reply.Answered a) ++ 10 ∷ behind)) × IsTrueOf m a
-  unfolding reply_text
+  pub presolved_answer : (way : Way ℚ) × (a : ExactReply) × (behind : List ℕ)
+      × (written ≡ way_line way ++ (reply_text a ++ 10 ∷ behind)) × IsTrueOf m a
   presolved_answer = (told.way, told.answer, told.behind, told.lines, answer_holds m told.answer told.shown)
 
   -- the answer's line, behind that of a smaller model
   second_line : (size rest : List ℕ) → HasNoFeed size → written ≡ codes "REDUCED " ++ size ++ 10 ∷ rest →
-      answer_text told.answer ++ 10 ∷ told.behind ≡ rest
+      reply_text told.answer ++ 10 ∷ told.behind ≡ rest
   second_line size rest no_feed e =
-      behind_size told.way (answer_text told.answer ++ 10 ∷ told.behind) size rest no_feed (sym told.lines ∙ e)
+      behind_size told.way (reply_text told.answer ++ 10 ∷ told.behind) size rest no_feed (sym told.lines ∙ e)
 
   pub presolved_optimal : (size text behind : List ℕ) → HasNoFeed size → HasNoFeed text →
       written ≡ codes "REDUCED " ++ size ++ 10 ∷ (codes "OPTIMAL " ++ text ++ 10 ∷ behind) →

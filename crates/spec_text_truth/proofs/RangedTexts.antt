@@ -47,16 +47,14 @@ use Rattle.spec_commands.specs.RangeOut.{place_by, range_of, end_text, range_lin
 use Rattle.spec_commands.specs.RangeOut.{range_lines, RangedOut, PlaceOut, RangeOut}
 use Rattle.spec_commands.proofs.OptimalBasis.{solved_keeps}
 use Rattle.spec_commands.proofs.NarrowRanges.{NarrowRange, cost_range_narrow, side_range_narrow}
-use Rattle.spec_server.specs.declared.answer.Answer.{Answer}
-use Rattle.spec_server.specs.declared.answer.Answer.TheVariants as answer
 use Rattle.spec_server.specs.declared.asks.Reply.TheVariants as reply
 use Rattle.spec_server.specs.declared.asks.Refusal.TheVariants as refusal
-use Rattle.spec_server.specs.Machine.{opening_budget, answer_of}
-use Rattle.spec_server.specs.Output.{check_line, answer_text, reply_text}
+use Rattle.spec_server.specs.Machine.{ExactReply, opening_budget, answer_of}
+use Rattle.spec_server.specs.Output.{check_line, reply_text}
 use Rattle.spec_server.specs.TextSaid.{TextSaid, text_said}
 use Rattle.spec_text_truth.specs.SaidRange.{number_at, with_number, SaysEnd, SaysRange}
 use Rattle.spec_truth.specs.TrueAnswer.{IsTrueOf}
-use Rattle.spec_truth.proofs.Shown.{IsShown, answer_shown, answer_holds, shown_holds, value_fits}
+use Rattle.spec_truth.proofs.Shown.{IsShown, IsShownBy, answer_shown, answer_holds, shown_holds, value_fits}
 use Rattle.spec_text_truth.proofs.SolvedTexts.{IsAnswered}
 use Rattle.spec_text_truth.proofs.TextLemmas.{spelled_said}
 use Rattle.spec_truth.proofs.AnswerLines.{read_back, first, apart, optimal_line, infeasible_line}
@@ -174,7 +172,7 @@ line_said r low high slope behind n in_low in_high in_slope e =
     texts_said r low high slope [] behind n in_low in_high in_slope e
 
 -- the line of a refused operation begins with the letter P
-past_first : (p : Past ℚ) → first (check_line (reply.Answered (answer.Past p))) ≡ 80
+past_first : (p : Past ℚ) → first (check_line (reply.Past p)) ≡ 80
 unfolding check_line reply_text
 past_first p = refl
 
@@ -234,8 +232,9 @@ module _ (moved : Moved) (name : Name) (m : Model) (n : IsNarrowModel m) (at : �
   -- by the answer, what stands behind it, and the basis that is left
   end_says : (solved : SolveEnd) → IsSolved m opening_budget None solved → (end : ExactSolveEnd) → solved.end ≡ end →
       MayAnswer m opening_budget end →
-      answer_text (answer_of opening_budget end) ++ 10 ∷ range_text moved m at end ≡ shown_line →
+      reply_text (answer_of opening_budget end) ++ 10 ∷ range_text moved m at end ≡ shown_line →
       SaysRange moved name m value low high slope
+  unfolding reply_text
   end_says solved is (outcome.Ended (known.Optimal v) cert (Some basis) pivots) q may e =
       let shown : IsShown m (known.Optimal v) = answer_shown m opening_budget (outcome.Ended (known.Optimal v) cert (Some basis) pivots) may in
       let narrow = value_fits m v shown in
@@ -259,10 +258,10 @@ module _ (moved : Moved) (name : Name) (m : Model) (n : IsNarrowModel m) (at : �
 
 -- what `range` writes of the end of a solve is the line of its answer and then the text of the range
 range_begins : (moved : Moved) (m : Model) (at : ℕ) (solved : ExactSolveEnd) →
-    range_lines moved m at solved ≡ answer_text (answer_of opening_budget solved) ++ 10 ∷ range_text moved m at solved
-unfolding range_lines check_line reply_text
+    range_lines moved m at solved ≡ reply_text (answer_of opening_budget solved) ++ 10 ∷ range_text moved m at solved
+unfolding range_lines check_line
 range_begins moved m at solved =
-    append_assoc (answer_text (answer_of opening_budget solved)) (10 ∷ []) (range_text moved m at solved)
+    append_assoc (reply_text (answer_of opening_budget solved)) (10 ∷ []) (range_text moved m at solved)
 
 -- what `range` writes of a model begins with the line of an answer that is shown of the model
 out_answered : (moved : Moved) (m : Model) (at : ℕ) (written : List ℕ) → RangedOut moved m at written →
@@ -303,17 +302,19 @@ module _ (moved : Moved) (name : Name) (m : Model) (written : List ℕ) where
 
   -- an answer's line does not begin with it
   named_by : written ≡ check_line (reply.Refused (refusal.Name name)) → (place : Option ℕ) → Out place → place ≡ None
+  unfolding reply_text
   named_by e None out = refl
   named_by e (Some at) out =
       let r = out_answered moved m at written out in
-      absurd (no_letter r.answer r.behind (sym (ap first r.line) ∙ ap first e ∙ no_name_first))
+      absurd (no_letter r.answer r.behind r.shown (sym (ap first r.line) ∙ ap first e ∙ no_name_first))
     where
-      no_letter : (a : Answer ℚ) (behind : List ℕ) → first (answer_text a ++ 10 ∷ behind) ≡ 69 → ⊥
-      no_letter (answer.Known (known.Optimal v)) behind h = apart 79 69 refl h
-      no_letter (answer.Known known.Infeasible) behind h = apart 73 69 refl h
-      no_letter (answer.Known known.Unbounded) behind h = apart 85 69 refl h
-      no_letter (answer.Past p) behind h = apart 80 69 refl h
-      no_letter (answer.Spent budget) behind h = apart 83 69 refl h
+      no_letter : (a : ExactReply) (behind : List ℕ) → IsShownBy m a → first (reply_text a ++ 10 ∷ behind) ≡ 69 → ⊥
+      no_letter (reply.Known (known.Optimal v)) behind s h = apart 79 69 refl h
+      no_letter (reply.Known known.Infeasible) behind s h = apart 73 69 refl h
+      no_letter (reply.Known known.Unbounded) behind s h = apart 85 69 refl h
+      no_letter (reply.Past p) behind s h = apart 80 69 refl h
+      no_letter (reply.Spent budget) behind s h = apart 83 69 refl h
+      no_letter replied behind s h = absurd s
 
 -- ---- the laws
 
@@ -327,8 +328,7 @@ module _ (style : Style) (lines : List (Line (List ℕ))) (m : Model) (moved : M
   unknown_is e = named_by moved name m written e (place_by moved m name) whole
 
   pub ranged_answer : (at : ℕ) → place_by moved m name ≡ Some at →
-      (a : Answer ℚ) × (behind : List ℕ) × (written ≡ reply_text (reply.Answered a) ++ 10 ∷ behind) × IsTrueOf m a
-  unfolding reply_text
+      (a : ExactReply) × (behind : List ℕ) × (written ≡ reply_text a ++ 10 ∷ behind) × IsTrueOf m a
   ranged_answer at e =
       let r = out_answered moved m at written (named_out moved name m written at e whole) in
       (r.answer, r.behind, r.line, answer_holds m r.answer r.shown)

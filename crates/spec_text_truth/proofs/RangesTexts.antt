@@ -43,10 +43,8 @@ use Rattle.spec_commands.specs.RangeOut.{place_by, range_of, end_text, range_lin
 use Rattle.spec_commands.specs.RangesOut.{number_words, name_by, number_line, number_lines, ranges_from, ranges_text}
 use Rattle.spec_commands.specs.RangesOut.{ranges_lines, RangesOut}
 use Rattle.spec_commands.proofs.OptimalBasis.{solved_keeps}
-use Rattle.spec_server.specs.declared.answer.Answer.{Answer}
-use Rattle.spec_server.specs.declared.asks.Reply.TheVariants as reply
-use Rattle.spec_server.specs.Machine.{opening_budget, answer_of}
-use Rattle.spec_server.specs.Output.{check_line, answer_text, past_text, reply_text, ended_lines}
+use Rattle.spec_server.specs.Machine.{ExactReply, opening_budget, answer_of}
+use Rattle.spec_server.specs.Output.{check_line, reply_text, past_text, ended_lines}
 use Rattle.spec_server.specs.TextSaid.{TextSaid, text_said}
 use Rattle.spec_server.proofs.Output.{ended_append}
 use Rattle.spec_text_truth.specs.SaidRange.{SaysRange}
@@ -370,8 +368,9 @@ module _ (m : Model) (h : IsModel m) (n : IsNarrowModel m) (moved : Moved) (valu
   -- by the answer, what stands behind it, and the basis that is left
   end_says : (solved : SolveEnd) → IsSolved m opening_budget None solved → (end : ExactSolveEnd) → solved.end ≡ end →
       MayAnswer m opening_budget end →
-      answer_text (answer_of opening_budget end) ++ 10 ∷ ranges_text m end ≡ codes "OPTIMAL " ++ value ++ 10 ∷ listed →
+      reply_text (answer_of opening_budget end) ++ 10 ∷ ranges_text m end ≡ codes "OPTIMAL " ++ value ++ 10 ∷ listed →
       SaysRange moved name m value low high slope
+  unfolding reply_text
   end_says solved is (outcome.Ended (known.Optimal v) cert (Some basis) pivots) q may e =
       let shown : IsShown m (known.Optimal v) = answer_shown m opening_budget (outcome.Ended (known.Optimal v) cert (Some basis) pivots) may in
       let more : number_text v ++ 10 ∷ ranges_from m basis (form_of (Some number_limit) m) ≡ value ++ 10 ∷ listed = cc in
@@ -390,9 +389,9 @@ module _ (m : Model) (h : IsModel m) (n : IsNarrowModel m) (moved : Moved) (valu
 
 -- what `range all` writes of the end of a solve is the line of its answer and then the ranges
 ranges_begin : (m : Model) (end : ExactSolveEnd) →
-    ranges_lines m end ≡ answer_text (answer_of opening_budget end) ++ 10 ∷ ranges_text m end
-unfolding ranges_lines check_line reply_text
-ranges_begin m end = append_assoc (answer_text (answer_of opening_budget end)) (10 ∷ []) (ranges_text m end)
+    ranges_lines m end ≡ reply_text (answer_of opening_budget end) ++ 10 ∷ ranges_text m end
+unfolding ranges_lines check_line
+ranges_begin m end = append_assoc (reply_text (answer_of opening_budget end)) (10 ∷ []) (ranges_text m end)
 
 -- ---- the laws
 
@@ -412,9 +411,8 @@ module _ (style : Style) (lines : List (Line (List ℕ))) (m : Model) (what : Te
         shown = answer_shown m opening_budget whole.0.end whole.1.may_answer;
       }
 
-  pub ranges_answer : (a : Answer ℚ) × (behind : List ℕ) × (written ≡ reply_text (reply.Answered a) ++ 10 ∷ behind)
+  pub ranges_answer : (a : ExactReply) × (behind : List ℕ) × (written ≡ reply_text a ++ 10 ∷ behind)
       × IsTrueOf m a
-  unfolding reply_text
   ranges_answer = (answered.answer, answered.behind, answered.line, answer_holds m answered.answer answered.shown)
 
   pub ranges_optimal : (text behind : List ℕ) → HasNoFeed text → written ≡ codes "OPTIMAL " ++ text ++ 10 ∷ behind →

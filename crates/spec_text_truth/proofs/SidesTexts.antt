@@ -27,10 +27,8 @@ use Rattle.spec_iis.specs.Found.{ExactIis, IsReached, IsElse, MayFind}
 use Rattle.spec_commands.specs.IisOut.{kind_word, end_word, side_line, point_lines, found_lines, end_words, iis_lines}
 use Rattle.spec_commands.specs.IisOut.{IisOut}
 use Rattle.spec_certificate.specs.TextWritten.{certificate_lines}
-use Rattle.spec_server.specs.declared.answer.Answer.{Answer}
-use Rattle.spec_server.specs.declared.answer.Answer.TheVariants as answer
 use Rattle.spec_server.specs.declared.asks.Reply.TheVariants as reply
-use Rattle.spec_server.specs.Machine.{opening_budget, answer_of}
+use Rattle.spec_server.specs.Machine.{ExactReply, opening_budget, answer_of}
 use Rattle.spec_server.specs.Output.{reply_text, ended_lines}
 use Rattle.spec_server.specs.TextSaid.{TextSaid, text_said}
 use Rattle.spec_server.proofs.Output.{ended_append}
@@ -203,10 +201,10 @@ reached_shown m sides r =
 -- what `iis` writes of what may be found begins with the line of an answer that is shown of the model
 found_answered : (m : Model) (found : ExactIis) (written : List ℕ) → MayFind m opening_budget found →
     written ≡ ended_lines (iis_lines m found) → IsAnswered m written
-unfolding ended_lines found_lines
+unfolding ended_lines found_lines reply_text
 found_answered m (Found sides cert points) written may e =
     record {
-      answer = answer.Known known.Infeasible;
+      answer = reply.Known known.Infeasible;
       behind = codes "IIS " ++ decimal (length sides) ++ 10 ∷ (ended_lines (map (side_line m) sides) ++ behind_sides m sides cert points);
       line = e ∙ found_begins m sides cert points;
       shown = reached_shown m sides may.reached;
@@ -220,7 +218,7 @@ found_answered m (Other end) written may e =
     }
 found_answered m (Stopped end) written may e =
     record {
-      answer = answer.Known known.Infeasible;
+      answer = reply.Known known.Infeasible;
       behind = ended_lines ((codes "STOPPED " ++ end_words end) ∷ []);
       line = e;
       shown = reached_shown m may.sides may.reached;
@@ -262,6 +260,7 @@ module _ (m : Model) (h : IsModel m) (count behind : List ℕ) (no_feed : HasNo 
 
   -- the line of another end begins otherwise
   no_iis : (end : ExactSolveEnd) → IsElse end → end_words end ++ 10 ∷ [] ≡ counted count behind → ⊥
+  unfolding reply_text
   no_iis (outcome.Ended (known.Optimal v) cert basis pivots) other e = apart 79 73 refl (ap first e)
   no_iis (outcome.Ended known.Infeasible cert basis pivots) other e = other
   no_iis (outcome.Ended known.Unbounded cert basis pivots) other e = apart 85 73 refl (ap first e)
@@ -287,9 +286,8 @@ module _ (style : Style) (lines : List (Line (List ℕ))) (m : Model) (what : Te
   answered : IsAnswered m written
   answered = out_answered m written whole
 
-  pub iis_answer : (a : Answer ℚ) × (behind : List ℕ) × (written ≡ reply_text (reply.Answered a) ++ 10 ∷ behind)
+  pub iis_answer : (a : ExactReply) × (behind : List ℕ) × (written ≡ reply_text a ++ 10 ∷ behind)
       × IsTrueOf m a
-  unfolding reply_text
   iis_answer = (answered.answer, answered.behind, answered.line, answer_holds m answered.answer answered.shown)
 
   pub iis_optimal : (text behind : List ℕ) → HasNoFeed text → written ≡ codes "OPTIMAL " ++ text ++ 10 ∷ behind →

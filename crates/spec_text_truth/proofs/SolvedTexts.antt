@@ -18,10 +18,8 @@ use Rattle.spec_mps.specs.declared.style.Style.{Style}
 use Rattle.spec_mps.specs.NumberText.{Is, number_of}
 use Rattle.spec_mps.specs.Steps.{Spells}
 use Rattle.spec_runs.specs.Cold.{ExactSolveEnd}
-use Rattle.spec_server.specs.declared.answer.Answer.{Answer}
-use Rattle.spec_server.specs.declared.asks.Reply.TheVariants as reply
-use Rattle.spec_server.specs.Machine.{opening_budget, answer_of, lines_of_solved}
-use Rattle.spec_server.specs.Output.{check_line, answer_text, reply_text, ended_lines}
+use Rattle.spec_server.specs.Machine.{ExactReply, opening_budget, answer_of, lines_of_solved}
+use Rattle.spec_server.specs.Output.{check_line, reply_text, ended_lines}
 use Rattle.spec_server.specs.TextSaid.{TextSaid, text_said}
 use Rattle.spec_commands.specs.SolveOut.{solved_lines, SolveOut}
 use Rattle.spec_truth.specs.TrueAnswer.{IsTrueOf}
@@ -31,16 +29,16 @@ use Rattle.spec_truth.proofs.AnswerLines.{optimal_line, infeasible_line, unbound
 use Rattle.spec_text_truth.specs.TrueOutput.{HasNoFeed}
 
 pub record IsAnswered (m : Model) (written : List ℕ) : Type 0 where
-  pub answer : Answer ℚ
+  pub answer : ExactReply
   pub behind : List ℕ
-  pub line : written ≡ answer_text answer ++ 10 ∷ behind
+  pub line : written ≡ reply_text answer ++ 10 ∷ behind
   pub shown : IsShownBy m answer
 
 pub solved_begins : (m : Model) (solved : ExactSolveEnd) →
-    solved_lines m solved ≡ answer_text (answer_of opening_budget solved) ++ 10 ∷ ended_lines (lines_of_solved m solved)
-unfolding solved_lines check_line reply_text
+    solved_lines m solved ≡ reply_text (answer_of opening_budget solved) ++ 10 ∷ ended_lines (lines_of_solved m solved)
+unfolding solved_lines check_line
 solved_begins m solved =
-    append_assoc (answer_text (answer_of opening_budget solved)) (10 ∷ []) (ended_lines (lines_of_solved m solved))
+    append_assoc (reply_text (answer_of opening_budget solved)) (10 ∷ []) (ended_lines (lines_of_solved m solved))
 
 pub out_answered : (m : Model) (written : List ℕ) → SolveOut (Ok m) written → IsAnswered m written
 out_answered m written out =
@@ -65,8 +63,7 @@ answered style lines m what written is out spells =
 
 pub answer_begins : (style : Style) (lines : List (Line (List ℕ))) (m : Model) (what : TextSaid) (written : List ℕ) →
     text_said style lines ≡ Some what → SolveOut what written → Spells style lines m →
-    (a : Answer ℚ) × (behind : List ℕ) × (written ≡ reply_text (reply.Answered a) ++ 10 ∷ behind) × IsTrueOf m a
-unfolding reply_text
+    (a : ExactReply) × (behind : List ℕ) × (written ≡ reply_text a ++ 10 ∷ behind) × IsTrueOf m a
 answer_begins style lines m what written is out spells =
     let r = answered style lines m what written is out spells in
     (r.answer, r.behind, r.line, answer_holds m r.answer r.shown)

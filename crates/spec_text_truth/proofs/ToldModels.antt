@@ -9,7 +9,6 @@ use Rattle.spec_check.specs.declared.certificate.Known.TheVariants as known
 use Rattle.spec_check.specs.declared.certificate.Verdict.TheVariants as verdict
 use Rattle.spec_board.specs.Reads.{ExactRead}
 use Rattle.spec_text.specs.Words.{same}
-use Rattle.spec_server.specs.declared.answer.Answer.TheVariants as answer
 use Rattle.spec_server.specs.declared.asks.Ask.TheVariants as ask
 use Rattle.spec_server.specs.declared.asks.Reply.TheVariants as reply
 use Rattle.spec_server.specs.declared.command.Plain.TheVariants as command
@@ -35,11 +34,11 @@ unfolding reply_text
 change_told held e reply.Done = refl
 change_told held e (reply.Loaded rows columns) = refl
 change_told held e (reply.Written text) = refl
-change_told held e (reply.Answered (answer.Known (known.Optimal v))) = refl
-change_told held e (reply.Answered (answer.Known known.Infeasible)) = refl
-change_told held e (reply.Answered (answer.Known known.Unbounded)) = refl
-change_told held e (reply.Answered (answer.Past p)) = refl
-change_told held e (reply.Answered (answer.Spent budget)) = refl
+change_told held e (reply.Known (known.Optimal v)) = refl
+change_told held e (reply.Known known.Infeasible) = refl
+change_told held e (reply.Known known.Unbounded) = refl
+change_told held e (reply.Past p) = refl
+change_told held e (reply.Spent budget) = refl
 change_told held e (reply.Certified lines) = refl
 change_told held e (reply.Found how pivots publication) = refl
 change_told held e (reply.Checked (verdict.Yes what)) = refl

@@ -22,6 +22,7 @@ use Rattle.spec_mps.specs.Written.{cards_of, cards_text, line_text, free, fixed,
 use Rattle.spec_mps.proofs.WrittenShort.{plain_line, cards_short}
 use Rattle.spec_mps.proofs.WrittenSteps.{IsPlainLine}
 use Rattle.spec_check.specs.declared.certificate.Certificate.{Certificate}
+use Rattle.spec_check.specs.declared.certificate.Known.{Known}
 use Rattle.spec_check.specs.declared.certificate.Known.TheVariants as known
 use Rattle.spec_check.specs.declared.certificate.SettleFault.TheVariants as settle
 use Rattle.spec_check.specs.declared.certificate.Verdict.{Verdict}
@@ -36,8 +37,6 @@ use Rattle.spec_solve.specs.Exact.{RationalEnd, IsExactEnd}
 use Rattle.spec_certificate.specs.TextWritten.{certificate_lines, wide_certificate_lines}
 use Rattle.spec_board.specs.Reads.{ExactRead}
 use Rattle.spec_server.specs.declared.addressing.Addressing.{Addressing}
-use Rattle.spec_server.specs.declared.answer.Answer.{Answer}
-use Rattle.spec_server.specs.declared.answer.Answer.TheVariants as answer
 use Rattle.spec_server.specs.declared.asks.Ask.TheVariants as ask
 use Rattle.spec_server.specs.declared.asks.Reply.TheVariants as reply
 use Rattle.spec_server.specs.declared.command.Plain.TheVariants as command
@@ -45,8 +44,8 @@ use Rattle.spec_server.specs.LastFits.{LastFits}
 use Rattle.spec_server.specs.Machine.{ExactAsk, ExactReply, ExactLastAnswer, State, verdict_on, check_reply, fixed_reply}
 use Rattle.spec_server.specs.Machine.{write_reply, lines_of_solved, cert_reply, how_reply, solve_due, wide_due}
 use Rattle.spec_server.specs.Machine.{edit_refusal}
-use Rattle.spec_server.specs.Machine.{edit_due, change_due, due}
-use Rattle.spec_server.specs.Output.{front_of, answer_text, verdict_text, reply_text, count_of_lines, ended_lines, lines_behind, reply_lines}
+use Rattle.spec_server.specs.Machine.{edit_due, change_due, due, answer_of}
+use Rattle.spec_server.specs.Output.{front_of, reply_text, known_text, verdict_text, count_of_lines, ended_lines, lines_behind, reply_lines}
 use Rattle.spec_server.specs.WideLines.{wide_known_text, wide_lines}
 use Rattle.spec_server.specs.Step.{AloneStep}
 use Rattle.spec_commands.proofs.PlainLines.{certificate_plain}
@@ -141,13 +140,11 @@ announced_first line more (inl e) = ap (λ (l : List ℕ). counts (first l)) e
 announced_first line more (inr (inl e)) = ap (λ (l : List ℕ). counts (first l)) e
 announced_first line more (inr (inr e)) = ap (λ (l : List ℕ). counts (first l)) e
 
--- the text of an answer begins with no letter that announces lines
-answer_counts : (what : Answer ℚ) → counts (first (answer_text what)) ≡ false
-answer_counts (answer.Known (known.Optimal v)) = refl
-answer_counts (answer.Known known.Infeasible) = refl
-answer_counts (answer.Known known.Unbounded) = refl
-answer_counts (answer.Past p) = refl
-answer_counts (answer.Spent budget) = refl
+-- the text of what is known begins with no letter that announces lines
+known_counts : (what : Known ℚ) → counts (first (known_text what)) ≡ false
+known_counts (known.Optimal v) = refl
+known_counts known.Infeasible = refl
+known_counts known.Unbounded = refl
 
 -- the text of a verdict begins with no letter that announces lines
 verdict_counts : (what : Verdict ℚ) → counts (first (verdict_text what)) ≡ false
@@ -198,7 +195,9 @@ module _ (asked : Asking) where
   by_lines (reply.Wide lines) one h = wide_framed lines one h
   by_lines (reply.Loaded rows columns) one h = alone_framed _ one refl
   by_lines reply.Done one h = alone_framed _ one refl
-  by_lines (reply.Answered what) one h = alone_framed _ one (answer_counts what)
+  by_lines (reply.Known what) one h = alone_framed _ one (known_counts what)
+  by_lines (reply.Past p) one h = alone_framed _ one refl
+  by_lines (reply.Spent budget) one h = alone_framed _ one refl
   by_lines (reply.Found how pivots publication) one h = alone_framed _ one refl
   by_lines (reply.Checked what) one h = alone_framed _ one (verdict_counts what)
   by_lines reply.Bye one h = alone_framed _ one refl
@@ -216,7 +215,9 @@ behind_is (reply.Certified lines) h = refl
 behind_is (reply.Wide lines) h = refl
 behind_is (reply.Loaded rows columns) h = refl
 behind_is reply.Done h = refl
-behind_is (reply.Answered what) h = refl
+behind_is (reply.Known what) h = refl
+behind_is (reply.Past p) h = refl
+behind_is (reply.Spent budget) h = refl
 behind_is (reply.Found how pivots publication) h = refl
 behind_is (reply.Checked what) h = refl
 behind_is reply.Bye h = refl
@@ -309,13 +310,19 @@ refusal_listed fault.BadName = tt
 refusal_listed (fault.Repeated name) = tt
 refusal_listed (fault.FreeRow name) = tt
 
+-- the reply to a solve is of lines
+answer_listed : (budget : ℕ) (end : ExactSolveEnd) → IsListed (answer_of budget end)
+answer_listed budget (outcome.Ended known certificate basis pivots) = tt
+answer_listed budget (outcome.Past p) = tt
+answer_listed budget outcome.Spent = tt
+
 module _ (old new : State) (replied : ExactReply) where
   as_stated : (stated : ExactReply) → replied ≡ stated → IsListed stated → IsListed replied
   as_stated stated e h = subst IsListed (sym e) h
 
   solve_listed : (held : Option Model) → Does old (solve_due old held) replied new → IsListed replied
   solve_listed None d = as_stated _ d.0 tt
-  solve_listed (Some m) d = as_stated _ d.answer tt
+  solve_listed (Some m) d = as_stated _ d.answer (answer_listed old.budget d.end)
 
   wide_due_listed : (held : Option Model) → IfSome held IsUsualModel → Does old (wide_due old held) replied new →
       IsListed replied

@@ -4,6 +4,7 @@
 -- `fraction_no_feed`: the text of a fraction has no line feed.
 -- `past_no_feed`: the text of a refused operation has no line feed.
 -- `known_no_feed`: the text of a known answer has no line feed.
+-- `spent_no_feed`: the text of a spent budget has no line feed.
 -- `answer_no_feed`: the text of an answer has no line feed.
 -- `wide_known_no_feed`: the text of an answer with numbers of any width has no line feed.
 use Rattle.std.proofs.Common.{◌≡◌, ◌≢◌, ℕ, zero, suc, ◌+◌, ◌*◌, ◌/◌, ◌%◌, ◌^◌, true, false, nat_eq, List, [], ◌∷◌, ◌++◌}
@@ -21,9 +22,9 @@ use Rattle.spec_mps.specs.NumberWritten.{number_text, size_text, places, placed,
 use Rattle.spec_check.specs.declared.certificate.Known.{Known}
 use Rattle.spec_check.specs.declared.certificate.Known.TheVariants as known
 use Rattle.spec_check.specs.Certificate.{Holds}
-use Rattle.spec_server.specs.declared.answer.Answer.{Answer}
-use Rattle.spec_server.specs.declared.answer.Answer.TheVariants as answer
-use Rattle.spec_server.specs.Output.{known_text, answer_text, op_text, past_text}
+use Rattle.spec_server.specs.declared.asks.Reply.TheVariants as reply
+use Rattle.spec_server.specs.Machine.{ExactReply}
+use Rattle.spec_server.specs.Output.{known_text, reply_text, op_text, past_text}
 use Rattle.spec_server.specs.WideLines.{wide_known_text}
 use Rattle.spec_text_truth.specs.TrueOutput.{HasNoFeed, IsNumber, IsWideNumber, IsTrueLine, OfFirst, OfFirstTwo}
 use Rattle.spec_truth.proofs.Shown.{IsShown, IsShownBy, shown_holds, value_fits}
@@ -104,11 +105,16 @@ known_no_feed (known.Optimal v) =
 known_no_feed known.Infeasible = tested_no_feed (codes "INFEASIBLE") refl
 known_no_feed known.Unbounded = tested_no_feed (codes "UNBOUNDED") refl
 
-pub answer_no_feed : (a : Answer ℚ) → HasNoFeed (answer_text a)
-answer_no_feed (answer.Known what) = known_no_feed what
-answer_no_feed (answer.Past p) = past_no_feed p
-answer_no_feed (answer.Spent budget) =
+pub spent_no_feed : (budget : ℕ) → HasNoFeed (codes "SPENT " ++ decimal budget)
+spent_no_feed budget =
     both_no_feed (codes "SPENT ") (decimal budget) (tested_no_feed (codes "SPENT ") refl) (decimal_no_feed budget)
+
+pub answer_no_feed : (m : Model) (a : ExactReply) → IsShownBy m a → HasNoFeed (reply_text a)
+unfolding reply_text
+answer_no_feed m (reply.Known what) s = known_no_feed what
+answer_no_feed m (reply.Past p) s = past_no_feed p
+answer_no_feed m (reply.Spent budget) s = spent_no_feed budget
+answer_no_feed m replied s = absurd s
 
 pub wide_known_no_feed : (what : Known ℚ) → HasNoFeed (wide_known_text what)
 wide_known_no_feed (known.Optimal v) =
@@ -171,10 +177,12 @@ module _ (IsOf : Model → Type 0) where
       unbounded = λ e. (m, is_of, shown_holds m known.Unbounded (subst (IsShown m) (unbounded what (same ∙ e)) s));
     }
 
-    pub answer_true : (a : Answer ℚ) → IsShownBy m a → IsTrueLine IsOf IsNumber (answer_text a)
-    answer_true (answer.Known what) s = known_true what (known_text what) s refl
-    answer_true (answer.Past p) s = other_true IsNumber (past_text p) refl
-    answer_true (answer.Spent budget) s = other_true IsNumber (codes "SPENT " ++ decimal budget) refl
+    pub answer_true : (a : ExactReply) → IsShownBy m a → IsTrueLine IsOf IsNumber (reply_text a)
+    unfolding reply_text
+    answer_true (reply.Known what) s = known_true what (known_text what) s refl
+    answer_true (reply.Past p) s = other_true IsNumber (past_text p) refl
+    answer_true (reply.Spent budget) s = other_true IsNumber (codes "SPENT " ++ decimal budget) refl
+    answer_true replied s = absurd s
 
     -- with numbers of any width
     pub wide_known_true : (what : Known ℚ) (line : List ℕ) → Holds m what → wide_known_text what ≡ line →

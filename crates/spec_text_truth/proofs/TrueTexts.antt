@@ -43,7 +43,7 @@ use Rattle.spec_commands.specs.TextOut.{SaidBy, said_of, MayWrite}
 use Rattle.spec_server.specs.declared.asks.Refusal.TheVariants as refusal
 use Rattle.spec_server.specs.declared.asks.Reply.TheVariants as reply
 use Rattle.spec_server.specs.Machine.{ExactReply}
-use Rattle.spec_server.specs.Output.{check_line, reply_text, known_text, answer_text, past_text, fault_text}
+use Rattle.spec_server.specs.Output.{check_line, reply_text, known_text, past_text, fault_text}
 use Rattle.spec_commands.specs.InputSaid.{IsSaid}
 use Rattle.spec_commands.specs.CheckOut.{said}
 use Rattle.spec_commands.specs.CheckWideOut.{wide_said, wide_reply_text, wide_check_line}
@@ -285,11 +285,11 @@ module _ (style : Style) (lines : Lines) (IsOf : Model → Type 0) (is_of : (m :
   presolve_true (Ok m) is out =
       let r = out_answered m written out in
       let w = way_is_line r.way in
-      let rest : List ℕ = answer_text r.answer ++ 10 ∷ r.behind in
+      let rest : List ℕ = reply_text r.answer ++ 10 ∷ r.behind in
       two_true (IsTrueLine IsOf IsNumber) written w.line rest
       (r.lines ∙ ap (λ (front : List ℕ). front ++ rest) w.is_line ∙ append_assoc w.line (10 ∷ []) rest) w.plain
       (other_true IsOf IsNumber w.line w.other)
-      (first_true (IsTrueLine IsOf IsNumber) rest (answer_text r.answer) r.behind refl (answer_no_feed r.answer)
+      (first_true (IsTrueLine IsOf IsNumber) rest (reply_text r.answer) r.behind refl (answer_no_feed m r.answer r.shown)
       (answer_true IsOf m (is_of m (said_spelled usual_limits style lines m is)) r.answer r.shown))
   presolve_true (Err fault) is out =
       two_true (IsTrueLine IsOf IsNumber) written (reply_text (reply.Refused (refusal.Misspelled fault))) []

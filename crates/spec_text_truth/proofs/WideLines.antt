@@ -37,7 +37,9 @@ pub valued_or_same : (is : ExactReply) →
 valued_or_same (reply.Loaded rows columns) = inr refl
 valued_or_same (reply.Written text) = inr refl
 valued_or_same reply.Done = inr refl
-valued_or_same (reply.Answered what) = inr refl
+valued_or_same (reply.Known what) = inr refl
+valued_or_same (reply.Past p) = inr refl
+valued_or_same (reply.Spent budget) = inr refl
 valued_or_same (reply.Certified lines) = inr refl
 valued_or_same (reply.Found how pivots publication) = inr refl
 valued_or_same (reply.Checked (verdict.Yes (known.Optimal v))) = inl (v, refl)

@@ -2,18 +2,18 @@
 use Rattle.std.specs.Prelude.{ℕ, ◌≡◌, Some, List, ◌++◌}
 use Rattle.spec_text.specs.declared.line.Line.{Line}
 use Rattle.spec_text.specs.Lines.{ended_lines_of}
-use Rattle.spec_exact.specs.Fraction.{ℚ}
 use Rattle.spec_mps.specs.declared.style.Style.{Style}
 use Rattle.spec_check.specs.declared.certificate.Verdict.TheVariants.{Yes}
-use Rattle.spec_server.specs.declared.answer.Answer.{Answer}
-use Rattle.spec_server.specs.declared.answer.Answer.TheVariants.{Known, Past, Spent}
 use Rattle.spec_server.specs.declared.asks.Reply.TheVariants as reply
+use Rattle.spec_server.specs.declared.asks.Reply.TheVariants.{Known, Past, Spent}
+use Rattle.spec_server.specs.Machine.{ExactReply}
 use Rattle.spec_commands.specs.CheckOut.{said}
 
--- To these lines of a text with those of the written bytes behind them `check` says yes, and that what the answer knows
--- is known, whatever follows. PAST and SPENT have no certificate.
-abbrev pub IsAccepted : Style → List (Line (List ℕ)) → Answer ℚ → List ℕ → Type 0
+-- The reply answers a solve. To these lines of a text with those of the written bytes behind them `check` says yes, and
+-- that what the answer knows is known, whatever follows. PAST and SPENT have no certificate.
+abbrev pub IsAccepted : Style → List (Line (List ℕ)) → ExactReply → List ℕ → Type 0
 IsAccepted style text (Known what) written =
     (more : List ℕ) → said style (text ++ ended_lines_of (written ++ more)) ≡ Some (reply.Checked (Yes what))
 IsAccepted style text (Past p) written = Unit {0}
 IsAccepted style text (Spent budget) written = Unit {0}
+IsAccepted style text replied written = ⊥

@@ -6,7 +6,7 @@
 //! | `IsTrueOutput` | that what is written is true, by the command line and by what was read | specs/TrueOutput |
 //! | `IsCertified`, `IsWidelyCertified` | lines of a model and a certificate after it, and what is so of the model | specs/Certified |
 //! | `AreHanded` | lines of a model and a basis file after it | specs/SpelledBasis |
-//! | `IsAccepted` | that `check` says yes to lines with written ones behind them | specs/AcceptedLines |
+//! | `IsAccepted` | that a reply answers a solve, and `check` says yes to lines with written ones behind them | specs/AcceptedLines |
 //! | `SaysRange` | what a line `RANGE` says of a model | specs/SaidRange |
 //! | `SaysSides` | what the lines behind a line `IIS` say of a model | specs/SaidSides |
 //! | `too_wide_range`, `answered_as_before` | outputs that are false | specs/FalseOutputs |
@@ -39,7 +39,6 @@ ghost use Rattle.spec_check.specs.declared.certificate.Known.TheVariants as know
 ghost use Rattle.spec_check.specs.declared.certificate.Verdict.TheVariants as verdict;
 ghost use Rattle.spec_server.specs.declared.addressing.Addressing.{Addressing};
 ghost use Rattle.spec_server.specs.declared.addressing.Addressing.TheVariants as addressing;
-ghost use Rattle.spec_server.specs.declared.answer.Answer.{Answer};
 ghost use Rattle.spec_server.specs.declared.asks.Refusal.TheVariants as refusal;
 ghost use Rattle.spec_server.specs.declared.asks.Reply.TheVariants as reply;
 ghost use Rattle.spec_commands.specs.declared.basis.BasisFault.TheVariants as basis_fault;
@@ -103,8 +102,8 @@ pub fn solve_reads_what_texts_spell()
 pub fn solved_texts_have_true_answers()
     ensures answer { (style : Style) (lines : List (Line (List ℕ))) (m : Model) (what : TextSaid) (written : List ℕ) →
         text_said style lines ≡ Some what → SolveOut what written → Spells style lines m →
-        (answer : Answer ℚ) × (behind : List ℕ)
-        × (written ≡ reply_text (reply.Answered answer) ++ 10 ∷ behind) × IsTrueOf m answer }
+        (answer : ExactReply) × (behind : List ℕ)
+        × (written ≡ reply_text answer ++ 10 ∷ behind) × IsTrueOf m answer }
     ensures optimal { (style : Style) (lines : List (Line (List ℕ))) (m : Model) (what : TextSaid) (written : List ℕ) →
         text_said style lines ≡ Some what → SolveOut what written → Spells style lines m →
         (text behind : List ℕ) → All (λ b. b ≢ 10) text → written ≡ codes "OPTIMAL " ++ text ++ 10 ∷ behind →
@@ -154,8 +153,8 @@ pub fn answers_from_bases_are_true()
     ensures answer { (style : Style) (lines : List (Line (List ℕ))) (handed : Handed) (written : List ℕ) →
         basis_said (limits_of of_text.Basis) style lines ≡ Some (Ok handed) → BasisOut (Ok handed) written →
         Spells style lines handed.model
-        × ((answer : Answer ℚ) × (behind : List ℕ)
-        × (written ≡ reply_text (reply.Answered answer) ++ 10 ∷ behind) × IsTrueOf handed.model answer) }
+        × ((answer : ExactReply) × (behind : List ℕ)
+        × (written ≡ reply_text answer ++ 10 ∷ behind) × IsTrueOf handed.model answer) }
     ensures optimal { (style : Style) (lines : List (Line (List ℕ))) (what : BasisSaid) (written : List ℕ) →
         basis_said (limits_of of_text.Basis) style lines ≡ Some what → BasisOut what written →
         (text behind : List ℕ) → All (λ b. b ≢ 10) text → written ≡ codes "OPTIMAL " ++ text ++ 10 ∷ behind →
@@ -195,17 +194,17 @@ pub fn answers_from_bases_are_true_at_any_width()
 pub fn written_certificates_are_accepted()
     ensures solve { (style : Style) (lines : List (Line (List ℕ))) (m : Model) (after : List (Line (List ℕ)))
         (written : List ℕ) (text : BeginsWithText usual_limits style lines m after) → SolveOut (Ok m) written →
-        (answer : Answer ℚ) × (behind : List ℕ) × (written ≡ reply_text (reply.Answered answer) ++ 10 ∷ behind)
+        (answer : ExactReply) × (behind : List ℕ) × (written ≡ reply_text answer ++ 10 ∷ behind)
         × IsAccepted style (text.front ++ text.last ∷ []) answer behind }
     ensures basis { (style : Style) (lines : List (Line (List ℕ))) (handed : Handed) (written : List ℕ)
         (are : AreHanded usual_limits style lines handed) → BasisOut (Ok handed) written →
-        (answer : Answer ℚ) × (how behind : List ℕ)
-        × (written ≡ reply_text (reply.Answered answer) ++ 10 ∷ (how ++ 10 ∷ behind)) × All (λ b. b ≢ 10) how
+        (answer : ExactReply) × (how behind : List ℕ)
+        × (written ≡ reply_text answer ++ 10 ∷ (how ++ 10 ∷ behind)) × All (λ b. b ≢ 10) how
         × IsAccepted style (are.text.front ++ are.text.last ∷ []) answer behind }
     ensures presolve { (style : Style) (lines : List (Line (List ℕ))) (m : Model) (after : List (Line (List ℕ)))
         (written : List ℕ) (text : BeginsWithText usual_limits style lines m after) → PresolveOut (Ok m) written →
-        (way : Way ℚ) × (answer : Answer ℚ) × (behind : List ℕ)
-        × (written ≡ way_line way ++ (reply_text (reply.Answered answer) ++ 10 ∷ behind))
+        (way : Way ℚ) × (answer : ExactReply) × (behind : List ℕ)
+        × (written ≡ way_line way ++ (reply_text answer ++ 10 ∷ behind))
         × IsAccepted style (text.front ++ text.last ∷ []) answer behind }
 {}
 
@@ -222,8 +221,8 @@ pub fn ranges_of_texts_are_true()
         (what : TextSaid) (written : List ℕ) →
         text_said style lines ≡ Some what → RangeOut moved name what written → Spells style lines m →
         (at : ℕ) → place_by moved m name ≡ Some at →
-        (answer : Answer ℚ) × (behind : List ℕ)
-        × (written ≡ reply_text (reply.Answered answer) ++ 10 ∷ behind) × IsTrueOf m answer }
+        (answer : ExactReply) × (behind : List ℕ)
+        × (written ≡ reply_text answer ++ 10 ∷ behind) × IsTrueOf m answer }
     ensures optimal { (style : Style) (lines : List (Line (List ℕ))) (m : Model) (moved : Moved) (name : Name)
         (what : TextSaid) (written : List ℕ) →
         text_said style lines ≡ Some what → RangeOut moved name what written → Spells style lines m →
@@ -251,8 +250,8 @@ pub fn ranges_of_texts_are_true()
 pub fn all_ranges_of_texts_are_true()
     ensures answer { (style : Style) (lines : List (Line (List ℕ))) (m : Model) (what : TextSaid) (written : List ℕ) →
         text_said style lines ≡ Some what → RangesOut what written → Spells style lines m →
-        (answer : Answer ℚ) × (behind : List ℕ)
-        × (written ≡ reply_text (reply.Answered answer) ++ 10 ∷ behind) × IsTrueOf m answer }
+        (answer : ExactReply) × (behind : List ℕ)
+        × (written ≡ reply_text answer ++ 10 ∷ behind) × IsTrueOf m answer }
     ensures optimal { (style : Style) (lines : List (Line (List ℕ))) (m : Model) (what : TextSaid) (written : List ℕ) →
         text_said style lines ≡ Some what → RangesOut what written → Spells style lines m →
         (text behind : List ℕ) → All (λ b. b ≢ 10) text → written ≡ codes "OPTIMAL " ++ text ++ 10 ∷ behind →
@@ -279,8 +278,8 @@ pub fn all_ranges_of_texts_are_true()
 pub fn contradictions_of_texts_are_true()
     ensures answer { (style : Style) (lines : List (Line (List ℕ))) (m : Model) (what : TextSaid) (written : List ℕ) →
         text_said style lines ≡ Some what → IisOut what written → Spells style lines m →
-        (answer : Answer ℚ) × (behind : List ℕ)
-        × (written ≡ reply_text (reply.Answered answer) ++ 10 ∷ behind) × IsTrueOf m answer }
+        (answer : ExactReply) × (behind : List ℕ)
+        × (written ≡ reply_text answer ++ 10 ∷ behind) × IsTrueOf m answer }
     ensures optimal { (style : Style) (lines : List (Line (List ℕ))) (m : Model) (what : TextSaid) (written : List ℕ) →
         text_said style lines ≡ Some what → IisOut what written → Spells style lines m →
         (text behind : List ℕ) → All (λ b. b ≢ 10) text → written ≡ codes "OPTIMAL " ++ text ++ 10 ∷ behind →
@@ -303,8 +302,8 @@ pub fn contradictions_of_texts_are_true()
 pub fn presolved_texts_have_true_answers()
     ensures answer { (style : Style) (lines : List (Line (List ℕ))) (m : Model) (what : TextSaid) (written : List ℕ) →
         text_said style lines ≡ Some what → PresolveOut what written → Spells style lines m →
-        (way : Way ℚ) × (answer : Answer ℚ) × (behind : List ℕ)
-        × (written ≡ way_line way ++ (reply_text (reply.Answered answer) ++ 10 ∷ behind)) × IsTrueOf m answer }
+        (way : Way ℚ) × (answer : ExactReply) × (behind : List ℕ)
+        × (written ≡ way_line way ++ (reply_text answer ++ 10 ∷ behind)) × IsTrueOf m answer }
     ensures optimal { (style : Style) (lines : List (Line (List ℕ))) (m : Model) (what : TextSaid) (written : List ℕ) →
         text_said style lines ≡ Some what → PresolveOut what written → Spells style lines m →
         (size text behind : List ℕ) → All (λ b. b ≢ 10) size → All (λ b. b ≢ 10) text →
@@ -329,8 +328,8 @@ pub fn generated_models_have_true_answers()
         ≡ codes "MODEL " ++ decimal rows ++ codes " " ++ decimal columns ++ codes " "
         ++ decimal (entry_count (generated seed rows columns)) ++ 10 ∷ [] }
     ensures answer { (seed rows columns : ℕ) (written : List ℕ) → GenOut seed rows columns written →
-        (answer : Answer ℚ) × (behind : List ℕ)
-        × (written ≡ size_text (generated seed rows columns) ++ reply_text (reply.Answered answer) ++ 10 ∷ behind)
+        (answer : ExactReply) × (behind : List ℕ)
+        × (written ≡ size_text (generated seed rows columns) ++ reply_text answer ++ 10 ∷ behind)
         × IsTrueOf (generated seed rows columns) answer }
     ensures optimal { (seed rows columns : ℕ) (written size text behind : List ℕ) → GenOut seed rows columns written →
         All (λ b. b ≢ 10) size → All (λ b. b ≢ 10) text →

@@ -10,7 +10,6 @@ use Rattle.spec_runs.specs.Cold.{ExactSolveEnd}
 use Rattle.spec_solve.specs.Answers.{MayAnswer}
 use Rattle.spec_solve.proofs.TrueAnswers.{ended_true, one_truth}
 use Rattle.spec_board.specs.Reads.{ExactRead}
-use Rattle.spec_server.specs.declared.answer.Answer.TheVariants as answer
 use Rattle.spec_server.specs.declared.asks.Ask.TheVariants as ask
 use Rattle.spec_server.specs.declared.asks.Reply.TheVariants as reply
 use Rattle.spec_server.specs.declared.command.Plain.TheVariants as command
@@ -37,11 +36,11 @@ past_is_not_spent p e = cc
 answers_same_but : (m : Model) (budget : ℕ) (a b : ExactSolveEnd) → MayAnswer m budget a → MayAnswer m budget b →
     (answer_of budget a ≡ answer_of budget b) ⊎ IsWon (answer_of budget a) (answer_of budget b)
 answers_same_but m budget (Ended k c left n) (Ended l d other j) p q =
-    inl (ap answer.Known (one_truth m k l (ended_true m budget k c left n p) (ended_true m budget l d other j q)))
+    inl (ap reply.Known (one_truth m k l (ended_true m budget k c left n p) (ended_true m budget l d other j q)))
 answers_same_but m budget (Ended k c left n) (Past r) p q = inr tt
 answers_same_but m budget (Ended k c left n) Spent p q = inr tt
 answers_same_but m budget (Past r) (Ended l d other j) p q = inr tt
-answers_same_but m budget (Past r) (Past s) p q = inl (ap answer.Past (past_same r s (sym p ∙ q)))
+answers_same_but m budget (Past r) (Past s) p q = inl (ap reply.Past (past_same r s (sym p ∙ q)))
 answers_same_but m budget (Past r) Spent p q = absurd (past_is_not_spent r (sym p ∙ q.0))
 answers_same_but m budget Spent (Ended l d other j) p q = inr tt
 answers_same_but m budget Spent (Past s) p q = absurd (past_is_not_spent s (sym q ∙ p.0))
@@ -90,16 +89,16 @@ module _ (a b : State) (alike : IsAlike a b) (replied replied' : ExactReply) (ne
       (answers_same_but m a.budget s.end s'.end s.may_answer
       (subst (λ n. MayAnswer m n s'.end) (sym alike.budgets) s'.may_answer))
     where
-      second : replied' ≡ reply.Answered (answer_of a.budget s'.end)
-      second = s'.answer ∙ ap (λ n. reply.Answered (answer_of n s'.end)) (sym alike.budgets)
+      second : replied' ≡ answer_of a.budget s'.end
+      second = s'.answer ∙ ap (λ n. answer_of n s'.end) (sym alike.budgets)
 
       by : (answer_of a.budget s.end ≡ answer_of a.budget s'.end) ⊎ IsWon (answer_of a.budget s.end)
           (answer_of a.budget s'.end) →
           IsSameBut (ask.Plain command.Solve) replied replied'
-      by (inl e) = inl (s.answer ∙ ap (λ x. reply.Answered x) e ∙ sym second)
+      by (inl e) = inl (s.answer ∙ e ∙ sym second)
       by (inr d) =
           inr (subst (λ t. MayDiffer (ask.Plain command.Solve) t replied') (sym s.answer)
-          (subst (MayDiffer (ask.Plain command.Solve) (reply.Answered (answer_of a.budget s.end))) (sym second) d))
+          (subst (MayDiffer (ask.Plain command.Solve) (answer_of a.budget s.end)) (sym second) d))
 
   solves_agree : (m : Model) → SolveStep a m replied new → SolveStep b m replied' new' →
       StepsAgree (ask.Plain command.Solve) replied replied' new new'

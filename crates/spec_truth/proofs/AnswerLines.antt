@@ -27,9 +27,9 @@ use Rattle.spec_mps.specs.NumberWritten.{number_text}
 use Rattle.spec_mps.proofs.RoundTrip.{read_written}
 use Rattle.spec_mps.proofs.WrittenNumbers.{number_word}
 use Rattle.spec_check.specs.declared.certificate.Known.TheVariants as known
-use Rattle.spec_server.specs.declared.answer.Answer.{Answer}
-use Rattle.spec_server.specs.declared.answer.Answer.TheVariants as answer
-use Rattle.spec_server.specs.Output.{answer_text}
+use Rattle.spec_server.specs.declared.asks.Reply.TheVariants as reply
+use Rattle.spec_server.specs.Machine.{ExactReply}
+use Rattle.spec_server.specs.Output.{reply_text}
 use Rattle.spec_truth.proofs.Shown.{IsShownBy, shown_holds, value_fits}
 
 -- ---- lines end at their first line feed
@@ -85,29 +85,35 @@ first bytes = get_or bytes 0 0
 pub apart : (a b : ℕ) → nat_eq a b ≡ false → a ≡ b → ⊥
 apart a b h e = let same : nat_eq a b ≡ true = eq-eqb a b e in let z : true ≡ false = sym same ∙ h in cc
 
-pub optimal_line : (m : Model) (a : Answer ℚ) (text x y : List ℕ) → IsShownBy m a → HasNoFeed text →
-    answer_text a ++ 10 ∷ x ≡ codes "OPTIMAL " ++ text ++ 10 ∷ y →
+pub optimal_line : (m : Model) (a : ExactReply) (text x y : List ℕ) → IsShownBy m a → HasNoFeed text →
+    reply_text a ++ 10 ∷ x ≡ codes "OPTIMAL " ++ text ++ 10 ∷ y →
     (v : ℚ) × (number_of text ≡ Is v) × IsOptimal m v
-optimal_line m (answer.Known (known.Optimal v)) text x y s k e =
+unfolding reply_text
+optimal_line m (reply.Known (known.Optimal v)) text x y s k e =
     let more : number_text v ++ 10 ∷ x ≡ text ++ 10 ∷ y = cc in
     (v, read_as v text x y (value_fits m v s) k more, shown_holds m (known.Optimal v) s)
-optimal_line m (answer.Known known.Infeasible) text x y s k e = absurd (apart 73 79 refl (ap first e))
-optimal_line m (answer.Known known.Unbounded) text x y s k e = absurd (apart 85 79 refl (ap first e))
-optimal_line m (answer.Past p) text x y s k e = absurd (apart 80 79 refl (ap first e))
-optimal_line m (answer.Spent budget) text x y s k e = absurd (apart 83 79 refl (ap first e))
+optimal_line m (reply.Known known.Infeasible) text x y s k e = absurd (apart 73 79 refl (ap first e))
+optimal_line m (reply.Known known.Unbounded) text x y s k e = absurd (apart 85 79 refl (ap first e))
+optimal_line m (reply.Past p) text x y s k e = absurd (apart 80 79 refl (ap first e))
+optimal_line m (reply.Spent budget) text x y s k e = absurd (apart 83 79 refl (ap first e))
+optimal_line m replied text x y s k e = absurd s
 
-pub infeasible_line : (m : Model) (a : Answer ℚ) (x y : List ℕ) → IsShownBy m a →
-    answer_text a ++ 10 ∷ x ≡ codes "INFEASIBLE" ++ 10 ∷ y → IsInfeasible m
-infeasible_line m (answer.Known (known.Optimal v)) x y s e = absurd (apart 79 73 refl (ap first e))
-infeasible_line m (answer.Known known.Infeasible) x y s e = shown_holds m known.Infeasible s
-infeasible_line m (answer.Known known.Unbounded) x y s e = absurd (apart 85 73 refl (ap first e))
-infeasible_line m (answer.Past p) x y s e = absurd (apart 80 73 refl (ap first e))
-infeasible_line m (answer.Spent budget) x y s e = absurd (apart 83 73 refl (ap first e))
+pub infeasible_line : (m : Model) (a : ExactReply) (x y : List ℕ) → IsShownBy m a →
+    reply_text a ++ 10 ∷ x ≡ codes "INFEASIBLE" ++ 10 ∷ y → IsInfeasible m
+unfolding reply_text
+infeasible_line m (reply.Known (known.Optimal v)) x y s e = absurd (apart 79 73 refl (ap first e))
+infeasible_line m (reply.Known known.Infeasible) x y s e = shown_holds m known.Infeasible s
+infeasible_line m (reply.Known known.Unbounded) x y s e = absurd (apart 85 73 refl (ap first e))
+infeasible_line m (reply.Past p) x y s e = absurd (apart 80 73 refl (ap first e))
+infeasible_line m (reply.Spent budget) x y s e = absurd (apart 83 73 refl (ap first e))
+infeasible_line m replied x y s e = absurd s
 
-pub unbounded_line : (m : Model) (a : Answer ℚ) (x y : List ℕ) → IsShownBy m a →
-    answer_text a ++ 10 ∷ x ≡ codes "UNBOUNDED" ++ 10 ∷ y → IsUnbounded m
-unbounded_line m (answer.Known (known.Optimal v)) x y s e = absurd (apart 79 85 refl (ap first e))
-unbounded_line m (answer.Known known.Infeasible) x y s e = absurd (apart 73 85 refl (ap first e))
-unbounded_line m (answer.Known known.Unbounded) x y s e = shown_holds m known.Unbounded s
-unbounded_line m (answer.Past p) x y s e = absurd (apart 80 85 refl (ap first e))
-unbounded_line m (answer.Spent budget) x y s e = absurd (apart 83 85 refl (ap first e))
+pub unbounded_line : (m : Model) (a : ExactReply) (x y : List ℕ) → IsShownBy m a →
+    reply_text a ++ 10 ∷ x ≡ codes "UNBOUNDED" ++ 10 ∷ y → IsUnbounded m
+unfolding reply_text
+unbounded_line m (reply.Known (known.Optimal v)) x y s e = absurd (apart 79 85 refl (ap first e))
+unbounded_line m (reply.Known known.Infeasible) x y s e = absurd (apart 73 85 refl (ap first e))
+unbounded_line m (reply.Known known.Unbounded) x y s e = shown_holds m known.Unbounded s
+unbounded_line m (reply.Past p) x y s e = absurd (apart 80 85 refl (ap first e))
+unbounded_line m (reply.Spent budget) x y s e = absurd (apart 83 85 refl (ap first e))
+unbounded_line m replied x y s e = absurd s

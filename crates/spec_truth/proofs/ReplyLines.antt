@@ -20,14 +20,13 @@ use Rattle.spec_mps.specs.NumberWritten.{number_text}
 use Rattle.spec_check.specs.declared.certificate.Known.{Known}
 use Rattle.spec_check.specs.declared.certificate.Known.TheVariants as known
 use Rattle.spec_check.specs.declared.certificate.Verdict.TheVariants as verdict
-use Rattle.spec_server.specs.declared.answer.Answer.TheVariants as answer
 use Rattle.spec_server.specs.declared.asks.Reply.TheVariants as reply
 use Rattle.spec_server.specs.Machine.{ExactReply}
 use Rattle.spec_server.specs.Output.{known_text, reply_text}
 use Rattle.spec_truth.proofs.AnswerLines.{first, apart}
 
 abbrev pub answer_to : Known ℚ → ExactReply
-answer_to what = reply.Answered (answer.Known what)
+answer_to what = reply.Known what
 
 abbrev pub yes_to : Known ℚ → ExactReply
 yes_to what = reply.Checked (verdict.Yes what)
@@ -48,9 +47,9 @@ unfolding reply_text
 known_reply (reply.Loaded rows columns) h = not_so h
 known_reply (reply.Written text) h = not_so h
 known_reply reply.Done h = not_so h
-known_reply (reply.Answered (answer.Known what)) h = (what, refl)
-known_reply (reply.Answered (answer.Past p)) h = not_so h
-known_reply (reply.Answered (answer.Spent budget)) h = not_so h
+known_reply (reply.Known what) h = (what, refl)
+known_reply (reply.Past p) h = not_so h
+known_reply (reply.Spent budget) h = not_so h
 known_reply (reply.Certified lines) h = not_so h
 known_reply (reply.Found how pivots publication) h = not_so h
 known_reply (reply.Checked (verdict.Yes what)) h = not_so h
@@ -70,11 +69,11 @@ unfolding reply_text
 yes_reply (reply.Loaded rows columns) h = not_so h
 yes_reply (reply.Written text) h = not_so h
 yes_reply reply.Done h = not_so h
-yes_reply (reply.Answered (answer.Known (known.Optimal v))) h = not_so h
-yes_reply (reply.Answered (answer.Known known.Infeasible)) h = not_so h
-yes_reply (reply.Answered (answer.Known known.Unbounded)) h = not_so h
-yes_reply (reply.Answered (answer.Past p)) h = not_so h
-yes_reply (reply.Answered (answer.Spent budget)) h = not_so h
+yes_reply (reply.Known (known.Optimal v)) h = not_so h
+yes_reply (reply.Known known.Infeasible) h = not_so h
+yes_reply (reply.Known known.Unbounded) h = not_so h
+yes_reply (reply.Past p) h = not_so h
+yes_reply (reply.Spent budget) h = not_so h
 yes_reply (reply.Certified lines) h = not_so h
 yes_reply (reply.Found how pivots publication) h = not_so h
 yes_reply (reply.Checked (verdict.Yes what)) h = (what, refl)
@@ -95,11 +94,11 @@ unfolding reply_text
 wide_looks (reply.Loaded rows columns) h = not_so h
 wide_looks (reply.Written text) h = not_so h
 wide_looks reply.Done h = not_so h
-wide_looks (reply.Answered (answer.Known (known.Optimal v))) h = not_so h
-wide_looks (reply.Answered (answer.Known known.Infeasible)) h = not_so h
-wide_looks (reply.Answered (answer.Known known.Unbounded)) h = not_so h
-wide_looks (reply.Answered (answer.Past p)) h = not_so h
-wide_looks (reply.Answered (answer.Spent budget)) h = not_so h
+wide_looks (reply.Known (known.Optimal v)) h = not_so h
+wide_looks (reply.Known known.Infeasible) h = not_so h
+wide_looks (reply.Known known.Unbounded) h = not_so h
+wide_looks (reply.Past p) h = not_so h
+wide_looks (reply.Spent budget) h = not_so h
 wide_looks (reply.Certified lines) h = not_so h
 wide_looks (reply.Found how pivots publication) h = not_so h
 wide_looks (reply.Checked (verdict.Yes what)) h = not_so h

@@ -35,10 +35,8 @@ use Rattle.spec_check.specs.declared.solve_end.SolveEnd.TheVariants as outcome
 use Rattle.spec_runs.specs.Cold.{ExactSolveEnd}
 use Rattle.spec_solve.specs.Answers.{MayAnswer}
 use Rattle.spec_solve.proofs.NarrowRuns.{sum_narrow}
-use Rattle.spec_server.specs.declared.answer.Answer.{Answer}
-use Rattle.spec_server.specs.declared.answer.Answer.TheVariants as answer
 use Rattle.spec_server.specs.declared.asks.Reply.TheVariants as reply
-use Rattle.spec_server.specs.Machine.{verdict_on, answer_of}
+use Rattle.spec_server.specs.Machine.{ExactReply, verdict_on, answer_of}
 use Rattle.spec_server.proofs.Truth.{said_yes, checked}
 use Rattle.spec_truth.specs.TrueAnswer.{IsTrueOf}
 
@@ -108,11 +106,12 @@ yes_shown m raw what h = by (certificate_for m raw) refl h
     by (Err (settle.UnknownName name)) is e = cc
     by (Err (settle.Repeated name)) is e = cc
 
--- what an answer says is shown; PAST and SPENT say nothing
-abbrev pub IsShownBy : Model → Answer ℚ → Type 0
-IsShownBy m (answer.Known what) = IsShown m what
-IsShownBy m (answer.Past p) = Unit {0}
-IsShownBy m (answer.Spent budget) = Unit {0}
+-- the reply answers a solve, and what it says is shown; PAST and SPENT say nothing
+abbrev pub IsShownBy : Model → ExactReply → Type 0
+IsShownBy m (reply.Known what) = IsShown m what
+IsShownBy m (reply.Past p) = Unit {0}
+IsShownBy m (reply.Spent budget) = Unit {0}
+IsShownBy m replied = ⊥
 
 pub answer_shown : (m : Model) (budget : ℕ) (solved : ExactSolveEnd) → MayAnswer m budget solved →
     IsShownBy m (answer_of budget solved)
@@ -120,9 +119,10 @@ answer_shown m budget (outcome.Ended what cert basis pivots) h = record { cert =
 answer_shown m budget (outcome.Past p) h = tt
 answer_shown m budget outcome.Spent h = tt
 
-pub answer_holds : (m : Model) (a : Answer ℚ) → IsShownBy m a → IsTrueOf m a
-answer_holds m (answer.Known (known.Optimal v)) s = shown_holds m (known.Optimal v) s
-answer_holds m (answer.Known known.Infeasible) s = shown_holds m known.Infeasible s
-answer_holds m (answer.Known known.Unbounded) s = shown_holds m known.Unbounded s
-answer_holds m (answer.Past p) s = tt
-answer_holds m (answer.Spent budget) s = tt
+pub answer_holds : (m : Model) (a : ExactReply) → IsShownBy m a → IsTrueOf m a
+answer_holds m (reply.Known (known.Optimal v)) s = shown_holds m (known.Optimal v) s
+answer_holds m (reply.Known known.Infeasible) s = shown_holds m known.Infeasible s
+answer_holds m (reply.Known known.Unbounded) s = shown_holds m known.Unbounded s
+answer_holds m (reply.Past p) s = tt
+answer_holds m (reply.Spent budget) s = tt
+answer_holds m replied s = absurd s

@@ -4,7 +4,7 @@
 -- `yes_is_shown`: where a step replies with a yes, the session holds a model of which what it says is shown.
 -- `wide_is_shown`: where a step replies with the lines of a wide solve, the session holds a model and the lines begin
 --   truly.
-use Rattle.std.proofs.Common.{◌≡◌, ℕ, suc, List, Option, Some, None, Ok, Err, refl, sym, ap, subst, ◌⊎◌, inl, inr}
+use Rattle.std.proofs.Common.{◌≡◌, ℕ, suc, List, Option, Some, None, Ok, Err, refl, sym, ◌∙◌, ap, subst, ◌⊎◌, inl, inr}
 use Rattle.std.proofs.Common.{arith}
 use Rattle.spec_exact.specs.Fraction.{ℚ}
 use Rattle.spec_model.specs.Model.{Model, Name}
@@ -20,18 +20,18 @@ use Rattle.spec_check.specs.Raw.{ExactRaw}
 use Rattle.spec_edit.specs.declared.edit.EditFault.{EditFault}
 use Rattle.spec_edit.specs.declared.edit.EditFault.TheVariants as fault
 use Rattle.spec_edit.specs.Edited.{ExactEdit, OrFault, edited}
-use Rattle.spec_server.specs.declared.answer.Answer.TheVariants as answer
 use Rattle.spec_server.specs.declared.asks.Ask.TheVariants as ask
 use Rattle.spec_server.specs.declared.asks.Reply.TheVariants as reply
 use Rattle.spec_server.specs.declared.asks.Refusal.TheVariants as refusal
 use Rattle.spec_server.specs.declared.command.Plain.TheVariants as command
+use Rattle.spec_check.specs.declared.solve_end.SolveEnd.TheVariants as outcome
+use Rattle.spec_runs.specs.Cold.{ExactSolveEnd}
 use Rattle.spec_board.specs.Reads.{ExactRead}
 use Rattle.spec_server.specs.Machine.{ExactAsk, ExactReply, ExactLastAnswer, State, verdict_on, check_reply}
 use Rattle.spec_server.specs.Machine.{fixed_reply, write_reply, cert_reply, how_reply, Due, Replies, Solves, SolvesWide}
 use Rattle.spec_server.specs.Machine.{answer_of, due, solve_due, wide_due, edit_refusal, edit_due, change_due}
 use Rattle.spec_server.specs.Step.{AloneStep}
 use Rattle.spec_server.proofs.Simply.{Does, WantsMemory, step_simply}
-use Rattle.spec_server.proofs.Truth.{answers_same}
 use Rattle.spec_server.specs.WideLines.{wide_lines}
 use Rattle.spec_truth.proofs.Shown.{IsShown, IsShownBy, answer_shown, yes_shown}
 use Rattle.spec_truth.proofs.WideReplies.{BeginsTrue, lines_true}
@@ -39,7 +39,9 @@ use Rattle.spec_truth.proofs.WideReplies.{BeginsTrue, lines_true}
 -- ---- which replies answer, which speak of a certificate, and which are of a wide solve
 
 abbrev sort : ExactReply → ℕ
-sort (reply.Answered what) = 1
+sort (reply.Known what) = 1
+sort (reply.Past p) = 1
+sort (reply.Spent budget) = 1
 sort (reply.Checked what) = 2
 sort (reply.Wide lines) = 3
 sort replied = 0
@@ -132,11 +134,17 @@ wide_no_yes : (state : State) (held : Option Model) → due_sort (wide_due state
 wide_no_yes state None h = cc
 wide_no_yes state (Some m) h = cc
 
+-- the reply to a solve is an answer
+answer_sort : (budget : ℕ) (end : ExactSolveEnd) → sort (answer_of budget end) ≡ 1
+answer_sort budget (outcome.Ended known certificate basis pivots) = refl
+answer_sort budget (outcome.Past p) = refl
+answer_sort budget outcome.Spent = refl
+
 -- a reply is of the sort that is due
 done_sort : (old new : State) (what : Due) (replied : ExactReply) → Does old what replied new →
     sort replied ≡ due_sort what
 done_sort old new (Replies stated next) replied d = ap sort d.0
-done_sort old new (Solves m) replied d = ap sort d.answer
+done_sort old new (Solves m) replied d = ap sort d.answer ∙ answer_sort old.budget d.end
 done_sort old new (SolvesWide m) replied d = ap sort d.answer
 
 -- where a step's reply is an answer, a verdict, or one of a wide solve, the step does what is due
@@ -157,15 +165,14 @@ pub record IsShownOfHeld (held : Option Model) (what : Known ℚ) : Type 0 where
 
 -- where a solve replies with a known answer, this is shown of the model that is held
 solve_shown : (old new : State) (held : Option Model) (what : Known ℚ) →
-    Does old (solve_due old held) (reply.Answered (answer.Known what)) new → IsShownOfHeld held what
+    Does old (solve_due old held) (reply.Known what) new → IsShownOfHeld held what
 solve_shown old new None what d =
-    let e : ◌≡◌ {A = ExactReply} (reply.Answered (answer.Known what)) (reply.Refused refusal.NoModel) = d.0 in cc
+    let e : ◌≡◌ {A = ExactReply} (reply.Known what) (reply.Refused refusal.NoModel) = d.0 in cc
 solve_shown old new (Some m) what d =
-    let same : answer.Known what ≡ answer_of old.budget d.end = answers_same _ _ d.answer in
     record {
       model = m;
       is_held = refl;
-      shown = subst (IsShownBy m) (sym same) (answer_shown m old.budget d.end d.may_answer);
+      shown = subst (IsShownBy m) (sym d.answer) (answer_shown m old.budget d.end d.may_answer);
     }
 
 -- where the reply to CHECK says yes, what it says is shown of the model that is held
@@ -176,7 +183,7 @@ check_shown (Some m) raw what e = record { model = m; is_held = refl; shown = ye
 
 -- where an ask to which an answer is due is answered, the answer is shown of the model that is held
 answer_by : (old new : State) (asked : ExactAsk) (what : Known ℚ) → 1 ≡ due_sort (due old asked) →
-    Does old (due old asked) (reply.Answered (answer.Known what)) new → IsShownOfHeld old.model what
+    Does old (due old asked) (reply.Known what) new → IsShownOfHeld old.model what
 answer_by old new (ask.Plain command.Solve) what h d = solve_shown old new old.model what d
 answer_by old new (ask.Plain (command.Write form)) what h d =
     let e = write_sort old.model form in absurd (omega (arith, e))
@@ -189,10 +196,10 @@ answer_by old new (ask.Checked raw) what h d = absurd (check_sort old.model raw 
 answer_by old new asked what h d = cc
 
 pub answer_is_shown : (places : ℕ) (old new : State) (asked : ExactAsk) (reads : List ExactRead) (what : Known ℚ) →
-    AloneStep places old asked reads (reply.Answered (answer.Known what)) new → IsShownOfHeld old.model what
+    AloneStep places old asked reads (reply.Known what) new → IsShownOfHeld old.model what
 answer_is_shown places old new asked reads what s =
-    let d = step_done places old new asked reads (reply.Answered (answer.Known what)) 0 s refl in
-    answer_by old new asked what (done_sort old new (due old asked) (reply.Answered (answer.Known what)) d) d
+    let d = step_done places old new asked reads (reply.Known what) 0 s refl in
+    answer_by old new asked what (done_sort old new (due old asked) (reply.Known what) d) d
 
 -- where an ask to which a verdict is due is told yes, what the yes says is shown of the model that is held
 yes_by : (old new : State) (asked : ExactAsk) (what : Known ℚ) → 2 ≡ due_sort (due old asked) →

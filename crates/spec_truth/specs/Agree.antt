@@ -1,17 +1,15 @@
 -- Replies that two runs of one session may give to the same asks.
 use Rattle.std.specs.Prelude.{ℕ, ◌≡◌, ◌⊎◌, List, [], ◌∷◌, codes}
 use Rattle.std.specs.List.{AllByRecursion}
-use Rattle.spec_exact.specs.Fraction.{ℚ}
-use Rattle.spec_server.specs.declared.answer.Answer.{Answer}
-use Rattle.spec_server.specs.declared.answer.Answer.TheVariants.{Known, Past, Spent}
 use Rattle.spec_server.specs.declared.asks.Ask.TheVariants as ask
 use Rattle.spec_server.specs.declared.asks.Reply.TheVariants as reply
+use Rattle.spec_server.specs.declared.asks.Reply.TheVariants.{Known, Past, Spent}
 use Rattle.spec_server.specs.declared.command.Plain.TheVariants as command
 use Rattle.spec_server.specs.Machine.{ExactAsk, ExactReply}
 use Rattle.spec_server.specs.Exchanges.{Exchange}
 
 -- one of them knows an answer where the other passed the limit or spent its budget
-abbrev pub IsWon : Answer ℚ → Answer ℚ → Type 0
+abbrev pub IsWon : ExactReply → ExactReply → Type 0
 IsWon (Known a) (Past p) = Unit {0}
 IsWon (Known a) (Spent n) = Unit {0}
 IsWon (Past p) (Known b) = Unit {0}
@@ -32,7 +30,7 @@ abbrev pub MayDiffer : ExactAsk → ExactReply → ExactReply → Type 0
 MayDiffer (ask.Plain command.How) (reply.Found how pivots publication) (reply.Found how' pivots' publication') =
     Unit {0}
 MayDiffer (ask.Plain command.Cert) (reply.Certified lines) (reply.Certified lines') = Unit {0}
-MayDiffer (ask.Plain command.Solve) (reply.Answered a) (reply.Answered b) = IsWon a b
+MayDiffer (ask.Plain command.Solve) a b = IsWon a b
 MayDiffer (ask.Plain command.Wide) (reply.Wide lines) (reply.Wide lines') = IsWonLine lines lines'
 MayDiffer asked a b = ⊥
 

@@ -6,8 +6,7 @@ use Rattle.spec_model.specs.Model.{Model}
 use Rattle.spec_model.specs.Truth.{IsOptimal, IsInfeasible, IsUnbounded}
 use Rattle.spec_check.specs.declared.certificate.Known.{Known}
 use Rattle.spec_check.specs.declared.certificate.Known.TheVariants as known
-use Rattle.spec_server.specs.declared.answer.Answer.{Answer}
-use Rattle.spec_server.specs.declared.answer.Answer.TheVariants as answer
+use Rattle.spec_server.specs.declared.asks.Reply.TheVariants as reply
 use Rattle.spec_server.specs.Machine.{ExactReply}
 use Rattle.spec_server.specs.Output.{reply_text}
 
@@ -15,13 +14,14 @@ use Rattle.spec_server.specs.Output.{reply_text}
 abbrev pub Says : ExactReply → List ℕ → Type 0
 Says replied text = (reply_text replied ≡ text) ⊎ (reply_text replied ≡ codes "YES " ++ text)
 
--- PAST and SPENT say nothing of it
-abbrev pub IsTrueOf : Model → Answer ℚ → Type 0
-IsTrueOf m (answer.Known (known.Optimal v)) = IsOptimal m v
-IsTrueOf m (answer.Known known.Infeasible) = IsInfeasible m
-IsTrueOf m (answer.Known known.Unbounded) = IsUnbounded m
-IsTrueOf m (answer.Past p) = Unit {0}
-IsTrueOf m (answer.Spent budget) = Unit {0}
+-- the reply answers a solve, and is true of the model, of which PAST and SPENT say nothing
+abbrev pub IsTrueOf : Model → ExactReply → Type 0
+IsTrueOf m (reply.Known (known.Optimal v)) = IsOptimal m v
+IsTrueOf m (reply.Known known.Infeasible) = IsInfeasible m
+IsTrueOf m (reply.Known known.Unbounded) = IsUnbounded m
+IsTrueOf m (reply.Past p) = Unit {0}
+IsTrueOf m (reply.Spent budget) = Unit {0}
+IsTrueOf m replied = ⊥
 
 -- a value has a numerator and a denominator of at most 127 bits
 abbrev pub IsNarrowKnown : Known ℚ → Type 0

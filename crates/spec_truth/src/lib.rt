@@ -6,7 +6,7 @@
 //! | `model_then` | the model of a session after exchanges: that of its last LOAD, as edited since | specs/ModelThen |
 //! | `IsLoadedFrom` | the lines that spell a model that a session is to hold | specs/LoadedFrom |
 //! | `Says` | that a reply's text is this, perhaps behind the word YES | specs/TrueAnswer |
-//! | `IsTrueOf` | that what an answer says of a model is so | specs/TrueAnswer |
+//! | `IsTrueOf` | that a reply answers a solve, and is true of the model | specs/TrueAnswer |
 //! | `IsNarrowKnown` | that a known value is of at most 127 bits | specs/TrueAnswer |
 //! | `RepliesAgree` | replies that two runs of one session may give to the same asks | specs/Agree |
 //! | `IsOpen`, `IsWonLine` | the line of an exact solve that knows nothing; lines of two of them, of which one may | specs/Agree |
@@ -27,7 +27,6 @@ ghost use Rattle.spec_check.specs.declared.certificate.Known.{Known};
 ghost use Rattle.spec_check.specs.declared.certificate.Known.TheVariants as known;
 ghost use Rattle.spec_check.specs.declared.certificate.Verdict.TheVariants as verdict;
 ghost use Rattle.spec_server.specs.declared.addressing.Addressing.{Addressing};
-ghost use Rattle.spec_server.specs.declared.answer.Answer.TheVariants as answer;
 ghost use Rattle.spec_server.specs.declared.asks.Ask.TheVariants as ask;
 ghost use Rattle.spec_server.specs.declared.asks.Asked.{Asked as asked_of};
 ghost use Rattle.spec_server.specs.declared.asks.Reply.TheVariants as reply;
@@ -78,7 +77,7 @@ pub fn loaded_models_are_spelled()
 /// In each run of sessions, an answer to a solve is true of the model that the session has then.
 pub fn answers_are_true_of_the_model_then()
     ensures { (places : ℕ) (before behind : List Exchange) (x : Exchange) (what : Known ℚ) →
-        RunAlone places (before ++ x ∷ behind) → x.reply ≡ reply.Answered (answer.Known what) →
+        RunAlone places (before ++ x ∷ behind) → x.reply ≡ reply.Known what →
         (m : Model) × (model_then x.session before ≡ Some m) × Holds m what }
 {}
 
@@ -116,17 +115,17 @@ pub fn reply_texts_are_true_of_the_model_then()
 /// 127 bits, and in each run of sessions they are.
 pub fn known_answers_have_their_own_texts()
     ensures optimal { (v : ℚ) →
-        reply_text (reply.Answered (answer.Known (known.Optimal v))) ≡ codes "OPTIMAL " ++ number_text v }
-    ensures infeasible { reply_text (reply.Answered (answer.Known known.Infeasible)) ≡ codes "INFEASIBLE" }
-    ensures unbounded { reply_text (reply.Answered (answer.Known known.Unbounded)) ≡ codes "UNBOUNDED" }
+        reply_text (reply.Known (known.Optimal v)) ≡ codes "OPTIMAL " ++ number_text v }
+    ensures infeasible { reply_text (reply.Known known.Infeasible) ≡ codes "INFEASIBLE" }
+    ensures unbounded { reply_text (reply.Known known.Unbounded) ≡ codes "UNBOUNDED" }
     ensures yes { (what : Known ℚ) →
         reply_text (reply.Checked (verdict.Yes what))
-        ≡ codes "YES " ++ reply_text (reply.Answered (answer.Known what)) }
+        ≡ codes "YES " ++ reply_text (reply.Known what) }
     ensures different { (what other : Known ℚ) → IsNarrowKnown what → IsNarrowKnown other →
-        reply_text (reply.Answered (answer.Known what)) ≡ reply_text (reply.Answered (answer.Known other)) →
+        reply_text (reply.Known what) ≡ reply_text (reply.Known other) →
         what ≡ other }
     ensures answered { (places : ℕ) (before behind : List Exchange) (x : Exchange) (what : Known ℚ) →
-        RunAlone places (before ++ x ∷ behind) → x.reply ≡ reply.Answered (answer.Known what) → IsNarrowKnown what }
+        RunAlone places (before ++ x ∷ behind) → x.reply ≡ reply.Known what → IsNarrowKnown what }
     ensures accepted { (places : ℕ) (before behind : List Exchange) (x : Exchange) (what : Known ℚ) →
         RunAlone places (before ++ x ∷ behind) → x.reply ≡ reply.Checked (verdict.Yes what) → IsNarrowKnown what }
 {}

@@ -4,7 +4,6 @@ ghost use Rattle.spec_solve.specs.Answers.{MayAnswer};
 ghost use Rattle.spec_server.specs.Machine as machine;
 ghost use Rattle.spec_server.specs.Output.{check_line, ended_lines};
 ghost use Rattle.spec_commands.specs.SolveOut.{solved_lines};
-ghost use Rattle.spec_server.specs.declared.answer.Answer.TheVariants as answers;
 ghost use Rattle.spec_server.specs.declared.asks.Reply.TheVariants as replies;
 
 use crate::reply::print_reply;
@@ -13,7 +12,6 @@ use lp_frac::Past;
 use lp_line::{Reply, answer_of, certificate_lines, print_lines};
 use lp_model::Model;
 use lp_solve::{End, OPENING_BUDGET};
-use spec_server::Answer;
 use std::alloc::{AllocError, Global};
 
 /// Writes the answer that a solve within the budget of a new session ended with, and its certificate.
@@ -33,17 +31,16 @@ pub(crate) fn print_end(
 
 /// Writes the line of the answer that a solve within the budget of a new session ended with.
 pub(crate) fn print_answer(alloc: Global, end: &End, to: &mut Bytes) -> Result<(), AllocError>
-    ensures { OnOk result (to.new ≡ to.old ++ check_line (replies.Answered (machine.answer_of machine.opening_budget end.now))) }
+    ensures { OnOk result (to.new ≡ to.old ++ check_line (machine.answer_of machine.opening_budget end.now)) }
 {
-    let answer = answer_of(OPENING_BUDGET as u32, end);
-    print_reply(alloc, Reply::Answered(answer), to)
+    print_reply(alloc, answer_of(OPENING_BUDGET as u32, end), to)
 }
 
 /// Writes that an operation is past 127 bits.
 pub(crate) fn print_past(alloc: Global, past: Past, to: &mut Bytes) -> Result<(), AllocError>
-    ensures { OnOk result (to.new ≡ to.old ++ check_line (replies.Answered (answers.Past past))) }
+    ensures { OnOk result (to.new ≡ to.old ++ check_line (replies.Past past)) }
 {
-    print_reply(alloc, Reply::Answered(Answer::Past(past)), to)
+    print_reply(alloc, Reply::Past(past), to)
 }
 
 /// Writes the lines of the certificate of a solve, none where it knows nothing of the model.
