@@ -175,8 +175,8 @@ pub fn find(alloc: Global, model: &Model, budget: u64) -> Result<Iis, AllocError
     requires { IsUsualModel model.now }
     ensures { IfOk result (MayFind model.now budget) }
 {
-    let solved = solve(alloc, model, budget, None)?;
-    match begin(solved.end) {
+    let (end, _) = solve(alloc, model, budget, None)?;
+    match begin(end) {
         First::Infeasible(certificate) => {
             let found = reduced(alloc, model, budget, &certificate);
             drop(certificate);

@@ -62,6 +62,6 @@ pub(crate) fn try_model(alloc: Global, model: &Model, budget: u64) -> Result<Tri
     requires { IsUsual model.now }
     ensures { IfOk result (IsTried budget model.now) }
 {
-    let solved = solve(alloc, model, budget, None)?;
-    Ok(said_by(solved.end))
+    let (end, _) = solve(alloc, model, budget, None)?;
+    Ok(said_by(end))
 }

@@ -37,7 +37,8 @@ fn solved(alloc: Global, model: &Model, budget: u64) -> Result<(Certificate, u64
     requires { IsUsual model.now }
     ensures { LastTells model.now budget None result }
 {
-    match solve(alloc, model, budget, None)?.end {
+    let (end, _) = solve(alloc, model, budget, None)?;
+    match end {
         End::Ended {
             certificate,
             pivots,

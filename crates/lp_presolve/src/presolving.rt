@@ -119,10 +119,10 @@ fn plain(alloc: Global, model: &Model, budget: u64, why: Why) -> Result<Presolve
     requires { IsUsual model.now }
     ensures { IfOk result (IsPlain model.now budget why) }
 {
-    let solved = solve(alloc, model, budget, None)?;
+    let (end, _) = solve(alloc, model, budget, None)?;
     Ok(Presolved {
         way: Way::Plain(why),
-        end: solved.end,
+        end,
     })
 }
 

@@ -11,7 +11,8 @@ use Rattle.spec_simplex.specs.Form.{Form, IsForm}
 use Rattle.spec_simplex.specs.Eliminate.{IsBasisOf}
 use Rattle.spec_check.specs.declared.solve_end.SolveEnd.TheVariants.{Ended, Past, Spent}
 use Rattle.spec_runs.specs.Cold.{ExactSolveEnd}
-use Rattle.spec_runs.specs.Solve.{SolveEnd}
+use Rattle.spec_runs.specs.declared.ends.Route.{Route}
+use Rattle.spec_runs.specs.Solve.{solve_end}
 use Rattle.spec_solve.specs.Answers.{MayAnswer, IsSolved}
 use Rattle.spec_board.specs.Words.{IsWellFormed, packed, unpacked}
 use Rattle.spec_board.proofs.PackedBases.{packed_fits, unpacked_fits}
@@ -35,18 +36,19 @@ found_fits f found place basis is fits e b =
 
 -- ---- the model that is held is solved, from what was found
 module _ {E : Type 0} (model : Option Model) (m : Model) (budget kept : ℕ) (found : Looked) where
-  pub solved_found : (place : Found Words) (basis : List Status) (result : Result SolveEnd E) → model ≡ Some m →
+  pub solved_found : (place : Found Words) (basis : List Status) (result : Result (ExactSolveEnd × Route) E) → model ≡ Some m →
       budget ≡ kept → found ≡ Some place → basis ≡ unpacked place.words →
-      IfOk result (IsSolved m budget (Some basis)) → IfOk result (IsSolvedBy model kept found)
+      IfOk result (λ s. IsSolved m budget (Some basis) (solve_end s)) →
+      IfOk result (λ s. IsSolvedBy model kept found (solve_end s))
   solved_found place basis result held same is b h =
-      subst (λ model. IfOk result (IsSolvedBy model kept found)) (sym held)
-      (subst₂ (λ budget handed. IfOk result (IsSolved m budget handed)) same (ap Some b ∙ sym (ap handed_by is)) h)
+      subst (λ model. IfOk result (λ s. IsSolvedBy model kept found (solve_end s))) (sym held)
+      (subst₂ (λ budget handed. IfOk result (λ s. IsSolved m budget handed (solve_end s))) same (ap Some b ∙ sym (ap handed_by is)) h)
 
-  pub solved_nothing : (result : Result SolveEnd E) → model ≡ Some m → budget ≡ kept → found ≡ None →
-      IfOk result (IsSolved m budget None) → IfOk result (IsSolvedBy model kept found)
+  pub solved_nothing : (result : Result (ExactSolveEnd × Route) E) → model ≡ Some m → budget ≡ kept → found ≡ None →
+      IfOk result (λ s. IsSolved m budget None (solve_end s)) → IfOk result (λ s. IsSolvedBy model kept found (solve_end s))
   solved_nothing result held same is h =
-      subst (λ model. IfOk result (IsSolvedBy model kept found)) (sym held)
-      (subst₂ (λ budget handed. IfOk result (IsSolved m budget handed)) same (sym (ap handed_by is)) h)
+      subst (λ model. IfOk result (λ s. IsSolvedBy model kept found (solve_end s))) (sym held)
+      (subst₂ (λ budget handed. IfOk result (λ s. IsSolved m budget handed (solve_end s))) same (sym (ap handed_by is)) h)
 
 -- ---- the words of an optimum
 pub left_formed : (f : Form) (end : ExactSolveEnd) (words : Words) → IsForm f → LeavesBasis f end →

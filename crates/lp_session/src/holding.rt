@@ -1,5 +1,6 @@
 // What a session holds.
 ghost use Rattle.std.specs.Prelude.{◌≡◌, ◌⊎◌, IfOk, option_and_then};
+ghost use Rattle.spec_runs.specs.Solve.{solve_end};
 ghost use Rattle.spec_server.specs.Machine as machine;
 ghost use Rattle.spec_server.specs.Step as step;
 ghost use Rattle.spec_server.specs.declared.asks.Ask.TheVariants as asks;
@@ -18,9 +19,10 @@ use lp_line::{
 };
 use lp_model::{Edit, EditError, EditFault, Model, UsualModel, apply};
 use lp_mps::write::{WriteStop, fixed, free};
-use lp_solve::{End, OPENING_BUDGET, Solved, solve_exactly, solve_formed, solve_formless};
+use lp_solve::{End, OPENING_BUDGET, solve_exactly, solve_formed, solve_formless};
 use spec_board::{BasisWords, Found};
 use spec_mps::Style;
+use spec_runs::Route;
 use spec_server::{How, Plain, Publication};
 use std::alloc::{AllocError, Global};
 use std::ops::ControlFlow;
@@ -136,11 +138,9 @@ impl Holding {
         match form(alloc, model) {
             Ok(form) => ControlFlow::Continue(form),
             Err(stop) => match solve_formless(model, stop) {
-                Ok(solved) => ControlFlow::Break(self.keep(
-                    solved.end,
-                    How::Cold,
-                    Publication::Nothing,
-                )),
+                Ok((end, _)) => {
+                    ControlFlow::Break(self.keep(end, How::Cold, Publication::Nothing))
+                }
                 Err(_) => ControlFlow::Break(Reply::Memory),
             },
         }
@@ -152,11 +152,11 @@ impl Holding {
         alloc: Global,
         form: &Form,
         found: Option<Found<BasisWords>>,
-    ) -> Result<Solved, AllocError>
+    ) -> Result<(End, Route), AllocError>
         requires held { IsFormHeld self.now.model form.now }
         requires fits { FitsForm form.now found }
-        ensures solved { IfOk result (IsSolvedBy self.now.model self.now.budget found) }
-        ensures basis { IfOk result (λ solved. LeavesBasis form.now solved.end) }
+        ensures solved { IfOk result (λ s. IsSolvedBy self.now.model self.now.budget found (solve_end s)) }
+        ensures basis { IfOk result (λ s. LeavesBasis form.now s.0) }
     {
         prove!(form.rows() <= 256);
         let Some(model) = &self.model else {
@@ -179,24 +179,21 @@ impl Holding {
         &mut self,
         form: &Form,
         found: Option<Found<BasisWords>>,
-        solved: Solved,
+        end: End,
+        route: Route,
     ) -> ControlFlow<Reply, Pending>
         requires held { IsFormHeld self.old.model form.now }
-        requires solved { IsSolvedBy self.old.model self.old.budget found solved }
-        requires basis { LeavesBasis form.now solved.end }
+        requires solved { IsSolvedBy self.old.model self.old.budget found (solve_end (end, route)) }
+        requires basis { LeavesBasis form.now end }
         ensures { WorksSo self.old found result self.new }
     {
-        let how = how_by(found, solved.route);
-        match words_of_end(form, &solved.end) {
-            None => ControlFlow::Break(self.keep(solved.end, how, Publication::Nothing)),
+        let how = how_by(found, route);
+        match words_of_end(form, &end) {
+            None => ControlFlow::Break(self.keep(end, how, Publication::Nothing)),
             Some(words) if is_found(found, &words) => {
-                ControlFlow::Break(self.keep(solved.end, how, Publication::Same))
+                ControlFlow::Break(self.keep(end, how, Publication::Same))
             }
-            Some(words) => ControlFlow::Continue(Pending {
-                end: solved.end,
-                how,
-                words,
-            }),
+            Some(words) => ControlFlow::Continue(Pending { end, how, words }),
         }
     }
 
@@ -212,7 +209,7 @@ impl Holding {
         ensures { WorksSo self.old found result self.new }
     {
         match self.solve(alloc, form, found) {
-            Ok(solved) => self.conclude(form, found, solved),
+            Ok((end, route)) => self.conclude(form, found, end, route),
             Err(_) => ControlFlow::Break(Reply::Memory),
         }
     }

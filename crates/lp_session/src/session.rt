@@ -128,14 +128,14 @@ impl Session {
         };
         let shape = shape(&form);
         let found = found_by(board.look(pass, &shape));
-        let solved = match self.holding.solve(alloc, &form, found) {
+        let (end, route) = match self.holding.solve(alloc, &form, found) {
             Ok(solved) => solved,
             Err(_) => {
                 drop(form);
                 return Reply::Memory;
             }
         };
-        let worked = self.holding.conclude(&form, found, solved);
+        let worked = self.holding.conclude(&form, found, end, route);
         drop(form);
         let pending = match worked {
             ControlFlow::Break(reply) => return reply,

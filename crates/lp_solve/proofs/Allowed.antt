@@ -18,10 +18,11 @@ use Rattle.spec_simplex.specs.Form.{Form, form_of}
 use Rattle.spec_simplex.specs.Eliminate.{IsBasisOf}
 use Rattle.spec_check.specs.declared.solve_end.SolveEnd.TheVariants.{Ended}
 use Rattle.spec_runs.specs.Cold.{ExactSolveEnd}
+use Rattle.spec_runs.specs.declared.ends.Route.{Route}
 use Rattle.spec_runs.specs.declared.ends.Route.TheVariants as route
 use Rattle.spec_runs.specs.declared.ends.Warm.TheVariants as warm
 use Rattle.spec_runs.specs.Warm.{WarmResult, after_form}
-use Rattle.spec_runs.specs.Solve.{SolveEnd, HasBasis, fall_of}
+use Rattle.spec_runs.specs.Solve.{SolveEnd, solve_end, HasBasis, fall_of}
 use Rattle.spec_solve.specs.Order.{MayEndCold, MayEnd}
 use Rattle.spec_solve.specs.Answers.{IsSolved}
 use Rattle.spec_solve.proofs.Solves.{HasFitEnd, cold_solved, is_solved}
@@ -59,9 +60,9 @@ module _ (budget : ℕ) (m : Model) (f : Form) (basis : List Status) (formed : f
       warm_is_solved (record { end = end; route = route.Fell (fall_of stop) })
       (falls (Some number_limit) budget m f basis formed stop w end e h may) fit
 
-  pub after_solved : {E : Type 0} (stop : WarmStop ℚ) (w : WarmResult) (r : Result SolveEnd E) →
+  pub after_solved : {E : Type 0} (stop : WarmStop ℚ) (w : WarmResult) (r : Result (ExactSolveEnd × Route) E) →
       w ≡ warm.Stopped stop → w ≡ after_form (Some number_limit) budget m basis (Ok f) →
-      IfOk r (IsAfterStop budget m f stop) → IfOk r (IsSolved m budget (Some basis))
+      IfOk r (λ s. IsAfterStop budget m f stop (solve_end s)) → IfOk r (λ s. IsSolved m budget (Some basis) (solve_end s))
   after_solved stop w (Ok s) e h after = after basis fits (sym h ∙ e)
   after_solved stop w (Err why) e h after = tt
 
@@ -73,20 +74,18 @@ after_stop budget m f stop end formed may fit = λ basis fits stops.
     fall_solved budget m f basis formed fits stop (warm.Stopped stop) end refl (sym stops) may fit
 
 -- ---- without a starting basis
-pub cold_is_solved : (budget : ℕ) (m : Model) (end : ExactSolveEnd) (s : SolveEnd) →
-    s ≡ record { end = end; route = route.Cold } → MayEndCold (Some number_limit) budget m end → IsFit m end →
-    IsSolved m budget None s
-cold_is_solved budget m end s is may fit =
-    subst (IsSolved m budget None) (sym is) (cold_solved m budget end may (fit_end m end fit))
+pub cold_is_solved : (budget : ℕ) (m : Model) (end : ExactSolveEnd) → MayEndCold (Some number_limit) budget m end →
+    IsFit m end → IsSolved m budget None (record { end = end; route = route.Cold })
+cold_is_solved budget m end may fit = cold_solved m budget end may (fit_end m end fit)
 
 -- a model without a form has no basis
 pub formless_solved : {B E : Type 0} (budget : ℕ) (m : Model) (view : B → List Status) (starting : Option B)
-    (ended : Result SolveEnd E) → IfSome starting (λ basis. HasBasis (Some number_limit) m (view basis)) →
-    IfOk ended (λ s. (budget : ℕ) → IsSolved m budget None s) → IfOk ended (λ _. HasNoForm m) →
-    IfOk ended (IsSolved m budget (option_map view starting))
+    (ended : Result (ExactSolveEnd × Route) E) → IfSome starting (λ basis. HasBasis (Some number_limit) m (view basis)) →
+    IfOk ended (λ s. (budget : ℕ) → IsSolved m budget None (solve_end s)) → IfOk ended (λ _. HasNoForm m) →
+    IfOk ended (λ s. IsSolved m budget (option_map view starting) (solve_end s))
 formless_solved budget m view starting (Err why) fits solved formless = tt
 formless_solved budget m view starting (Ok s) fits solved formless =
-    subst (λ starting. IsSolved m budget (option_map view starting) s)
+    subst (λ starting. IsSolved m budget (option_map view starting) (solve_end s))
     (sym (no_starting (Some number_limit) m view starting formless.0 formless.1 fits)) (solved budget)
 
 -- ---- the basis that is left
@@ -106,7 +105,7 @@ module _ {B : Type 0} (budget : ℕ) (m : Model) (f : Form) (view : B → List S
           (starting_fits view f starting fits) h
       by end is = tt
 
-  pub solves_leave : {E : Type 0} (r : Result SolveEnd E) → IfOk r (IsSolved m budget (option_map view starting)) →
-      IfOk r (λ s. LeavesBasis f s.end)
-  solves_leave (Ok s) h = solve_leaves s h
+  pub solves_leave : {E : Type 0} (r : Result (ExactSolveEnd × Route) E) →
+      IfOk r (λ s. IsSolved m budget (option_map view starting) (solve_end s)) → IfOk r (λ s. LeavesBasis f s.0)
+  solves_leave (Ok s) h = solve_leaves (solve_end s) h
   solves_leave (Err why) h = tt

@@ -85,7 +85,7 @@ pub refusal_gives_up : (m : Model) (budget : ℕ) (p : Past ℚ) → form_of (So
 refusal_gives_up m budget p h =
     let solved : SolveEnd = record { end = outcome.Past p; route = route.Cold } in (
       solved,
-      cold_is_solved budget m (outcome.Past p) solved refl
+      cold_is_solved budget m (outcome.Past p)
           (formless (Some number_limit) budget m (fault.Past p) (outcome.Past p) h refl) tt,
       tt,
     )

@@ -17,7 +17,7 @@ use crate::shown::{
     at_basis, at_float_end, at_float_end_beside, at_float_end_from, at_near_end, basis_of_answer,
     origin_of, over_rows, over_rows_from,
 };
-use crate::solving::{Solved, solve_formed};
+use crate::solving::solve_formed;
 use crate::widened::{widened_certificate, widened_known};
 use lp_check::wide::{self, Ratios};
 use lp_check::{Certificate, Known};
@@ -154,7 +154,7 @@ fn by_runs(
     requires fits { IfSome starting (λ basis. IsBasisOf form.now basis.now) }
     ensures { IfOk result (IsExactEnd model.now budget (option_map (λ basis. basis.now) starting.entry)) }
 {
-    let Solved { end, route } = solve_formed(alloc, model, budget, form, starting)?;
+    let (end, route) = solve_formed(alloc, model, budget, form, starting)?;
     match end {
         End::Ended {
             answer,

@@ -17,7 +17,7 @@
 //!
 //! | Item | What it is | Where |
 //! |---|---|---|
-//! | `solve`, `Solved` | the solve of a model, and how it ends | src/solving |
+//! | `solve` | the solve of a model, with its end and the route to it | src/solving |
 //! | `solve_formed`, `solve_formless` | the solve by the model's form, or by why it has none | src/solving |
 //! | `OPENING_BUDGET` | the budget of a new session, and of the commands that solve | src/solving |
 //! | `solve_exactly`, `ExactEnd`, `ExactAnswer` | the exact solve of a model, whose numbers may have any width | src/exact |
@@ -51,5 +51,5 @@ mod widened;
 
 pub use cold::End;
 pub use exact::{ExactAnswer, ExactEnd, solve_exactly};
-pub use solving::{OPENING_BUDGET, Solved, solve, solve_formed, solve_formless};
+pub use solving::{OPENING_BUDGET, solve, solve_formed, solve_formless};
 pub use spec_runs::Route;

@@ -4,7 +4,6 @@ ghost use Rattle.spec_exact.specs.Narrow.{number_limit};
 ghost use Rattle.spec_model.specs.Kept.{IsUsual};
 ghost use Rattle.spec_simplex.specs.Eliminate.{IsBasisOf};
 ghost use Rattle.spec_simplex.specs.Form.{form_of};
-ghost use Rattle.spec_runs.specs.declared.ends.Route.TheVariants as route;
 ghost use Rattle.spec_runs.specs.Solve as solve;
 ghost use Rattle.spec_solve.specs.Answers.{IsSolved};
 ghost use Rattle.lp_frac.specs.declared.stop.Stop.TheVariants as stops;
@@ -18,16 +17,13 @@ use crate::strategy::{WORK, cold_solve};
 use crate::warm::{Warm, WarmStop, from_basis};
 use lp_check::Certificate;
 use lp_form::{Basis, Form, FormStop, form};
-use lp_frac::{Frac, Fracs, Stop};
+use lp_frac::Stop;
 use lp_model::Model;
 use spec_runs::{Fall, Route};
 use std::alloc::{AllocError, Global};
 
 /// The pivots and flips that a solve of a new session may make.
 pub const OPENING_BUDGET: u64 = 10_000;
-
-/// How a solve ends.
-pub type Solved = spec_runs::Solved<Frac, Fracs, Basis>;
 
 // Why a warm start that stopped so was given up, as a solve tells it.
 fn fall(stop: WarmStop) -> Fall
@@ -48,14 +44,12 @@ fn cold_after(
     model: &Model,
     form: &Form,
     stop: WarmStop,
-) -> Result<Solved, AllocError>
+) -> Result<(End, Route), AllocError>
     requires { form_of (Some number_limit) model.now ≡ Ok form.now }
-    ensures { IfOk result (IsAfterStop budget model.now form.now stop) }
+    ensures { IfOk result (λ s. IsAfterStop budget model.now form.now stop (solve.solve_end s)) }
 {
-    Ok(Solved {
-        end: cold_solve(alloc, budget, WORK, model, form)?,
-        route: Route::Fell(fall(stop)),
-    })
+    let route = Route::Fell(fall(stop));
+    Ok((cold_solve(alloc, budget, WORK, model, form)?, route))
 }
 
 // The warm start from the basis, and where that stops the cold solve.
@@ -65,10 +59,10 @@ fn warm_first(
     model: &Model,
     form: &Form,
     basis: &Basis,
-) -> Result<Solved, AllocError>
+) -> Result<(End, Route), AllocError>
     requires formed { form_of (Some number_limit) model.now ≡ Ok form.now }
     requires fits { IsBasisOf form.now basis.now }
-    ensures { IfOk result (IsSolved model.now budget (Some basis.now)) }
+    ensures { IfOk result (λ s. IsSolved model.now budget (Some basis.now) (solve.solve_end s)) }
 {
     match from_basis(alloc, budget, model, form, basis)? {
         Warm::Ended {
@@ -76,33 +70,16 @@ fn warm_first(
             certificate,
             basis,
             pivots,
-        } => Ok(ended_warm(End::Ended {
-            answer,
-            certificate,
-            basis,
-            pivots,
-        })),
+        } => {
+            let end = End::Ended {
+                answer,
+                certificate,
+                basis,
+                pivots,
+            };
+            Ok((end, Route::Warm))
+        }
         Warm::Stopped(stop) => cold_after(alloc, budget, model, form, stop),
-    }
-}
-
-// The end of a warm start as that of a solve.
-fn ended_warm(end: End) -> Solved
-    ensures { result ≡ record { end = end; route = route.Warm } }
-{
-    Solved {
-        end,
-        route: Route::Warm,
-    }
-}
-
-// The end of a cold solve as that of a solve.
-fn ended_cold(end: End) -> Solved
-    ensures { result ≡ record { end = end; route = route.Cold } }
-{
-    Solved {
-        end,
-        route: Route::Cold,
     }
 }
 
@@ -113,32 +90,36 @@ pub fn solve_formed(
     budget: u64,
     form: &Form,
     starting: Option<&Basis>,
-) -> Result<Solved, AllocError>
+) -> Result<(End, Route), AllocError>
     requires formed { form_of (Some number_limit) model.now ≡ Ok form.now }
     requires fits { IfSome starting (λ basis. IsBasisOf form.now basis.now) }
-    ensures solved { IfOk result (IsSolved model.now budget (option_map (λ basis. basis.now) starting.entry)) }
-    ensures basis { IfOk result (λ s. LeavesBasis form.now s.end) }
+    ensures solved { IfOk result (λ s.
+        IsSolved model.now budget (option_map (λ basis. basis.now) starting.entry) (solve.solve_end s)) }
+    ensures basis { IfOk result (λ s. LeavesBasis form.now s.0) }
 {
     match starting {
         Some(basis) => warm_first(alloc, budget, model, form, basis),
-        None => Ok(ended_cold(cold_solve(alloc, budget, WORK, model, form)?)),
+        None => {
+            let end = cold_solve(alloc, budget, WORK, model, form)?;
+            Ok((end, Route::Cold))
+        }
     }
 }
 
 /// Solves a model that has no form, by why it has none: bounds that clash are their own certificate. It is out of
 /// memory only where the making of the form was.
-pub fn solve_formless(model: &Model, stop: FormStop) -> Result<Solved, AllocError>
+pub fn solve_formless(model: &Model, stop: FormStop) -> Result<(End, Route), AllocError>
     requires { IsFaultOf (form_of (Some number_limit) model.now) stop }
-    ensures solved { IfOk result (λ s. (budget : ℕ) → IsSolved model.now budget None s) }
+    ensures solved { IfOk result (λ s. (budget : ℕ) → IsSolved model.now budget None (solve.solve_end s)) }
     ensures formless { IfOk result (λ _. HasNoForm model.now) }
     ensures memory { IfErr result (λ _. stop ≡ stops.NoMemory) }
 {
     match stop {
         Stop::Cause(clash) => {
             let certificate = Certificate::Clash(clash.column);
-            Ok(ended_cold(checked_cold(model, certificate, None, 0)))
+            Ok((checked_cold(model, certificate, None, 0), Route::Cold))
         }
-        Stop::Past(past) => Ok(ended_cold(End::Past(past))),
+        Stop::Past(past) => Ok((End::Past(past), Route::Cold)),
         Stop::NoMemory => Err(AllocError),
     }
 }
@@ -152,10 +133,11 @@ pub fn solve(
     model: &Model,
     budget: u64,
     starting: Option<&Basis>,
-) -> Result<Solved, AllocError>
+) -> Result<(End, Route), AllocError>
     requires usual { IsUsual model.now }
     requires starting { IfSome starting (λ basis. solve.HasBasis (Some number_limit) model.now basis.now) }
-    ensures { IfOk result (IsSolved model.now budget (option_map (λ basis. basis.now) starting.entry)) }
+    ensures { IfOk result (λ s.
+        IsSolved model.now budget (option_map (λ basis. basis.now) starting.entry) (solve.solve_end s)) }
 {
     match form(alloc, model) {
         Ok(form) => {

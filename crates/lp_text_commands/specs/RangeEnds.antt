@@ -9,6 +9,8 @@ use Rattle.spec_pivot.specs.declared.status.Status.{Status}
 use Rattle.spec_simplex.specs.declared.ends.FormFault.{FormFault}
 use Rattle.spec_simplex.specs.Form.{Form, form_of}
 use Rattle.spec_runs.specs.Cold.{ExactSolveEnd}
+use Rattle.spec_runs.specs.declared.ends.Route.{Route}
+use Rattle.spec_runs.specs.Solve.{solve_end}
 use Rattle.spec_solve.specs.Answers.{IsSolved}
 use Rattle.spec_range.specs.Span.{Keeps}
 use Rattle.spec_program.specs.declared.command_line.Moved.{Moved}
@@ -41,5 +43,5 @@ IsRangingOf m end ranging = ranging ≡ None
 
 -- what a solve of the model ends with, cold and within the budget of a new session, and what numbers are ranged from
 pub record IsRanged (m : Model) (ranged : Ranged) : Type 0 where
-  pub solved : IsSolved m opening_budget None ranged.solved
-  pub ranging : IsRangingOf m ranged.solved.end ranged.ranging
+  pub solved : (route : Route) × IsSolved m opening_budget None (solve_end (ranged.end, route))
+  pub ranging : IsRangingOf m ranged.end ranged.ranging

@@ -2,6 +2,8 @@
 ghost use Rattle.std.specs.Prelude.{◌≤◌, IfOk, IsErrOf, None, refl};
 ghost use Rattle.lp_base.specs.Causes.{Rose};
 ghost use Rattle.spec_model.specs.Kept.{row_limit, column_limit, IsUsual};
+ghost use Rattle.spec_runs.specs.declared.ends.Route.{Route};
+ghost use Rattle.spec_runs.specs.Solve.{solve_end};
 ghost use Rattle.spec_solve.specs.Answers.{IsSolved};
 ghost use Rattle.spec_server.specs.Machine.{opening_budget};
 ghost use Rattle.spec_commands.specs.GenOut.{generated_lines, GenOut, SolvedOut};
@@ -17,7 +19,7 @@ use lines::{print_pivots, print_size};
 use lp_base::{Bytes, Sink, send};
 use lp_line::Halt;
 use lp_model::Model;
-use lp_solve::{OPENING_BUDGET, Solved, solve};
+use lp_solve::{End, OPENING_BUDGET, solve};
 pub use parts::make;
 use std::alloc::{AllocError, Global};
 
@@ -27,21 +29,22 @@ struct SolveMade;
 impl Command for SolveMade {
     type Given = Model;
 
-    type Outcome = Solved;
+    type Outcome = End;
 
     ghost takes = { λ _ m. IsUsual m };
 
-    ghost may_make = { λ _ m solved. IsSolved m opening_budget None solved };
+    ghost may_make = { λ _ m end. (route : Route) × IsSolved m opening_budget None (solve_end (end, route)) };
 
-    ghost lines = { λ _ m solved. generated_lines m solved.end };
+    ghost lines = { λ _ m end. generated_lines m end };
 
     ghost may_write = { λ _ m. SolvedOut m };
 
-    ghost is_written = { λ _ m solved is. (solved, is, refl) };
+    ghost is_written = { λ _ m end is. (solve_end (end, is.0), is.1, refl) };
 
     // Solves the model cold, within the budget of a new session.
-    fn run(&self, alloc: Global, model: &Model) -> Result<Solved, AllocError> {
-        solve(alloc, model, OPENING_BUDGET, None)
+    fn run(&self, alloc: Global, model: &Model) -> Result<End, AllocError> {
+        let (end, _) = solve(alloc, model, OPENING_BUDGET, None)?;
+        Ok(end)
     }
 
     // Writes the size of the model, what the solve ended with, and its pivots.
@@ -50,12 +53,12 @@ impl Command for SolveMade {
         &self,
         alloc: Global,
         model: &Model,
-        solved: &Solved,
+        end: &End,
         to: &mut Bytes,
     ) -> Result<(), AllocError> {
         print_size(alloc, model, to)?;
-        print_answer(alloc, &solved.end, to)?;
-        print_pivots(alloc, &solved.end, to)
+        print_answer(alloc, end, to)?;
+        print_pivots(alloc, end, to)
     }
 }
 

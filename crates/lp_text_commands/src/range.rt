@@ -1,6 +1,7 @@
 // The command `range`: it solves the model, and writes what that ended with and the range of one number of the model.
 ghost use Rattle.std.specs.Prelude.{◌<◌, refl};
 ghost use Rattle.spec_model.specs.Kept.{IsUsual};
+ghost use Rattle.spec_runs.specs.Solve.{solve_end};
 ghost use Rattle.spec_commands.specs.RangeOut.{RangedOut, range_lines};
 ghost use Rattle.lp_text_commands.specs.RangeEnds.{IsRanged, count_by};
 
@@ -37,11 +38,11 @@ impl Command for RangeAt {
 
     ghost may_make = { λ _ m ranged. IsRanged m ranged };
 
-    ghost lines = { λ number m ranged. range_lines number.moved m number.at ranged.solved.end };
+    ghost lines = { λ number m ranged. range_lines number.moved m number.at ranged.end };
 
     ghost may_write = { λ number m. RangedOut number.moved m number.at };
 
-    ghost is_written = { λ _ m ranged is. (ranged.solved, is.solved, refl) };
+    ghost is_written = { λ _ m ranged is. (solve_end (ranged.end, is.solved.0), is.solved.1, refl) };
 
     // Solves the model, and ranges the basis of an optimum.
     fn run(&self, alloc: Global, model: &Model) -> Result<Ranged, AllocError> {
@@ -56,7 +57,7 @@ impl Command for RangeAt {
         ranged: &Ranged,
         to: &mut Bytes,
     ) -> Result<(), AllocError> {
-        print_answer(alloc, &ranged.solved.end, to)?;
+        print_answer(alloc, &ranged.end, to)?;
         match &ranged.ranging {
             Some(ranging) => {
                 let range = range_of(ranging, model, self.moved, self.at);

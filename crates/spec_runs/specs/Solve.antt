@@ -12,14 +12,19 @@ use Rattle.spec_check.specs.declared.solve_end.SolveEnd.TheVariants as cold
 use Rattle.spec_runs.specs.Cold.{ExactSolveEnd, cold as cold_solve}
 use Rattle.spec_runs.specs.declared.ends.Fall.{Fall}
 use Rattle.spec_runs.specs.declared.ends.Fall.TheVariants as fall
+use Rattle.spec_runs.specs.declared.ends.Route.{Route}
 use Rattle.spec_runs.specs.declared.ends.Route.TheVariants.{Cold, Warm, Fell}
-use Rattle.spec_runs.specs.declared.ends.Solved.{Solved}
 use Rattle.spec_runs.specs.declared.ends.Warm.TheVariants as warm
 use Rattle.spec_runs.specs.Warm.{WarmResult, warm as warm_start}
 
 -- how a solve ends, in exact numbers, with the route by which it got there
-abbrev pub SolveEnd : Type 0
-SolveEnd = Solved ℚ (List ℚ) (List Status)
+pub record SolveEnd : Type 0 where
+  pub end : ExactSolveEnd
+  pub route : Route
+
+-- an end and a route, as a solve ends
+abbrev pub solve_end : ExactSolveEnd × Route → SolveEnd
+solve_end s = record { end = s.0; route = s.1 }
 
 -- the model has a form, and the basis is one of it
 abbrev pub HasBasis : Option ℕ → Model → List Status → Type 0

@@ -1,6 +1,6 @@
-// How a warm start and a solve end, over the types F of numbers, L of lists of numbers and B of bases.
+// How a warm start ends, and by which route a solve does, over the types F of numbers, L of lists of numbers and B of bases.
 
-use spec_check::{Certificate, Known, SolveEnd};
+use spec_check::{Certificate, Known};
 use spec_simplex::WarmStop;
 use std::fmt::Debug;
 
@@ -40,11 +40,4 @@ pub enum Route {
     Warm,
     /// From the start that each model has, with the whole budget again, since the warm start stopped.
     Fell(Fall),
-}
-
-/// How a solve ends, of which a basis may be handed.
-#[derive(Drop)]
-pub struct Solved<F: Debug, L, B> {
-    pub end: SolveEnd<F, L, B>,
-    pub route: Route,
 }

@@ -44,7 +44,7 @@ ghost use Rattle.spec_runs.specs.Cold.{cold, certificate_of};
 ghost use Rattle.spec_runs.specs.Accepted.{IsAccepted, IsAnswered};
 ghost use Rattle.spec_runs.specs.Steps.{IsNext, IsAfter, BeginsPhaseTwo};
 
-pub use ends::{Fall, Route, Solved, Warm};
+pub use ends::{Fall, Route, Warm};
 pub use warm::{
     bases_begin_tableaus, dual_choices_mean_steps, ends_leave_bases, fits_mean_methods,
     singular_bases_depend, warm_ends_are_accepted, warm_ends_true, warm_limits_only_refuse,

@@ -4,8 +4,8 @@
 //! |---|---|---|
 //! | `Warm` | how a warm start ends | src/ends |
 //! | `warm_run`, `warm_certificate`, `warm` | the run from a basis; its certificate; the whole, with the check | specs/Warm |
-//! | `Solved`, `Route`, `Fall` | how a solve ends, from where it found that, and why it gave a warm start up | src/ends |
-//! | `solve` | the solve of a model, of which a basis may be handed | specs/Solve |
+//! | `Route`, `Fall` | from where a solve found its end, and why it gave a warm start up | src/ends |
+//! | `SolveEnd`, `solve` | how a solve ends, and the solve of a model, of which a basis may be handed | specs/Solve |
 //! | `IsBased`, `IsReady`, `BeginsFrom` | what holds of the tableau of a basis, before and after the flips | specs/Based |
 //! | `IsDependent` | a basic column depends on those before it | specs/Based |
 //! | `IsStuck`, `IsDualStep`, `IsDualMeant` | what a choice of the dual method means for a tableau | specs/Based |

@@ -3,6 +3,7 @@ ghost use Rattle.std.specs.Prelude.{◌≡◌, ◌++◌, ◌∷◌, [], OnOk, Ok
 ghost use Rattle.spec_exact.specs.Narrow.{number_limit};
 ghost use Rattle.spec_simplex.specs.Eliminate.{IsBasisOf};
 ghost use Rattle.spec_simplex.specs.Form.{form_of};
+ghost use Rattle.spec_runs.specs.Solve.{solve_end};
 ghost use Rattle.spec_solve.specs.Answers.{MayAnswer};
 ghost use Rattle.spec_bas.specs.Written.{bas_text};
 ghost use Rattle.spec_server.specs.Machine.{opening_budget};
@@ -18,7 +19,7 @@ use lp_check::Known;
 use lp_form::{Basis, LargeForm};
 use lp_line::{fall_suffix, pivots_of, push_pivots};
 use lp_model::Model;
-use lp_solve::{End, Solved};
+use lp_solve::End;
 use spec_runs::Route;
 use std::alloc::{AllocError, Global};
 
@@ -27,31 +28,31 @@ pub(crate) fn print_whole(
     alloc: Global,
     model: &Model,
     form: &LargeForm,
-    solved: &Solved,
+    ended: &(End, Route),
     to: &mut Bytes,
 ) -> Result<(), AllocError>
     requires formed { form_of (Some number_limit) model.now ≡ Ok form.now }
-    requires basis { LeavesBasis form.now solved.now.end }
-    requires may { MayAnswer model.now opening_budget solved.now.end }
-    ensures { OnOk result (to.new ≡ to.old ++ (end_lines model.now solved.now ++ final_text model.now (Ok form.now) solved.now.end)) }
+    requires basis { LeavesBasis form.now ended.now.0 }
+    requires may { MayAnswer model.now opening_budget ended.now.0 }
+    ensures { OnOk result (to.new ≡ to.old ++ (end_lines model.now (solve_end ended.now) ++ final_text model.now (Ok form.now) ended.now.0)) }
 {
-    print_end(alloc, model, solved, to)?;
-    print_final(alloc, model, form, &solved.end, to)
+    print_end(alloc, model, ended, to)?;
+    print_final(alloc, model, form, &ended.0, to)
 }
 
 /// Writes the answer, how it was found, and its certificate.
 pub(crate) fn print_end(
     alloc: Global,
     model: &Model,
-    solved: &Solved,
+    ended: &(End, Route),
     to: &mut Bytes,
 ) -> Result<(), AllocError>
-    requires { MayAnswer model.now opening_budget solved.now.end }
-    ensures { OnOk result (to.new ≡ to.old ++ end_lines model.now solved.now) }
+    requires { MayAnswer model.now opening_budget ended.now.0 }
+    ensures { OnOk result (to.new ≡ to.old ++ end_lines model.now (solve_end ended.now)) }
 {
-    print_answer(alloc, &solved.end, to)?;
-    print_route(alloc, solved.route, pivots_of(&solved.end), to)?;
-    print_certificate(alloc, model, &solved.end, to)
+    print_answer(alloc, &ended.0, to)?;
+    print_route(alloc, ended.1, pivots_of(&ended.0), to)?;
+    print_certificate(alloc, model, &ended.0, to)
 }
 
 // Writes how the answer was found: cold, from the basis, or after the basis was given up.

@@ -3,6 +3,7 @@ ghost use Rattle.std.specs.Prelude.{◌≡◌, ◌≤◌, ◌<◌, ◌++◌, Lis
 ghost use Rattle.spec_model.specs.Kept.{IsUsualModel};
 ghost use Rattle.spec_pivot.specs.declared.status.Status.{Status as exact_status};
 ghost use Rattle.spec_simplex.specs.Form.{Form as exact_form};
+ghost use Rattle.spec_runs.specs.Solve.{solve_end};
 ghost use Rattle.spec_commands.specs.RangesOut as ranges;
 ghost use Rattle.lp_range.specs.Answer.{IsFrom};
 ghost use Rattle.lp_text_commands.specs.RangeEnds.{IsRanged, count_by};
@@ -30,11 +31,11 @@ impl Command for RangeAll {
 
     ghost may_make = { λ _ m ranged. IsRanged m ranged };
 
-    ghost lines = { λ _ m ranged. ranges.ranges_lines m ranged.solved.end };
+    ghost lines = { λ _ m ranged. ranges.ranges_lines m ranged.end };
 
     ghost may_write = { λ _ m. ranges.RangesOut (Ok m) };
 
-    ghost is_written = { λ _ m ranged is. (ranged.solved, is.solved, refl) };
+    ghost is_written = { λ _ m ranged is. (solve_end (ranged.end, is.solved.0), is.solved.1, refl) };
 
     // Solves the model, and ranges the basis of an optimum.
     fn run(&self, alloc: Global, model: &Model) -> Result<Ranged, AllocError> {
@@ -49,7 +50,7 @@ impl Command for RangeAll {
         ranged: &Ranged,
         to: &mut Bytes,
     ) -> Result<(), AllocError> {
-        print_answer(alloc, &ranged.solved.end, to)?;
+        print_answer(alloc, &ranged.end, to)?;
         match &ranged.ranging {
             Some(ranging) => print_all(alloc, ranging, model, to),
             None => Ok(()),

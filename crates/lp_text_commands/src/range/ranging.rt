@@ -16,14 +16,14 @@ use lp_form::{Basis, form};
 use lp_frac::{Past, Stop};
 use lp_model::Model;
 use lp_range::{Range, Ranging};
-use lp_solve::{End, OPENING_BUDGET, Solved, solve};
+use lp_solve::{End, OPENING_BUDGET, solve};
 use spec_program::Moved;
 use std::alloc::{AllocError, Global};
 
 /// What a solve ended with, and what the numbers of the model are ranged by, behind an optimum.
 #[derive(Drop)]
 pub(crate) struct Ranged {
-    pub solved: Solved,
+    pub end: End,
     pub ranging: Option<Ranging>,
 }
 
@@ -32,11 +32,11 @@ pub(crate) fn solve_ranging(alloc: Global, model: &Model) -> Result<Ranged, Allo
     requires { IsUsual model.now }
     ensures { IfOk result (IsRanged model.now) }
 {
-    let solved = solve(alloc, model, OPENING_BUDGET, None)?;
-    match ranging_behind(alloc, model, &solved.end) {
-        Ok(ranging) => Ok(Ranged { solved, ranging }),
+    let (end, _) = solve(alloc, model, OPENING_BUDGET, None)?;
+    match ranging_behind(alloc, model, &end) {
+        Ok(ranging) => Ok(Ranged { end, ranging }),
         Err(AllocError) => {
-            drop(solved);
+            drop(end);
             Err(AllocError)
         }
     }

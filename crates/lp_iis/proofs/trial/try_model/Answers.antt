@@ -7,5 +7,5 @@ use Rattle.lp_iis.proofs.trial.try_model.Goals as goal
 pub returns : goal.returns
 returns c =
     subst (IsTried c.args.budget c.args.model.now) (sym c.said_by.ensures)
-    (tried c.args.budget c.args.model.now c.in_ok-solved.solved.end
-    (ends_cold c.args.model.now c.args.budget c.in_ok-solved.solved c.in_ok-solved.ensures))
+    (tried c.args.budget c.args.model.now c.in_ok-end.end
+    (ends_cold c.args.model.now c.args.budget _ c.in_ok-end.ensures))

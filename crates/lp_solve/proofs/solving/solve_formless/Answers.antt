@@ -13,7 +13,7 @@ checked_cold-requires-clause-never_no c =
 
 pub returns-in-Cause-clause-solved : goal.returns-in-Cause-clause-solved
 returns-in-Cause-clause-solved c budget =
-    cold_is_solved budget c.args.model.now _ _ c.ended_cold.ensures
+    cold_is_solved budget c.args.model.now _
     (formless _ _ _ _ _ (form_clash _ _ _ c.in-Cause.is c.requires) c.checked_cold.ensures.answer)
     c.checked_cold.ensures.narrow
 
@@ -22,7 +22,7 @@ returns-in-Cause-clause-formless c = (_, form_clash _ _ _ c.in-Cause.is c.requir
 
 pub returns-in-Past-clause-solved : goal.returns-in-Past-clause-solved
 returns-in-Past-clause-solved c budget =
-    cold_is_solved budget c.args.model.now _ _ c.ended_cold-in-Past.ensures
+    cold_is_solved budget c.args.model.now _
     (formless _ _ _ _ _ (form_stop _ _ _ c.in-Past.is c.requires) refl) tt
 
 pub returns-in-Past-clause-formless : goal.returns-in-Past-clause-formless
