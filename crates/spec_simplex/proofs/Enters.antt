@@ -18,7 +18,7 @@ use Rattle.spec_simplex.specs.declared.ends.Entering.{Entering}
 use Rattle.spec_simplex.specs.Tableau.{Tableau, form_columns, all_columns, reduced_at}
 use Rattle.spec_simplex.specs.Tableau.{status_at, lower_at, upper_at, is_fixed}
 use Rattle.spec_simplex.specs.Step.{way_by, way_at, or_enters, entering_below, entering}
-use Rattle.spec_simplex.specs.Tables.{way, table_of, KeepsBounds}
+use Rattle.spec_simplex.specs.Tables.{table_of, KeepsBounds}
 use Rattle.spec_simplex.proofs.ListIndices.{by_lt}
 use Rattle.spec_simplex.proofs.Pivots.{enters_before}
 
@@ -37,49 +37,49 @@ fixed_test l u v p q = ap₂ is_fixed p q ∙ eq_test v v refl
 way_by_none : (s : Status) (d : ℚ) (w : Way) → way_by s d ≡ None → CanMove w s → Improves w d → ⊥
 way_by_none Basic d Up e c i = c
 way_by_none Basic d Down e c i = c
-way_by_none AtLower d Up e c i = let z : None ≡ Some true = sym e ∙ rw (lt_test d 0ℚ i) refl in cc
+way_by_none AtLower d Up e c i = let z : None ≡ Some Up = sym e ∙ rw (lt_test d 0ℚ i) refl in cc
 way_by_none AtLower d Down e c i = c
 way_by_none AtUpper d Up e c i = c
-way_by_none AtUpper d Down e c i = let z : None ≡ Some false = sym e ∙ rw (lt_test 0ℚ d i) refl in cc
-way_by_none AtZero d Up e c i = let z : None ≡ Some true = sym e ∙ rw (lt_test d 0ℚ i) refl in cc
+way_by_none AtUpper d Down e c i = let z : None ≡ Some Down = sym e ∙ rw (lt_test 0ℚ d i) refl in cc
+way_by_none AtZero d Up e c i = let z : None ≡ Some Up = sym e ∙ rw (lt_test d 0ℚ i) refl in cc
 way_by_none AtZero d Down e c i = by (lt_ℚ d 0ℚ) e
   where
-    by : (t : Bool) → cond t (Some true) (cond (lt_ℚ 0ℚ d) (Some false) None) ≡ None → ⊥
-    by true e = let z : Some true ≡ None = e in cc
-    by false e = let z : None ≡ Some false = sym e ∙ rw (lt_test 0ℚ d i) refl in cc
+    by : (t : Bool) → cond t (Some Up) (cond (lt_ℚ 0ℚ d) (Some Down) None) ≡ None → ⊥
+    by true e = let z : Some Up ≡ None = e in cc
+    by false e = let z : None ≡ Some Down = sym e ∙ rw (lt_test 0ℚ d i) refl in cc
 
 record Goes (w : Way) (s : Status) (d : ℚ) : Type 0 where
   status : CanMove w s
   improves : Improves w d
 
 -- a move the way that the test gives is allowed and lowers the cost
-way_by_some : (s : Status) (d : ℚ) (up : Bool) → way_by s d ≡ Some up → Goes (way up) s d
-way_by_some Basic d up e = let z : None ≡ Some up = e in cc
-way_by_some AtLower d up e = by (lt_ℚ d 0ℚ) refl e
+way_by_some : (s : Status) (d : ℚ) (way : Way) → way_by s d ≡ Some way → Goes way s d
+way_by_some Basic d way e = let z : None ≡ Some way = e in cc
+way_by_some AtLower d way e = by (lt_ℚ d 0ℚ) refl e
   where
-    by : (t : Bool) → lt_ℚ d 0ℚ ≡ t → cond t (Some true) None ≡ Some up → Goes (way up) AtLower d
+    by : (t : Bool) → lt_ℚ d 0ℚ ≡ t → cond t (Some Up) None ≡ Some way → Goes way AtLower d
     by true t e =
-        let z : true ≡ up = cc in
-        subst (λ up. Goes (way up) AtLower d) z (record { status = tt; improves = lt_if d 0ℚ t })
-    by false t e = let z : None ≡ Some up = e in cc
-way_by_some AtUpper d up e = by (lt_ℚ 0ℚ d) refl e
+        let z : Up ≡ way = cc in
+        subst (λ way. Goes way AtLower d) z (record { status = tt; improves = lt_if d 0ℚ t })
+    by false t e = let z : None ≡ Some way = e in cc
+way_by_some AtUpper d way e = by (lt_ℚ 0ℚ d) refl e
   where
-    by : (t : Bool) → lt_ℚ 0ℚ d ≡ t → cond t (Some false) None ≡ Some up → Goes (way up) AtUpper d
+    by : (t : Bool) → lt_ℚ 0ℚ d ≡ t → cond t (Some Down) None ≡ Some way → Goes way AtUpper d
     by true t e =
-        let z : false ≡ up = cc in
-        subst (λ up. Goes (way up) AtUpper d) z (record { status = tt; improves = lt_if 0ℚ d t })
-    by false t e = let z : None ≡ Some up = e in cc
-way_by_some AtZero d up e = by (lt_ℚ d 0ℚ) (lt_ℚ 0ℚ d) refl refl e
+        let z : Down ≡ way = cc in
+        subst (λ way. Goes way AtUpper d) z (record { status = tt; improves = lt_if 0ℚ d t })
+    by false t e = let z : None ≡ Some way = e in cc
+way_by_some AtZero d way e = by (lt_ℚ d 0ℚ) (lt_ℚ 0ℚ d) refl refl e
   where
-    by : (t s : Bool) → lt_ℚ d 0ℚ ≡ t → lt_ℚ 0ℚ d ≡ s → cond t (Some true) (cond s (Some false) None) ≡ Some up →
-        Goes (way up) AtZero d
+    by : (t s : Bool) → lt_ℚ d 0ℚ ≡ t → lt_ℚ 0ℚ d ≡ s → cond t (Some Up) (cond s (Some Down) None) ≡ Some way →
+        Goes way AtZero d
     by true s t _ e =
-        let z : true ≡ up = cc in
-        subst (λ up. Goes (way up) AtZero d) z (record { status = tt; improves = lt_if d 0ℚ t })
+        let z : Up ≡ way = cc in
+        subst (λ way. Goes way AtZero d) z (record { status = tt; improves = lt_if d 0ℚ t })
     by false true t s e =
-        let z : false ≡ up = cc in
-        subst (λ up. Goes (way up) AtZero d) z (record { status = tt; improves = lt_if 0ℚ d s })
-    by false false t s e = let z : None ≡ Some up = e in cc
+        let z : Down ≡ way = cc in
+        subst (λ way. Goes way AtZero d) z (record { status = tt; improves = lt_if 0ℚ d s })
+    by false false t s e = let z : None ≡ Some way = e in cc
 
 -- ---- a column of a tableau
 module _ (b : Bounds) (t : Tableau) (keeps : KeepsBounds b t) where
@@ -105,15 +105,15 @@ module _ (b : Bounds) (t : Tableau) (keeps : KeepsBounds b t) where
       by true c e = el.may_enter.1 (fixed_at k before c)
       by false c e = way_by_none (status_at t k) (reduced_at t k) w e el.status el.improves
 
-  eligible_at : (k : ℕ) (up : Bool) → k < all_columns t → way_at t k ≡ Some up → IsEligible b (table_of t) (way up) k
-  eligible_at k up k_in e = by (is_fixed (lower_at t k) (upper_at t k)) refl e
+  eligible_at : (k : ℕ) (way : Way) → k < all_columns t → way_at t k ≡ Some way → IsEligible b (table_of t) way k
+  eligible_at k way k_in e = by (is_fixed (lower_at t k) (upper_at t k)) refl e
     where
       by : (c : Bool) → is_fixed (lower_at t k) (upper_at t k) ≡ c →
-          cond c None (way_by (status_at t k) (reduced_at t k)) ≡ Some up → IsEligible b (table_of t) (way up) k
-      by true c e = let z : None ≡ Some up = e in cc
+          cond c None (way_by (status_at t k) (reduced_at t k)) ≡ Some way → IsEligible b (table_of t) way k
+      by true c e = let z : None ≡ Some way = e in cc
       by false c e =
-          let goes : Goes (way up) (status_at t k) (reduced_at t k) =
-          way_by_some (status_at t k) (reduced_at t k) up e in
+          let goes : Goes way (status_at t k) (reduced_at t k) =
+          way_by_some (status_at t k) (reduced_at t k) way e in
           by_lt k (form_columns t)
           (λ l. record {
             may_enter = (keeps.entering k l, λ v. let z : false ≡ true = sym c ∙ not_fixed_at k l v in cc);
@@ -121,51 +121,51 @@ module _ (b : Bounds) (t : Tableau) (keeps : KeepsBounds b t) where
             improves = goes.improves;
           })
           (λ l. by_basic (status_at t k)
-          (λ s. let z : None ≡ Some up = sym (ap (λ s. way_by s (reduced_at t k)) s) ∙ e in cc)
+          (λ s. let z : None ≡ Some way = sym (ap (λ s. way_by s (reduced_at t k)) s) ∙ e in cc)
           (λ s. let z : false ≡ true = sym c ∙ fixed_test (lower_at t k) (upper_at t k) 0ℚ
           (keeps.lower k k_in ∙ keeps.zero k l k_in) (keeps.fixed k l k_in s) in cc))
 
   -- ---- the least of many
   record EntersBelow (n : ℕ) (e : Entering) : Type 0 where
     inside : e.col < n
-    way_there : way_at t e.col ≡ Some e.up
+    way_there : way_at t e.col ≡ Some e.direction
     least : (k : ℕ) → k < e.col → way_at t k ≡ None
 
   none_below : (n : ℕ) → entering_below t n ≡ None → (k : ℕ) → k < n → way_at t k ≡ None
   none_below zero h k l = absurd (let z : ⊥ = omega (arith, l) in z)
   none_below (suc n) h k l = by (entering_below t n) (way_at t n) refl h (λ p z. none_below n p k (omega (arith, l, z)))
     where
-      by : (e : Option Entering) (w : Option Bool) → way_at t n ≡ w → or_enters e n w ≡ None →
+      by : (e : Option Entering) (w : Option Way) → way_at t n ≡ w → or_enters e n w ≡ None →
           (e ≡ None → k ≢ n → way_at t k ≡ None) → way_at t k ≡ None
       by (Some e) w q h before = let z : Some e ≡ None = h in cc
-      by None (Some up) q h before =
-          let z : ◌≡◌ {A = Option Entering} (Some (record { col = n; up = up })) None = h in cc
+      by None (Some way) q h before =
+          let z : ◌≡◌ {A = Option Entering} (Some (record { col = n; direction = way })) None = h in cc
       by None None q h before = by_eq k n (λ z. ap (way_at t) z ∙ q) (before refl)
 
   some_below : (n : ℕ) (x : Entering) → entering_below t n ≡ Some x → EntersBelow n x
   some_below zero x h = let z : None ≡ Some x = h in cc
   some_below (suc n) x h = by (entering_below t n) (way_at t n) refl refl h (λ p. some_below n x p)
     where
-      by : (e : Option Entering) (w : Option Bool) → entering_below t n ≡ e → way_at t n ≡ w →
+      by : (e : Option Entering) (w : Option Way) → entering_below t n ≡ e → way_at t n ≡ w →
           or_enters e n w ≡ Some x → (entering_below t n ≡ Some x → EntersBelow n x) → EntersBelow (suc n) x
       by (Some e) w p q h before =
           let z : Some e ≡ Some x = h in
           let there : EntersBelow n x = before (p ∙ z) in
           record { inside = omega (arith, there.inside); way_there = there.way_there; least = there.least }
       by None None p q h before = let z : None ≡ Some x = h in cc
-      by None (Some up) p q h before =
-          let z : ◌≡◌ {A = Entering} (record { col = n; up = up }) x = cc in
+      by None (Some way) p q h before =
+          let z : ◌≡◌ {A = Entering} (record { col = n; direction = way }) x = cc in
           subst (EntersBelow (suc n)) z
           (record { inside = omega arith; way_there = q; least = λ k l. none_below n p k l })
 
   pub no_entering : entering t ≡ None → (w : Way) (k : ℕ) → k < all_columns t → ¬ (IsEligible b (table_of t) w k)
   no_entering h w k l = none_at k (none_below (all_columns t) h k l) w
 
-  pub an_entering : (x : Entering) → entering t ≡ Some x → Enters (all_columns t) b (table_of t) (way x.up) x.col
+  pub an_entering : (x : Entering) → entering t ≡ Some x → Enters (all_columns t) b (table_of t) x.direction x.col
   an_entering x h =
       let there : EntersBelow (all_columns t) x = some_below (all_columns t) x h in
       record {
         in_range = there.inside;
-        eligible = eligible_at x.col x.up there.inside there.way_there;
+        eligible = eligible_at x.col x.direction there.inside there.way_there;
         least = λ k w l. none_at k (there.least k l) w;
       }

@@ -1,11 +1,13 @@
 -- A flip of the run is a flip of the table.
-use Rattle.std.proofs.Common.{◌≡◌, ◌≢◌, ℕ, ◌<◌, List, length, Option, None, Ok, Bool, true}
+use Rattle.std.proofs.Common.{◌≡◌, ◌≢◌, ℕ, ◌<◌, List, length, Option, None, Ok, true}
 use Rattle.std.proofs.Common.{false, refl, sym, ap, ap₂, ◌∙◌, subst, arith, eq-eqb, ne_eqb}
 use Rattle.std.proofs.lemmas.List.{length-set, get_or-set_same, get_or-set_other}
 use Rattle.spec_exact.specs.Fraction.{ℚ, 0ℚ, 1ℚ, ◌-ℚ◌, ◌*ℚ◌, neg_ℚ}
 use Rattle.spec_exact.proofs.Ruleset.{ring}
 use Rattle.spec_pivot.specs.declared.status.Status.{Status}
 use Rattle.spec_pivot.specs.declared.status.Status.TheVariants.{Basic}
+use Rattle.spec_pivot.specs.declared.status.Way.{Way}
+use Rattle.spec_pivot.specs.declared.status.Way.TheVariants.{Up, Down}
 use Rattle.spec_pivot.specs.Tableau.{Matrix}
 use Rattle.spec_pivot.specs.Simplex.{Bounds, IsTableau, sign, moved, status_set, after_flip, Crosses}
 use Rattle.spec_pivot.proofs.Pivot.{by_eq}
@@ -14,7 +16,7 @@ use Rattle.spec_exact.specs.Run.{Run, ◌>>=◌, difference_run}
 use Rattle.spec_simplex.specs.Tableau.{Tableau, form_columns, all_columns, value_at}
 use Rattle.spec_simplex.specs.Tableau.{status_at, lower_at, upper_at, or_zero, stand}
 use Rattle.spec_simplex.specs.Step.{directed, other_bound, moved_run, flip_way, flipped, flip_run}
-use Rattle.spec_simplex.specs.Tables.{way, table_of, IsWhole, KeepsBounds}
+use Rattle.spec_simplex.specs.Tables.{table_of, IsWhole, KeepsBounds}
 use Rattle.spec_simplex.proofs.RunParts.{then_ok, difference_ok}
 use Rattle.spec_simplex.proofs.ListIndices.{set_reads}
 use Rattle.spec_simplex.proofs.Moved.{moved_length, moved_ray}
@@ -22,23 +24,23 @@ use Rattle.spec_simplex.proofs.Tables.{same_table, stand_is}
 use Rattle.spec_simplex.proofs.Pivots.{Leaves, enters_before}
 
 -- a number turned as the entering column moves is the number times the sign of its way
-pub directed_is : (up : Bool) (v : ℚ) → directed up v ≡ sign (way up) *ℚ v
-directed_is true v = up v
+pub directed_is : (way : Way) (v : ℚ) → directed way v ≡ sign way *ℚ v
+directed_is Up v = rise v
   where
-    up : (v : ℚ) → v ≡ 1ℚ *ℚ v
-    up v = simp ring
-directed_is false v = down v
+    rise : (v : ℚ) → v ≡ 1ℚ *ℚ v
+    rise v = simp ring
+directed_is Down v = fall v
   where
-    down : (v : ℚ) → neg_ℚ v ≡ neg_ℚ 1ℚ *ℚ v
-    down v = simp ring
+    fall : (v : ℚ) → neg_ℚ v ≡ neg_ℚ 1ℚ *ℚ v
+    fall v = simp ring
 
 module _ (limit : Option ℕ) (t : Tableau) (w : IsWhole t) (f : Matrix) (cost : ℕ → ℚ) (b : Bounds)
     (g : IsTableau t.rows (all_columns t) f cost b (table_of t)) (keeps : KeepsBounds b t)
-    (up : Bool) (j : ℕ) (ratio : ℚ)
-    (v : Crosses t.rows (all_columns t) b (table_of t) (way up) j ratio (other_bound up))
+    (way : Way) (j : ℕ) (ratio : ℚ)
+    (v : Crosses t.rows (all_columns t) b (table_of t) way j ratio (other_bound way))
     (open_ : b.barred j ≡ false) where
   abbrev to : Status
-  to = other_bound up
+  to = other_bound way
 
   j_in : j < all_columns t
   j_in = v.in_range
@@ -46,7 +48,7 @@ module _ (limit : Option ℕ) (t : Tableau) (w : IsWhole t) (f : Matrix) (cost :
   j_before : j < form_columns t
   j_before = enters_before b t j keeps open_
 
-  module _ (theta : ℚ) (same : theta ≡ sign (way up) *ℚ ratio) (values : List ℚ)
+  module _ (theta : ℚ) (same : theta ≡ sign way *ℚ ratio) (values : List ℚ)
       (values_ok : moved_run limit t j theta None ≡ Ok values) where
     abbrev u : Tableau
     u = flipped t j to values
@@ -66,23 +68,23 @@ module _ (limit : Option ℕ) (t : Tableau) (w : IsWhole t) (f : Matrix) (cost :
       all_upper = w.all_upper;
     }
 
-    value_is : (k : ℕ) → value_at u k ≡ moved t.rows (table_of t) (way up) j ratio k
+    value_is : (k : ℕ) → value_at u k ≡ moved t.rows (table_of t) way j ratio k
     value_is k =
         by_eq k j
-        (λ e. subst (λ k. value_at u k ≡ moved t.rows (table_of t) (way up) j ratio k) (sym e)
+        (λ e. subst (λ k. value_at u k ≡ moved t.rows (table_of t) way j ratio k) (sym e)
         (get_or-set_same values j (stand to (lower_at t j) (upper_at t j)) 0ℚ (omega (arith, values_length, j_in))
         ∙ ap₂ (stand to) (keeps.lower j j_in) (keeps.upper j j_before)
-        ∙ stand_is to (b.lower j) (b.upper j) (moved t.rows (table_of t) (way up) j ratio j) v.to_nonbasic v.lands))
+        ∙ stand_is to (b.lower j) (b.upper j) (moved t.rows (table_of t) way j ratio j) v.to_nonbasic v.lands))
         (λ o. get_or-set_other values j k (stand to (lower_at t j) (upper_at t j)) 0ℚ o
-        ∙ moved_ray limit t w f cost b g j theta None values values_ok (way up) (outside t.rows
+        ∙ moved_ray limit t w f cost b g j theta None values values_ok way (outside t.rows
         (all_columns t) f cost b (table_of t) g j v.nonbasic) ratio same k o (λ r l s. let z : false ≡ true = s in cc))
 
     status_is : (k : ℕ) → status_at u k ≡ status_set (status_at t) j to k
     status_is k = set_reads t.status j to Basic (omega (arith, w.all_statuses, j_in)) k
 
-    table_is : table_of u ≡ after_flip t.rows (table_of t) (way up) j ratio to
+    table_is : table_of u ≡ after_flip t.rows (table_of t) way j ratio to
     table_is =
-        same_table (table_of u) (after_flip t.rows (table_of t) (way up) j ratio to)
+        same_table (table_of u) (after_flip t.rows (table_of t) way j ratio to)
         (λ i k. refl) (λ i. refl) value_is (λ k. refl) status_is
 
     status_other : (k : ℕ) → k ≢ j → status_at u k ≡ status_at t k
@@ -107,25 +109,25 @@ module _ (limit : Option ℕ) (t : Tableau) (w : IsWhole t) (f : Matrix) (cost :
           (λ d. keeps.fixed k h l (λ y. s (status_other k d ∙ y)));
     }
 
-    leaves : Leaves b t u (after_flip t.rows (table_of t) (way up) j ratio to)
+    leaves : Leaves b t u (after_flip t.rows (table_of t) way j ratio to)
     leaves = record { rows = refl; cols = refl; whole = u_whole; table = table_is; bounds = u_bounds }
 
-  flip_by : Bool → Run Tableau
+  flip_by : Way → Run Tableau
   flip_by c =
       difference_run limit (or_zero (upper_at t j)) (or_zero (lower_at t j)) >>= λ range.
       moved_run limit t j (directed c range) None >>= λ values. Ok (flipped t j (other_bound c) values)
 
-  pub flip_leaves : (u : Tableau) → flip_way (status_at t j) ≡ up →
+  pub flip_leaves : (u : Tableau) → flip_way (status_at t j) ≡ way →
       ratio ≡ or_zero (upper_at t j) -ℚ or_zero (lower_at t j) → flip_run limit t j ≡ Ok u
-      → Leaves b t u (after_flip t.rows (table_of t) (way up) j ratio to)
+      → Leaves b t u (after_flip t.rows (table_of t) way j ratio to)
   unfolding flip_run flip_by
   flip_leaves u e length h =
-      let h' : flip_by up ≡ Ok u = ap flip_by (sym e) ∙ h in
+      let h' : flip_by way ≡ Ok u = ap flip_by (sym e) ∙ h in
       let a = then_ok (difference_run limit (or_zero (upper_at t j)) (or_zero (lower_at t j))) _ u h' in
-      let c = then_ok (moved_run limit t j (directed up a.0) None) _ u a.2 in
-      let z : flipped t j (other_bound up) c.0 ≡ u = cc in
-      let same : directed up a.0 ≡ sign (way up) *ℚ ratio =
-      ap (directed up) (difference_ok limit (or_zero (upper_at t j)) (or_zero (lower_at t j)) a.0 a.1 ∙ sym length)
-      ∙ directed_is up ratio in
-      subst (λ u. Leaves b t u (after_flip t.rows (table_of t) (way up) j ratio to)) z
-      (leaves (directed up a.0) same c.0 c.1)
+      let c = then_ok (moved_run limit t j (directed way a.0) None) _ u a.2 in
+      let z : flipped t j (other_bound way) c.0 ≡ u = cc in
+      let same : directed way a.0 ≡ sign way *ℚ ratio =
+      ap (directed way) (difference_ok limit (or_zero (upper_at t j)) (or_zero (lower_at t j)) a.0 a.1 ∙ sym length)
+      ∙ directed_is way ratio in
+      subst (λ u. Leaves b t u (after_flip t.rows (table_of t) way j ratio to)) z
+      (leaves (directed way a.0) same c.0 c.1)

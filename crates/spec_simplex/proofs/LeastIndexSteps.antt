@@ -3,10 +3,12 @@
 -- `ahead_is`: the bound that lies ahead of a column on its way is the other bound that the run names.
 -- `way_is`: a column with a lower bound flips the way in which it may enter.
 -- `choice_is_meant`: what the run chooses in a tableau within its bounds is an end, a flip or a pivot by the rule.
-use Rattle.std.proofs.Common.{◌≡◌, ℕ, ◌+◌, Option, Some, None, Ok, Bool, true, false, refl, sym, ◌∙◌, subst, subst₂}
+use Rattle.std.proofs.Common.{◌≡◌, ℕ, ◌+◌, Option, Some, None, Ok, refl, sym, ◌∙◌, subst, subst₂}
 use Rattle.spec_exact.specs.Fraction.{ℚ}
 use Rattle.spec_pivot.specs.declared.status.Status.{Status}
 use Rattle.spec_pivot.specs.declared.status.Status.TheVariants.{Basic, AtLower, AtUpper, AtZero}
+use Rattle.spec_pivot.specs.declared.status.Way.{Way}
+use Rattle.spec_pivot.specs.declared.status.Way.TheVariants.{Up, Down}
 use Rattle.spec_pivot.specs.Tableau.{Matrix}
 use Rattle.spec_pivot.specs.Simplex.{Bounds, Table, IsTableau, IsWithin, CanMove, Stands, Enters}
 use Rattle.spec_pivot.specs.Simplex.{after_pivot, after_flip, Pivots, Flips, Label, IsStep}
@@ -25,27 +27,27 @@ use Rattle.spec_simplex.specs.declared.ends.Choice.TheVariants.{End}
 use Rattle.spec_simplex.specs.Tableau.{Tableau, all_columns, status_at}
 use Rattle.spec_simplex.specs.Step.{entering, directed, other_bound, best_run, choice_at, choice_by}
 use Rattle.spec_simplex.specs.Step.{choice_of, choice_run, flip_way, flip_run, pivot_run}
-use Rattle.spec_simplex.specs.Tables.{way, table_of, IsWhole, KeepsBounds, IsTableauOf, IsWithinBounds, StepsTo, IsMeant}
+use Rattle.spec_simplex.specs.Tables.{table_of, IsWhole, KeepsBounds, IsTableauOf, IsWithinBounds, StepsTo, IsMeant}
 use Rattle.spec_simplex.proofs.RunParts.{then_ok}
 use Rattle.spec_simplex.proofs.Enters.{no_entering, an_entering}
 use Rattle.spec_simplex.proofs.Pivots.{Leaves, pivot_leaves}
 use Rattle.spec_simplex.proofs.Flips.{directed_is, flip_leaves}
 use Rattle.spec_simplex.proofs.Tests.{plain, IsRange, no_best, a_best, best_range, best_ahead}
 
-pub ahead_is : (up : Bool) → bound_ahead (way up) ≡ other_bound up
-ahead_is true = refl
-ahead_is false = refl
+pub ahead_is : (way : Way) → bound_ahead way ≡ other_bound way
+ahead_is Up = refl
+ahead_is Down = refl
 
 -- a column with a lower bound flips the way that it enters
-pub way_is : (s : Status) (up : Bool) (l u : Option ℚ) (v low : ℚ) → l ≡ Some low → CanMove (way up) s →
-    Stands s l u v → flip_way s ≡ up
-way_is Basic true l u v low e c s = absurd c
-way_is Basic false l u v low e c s = absurd c
-way_is AtLower true l u v low e c s = refl
-way_is AtLower false l u v low e c s = absurd c
-way_is AtUpper true l u v low e c s = absurd c
-way_is AtUpper false l u v low e c s = refl
-way_is AtZero up l u v low e c s = let z : None ≡ Some low = sym s.0 ∙ e in cc
+pub way_is : (s : Status) (way : Way) (l u : Option ℚ) (v low : ℚ) → l ≡ Some low → CanMove way s →
+    Stands s l u v → flip_way s ≡ way
+way_is Basic Up l u v low e c s = absurd c
+way_is Basic Down l u v low e c s = absurd c
+way_is AtLower Up l u v low e c s = refl
+way_is AtLower Down l u v low e c s = absurd c
+way_is AtUpper Up l u v low e c s = absurd c
+way_is AtUpper Down l u v low e c s = refl
+way_is AtZero way l u v low e c s = let z : None ≡ Some low = sym s.0 ∙ e in cc
 
 module _ (limit : Option ℕ) (t : Tableau) (w : IsWhole t) (f : Matrix) (cost : ℕ → ℚ)
     (b : Bounds) (g : IsTableau t.rows (all_columns t) f cost b (table_of t))
@@ -68,61 +70,61 @@ module _ (limit : Option ℕ) (t : Tableau) (w : IsWhole t) (f : Matrix) (cost :
     within = subst (IsWithin (all_columns t) b) (sym left.table) inside;
   }
 
-  module _ (e : Entering) (enters : Enters (all_columns t) b (table_of t) (way e.up) e.col) where
+  module _ (e : Entering) (enters : Enters (all_columns t) b (table_of t) e.direction e.col) where
     pivots_to : (x : Best ℚ) → best_run limit t e ≡ Ok (Some x) → (p : ℕ) → x.place ≡ Some p → (u : Tableau) →
-        pivot_run limit t p e.col (directed e.up x.ratio) x.to ≡ Ok u → StepsTo t.rows t.cols f cost b t u
+        pivot_run limit t p e.col (directed e.direction x.ratio) x.to ≡ Ok u → StepsTo t.rows t.cols f cost b t u
     pivots_to x found p at u h =
-        let best : best_of t.rows b (table_of t) (way e.up) e.col ≡ Some (plain x) =
+        let best : best_of t.rows b (table_of t) e.direction e.col ≡ Some (plain x) =
         a_best limit t w f cost b g keeps e enters x found in
-        let v : Pivots t.rows (all_columns t) b (table_of t) (way e.up) e.col p x.ratio x.to =
-        subst (Pivots t.rows (all_columns t) b (table_of t) (way e.up) e.col p x.ratio)
+        let v : Pivots t.rows (all_columns t) b (table_of t) e.direction e.col p x.ratio x.to =
+        subst (Pivots t.rows (all_columns t) b (table_of t) e.direction e.col p x.ratio)
         (sym (best_ahead limit t w f cost b g keeps e enters x found p at))
         (best_pivots t.rows (all_columns t) f cost b (table_of t)
-        (way e.up) e.col g within enters (plain x) best p at) in
-        steps_to u (after_pivot t.rows (table_of t) (way e.up) e.col p x.ratio x.to)
-        (record { kind = kind.Pivot; way = way e.up; column = e.col; position = p; theta = x.ratio; to = x.to })
-        (pivot_leaves limit t w f cost b g keeps (way e.up) e.col p x.ratio x.to
-        (pivot_exchanges t.rows (all_columns t) f cost b (table_of t) g (way e.up) e.col p x.ratio x.to v)
+        e.direction e.col g within enters (plain x) best p at) in
+        steps_to u (after_pivot t.rows (table_of t) e.direction e.col p x.ratio x.to)
+        (record { kind = kind.Pivot; way = e.direction; column = e.col; position = p; theta = x.ratio; to = x.to })
+        (pivot_leaves limit t w f cost b g keeps e.direction e.col p x.ratio x.to
+        (pivot_exchanges t.rows (all_columns t) f cost b (table_of t) g e.direction e.col p x.ratio x.to v)
         enters.eligible.may_enter.0 u
-        (subst (λ theta. pivot_run limit t p e.col theta x.to ≡ Ok u) (directed_is e.up x.ratio) h))
+        (subst (λ theta. pivot_run limit t p e.col theta x.to ≡ Ok u) (directed_is e.direction x.ratio) h))
         (v, refl)
-        (stays_within t.rows (all_columns t) f cost b (table_of t) (way e.up) e.col x.ratio g within enters
-        (best_has_room t.rows (all_columns t) f cost b (table_of t) (way e.up) e.col g within enters (plain x) best))
+        (stays_within t.rows (all_columns t) f cost b (table_of t) e.direction e.col x.ratio g within enters
+        (best_has_room t.rows (all_columns t) f cost b (table_of t) e.direction e.col g within enters (plain x) best))
 
     flips_to : (x : Best ℚ) → best_run limit t e ≡ Ok (Some x) → x.place ≡ None → (u : Tableau) →
         flip_run limit t e.col ≡ Ok u → StepsTo t.rows t.cols f cost b t u
     flips_to x found at u h =
-        let best : best_of t.rows b (table_of t) (way e.up) e.col ≡ Some (plain x) =
+        let best : best_of t.rows b (table_of t) e.direction e.col ≡ Some (plain x) =
         a_best limit t w f cost b g keeps e enters x found in
         let own : IsRange t e x = best_range limit t w f cost b g keeps e enters x found at in
-        let v : Flips t.rows (all_columns t) b (table_of t) (way e.up) e.col x.ratio (other_bound e.up) =
-        subst (Flips t.rows (all_columns t) b (table_of t) (way e.up) e.col x.ratio) (ahead_is e.up)
-        (best_flips t.rows (all_columns t) f cost b (table_of t) (way e.up) e.col g within enters (plain x) best at) in
-        steps_to u (after_flip t.rows (table_of t) (way e.up) e.col x.ratio (other_bound e.up))
+        let v : Flips t.rows (all_columns t) b (table_of t) e.direction e.col x.ratio (other_bound e.direction) =
+        subst (Flips t.rows (all_columns t) b (table_of t) e.direction e.col x.ratio) (ahead_is e.direction)
+        (best_flips t.rows (all_columns t) f cost b (table_of t) e.direction e.col g within enters (plain x) best at) in
+        steps_to u (after_flip t.rows (table_of t) e.direction e.col x.ratio (other_bound e.direction))
         (record {
           kind = kind.Flip;
-          way = way e.up;
+          way = e.direction;
           column = e.col;
           position = 0;
           theta = x.ratio;
-          to = other_bound e.up;
+          to = other_bound e.direction;
         })
-        (flip_leaves limit t w f cost b g keeps e.up e.col x.ratio
+        (flip_leaves limit t w f cost b g keeps e.direction e.col x.ratio
         (flip_crosses t.rows (all_columns t) f cost b (table_of t) g
-        (way e.up) e.col enters x.ratio (other_bound e.up) v) enters.eligible.may_enter.0 u
-        (way_is (status_at t e.col) e.up (b.lower e.col) (b.upper e.col) _ own.bottom.0
+        e.direction e.col enters x.ratio (other_bound e.direction) v) enters.eligible.may_enter.0 u
+        (way_is (status_at t e.col) e.direction (b.lower e.col) (b.upper e.col) _ own.bottom.0
         (sym (keeps.lower e.col enters.in_range) ∙ own.bottom.1) enters.eligible.status
         (g.stands e.col enters.in_range))
         own.ratio h)
         (v, refl)
-        (stays_within t.rows (all_columns t) f cost b (table_of t) (way e.up) e.col x.ratio g within enters
-        (best_has_room t.rows (all_columns t) f cost b (table_of t) (way e.up) e.col g within enters (plain x) best))
+        (stays_within t.rows (all_columns t) f cost b (table_of t) e.direction e.col x.ratio g within enters
+        (best_has_room t.rows (all_columns t) f cost b (table_of t) e.direction e.col g within enters (plain x) best))
 
     with_best : (best : Option (Best ℚ)) → best_run limit t e ≡ Ok best →
         IsMeant t.rows t.cols f cost b limit t (choice_by e best)
     with_best None h =
         none_goes_on t.rows (all_columns t) f cost b (table_of t)
-        (way e.up) e.col g within enters (no_best limit t w f cost b g keeps e enters h)
+        e.direction e.col g within enters (no_best limit t w f cost b g keeps e enters h)
     with_best (Some x) h = by x.place refl
       where
         by : (place : Option ℕ) → x.place ≡ place → IsMeant t.rows t.cols f cost b limit t (choice_at e x place)

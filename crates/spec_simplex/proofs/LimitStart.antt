@@ -3,7 +3,7 @@
 -- `ok`: a run that gives a result agrees with one that gives the same result.
 -- `also`: runs that agree, and go on with runs that agree, agree together.
 -- `form_without`: the form of a model at a limit is its form without one.
-use Rattle.std.proofs.Common.{◌≡◌, ℕ, ◌+◌, List, Option, Some, None, Ok, Bool, nat_eq, ⊎_elim, Result, Err, sym, ◌∙◌}
+use Rattle.std.proofs.Common.{◌≡◌, ℕ, ◌+◌, List, Option, Some, None, Ok, nat_eq, ⊎_elim, Result, Err, sym, ◌∙◌}
 use Rattle.std.specs.declared.cmp.Ordering.{Ordering}
 use Rattle.std.specs.declared.cmp.Ordering.TheVariants.{Less, Equal, Greater}
 use Rattle.spec_exact.specs.Fraction.{ℚ, 0ℚ, abs_ℚ, lt_ℚ}
@@ -21,6 +21,7 @@ use Rattle.spec_simplex.specs.Form.{clash_by, bounds_clash, column_clash, formed
 use Rattle.spec_simplex.specs.Start.{first_value, below_by, below_run, above_by, above_run, row_start_by}
 use Rattle.spec_simplex.specs.Start.{row_start, cost_at, reduced_run, priced_run, start_of}
 use Rattle.spec_simplex.specs.Tableau.{Tableau, all_columns, basic_at, entry_at, lower_at, upper_at, value_at}
+use Rattle.spec_pivot.specs.declared.status.Way.{Way}
 use Rattle.spec_simplex.specs.Step.{entering, range_run, rise_run, fall_run, directed, gap_run, better_run, with_gap}
 use Rattle.spec_simplex.specs.Step.{best_with, best_run, choice_of, choice_run, is_place, moved_at, moved_run}
 use Rattle.spec_simplex.specs.Step.{flip_run, scaled_run, cleared_run, shifted_run, turned_run, repriced_run, pivot_run}
@@ -128,11 +129,11 @@ module _ (limit : Option ℕ) where
   fall_agrees None v = ok _
   fall_agrees (Some l) v = also _ _ _ _ (agrees_difference limit v l) (λ gap. ok _)
 
-  gap_agrees : (up : Bool) (a : ℚ) (l u : Option ℚ) (v : ℚ) →
-      Agrees as_it_is (gap_run limit up a l u v) (gap_run None up a l u v)
-  gap_agrees up a l u v =
-      agrees_if as_it_is (lt_ℚ (directed up a) 0ℚ) _ _ _ _ (rise_agrees u v)
-      (agrees_if as_it_is (lt_ℚ 0ℚ (directed up a)) _ _ _ _ (fall_agrees l v) (ok _))
+  gap_agrees : (way : Way) (a : ℚ) (l u : Option ℚ) (v : ℚ) →
+      Agrees as_it_is (gap_run limit way a l u v) (gap_run None way a l u v)
+  gap_agrees way a l u v =
+      agrees_if as_it_is (lt_ℚ (directed way a) 0ℚ) _ _ _ _ (rise_agrees u v)
+      (agrees_if as_it_is (lt_ℚ 0ℚ (directed way a)) _ _ _ _ (fall_agrees l v) (ok _))
 
   better_agrees : (new : Best ℚ) (best : Option (Best ℚ)) →
       Agrees as_it_is (better_run limit new best) (better_run None new best)
@@ -148,7 +149,7 @@ module _ (limit : Option ℕ) where
   best_with_agrees : (t : Tableau) (e : Entering) (i : ℕ) (best : Option (Best ℚ)) →
       Agrees as_it_is (best_with limit t e i best) (best_with None t e i best)
   best_with_agrees t e i best =
-      also _ _ _ _ (gap_agrees e.up (entry_at t i e.col) (lower_at t (basic_at t i)) (upper_at t (basic_at t i))
+      also _ _ _ _ (gap_agrees e.direction (entry_at t i e.col) (lower_at t (basic_at t i)) (upper_at t (basic_at t i))
       (value_at t (basic_at t i))) (λ gap. with_gap_agrees i (basic_at t i) (entry_at t i e.col) best gap)
 
   pub best_agrees : (t : Tableau) (e : Entering) → Agrees as_it_is (best_run limit t e) (best_run None t e)

@@ -22,7 +22,7 @@ use Rattle.spec_simplex.specs.Start.{cost_at, first_costs, start_of}
 use Rattle.spec_simplex.specs.Tableau.{Tableau, is_artificial, basic_at, value_at, lower_at, upper_at}
 use Rattle.spec_simplex.specs.Phases.{PrimalEnded, wants_phase_one, is_stuck, phase_one, phase_two}
 use Rattle.spec_simplex.specs.Phases.{phase_two_run, run_from, PhasesEnd, Infeasible, Finished, phases_run}
-use Rattle.spec_simplex.specs.Tables.{way, table_of, bounds_of, IsTableauOf, IsWithinBounds, IsMeant}
+use Rattle.spec_simplex.specs.Tables.{table_of, bounds_of, IsTableauOf, IsWithinBounds, IsMeant}
 use Rattle.spec_simplex.specs.Begins.{form_rows, signs_of}
 use Rattle.spec_simplex.proofs.RunParts.{then_ok, refused_ok}
 use Rattle.spec_simplex.proofs.Walks.{IsEnd, run_ends, run_spent, few, stand_still}
@@ -108,11 +108,11 @@ module _ (limit : Option ℕ) (m : Model) (ls : List (Option ℚ × Option ℚ))
             none : (end : PrimalEnd) → IsMeant r w F first_cost_at (bounds_of t) limit one.tableau (End end) →
                 (way : Way) (k : ℕ) → k < w + r + r → ¬ (IsEligible (bounds_of t) (table_of one.tableau) way k)
             none Optimal m = m
-            none (Unbounded j up) g =
+            none (Unbounded j way) g =
                 absurd
                 (never_goes_on f s.starts s.all (bounds_of t) s.artificial (table_of one.tableau)
                 ((run_ends limit r w F first_cost_at
-                (bounds_of t) some_label budget 0 t one s.tableau s.within ok).after).tableau (way up) j g)
+                (bounds_of t) some_label budget 0 t one s.tableau s.within ok).after).tableau way j g)
         by false e ok =
             let z : ◌≡◌ {A = PrimalEnded} (record { end = Optimal; tableau = t; used = 0 }) one = cc in
             subst IsFirst z (record {

@@ -14,6 +14,8 @@ use Rattle.spec_exact.proofs.Ruleset.{neg-neg, neg-zero}
 use Rattle.spec_exact.proofs.Magnitudes.{abs_above, abs_below, below_turned, above_turned, turned_back, turned_down}
 use Rattle.spec_pivot.specs.declared.status.Status.{Status}
 use Rattle.spec_pivot.specs.declared.status.Status.TheVariants.{AtLower, AtUpper}
+use Rattle.spec_pivot.specs.declared.status.Way.{Way}
+use Rattle.spec_pivot.specs.declared.status.Way.TheVariants.{Up, Down}
 use Rattle.spec_pivot.specs.Tableau.{Matrix}
 use Rattle.spec_pivot.specs.Simplex.{Bounds, IsTableau, Enters, ray}
 use Rattle.spec_pivot.specs.Ratio.{room, room_at, is_better, take_room, scan, range_of, best_of, way_of, bound_ahead}
@@ -27,7 +29,7 @@ use Rattle.spec_simplex.specs.Tableau.{Tableau, form_columns, all_columns, basic
 use Rattle.spec_simplex.specs.Tableau.{entry_at, value_at, lower_at, upper_at, or_zero}
 use Rattle.spec_simplex.specs.Step.{directed, other_bound, range_run, rise_run, fall_run, gap_run}
 use Rattle.spec_simplex.specs.Step.{better_by, better_run, with_gap, best_with, best_run}
-use Rattle.spec_simplex.specs.Tables.{way, table_of, IsWhole, KeepsBounds}
+use Rattle.spec_simplex.specs.Tables.{table_of, IsWhole, KeepsBounds}
 use Rattle.spec_simplex.proofs.RunParts.{then_ok, difference_ok, quotient_ok, order_ok, steps_ok}
 use Rattle.spec_simplex.proofs.Pivots.{enters_before}
 use Rattle.spec_simplex.proofs.Flips.{directed_is}
@@ -35,13 +37,13 @@ use Rattle.spec_simplex.proofs.Flips.{directed_is}
 -- ---- magnitudes
 
 -- the magnitude of an entry, by the way of the column
-pub abs_falling : (up : Bool) (a : ℚ) → directed up a <ℚ 0ℚ → abs_ℚ a ≡ neg_ℚ (directed up a)
-abs_falling true a h = abs_below a h
-abs_falling false a h = abs_above a (<ℚ-le 0ℚ a (turned_back a h)) ∙ sym (neg-neg a)
+pub abs_falling : (way : Way) (a : ℚ) → directed way a <ℚ 0ℚ → abs_ℚ a ≡ neg_ℚ (directed way a)
+abs_falling Up a h = abs_below a h
+abs_falling Down a h = abs_above a (<ℚ-le 0ℚ a (turned_back a h)) ∙ sym (neg-neg a)
 
-pub abs_rising : (up : Bool) (a : ℚ) → 0ℚ <ℚ directed up a → abs_ℚ a ≡ directed up a
-abs_rising true a h = abs_above a (<ℚ-le 0ℚ a h)
-abs_rising false a h = abs_below a (turned_down a h)
+pub abs_rising : (way : Way) (a : ℚ) → 0ℚ <ℚ directed way a → abs_ℚ a ≡ directed way a
+abs_rising Up a h = abs_above a (<ℚ-le 0ℚ a h)
+abs_rising Down a h = abs_below a (turned_down a h)
 
 -- ---- the room of a position
 abbrev room_by : Option ℚ → Option ℚ → ℚ → ℚ → Option ℚ
@@ -54,48 +56,48 @@ IsRoom l u v r a None = room_by l u v r ≡ None
 IsRoom l u v r a (Some (gap, to)) = (room_by l u v r ≡ Some (gap *ℚ inverse (abs_ℚ a))) × (to ≡ bound_ahead (way_of r))
 
 -- the run's gap of a position, over the entry's magnitude, is that position's room
-gap_is : (limit : Option ℕ) (up : Bool) (a : ℚ) (l u : Option ℚ) (v r : ℚ) → r ≡ neg_ℚ (directed up a) →
-    (gap : Option (ℚ × Status)) → gap_run limit up a l u v ≡ Ok gap → IsRoom l u v r a gap
-gap_is limit up a l u v r r_is gap h = by (lt_ℚ (directed up a) 0ℚ) (lt_ℚ 0ℚ (directed up a)) refl refl h
+gap_is : (limit : Option ℕ) (way : Way) (a : ℚ) (l u : Option ℚ) (v r : ℚ) → r ≡ neg_ℚ (directed way a) →
+    (gap : Option (ℚ × Status)) → gap_run limit way a l u v ≡ Ok gap → IsRoom l u v r a gap
+gap_is limit way a l u v r r_is gap h = by (lt_ℚ (directed way a) 0ℚ) (lt_ℚ 0ℚ (directed way a)) refl refl h
   where
-    rise : directed up a <ℚ 0ℚ → (o : Option ℚ) → rise_run limit o v ≡ Ok gap → IsRoom l o v r a gap
+    rise : directed way a <ℚ 0ℚ → (o : Option ℚ) → rise_run limit o v ≡ Ok gap → IsRoom l o v r a gap
     rise d None h =
         let e : None ≡ gap = cc in
         subst (IsRoom l None v r a) e
-        (rw (lt_test 0ℚ r (subst (λ r. 0ℚ <ℚ r) (sym r_is) (below_turned (directed up a) d))) refl)
+        (rw (lt_test 0ℚ r (subst (λ r. 0ℚ <ℚ r) (sym r_is) (below_turned (directed way a) d))) refl)
     rise d (Some x) h =
         let o = then_ok (difference_run limit x v) (λ gap. Ok (Some (gap, AtUpper))) gap h in
-        let above : 0ℚ <ℚ r = subst (λ r. 0ℚ <ℚ r) (sym r_is) (below_turned (directed up a) d) in
+        let above : 0ℚ <ℚ r = subst (λ r. 0ℚ <ℚ r) (sym r_is) (below_turned (directed way a) d) in
         let e : Some (o.0, AtUpper) ≡ gap = cc in
         subst (IsRoom l (Some x) v r a) e (
           rw (lt_test 0ℚ r above) (ap Some
-              (ap₂ (λ g r. g *ℚ inverse r) (sym (difference_ok limit x v o.0 o.1)) (r_is ∙ sym (abs_falling up a d)))),
+              (ap₂ (λ g r. g *ℚ inverse r) (sym (difference_ok limit x v o.0 o.1)) (r_is ∙ sym (abs_falling way a d)))),
           rw (lt_test 0ℚ r above) refl,
         )
 
-    fall : 0ℚ <ℚ directed up a → (o : Option ℚ) → fall_run limit o v ≡ Ok gap → IsRoom o u v r a gap
+    fall : 0ℚ <ℚ directed way a → (o : Option ℚ) → fall_run limit o v ≡ Ok gap → IsRoom o u v r a gap
     fall d None h =
-        let below : r <ℚ 0ℚ = subst (λ r. r <ℚ 0ℚ) (sym r_is) (above_turned (directed up a) d) in
+        let below : r <ℚ 0ℚ = subst (λ r. r <ℚ 0ℚ) (sym r_is) (above_turned (directed way a) d) in
         let e : None ≡ gap = cc in
         subst (IsRoom None u v r a) e (rw (not_lt_test 0ℚ r (<ℚ-le r 0ℚ below), lt_test r 0ℚ below) refl)
     fall d (Some x) h =
         let o = then_ok (difference_run limit v x) (λ gap. Ok (Some (gap, AtLower))) gap h in
-        let below : r <ℚ 0ℚ = subst (λ r. r <ℚ 0ℚ) (sym r_is) (above_turned (directed up a) d) in
+        let below : r <ℚ 0ℚ = subst (λ r. r <ℚ 0ℚ) (sym r_is) (above_turned (directed way a) d) in
         let e : Some (o.0, AtLower) ≡ gap = cc in
         subst (IsRoom (Some x) u v r a) e (
           rw (not_lt_test 0ℚ r (<ℚ-le r 0ℚ below), lt_test r 0ℚ below)
               (ap Some (ap₂ (λ g r. g *ℚ inverse r) (sym (difference_ok limit v x o.0 o.1))
-              (ap neg_ℚ r_is ∙ neg-neg (directed up a) ∙ sym (abs_rising up a d)))),
+              (ap neg_ℚ r_is ∙ neg-neg (directed way a) ∙ sym (abs_rising way a d)))),
           rw (not_lt_test 0ℚ r (<ℚ-le r 0ℚ below)) refl,
         )
 
-    by : (c d : Bool) → lt_ℚ (directed up a) 0ℚ ≡ c → lt_ℚ 0ℚ (directed up a) ≡ d →
+    by : (c d : Bool) → lt_ℚ (directed way a) 0ℚ ≡ c → lt_ℚ 0ℚ (directed way a) ≡ d →
         cond c (rise_run limit u v) (cond d (fall_run limit l v) (Ok None)) ≡ Ok gap → IsRoom l u v r a gap
-    by true d c e h = rise (lt_if (directed up a) 0ℚ c) u h
-    by false true c d h = fall (lt_if 0ℚ (directed up a) d) l h
+    by true d c e h = rise (lt_if (directed way a) 0ℚ c) u h
+    by false true c d h = fall (lt_if 0ℚ (directed way a) d) l h
     by false false c d h =
-        let zero : directed up a
-        ≡ 0ℚ = ≤ℚ_antisym (directed up a) 0ℚ (le_if_not 0ℚ (directed up a) d) (le_if_not (directed up a) 0ℚ c) in
+        let zero : directed way a
+        ≡ 0ℚ = ≤ℚ_antisym (directed way a) 0ℚ (le_if_not 0ℚ (directed way a) d) (le_if_not (directed way a) 0ℚ c) in
         let still : r ≡ 0ℚ = r_is ∙ ap neg_ℚ zero ∙ neg-zero in
         let e : None ≡ gap = cc in
         subst (IsRoom l u v r a) e (rw (
@@ -139,23 +141,23 @@ one_of P new x Greater p q = q
 
 -- what is known of the column's own range
 pub record IsRange (t : Tableau) (e : Entering) (x : Best ℚ) : Type 0 where
-  pub to : x.to ≡ other_bound e.up
+  pub to : x.to ≡ other_bound e.direction
   pub col : x.col ≡ e.col
   pub ratio : x.ratio ≡ or_zero (upper_at t e.col) -ℚ or_zero (lower_at t e.col)
   pub bottom : (v : ℚ) × (lower_at t e.col ≡ Some v)
 
 module _ (limit : Option ℕ) (t : Tableau) (w : IsWhole t) (f : Matrix) (cost : ℕ → ℚ) (b : Bounds)
     (g : IsTableau t.rows (all_columns t) f cost b (table_of t)) (keeps : KeepsBounds b t)
-    (e : Entering) (enters : Enters (all_columns t) b (table_of t) (way e.up) e.col) where
+    (e : Entering) (enters : Enters (all_columns t) b (table_of t) e.direction e.col) where
   abbrev ahead : ℕ → Status
-  ahead p = bound_ahead (way_of (ray t.rows (table_of t) (way e.up) e.col (basic_at t p)))
+  ahead p = bound_ahead (way_of (ray t.rows (table_of t) e.direction e.col (basic_at t p)))
 
   record Aims (x : Best ℚ) : Type 0 where
     flip : x.place ≡ None → IsRange t e x
     pivot : (p : ℕ) → x.place ≡ Some p → x.to ≡ ahead p
 
   record Found (i : ℕ) (best : Option (Best ℚ)) : Type 0 where
-    same : option_map plain best ≡ scan i (room_at t.rows b (table_of t) (way e.up) e.col)
+    same : option_map plain best ≡ scan i (room_at t.rows b (table_of t) e.direction e.col)
         (basic_at t) (range_of e.col (b.lower e.col) (b.upper e.col))
     aims : (x : Best ℚ) → best ≡ Some x → Aims x
 
@@ -172,12 +174,12 @@ module _ (limit : Option ℕ) (t : Tableau) (w : IsWhole t) (f : Matrix) (cost :
       (refl, λ x y. let k : None ≡ Some x = y in cc)
   range_is (Some l) (Some u) p q best h =
       let o = then_ok (difference_run limit u l) _ best h in
-      let made : Best ℚ = record { ratio = o.0; col = e.col; place = None; to = other_bound e.up } in
+      let made : Best ℚ = record { ratio = o.0; col = e.col; place = None; to = other_bound e.direction } in
       let z : Some made ≡ best = cc in
       let length : o.0 ≡ u -ℚ l = difference_ok limit u l o.0 o.1 in
       subst (λ best. (option_map plain best ≡ range_of e.col (Some l) (Some u))
       × ((x : Best ℚ) → best ≡ Some x → Aims x)) z (
-        (ap (λ r. Some (plain (record { ratio = r; col = e.col; place = None; to = other_bound e.up }))) length),
+        (ap (λ r. Some (plain (record { ratio = r; col = e.col; place = None; to = other_bound e.direction }))) length),
         λ x y. let k : made ≡ x = cc in subst Aims k (record {
           flip =
               λ _. record {
@@ -214,37 +216,37 @@ module _ (limit : Option ℕ) (t : Tableau) (w : IsWhole t) (f : Matrix) (cost :
       a = entry_at t i e.col
 
       r : ℚ
-      r = ray t.rows (table_of t) (way e.up) e.col (basic_at t i)
+      r = ray t.rows (table_of t) e.direction e.col (basic_at t i)
 
       before : Option test.Best
       before =
-          scan i (room_at t.rows b (table_of t) (way e.up) e.col)
+          scan i (room_at t.rows b (table_of t) e.direction e.col)
           (basic_at t) (range_of e.col (b.lower e.col) (b.upper e.col))
 
-      o : (gap : Option (ℚ × Status)) × (gap_run limit e.up (entry_at t i e.col)
+      o : (gap : Option (ℚ × Status)) × (gap_run limit e.direction (entry_at t i e.col)
           (lower_at t (basic_at t i)) (upper_at t (basic_at t i)) (value_at t (basic_at t i)) ≡ Ok gap)
           × (with_gap limit i (basic_at t i) (entry_at t i e.col) best gap ≡ Ok next)
       o =
-          then_ok (gap_run limit e.up (entry_at t i e.col) (lower_at t (basic_at t i)) (upper_at t (basic_at t i))
+          then_ok (gap_run limit e.direction (entry_at t i e.col) (lower_at t (basic_at t i)) (upper_at t (basic_at t i))
           (value_at t (basic_at t i))) (λ gap. with_gap limit i (basic_at t i) (entry_at t i e.col) best gap) next h
 
-      r_is : ray t.rows (table_of t) (way e.up) e.col (basic_at t i) ≡ neg_ℚ (directed e.up (entry_at t i e.col))
+      r_is : ray t.rows (table_of t) e.direction e.col (basic_at t i) ≡ neg_ℚ (directed e.direction (entry_at t i e.col))
       r_is =
-          ray_basic t.rows (table_of t) g.units (way e.up) e.col
-          (j_outside t.rows (all_columns t) f cost b (table_of t) g (way e.up) e.col enters) i i_in
-          ∙ ap neg_ℚ (sym (directed_is e.up (entry_at t i e.col)))
+          ray_basic t.rows (table_of t) g.units e.direction e.col
+          (j_outside t.rows (all_columns t) f cost b (table_of t) g e.direction e.col enters) i i_in
+          ∙ ap neg_ℚ (sym (directed_is e.direction (entry_at t i e.col)))
 
       there : IsRoom (lower_at t (basic_at t i)) (upper_at t (basic_at t i)) (value_at t (basic_at t i))
-          (ray t.rows (table_of t) (way e.up) e.col (basic_at t i)) (entry_at t i e.col) o.0
+          (ray t.rows (table_of t) e.direction e.col (basic_at t i)) (entry_at t i e.col) o.0
       there =
-          gap_is limit e.up (entry_at t i e.col) (lower_at t (basic_at t i)) (upper_at t (basic_at t i))
-          (value_at t (basic_at t i)) (ray t.rows (table_of t) (way e.up) e.col (basic_at t i)) r_is o.0 o.1
+          gap_is limit e.direction (entry_at t i e.col) (lower_at t (basic_at t i)) (upper_at t (basic_at t i))
+          (value_at t (basic_at t i)) (ray t.rows (table_of t) e.direction e.col (basic_at t i)) r_is o.0 o.1
 
-      room_same : room_at t.rows b (table_of t) (way e.up) e.col i
+      room_same : room_at t.rows b (table_of t) e.direction e.col i
           ≡ room_by (lower_at t (basic_at t i)) (upper_at t (basic_at t i))
-          (value_at t (basic_at t i)) (ray t.rows (table_of t) (way e.up) e.col (basic_at t i))
+          (value_at t (basic_at t i)) (ray t.rows (table_of t) e.direction e.col (basic_at t i))
       room_same =
-          ap₂ (λ l u. room_by l u (value_at t (basic_at t i)) (ray t.rows (table_of t) (way e.up) e.col (basic_at t i)))
+          ap₂ (λ l u. room_by l u (value_at t (basic_at t i)) (ray t.rows (table_of t) e.direction e.col (basic_at t i)))
           (sym (keeps.lower (basic_at t i) (g.in_range i i_in)))
           (sym (keeps.basic (basic_at t i) (g.in_range i i_in) (g.marked i i_in)))
 
@@ -257,7 +259,7 @@ module _ (limit : Option ℕ) (t : Tableau) (w : IsWhole t) (f : Matrix) (cost :
 
       with_best : (q : ℚ) (to : Status) → to ≡ ahead i → (best : Option (Best ℚ)) → option_map plain best ≡ before →
           ((x : Best ℚ) → best ≡ Some x → Aims x) → better_run limit (newer q to) best ≡ Ok next
-          → room_at t.rows b (table_of t) (way e.up) e.col i ≡ Some q → Found (suc i) next
+          → room_at t.rows b (table_of t) e.direction e.col i ≡ Some q → Found (suc i) next
       with_best q to z None same aims h room_is =
           let y : Some (newer q to) ≡ next = cc in
           subst (Found (suc i)) y (record {
@@ -283,7 +285,7 @@ module _ (limit : Option ℕ) (t : Tableau) (w : IsWhole t) (f : Matrix) (cost :
 
       with_one : (gap : Option (ℚ × Status)) → with_gap limit i (basic_at t i) (entry_at t i e.col) best gap ≡ Ok next
           → IsRoom (lower_at t (basic_at t i)) (upper_at t (basic_at t i)) (value_at t (basic_at t i))
-          (ray t.rows (table_of t) (way e.up) e.col (basic_at t i)) (entry_at t i e.col) gap → Found (suc i) next
+          (ray t.rows (table_of t) e.direction e.col (basic_at t i)) (entry_at t i e.col) gap → Found (suc i) next
       with_one None h room_is =
           let y : best ≡ next = cc in
           subst (Found (suc i)) y (record {
@@ -302,16 +304,16 @@ module _ (limit : Option ℕ) (t : Tableau) (w : IsWhole t) (f : Matrix) (cost :
       (λ best. steps t.rows (best_with limit t e) best) best h in
       steps_ok Found t.rows (best_with limit t e) o.0 best o.2 (found_range o.0 o.1) found_step
 
-  pub no_best : best_run limit t e ≡ Ok None → best_of t.rows b (table_of t) (way e.up) e.col ≡ None
+  pub no_best : best_run limit t e ≡ Ok None → best_of t.rows b (table_of t) e.direction e.col ≡ None
   no_best h = sym (found_all None h).same
 
   pub a_best : (x : Best ℚ) → best_run limit t e ≡ Ok (Some x) →
-      best_of t.rows b (table_of t) (way e.up) e.col ≡ Some (plain x)
+      best_of t.rows b (table_of t) e.direction e.col ≡ Some (plain x)
   a_best x h = sym (found_all (Some x) h).same
 
   pub best_range : (x : Best ℚ) → best_run limit t e ≡ Ok (Some x) → x.place ≡ None → IsRange t e x
   best_range x h = ((found_all (Some x) h).aims x refl).flip
 
   pub best_ahead : (x : Best ℚ) → best_run limit t e ≡ Ok (Some x) → (p : ℕ) → x.place ≡ Some p →
-      x.to ≡ bound_ahead (way_of (ray t.rows (table_of t) (way e.up) e.col (basic_at t p)))
+      x.to ≡ bound_ahead (way_of (ray t.rows (table_of t) e.direction e.col (basic_at t p)))
   best_ahead x h = ((found_all (Some x) h).aims x refl).pivot

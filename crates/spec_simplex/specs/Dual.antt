@@ -7,6 +7,7 @@ use Rattle.std.specs.declared.cmp.Ordering.TheVariants.{Less, Equal, Greater}
 use Rattle.spec_exact.specs.Fraction.{ℚ, abs_ℚ}
 use Rattle.spec_pivot.specs.declared.status.Status.{Status}
 use Rattle.spec_pivot.specs.declared.status.Status.TheVariants.{AtLower, AtUpper}
+use Rattle.spec_pivot.specs.declared.status.Way.{Way}
 use Rattle.spec_simplex.specs.declared.ends.RunStop.{RunStop}
 use Rattle.spec_simplex.specs.declared.ends.RunStop.TheVariants as stop
 use Rattle.spec_exact.specs.Run.{Run, ◌>>=◌, refused_as, difference_run, quotient_run, order_run, steps}
@@ -20,6 +21,7 @@ use Rattle.spec_simplex.specs.declared.ends.DualEnd.TheVariants.{Optimal, Infeas
 use Rattle.spec_simplex.specs.declared.ends.DualChoice.{DualChoice}
 use Rattle.spec_simplex.specs.declared.ends.DualChoice.TheVariants.{End, Pivot}
 use Rattle.spec_simplex.specs.Fit.{leaving_run, needs_flip_at}
+use Rattle.spec_simplex.specs.Tables.{way}
 
 -- ---- flips
 
@@ -60,9 +62,9 @@ place_of t k = place_below t k t.rows
 
 -- Whether column k rises or falls as it enters, if it may: the column at position p, which is below its lower bound or
 -- above its upper one, then comes back. A basic and a fixed column never enter.
-abbrev pub dual_way_at : Tableau → ℕ → Bool → ℕ → Option Bool
+abbrev pub dual_way_at : Tableau → ℕ → Bool → ℕ → Option Way
 dual_way_at t p below k =
-    if is_fixed (lower_at t k) (upper_at t k) then None else way_by (status_at t k) (directed below (entry_at t p k))
+    if is_fixed (lower_at t k) (upper_at t k) then None else way_by (status_at t k) (directed (way below) (entry_at t p k))
 
 -- the cheaper of two candidates. Of equal ratios the earlier candidate stays
 abbrev pub cheaper_by : Cheapest ℚ → Cheapest ℚ → Ordering → Cheapest ℚ
@@ -76,9 +78,9 @@ cheaper_run limit new None = Ok (Some new)
 cheaper_run limit new (Some best) = order_run limit new.ratio best.ratio >>= λ o. Ok (Some (cheaper_by new best o))
 
 -- the cheapest candidate after column k, whose ratio is the magnitude of its reduced cost over that of its entry
-abbrev pub cheapest_by : Option ℕ → Tableau → ℕ → ℕ → Option (Cheapest ℚ) → Option Bool → Run (Option (Cheapest ℚ))
+abbrev pub cheapest_by : Option ℕ → Tableau → ℕ → ℕ → Option (Cheapest ℚ) → Option Way → Run (Option (Cheapest ℚ))
 cheapest_by limit t p k best None = Ok best
-cheapest_by limit t p k best (Some up) =
+cheapest_by limit t p k best (Some w) =
     quotient_run limit (abs_ℚ (reduced_at t k)) (abs_ℚ (entry_at t p k)) >>=
     λ ratio. cheaper_run limit (record { ratio = ratio; col = k }) best
 

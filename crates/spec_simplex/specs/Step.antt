@@ -1,11 +1,13 @@
 -- One step of the primal method, at a limit: which column enters, which position stops it, and the flip or the pivot.
 use Rattle.std.specs.Prelude.{◌≡◌, ◌≢◌, ℕ, ◌<◌, zero, suc, List, slice_set, get_or, Option}
-use Rattle.std.specs.Prelude.{Some, None, Ok, Bool, true, false, nat_lt, nat_eq, if◌then◌else◌}
+use Rattle.std.specs.Prelude.{Some, None, Ok, Bool, false, nat_lt, nat_eq, if◌then◌else◌}
 use Rattle.std.specs.declared.cmp.Ordering.{Ordering}
 use Rattle.std.specs.declared.cmp.Ordering.TheVariants.{Less, Equal, Greater}
 use Rattle.spec_exact.specs.Fraction.{ℚ, 0ℚ, ◌-ℚ◌, ◌*ℚ◌, neg_ℚ, abs_ℚ, lt_ℚ}
 use Rattle.spec_pivot.specs.declared.status.Status.{Status}
 use Rattle.spec_pivot.specs.declared.status.Status.TheVariants.{Basic, AtLower, AtUpper, AtZero}
+use Rattle.spec_pivot.specs.declared.status.Way.{Way}
+use Rattle.spec_pivot.specs.declared.status.Way.TheVariants.{Up, Down}
 use Rattle.spec_simplex.specs.declared.ends.Entering.{Entering}
 use Rattle.spec_simplex.specs.declared.ends.Best.{Best}
 use Rattle.spec_simplex.specs.declared.ends.PrimalEnd.TheVariants.{Optimal, Unbounded}
@@ -19,21 +21,21 @@ use Rattle.spec_simplex.specs.Tableau.{status_at, lower_at, upper_at, is_artific
 -- ---- entering: the least column that may
 
 -- whether a column of this status and reduced cost rises or falls, if it may enter
-abbrev pub way_by : Status → ℚ → Option Bool
+abbrev pub way_by : Status → ℚ → Option Way
 way_by Basic d = None
-way_by AtLower d = if lt_ℚ d 0ℚ then Some true else None
-way_by AtUpper d = if lt_ℚ 0ℚ d then Some false else None
-way_by AtZero d = if lt_ℚ d 0ℚ then Some true else (if lt_ℚ 0ℚ d then Some false else None)
+way_by AtLower d = if lt_ℚ d 0ℚ then Some Up else None
+way_by AtUpper d = if lt_ℚ 0ℚ d then Some Down else None
+way_by AtZero d = if lt_ℚ d 0ℚ then Some Up else (if lt_ℚ 0ℚ d then Some Down else None)
 
 -- whether column k rises or falls, if it may enter. A fixed column never enters
-abbrev pub way_at : Tableau → ℕ → Option Bool
+abbrev pub way_at : Tableau → ℕ → Option Way
 way_at t k = if is_fixed (lower_at t k) (upper_at t k) then None else way_by (status_at t k) (reduced_at t k)
 
 -- the entering column so far, or column k where there is none and k may enter
-abbrev pub or_enters : Option Entering → ℕ → Option Bool → Option Entering
+abbrev pub or_enters : Option Entering → ℕ → Option Way → Option Entering
 or_enters (Some e) k way = Some e
 or_enters None k None = None
-or_enters None k (Some up) = Some (record { col = k; up = up })
+or_enters None k (Some way) = Some (record { col = k; direction = way })
 
 -- the least of the first n columns that may enter
 abbrev pub entering_below : Tableau → ℕ → Option Entering
@@ -47,12 +49,14 @@ entering t = entering_below t (all_columns t)
 -- ---- the ratio test
 
 -- v, or its negative where the entering column falls
-abbrev pub directed : Bool → ℚ → ℚ
-directed up v = if up then v else neg_ℚ v
+abbrev pub directed : Way → ℚ → ℚ
+directed Up v = v
+directed Down v = neg_ℚ v
 
 -- the bound at which the entering column ends if no basic column stops it
-abbrev pub other_bound : Bool → Status
-other_bound up = if up then AtUpper else AtLower
+abbrev pub other_bound : Way → Status
+other_bound Up = AtUpper
+other_bound Down = AtLower
 
 -- the best at the start: the distance between the entering column's bounds, where it has both
 abbrev pub range_run : Option ℕ → Entering → Option ℚ → Option ℚ → Run (Option (Best ℚ))
@@ -60,7 +64,7 @@ range_run limit e None upper = Ok None
 range_run limit e (Some l) None = Ok None
 range_run limit e (Some l) (Some u) =
     difference_run limit u l >>=
-    λ range. Ok (Some (record { ratio = range; col = e.col; place = None; to = other_bound e.up }))
+    λ range. Ok (Some (record { ratio = range; col = e.col; place = None; to = other_bound e.direction }))
 
 -- how far the value v may rise, where an upper bound stops it
 abbrev pub rise_run : Option ℕ → Option ℚ → ℚ → Run (Option (ℚ × Status))
@@ -73,10 +77,10 @@ fall_run limit None v = Ok None
 fall_run limit (Some l) v = difference_run limit v l >>= λ gap. Ok (Some (gap, AtLower))
 
 -- how far the basic column of a position, at v and with these bounds, may move; its entry in the entering column is a
-abbrev pub gap_run : Option ℕ → Bool → ℚ → Option ℚ → Option ℚ → ℚ → Run (Option (ℚ × Status))
-gap_run limit up a lower upper v =
-    if lt_ℚ (directed up a) 0ℚ then rise_run limit upper v
-    else (if lt_ℚ 0ℚ (directed up a) then fall_run limit lower v else Ok None)
+abbrev pub gap_run : Option ℕ → Way → ℚ → Option ℚ → Option ℚ → ℚ → Run (Option (ℚ × Status))
+gap_run limit way a lower upper v =
+    if lt_ℚ (directed way a) 0ℚ then rise_run limit upper v
+    else (if lt_ℚ 0ℚ (directed way a) then fall_run limit lower v else Ok None)
 
 -- the new best where a ratio is less than that of the best so far, or as small and of a lesser column
 abbrev pub better_by : Best ℚ → Best ℚ → Ordering → Best ℚ
@@ -99,7 +103,7 @@ with_gap limit i k a best (Some (gap, to)) =
 -- the best after position i
 abbrev pub best_with : Option ℕ → Tableau → Entering → ℕ → Option (Best ℚ) → Run (Option (Best ℚ))
 best_with limit t e i best =
-    gap_run limit e.up (entry_at t i e.col) (lower_at t (basic_at t i))
+    gap_run limit e.direction (entry_at t i e.col) (lower_at t (basic_at t i))
     (upper_at t (basic_at t i)) (value_at t (basic_at t i)) >>= λ gap.
     with_gap limit i (basic_at t i) (entry_at t i e.col) best gap
 
@@ -113,11 +117,11 @@ best_run limit t e =
 -- a flip of the entering column where no position stops it, and else a pivot at the position
 abbrev pub choice_at : Entering → Best ℚ → Option ℕ → Choice ℚ
 choice_at e best None = Flip e.col
-choice_at e best (Some i) = Pivot i e.col (directed e.up best.ratio) best.to
+choice_at e best (Some i) = Pivot i e.col (directed e.direction best.ratio) best.to
 
 -- what the step does, by the best of the ratio test; without one the entering column is never stopped
 abbrev pub choice_by : Entering → Option (Best ℚ) → Choice ℚ
-choice_by e None = End (Unbounded e.col e.up)
+choice_by e None = End (Unbounded e.col e.direction)
 choice_by e (Some best) = choice_at e best best.place
 
 -- what the step does, by the entering column; without one the tableau is optimal
@@ -149,12 +153,12 @@ moved_run limit t j theta but =
 
 -- ---- a flip: column j goes to its other bound
 
--- whether a flip of a column of this status rises
-abbrev pub flip_way : Status → Bool
-flip_way AtLower = true
-flip_way Basic = false
-flip_way AtUpper = false
-flip_way AtZero = false
+-- the way in which a flip moves a column of this status
+abbrev pub flip_way : Status → Way
+flip_way AtLower = Up
+flip_way Basic = Down
+flip_way AtUpper = Down
+flip_way AtZero = Down
 
 -- the tableau with column j at its bound `to`, and these values
 abbrev pub flipped : Tableau → ℕ → Status → List ℚ → Tableau

@@ -24,9 +24,9 @@ table_of t =
 abbrev pub bounds_of : Tableau → Bounds
 bounds_of t = record { lower = lower_at t; upper = upper_at t; barred = is_artificial t }
 
--- the way of a column that rises, or else falls
+-- the way in which a value that is below its lower bound comes back, or else one that is above its upper bound
 abbrev pub way : Bool → Way
-way up = if up then Up else Down
+way below = if below then Up else Down
 
 -- each list has as many items as there are positions or columns
 pub record IsWhole (t : Tableau) : Type 0 where
@@ -73,7 +73,7 @@ pub record StepsTo (m n : ℕ) (f : Matrix) (cost : ℕ → ℚ) (b : Bounds) (t
 -- tableau that is one step away
 abbrev pub IsMeant : ℕ → ℕ → Matrix → (ℕ → ℚ) → Bounds → Option ℕ → Tableau → Choice ℚ → Type 0
 IsMeant m n f cost b limit t (End Optimal) = (w : Way) (k : ℕ) → k < n + m + m → ¬ (IsEligible b (table_of t) w k)
-IsMeant m n f cost b limit t (End (Unbounded j up)) = GoesOn m (n + m + m) b (table_of t) (way up) j
+IsMeant m n f cost b limit t (End (Unbounded j w)) = GoesOn m (n + m + m) b (table_of t) w j
 IsMeant m n f cost b limit t (Flip j) = (u : Tableau) → flip_run limit t j ≡ Ok u → StepsTo m n f cost b t u
 IsMeant m n f cost b limit t (Pivot p j theta to) =
     (u : Tableau) → pivot_run limit t p j theta to ≡ Ok u → StepsTo m n f cost b t u

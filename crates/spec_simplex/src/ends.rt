@@ -3,7 +3,7 @@ ghost use Rattle.std.specs.Prelude.{◌≡◌};
 ghost use Rattle.spec_simplex.specs.declared.ends.RunStop.TheVariants as stop;
 
 use spec_exact::Past;
-use spec_pivot::Status;
+use spec_pivot::{Status, Way};
 use std::fmt::Debug;
 use thiserror::Error;
 
@@ -29,11 +29,11 @@ pub enum RowStart<F> {
     Above(F),
 }
 
-/// A column that enters, and whether its value rises.
+/// A column that enters, and the way in which its value moves.
 #[derive(Clone, Copy)]
 pub struct Entering {
     pub col: u32,
-    pub up: bool,
+    pub direction: Way,
 }
 
 /// The least ratio so far, and the column that it stops.
@@ -52,8 +52,8 @@ pub struct Best<F> {
 pub enum PrimalEnd {
     /// No column may enter.
     Optimal,
-    /// Nothing stops this column, which rises or falls.
-    Unbounded { col: u32, up: bool },
+    /// Nothing stops this column, which moves in this direction.
+    Unbounded { col: u32, direction: Way },
 }
 
 /// What a step does.
