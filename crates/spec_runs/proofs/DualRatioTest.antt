@@ -11,6 +11,8 @@ use Rattle.spec_exact.proofs.Order.{≤ℚ_refl, ≤ℚ_trans, ≤ℚ_antisym, <
 use Rattle.spec_exact.proofs.Strict.{not-zero_from_lt, not-zero_from_below}
 use Rattle.spec_pivot.specs.declared.status.Status.{Status}
 use Rattle.spec_pivot.specs.declared.status.Status.TheVariants.{Basic, AtLower, AtUpper, AtZero}
+use Rattle.spec_pivot.specs.declared.status.Way.{Way}
+use Rattle.spec_pivot.specs.declared.status.Way.TheVariants.{Up, Down}
 use Rattle.spec_pivot.specs.Tableau.{Matrix}
 use Rattle.spec_pivot.specs.Simplex.{Bounds}
 use Rattle.spec_pivot.proofs.Pivot.{by_eq}
@@ -51,35 +53,35 @@ place_is t k (suc n) r h e = by (nat_eq (basic_at t n) k) refl (λ l. place_is t
 -- where the test gives no direction, the entry does not help a column of that status
 way_none : (s : Status) (a : ℚ) → way_by s a ≡ None → ¬ (Helps s a)
 way_none Basic a e h = h
-way_none AtLower a e h = let z : None ≡ Some true = sym e ∙ rw (lt_test a 0ℚ h) refl in cc
-way_none AtUpper a e h = let z : None ≡ Some false = sym e ∙ rw (lt_test 0ℚ a h) refl in cc
+way_none AtLower a e h = let z : None ≡ Some Up = sym e ∙ rw (lt_test a 0ℚ h) refl in cc
+way_none AtUpper a e h = let z : None ≡ Some Down = sym e ∙ rw (lt_test 0ℚ a h) refl in cc
 way_none AtZero a e h = by (lt_ℚ a 0ℚ) (lt_ℚ 0ℚ a) refl refl e
   where
-    by : (c d : Bool) → lt_ℚ a 0ℚ ≡ c → lt_ℚ 0ℚ a ≡ d → cond c (Some true) (cond d (Some false) None) ≡ None → ⊥
-    by true d p q e = let z : Some true ≡ None = e in cc
-    by false true p q e = let z : Some false ≡ None = e in cc
+    by : (c d : Bool) → lt_ℚ a 0ℚ ≡ c → lt_ℚ 0ℚ a ≡ d → cond c (Some Up) (cond d (Some Down) None) ≡ None → ⊥
+    by true d p q e = let z : Some Up ≡ None = e in cc
+    by false true p q e = let z : Some Down ≡ None = e in cc
     by false false p q e = h (≤ℚ_antisym a 0ℚ (le_if_not 0ℚ a q) (le_if_not a 0ℚ p))
 
 -- where the test gives a direction, the entry helps a column of that status
-way_some : (s : Status) (a : ℚ) (up : Bool) → way_by s a ≡ Some up → Helps s a
-way_some Basic a up e = let z : None ≡ Some up = e in cc
-way_some AtLower a up e = by (lt_ℚ a 0ℚ) refl e
+way_some : (s : Status) (a : ℚ) (w : Way) → way_by s a ≡ Some w → Helps s a
+way_some Basic a w e = let z : None ≡ Some w = e in cc
+way_some AtLower a w e = by (lt_ℚ a 0ℚ) refl e
   where
-    by : (c : Bool) → lt_ℚ a 0ℚ ≡ c → cond c (Some true) None ≡ Some up → a <ℚ 0ℚ
+    by : (c : Bool) → lt_ℚ a 0ℚ ≡ c → cond c (Some Up) None ≡ Some w → a <ℚ 0ℚ
     by true p e = lt_if a 0ℚ p
-    by false p e = let z : None ≡ Some up = e in cc
-way_some AtUpper a up e = by (lt_ℚ 0ℚ a) refl e
+    by false p e = let z : None ≡ Some w = e in cc
+way_some AtUpper a w e = by (lt_ℚ 0ℚ a) refl e
   where
-    by : (c : Bool) → lt_ℚ 0ℚ a ≡ c → cond c (Some false) None ≡ Some up → 0ℚ <ℚ a
+    by : (c : Bool) → lt_ℚ 0ℚ a ≡ c → cond c (Some Down) None ≡ Some w → 0ℚ <ℚ a
     by true p e = lt_if 0ℚ a p
-    by false p e = let z : None ≡ Some up = e in cc
-way_some AtZero a up e = by (lt_ℚ a 0ℚ) (lt_ℚ 0ℚ a) refl refl e
+    by false p e = let z : None ≡ Some w = e in cc
+way_some AtZero a w e = by (lt_ℚ a 0ℚ) (lt_ℚ 0ℚ a) refl refl e
   where
-    by : (c d : Bool) → lt_ℚ a 0ℚ ≡ c → lt_ℚ 0ℚ a ≡ d → cond c (Some true) (cond d (Some false) None) ≡ Some up →
+    by : (c d : Bool) → lt_ℚ a 0ℚ ≡ c → lt_ℚ 0ℚ a ≡ d → cond c (Some Up) (cond d (Some Down) None) ≡ Some w →
         ¬ (a ≡ 0ℚ)
     by true d p q e = not-zero_from_below a (lt_if a 0ℚ p)
     by false true p q e = not-zero_from_lt a (lt_if 0ℚ a q)
-    by false false p q e = let z : None ≡ Some up = e in cc
+    by false false p q e = let z : None ≡ Some w = e in cc
 
 -- ---- the better of two
 
@@ -107,31 +109,31 @@ module _ (limit : Option ℕ) (f : Matrix) (cost : ℕ → ℚ) (b : Bounds) (t 
   abbrev Candidate : ℕ → Type 0
   Candidate k = IsCandidate b (table_of t) (way below) p k
 
-  row_is : (k : ℕ) → directed below (entry_at t p k) ≡ row_of (table_of t) (way below) p k
-  row_is k = directed_is below (entry_at t p k)
+  row_is : (k : ℕ) → directed (way below) (entry_at t p k) ≡ row_of (table_of t) (way below) p k
+  row_is k = directed_is (way below) (entry_at t p k)
 
   not_candidate : (k : ℕ) → k < all_columns t → dual_way_at t p below k ≡ None → ¬ (Candidate k)
   not_candidate k h e c = by (is_fixed (lower_at t k) (upper_at t k)) refl e
     where
       by : (d : Bool) → is_fixed (lower_at t k) (upper_at t k) ≡ d →
-          cond d None (way_by (status_at t k) (directed below (entry_at t p k))) ≡ None → ⊥
+          cond d None (way_by (status_at t k) (directed (way below) (entry_at t p k))) ≡ None → ⊥
       by true d e = c.not_fixed (fixed_is f cost b t s k h d)
       by false d e =
-          way_none (status_at t k) (directed below (entry_at t p k)) e
+          way_none (status_at t k) (directed (way below) (entry_at t p k)) e
           (subst (Helps (status_at t k)) (sym (row_is k)) c.helps)
 
-  a_candidate : (k : ℕ) (up : Bool) → k < all_columns t → dual_way_at t p below k ≡ Some up → Candidate k
-  a_candidate k up h e = by (is_fixed (lower_at t k) (upper_at t k)) refl e
+  a_candidate : (k : ℕ) (w : Way) → k < all_columns t → dual_way_at t p below k ≡ Some w → Candidate k
+  a_candidate k w h e = by (is_fixed (lower_at t k) (upper_at t k)) refl e
     where
       by : (d : Bool) → is_fixed (lower_at t k) (upper_at t k) ≡ d →
-          cond d None (way_by (status_at t k) (directed below (entry_at t p k))) ≡ Some up → Candidate k
-      by true d e = let z : None ≡ Some up = e in cc
+          cond d None (way_by (status_at t k) (directed (way below) (entry_at t p k))) ≡ Some w → Candidate k
+      by true d e = let z : None ≡ Some w = e in cc
       by false d e =
           record {
             not_fixed = not_fixed_is f cost b t s k h d;
             helps =
                 subst (Helps (status_at t k)) (row_is k)
-                (way_some (status_at t k) (directed below (entry_at t p k)) up e);
+                (way_some (status_at t k) (directed (way below) (entry_at t p k)) w e);
           }
 
   -- a candidate whose ratio is the least of those of the first n columns
@@ -188,15 +190,15 @@ module _ (limit : Option ℕ) (f : Matrix) (cost : ℕ → ℚ) (b : Bounds) (t 
       cheapest_with limit t p below k best ≡ Ok next → CheapestIs (suc k) next
   step k best next h was ok = by (dual_way_at t p below k) refl ok
     where
-      by : (o : Option Bool) → dual_way_at t p below k ≡ o → cheapest_by limit t p k best o ≡ Ok next →
+      by : (o : Option Way) → dual_way_at t p below k ≡ o → cheapest_by limit t p k best o ≡ Ok next →
           CheapestIs (suc k) next
       by None e ok =
           let z : best ≡ next = cc in subst (CheapestIs (suc k)) z (without_one k best (not_candidate k h e) was)
-      by (Some up) e ok =
+      by (Some w) e ok =
           let o =
           then_ok (quotient_run limit (abs_ℚ (reduced_at t k)) (abs_ℚ (entry_at t p k)))
           (λ ratio. cheaper_run limit (record { ratio = ratio; col = k }) best) next ok in
-          with_one k o.0 h (a_candidate k up h e)
+          with_one k o.0 h (a_candidate k w h e)
           (quotient_ok limit (abs_ℚ (reduced_at t k)) (abs_ℚ (entry_at t p k)) o.0 o.1) best next was o.2
 
   cheapest_is : (best : Option (Cheapest ℚ)) → cheapest_run limit t p below ≡ Ok best → CheapestIs (all_columns t) best

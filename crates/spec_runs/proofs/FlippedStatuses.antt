@@ -10,6 +10,8 @@ use Rattle.spec_exact.specs.Fraction.{ℚ, 0ℚ, ◌+ℚ◌, ◌-ℚ◌, ◌*ℚ
 use Rattle.spec_exact.proofs.Order.{<ℚ-le, lt_if}
 use Rattle.spec_pivot.specs.declared.status.Status.{Status}
 use Rattle.spec_pivot.specs.declared.status.Status.TheVariants.{Basic, AtLower, AtUpper, AtZero}
+use Rattle.spec_pivot.specs.declared.status.Way.{Way}
+use Rattle.spec_pivot.specs.declared.status.Way.TheVariants.{Up, Down}
 use Rattle.spec_pivot.specs.Tableau.{Matrix}
 use Rattle.spec_pivot.specs.Simplex.{Bounds, IsFixed, CanMove, Stands, IsTableau, Crosses, after_flip}
 use Rattle.spec_pivot.proofs.SameEquations.{not_basic}
@@ -23,7 +25,7 @@ use Rattle.spec_exact.specs.Run.{refused_as, difference_run, steps}
 use Rattle.spec_simplex.specs.Step.{directed, other_bound, moved_run, flip_way, flipped, flip_run}
 use Rattle.spec_simplex.specs.Tableau.{Tableau, all_columns, value_at, reduced_at}
 use Rattle.spec_simplex.specs.Tableau.{status_at, lower_at, upper_at, or_zero, is_fixed}
-use Rattle.spec_simplex.specs.Tables.{way, table_of}
+use Rattle.spec_simplex.specs.Tables.{table_of}
 use Rattle.spec_simplex.proofs.RunParts.{then_ok, refused_ok, steps_ok}
 use Rattle.spec_simplex.proofs.Pivots.{Leaves}
 use Rattle.spec_simplex.proofs.Flips.{flip_leaves}
@@ -40,12 +42,12 @@ use Rattle.spec_exact.proofs.Results.{ok_same, err_not_ok}
 -- ---- a column that needs its other bound
 
 -- a column is at one bound, has the other one, and its reduced cost has the sign that belongs to the other one
-pub record IsWrong (s : Status) (d : ℚ) (l u : Option ℚ) (up : Bool) : Type 0 where
-  pub can_move : CanMove (way up) s
-  pub way_is : flip_way s ≡ up
+pub record IsWrong (s : Status) (d : ℚ) (l u : Option ℚ) (way : Way) : Type 0 where
+  pub can_move : CanMove way s
+  pub way_is : flip_way s ≡ way
   pub low : (v : ℚ) × (l ≡ Some v)
   pub high : (v : ℚ) × (u ≡ Some v)
-  pub suits : Suits (other_bound up) d
+  pub suits : Suits (other_bound way) d
 
 -- a bound that tests as given is some number
 there_is : (o : Option ℚ) → is_there o ≡ true → (v : ℚ) × (o ≡ Some v)
@@ -58,10 +60,10 @@ either true c h e = h
 either false c h e = absurd (false≢true e)
 
 pub wrong : (s : Status) (d v : ℚ) (l u : Option ℚ) → Stands s l u v → meets_need s d l u ≡ true →
-    needs_flip s d ≡ true → (up : Bool) × IsWrong s d l u up
+    needs_flip s d ≡ true → (way : Way) × IsWrong s d l u way
 wrong Basic d v l u st h n = absurd (false≢true n)
 wrong AtLower d v l u st h n = (
-  true,
+  Up,
   record {
     can_move = tt;
     way_is = refl;
@@ -71,7 +73,7 @@ wrong AtLower d v l u st h n = (
   },
 )
 wrong AtUpper d v l u st h n = (
-  false,
+  Down,
   record {
     can_move = tt;
     way_is = refl;
@@ -83,9 +85,9 @@ wrong AtUpper d v l u st h n = (
 wrong AtZero d v l u st h n = absurd (false≢true n)
 
 -- the status at a column's other bound is not basic
-other_nonbasic : (up : Bool) → ¬ (other_bound up ≡ Basic)
-other_nonbasic true e = let z : AtUpper ≡ Basic = e in cc
-other_nonbasic false e = let z : AtLower ≡ Basic = e in cc
+other_nonbasic : (way : Way) → ¬ (other_bound way ≡ Basic)
+other_nonbasic Up e = let z : AtUpper ≡ Basic = e in cc
+other_nonbasic Down e = let z : AtLower ≡ Basic = e in cc
 
 -- what a flip leaves beside values: one status
 pub record IsFlip (t : Tableau) (j : ℕ) (to : Status) (u : Tableau) : Type 0 where
@@ -102,31 +104,31 @@ flip_shape limit t u j h =
 
 module _ (limit : Option ℕ) (f : Matrix) (cost : ℕ → ℚ) (b : Bounds) (t : Tableau)
     (s : IsBased t.rows t.cols f cost b t) (j : ℕ) (j_in : j < all_columns t) (free : ¬ (IsFixed b j))
-    (up : Bool) (wrongly : IsWrong (status_at t j) (reduced_at t j) (lower_at t j) (upper_at t j) up)
+    (way : Way) (wrongly : IsWrong (status_at t j) (reduced_at t j) (lower_at t j) (upper_at t j) way)
     (u : Tableau) (ok : flip_run limit t j ≡ Ok u) where
   abbrev range : ℚ
   range = wrongly.high.0 -ℚ wrongly.low.0
 
   nonbasic : ¬ (status_at t j ≡ Basic)
-  nonbasic = not_basic (way up) (status_at t j) wrongly.can_move
+  nonbasic = not_basic way (status_at t j) wrongly.can_move
 
-  crosses : Crosses t.rows (all_columns t) b (table_of t) (way up) j range (other_bound up)
+  crosses : Crosses t.rows (all_columns t) b (table_of t) way j range (other_bound way)
   crosses = record {
     in_range = j_in;
     nonbasic = nonbasic;
-    to_nonbasic = other_nonbasic up;
+    to_nonbasic = other_nonbasic way;
     lands =
         subst₂ (λ to r. Stands to (b.lower j) (b.upper j) (value_at t j +ℚ range *ℚ r))
-        (ahead_is up) (sym (ray_at t.rows (table_of t) s.tableau.tableau.units (way up) j
+        (ahead_is way) (sym (ray_at t.rows (table_of t) s.tableau.tableau.units way j
         (outside t.rows (all_columns t) f cost b (table_of t) s.tableau.tableau j nonbasic)))
-        (whole_range wrongly.low.0 wrongly.high.0 (value_at t j) (b.lower j) (b.upper j) (way up) (status_at t j)
+        (whole_range wrongly.low.0 wrongly.high.0 (value_at t j) (b.lower j) (b.upper j) way (status_at t j)
         (sym (lower_same f cost b t s j j_in) ∙ wrongly.low.1)
         (sym (upper_same f cost b t s j j_in) ∙ wrongly.high.1) wrongly.can_move (s.tableau.tableau.stands j j_in));
   }
 
-  left : Leaves b t u (after_flip t.rows (table_of t) (way up) j range (other_bound up))
+  left : Leaves b t u (after_flip t.rows (table_of t) way j range (other_bound way))
   left =
-      flip_leaves limit t s.tableau.whole f cost b s.tableau.tableau s.tableau.bounds up j range crosses
+      flip_leaves limit t s.tableau.whole f cost b s.tableau.tableau s.tableau.bounds way j range crosses
       (free_open f cost b t s j j_in free) u wrongly.way_is
       (sym (ap₂ (λ u l. or_zero u -ℚ or_zero l) wrongly.high.1 wrongly.low.1)) ok
 
@@ -138,22 +140,22 @@ module _ (limit : Option ℕ) (f : Matrix) (cost : ℕ → ℚ) (b : Bounds) (t 
       whole = left.whole;
       tableau = subst (IsTableau t.rows (all_columns t) f cost b) (sym left.table)
           (flip_kept t.rows (all_columns t) f cost b (table_of t) s.tableau.tableau
-          (way up) j j_in nonbasic range (other_bound up) (other_nonbasic up) crosses.lands);
+          way j j_in nonbasic range (other_bound way) (other_nonbasic way) crosses.lands);
       bounds = left.bounds;
     };
     top = s.top;
   }
 
-  shape : IsFlip t j (other_bound up) u
+  shape : IsFlip t j (other_bound way) u
   shape = subst (λ c. IsFlip t j (other_bound c) u) wrongly.way_is (flip_shape limit t u j ok)
 
-  pub flip_status : status_at u j ≡ other_bound up
+  pub flip_status : status_at u j ≡ other_bound way
   flip_status =
       ap (λ u. status_at u j) (sym shape.is)
-      ∙ get_or-set_same t.status j (other_bound up) Basic (omega (arith, s.tableau.whole.all_statuses, j_in))
+      ∙ get_or-set_same t.status j (other_bound way) Basic (omega (arith, s.tableau.whole.all_statuses, j_in))
 
   pub flip_other : (k : ℕ) → k ≢ j → status_at u k ≡ status_at t k
-  flip_other k d = ap (λ u. status_at u k) (sym shape.is) ∙ get_or-set_other t.status j k (other_bound up) Basic d
+  flip_other k d = ap (λ u. status_at u k) (sym shape.is) ∙ get_or-set_other t.status j k (other_bound way) Basic d
 
   pub flip_reduced : (k : ℕ) → reduced_at u k ≡ reduced_at t k
   flip_reduced k = ap (λ u. reduced_at u k) (sym shape.is)
@@ -162,7 +164,7 @@ module _ (limit : Option ℕ) (f : Matrix) (cost : ℕ → ℚ) (b : Bounds) (t 
   flip_met k d =
       ap (λ u. meets_need_at u k) (sym shape.is)
       ∙ ap (λ s. is_fixed (lower_at t k) (upper_at t k) || meets_need s (reduced_at t k) (lower_at t k) (upper_at t k))
-      (get_or-set_other t.status j k (other_bound up) Basic d)
+      (get_or-set_other t.status j k (other_bound way) Basic d)
 
 -- ---- all of them
 module _ (limit : Option ℕ) (budget m n : ℕ) (f : Matrix) (cost : ℕ → ℚ) (b : Bounds) where
@@ -214,22 +216,22 @@ module _ (limit : Option ℕ) (budget m n : ℕ) (f : Matrix) (cost : ℕ → �
       inside : i < all_columns r.tableau
       inside = omega (arith, i_in, v.based.tableau.rows, v.based.tableau.cols)
 
-      goes : (up : Bool) → ¬ (IsFixed b i) →
-          IsWrong (status_at r.tableau i) (reduced_at r.tableau i) (lower_at r.tableau i) (upper_at r.tableau i) up →
+      goes : (way : Way) → ¬ (IsFixed b i) →
+          IsWrong (status_at r.tableau i) (reduced_at r.tableau i) (lower_at r.tableau i) (upper_at r.tableau i) way →
           Flipping (suc i) (one_more r u)
-      goes up free w = record {
+      goes way free w = record {
         based =
             given_counts m n f cost b r.tableau u v.based
-            (flip_based limit f cost b r.tableau s i inside free up w u ok);
+            (flip_based limit f cost b r.tableau s i inside free way w u ok);
         early = λ k l q loose. by_eq k i
             (λ z. subst (λ k. Suits (status_at u k) (reduced_at u k)) (sym z)
-            (subst₂ Suits (sym (flip_status limit f cost b r.tableau s i inside free up w u ok))
-            (sym (flip_reduced limit f cost b r.tableau s i inside free up w u ok i)) w.suits))
-            (λ z. subst₂ Suits (sym (flip_other limit f cost b r.tableau s i inside free up w u ok k z))
-            (sym (flip_reduced limit f cost b r.tableau s i inside free up w u ok k))
+            (subst₂ Suits (sym (flip_status limit f cost b r.tableau s i inside free way w u ok))
+            (sym (flip_reduced limit f cost b r.tableau s i inside free way w u ok i)) w.suits))
+            (λ z. subst₂ Suits (sym (flip_other limit f cost b r.tableau s i inside free way w u ok k z))
+            (sym (flip_reduced limit f cost b r.tableau s i inside free way w u ok k))
             (v.early k (omega (arith, l, z)) q loose));
         late =
-            λ k l q. flip_met limit f cost b r.tableau s i inside free up w u ok k
+            λ k l q. flip_met limit f cost b r.tableau s i inside free way w u ok k
             (λ z. let y : ⊥ = omega (arith, l, z) in y) ∙ v.late k (omega (arith, l)) q;
       }
 

@@ -3,6 +3,7 @@ use Rattle.std.proofs.Common.{◌≡◌, ℕ, zero, suc, ◌+◌, ◌-◌, List,
 use Rattle.std.proofs.Common.{None, Result, Ok, Err, Bool, true, false, nat_le}
 use Rattle.spec_exact.specs.Fraction.{ℚ, 0ℚ, abs_ℚ}
 use Rattle.spec_pivot.specs.declared.status.Status.{Status}
+use Rattle.spec_pivot.specs.declared.status.Way.{Way}
 use Rattle.spec_simplex.specs.declared.ends.RunStop.{RunStop}
 use Rattle.spec_simplex.specs.declared.ends.RunStop.TheVariants as stop
 use Rattle.spec_simplex.specs.Form.{Form}
@@ -122,10 +123,10 @@ module _ (limit : Option ℕ) where
   cheaper_agrees new None = ok _
   cheaper_agrees new (Some best) = also _ _ _ _ (agrees_order limit new.ratio best.ratio) (λ o. ok _)
 
-  cheapest_by_agrees : (t : Tableau) (p k : ℕ) (best : Option (Cheapest ℚ)) (w : Option Bool) →
+  cheapest_by_agrees : (t : Tableau) (p k : ℕ) (best : Option (Cheapest ℚ)) (w : Option Way) →
       Agrees as_it_is (cheapest_by limit t p k best w) (cheapest_by None t p k best w)
   cheapest_by_agrees t p k best None = ok _
-  cheapest_by_agrees t p k best (Some up) =
+  cheapest_by_agrees t p k best (Some w) =
       also _ _ _ _ (agrees_quotient limit (abs_ℚ (reduced_at t k)) (abs_ℚ (entry_at t p k)))
       (λ ratio. cheaper_agrees _ best)
 

@@ -1,10 +1,11 @@
 -- What the end of a run of the primal method, from a tableau of the form's costs, shows of the model.
-use Rattle.std.proofs.Common.{◌≡◌, ℕ, ◌+◌, ◌<◌, List, length, Option, Some, Bool, ap, ◌∙◌, arith}
+use Rattle.std.proofs.Common.{◌≡◌, ℕ, ◌+◌, ◌<◌, List, length, Option, Some, ap, ◌∙◌, arith}
 use Rattle.spec_exact.specs.Fraction.{ℚ, 0ℚ}
 use Rattle.spec_model.specs.Model.{Model, width, height, part}
 use Rattle.spec_check.specs.declared.certificate.Certificate.{Certificate}
 use Rattle.spec_check.specs.Certificate.{IsFor}
 use Rattle.spec_check.specs.Checks.{Checks}
+use Rattle.spec_pivot.specs.declared.status.Way.{Way}
 use Rattle.spec_pivot.specs.Simplex.{Bounds}
 use Rattle.spec_simplex.specs.declared.ends.PrimalEnd.{PrimalEnd}
 use Rattle.spec_simplex.specs.declared.ends.PrimalEnd.TheVariants.{Optimal, Unbounded}
@@ -14,7 +15,7 @@ use Rattle.spec_simplex.specs.Start.{cost_at}
 use Rattle.spec_simplex.specs.Tableau.{Tableau, value_at, reduced_at}
 use Rattle.spec_simplex.specs.Phases.{PrimalEnded}
 use Rattle.spec_exact.proofs.RunsInOrder.{length-made}
-use Rattle.spec_simplex.specs.Tables.{way, table_of, IsTableauOf, IsWithinBounds, IsMeant}
+use Rattle.spec_simplex.specs.Tables.{table_of, IsTableauOf, IsWithinBounds, IsMeant}
 use Rattle.spec_simplex.specs.Begins.{form_rows}
 use Rattle.spec_runs.specs.Cold.{point, multipliers, moves_by, moves_below, direction, certificate_at}
 use Rattle.spec_simplex.proofs.RunParts.{get_or-made}
@@ -44,12 +45,12 @@ module _ (m n : ℕ) (f : ℕ → ℕ → ℚ) (cost : ℕ → ℚ) (b : Bounds)
       get_or-made t.rows (λ i. reduced_at t (t.cols + i)) 0ℚ i (omega (arith, l, s.rows))
       ∙ ap (λ n. reduced_at t (n + i)) s.cols
 
-  pub direction_length : (j : ℕ) (up : Bool) → length (direction t j up) ≡ n
-  direction_length j up = length-made t.cols (moves_by t j up) ∙ s.cols
+  pub direction_length : (j : ℕ) (way : Way) → length (direction t j way) ≡ n
+  direction_length j way = length-made t.cols (moves_by t j way) ∙ s.cols
 
-  pub direction_at : (j : ℕ) (up : Bool) (k : ℕ) → k < n → part (direction t j up) k ≡ moves_below t j up k m
-  direction_at j up k l =
-      get_or-made t.cols (moves_by t j up) 0ℚ k (omega (arith, l, s.cols)) ∙ ap (moves_below t j up k) s.rows
+  pub direction_at : (j : ℕ) (way : Way) (k : ℕ) → k < n → part (direction t j way) k ≡ moves_below t j way k m
+  direction_at j way k l =
+      get_or-made t.cols (moves_by t j way) 0ℚ k (omega (arith, l, s.cols)) ∙ ap (moves_below t j way k) s.rows
 
 module _ (m : Model) (ls : List (Option ℚ × Option ℚ)) (h : Limited m ls)
     (signs : ℕ → ℚ) (b : Bounds) (bs : HasBounds (formed m ls) b)
@@ -80,12 +81,12 @@ module _ (m : Model) (ls : List (Option ℚ × Option ℚ)) (h : Limited m ls)
             (point_length r w F costs b e.tableau after) (point_at r w F costs b e.tableau after)
             (multipliers e.tableau) (multiplier_at r w F costs b e.tableau after) none;
       }
-      by (Unbounded j up) g = record {
-        for = (point_length r w F costs b e.tableau after, direction_length r w F costs b e.tableau after j up);
+      by (Unbounded j way) g = record {
+        for = (point_length r w F costs b e.tableau after, direction_length r w F costs b e.tableau after j way);
         checks =
             unbounded_checks m ls h signs b bs fixed (table_of e.tableau) after.tableau within
-            (way up) j g (point e.tableau) (direction e.tableau j up)
+            way j g (point e.tableau) (direction e.tableau j way)
             (point_length r w F costs b e.tableau after) (point_at r w F costs b e.tableau after)
-            (λ k l. direction_at r w F costs b e.tableau after j up k l
-            ∙ moves_are r (w + r + r) F costs b e.tableau j up after.tableau g.enters k);
+            (λ k l. direction_at r w F costs b e.tableau after j way k l
+            ∙ moves_are r (w + r + r) F costs b e.tableau j way after.tableau g.enters k);
       }

@@ -73,7 +73,7 @@ phases_left limit budget m f (Finished e) left p q r =
         IsBasisOf f (made (form_columns e.tableau) (cold.basis_status e.tableau)) → IsBasisOf f left
     by primal.Optimal r h =
         let z : made (form_columns e.tableau) (cold.basis_status e.tableau) ≡ left = cc in subst (IsBasisOf _) z h
-    by (primal.Unbounded j up) r h = let z : None ≡ Some left = r in cc
+    by (primal.Unbounded j way) r h = let z : None ≡ Some left = r in cc
 
 -- ---- by what the checker says
 module _ (limit : Option ℕ) (budget : ℕ) (m : Model) (basis : List Status)

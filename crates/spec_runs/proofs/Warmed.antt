@@ -120,7 +120,7 @@ module _ (limit : Option ℕ) (m : Model) (ls : List (Option ℚ × Option ℚ))
   stuck_shows : (u : Tableau) (p : ℕ) (below : Bool) → IsReady r w F costs (bounds_of t) u →
       IsStuck r w (bounds_of t) u p below → Shows m (certificate.Infeasible (row_multipliers u p below))
   stuck_shows u p below d k = record {
-    for = length-made u.rows (λ i. directed below (entry_at u p (u.cols + i))) ∙ d.based.tableau.rows;
+    for = length-made u.rows (λ i. directed (way below) (entry_at u p (u.cols + i))) ∙ d.based.tableau.rows;
     checks =
         refuted_checks m ls h (bounds_of t) bounded fixed (row_of (table_of u) (way below) p)
         (stops r (w + r + r) F costs (bounds_of t) (table_of u) d.based.tableau.tableau
@@ -128,10 +128,10 @@ module _ (limit : Option ℕ) (m : Model) (ls : List (Option ℚ × Option ℚ))
         (row_refutes r (w + r + r) F costs (bounds_of t)
         (table_of u) d.based.tableau.tableau (way below) p k.bound k.leaves k.none)
         (row_multipliers u p below)
-        (λ i l. get_or-made u.rows (λ i. directed below (entry_at u p (u.cols + i))) 0ℚ i
+        (λ i l. get_or-made u.rows (λ i. directed (way below) (entry_at u p (u.cols + i))) 0ℚ i
         (omega (arith, l, d.based.tableau.rows))
-        ∙ ap (λ n. directed below (entry_at u p (n + i))) d.based.tableau.cols
-        ∙ directed_is below (entry_at u p (w + i)));
+        ∙ ap (λ n. directed (way below) (entry_at u p (n + i))) d.based.tableau.cols
+        ∙ directed_is (way below) (entry_at u p (w + i)));
   }
 
   dual_shows : (u : Tableau) (end : DualEnd) → IsReady r w F costs (bounds_of t) u →
@@ -221,7 +221,7 @@ module _ (limit : Option ℕ) (m : Model) (ls : List (Option ℚ × Option ℚ))
     where
       by : (end : PrimalEnd) → cold.basis_at e.tableau end ≡ Some left → IsBasisOf (formed m ls) left
       by primal.Optimal q = fits_at e.tableau d.based left q
-      by (primal.Unbounded j up) q = let z : None ≡ Some left = q in cc
+      by (primal.Unbounded j w) q = let z : None ≡ Some left = q in cc
   basis_left (ByDual e) d left = by e.end
     where
       by : (end : DualEnd) → dual_basis e.tableau end ≡ Some left → IsBasisOf (formed m ls) left

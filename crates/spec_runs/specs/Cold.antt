@@ -1,7 +1,7 @@
 -- The cold solve of a model, at a limit and within a budget: its form, both phases,
 -- and the check of what they ended with.
 use Rattle.std.specs.Prelude.{ℕ, zero, suc, ◌+◌, List, Option, Some, None, Result}
-use Rattle.std.specs.Prelude.{Ok, Err, Bool, nat_le, nat_eq, ◌&&◌, if◌then◌else◌}
+use Rattle.std.specs.Prelude.{Ok, Err, nat_le, nat_eq, ◌&&◌, if◌then◌else◌}
 use Rattle.spec_exact.specs.Fraction.{ℚ, 0ℚ, 1ℚ, neg_ℚ}
 use Rattle.spec_model.specs.Model.{Model}
 use Rattle.spec_check.specs.declared.certificate.Certificate.{Certificate}
@@ -12,6 +12,7 @@ use Rattle.spec_check.specs.declared.certificate.CheckStop.TheVariants as check
 use Rattle.spec_check.specs.Run.{check_run}
 use Rattle.spec_pivot.specs.declared.status.Status.{Status}
 use Rattle.spec_pivot.specs.declared.status.Status.TheVariants.{Basic}
+use Rattle.spec_pivot.specs.declared.status.Way.{Way}
 use Rattle.spec_simplex.specs.declared.ends.FormFault.{FormFault}
 use Rattle.spec_simplex.specs.declared.ends.FormFault.TheVariants as fault
 use Rattle.spec_simplex.specs.declared.ends.PrimalEnd.{PrimalEnd}
@@ -43,23 +44,23 @@ multipliers t = made t.rows (λ i. reduced_at t (t.cols + i))
 
 -- how column k moves while column j enters and rises or falls by 1:
 -- by the last of the first m positions at which it is basic
-abbrev pub moves_below : Tableau → ℕ → Bool → ℕ → ℕ → ℚ
-moves_below t j up k zero = if nat_eq k j then directed up 1ℚ else 0ℚ
-moves_below t j up k (suc m) =
-    if nat_eq (basic_at t m) k then neg_ℚ (directed up (entry_at t m j)) else moves_below t j up k m
+abbrev pub moves_below : Tableau → ℕ → Way → ℕ → ℕ → ℚ
+moves_below t j way k zero = if nat_eq k j then directed way 1ℚ else 0ℚ
+moves_below t j way k (suc m) =
+    if nat_eq (basic_at t m) k then neg_ℚ (directed way (entry_at t m j)) else moves_below t j way k m
 
 -- how column k moves while column j enters and rises or falls by 1
-abbrev pub moves_by : Tableau → ℕ → Bool → ℕ → ℚ
-moves_by t j up k = moves_below t j up k t.rows
+abbrev pub moves_by : Tableau → ℕ → Way → ℕ → ℚ
+moves_by t j way k = moves_below t j way k t.rows
 
 -- the ray along which the model's columns move
-abbrev pub direction : Tableau → ℕ → Bool → List ℚ
-direction t j up = made t.cols (moves_by t j up)
+abbrev pub direction : Tableau → ℕ → Way → List ℚ
+direction t j way = made t.cols (moves_by t j way)
 
 -- the certificate of what the primal method ends with at a tableau
 abbrev pub certificate_at : Tableau → PrimalEnd → Certificate (List ℚ)
 certificate_at t Optimal = certificate.Optimal (point t) (multipliers t)
-certificate_at t (Unbounded j up) = certificate.Unbounded (point t) (direction t j up)
+certificate_at t (Unbounded j way) = certificate.Unbounded (point t) (direction t j way)
 
 -- the certificate of what both phases end with
 abbrev pub certificate_of : PhasesEnd → Certificate (List ℚ)
@@ -75,7 +76,7 @@ basis_status t k = if nat_le t.cols k && is_basic (status_at t (k + t.rows)) the
 -- the statuses of the model's columns and of the rows' logicals
 abbrev pub basis_at : Tableau → PrimalEnd → Option (List Status)
 basis_at t Optimal = Some (made (form_columns t) (basis_status t))
-basis_at t (Unbounded j up) = None
+basis_at t (Unbounded j way) = None
 
 -- the basis of what both phases end with, if that is an optimum
 abbrev pub basis_of : PhasesEnd → Option (List Status)

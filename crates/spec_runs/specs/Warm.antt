@@ -18,6 +18,7 @@ use Rattle.spec_simplex.specs.declared.ends.RunStop.TheVariants as stop
 use Rattle.spec_exact.specs.Run.{◌>>=◌, refused_as, made}
 use Rattle.spec_simplex.specs.Form.{Form, form_of}
 use Rattle.spec_simplex.specs.Step.{directed}
+use Rattle.spec_simplex.specs.Tables.{way}
 use Rattle.spec_simplex.specs.Tableau.{Tableau, entry_at}
 use Rattle.spec_simplex.specs.Phases.{PrimalEnded, run_from}
 use Rattle.spec_runs.specs.Cold.{point, multipliers, certificate_at, basis_at}
@@ -76,7 +77,7 @@ warm_run limit budget f basis =
 
 -- the entries of a position's row in the rows' logicals, or their negatives
 abbrev pub row_multipliers : Tableau → ℕ → Bool → List ℚ
-row_multipliers t p below = made t.rows (λ i. directed below (entry_at t p (t.cols + i)))
+row_multipliers t p below = made t.rows (λ i. directed (way below) (entry_at t p (t.cols + i)))
 
 -- the certificate of what the dual method ends with at a tableau
 abbrev pub dual_certificate : Tableau → DualEnd → Certificate (List ℚ)
