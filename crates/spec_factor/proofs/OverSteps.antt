@@ -30,7 +30,7 @@ use Rattle.spec_simplex.specs.Step.{choice_of, choice_run, is_place, moved_at, m
 use Rattle.spec_simplex.specs.Step.{flipped, flip_run, shifted_run, exchanged, turned, pivot_run}
 use Rattle.spec_simplex.specs.Phases.{done_run}
 use Rattle.spec_exact.proofs.RunsInOrder.{length-made, get_or-made}
-use Rattle.spec_simplex.specs.Tables.{way, table_of, IsTableauOf, IsWithinBounds}
+use Rattle.spec_simplex.specs.Tables.{table_of, IsTableauOf, IsWithinBounds}
 use Rattle.spec_simplex.specs.Begins.{form_rows, signs_of}
 use Rattle.spec_simplex.proofs.RunParts.{then_ok}
 use Rattle.spec_simplex.proofs.Enters.{an_entering}
@@ -90,26 +90,26 @@ module _ (m n : ℕ) (F : ℕ → ℕ → ℚ) (cost : ℕ → ℚ) (b : Bounds)
           (o : Option ℕ) → x.place ≡ o → choice_at e x o ≡ Pivot p j theta to → ChosenPivot b t p j
       at_place e is x found None z h = let y : ◌≡◌ {A = Choice ℚ} (Flip e.col) (Pivot p j theta to) = h in cc
       at_place e is x found (Some i) z h =
-          let y : ◌≡◌ {A = Choice ℚ} (Pivot i e.col (directed e.up x.ratio) x.to) (Pivot p j theta to) = h in
+          let y : ◌≡◌ {A = Choice ℚ} (Pivot i e.col (directed e.direction x.ratio) x.to) (Pivot p j theta to) = h in
           let pi : i ≡ p = cc in
           let ji : e.col ≡ j = cc in
-          let enters : Enters (all_columns t) b (table_of t) (way e.up) e.col = an_entering b t st.bounds e is in
-          let v : Pivots t.rows (all_columns t) b (table_of t) (way e.up) e.col i x.ratio
-          (bound_ahead (way_of (ray t.rows (table_of t) (way e.up) e.col (basic_at t i)))) =
-          best_pivots t.rows (all_columns t) F cost b (table_of t) (way e.up) e.col
+          let enters : Enters (all_columns t) b (table_of t) e.direction e.col = an_entering b t st.bounds e is in
+          let v : Pivots t.rows (all_columns t) b (table_of t) e.direction e.col i x.ratio
+          (bound_ahead (way_of (ray t.rows (table_of t) e.direction e.col (basic_at t i)))) =
+          best_pivots t.rows (all_columns t) F cost b (table_of t) e.direction e.col
           (own_table m n F cost b t st) own_within enters (plain x)
           (a_best limit t st.whole F cost b (own_table m n F cost b t st) st.bounds e enters x found) i z in
           subst₂ (λ j p. ChosenPivot b t p j) ji pi (record {
-            way = way e.up;
+            way = e.direction;
             ratio = x.ratio;
-            to = bound_ahead (way_of (ray t.rows (table_of t) (way e.up) e.col (basic_at t i)));
+            to = bound_ahead (way_of (ray t.rows (table_of t) e.direction e.col (basic_at t i)));
             pivots = v;
           })
 
       with_best : (e : Entering) → entering t ≡ Some e → (best : Option (Best ℚ)) → best_run limit t e ≡ Ok best →
           choice_by e best ≡ Pivot p j theta to → ChosenPivot b t p j
       with_best e is None found h =
-          let y : ◌≡◌ {A = Choice ℚ} (End (Unbounded e.col e.up)) (Pivot p j theta to) = h in cc
+          let y : ◌≡◌ {A = Choice ℚ} (End (Unbounded e.col e.direction)) (Pivot p j theta to) = h in cc
       with_best e is (Some x) found h = at_place e is x found x.place refl h
 
       by : (o : Option Entering) → entering t ≡ o → choice_of limit t o ≡ Ok (Pivot p j theta to) → ChosenPivot b t p j

@@ -20,7 +20,7 @@ use Rattle.spec_simplex.specs.Tableau.{Tableau, all_columns, basic_at, value_at}
 use Rattle.spec_simplex.specs.Tableau.{reduced_at, status_at, lower_at, upper_at, is_fixed}
 use Rattle.spec_simplex.specs.Step.{way_by, way_at, or_enters, entering_below, entering, directed}
 use Rattle.spec_simplex.specs.Step.{best_run, choice_at, choice_by, choice_of, choice_run}
-use Rattle.spec_simplex.specs.Tables.{way, table_of, IsTableauOf}
+use Rattle.spec_simplex.specs.Tables.{table_of, IsTableauOf}
 use Rattle.spec_simplex.proofs.RunParts.{then_ok}
 use Rattle.spec_simplex.proofs.ListIndices.{by_lt}
 use Rattle.spec_simplex.proofs.Enters.{an_entering}
@@ -49,14 +49,14 @@ module _ (m n : ℕ) (f : Matrix) (cost : ℕ → ℚ) (b : Bounds) (t : Tableau
       (sym (s.bounds.fixed k (omega (arith, h, s.rows, s.cols)) (omega (arith, l, s.rows, s.cols)) e)) (other h e)))
 
   -- the ratio test of a run is the scan over positions
-  scan_is : (e : Entering) → Enters (all_columns t) b (table_of t) (way e.up) e.col → (limit : Option ℕ) →
+  scan_is : (e : Entering) → Enters (all_columns t) b (table_of t) e.direction e.col → (limit : Option ℕ) →
       (best : Option (Best ℚ)) → best_run limit t e ≡ Ok best →
-      best_of m b (table_of t) (way e.up) e.col ≡ option_map plain best
+      best_of m b (table_of t) e.direction e.col ≡ option_map plain best
   scan_is e enters limit best h =
-      subst (λ m. best_of m b (table_of t) (way e.up) e.col ≡ option_map plain best) s.rows (by best h)
+      subst (λ m. best_of m b (table_of t) e.direction e.col ≡ option_map plain best) s.rows (by best h)
     where
       by : (best : Option (Best ℚ)) → best_run limit t e ≡ Ok best →
-          best_of t.rows b (table_of t) (way e.up) e.col ≡ option_map plain best
+          best_of t.rows b (table_of t) e.direction e.col ≡ option_map plain best
       by None h = no_best limit t s.whole f cost b own_table s.bounds e enters h
       by (Some x) h = a_best limit t s.whole f cost b own_table s.bounds e enters x h
 
@@ -100,36 +100,36 @@ module _ (m n : ℕ) (f : Matrix) (cost : ℕ → ℚ) (b : Bounds) (t u : Table
   -- ---- the ratio test
   module _ (e : Entering) (there : entering t ≡ Some e) where
     abbrev rooms : Tableau → ℕ → Option ℚ
-    rooms v = room_at m b (table_of v) (way e.up) e.col
+    rooms v = room_at m b (table_of v) e.direction e.col
 
-    enters_t : Enters (n + m + m) b (table_of t) (way e.up) e.col
+    enters_t : Enters (n + m + m) b (table_of t) e.direction e.col
     enters_t =
-        subst (λ k. Enters k b (table_of t) (way e.up) e.col)
+        subst (λ k. Enters k b (table_of t) e.direction e.col)
         (columns_are m n f cost b t st) (an_entering b t st.bounds e there)
 
-    enters_u : Enters (n + m + m) b (table_of u) (way e.up) e.col
+    enters_u : Enters (n + m + m) b (table_of u) e.direction e.col
     enters_u =
-        subst (λ k. Enters k b (table_of u) (way e.up) e.col) (columns_are m n f cost b u su)
+        subst (λ k. Enters k b (table_of u) e.direction e.col) (columns_are m n f cost b u su)
         (an_entering b u su.bounds e (sym same_entering ∙ there))
 
     outside_t : (i : ℕ) → i < m → basic_at t i ≢ e.col
-    outside_t = j_outside m (n + m + m) f cost b (table_of t) st.tableau (way e.up) e.col enters_t
+    outside_t = j_outside m (n + m + m) f cost b (table_of t) st.tableau e.direction e.col enters_t
 
     outside_u : (i : ℕ) → i < m → basic_at u i ≢ e.col
-    outside_u = j_outside m (n + m + m) f cost b (table_of u) su.tableau (way e.up) e.col enters_u
+    outside_u = j_outside m (n + m + m) f cost b (table_of u) su.tableau e.direction e.col enters_u
 
     -- the basic columns of both move in the same way
     same_ray : (r i : ℕ) → r < m → i < m → basic_at t r ≡ basic_at u i →
-        ray m (table_of t) (way e.up) e.col (basic_at t r) ≡ ray m (table_of u) (way e.up) e.col (basic_at u i)
+        ray m (table_of t) e.direction e.col (basic_at t r) ≡ ray m (table_of u) e.direction e.col (basic_at u i)
     same_ray r i p q z =
-        ray_basic m (table_of t) st.tableau.units (way e.up) e.col outside_t r p
-        ∙ ap (λ a. neg_ℚ (sign (way e.up) *ℚ a)) (both.rows r i p q z e.col)
-        ∙ sym (ray_basic m (table_of u) su.tableau.units (way e.up) e.col outside_u i q)
+        ray_basic m (table_of t) st.tableau.units e.direction e.col outside_t r p
+        ∙ ap (λ a. neg_ℚ (sign e.direction *ℚ a)) (both.rows r i p q z e.col)
+        ∙ sym (ray_basic m (table_of u) su.tableau.units e.direction e.col outside_u i q)
 
     same_room : (r i : ℕ) → r < m → i < m → basic_at t r ≡ basic_at u i → rooms t r ≡ rooms u i
     same_room r i p q z =
         ap₂ (λ k a. room b k (value_at t k) a) z (same_ray r i p q z)
-        ∙ ap (λ v. room b (basic_at u i) v (ray m (table_of u) (way e.up) e.col (basic_at u i)))
+        ∙ ap (λ v. room b (basic_at u i) v (ray m (table_of u) e.direction e.col (basic_at u i)))
         (both.values (basic_at u i) (su.tableau.in_range i q))
 
     forth : SamePositions m (rooms t) (basic_at t) (rooms u) (basic_at u)
@@ -190,16 +190,16 @@ module _ (m n : ℕ) (f : Matrix) (cost : ℕ → ℚ) (b : Bounds) (t u : Table
           ratio = found.ratio
 
           ahead_t : (p : ℕ) → x.place ≡ Some p →
-              x.to ≡ bound_ahead (way_of (ray m (table_of t) (way e.up) e.col (basic_at t p)))
+              x.to ≡ bound_ahead (way_of (ray m (table_of t) e.direction e.col (basic_at t p)))
           ahead_t p z =
-              subst (λ m. x.to ≡ bound_ahead (way_of (ray m (table_of t) (way e.up) e.col (basic_at t p)))) st.rows
+              subst (λ m. x.to ≡ bound_ahead (way_of (ray m (table_of t) e.direction e.col (basic_at t p)))) st.rows
               (best_ahead limit t st.whole f cost b (own_table m n f cost b t st) st.bounds e
               (an_entering b t st.bounds e there) x h p z)
 
           ahead_u : (p : ℕ) → y.place ≡ Some p →
-              y.to ≡ bound_ahead (way_of (ray m (table_of u) (way e.up) e.col (basic_at u p)))
+              y.to ≡ bound_ahead (way_of (ray m (table_of u) e.direction e.col (basic_at u p)))
           ahead_u p z =
-              subst (λ m. y.to ≡ bound_ahead (way_of (ray m (table_of u) (way e.up) e.col (basic_at u p)))) su.rows
+              subst (λ m. y.to ≡ bound_ahead (way_of (ray m (table_of u) e.direction e.col (basic_at u p)))) su.rows
               (best_ahead limit2 u su.whole f cost b (own_table m n f cost b u su) su.bounds e
               (an_entering b u su.bounds e (sym same_entering ∙ there)) y k p z)
 
@@ -221,7 +221,7 @@ module _ (m n : ℕ) (f : Matrix) (cost : ℕ → ℚ) (b : Bounds) (t u : Table
                 q.0,
                 subst (λ m. q.0 < m) (sym su.rows) q.1,
                 q.2,
-                ap (choice_at e y) q.3 ∙ ap₂ (λ r to. Pivot q.0 e.col (directed e.up r) to) (sym ratio) (sym to),
+                ap (choice_at e y) q.3 ∙ ap₂ (λ r to. Pivot q.0 e.col (directed e.direction r) to) (sym ratio) (sym to),
               )
 
       same_chosen : (c d : Option (Best ℚ)) → best_run limit t e ≡ Ok c → best_run limit2 u e ≡ Ok d →

@@ -1,13 +1,13 @@
 -- Where a step over factors ends the run, its certificate and its basis are the tableau's.
 use Rattle.std.proofs.Common.{◌≡◌, ◌≢◌, ⊎_elim, ℕ, zero, suc, ◌+◌, ◌<◌, ◌≤◌, List, length, get_or}
-use Rattle.std.proofs.Common.{Option, None, Ok, Bool, cond, nat_eq, refl, sym, ap, ap₂, ◌∙◌, subst, arith}
+use Rattle.std.proofs.Common.{Option, None, Ok, cond, nat_eq, refl, sym, ap, ap₂, ◌∙◌, subst, arith}
 use Rattle.spec_exact.specs.Fraction.{ℚ, ◌-ℚ◌, ◌*ℚ◌, neg_ℚ, 0ℚ}
 use Rattle.spec_exact.proofs.Field.{*ℚ_comm}
 use Rattle.spec_exact.proofs.Ruleset.{ring}
 use Rattle.spec_exact.proofs.Sums.{sum_below_same}
 use Rattle.spec_check.specs.declared.certificate.Certificate.TheVariants as certificate
-use Rattle.spec_pivot.specs.declared.status.Way.{Way}
 use Rattle.spec_pivot.specs.declared.status.Status.TheVariants.{Basic}
+use Rattle.spec_pivot.specs.declared.status.Way.{Way}
 use Rattle.spec_pivot.specs.Tableau.{Matrix, delta}
 use Rattle.spec_pivot.specs.Simplex.{Bounds, Enters, ray, sign, SameStatuses}
 use Rattle.spec_pivot.proofs.SameEquations.{j_outside}
@@ -24,7 +24,7 @@ use Rattle.spec_simplex.specs.Start.{cost_at}
 use Rattle.spec_simplex.specs.Step.{directed, choice_run}
 use Rattle.spec_simplex.specs.Tableau.{Tableau, basic_at, entry_at, reduced_at, status_at}
 use Rattle.spec_runs.specs.Cold.{point, multipliers, moves_below, moves_by, direction, certificate_at, basis_at}
-use Rattle.spec_simplex.specs.Tables.{way, table_of, IsTableauOf, IsWithinBounds}
+use Rattle.spec_simplex.specs.Tables.{table_of, IsTableauOf, IsWithinBounds}
 use Rattle.spec_simplex.specs.Begins.{form_rows, signs_of}
 use Rattle.spec_simplex.proofs.Moved.{at_position}
 use Rattle.spec_runs.proofs.Directions.{moves_are}
@@ -73,14 +73,14 @@ module _ (m n : ℕ) (f : Matrix) (cost : ℕ → ℚ) (b : Bounds) (t u : Table
       (at_position m (n + m + m) f cost b (table_of t) st.tableau k)
 
 -- the same entries in column j make the same moves
-moves_same : (v u : Tableau) (j : ℕ) (up : Bool) (k : ℕ) → SameColumn v u j → (n : ℕ) → n ≤ u.rows →
-    moves_below v j up k n ≡ moves_below u j up k n
-moves_same v u j up k s zero h = refl
-moves_same v u j up k s (suc n) h =
-    ap₂ (λ b a. cond (nat_eq (get_or b n 0) k) (neg_ℚ (directed up a)) (moves_below v j up k n)) s.basic
+moves_same : (v u : Tableau) (j : ℕ) (way : Way) (k : ℕ) → SameColumn v u j → (n : ℕ) → n ≤ u.rows →
+    moves_below v j way k n ≡ moves_below u j way k n
+moves_same v u j way k s zero h = refl
+moves_same v u j way k s (suc n) h =
+    ap₂ (λ b a. cond (nat_eq (get_or b n 0) k) (neg_ℚ (directed way a)) (moves_below v j way k n)) s.basic
     (s.entries n (omega (arith, h)))
-    ∙ ap (λ a. cond (nat_eq (basic_at u n) k) (neg_ℚ (directed up (entry_at u n j))) a)
-    (moves_same v u j up k s n (omega (arith, h)))
+    ∙ ap (λ a. cond (nat_eq (basic_at u n) k) (neg_ℚ (directed way (entry_at u n j))) a)
+    (moves_same v u j way k s n (omega (arith, h)))
 
 module _ (f : Form) (starts : List (RowStart ℚ)) (costs : List ℚ) (b : Bounds)
     (t : Tableau) (st : IsTableauOf f.rows f.cols (form_rows f (signs_of starts)) (cost_at costs) b t)
@@ -122,38 +122,38 @@ module _ (f : Form) (starts : List (RowStart ℚ)) (costs : List ℚ) (b : Bound
       ∙ ap (λ n. reduced_at t (n + i)) (sym st.cols))
 
   -- ---- the direction
-  pub direction_is : (limit limit2 : Option ℕ) (v : Tableau) (j : ℕ) (up : Bool) →
-      Sees f starts costs b t st few basic pairs g limit j v → choice_run None t ≡ Ok (End (Unbounded j up)) →
-      choice_run limit2 w ≡ Ok (End (Unbounded j up)) → direction v j up ≡ direction t j up
-  direction_is limit limit2 v j up s ct cw =
-      ap (λ n. made n (moves_by v j up)) cols_same
-      ∙ made_same t.cols (moves_by v j up) (moves_by t j up) (λ k _. move k)
+  pub direction_is : (limit limit2 : Option ℕ) (v : Tableau) (j : ℕ) (way : Way) →
+      Sees f starts costs b t st few basic pairs g limit j v → choice_run None t ≡ Ok (End (Unbounded j way)) →
+      choice_run limit2 w ≡ Ok (End (Unbounded j way)) → direction v j way ≡ direction t j way
+  direction_is limit limit2 v j way s ct cw =
+      ap (λ n. made n (moves_by v j way)) cols_same
+      ∙ made_same t.cols (moves_by v j way) (moves_by t j way) (λ k _. move k)
     where
-      enters_t : Enters (f.cols + f.rows + f.rows) b (table_of t) (way up) j
+      enters_t : Enters (f.cols + f.rows + f.rows) b (table_of t) way j
       enters_t =
           (choice_is_meant None f.rows f.cols (form_rows f (signs_of starts))
-          (cost_at costs) b t (End (Unbounded j up)) st inside ct).enters
+          (cost_at costs) b t (End (Unbounded j way)) st inside ct).enters
 
-      enters_w : Enters (f.cols + f.rows + f.rows) b (table_of w) (way up) j
+      enters_w : Enters (f.cols + f.rows + f.rows) b (table_of w) way j
       enters_w =
           (choice_is_meant limit2 f.rows f.cols (form_rows f (signs_of starts))
-          (cost_at costs) b w (End (Unbounded j up)) w_is inside cw).enters
+          (cost_at costs) b w (End (Unbounded j way)) w_is inside cw).enters
 
       cols_same : v.cols ≡ t.cols
       cols_same = ap (λ (v : Tableau). v.cols) s.sight
 
-      move : (k : ℕ) → moves_by v j up k ≡ moves_by t j up k
+      move : (k : ℕ) → moves_by v j way k ≡ moves_by t j way k
       move k =
-          ap (moves_below v j up k) s.same.rows
-          ∙ moves_same v w j up k s.same w.rows (let z : t.rows ≤ t.rows = omega arith in z)
-          ∙ ap (moves_below w j up k) st.rows
+          ap (moves_below v j way k) s.same.rows
+          ∙ moves_same v w j way k s.same w.rows (let z : t.rows ≤ t.rows = omega arith in z)
+          ∙ ap (moves_below w j way k) st.rows
           ∙ moves_are f.rows (f.cols + f.rows + f.rows) (form_rows f (signs_of starts))
-          (cost_at costs) b w j up w_is.tableau enters_w k
+          (cost_at costs) b w j way w_is.tableau enters_w k
           ∙ sym (rays_same f.rows f.cols (form_rows f (signs_of starts))
-          (cost_at costs) b t w st w_is (λ k _. refl) (way up) j enters_t enters_w k)
+          (cost_at costs) b t w st w_is (λ k _. refl) way j enters_t enters_w k)
           ∙ sym (moves_are f.rows (f.cols + f.rows + f.rows)
-          (form_rows f (signs_of starts)) (cost_at costs) b t j up st.tableau enters_t k)
-          ∙ ap (moves_below t j up k) (sym st.rows)
+          (form_rows f (signs_of starts)) (cost_at costs) b t j way st.tableau enters_t k)
+          ∙ ap (moves_below t j way k) (sym st.rows)
 
   -- ---- the certificate and the basis
   pub certificate_same : (selection : Selection) (end : PrimalEnd) →
@@ -161,13 +161,13 @@ module _ (f : Form) (starts : List (RowStart ℚ)) (costs : List ℚ) (b : Bound
       selection.choice ≡ End end → over_certificate (bare_with t basic) selection end ≡ certificate_at t end
   certificate_same selection Optimal l c e =
       ap (certificate.Optimal (point t)) (negatives_are selection.multipliers l.multipliers)
-  certificate_same selection (Unbounded j up) l c e =
+  certificate_same selection (Unbounded j way) l c e =
       ap (certificate.Unbounded (point t))
-      (direction_is None None selection.tableau j up
+      (direction_is None None selection.tableau j way
       (subst (λ d. SeesFor f starts costs b t st few basic pairs g None d selection.tableau) e l.sees) c
       (l.choice ∙ ap Ok e))
 
 -- the basis of an end is the same at a tableau and without its rows and reduced costs
 pub basis_same : (t : Tableau) (basic : List ℕ) (end : PrimalEnd) → basis_at (bare_with t basic) end ≡ basis_at t end
 basis_same t basic Optimal = refl
-basis_same t basic (Unbounded j up) = refl
+basis_same t basic (Unbounded j way) = refl

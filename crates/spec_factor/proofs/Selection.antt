@@ -8,6 +8,7 @@ use Rattle.spec_exact.proofs.Ruleset.{ring}
 use Rattle.spec_exact.proofs.Sums.{sum_below_same}
 use Rattle.spec_pivot.specs.declared.status.Status.{Status}
 use Rattle.spec_pivot.specs.declared.status.Status.TheVariants.{Basic}
+use Rattle.spec_pivot.specs.declared.status.Way.{Way}
 use Rattle.spec_pivot.specs.Simplex.{Bounds}
 use Rattle.spec_pivot.proofs.Values.{by_basic}
 use Rattle.spec_simplex.specs.declared.ends.RowStart.{RowStart}
@@ -71,13 +72,13 @@ best_same limit t u e s =
   where
     with_same : (i : ℕ) (best : Option (Best ℚ)) → i < u.rows → best_with limit t e i best ≡ best_with limit u e i best
     with_same i best l =
-        ap (λ a. gap_run limit e.up a (lower_at t (basic_at t i)) (upper_at t (basic_at t i))
+        ap (λ a. gap_run limit e.direction a (lower_at t (basic_at t i)) (upper_at t (basic_at t i))
         (value_at t (basic_at t i)) >>= λ gap. with_gap limit i (basic_at t i) a best gap) (s.entries i l)
-        ∙ ap (λ b. gap_run limit e.up (entry_at u i e.col) (lower_at t (get_or b i 0)) (upper_at t (get_or b i 0))
+        ∙ ap (λ b. gap_run limit e.direction (entry_at u i e.col) (lower_at t (get_or b i 0)) (upper_at t (get_or b i 0))
         (value_at t (get_or b i 0)) >>= λ gap. with_gap limit i (get_or b i 0) (entry_at u i e.col) best gap) s.basic
-        ∙ ap (λ v. gap_run limit e.up (entry_at u i e.col) (lower_at t (basic_at u i)) (upper_at t (basic_at u i))
+        ∙ ap (λ v. gap_run limit e.direction (entry_at u i e.col) (lower_at t (basic_at u i)) (upper_at t (basic_at u i))
         (get_or v (basic_at u i) 0ℚ) >>= λ gap. with_gap limit i (basic_at u i) (entry_at u i e.col) best gap) s.values
-        ∙ ap₂ (λ v h. gap_run limit e.up (entry_at u i e.col) (get_or v (basic_at u i) None)
+        ∙ ap₂ (λ v h. gap_run limit e.direction (entry_at u i e.col) (get_or v (basic_at u i) None)
         (get_or h (basic_at u i) None) (value_at u (basic_at u i)) >>=
         λ gap. with_gap limit i (basic_at u i) (entry_at u i e.col) best gap) s.lower s.upper
 
@@ -143,7 +144,7 @@ module _ (f : Form) (starts : List (RowStart ℚ)) (costs : List ℚ) (b : Bound
         more : (c s p : ℚ) → (c -ℚ s) -ℚ p ≡ c -ℚ (s +ℚ p)
         more c s p = simp ring
 
-    way_ok : (k : ℕ) (w : Option Bool) → k < all_columns t → way_run limit f costs y bare k ≡ Ok w → w ≡ way_at W k
+    way_ok : (k : ℕ) (w : Option Way) → k < all_columns t → way_run limit f costs y bare k ≡ Ok w → w ≡ way_at W k
     way_ok k w l h = by (is_fixed (lower_at t k) (upper_at t k)) (is_basic (status_at t k)) refl refl h
       where
         none : (s : Status) (d : ℚ) → s ≡ Basic → way_by s d ≡ None
@@ -239,7 +240,7 @@ module _ (f : Form) (starts : List (RowStart ℚ)) (costs : List ℚ) (b : Bound
   -- ---- the choice
   abbrev pub SeesFor : Option ℕ → Choice ℚ → Tableau → Type 0
   SeesFor limit (End Optimal) v = Unit {0}
-  SeesFor limit (End (Unbounded j up)) v = Sees limit j v
+  SeesFor limit (End (Unbounded j way)) v = Sees limit j v
   SeesFor limit (Flip j) v = Sees limit j v
   SeesFor limit (Pivot p j theta to) v = Sees limit j v
 

@@ -97,7 +97,7 @@ stuck_answer e =
 -- the certificate of an end of phase two
 abbrev pub over_certificate : Tableau → Selection → PrimalEnd → Certificate (List ℚ)
 over_certificate t selection Optimal = certificate.Optimal (point t) (negatives t.rows selection.multipliers)
-over_certificate t selection (Unbounded j up) = certificate.Unbounded (point t) (direction selection.tableau j up)
+over_certificate t selection (Unbounded j way) = certificate.Unbounded (point t) (direction selection.tableau j way)
 
 -- the certificate, the basis and the count of an end of phase two
 abbrev pub end_answer : RevisedEnded → OverEnd

@@ -2,9 +2,10 @@
 -- kept. The multipliers come from the basic columns' costs by btran, reduced costs are taken up to the column that
 -- enters, and of the rows only the entries of that column are known, by ftran.
 use Rattle.std.specs.Prelude.{ℕ, suc, ◌+◌, ◌-◌, List, [], map, get_or, Option, Some, None}
-use Rattle.std.specs.Prelude.{Result, Ok, Err, Bool, nat_eq, nat_le, ◌&&◌, ◌||◌, if◌then◌else◌}
+use Rattle.std.specs.Prelude.{Result, Ok, Err, nat_eq, nat_le, ◌&&◌, ◌||◌, if◌then◌else◌}
 use Rattle.spec_exact.specs.Fraction.{ℚ, 0ℚ, 1ℚ, ◌*ℚ◌}
 use Rattle.spec_pivot.specs.declared.status.Status.{Status}
+use Rattle.spec_pivot.specs.declared.status.Way.{Way}
 use Rattle.spec_simplex.specs.declared.ends.RowStart.{RowStart}
 use Rattle.spec_simplex.specs.declared.ends.Entering.{Entering}
 use Rattle.spec_simplex.specs.declared.ends.PrimalEnd.TheVariants.{Optimal}
@@ -94,7 +95,7 @@ price_run limit f costs y k =
     steps f.rows (λ i d. less_product limit (get_or y i 0ℚ) (column_entry f i k) d) (cost_at costs k)
 
 -- whether column k rises or falls, if it may enter
-abbrev pub way_run : Option ℕ → Form → List ℚ → List ℚ → Tableau → ℕ → Run (Option Bool)
+abbrev pub way_run : Option ℕ → Form → List ℚ → List ℚ → Tableau → ℕ → Run (Option Way)
 way_run limit f costs y t k =
     if is_fixed (lower_at t k) (upper_at t k) || is_basic (status_at t k)
     then Ok None
