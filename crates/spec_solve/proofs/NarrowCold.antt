@@ -20,6 +20,8 @@ use Rattle.spec_check.specs.declared.certificate.CheckStop.TheVariants as check
 use Rattle.spec_check.specs.Certificate.{IsNarrowCertificate}
 use Rattle.spec_check.specs.Run.{check_run}
 use Rattle.spec_pivot.specs.declared.status.Status.{Status}
+use Rattle.spec_pivot.specs.declared.status.Way.{Way}
+use Rattle.spec_pivot.specs.declared.status.Way.TheVariants.{Up, Down}
 use Rattle.spec_simplex.specs.declared.ends.Choice.{Choice}
 use Rattle.spec_simplex.specs.declared.ends.Choice.TheVariants.{End, Flip, Pivot}
 use Rattle.spec_simplex.specs.declared.ends.FormFault.{FormFault}
@@ -156,23 +158,23 @@ phases_narrow budget f e h k =
 -- ---- certificates
 
 -- a narrow number is narrow in either direction
-directed_narrow : (up : Bool) (v : ℚ) → IsNarrow v → IsNarrow (directed up v)
-directed_narrow true v h = h
-directed_narrow false v h = neg_narrow v h
+directed_narrow : (way : Way) (v : ℚ) → IsNarrow v → IsNarrow (directed way v)
+directed_narrow Up v h = h
+directed_narrow Down v h = neg_narrow v h
 
-pub moves_narrow : (t : Tableau) (j : ℕ) (up : Bool) (k m : ℕ) → AreNarrow t → IsNarrow (moves_below t j up k m)
-moves_narrow t j up k zero n = by (nat_eq k j)
+pub moves_narrow : (t : Tableau) (j : ℕ) (way : Way) (k m : ℕ) → AreNarrow t → IsNarrow (moves_below t j way k m)
+moves_narrow t j way k zero n = by (nat_eq k j)
   where
-    by : (c : Bool) → IsNarrow (cond c (directed up 1ℚ) 0ℚ)
-    by true = directed_narrow up 1ℚ one_narrow
+    by : (c : Bool) → IsNarrow (cond c (directed way 1ℚ) 0ℚ)
+    by true = directed_narrow way 1ℚ one_narrow
     by false = zero_narrow
-moves_narrow t j up k (suc m) n = by (nat_eq (basic_at t m) k) (moves_narrow t j up k m n)
+moves_narrow t j way k (suc m) n = by (nat_eq (basic_at t m) k) (moves_narrow t j way k m n)
   where
-    by : (c : Bool) → IsNarrow (moves_below t j up k m) →
-        IsNarrow (cond c (neg_ℚ (directed up (entry_at t m j))) (moves_below t j up k m))
+    by : (c : Bool) → IsNarrow (moves_below t j way k m) →
+        IsNarrow (cond c (neg_ℚ (directed way (entry_at t m j))) (moves_below t j way k m))
     by true h =
-        neg_narrow (directed up (entry_at t m j))
-        (directed_narrow up (entry_at t m j) (place_narrow t.entries n.entries m j))
+        neg_narrow (directed way (entry_at t m j))
+        (directed_narrow way (entry_at t m j) (place_narrow t.entries n.entries m j))
     by false h = h
 
 pub point_narrow : (t : Tableau) → AreNarrow t → All IsNarrow (point t)
@@ -186,8 +188,8 @@ multipliers_narrow t n =
 -- the certificate of any end at a tableau with narrow numbers has narrow numbers
 end_narrow : (t : Tableau) (end : PrimalEnd) → AreNarrow t → IsNarrowCertificate (certificate_at t end)
 end_narrow t Optimal n = (point_narrow t n, multipliers_narrow t n)
-end_narrow t (Unbounded j up) n =
-    (point_narrow t n, All-made IsNarrow t.cols (moves_by t j up) (λ k l. moves_narrow t j up k t.rows n))
+end_narrow t (Unbounded j way) n =
+    (point_narrow t n, All-made IsNarrow t.cols (moves_by t j way) (λ k l. moves_narrow t j way k t.rows n))
 
 -- the certificate of an end of both phases with narrow numbers has narrow numbers
 certificate_narrow : (e : PhasesEnd) → NarrowEnd e → IsNarrowCertificate (certificate_of e)

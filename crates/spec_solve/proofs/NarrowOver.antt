@@ -334,10 +334,10 @@ module _ (f : Form) (starts : List (RowStart ℚ)) (form : IsNarrowForm f) where
       IsNarrowCertificate (over_certificate t selection end)
   certificate_by t selection Optimal n k =
       (point_narrow t n, negatives_narrow t.rows selection.multipliers k.multipliers)
-  certificate_by t selection (Unbounded j up) n k = (
+  certificate_by t selection (Unbounded j way) n k = (
     point_narrow t n,
-    All-made IsNarrow selection.tableau.cols (moves_by selection.tableau j up)
-        (λ i l. moves_narrow selection.tableau j up i selection.tableau.rows k.tableau),
+    All-made IsNarrow selection.tableau.cols (moves_by selection.tableau j way)
+        (λ i l. moves_narrow selection.tableau j way i selection.tableau.rows k.tableau),
   )
 
   two_narrow_phases : (budget : ℕ) (one : RevisedEnded) (a : OverEnd) →
