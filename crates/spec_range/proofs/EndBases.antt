@@ -43,7 +43,7 @@ module _ (limit : Option ℕ) (m : Model) (ls : List (Option ℚ × Option ℚ))
           (value_at e.tableau (width m + height m + i)) z.0 z.1 (d.within (width m + height m + i) (omega (arith, l)))
 
       by : (end : PrimalEnd) → e.end ≡ end → cold.basis_at e.tableau end ≡ Some left → Keeps m left
-      by (Unbounded j up) q r = let z : None ≡ Some left = r in cc
+      by (Unbounded j way) q r = let z : None ≡ Some left = r in cc
       by Optimal q r =
           let z : made (form_columns e.tableau) (cold.basis_status e.tableau) ≡ left = cc in
           subst (Keeps m) z
