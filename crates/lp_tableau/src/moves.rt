@@ -5,35 +5,50 @@ ghost use Rattle.spec_simplex.specs.Tableau.{all_columns};
 ghost use Rattle.spec_simplex.specs.Step.{CanFlip, directed as directed_by, other_bound as other_bound_of};
 ghost use Rattle.spec_simplex.specs.Step.{is_place as is_place_of, moved_at};
 ghost use Rattle.spec_simplex.specs.Step.{moved_run, flip_way as flip_way_of, flipped, flip_run};
+ghost use Rattle.spec_simplex.specs.Tables.{way as way_of};
 ghost use Rattle.lp_tableau.specs.Answer.{GivesRun};
 
 use crate::steps::{or_zero, stand};
 use crate::tableau::Tableau;
 use lp_form::Status;
 use lp_frac::{Frac, Past, is_zero, less_product, neg, sub, within};
+use spec_pivot::Way;
 
 /// `v`, or its negative where the entering column falls.
 #[inline(always)]
-pub fn directed(up: bool, v: Frac) -> Frac
-    ensures { result ≡ directed_by up v }
+pub fn directed(way: Way, v: Frac) -> Frac
+    ensures { result ≡ directed_by way v }
 {
-    if up { v } else { neg(v) }
+    match way {
+        Way::Up => v,
+        Way::Down => neg(v),
+    }
 }
 
 /// The bound that a column goes to where it rises, or falls.
-pub fn other_bound(up: bool) -> Status
-    ensures { result ≡ other_bound_of up }
+pub fn other_bound(way: Way) -> Status
+    ensures { result ≡ other_bound_of way }
 {
-    if up { Status::AtUpper } else { Status::AtLower }
+    match way {
+        Way::Up => Status::AtUpper,
+        Way::Down => Status::AtLower,
+    }
 }
 
-/// Whether a column of this status rises in a flip.
-pub fn flip_way(status: Status) -> bool
+/// The way in which a value that is below its lower bound comes back, or else one that is above its upper bound.
+pub fn way_back(below: bool) -> Way
+    ensures { result ≡ way_of below }
+{
+    if below { Way::Up } else { Way::Down }
+}
+
+/// The way in which a flip moves a column of this status.
+pub fn flip_way(status: Status) -> Way
     ensures { result ≡ flip_way_of status }
 {
     match status {
-        Status::AtLower => true,
-        Status::Basic | Status::AtUpper | Status::AtZero => false,
+        Status::AtLower => Way::Up,
+        Status::Basic | Status::AtUpper | Status::AtZero => Way::Down,
     }
 }
 
@@ -112,9 +127,9 @@ impl Tableau {
         ensures { GivesRun (flip_run (Some number_limit) self.old col) self.new result }
     {
         let range = sub(or_zero(self.upper(col)), or_zero(self.lower(col)))?;
-        let up = flip_way(self.status(col));
-        self.move_values(col, directed(up, range), None)?;
-        self.put_at(col, other_bound(up));
+        let way = flip_way(self.status(col));
+        self.move_values(col, directed(way, range), None)?;
+        self.put_at(col, other_bound(way));
         Ok(())
     }
 }
