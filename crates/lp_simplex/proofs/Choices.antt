@@ -29,7 +29,7 @@ module _ (limit : Option ℕ) (t : Tableau) where
   at_place e x None m s =
       record {
         column = m.inside;
-        nonbasic = not_basic (is_fixed (lower_at t e.col) (upper_at t e.col)) _ (reduced_at t e.col) e.up m.way;
+        nonbasic = not_basic (is_fixed (lower_at t e.col) (upper_at t e.col)) _ (reduced_at t e.col) e.direction m.way;
         lower = s.lower;
         upper = s.upper;
       }
@@ -37,7 +37,7 @@ module _ (limit : Option ℕ) (t : Tableau) where
       record {
         place = s.place;
         column = m.inside;
-        nonbasic = not_basic (is_fixed (lower_at t e.col) (upper_at t e.col)) _ (reduced_at t e.col) e.up m.way;
+        nonbasic = not_basic (is_fixed (lower_at t e.col) (upper_at t e.col)) _ (reduced_at t e.col) e.direction m.way;
         entry = s.entry;
         lands = s.lands;
       }

@@ -5,6 +5,8 @@ use Rattle.std.proofs.lemmas.List.{get_or-set_same, get_or-set_other, length-set
 use Rattle.spec_exact.specs.Fraction.{ℚ}
 use Rattle.spec_pivot.specs.declared.status.Status.{Status}
 use Rattle.spec_pivot.specs.declared.status.Status.TheVariants.{Basic, AtLower, AtUpper}
+use Rattle.spec_pivot.specs.declared.status.Way.{Way}
+use Rattle.spec_pivot.specs.declared.status.Way.TheVariants.{Up, Down}
 use Rattle.spec_simplex.specs.declared.ends.RunStop.{RunStop}
 use Rattle.spec_simplex.specs.declared.ends.RunStop.TheVariants as stop
 use Rattle.spec_exact.specs.Run.{refused_as, steps}
@@ -20,9 +22,9 @@ use Rattle.lp_simplex.specs.Starts.{HasPlace, IsSeated}
 -- ---- one flip
 
 -- the status at the other bound is not that of a basic column
-goes_to_bound : (up : Bool) → other_bound up ≢ Basic
-goes_to_bound true e = let z : AtUpper ≡ Basic = e in cc
-goes_to_bound false e = let z : AtLower ≡ Basic = e in cc
+goes_to_bound : (way : Way) → other_bound way ≢ Basic
+goes_to_bound Up e = let z : AtUpper ≡ Basic = e in cc
+goes_to_bound Down e = let z : AtLower ≡ Basic = e in cc
 
 module _ (t : Tableau) (s : IsSeated t) (j : ℕ) (inside : j < all_columns t)
     (to : Status) (bound : to ≢ Basic) (values : List ℚ) where

@@ -6,8 +6,10 @@ use Rattle.std.specs.declared.cmp.Ordering.TheVariants.{Less, Equal, Greater}
 use Rattle.spec_exact.specs.Fraction.{ℚ, 0ℚ, whole, lt_ℚ, abs_ℚ}
 use Rattle.spec_pivot.specs.declared.status.Status.{Status}
 use Rattle.spec_pivot.specs.declared.status.Status.TheVariants.{Basic, AtLower, AtUpper, AtZero}
+use Rattle.spec_pivot.specs.declared.status.Way.{Way}
 use Rattle.spec_exact.specs.Run.{quotient_run, order_run}
 use Rattle.spec_simplex.specs.Step.{directed, way_by}
+use Rattle.spec_simplex.specs.Tables.{way}
 use Rattle.spec_simplex.specs.Tableau.{Tableau, all_columns, entry_at, reduced_at}
 use Rattle.spec_simplex.specs.Tableau.{status_at, lower_at, upper_at, is_fixed}
 use Rattle.spec_simplex.proofs.RunParts.{then_ok, steps_ok}
@@ -17,7 +19,7 @@ use Rattle.lp_simplex.proofs.Entering.{not_basic}
 use Rattle.lp_simplex.proofs.Ratios.{directed_zero, abs_not_zero}
 
 -- a column whose entry is 0 goes neither way
-no_way : (s : Status) → ◌≡◌ {A = Option Bool} (way_by s 0ℚ) None
+no_way : (s : Status) → ◌≡◌ {A = Option Way} (way_by s 0ℚ) None
 unfolding lt_ℚ whole
 no_way Basic = refl
 no_way AtLower = refl
@@ -25,18 +27,18 @@ no_way AtUpper = refl
 no_way AtZero = refl
 
 -- a column that goes some way in the dual ratio test has an entry other than 0
-has_entry : (b below : Bool) (s : Status) (a : ℚ) (up : Bool) → cond b None (way_by s (directed below a)) ≡ Some up →
+has_entry : (b below : Bool) (s : Status) (a : ℚ) (w : Way) → cond b None (way_by s (directed (way below) a)) ≡ Some w →
     a ≢ 0ℚ
-has_entry true below s a up h e = let z : None ≡ Some up = h in cc
-has_entry false below s a up h e =
-    let z : None ≡ Some up = sym (no_way s) ∙ ap (way_by s) (sym (directed_zero below a e)) ∙ h in cc
+has_entry true below s a w h e = let z : None ≡ Some w = h in cc
+has_entry false below s a w h e =
+    let z : None ≡ Some w = sym (no_way s) ∙ ap (way_by s) (sym (directed_zero (way below) a e)) ∙ h in cc
 
 module _ (t : Tableau) (p : ℕ) (below : Bool) where
-  pub entry_there : (k : ℕ) (up : Bool) → dual_way_at t p below k ≡ Some up → entry_at t p k ≢ 0ℚ
-  entry_there k up h = has_entry (is_fixed (lower_at t k) (upper_at t k)) below (status_at t k) (entry_at t p k) up h
+  pub entry_there : (k : ℕ) (w : Way) → dual_way_at t p below k ≡ Some w → entry_at t p k ≢ 0ℚ
+  entry_there k w h = has_entry (is_fixed (lower_at t k) (upper_at t k)) below (status_at t k) (entry_at t p k) w h
 
-  pub divides : (k : ℕ) (up : Bool) → dual_way_at t p below k ≡ Some up → abs_ℚ (entry_at t p k) ≢ 0ℚ
-  divides k up h = abs_not_zero (entry_at t p k) (entry_there k up h)
+  pub divides : (k : ℕ) (w : Way) → dual_way_at t p below k ≡ Some w → abs_ℚ (entry_at t p k) ≢ 0ℚ
+  divides k w h = abs_not_zero (entry_at t p k) (entry_there k w h)
 
   -- column k may enter
   pub record MayEnter (k : ℕ) : Type 0 where
@@ -66,10 +68,10 @@ module _ (limit : Option ℕ) (t : Tableau) (p : ℕ) (below : Bool) where
       cheapest_with limit t p below k best ≡ Ok next → BestEnters t p below (suc k) next
   step k best next l was h = by (dual_way_at t p below k) refl h
     where
-      by : (o : Option Bool) → dual_way_at t p below k ≡ o → cheapest_by limit t p k best o ≡ Ok next →
+      by : (o : Option Way) → dual_way_at t p below k ≡ o → cheapest_by limit t p k best o ≡ Ok next →
           BestEnters t p below (suc k) next
       by None e h = let z : best ≡ next = cc in subst (BestEnters t p below (suc k)) z was
-      by (Some up) e h =
+      by (Some w) e h =
           let o =
           then_ok (quotient_run limit (abs_ℚ (reduced_at t k)) (abs_ℚ (entry_at t p k)))
           (λ ratio. cheaper_run limit (record { ratio = ratio; col = k }) best) next h in
@@ -78,8 +80,8 @@ module _ (limit : Option ℕ) (t : Tableau) (p : ℕ) (below : Bool) where
             inside = l;
             nonbasic =
                 not_basic (is_fixed (lower_at t k) (upper_at t k))
-                (status_at t k) (directed below (entry_at t p k)) up e;
-            entry = entry_there t p below k up e;
+                (status_at t k) (directed (way below) (entry_at t p k)) w e;
+            entry = entry_there t p below k w e;
           })
           was o.2
 

@@ -8,7 +8,6 @@ use Rattle.spec_pivot.proofs.SameEquations.{not_basic}
 use Rattle.spec_simplex.specs.Step.{CanFlip}
 use Rattle.spec_simplex.specs.Tableau.{Tableau, all_columns, value_at, reduced_at}
 use Rattle.spec_simplex.specs.Tableau.{status_at, lower_at, upper_at, is_fixed}
-use Rattle.spec_simplex.specs.Tables.{way}
 use Rattle.spec_simplex.specs.declared.ends.Fit.TheVariants.{Dual}
 use Rattle.spec_runs.specs.Based.{IsBased}
 use Rattle.spec_simplex.specs.Fit.{needs_flip, meets_need, needs_flip_at, fit_run}
@@ -40,7 +39,7 @@ module _ (limit : Option ℕ) (m n : ℕ) (f : Matrix) (cost : ℕ → ℚ) (b :
           let w = wrong (status_at t k) (reduced_at t k) (value_at t k) (lower_at t k) (upper_at t k) stands g e in
           record {
             column = l;
-            nonbasic = not_basic (way w.0) (status_at t k) w.1.can_move;
+            nonbasic = not_basic w.0 (status_at t k) w.1.can_move;
             lower = w.1.low;
             upper = w.1.high;
           }

@@ -12,5 +12,5 @@ module _ (t : Tableau) (e : Entering) (i : ℕ) (best : Option (Best ℚ)) where
   pub position_is : (col : ℕ) (entry : ℚ) (lower upper : Option ℚ) (value : ℚ) → col ≡ basic_at t i →
       entry ≡ entry_at t i e.col → lower ≡ lower_at t (basic_at t i) → upper ≡ upper_at t (basic_at t i) →
       value ≡ value_at t (basic_at t i) →
-      best_at e.up i col entry lower upper value best ≡ best_with (Some number_limit) t e i best
+      best_at e.direction i col entry lower upper value best ≡ best_with (Some number_limit) t e i best
   position_is col entry lower upper value c a l u v = rw (c, a, l, u, v) refl

@@ -19,6 +19,8 @@ use Rattle.spec_exact.proofs.Ruleset.{ring, neg-neg, neg-zero, neg-*ℚ, *ℚ-ne
 use Rattle.spec_exact.proofs.Strict.{<ℚ_irrefl}
 use Rattle.spec_pivot.specs.declared.status.Status.{Status}
 use Rattle.spec_pivot.specs.declared.status.Status.TheVariants.{AtLower, AtUpper}
+use Rattle.spec_pivot.specs.declared.status.Way.{Way}
+use Rattle.spec_pivot.specs.declared.status.Way.TheVariants.{Up, Down}
 use Rattle.spec_simplex.specs.declared.ends.Entering.{Entering}
 use Rattle.spec_simplex.specs.declared.ends.Best.{Best}
 use Rattle.spec_exact.specs.Run.{Run, ◌>>=◌, difference_run, quotient_run, order_run, steps}
@@ -35,14 +37,14 @@ pub quotient_ok : (limit : Option ℕ) (v w x : ℚ) → w ≢ 0ℚ → quotient
 quotient_ok limit v w x n h = div_exact limit v w x n (told_ok Div v w (div limit v w) x h)
 
 -- ---- magnitudes
-pub directed_zero : (up : Bool) (a : ℚ) → a ≡ 0ℚ → directed up a ≡ 0ℚ
-directed_zero true a e = e
-directed_zero false a e = ap neg_ℚ e ∙ neg-zero
+pub directed_zero : (way : Way) (a : ℚ) → a ≡ 0ℚ → directed way a ≡ 0ℚ
+directed_zero Up a e = e
+directed_zero Down a e = ap neg_ℚ e ∙ neg-zero
 
 -- turning the first factor of a product as the column moves is turning the second
-directed_times : (up : Bool) (r a : ℚ) → directed up r *ℚ a ≡ r *ℚ directed up a
-directed_times true r a = refl
-directed_times false r a = neg-*ℚ r a ∙ sym (*ℚ-neg r a)
+directed_times : (way : Way) (r a : ℚ) → directed way r *ℚ a ≡ r *ℚ directed way a
+directed_times Up r a = refl
+directed_times Down r a = neg-*ℚ r a ∙ sym (*ℚ-neg r a)
 
 pub abs_not_zero : (a : ℚ) → a ≢ 0ℚ → abs_ℚ a ≢ 0ℚ
 abs_not_zero a n = by (int_lt a.num (pos 0))
@@ -62,74 +64,74 @@ down_to : (v l r d : ℚ) → r *ℚ d ≡ v -ℚ l → v -ℚ r *ℚ d ≡ l
 down_to v l r d h = ap (λ x. v -ℚ x) h ∙ simp ring
 
 -- what is known of a position with a gap
-pub record IsGap (up : Bool) (a : ℚ) (lower upper : Option ℚ) (v gap : ℚ) (to : Status) : Type 0 where
+pub record IsGap (way : Way) (a : ℚ) (lower upper : Option ℚ) (v gap : ℚ) (to : Status) : Type 0 where
   pub entry : a ≢ 0ℚ
-  pub lands : (r : ℚ) → r *ℚ abs_ℚ a ≡ gap → NamesBound to lower upper (v -ℚ directed up r *ℚ a)
+  pub lands : (r : ℚ) → r *ℚ abs_ℚ a ≡ gap → NamesBound to lower upper (v -ℚ directed way r *ℚ a)
 
 -- a value less r, turned as the column moves, times a, is the value less r times a turned so
-moved_is : (up : Bool) (v r a : ℚ) → v -ℚ directed up r *ℚ a ≡ v -ℚ r *ℚ directed up a
-moved_is up v r a = ap (λ x. v -ℚ x) (directed_times up r a)
+moved_is : (way : Way) (v r a : ℚ) → v -ℚ directed way r *ℚ a ≡ v -ℚ r *ℚ directed way a
+moved_is way v r a = ap (λ x. v -ℚ x) (directed_times way r a)
 
 -- where a basic value rises, its distance to an upper bound is a gap: the move by the ratio lands at the bound
-rises : (limit : Option ℕ) (up : Bool) (a : ℚ) (lower upper : Option ℚ) (v gap : ℚ) (to : Status) →
-    directed up a <ℚ 0ℚ → rise_run limit upper v ≡ Ok (Some (gap, to)) → IsGap up a lower upper v gap to
-rises limit up a lower None v gap to d h = cc
-rises limit up a lower (Some u) v gap to d h =
+rises : (limit : Option ℕ) (way : Way) (a : ℚ) (lower upper : Option ℚ) (v gap : ℚ) (to : Status) →
+    directed way a <ℚ 0ℚ → rise_run limit upper v ≡ Ok (Some (gap, to)) → IsGap way a lower upper v gap to
+rises limit way a lower None v gap to d h = cc
+rises limit way a lower (Some u) v gap to d h =
     by (then_ok (difference_run limit u v) (λ g. Ok (Some (g, AtUpper))) (Some (gap, to)) h)
   where
     by : (g : ℚ) × (difference_run limit u v ≡ Ok g)
         × (◌≡◌ {A = Run (Option (ℚ × Status))} (Ok (Some (g, AtUpper))) (Ok (Some (gap, to)))) →
-        IsGap up a lower (Some u) v gap to
+        IsGap way a lower (Some u) v gap to
     by (g, e, f) =
         let z : ◌≡◌ {A = ℚ × Status} (g, AtUpper) (gap, to) = cc in
         let same : g ≡ gap = ap (λ (p : ℚ × Status). p.0) z in
         let there : AtUpper ≡ to = ap (λ (p : ℚ × Status). p.1) z in
-        subst (IsGap up a lower (Some u) v gap) there
+        subst (IsGap way a lower (Some u) v gap) there
         (record {
-          entry = λ z. <ℚ_irrefl 0ℚ (subst (λ x. x <ℚ 0ℚ) (directed_zero up a z) d);
+          entry = λ z. <ℚ_irrefl 0ℚ (subst (λ x. x <ℚ 0ℚ) (directed_zero way a z) d);
           lands =
-              λ r k. ap Some (sym (moved_is up v r a ∙ up_to v u r (directed up a)
-              (ap (λ x. r *ℚ x) (sym (abs_falling up a d)) ∙ k ∙ sym same ∙ difference_ok limit u v g e)));
+              λ r k. ap Some (sym (moved_is way v r a ∙ up_to v u r (directed way a)
+              (ap (λ x. r *ℚ x) (sym (abs_falling way a d)) ∙ k ∙ sym same ∙ difference_ok limit u v g e)));
         })
 
 -- where a basic value falls, its distance to a lower bound is a gap: the move by the ratio lands at the bound
-falls : (limit : Option ℕ) (up : Bool) (a : ℚ) (lower upper : Option ℚ) (v gap : ℚ) (to : Status) →
-    0ℚ <ℚ directed up a → fall_run limit lower v ≡ Ok (Some (gap, to)) → IsGap up a lower upper v gap to
-falls limit up a None upper v gap to d h = cc
-falls limit up a (Some l) upper v gap to d h =
+falls : (limit : Option ℕ) (way : Way) (a : ℚ) (lower upper : Option ℚ) (v gap : ℚ) (to : Status) →
+    0ℚ <ℚ directed way a → fall_run limit lower v ≡ Ok (Some (gap, to)) → IsGap way a lower upper v gap to
+falls limit way a None upper v gap to d h = cc
+falls limit way a (Some l) upper v gap to d h =
     by (then_ok (difference_run limit v l) (λ g. Ok (Some (g, AtLower))) (Some (gap, to)) h)
   where
     by : (g : ℚ) × (difference_run limit v l ≡ Ok g)
         × (◌≡◌ {A = Run (Option (ℚ × Status))} (Ok (Some (g, AtLower))) (Ok (Some (gap, to)))) →
-        IsGap up a (Some l) upper v gap to
+        IsGap way a (Some l) upper v gap to
     by (g, e, f) =
         let z : ◌≡◌ {A = ℚ × Status} (g, AtLower) (gap, to) = cc in
         let same : g ≡ gap = ap (λ (p : ℚ × Status). p.0) z in
         let there : AtLower ≡ to = ap (λ (p : ℚ × Status). p.1) z in
-        subst (IsGap up a (Some l) upper v gap) there
+        subst (IsGap way a (Some l) upper v gap) there
         (record {
-          entry = λ z. <ℚ_irrefl 0ℚ (subst (λ x. 0ℚ <ℚ x) (directed_zero up a z) d);
+          entry = λ z. <ℚ_irrefl 0ℚ (subst (λ x. 0ℚ <ℚ x) (directed_zero way a z) d);
           lands =
-              λ r k. ap Some (sym (moved_is up v r a ∙ down_to v l r (directed up a)
-              (ap (λ x. r *ℚ x) (sym (abs_rising up a d)) ∙ k ∙ sym same ∙ difference_ok limit v l g e)));
+              λ r k. ap Some (sym (moved_is way v r a ∙ down_to v l r (directed way a)
+              (ap (λ x. r *ℚ x) (sym (abs_rising way a d)) ∙ k ∙ sym same ∙ difference_ok limit v l g e)));
         })
 
-pub gap_is : (limit : Option ℕ) (up : Bool) (a : ℚ) (lower upper : Option ℚ) (v gap : ℚ) (to : Status) →
-    gap_run limit up a lower upper v ≡ Ok (Some (gap, to)) → IsGap up a lower upper v gap to
-gap_is limit up a lower upper v gap to h = by (lt_ℚ (directed up a) 0ℚ) (lt_ℚ 0ℚ (directed up a)) refl refl h
+pub gap_is : (limit : Option ℕ) (way : Way) (a : ℚ) (lower upper : Option ℚ) (v gap : ℚ) (to : Status) →
+    gap_run limit way a lower upper v ≡ Ok (Some (gap, to)) → IsGap way a lower upper v gap to
+gap_is limit way a lower upper v gap to h = by (lt_ℚ (directed way a) 0ℚ) (lt_ℚ 0ℚ (directed way a)) refl refl h
   where
-    by : (b c : Bool) → lt_ℚ (directed up a) 0ℚ ≡ b → lt_ℚ 0ℚ (directed up a) ≡ c →
+    by : (b c : Bool) → lt_ℚ (directed way a) 0ℚ ≡ b → lt_ℚ 0ℚ (directed way a) ≡ c →
         cond b (rise_run limit upper v) (cond c (fall_run limit lower v) (Ok None)) ≡ Ok (Some (gap, to)) →
-        IsGap up a lower upper v gap to
-    by true c e f h = rises limit up a lower upper v gap to (lt_if (directed up a) 0ℚ e) h
-    by false true e f h = falls limit up a lower upper v gap to (lt_if 0ℚ (directed up a) f) h
+        IsGap way a lower upper v gap to
+    by true c e f h = rises limit way a lower upper v gap to (lt_if (directed way a) 0ℚ e) h
+    by false true e f h = falls limit way a lower upper v gap to (lt_if 0ℚ (directed way a) f) h
     by false false e f h = cc
 
 -- a position with a gap has an entry to divide by
-pub divides : (limit : Option ℕ) (up : Bool) (a : ℚ) (lower upper : Option ℚ) (v gap : ℚ) (to : Status) →
-    gap_run limit up a lower upper v ≡ Ok (Some (gap, to)) → abs_ℚ a ≢ 0ℚ
-divides limit up a lower upper v gap to h =
-    let g : IsGap up a lower upper v gap to = gap_is limit up a lower upper v gap to h in abs_not_zero a g.entry
+pub divides : (limit : Option ℕ) (way : Way) (a : ℚ) (lower upper : Option ℚ) (v gap : ℚ) (to : Status) →
+    gap_run limit way a lower upper v ≡ Ok (Some (gap, to)) → abs_ℚ a ≢ 0ℚ
+divides limit way a lower upper v gap to h =
+    let g : IsGap way a lower upper v gap to = gap_is limit way a lower upper v gap to h in abs_not_zero a g.entry
 
 -- ---- the best
 
@@ -143,7 +145,7 @@ pub record StopsAt (t : Tableau) (e : Entering) (r : ℚ) (to : Status) (i : ℕ
   pub place : i < t.rows
   pub entry : entry_at t i e.col ≢ 0ℚ
   pub lands : NamesBound to (lower_at t (basic_at t i)) (upper_at t (basic_at t i))
-      (value_at t (basic_at t i) -ℚ directed e.up r *ℚ entry_at t i e.col)
+      (value_at t (basic_at t i) -ℚ directed e.direction r *ℚ entry_at t i e.col)
 
 abbrev pub StopsBy : Tableau → Entering → ℚ → Status → Option ℕ → Type 0
 StopsBy t e r to None = HasBoth t e.col
@@ -160,14 +162,14 @@ module _ (limit : Option ℕ) (t : Tableau) (e : Entering) where
   range_is (Some l) None best p q h = let z : None ≡ best = cc in subst (IsBest t e) z tt
   range_is (Some l) (Some u) best p q h =
       by (then_ok (difference_run limit u l)
-      (λ r. Ok (Some (record { ratio = r; col = e.col; place = None; to = other_bound e.up }))) best h)
+      (λ r. Ok (Some (record { ratio = r; col = e.col; place = None; to = other_bound e.direction }))) best h)
     where
       by : (r : ℚ) × (difference_run limit u l ≡ Ok r) × (◌≡◌ {A = Run (Option (Best ℚ))}
-          (Ok (Some (record { ratio = r; col = e.col; place = None; to = other_bound e.up }))) (Ok best)) →
+          (Ok (Some (record { ratio = r; col = e.col; place = None; to = other_bound e.direction }))) (Ok best)) →
           IsBest t e best
       by (r, f, g) =
           let z : ◌≡◌ {A = Option (Best ℚ)}
-          (Some (record { ratio = r; col = e.col; place = None; to = other_bound e.up })) best =
+          (Some (record { ratio = r; col = e.col; place = None; to = other_bound e.direction })) best =
           cc in
           subst (IsBest t e) z (record { lower = (l, p); upper = (u, q) })
 
@@ -193,7 +195,7 @@ module _ (limit : Option ℕ) (t : Tableau) (e : Entering) where
       by (o, f, g) = let z : Some (better_by new old o) ≡ best = cc in subst (IsBest t e) z (one_of new old o p q)
 
   with_gap_is : (i : ℕ) (gap : Option (ℚ × Status)) (old best : Option (Best ℚ)) → i < t.rows
-      → gap_run limit e.up (entry_at t i e.col) (lower_at t (basic_at t i))
+      → gap_run limit e.direction (entry_at t i e.col) (lower_at t (basic_at t i))
       (upper_at t (basic_at t i)) (value_at t (basic_at t i)) ≡ Ok gap
       → IsBest t e old → with_gap limit i (basic_at t i) (entry_at t i e.col) old gap ≡ Ok best → IsBest t e best
   with_gap_is i None old best l g q h = let z : old ≡ best = cc in subst (IsBest t e) z q
@@ -201,10 +203,10 @@ module _ (limit : Option ℕ) (t : Tableau) (e : Entering) where
       by (then_ok (quotient_run limit gap (abs_ℚ (entry_at t i e.col)))
       (λ r. better_run limit (record { ratio = r; col = basic_at t i; place = Some i; to = to }) old) best h)
     where
-      known : IsGap e.up (entry_at t i e.col) (lower_at t (basic_at t i))
+      known : IsGap e.direction (entry_at t i e.col) (lower_at t (basic_at t i))
           (upper_at t (basic_at t i)) (value_at t (basic_at t i)) gap to
       known =
-          gap_is limit e.up (entry_at t i e.col) (lower_at t (basic_at t i))
+          gap_is limit e.direction (entry_at t i e.col) (lower_at t (basic_at t i))
           (upper_at t (basic_at t i)) (value_at t (basic_at t i)) gap to g
 
       by : (r : ℚ) × (quotient_run limit gap (abs_ℚ (entry_at t i e.col)) ≡ Ok r)
@@ -227,7 +229,7 @@ module _ (limit : Option ℕ) (t : Tableau) (e : Entering) where
   steps_are (suc n) first best l p h =
       let b = then_ok (steps n (best_with limit t e) first) (λ b. best_with limit t e n b) best h in
       let o =
-      then_ok (gap_run limit e.up (entry_at t n e.col) (lower_at t (basic_at t n)) (upper_at t (basic_at t n))
+      then_ok (gap_run limit e.direction (entry_at t n e.col) (lower_at t (basic_at t n)) (upper_at t (basic_at t n))
       (value_at t (basic_at t n))) (λ gap. with_gap limit n (basic_at t n) (entry_at t n e.col) b.0 gap) best b.2 in
       with_gap_is n o.0 b.0 best (omega (arith, l)) o.1 (steps_are n first b.0 (omega (arith, l)) p b.1) o.2
 

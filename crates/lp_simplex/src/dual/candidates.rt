@@ -7,7 +7,8 @@ ghost use Rattle.spec_simplex.specs.Dual as dual;
 
 use crate::primal::way;
 use lp_frac::{Frac, Past, abs, cmp, div};
-use lp_tableau::{Tableau, directed, is_fixed};
+use lp_tableau::{Tableau, directed, is_fixed, way_back};
+use spec_pivot::Way;
 use std::cmp::Ordering;
 
 // The least ratio so far.
@@ -20,8 +21,8 @@ pub(crate) struct Outside {
     pub(crate) below: bool,
 }
 
-// Whether column `k` rises or falls as it enters, if it may bring the column that is outside back to its bound.
-fn column_way(tab: &Tableau, out: Outside, k: u32) -> Option<bool>
+// The way in which column `k` moves as it enters, if it may bring the column that is outside back to its bound.
+fn column_way(tab: &Tableau, out: Outside, k: u32) -> Option<Way>
     requires place { out.position < tab.now.rows }
     requires column { k < all_columns tab.now }
     ensures { result ≡ dual.dual_way_at tab.now out.position out.below k }
@@ -31,7 +32,7 @@ fn column_way(tab: &Tableau, out: Outside, k: u32) -> Option<bool>
     }
     way(
         tab.status(k),
-        directed(out.below, tab.entry(out.position, k)),
+        directed(way_back(out.below), tab.entry(out.position, k)),
     )
 }
 

@@ -17,15 +17,15 @@ pub fn chosen(e: Entering, best: Option<Best>) -> Choice
     ensures { result ≡ choice_by e best }
 {
     let Some(best) = best else {
-        let (col, up) = (e.col, e.up);
-        return Choice::End(PrimalEnd::Unbounded { col, up });
+        let (col, direction) = (e.col, e.direction);
+        return Choice::End(PrimalEnd::Unbounded { col, direction });
     };
     match best.place {
         None => Choice::Flip { col: e.col },
         Some(place) => Choice::Pivot {
             place,
             col: e.col,
-            theta: directed(e.up, best.ratio),
+            theta: directed(e.direction, best.ratio),
             to: best.to,
         },
     }

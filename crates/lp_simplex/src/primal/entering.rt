@@ -7,38 +7,39 @@ ghost use Rattle.spec_simplex.specs.Step.{way_by, way_at, entering as entering_o
 use lp_form::Status;
 use lp_frac::{Frac, sign};
 use lp_tableau::{Tableau, is_fixed};
+use spec_pivot::Way;
 use spec_simplex::Entering;
 use std::cmp::Ordering;
 
-/// Whether a column of this status and reduced cost rises or falls, if it may enter.
-pub fn way(status: Status, reduced: Frac) -> Option<bool>
+/// The way in which a column of this status and reduced cost moves, if it may enter.
+pub fn way(status: Status, reduced: Frac) -> Option<Way>
     ensures { result ≡ way_by status reduced }
 {
     match sign(reduced) {
         Ordering::Less => match status {
-            Status::AtLower | Status::AtZero => Some(true),
+            Status::AtLower | Status::AtZero => Some(Way::Up),
             Status::Basic | Status::AtUpper => None,
         },
         Ordering::Equal => None,
         Ordering::Greater => match status {
-            Status::AtUpper | Status::AtZero => Some(false),
+            Status::AtUpper | Status::AtZero => Some(Way::Down),
             Status::Basic | Status::AtLower => None,
         },
     }
 }
 
-// Whether column `k` rises or falls, if it may enter.
-fn column_way(tab: &Tableau, k: u32) -> Option<bool>
+// The way in which column `k` moves, if it may enter.
+fn column_way(tab: &Tableau, k: u32) -> Option<Way>
     requires { k < all_columns tab.now }
     ensures { result ≡ way_at tab.now k }
 {
-    let Some(up) = way(tab.status(k), tab.reduced(k)) else {
+    let Some(direction) = way(tab.status(k), tab.reduced(k)) else {
         return None;
     };
     if is_fixed(tab.lower(k), tab.upper(k)) {
         return None;
     }
-    Some(up)
+    Some(direction)
 }
 
 // The least column that may enter.
@@ -47,8 +48,8 @@ pub(crate) fn entering(tab: &Tableau) -> Option<Entering>
     ensures inside { IfSome result (λ e. e.col < all_columns tab.now) }
 {
     for col in 0..tab.width() {
-        if let Some(up) = column_way(tab, col) {
-            return Some(Entering { col, up });
+        if let Some(direction) = column_way(tab, col) {
+            return Some(Entering { col, direction });
         }
     }
     None

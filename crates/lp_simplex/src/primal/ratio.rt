@@ -9,6 +9,7 @@ ghost use Rattle.lp_simplex.specs.Ratio.{best_at as best_at_of};
 use lp_form::Status;
 use lp_frac::{Frac, Past, abs, cmp, div, sign, sub};
 use lp_tableau::{Tableau, directed, other_bound};
+use spec_pivot::Way;
 use spec_simplex::Entering;
 use std::cmp::Ordering;
 
@@ -24,7 +25,7 @@ pub fn range(e: Entering, lower: Option<Frac>, upper: Option<Frac>) -> Result<Op
             ratio: sub(upper, lower)?,
             col: e.col,
             place: None,
-            to: other_bound(e.up),
+            to: other_bound(e.direction),
         })),
         _ => Ok(None),
     }
@@ -53,15 +54,15 @@ fn fall(lower: Option<Frac>, value: Frac) -> Result<Option<(Frac, Status)>, Past
 // How far a basic column may move, whose position has this entry, and the bound that it comes to.
 #[inline(always)]
 fn gap(
-    up: bool,
+    way: Way,
     entry: Frac,
     lower: Option<Frac>,
     upper: Option<Frac>,
     value: Frac,
 ) -> Result<Option<(Frac, Status)>, Past>
-    ensures { result ≡ step.gap_run (Some number_limit) up entry lower upper value }
+    ensures { result ≡ step.gap_run (Some number_limit) way entry lower upper value }
 {
-    match sign(directed(up, entry)) {
+    match sign(directed(way, entry)) {
         Ordering::Less => rise(upper, value),
         Ordering::Equal => Ok(None),
         Ordering::Greater => fall(lower, value),
@@ -96,12 +97,12 @@ pub struct Position {
     pub value: Frac,
 }
 
-/// The best ratio so far after one more position, where the entering column rises (`up`) or falls.
+/// The best ratio so far after one more position, where the entering column moves in this way.
 #[inline(always)]
-pub fn best_at(up: bool, at: Position, best: Option<Best>) -> Result<Option<Best>, Past>
-    ensures { result ≡ best_at_of up at.place at.col at.entry at.lower at.upper at.value best }
+pub fn best_at(way: Way, at: Position, best: Option<Best>) -> Result<Option<Best>, Past>
+    ensures { result ≡ best_at_of way at.place at.col at.entry at.lower at.upper at.value best }
 {
-    match gap(up, at.entry, at.lower, at.upper, at.value)? {
+    match gap(way, at.entry, at.lower, at.upper, at.value)? {
         Some((gap, to)) => {
             let ratio = div(gap, abs(at.entry))?;
             let (col, place) = (at.col, Some(at.place));
@@ -134,7 +135,7 @@ fn best_with(tab: &Tableau, e: Entering, i: u32, best: Option<Best>) -> Result<O
         upper: tab.upper(col),
         value: tab.value(col),
     };
-    best_at(e.up, at, best)
+    best_at(e.direction, at, best)
 }
 
 // The least ratio of all positions and of the column's own range, if anything stops it.

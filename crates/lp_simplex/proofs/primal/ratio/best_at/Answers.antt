@@ -6,5 +6,5 @@ use Rattle.lp_simplex.proofs.primal.ratio.best_at.Goals as goal
 
 pub div-requires : goal.div-requires
 div-requires c =
-    λ z. divides (Some number_limit) c.args.up c.args.at.entry c.args.at.lower c.args.at.upper c.args.at.value
+    λ z. divides (Some number_limit) c.args.way c.args.at.entry c.args.at.lower c.args.at.upper c.args.at.value
     c.in-Some.gap c.in-Some.to (sym c.in_ok-gap.ensures ∙ ap Ok c.in-Some.is) (sym c.abs.ensures ∙ z)
