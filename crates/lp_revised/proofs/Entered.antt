@@ -1,8 +1,9 @@
 -- The entering column: once one enters no more are priced.
-use Rattle.std.proofs.Common.{◌≡◌, ℕ, zero, suc, ◌+◌, ◌-◌, ◌<◌, List, Option, Some, None, Ok, Err, Bool, ap, ◌∙◌, subst}
+use Rattle.std.proofs.Common.{◌≡◌, ℕ, zero, suc, ◌+◌, ◌-◌, ◌<◌, List, Option, Some, None, Ok, Err, ap, ◌∙◌, subst}
 use Rattle.std.proofs.Common.{arith}
 use Rattle.spec_exact.specs.Fraction.{ℚ}
 use Rattle.spec_exact.specs.declared.past.Past.{Past}
+use Rattle.spec_pivot.specs.declared.status.Way.{Way}
 use Rattle.spec_simplex.specs.declared.ends.Entering.{Entering}
 use Rattle.spec_simplex.specs.Form.{Form}
 use Rattle.spec_exact.specs.Run.{Run, ◌>>=◌, steps}
@@ -28,15 +29,15 @@ module _ (f : Form) (costs y : List ℚ) (t : Tableau) where
       ap (λ i. steps i priced_at None) (let z : n + suc d ≡ suc (n + d) = omega arith in z)
       ∙ ap (λ o. o >>= λ e. priced_at (n + d) e) (stays n d e h)
 
-  pub enters : (k : ℕ) (up : Bool) → steps k priced_at None ≡ Ok None → k < all_columns t →
-      way_run (Some number_limit) f costs y t k ≡ Ok (Some up) →
-      entering_run (Some number_limit) f costs y t ≡ Ok (Some (record { col = k; up = up }))
+  pub enters : (k : ℕ) (w : Way) → steps k priced_at None ≡ Ok None → k < all_columns t →
+      way_run (Some number_limit) f costs y t k ≡ Ok (Some w) →
+      entering_run (Some number_limit) f costs y t ≡ Ok (Some (record { col = k; direction = w }))
   unfolding entering_run
-  enters k up h l g =
+  enters k w h l g =
       let z : k + 1 + (all_columns t - (k + 1)) ≡ all_columns t = omega (arith, l) in
-      subst (λ i. steps i priced_at None ≡ Ok (Some (record { col = k; up = up }))) z
-      (stays (k + 1) (all_columns t - (k + 1)) (record { col = k; up = up })
-      (steps_more k priced_at None None (Some (record { col = k; up = up })) h
+      subst (λ i. steps i priced_at None ≡ Ok (Some (record { col = k; direction = w }))) z
+      (stays (k + 1) (all_columns t - (k + 1)) (record { col = k; direction = w })
+      (steps_more k priced_at None None (Some (record { col = k; direction = w })) h
       (ap (λ o. o >>= λ way. Ok (or_enters None k way)) g)))
 
   pub none_enters : (k : ℕ) → steps k priced_at None ≡ Ok None → k ≡ all_columns t →

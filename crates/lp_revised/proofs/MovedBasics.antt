@@ -1,9 +1,10 @@
 -- The basic columns that move with one that is given by places, and flips.
-use Rattle.std.proofs.Common.{◌≡◌, ℕ, ◌<◌, List, get_or, set, Option, Some, None, Ok, Err, Bool}
+use Rattle.std.proofs.Common.{◌≡◌, ℕ, ◌<◌, List, get_or, set, Option, Some, None, Ok, Err}
 use Rattle.std.proofs.Common.{false, cond, refl, sym, ap, ◌∙◌}
 use Rattle.spec_exact.specs.Fraction.{ℚ, 0ℚ}
 use Rattle.spec_exact.specs.declared.past.Past.{Past}
 use Rattle.spec_pivot.specs.declared.status.Status.{Status}
+use Rattle.spec_pivot.specs.declared.status.Way.{Way}
 use Rattle.spec_simplex.specs.declared.ends.RowStart.{RowStart}
 use Rattle.spec_exact.specs.Run.{Run, ◌>>=◌, difference_run, less_product}
 use Rattle.spec_simplex.specs.Tableau.{Tableau, basic_at, status_at, lower_at, upper_at, or_zero}
@@ -52,16 +53,16 @@ module _ (starts : List (RowStart ℚ)) (s : Revised) (z : List ℚ) (j : ℕ) w
   flip_refused p h = ap (λ o. o >>= λ u. Ok (record s { bare = bare_of u })) (range_stops (Some number_limit) sight j p
       h)
 
-  module _ (r : ℚ) (h : range ≡ Ok r) (up : Bool) (w : up ≡ flip_way (status_at s.bare j)) (theta : ℚ)
-      (d : theta ≡ directed up r) where
+  module _ (r : ℚ) (h : range ≡ Ok r) (way : Way) (w : way ≡ flip_way (status_at s.bare j)) (theta : ℚ)
+      (d : theta ≡ directed way r) where
     pub flip_moves_refused : (p : Past ℚ) → moves_by starts s.bare z theta None s.bare.rows ≡ Err p →
         flip_over_run (Some number_limit) s sight j ≡ Err p
     unfolding flip_over_run
     flip_moves_refused p m =
         ap (λ o. o >>= λ u. Ok (record s { bare = bare_of u }))
-        (flip_stops (Some number_limit) sight j r h up w theta p d (sym (moves_are starts s z theta None j) ∙ m))
+        (flip_stops (Some number_limit) sight j r h way w theta p d (sym (moves_are starts s z theta None j) ∙ m))
 
-    pub flips : (to : Status) (u new : Revised) → to ≡ other_bound up → s.bare ≡ bare_of s.bare →
+    pub flips : (to : Status) (u new : Revised) → to ≡ other_bound way → s.bare ≡ bare_of s.bare →
         moves_by starts s.bare z theta None s.bare.rows ≡ Ok u.bare.value → WithValues s u
         → new ≡ record u { bare = flipped u.bare j to u.bare.value } →
         flip_over_run (Some number_limit) s sight j ≡ Ok new
@@ -69,7 +70,7 @@ module _ (starts : List (RowStart ℚ)) (s : Revised) (z : List ℚ) (j : ℕ) w
     flips to u new t b m e is =
         let v = u.bare.value in
         ap (λ o. o >>= λ u. Ok (record s { bare = bare_of u }))
-        (flip_made (Some number_limit) sight j r h up w theta to (record sight { value = v })
+        (flip_made (Some number_limit) sight j r h way w theta to (record sight { value = v })
         (flipped (record sight { value = v }) j to v) d t (sym (moves_are starts s z theta None j) ∙ m) refl refl)
         ∙ ap (λ (x : Tableau). Ok (record s { bare = flipped (record x { value = v }) j to v })) (sym b)
         ∙ ap (λ (x : Revised). Ok (record x { bare = flipped x.bare j to v })) (sym e) ∙ ap Ok (sym is)

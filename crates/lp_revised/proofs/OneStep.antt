@@ -36,7 +36,7 @@ ends_with f s column choice end e h = by column end (subst (CanDo f s column) e 
     by : (column : Option Column) (end : PrimalEnd) → CanDo f s column (End end) → EndsWith s.bare column end
     by None end z = let y : ◌≡◌ {A = Choice ℚ} (End end) (End Optimal) = z in cc
     by (Some c) Optimal z = z.1
-    by (Some c) (Unbounded j up) z = (sym z.1, z.0.all)
+    by (Some c) (Unbounded j way) z = (sym z.1, z.0.all)
 
 module _ (f : Form) (starts : List (RowStart ℚ)) (costs : List ℚ) where
   abbrev seen_from : Revised → Run Selection

@@ -48,7 +48,7 @@ ended_of starts s used e =
 abbrev pub EndsWith : Tableau → Option Column → PrimalEnd → Type 0
 EndsWith t None end = end ≡ Optimal
 EndsWith t (Some c) Optimal = ⊥
-EndsWith t (Some c) (Unbounded j up) = (c.number ≡ j) × (length c.solved ≡ t.rows)
+EndsWith t (Some c) (Unbounded j way) = (c.number ≡ j) × (length c.solved ≡ t.rows)
 
 -- the steps of a phase end so, with this state and this count, or stop so, or memory was wanting
 abbrev pub RunsOver : Result RevisedEnded (RunStop ℚ) → List (RowStart ℚ) → Revised → ℕ → Result StepsEnd (Stop Spent) →

@@ -27,7 +27,7 @@ choice_seen starts t z e = best_run (Some number_limit) (seen starts t e.col z) 
 -- the choice is of column j, which is z by places, and a pivot's place has an entry
 abbrev pub MayDo : Tableau → List ℚ → ℕ → Choice ℚ → Type 0
 MayDo t z j (End Optimal) = ⊥
-MayDo t z j (End (Unbounded k up)) = k ≡ j
+MayDo t z j (End (Unbounded k way)) = k ≡ j
 MayDo t z j (Flip k) = k ≡ j
 MayDo t z j (Pivot p k theta to) = (k ≡ j) × (p < t.rows) × (get_or z p 0ℚ ≢ 0ℚ)
 

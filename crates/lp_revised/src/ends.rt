@@ -16,6 +16,7 @@ use crate::steps::StepsEnd;
 use lp_form::StatusList;
 use lp_frac::{Frac, Fracs, neg, one, zero};
 use lp_tableau::{PrimalEnd, directed};
+use spec_pivot::Way;
 use std::alloc::{AllocError, Global};
 
 /// The certificate of an end, by columns and rows of the model.
@@ -79,20 +80,20 @@ impl Revised {
     }
 
     // How far column `k` moves when the entering column rises or falls by 1.
-    fn move_of(&self, starts: &[RowStart], column: &Column, up: bool, k: u32) -> Frac
+    fn move_of(&self, starts: &[RowStart], column: &Column, way: Way, k: u32) -> Frac
         requires starts { length starts.now ≡ self.now.bare.rows }
         requires solved { length column.now.solved ≡ self.now.bare.rows }
         ensures { result ≡ solves.moves_by (seen starts.now self.now.bare column.now.number column.now.solved)
-            column.now.number up k }
+            column.now.number way k }
     {
         let mut moved = if k == column.number {
-            directed(up, one())
+            directed(way, one())
         } else {
             zero()
         };
         for i in 0..self.rows() {
             if self.basic(i) == k {
-                moved = neg(directed(up, self.entry_in(starts, column, i)));
+                moved = neg(directed(way, self.entry_in(starts, column, i)));
             }
         }
         moved
@@ -104,17 +105,17 @@ impl Revised {
         alloc: Global,
         starts: &[RowStart],
         column: &Column,
-        up: bool,
+        way: Way,
     ) -> Result<Fracs, AllocError>
         requires starts { length starts.now ≡ self.now.bare.rows }
         requires solved { length column.now.solved ≡ self.now.bare.rows }
         ensures value { IfOk result (λ r. r ≡ solves.direction
-            (seen starts.now self.now.bare column.now.number column.now.solved) column.now.number up) }
+            (seen starts.now self.now.bare column.now.number column.now.solved) column.now.number way) }
         ensures narrow { IfOk result (All IsNarrow) }
     {
         let mut direction = Fracs::new(alloc);
         for k in 0..self.cols {
-            push(&mut direction, self.move_of(starts, column, up, k))?;
+            push(&mut direction, self.move_of(starts, column, way, k))?;
         }
         Ok(direction)
     }
@@ -137,10 +138,10 @@ impl Revised {
                 x: self.point(alloc)?,
                 y: negatives_of(alloc, self.rows(), &end.multipliers)?,
             }),
-            PrimalEnd::Unbounded { up, .. } => match &end.column {
+            PrimalEnd::Unbounded { direction, .. } => match &end.column {
                 Some(column) => Ok(Certificate::Unbounded {
                     x: self.point(alloc)?,
-                    r: self.direction(alloc, starts, column, up)?,
+                    r: self.direction(alloc, starts, column, direction)?,
                 }),
                 None => unreachable!(),
             },

@@ -86,9 +86,9 @@ impl Revised {
     {
         let _ = &self.rows;
         let range = sub(or_zero(self.upper(col)), or_zero(self.lower(col)))?;
-        let up = flip_way(self.status(col));
-        self.move_values(starts, solved, directed(up, range), None)?;
-        self.put_at(col, other_bound(up));
+        let way = flip_way(self.status(col));
+        self.move_values(starts, solved, directed(way, range), None)?;
+        self.put_at(col, other_bound(way));
         Ok(())
     }
 }

@@ -10,6 +10,7 @@ use crate::state::Revised;
 use lp_form::{Form, is_basic};
 use lp_frac::{Frac, Past, less_product, neg, one};
 use lp_simplex::primal::{is_fixed, way};
+use spec_pivot::Way;
 use spec_simplex::Entering;
 
 // The reduced cost of structural column `k`, over its entries.
@@ -55,8 +56,8 @@ fn price(form: &Form, costs: &[Frac], y: &[Frac], k: u32) -> Result<Frac, Past>
 }
 
 impl Revised {
-    // Whether column `k` rises (true) or falls when it enters; nothing where it may not enter.
-    fn way(&self, form: &Form, costs: &[Frac], y: &[Frac], k: u32) -> Result<Option<bool>, Past>
+    // The way in which column `k` moves when it enters; nothing where it may not enter.
+    fn way(&self, form: &Form, costs: &[Frac], y: &[Frac], k: u32) -> Result<Option<Way>, Past>
         requires column { k < all_columns self.now.bare }
         requires all { length y.now ≡ form.now.rows }
         requires narrow { All IsNarrow y.now }
@@ -82,8 +83,8 @@ impl Revised {
         ensures inside { IfOk result (λ o. IfSome o (λ e. e.col < all_columns self.now.bare)) }
     {
         for col in 0..self.width() {
-            if let Some(up) = self.way(form, costs, y, col)? {
-                return Ok(Some(Entering { col, up }));
+            if let Some(direction) = self.way(form, costs, y, col)? {
+                return Ok(Some(Entering { col, direction }));
             }
         }
         Ok(None)

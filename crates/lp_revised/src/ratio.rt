@@ -44,7 +44,7 @@ impl Revised {
             upper: self.upper(col),
             value: self.value(col),
         };
-        best_at(e.up, at, best)
+        best_at(e.direction, at, best)
     }
 
     // The ratio test: the least ratio of all, or nothing where the entering column may move without end.

@@ -9,5 +9,5 @@ use Rattle.lp_revised.proofs.state.Revised.direction.Given as goal
 -- the moves so far are there, each of at most 127 bits
 abbrev pub invariant-loop-k : goal.invariant-loop-k
 invariant-loop-k l =
-    (l.direction ≡ made l.k (moves_by (seen l.starts l.self.bare l.column.number l.column.solved) l.column.number l.up))
+    (l.direction ≡ made l.k (moves_by (seen l.starts l.self.bare l.column.number l.column.solved) l.column.number l.way))
     × All IsNarrow l.direction

@@ -18,14 +18,14 @@ returns-in_err-move_values-clause-run c =
     let p =
     err_from_is_err_and c.from_residual-in_err-move_values.result c.from_residual-in_err-move_values.ensures.1 in
     let step = rw (c.or_zero.ensures, c.upper.ensures, c.or_zero-2.ensures, c.lower.ensures) at c.in_ok-range.ensures in
-    let way = c.flip_way-up.ensures ∙ ap flip_way c.status.ensures in
+    let way = c.flip_way-way.ensures ∙ ap flip_way c.status.ensures in
     rw (p.1, p.2) (flip_moves_refused c.args.starts.now c.args.self.now c.args.solved.now c.args.col _ (sym step) _ way
     _ c.directed.ensures _ c.in_err-move_values.ensures.moved)
 
 pub returns-clause-run : goal.returns-clause-run
 returns-clause-run c =
     let step = rw (c.or_zero.ensures, c.upper.ensures, c.or_zero-2.ensures, c.lower.ensures) at c.in_ok-range.ensures in
-    let way = c.flip_way-up.ensures ∙ ap flip_way c.status.ensures in
+    let way = c.flip_way-way.ensures ∙ ap flip_way c.status.ensures in
     let v = c.self.view_is in
     flips c.args.starts.now c.args.self.now c.args.solved.now c.args.col _ (sym step) _ way _ c.directed.ensures _
     c.move_values.new.self c.put_at.new.self c.other_bound.ensures

@@ -7,4 +7,4 @@ use Rattle.lp_revised.proofs.state.Revised.move_of.Given as goal
 -- by the last position so far
 abbrev pub invariant-loop-i : goal.invariant-loop-i
 invariant-loop-i l =
-    l.moved ≡ moves_below (seen l.starts l.self.bare l.column.number l.column.solved) l.column.number l.up l.k l.i
+    l.moved ≡ moves_below (seen l.starts l.self.bare l.column.number l.column.solved) l.column.number l.way l.k l.i
