@@ -1,5 +1,5 @@
 -- What the flip or the pivot of a choice leaves, without a limit.
-use Rattle.std.proofs.Common.{◌≡◌, ℕ, ◌<◌, Option, Some, None, Ok, Bool, refl, sym, ◌∙◌, subst}
+use Rattle.std.proofs.Common.{◌≡◌, ℕ, ◌<◌, Option, Some, None, Ok, refl, sym, ◌∙◌, subst}
 use Rattle.spec_exact.specs.Fraction.{ℚ, ◌-ℚ◌, ◌*ℚ◌}
 use Rattle.spec_pivot.specs.declared.status.Status.{Status}
 use Rattle.spec_pivot.specs.declared.status.Way.{Way}
@@ -19,7 +19,7 @@ use Rattle.spec_simplex.specs.Tableau.{Tableau, form_columns, all_columns, statu
 use Rattle.spec_simplex.specs.Step.{entering, directed, other_bound, best_run, choice_at, choice_by}
 use Rattle.spec_simplex.specs.Step.{choice_of, choice_run, flip_way, flip_run, pivot_run}
 use Rattle.spec_simplex.specs.Phases.{done_run}
-use Rattle.spec_simplex.specs.Tables.{way, table_of, IsWhole, KeepsBounds}
+use Rattle.spec_simplex.specs.Tables.{table_of, IsWhole, KeepsBounds}
 use Rattle.spec_simplex.proofs.RunParts.{then_ok}
 use Rattle.spec_simplex.proofs.Enters.{an_entering}
 use Rattle.spec_simplex.proofs.Pivots.{Leaves, enters_before, pivot_leaves}
@@ -36,13 +36,13 @@ pub record PivotsTo (b : Bounds) (t u : Tableau) (p j : ℕ) (theta : ℚ) (to :
   pub leaves : Leaves b t u (after_pivot t.rows (table_of t) way j p ratio to)
 
 pub record FlipsTo (b : Bounds) (t u : Tableau) (j : ℕ) : Type 0 where
-  pub up : Bool
+  pub way : Way
   pub ratio : ℚ
   pub range : ratio ≡ or_zero (upper_at t j) -ℚ or_zero (lower_at t j)
-  pub way_is : flip_way (status_at t j) ≡ up
+  pub way_is : flip_way (status_at t j) ≡ way
   pub before : j < form_columns t
-  pub crosses : Crosses t.rows (all_columns t) b (table_of t) (way up) j ratio (other_bound up)
-  pub leaves : Leaves b t u (after_flip t.rows (table_of t) (way up) j ratio (other_bound up))
+  pub crosses : Crosses t.rows (all_columns t) b (table_of t) way j ratio (other_bound way)
+  pub leaves : Leaves b t u (after_flip t.rows (table_of t) way j ratio (other_bound way))
 
 abbrev pub LeavesBy : Bounds → Tableau → Tableau → Choice ℚ → Type 0
 LeavesBy b t u (End end) = Unit {0}
@@ -52,55 +52,55 @@ LeavesBy b t u (Pivot p j theta to) = PivotsTo b t u p j theta to
 module _ (t : Tableau) (w : IsWhole t) (f : Matrix) (cost : ℕ → ℚ)
     (b : Bounds) (g : IsTableau t.rows (all_columns t) f cost b (table_of t))
     (within : IsWithin (all_columns t) b (table_of t)) (keeps : KeepsBounds b t) where
-  module _ (e : Entering) (enters : Enters (all_columns t) b (table_of t) (way e.up) e.col) where
+  module _ (e : Entering) (enters : Enters (all_columns t) b (table_of t) e.direction e.col) where
     pivots_to : (x : Best ℚ) → best_run None t e ≡ Ok (Some x) → (p : ℕ) → x.place ≡ Some p → (u : Tableau) →
-        pivot_run None t p e.col (directed e.up x.ratio) x.to ≡ Ok u →
-        PivotsTo b t u p e.col (directed e.up x.ratio) x.to
+        pivot_run None t p e.col (directed e.direction x.ratio) x.to ≡ Ok u →
+        PivotsTo b t u p e.col (directed e.direction x.ratio) x.to
     pivots_to x found p at u h =
-        let best : best_of t.rows b (table_of t) (way e.up) e.col ≡ Some (plain x) =
+        let best : best_of t.rows b (table_of t) e.direction e.col ≡ Some (plain x) =
         a_best None t w f cost b g keeps e enters x found in
-        let v : Pivots t.rows (all_columns t) b (table_of t) (way e.up) e.col p x.ratio x.to =
-        subst (Pivots t.rows (all_columns t) b (table_of t) (way e.up) e.col p x.ratio)
+        let v : Pivots t.rows (all_columns t) b (table_of t) e.direction e.col p x.ratio x.to =
+        subst (Pivots t.rows (all_columns t) b (table_of t) e.direction e.col p x.ratio)
         (sym (best_ahead None t w f cost b g keeps e enters x found p at))
         (best_pivots t.rows (all_columns t) f cost b (table_of t)
-        (way e.up) e.col g within enters (plain x) best p at) in
-        let x' : Exchanges t.rows (all_columns t) b (table_of t) (way e.up) e.col p x.ratio x.to =
-        pivot_exchanges t.rows (all_columns t) f cost b (table_of t) g (way e.up) e.col p x.ratio x.to v in
+        e.direction e.col g within enters (plain x) best p at) in
+        let x' : Exchanges t.rows (all_columns t) b (table_of t) e.direction e.col p x.ratio x.to =
+        pivot_exchanges t.rows (all_columns t) f cost b (table_of t) g e.direction e.col p x.ratio x.to v in
         record {
-          way = way e.up;
+          way = e.direction;
           ratio = x.ratio;
-          same = directed_is e.up x.ratio;
+          same = directed_is e.direction x.ratio;
           before = enters_before b t e.col keeps enters.eligible.may_enter.0;
           exchanges = x';
           leaves =
-              pivot_leaves None t w f cost b g keeps (way e.up) e.col p x.ratio x.to x' enters.eligible.may_enter.0 u
-              (subst (λ theta. pivot_run None t p e.col theta x.to ≡ Ok u) (directed_is e.up x.ratio) h);
+              pivot_leaves None t w f cost b g keeps e.direction e.col p x.ratio x.to x' enters.eligible.may_enter.0 u
+              (subst (λ theta. pivot_run None t p e.col theta x.to ≡ Ok u) (directed_is e.direction x.ratio) h);
         }
 
     flips_to : (x : Best ℚ) → best_run None t e ≡ Ok (Some x) → x.place ≡ None → (u : Tableau) →
         flip_run None t e.col ≡ Ok u → FlipsTo b t u e.col
     flips_to x found at u h =
-        let best : best_of t.rows b (table_of t) (way e.up) e.col ≡ Some (plain x) =
+        let best : best_of t.rows b (table_of t) e.direction e.col ≡ Some (plain x) =
         a_best None t w f cost b g keeps e enters x found in
         let own : IsRange t e x = best_range None t w f cost b g keeps e enters x found at in
-        let v : Flips t.rows (all_columns t) b (table_of t) (way e.up) e.col x.ratio (other_bound e.up) =
-        subst (Flips t.rows (all_columns t) b (table_of t) (way e.up) e.col x.ratio) (ahead_is e.up)
-        (best_flips t.rows (all_columns t) f cost b (table_of t) (way e.up) e.col g within enters (plain x) best at) in
-        let x' : Crosses t.rows (all_columns t) b (table_of t) (way e.up) e.col x.ratio (other_bound e.up) =
+        let v : Flips t.rows (all_columns t) b (table_of t) e.direction e.col x.ratio (other_bound e.direction) =
+        subst (Flips t.rows (all_columns t) b (table_of t) e.direction e.col x.ratio) (ahead_is e.direction)
+        (best_flips t.rows (all_columns t) f cost b (table_of t) e.direction e.col g within enters (plain x) best at) in
+        let x' : Crosses t.rows (all_columns t) b (table_of t) e.direction e.col x.ratio (other_bound e.direction) =
         flip_crosses t.rows (all_columns t) f cost b (table_of t) g
-        (way e.up) e.col enters x.ratio (other_bound e.up) v in
-        let y : flip_way (status_at t e.col) ≡ e.up =
-        way_is (status_at t e.col) e.up (b.lower e.col) (b.upper e.col) _ own.bottom.0
+        e.direction e.col enters x.ratio (other_bound e.direction) v in
+        let y : flip_way (status_at t e.col) ≡ e.direction =
+        way_is (status_at t e.col) e.direction (b.lower e.col) (b.upper e.col) _ own.bottom.0
         (sym (keeps.lower e.col enters.in_range) ∙ own.bottom.1) enters.eligible.status
         (g.stands e.col enters.in_range) in
         record {
-          up = e.up;
+          way = e.direction;
           ratio = x.ratio;
           range = own.ratio;
           way_is = y;
           before = enters_before b t e.col keeps enters.eligible.may_enter.0;
           crosses = x';
-          leaves = flip_leaves None t w f cost b g keeps e.up e.col x.ratio x' enters.eligible.may_enter.0 u y
+          leaves = flip_leaves None t w f cost b g keeps e.direction e.col x.ratio x' enters.eligible.may_enter.0 u y
               own.ratio h;
         }
 

@@ -5,7 +5,7 @@
 -- `way_there`: the direction by the sign of a column's number, its status and whether it is fixed is the tableau's.
 use Rattle.std.proofs.Common.{◌≡◌, ℕ, zero, suc, ◌+◌, ◌<◌, ◌≤◌, Option, Some, None, List, length, get_or, pos}
 use Rattle.std.proofs.Common.{int_cmp}
-use Rattle.std.proofs.Common.{Bool, true, false, cond, refl, sym, ap, ap₂, ◌∙◌, arith, Ordering, Less, Equal}
+use Rattle.std.proofs.Common.{Bool, false, cond, refl, sym, ap, ap₂, ◌∙◌, arith, Ordering, Less, Equal}
 use Rattle.std.proofs.Common.{Greater}
 use Rattle.std.proofs.lemmas.List.{get_or_default}
 use Rattle.std.specs.Ordering.{is_lt, is_gt}
@@ -14,6 +14,8 @@ use Rattle.spec_exact.specs.Limit.{sign}
 use Rattle.spec_exact.proofs.FractionSigns.{below_zero, above_zero}
 use Rattle.spec_pivot.specs.declared.status.Status.{Status}
 use Rattle.spec_pivot.specs.declared.status.Status.TheVariants.{Basic, AtLower, AtUpper, AtZero}
+use Rattle.spec_pivot.specs.declared.status.Way.{Way}
+use Rattle.spec_pivot.specs.declared.status.Way.TheVariants.{Up, Down}
 use Rattle.spec_simplex.specs.Tableau.{Tableau, form_columns}
 use Rattle.spec_simplex.specs.Step.{way_by, way_at, or_enters, entering_below}
 use Rattle.lp_natural.specs.Whole.{whole}
@@ -42,31 +44,31 @@ none_behind t n (suc d) h f =
 -- the way of a column by the sign of its reduced cost is the way by the reduced cost
 way_is : (s : Status) (d : ℚ) (o : Ordering) → o ≡ sign d → way_of s o ≡ way_by s d
 way_is Basic d o e = refl
-way_is AtLower d o e = by o ∙ ap (λ a. cond a (Some true) None) (below_zero d o e)
+way_is AtLower d o e = by o ∙ ap (λ a. cond a (Some Up) None) (below_zero d o e)
   where
-    by : (o : Ordering) → ◌≡◌ {A = Option Bool} (of_sign o (Some true) None None) (cond (is_lt o) (Some true) None)
+    by : (o : Ordering) → ◌≡◌ {A = Option Way} (of_sign o (Some Up) None None) (cond (is_lt o) (Some Up) None)
     by Less = refl
     by Equal = refl
     by Greater = refl
-way_is AtUpper d o e = by o ∙ ap (λ a. cond a (Some false) None) (above_zero d o e)
+way_is AtUpper d o e = by o ∙ ap (λ a. cond a (Some Down) None) (above_zero d o e)
   where
     by : (o : Ordering) →
-        ◌≡◌ {A = Option Bool} (of_sign o None None (Some false)) (cond (is_gt o) (Some false) None)
+        ◌≡◌ {A = Option Way} (of_sign o None None (Some Down)) (cond (is_gt o) (Some Down) None)
     by Less = refl
     by Equal = refl
     by Greater = refl
 way_is AtZero d o e =
-    by o ∙ ap₂ (λ a b. cond a (Some true) (cond b (Some false) None)) (below_zero d o e) (above_zero d o e)
+    by o ∙ ap₂ (λ a b. cond a (Some Up) (cond b (Some Down) None)) (below_zero d o e) (above_zero d o e)
   where
     by : (o : Ordering) →
-        ◌≡◌ {A = Option Bool} (of_sign o (Some true) None (Some false))
-        (cond (is_lt o) (Some true) (cond (is_gt o) (Some false) None))
+        ◌≡◌ {A = Option Way} (of_sign o (Some Up) None (Some Down))
+        (cond (is_lt o) (Some Up) (cond (is_gt o) (Some Down) None))
     by Less = refl
     by Equal = refl
     by Greater = refl
 
 pub way_there : {T : Type 0} (value : T → ℕ) (t : Tableau) (numbers : List (Signed T)) (d k : ℕ)
-    (statuses : List Status) (fixed : List Bool) (x : Signed T) (s : Status) (w : Option Bool) →
+    (statuses : List Status) (fixed : List Bool) (x : Signed T) (s : Status) (w : Option Way) →
     IsPriced value t numbers d statuses fixed → 0 < d → k < length fixed → length fixed ≤ length numbers →
     length fixed ≤ length statuses → x ≡ get_or numbers k x →
     w ≡ way_with (get_or fixed k false) (get_or statuses k s) (int_cmp (whole x.negative (value x.size)) (pos 0)) →

@@ -17,7 +17,7 @@ use Rattle.spec_pivot.proofs.Ray.{ray_basic}
 use Rattle.spec_simplex.specs.Tableau.{Tableau, form_columns, all_columns, basic_at, entry_at, value_at, reduced_at}
 use Rattle.spec_simplex.specs.Tableau.{status_at, lower_at, upper_at, or_zero}
 use Rattle.spec_simplex.specs.Step.{directed, other_bound, flip_way}
-use Rattle.spec_simplex.specs.Tables.{way, table_of, IsTableauOf, KeepsBounds}
+use Rattle.spec_simplex.specs.Tables.{table_of, IsTableauOf, KeepsBounds}
 use Rattle.spec_simplex.proofs.ListIndices.{by_lt, set_reads}
 use Rattle.spec_simplex.proofs.Flips.{directed_is}
 use Rattle.lp_rows.specs.declared.fractions.Row.{Row}
@@ -52,7 +52,7 @@ module _ {T : Type 0} (value : T → ℕ) (r s : RowTableau T) (t u : Tableau) (
   abbrev c : ℚ
   c = over (pos 1) (value r.denominator)
 
-  tab : table_of u ≡ after_flip t.rows (table_of t) (way x.up) j x.ratio (other_bound x.up)
+  tab : table_of u ≡ after_flip t.rows (table_of t) x.way j x.ratio (other_bound x.way)
   tab = x.leaves.table
 
   wide : W ≡ form_columns t
@@ -73,7 +73,7 @@ module _ {T : Type 0} (value : T → ℕ) (r s : RowTableau T) (t u : Tableau) (
   status_is : (k : ℕ) → status_in r k ≡ status_at t k
   status_is k = ap (λ (l : List Status). get_or l k Basic) shows.status
 
-  up_is : flip_way (status_in r j) ≡ x.up
+  up_is : flip_way (status_in r j) ≡ x.way
   up_is = ap flip_way (status_is j) ∙ x.way_is
 
   entry_is : (i k : ℕ) → i < t.rows → k < form_columns t → entry_at t i k ≡ N i k
@@ -87,17 +87,17 @@ module _ {T : Type 0} (value : T → ℕ) (r s : RowTableau T) (t u : Tableau) (
       (omega (arith, h, shows.rows)) (omega arith)
 
   -- how far column j moves
-  theta_is : d.by *ℚ c ≡ sign (way x.up) *ℚ x.ratio
+  theta_is : d.by *ℚ c ≡ sign x.way *ℚ x.ratio
   theta_is =
       d.range
       ∙ ap₂ directed up_is
       (ap₂ (λ v w. or_zero v -ℚ or_zero w) (sym (shows.upper j j_in)) (sym (shows.lower j j_in)) ∙ sym x.range)
-      ∙ directed_is x.up x.ratio
+      ∙ directed_is x.way x.ratio
 
   basic_at_is : (i : ℕ) → basic_at u i ≡ basic_at t i
   basic_at_is i = ap (λ (v : Table). v.basic i) tab
 
-  status_at_is : (k : ℕ) → status_at u k ≡ status_set (status_at t) j (other_bound x.up) k
+  status_at_is : (k : ℕ) → status_at u k ≡ status_set (status_at t) j (other_bound x.way) k
   status_at_is k = ap (λ (v : Table). v.status k) tab
 
   new_value : (i : ℕ) → i < t.rows → value_at u (basic_at u i) ≡ M i W *ℚ c
@@ -105,8 +105,8 @@ module _ {T : Type 0} (value : T → ℕ) (r s : RowTableau T) (t u : Tableau) (
       ap (value_at u) (basic_at_is i)
       ∙ ap (λ (v : Table). v.value (basic_at t i)) tab
       ∙ ap (λ a. value_at t (basic_at t i) +ℚ x.ratio *ℚ a)
-      (ray_basic t.rows (table_of t) g.units (way x.up) j j_off i h)
-      ∙ along (value_at t (basic_at t i)) (entry_at t i j) (sign (way x.up)) x.ratio
+      (ray_basic t.rows (table_of t) g.units x.way j j_off i h)
+      ∙ along (value_at t (basic_at t i)) (entry_at t i j) (sign x.way) x.ratio
       ∙ ap₂ (λ v k. v -ℚ k) (value_is i h) (ap₂ (λ a k. a *ℚ k) (entry_is i j h x.before) (sym theta_is))
       ∙ sym (less_on (N i W) (N i j) d.by c)
       ∙ ap (λ a. a *ℚ c) (sym (d.rows.last i (omega (arith, h, shows.rows))))

@@ -14,7 +14,7 @@
 -- `priced_is`: the row of costs holds the reduced costs of the tableau that the rows show, with its statuses and
 --   fixed columns.
 use Rattle.std.proofs.Common.{◌≡◌, ℕ, suc, ◌+◌, ◌*◌, ◌<◌, ◌≤◌, List, length, get_or, Option, Some, None, Ok, Bool}
-use Rattle.std.proofs.Common.{true, false, cond, not}
+use Rattle.std.proofs.Common.{true, false, cond}
 use Rattle.std.proofs.Common.{ℤ, pos, ◌-ℤ◌, refl, sym, ap, ap₂, ◌∙◌, subst, arith, int_cmp, Equal}
 use Rattle.std.specs.Prelude.{IfSome}
 use Rattle.std.proofs.lemmas.List.{get_or_default}
@@ -22,6 +22,8 @@ use Rattle.std.proofs.Math.Nat.{mul-one}
 use Rattle.spec_exact.specs.Fraction.{ℚ, 0ℚ, over}
 use Rattle.spec_exact.specs.Run.{Run, ◌>>=◌, difference_run, steps}
 use Rattle.spec_pivot.specs.declared.status.Status.{Status}
+use Rattle.spec_pivot.specs.declared.status.Way.{Way}
+use Rattle.spec_pivot.specs.declared.status.Way.TheVariants.{Up, Down}
 use Rattle.spec_pivot.specs.Simplex.{Bounds}
 use Rattle.spec_pivot.proofs.Values.{by_basic}
 use Rattle.spec_simplex.specs.declared.ends.Entering.{Entering}
@@ -38,7 +40,7 @@ use Rattle.lp_natural.specs.Whole.{whole}
 use Rattle.lp_natural.specs.declared.words.signed.Signed.{Signed}
 use Rattle.lp_rows.specs.declared.fractions.Row.{Row}
 use Rattle.lp_rows.specs.declared.ratio.Stopper.{Stopper}
-use Rattle.lp_rows.specs.Row.{fraction_at, turned_if}
+use Rattle.lp_rows.specs.Row.{fraction_at, toward}
 use Rattle.lp_rows.specs.Entering.{IsPriced}
 use Rattle.lp_rows.specs.Ratio.{bound_of}
 use Rattle.lp_rows.proofs.Done.{item-at}
@@ -58,22 +60,22 @@ by_some (Some a) P Q f h = f a h
 -- ---- an entry of 0
 
 -- where the magnitude of an entry is 0, the comparison of the entry with 0 says equal, turned or not
-no_sign : (up b : Bool) (size : ℕ) → size ≡ 0 → Equal ≡ int_cmp (turned_if (not up) (whole b size)) (pos 0)
-no_sign up b size e =
-    subst (λ n. Equal ≡ int_cmp (turned_if (not up) (whole b n)) (pos 0)) (sym e) (by up b)
+no_sign : (way : Way) (b : Bool) (size : ℕ) → size ≡ 0 → Equal ≡ int_cmp (toward way (whole b size)) (pos 0)
+no_sign way b size e =
+    subst (λ n. Equal ≡ int_cmp (toward way (whole b n)) (pos 0)) (sym e) (by way b)
   where
-    by : (up b : Bool) → Equal ≡ int_cmp (turned_if (not up) (whole b 0)) (pos 0)
-    by true true = refl
-    by true false = refl
-    by false true = refl
-    by false false = refl
+    by : (way : Way) (b : Bool) → Equal ≡ int_cmp (toward way (whole b 0)) (pos 0)
+    by Up true = refl
+    by Up false = refl
+    by Down true = refl
+    by Down false = refl
 
-pub stays : (up : Bool) (i k : ℕ) (b : Bool) (size e : ℕ) (lower upper : Option ℚ) (v : ℚ) (best : Option (Best ℚ)) →
-    size ≡ 0 → 0 < e → ◌≡◌ {A = Run (Option (Best ℚ))} (best_at up i k (over (whole b size) e) lower upper v best)
+pub stays : (way : Way) (i k : ℕ) (b : Bool) (size e : ℕ) (lower upper : Option ℚ) (v : ℚ) (best : Option (Best ℚ)) →
+    size ≡ 0 → 0 < e → ◌≡◌ {A = Run (Option (Best ℚ))} (best_at way i k (over (whole b size) e) lower upper v best)
     (Ok best)
-stays up i k b size e lower upper v best h p =
+stays way i k b size e lower upper v best h p =
     ap (λ (o : Run (Option (ℚ × Status))). o >>= λ gap. with_gap None i k (over (whole b size) e) best gap)
-    (gap_run_is up (whole b size) e Equal lower upper v p (no_sign up b size h))
+    (gap_run_is way (whole b size) e Equal lower upper v p (no_sign way b size h))
 
 -- ---- the column's own range
 pub between : (u l g : ℤ) (d one k : ℕ) (to side : Status) → 0 < d → one ≡ 1 → g ≡ u -ℤ l → side ≡ to →
@@ -106,14 +108,14 @@ module _ {T : Type 0} (value : T → ℕ) (r : RowTableau T) (t : Tableau) (show
       (lower upper : Option (Signed T)) (lz uz : Option (Signed T)) → lower ≡ get_or r.lower.items col lz →
       upper ≡ get_or r.upper.items col uz → (best : Option (Best ℚ)) →
       best_with None t e i best ≡
-      best_at e.up i col (over (whole entry.negative (value entry.size)) (value row.denominator))
+      best_at e.direction i col (over (whole entry.negative (value entry.size)) (value row.denominator))
       (bound_of value d lower)
       (bound_of value d upper) (over (whole last.negative (value last.size)) (d * value row.denominator)) best
   position_is col z col_is entry last entry_is last_is lower upper lz uz lower_is upper_is best =
-      ap (λ q. best_at e.up i q (entry_at t i e.col) (lower_at t q) (upper_at t q)
+      ap (λ q. best_at e.direction i q (entry_at t i e.col) (lower_at t q) (upper_at t q)
       (value_at t (basic_at t i)) best) basic
-      ∙ ap₂ (λ a v. best_at e.up i col a (lower_at t col) (upper_at t col) v best) entry_there value_there
-      ∙ ap₂ (λ l u. best_at e.up i col (over (whole entry.negative (value entry.size)) (value row.denominator)) l u
+      ∙ ap₂ (λ a v. best_at e.direction i col a (lower_at t col) (upper_at t col) v best) entry_there value_there
+      ∙ ap₂ (λ l u. best_at e.direction i col (over (whole entry.negative (value entry.size)) (value row.denominator)) l u
       (over (whole last.negative (value last.size)) (d * value row.denominator)) best) lower_there upper_there
     where
       basic : basic_at t i ≡ col
@@ -175,7 +177,7 @@ goes_none b t keeps k h l =
     (λ s. ap (λ c. cond c None (way_by (status_at t k) (reduced_at t k)))
     (fixed_test (lower_at t k) (upper_at t k) 0ℚ (keeps.lower k l ∙ keeps.zero k h l) (keeps.fixed k h l s)))
   where
-    both : (c : Bool) → ◌≡◌ {A = Option Bool} (cond c None None) None
+    both : (c : Bool) → ◌≡◌ {A = Option Way} (cond c None None) None
     both true = refl
     both false = refl
 

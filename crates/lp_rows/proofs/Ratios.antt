@@ -4,13 +4,15 @@
 -- `stops`: a position with the gap g / (d * e) is compared with the best so far by the ratio g / (d * s).
 -- `gap_run_is`: the gap of the ratio test is the gap by the sign of the entry, turned as the column moves.
 use Rattle.std.proofs.Common.{◌≡◌, ℕ, ◌*◌, ◌<◌, ℤ, pos, neg_ℤ, ◌*ℤ◌, [], ◌∷◌, refl, sym, ap, subst, ◌∙◌, arith, Bool}
-use Rattle.std.proofs.Common.{true, false, Option, Some, None, Ok, not, cond, ap₂, int_cmp, Ordering, Less, Equal}
+use Rattle.std.proofs.Common.{true, false, Option, Some, None, Ok, cond, ap₂, int_cmp, Ordering, Less, Equal}
 use Rattle.std.proofs.Common.{Greater}
 use Rattle.spec_exact.specs.Answer.{told}
 use Rattle.spec_exact.specs.Run.{Run, ◌>>=◌}
 use Rattle.spec_exact.specs.declared.past.Op.TheVariants.{Div}
 use Rattle.spec_exact.proofs.Limit.{div_unlimited}
 use Rattle.spec_pivot.specs.declared.status.Status.{Status}
+use Rattle.spec_pivot.specs.declared.status.Way.{Way}
+use Rattle.spec_pivot.specs.declared.status.Way.TheVariants.{Up, Down}
 use Rattle.spec_simplex.specs.declared.ends.Best.{Best}
 use Rattle.spec_simplex.specs.Step.{with_gap, better_run, rise_run, fall_run, gap_run}
 use Rattle.std.proofs.lemmas.Int.{ints}
@@ -28,7 +30,7 @@ use Rattle.spec_exact.specs.Limit.{sign}
 use Rattle.spec_exact.proofs.FractionSigns.{below_zero, above_zero}
 use Rattle.std.specs.Ordering.{is_lt, is_gt}
 use Rattle.lp_ratio.proofs.Fractions.{sign_over}
-use Rattle.lp_rows.specs.Row.{turned_if}
+use Rattle.lp_rows.specs.Row.{toward}
 use Rattle.lp_rows.specs.Ratio.{gap_by}
 use Rattle.lp_rows.proofs.Cleared.{over_neg}
 use Rattle.lp_rows.proofs.Divided.{by_inverse}
@@ -89,8 +91,8 @@ gap_at d o lower upper v e =
     by Equal = refl
     by Greater = refl
 
-pub gap_run_is : (up : Bool) (n : ℤ) (e : ℕ) (o : Ordering) (lower upper : Option ℚ) (v : ℚ) → 0 < e →
-    o ≡ int_cmp (turned_if (not up) n) (pos 0) → gap_run None up (over n e) lower upper v ≡ gap_by o lower upper v
-gap_run_is true n e o lower upper v p h = gap_at (over n e) o lower upper v (h ∙ sym (sign_over n e p))
-gap_run_is false n e o lower upper v p h =
+pub gap_run_is : (way : Way) (n : ℤ) (e : ℕ) (o : Ordering) (lower upper : Option ℚ) (v : ℚ) → 0 < e →
+    o ≡ int_cmp (toward way n) (pos 0) → gap_run None way (over n e) lower upper v ≡ gap_by o lower upper v
+gap_run_is Up n e o lower upper v p h = gap_at (over n e) o lower upper v (h ∙ sym (sign_over n e p))
+gap_run_is Down n e o lower upper v p h =
     gap_at (neg_ℚ (over n e)) o lower upper v (h ∙ sym (sign_over (neg_ℤ n) e p) ∙ ap sign (over_neg n e p))

@@ -9,7 +9,7 @@
 -- `listed_is`: a number of a list that is made of a fraction is the one made of an equal fraction.
 -- `all_made`: a list of n items is one of m where n is m.
 -- `by_end`: the certificate of an end is that of an equal end.
-use Rattle.std.proofs.Common.{◌≡◌, ◌≢◌, ℕ, ◌+◌, ◌*◌, ◌<◌, List, [], ◌∷◌, ◌++◌, length, get_or, Option, Some, Bool}
+use Rattle.std.proofs.Common.{◌≡◌, ◌≢◌, ℕ, ◌+◌, ◌*◌, ◌<◌, List, [], ◌∷◌, ◌++◌, length, get_or, Option, Some}
 use Rattle.std.proofs.Common.{Result, cond, All}
 use Rattle.std.proofs.Common.{eq-eqb, ne_eqb, sym, ap, ap₂, subst, ◌∙◌, arith, add-one}
 use Rattle.std.specs.Prelude.{IfSome, IfOk}
@@ -18,6 +18,7 @@ use Rattle.std.proofs.lemmas.List.Elements.{All-nil, All-cons, All-append}
 use Rattle.spec_exact.specs.Fraction.{ℚ, over, neg_ℚ}
 use Rattle.spec_exact.specs.Run.{made}
 use Rattle.spec_check.specs.declared.certificate.Certificate.{Certificate}
+use Rattle.spec_pivot.specs.declared.status.Way.{Way}
 use Rattle.spec_simplex.specs.declared.ends.PrimalEnd.{PrimalEnd}
 use Rattle.spec_simplex.specs.Step.{directed}
 use Rattle.spec_simplex.specs.Tableau.{Tableau, entry_at, basic_at}
@@ -73,27 +74,27 @@ basic_is value r t i b s w l g =
     sym (ap (λ (ks : List ℕ). get_or ks i 0) s.basic)
     ∙ get_or_default r.basic.items i 0 b (omega (arith, l, w.all_basic)) ∙ sym g
 
-pub moved_here : {T : Type 0} (value : T → ℕ) (r : RowTableau T) (t : Tableau) (i j k b : ℕ) (up : Bool) (v : ℚ) →
+pub moved_here : {T : Type 0} (value : T → ℕ) (r : RowTableau T) (t : Tableau) (i j k b : ℕ) (way : Way) (v : ℚ) →
     Shows value r t → IsWhole value r → i < height r → b ≡ get_or r.basic.items i b → b ≡ k →
-    v ≡ neg_ℚ (directed up (entry_at t i j)) → v ≡ moves_below t j up k (i + 1)
-moved_here value r t i j k b up v s w l g e is =
+    v ≡ neg_ℚ (directed way (entry_at t i j)) → v ≡ moves_below t j way k (i + 1)
+moved_here value r t i j k b way v s w l g e is =
     is
-    ∙ sym (ap (moves_below t j up k) (add-one i)
-    ∙ ap (λ c. cond c (neg_ℚ (directed up (entry_at t i j))) (moves_below t j up k i))
+    ∙ sym (ap (moves_below t j way k) (add-one i)
+    ∙ ap (λ c. cond c (neg_ℚ (directed way (entry_at t i j))) (moves_below t j way k i))
     (eq-eqb (basic_at t i) k (basic_is value r t i b s w l g ∙ e)))
 
-pub moved_elsewhere : {T : Type 0} (value : T → ℕ) (r : RowTableau T) (t : Tableau) (i j k b : ℕ) (up : Bool) (v : ℚ) →
+pub moved_elsewhere : {T : Type 0} (value : T → ℕ) (r : RowTableau T) (t : Tableau) (i j k b : ℕ) (way : Way) (v : ℚ) →
     Shows value r t → IsWhole value r → i < height r → b ≡ get_or r.basic.items i b → b ≢ k →
-    v ≡ moves_below t j up k i → v ≡ moves_below t j up k (i + 1)
-moved_elsewhere value r t i j k b up v s w l g n is =
+    v ≡ moves_below t j way k i → v ≡ moves_below t j way k (i + 1)
+moved_elsewhere value r t i j k b way v s w l g n is =
     is
-    ∙ sym (ap (moves_below t j up k) (add-one i)
-    ∙ ap (λ c. cond c (neg_ℚ (directed up (entry_at t i j))) (moves_below t j up k i))
+    ∙ sym (ap (moves_below t j way k) (add-one i)
+    ∙ ap (λ c. cond c (neg_ℚ (directed way (entry_at t i j))) (moves_below t j way k i))
     (ne_eqb (basic_at t i) k (λ e. n (sym (basic_is value r t i b s w l g) ∙ e))))
 
-pub moved_all : {T : Type 0} (value : T → ℕ) (r : RowTableau T) (t : Tableau) (i j k : ℕ) (up : Bool) (v : ℚ) →
-    Shows value r t → i ≡ height r → v ≡ moves_below t j up k i → v ≡ moves_by t j up k
-moved_all value r t i j k up v s e is = is ∙ ap (moves_below t j up k) (e ∙ s.rows)
+pub moved_all : {T : Type 0} (value : T → ℕ) (r : RowTableau T) (t : Tableau) (i j k : ℕ) (way : Way) (v : ℚ) →
+    Shows value r t → i ≡ height r → v ≡ moves_below t j way k i → v ≡ moves_by t j way k
+moved_all value r t i j k way v s e is = is ∙ ap (moves_below t j way k) (e ∙ s.rows)
 
 -- ---- lists
 

@@ -2,7 +2,7 @@
 --
 -- `none_on`: 0 over a positive denominator is 0.
 -- `whole_on`: n as a fraction, times 1 / d, is n / d.
-use Rattle.std.proofs.Common.{◌≡◌, ℕ, ◌*◌, ◌<◌, List, length, get_or, set, All, Option, None, Bool, true, false, not}
+use Rattle.std.proofs.Common.{◌≡◌, ℕ, ◌*◌, ◌<◌, List, length, get_or, set, All, Option, None}
 use Rattle.std.proofs.Common.{refl, sym, ap, ap₂, ◌∙◌, subst, subst₂, arith}
 use Rattle.std.proofs.Common.{ℤ, pos, ◌-ℤ◌, [], ◌∷◌}
 use Rattle.std.proofs.lemmas.List.{length-set, get_or_default}
@@ -13,11 +13,13 @@ use Rattle.spec_exact.proofs.WholeRing.{by_ring}
 use Rattle.spec_exact.proofs.Field.{over-*}
 use Rattle.spec_pivot.specs.declared.status.Status.{Status}
 use Rattle.spec_pivot.specs.declared.status.Status.TheVariants.{Basic}
+use Rattle.spec_pivot.specs.declared.status.Way.{Way}
+use Rattle.spec_pivot.specs.declared.status.Way.TheVariants.{Up, Down}
 use Rattle.spec_simplex.specs.Tableau.{or_zero, stand}
 use Rattle.spec_simplex.specs.Step.{directed, other_bound, flip_way}
 use Rattle.lp_rows.specs.declared.fractions.Row.{Row}
 use Rattle.lp_natural.specs.declared.words.signed.Signed.{Signed}
-use Rattle.lp_rows.specs.Row.{turned_if}
+use Rattle.lp_rows.specs.Row.{toward}
 use Rattle.lp_rows.specs.Ratio.{bound_of}
 use Rattle.lp_rows.proofs.Cleared.{over_neg}
 use Rattle.lp_rows.proofs.Gaps.{together}
@@ -40,19 +42,19 @@ whole_on n d p =
     once d = omega arith
 
 -- n over d, turned as the column moves, is n turned so over d
-directed_on : (up : Bool) (n : ℤ) (d : ℕ) → 0 < d → over (turned_if (not up) n) d ≡ directed up (over n d)
-directed_on true n d p = refl
-directed_on false n d p = over_neg n d p
+directed_on : (way : Way) (n : ℤ) (d : ℕ) → 0 < d → over (toward way n) d ≡ directed way (over n d)
+directed_on Up n d p = refl
+directed_on Down n d p = over_neg n d p
 
 -- how far a column goes that flips
-range_on : (up : Bool) (d : ℕ) (by range u l : ℤ) (upper lower : Option ℚ) → 0 < d → by ≡ turned_if (not up) range →
+range_on : (way : Way) (d : ℕ) (by range u l : ℤ) (upper lower : Option ℚ) → 0 < d → by ≡ toward way range →
     range ≡ u -ℤ l → over u d ≡ or_zero upper → over l d ≡ or_zero lower →
-    over by 1 *ℚ over (pos 1) d ≡ directed up (or_zero upper -ℚ or_zero lower)
-range_on up d by range u l upper lower p e f h k =
+    over by 1 *ℚ over (pos 1) d ≡ directed way (or_zero upper -ℚ or_zero lower)
+range_on way d by range u l upper lower p e f h k =
     whole_on by d p
     ∙ ap (λ z. over z d) e
-    ∙ directed_on up range d p
-    ∙ ap (directed up) (ap (λ z. over z d) f ∙ sym (together u l d p) ∙ ap₂ (λ x y. x -ℚ y) h k)
+    ∙ directed_on way range d p
+    ∙ ap (directed way) (ap (λ z. over z d) f ∙ sym (together u l d p) ∙ ap₂ (λ x y. x -ℚ y) h k)
 
 module _ {T : Type 0} (value : T → ℕ) (r s : RowTableau T) (w : IsWhole value r) where
   pub whole_flipped : (j : ℕ) (v : ℚ) → AreMoved value (width r) j v r.rows.items s.rows.items → s.cols ≡ r.cols →
@@ -124,20 +126,20 @@ module _ {T : Type 0} (value : T → ℕ) (r s : RowTableau T) (w : IsWhole valu
   pub basic_read : (p q z : ℕ) → p < height r → q ≡ get_or r.basic.items p z → q ≡ basic_in r p
   basic_read p q z h e = e ∙ get_or_default r.basic.items p z 0 (omega (arith, h, w.all_basic))
 
-  pub flipped_is : (j n : ℕ) (lent new : List (Row T)) (up : Bool) (by range u l : ℤ) (st sz to : Status)
+  pub flipped_is : (j n : ℕ) (lent new : List (Row T)) (way : Way) (by range u l : ℤ) (st sz to : Status)
       (upper lower uz lz : Option (Signed T)) → j < width r → n ≡ width r → lent ≡ r.rows.items →
       AreMoved value n j (over by 1) lent new → s.rows.items ≡ new → st ≡ get_or r.status.items j sz →
-      up ≡ flip_way st →
+      way ≡ flip_way st →
       upper ≡ get_or r.upper.items j uz → lower ≡ get_or r.lower.items j lz →
       ((d : ℕ) → 0 < d → over u d ≡ or_zero (bound_of value d upper)) →
-      ((d : ℕ) → 0 < d → over l d ≡ or_zero (bound_of value d lower)) → range ≡ u -ℤ l → by ≡ turned_if (not up) range →
-      to ≡ other_bound up → s.status.items ≡ set r.status.items j to → s.cols ≡ r.cols → s.costs ≡ r.costs →
+      ((d : ℕ) → 0 < d → over l d ≡ or_zero (bound_of value d lower)) → range ≡ u -ℤ l → by ≡ toward way range →
+      to ≡ other_bound way → s.status.items ≡ set r.status.items j to → s.cols ≡ r.cols → s.costs ≡ r.costs →
       s.basic ≡ r.basic → s.lower ≡ r.lower → s.upper ≡ r.upper → s.fixed ≡ r.fixed → s.denominator ≡ r.denominator →
       IsFlipped value j r s
-  flipped_is j n lent new up by range u l st sz to upper lower uz lz column n_is lent_is m rows_is st_is up_is upper_is
+  flipped_is j n lent new way by range u l st sz to upper lower uz lz column n_is lent_is m rows_is st_is up_is upper_is
       lower_is u_is l_is range_is by_is to_is status cols costs basic lower' upper' fixed denominator =
       let inside : j < all_width r = omega (arith, column) in
-      let way : up ≡ flip_way (status_in r j) = up_is ∙ ap flip_way (status_read j st sz inside st_is) in
+      let same : way ≡ flip_way (status_in r j) = up_is ∙ ap flip_way (status_read j st sz inside st_is) in
       let moved : AreMoved value (width r) j (over by 1) r.rows.items s.rows.items =
       subst (λ n. AreMoved value n j (over by 1) r.rows.items s.rows.items) n_is
       (subst₂ (AreMoved value n j (over by 1)) lent_is (sym rows_is) m) in
@@ -149,12 +151,12 @@ module _ {T : Type 0} (value : T → ℕ) (r s : RowTableau T) (w : IsWhole valu
         costs = costs;
         basic = basic;
         upper = upper';
-        status = status ∙ ap (set r.status.items j) (to_is ∙ ap other_bound way);
+        status = status ∙ ap (set r.status.items j) (to_is ∙ ap other_bound same);
         by = over by 1;
         range =
-            range_on up d by range u l (bound_of value d upper) (bound_of value d lower) w.positive by_is range_is
+            range_on way d by range u l (bound_of value d upper) (bound_of value d lower) w.positive by_is range_is
             (u_is d w.positive) (l_is d w.positive)
-            ∙ ap (λ up. directed up (or_zero (bound_of value d upper) -ℚ or_zero (bound_of value d lower))) way
+            ∙ ap (λ way. directed way (or_zero (bound_of value d upper) -ℚ or_zero (bound_of value d lower))) same
             ∙ ap₂ (λ x y. directed (flip_way (status_in r j)) (or_zero x -ℚ or_zero y))
             (upper_read j upper uz inside upper_is) (lower_read j lower lz inside lower_is);
         rows = moved;

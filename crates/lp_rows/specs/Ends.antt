@@ -1,10 +1,11 @@
 -- The certificate and the basis of an end.
-use Rattle.std.specs.Prelude.{ℕ, ◌+◌, Bool, List, Option, Some, None, ◌<◌, All}
+use Rattle.std.specs.Prelude.{ℕ, ◌+◌, List, Option, Some, None, ◌<◌, All}
 use Rattle.spec_exact.specs.Fraction.{ℚ}
 use Rattle.spec_exact.specs.Run.{made}
 use Rattle.spec_check.specs.declared.certificate.Certificate.{Certificate}
 use Rattle.spec_check.specs.declared.certificate.Certificate.TheVariants as certificate
 use Rattle.spec_pivot.specs.declared.status.Status.{Status}
+use Rattle.spec_pivot.specs.declared.status.Way.{Way}
 use Rattle.spec_simplex.specs.declared.ends.PrimalEnd.{PrimalEnd}
 use Rattle.spec_simplex.specs.declared.ends.PrimalEnd.TheVariants.{Optimal, Unbounded}
 use Rattle.spec_simplex.specs.Tableau.{Tableau, value_at, reduced_at}
@@ -23,14 +24,14 @@ abbrev pub multipliers_as : {N : Type 0} → (ℚ → N) → Tableau → List N
 multipliers_as of t = made t.rows (λ i. of (reduced_at t (t.cols + i)))
 
 -- how the structural columns move as column j enters
-abbrev pub direction_as : {N : Type 0} → (ℚ → N) → Tableau → ℕ → Bool → List N
-direction_as of t j up = made t.cols (λ k. of (moves_by t j up k))
+abbrev pub direction_as : {N : Type 0} → (ℚ → N) → Tableau → ℕ → Way → List N
+direction_as of t j way = made t.cols (λ k. of (moves_by t j way k))
 
 -- by the end of phase two; there is none where phase one leaves an artificial that is not 0
 abbrev pub certificate_as : {N : Type 0} → (ℚ → N) → Tableau → Option PrimalEnd → Certificate (List N)
 certificate_as of t None = certificate.Infeasible (multipliers_as of t)
 certificate_as of t (Some Optimal) = certificate.Optimal (point_as of t) (multipliers_as of t)
-certificate_as of t (Some (Unbounded j up)) = certificate.Unbounded (point_as of t) (direction_as of t j up)
+certificate_as of t (Some (Unbounded j way)) = certificate.Unbounded (point_as of t) (direction_as of t j way)
 
 -- `fits` holds of all numbers of a certificate
 abbrev pub AllFit : {N : Type 0} → (N → Type 0) → Certificate (List N) → Type 0
@@ -48,4 +49,4 @@ basis_by t (Some end) = basis_at t end
 abbrev pub IsInside : {T : Type 0} → RowTableau T → Option PrimalEnd → Type 0
 IsInside r None = Unit {0}
 IsInside r (Some Optimal) = Unit {0}
-IsInside r (Some (Unbounded j up)) = j < width r
+IsInside r (Some (Unbounded j way)) = j < width r

@@ -1,10 +1,12 @@
 -- Which column enters, by the signs of the reduced costs.
-use Rattle.std.specs.Prelude.{◌≡◌, ℕ, ◌<◌, ◌≤◌, List, length, get_or, Option, Some, None, Bool, true, false}
+use Rattle.std.specs.Prelude.{◌≡◌, ℕ, ◌<◌, ◌≤◌, List, length, get_or, Option, Some, None, Bool, false}
 use Rattle.std.specs.Prelude.{if◌then◌else◌}
 use Rattle.std.specs.declared.cmp.Ordering.{Ordering}
 use Rattle.std.specs.declared.cmp.Ordering.TheVariants.{Less, Equal, Greater}
 use Rattle.spec_pivot.specs.declared.status.Status.{Status}
 use Rattle.spec_pivot.specs.declared.status.Status.TheVariants.{Basic, AtLower, AtUpper, AtZero}
+use Rattle.spec_pivot.specs.declared.status.Way.{Way}
+use Rattle.spec_pivot.specs.declared.status.Way.TheVariants.{Up, Down}
 use Rattle.spec_simplex.specs.Tableau.{Tableau, form_columns, all_columns, reduced_at, lower_at, upper_at, is_fixed}
 use Rattle.spec_simplex.specs.Step.{way_at}
 use Rattle.lp_natural.specs.declared.words.signed.Signed.{Signed}
@@ -17,14 +19,14 @@ of_sign Equal x y z = y
 of_sign Greater x y z = z
 
 -- which way a column goes, by its status and the sign of its reduced cost
-abbrev pub way_of : Status → Ordering → Option Bool
+abbrev pub way_of : Status → Ordering → Option Way
 way_of Basic o = None
-way_of AtLower o = of_sign o (Some true) None None
-way_of AtUpper o = of_sign o None None (Some false)
-way_of AtZero o = of_sign o (Some true) None (Some false)
+way_of AtLower o = of_sign o (Some Up) None None
+way_of AtUpper o = of_sign o None None (Some Down)
+way_of AtZero o = of_sign o (Some Up) None (Some Down)
 
 -- a fixed column goes none
-abbrev pub way_with : Bool → Status → Ordering → Option Bool
+abbrev pub way_with : Bool → Status → Ordering → Option Way
 way_with fixed s o = if fixed then None else way_of s o
 
 -- the numbers over d are a tableau's reduced costs, the lists its statuses and which columns are fixed, as far as the

@@ -3,6 +3,8 @@ use Rattle.std.specs.Prelude.{ℕ, zero, suc, ◌<◌, ◌≡◌, ℤ, pos, neg_
 use Rattle.spec_exact.specs.Fraction.{ℚ, 0ℚ, over}
 use Rattle.lp_natural.specs.Whole.{whole}
 use Rattle.lp_natural.specs.declared.words.signed.Signed.{Signed}
+use Rattle.spec_pivot.specs.declared.status.Way.{Way}
+use Rattle.spec_pivot.specs.declared.status.Way.TheVariants.{Up, Down}
 
 -- the whole number of column k, and 0 past the end
 abbrev pub at : {T : Type 0} → (T → ℕ) → List (Signed T) → ℕ → ℤ
@@ -28,3 +30,8 @@ pub record AreNow {T : Type 0} (value : T → ℕ) (f : ℕ → ℚ) (n : ℕ) (
 abbrev pub turned_if : Bool → ℤ → ℤ
 turned_if true n = neg_ℤ n
 turned_if false n = n
+
+-- n, or its negative where the entering column falls
+abbrev pub toward : Way → ℤ → ℤ
+toward Up n = n
+toward Down n = neg_ℤ n

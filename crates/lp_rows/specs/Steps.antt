@@ -18,7 +18,7 @@ step_of (choice.Pivot p j theta to) = Pivot p j to
 -- the column of a step is one of n, and its position one of m
 abbrev pub IsInReach : ℕ → ℕ → Step → Type 0
 IsInReach m n (End Optimal) = Unit {0}
-IsInReach m n (End (Unbounded j up)) = j < n
+IsInReach m n (End (Unbounded j way)) = j < n
 IsInReach m n (Flip j) = j < n
 IsInReach m n (Pivot p j to) = (p < m) × (j < n)
 

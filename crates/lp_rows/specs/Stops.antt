@@ -1,7 +1,8 @@
 -- What stops the entering column.
-use Rattle.std.specs.Prelude.{ℕ, ◌<◌, Bool, Option, Some, None, IfSome}
+use Rattle.std.specs.Prelude.{ℕ, ◌<◌, Option, Some, None, IfSome}
 use Rattle.spec_exact.specs.Fraction.{ℚ}
 use Rattle.spec_exact.specs.Run.{Run, ◌>>=◌}
+use Rattle.spec_pivot.specs.declared.status.Way.{Way}
 use Rattle.spec_simplex.specs.declared.ends.Best.{Best}
 use Rattle.spec_simplex.specs.Step.{gap_run, with_gap}
 use Rattle.lp_rows.specs.declared.ratio.Stopper.{Stopper}
@@ -12,5 +13,5 @@ IsStop value n None = Unit {0}
 IsStop value n (Some s) = (0 < value s.entry) × IfSome s.position (λ p. p < n)
 
 -- the best with position i, whose column k has these bounds and the value v, and the entry a
-abbrev pub best_at : Bool → ℕ → ℕ → ℚ → Option ℚ → Option ℚ → ℚ → Option (Best ℚ) → Run (Option (Best ℚ))
-best_at up i k a lower upper v best = gap_run None up a lower upper v >>= λ gap. with_gap None i k a best gap
+abbrev pub best_at : Way → ℕ → ℕ → ℚ → Option ℚ → Option ℚ → ℚ → Option (Best ℚ) → Run (Option (Best ℚ))
+best_at way i k a lower upper v best = gap_run None way a lower upper v >>= λ gap. with_gap None i k a best gap

@@ -8,7 +8,7 @@ ghost use Rattle.lp_rows.specs.Entering.{way_of, way_with, IsPriced};
 
 use crate::fractions::Row;
 use lp_natural::words::{Signed, Words};
-use spec_pivot::Status;
+use spec_pivot::{Status, Way};
 use spec_simplex::Entering;
 use std::cmp::Ordering;
 
@@ -26,31 +26,31 @@ pub(crate) fn sign<T: Words>(n: Signed<T>) -> Ordering
 }
 
 // Which way a column goes, by its status and the sign of its reduced cost.
-fn way(status: Status, sign: Ordering) -> Option<bool>
+fn way(status: Status, sign: Ordering) -> Option<Way>
     ensures { result ≡ way_of status sign }
 {
     match status {
         Status::Basic => None,
         Status::AtLower => match sign {
-            Ordering::Less => Some(true),
+            Ordering::Less => Some(Way::Up),
             Ordering::Equal => None,
             Ordering::Greater => None,
         },
         Status::AtUpper => match sign {
             Ordering::Less => None,
             Ordering::Equal => None,
-            Ordering::Greater => Some(false),
+            Ordering::Greater => Some(Way::Down),
         },
         Status::AtZero => match sign {
-            Ordering::Less => Some(true),
+            Ordering::Less => Some(Way::Up),
             Ordering::Equal => None,
-            Ordering::Greater => Some(false),
+            Ordering::Greater => Some(Way::Down),
         },
     }
 }
 
 // Which way a column goes, by its status and reduced cost. A fixed column goes none.
-fn way_if_free<T: Words>(cost: Signed<T>, status: Status, is_fixed: bool) -> Option<bool>
+fn way_if_free<T: Words>(cost: Signed<T>, status: Status, is_fixed: bool) -> Option<Way>
     ensures { result ≡ way_with is_fixed status (int_cmp (whole cost.negative (T.value cost.size)) (pos 0)) }
 {
     if is_fixed {
@@ -81,7 +81,12 @@ pub(crate) fn entering<T: Words>(
         let stands = status[k];
         let is_fixed = fixed[k];
         match way_if_free(cost, stands, is_fixed) {
-            Some(up) => return Some(Entering { col: k as u32, up }),
+            Some(direction) => {
+                return Some(Entering {
+                    col: k as u32,
+                    direction,
+                });
+            }
             None => {}
         }
     }

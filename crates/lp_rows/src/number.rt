@@ -5,6 +5,7 @@ ghost use Rattle.spec_simplex.specs.Step as step;
 ghost use Rattle.lp_rows.specs.Number.{fraction_of};
 
 use lp_natural::words::{Signed, Words};
+use spec_pivot::Way;
 use std::alloc::{AllocError, Global};
 
 /// A number over a denominator, as a row has both.
@@ -69,8 +70,11 @@ pub(crate) fn negated<T: Words>(v: RowFraction<T>) -> RowFraction<T>
 }
 
 // The fraction, or its negative where the entering column falls.
-pub(crate) fn directed<T: Words>(up: bool, v: RowFraction<T>) -> RowFraction<T>
-    ensures { fraction_of T.value result ≡ step.directed up (fraction_of T.value v) }
+pub(crate) fn directed<T: Words>(way: Way, v: RowFraction<T>) -> RowFraction<T>
+    ensures { fraction_of T.value result ≡ step.directed way (fraction_of T.value v) }
 {
-    if up { v } else { negated(v) }
+    match way {
+        Way::Up => v,
+        Way::Down => negated(v),
+    }
 }

@@ -1,16 +1,16 @@
 // Which of two positions stops the entering column first: ratios are compared crosswise, and nothing is divided.
-ghost use Rattle.std.specs.Prelude.{◌≡◌, ◌<◌, ◌+◌, ◌*◌, ℕ, IsTrue, false, pos, ◌*ℤ◌, Ok, Some, None, IfSome, Option, not, ◌⊎◌};
+ghost use Rattle.std.specs.Prelude.{◌≡◌, ◌<◌, ◌+◌, ◌*◌, ℕ, IsTrue, false, pos, ◌*ℤ◌, Ok, Some, None, IfSome, Option, ◌⊎◌};
 ghost use Rattle.std.specs.Ordering.{int_cmp};
 ghost use Rattle.spec_exact.specs.Fraction.{ℚ, over};
 ghost use Rattle.spec_simplex.specs.declared.ends.Best.{Best};
 ghost use Rattle.spec_simplex.specs.Step as step;
 ghost use Rattle.lp_natural.specs.Whole.{whole};
-ghost use Rattle.lp_rows.specs.Row.{turned_if};
+ghost use Rattle.lp_rows.specs.Row.{toward as toward_of};
 ghost use Rattle.lp_rows.specs.Ratio.{best_of, room_of, bound_of, gap_of, gap_by, stopped, IsGap};
 
 use crate::choice::sign;
 use lp_natural::words::{Signed, Words, minus, times};
-use spec_pivot::Status;
+use spec_pivot::{Status, Way};
 use std::cmp::Ordering;
 
 // What stops the entering column: its ratio is the gap over the entry, and over what all bounds have as their
@@ -190,22 +190,25 @@ pub(crate) fn stopper_at<T: Words>(at: Position<T>, gap: Option<Gap<T>>) -> Opti
     }
 }
 
-// Whether a basic column rises (`Less`), stays or falls, whose position has this entry, as the entering column rises
-// (`up`) or falls.
-pub(crate) fn goes<T: Words>(up: bool, entry: Signed<T>) -> Ordering
+// Whether a basic column rises (`Less`), stays or falls, whose position has this entry, as the entering column moves
+// in this way.
+pub(crate) fn goes<T: Words>(way: Way, entry: Signed<T>) -> Ordering
     ensures { (e : ℕ) → 0 < e → (lower upper : Option ℚ) (v : ℚ) →
-        step.gap_run None up (over (whole entry.negative (T.value entry.size)) e) lower upper v ≡
+        step.gap_run None way (over (whole entry.negative (T.value entry.size)) e) lower upper v ≡
         gap_by result lower upper v }
 {
-    sign(toward(up, entry))
+    sign(toward(way, entry))
 }
 
 // The number, or its negative where the entering column falls.
-pub(crate) fn toward<T: Words>(up: bool, n: Signed<T>) -> Signed<T>
-    ensures { whole result.negative (T.value result.size) ≡ turned_if (not up) (whole n.negative (T.value n.size)) }
+pub(crate) fn toward<T: Words>(way: Way, n: Signed<T>) -> Signed<T>
+    ensures { whole result.negative (T.value result.size) ≡ toward_of way (whole n.negative (T.value n.size)) }
 {
-    Signed {
-        negative: n.negative == up,
-        size: n.size,
+    match way {
+        Way::Up => n,
+        Way::Down => Signed {
+            negative: !n.negative,
+            size: n.size,
+        },
     }
 }

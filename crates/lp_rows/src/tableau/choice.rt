@@ -36,7 +36,7 @@ fn step_by<T: Words>(e: Entering, stop: Option<Stopper<T>>) -> Step
     let Some(stop) = stop else {
         return Step::End(PrimalEnd::Unbounded {
             col: e.col,
-            up: e.up,
+            direction: e.direction,
         });
     };
     match stop.position {

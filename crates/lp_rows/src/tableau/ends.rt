@@ -140,11 +140,11 @@ fn basic_move<T: Words>(tab: &RowTableau<T>, i: usize, e: Entering) -> RowFracti
     requires place { i < height tab.now }
     requires column { e.col < width tab.now }
     ensures { (t : tableaus.Tableau) → Shows T.value tab.now t →
-        fraction_of T.value result ≡ neg_ℚ (step.directed e.up (tableaus.entry_at t i e.col)) }
+        fraction_of T.value result ≡ neg_ℚ (step.directed e.direction (tableaus.entry_at t i e.col)) }
 {
     let columns = tab.width();
     let entry = number(&tab.rows[i], columns, e.col as usize);
-    negated(directed(e.up, entry))
+    negated(directed(e.direction, entry))
 }
 
 // How column `k` moves by the positions up to `i`, where `so_far` is how it moves by those before.
@@ -159,8 +159,8 @@ fn move_by<T: Words>(
     requires place { i < height tab.now }
     requires column { e.col < width tab.now }
     ensures { (t : tableaus.Tableau) → Shows T.value tab.now t →
-        fraction_of T.value so_far ≡ cold.moves_below t e.col e.up k i →
-        fraction_of T.value result ≡ cold.moves_below t e.col e.up k (i + 1) }
+        fraction_of T.value so_far ≡ cold.moves_below t e.col e.direction k i →
+        fraction_of T.value result ≡ cold.moves_below t e.col e.direction k (i + 1) }
 {
     if tab.basic[i] == k {
         basic_move(tab, i, e)
@@ -171,10 +171,10 @@ fn move_by<T: Words>(
 
 // How column `k` moves before any position is counted: by 1 up or down if it enters, else not at all.
 fn own_move<T: Words>(e: Entering, k: u32) -> RowFraction<T>
-    ensures { (t : tableaus.Tableau) → fraction_of T.value result ≡ cold.moves_below t e.col e.up k 0 }
+    ensures { (t : tableaus.Tableau) → fraction_of T.value result ≡ cold.moves_below t e.col e.direction k 0 }
 {
     if k == e.col {
-        directed(e.up, one())
+        directed(e.direction, one())
     } else {
         zero()
     }
@@ -185,7 +185,7 @@ fn move_of<T: Words>(tab: &RowTableau<T>, e: Entering, k: u32) -> RowFraction<T>
     requires whole { IsWhole T.value tab.now }
     requires column { e.col < width tab.now }
     ensures { (t : tableaus.Tableau) → Shows T.value tab.now t →
-        fraction_of T.value result ≡ cold.moves_by t e.col e.up k }
+        fraction_of T.value result ≡ cold.moves_by t e.col e.direction k }
 {
     let mut moved = own_move(e, k);
     for i in 0..tab.rows.len() {
@@ -265,7 +265,7 @@ fn direction<T: Words, N: Listed>(
     requires whole { IsWhole T.value tab.now }
     requires column { e.col < width tab.now }
     ensures value { (t : tableaus.Tableau) → Shows T.value tab.now t →
-        IfOk result (λ o. IfSome o (λ r. r ≡ direction_as N.of t e.col e.up)) }
+        IfOk result (λ o. IfSome o (λ r. r ≡ direction_as N.of t e.col e.direction)) }
     ensures fits { IfOk result (λ o. IfSome o (All N.fits)) }
 {
     let mut direction: Items<N> = Items::new(alloc);
@@ -324,7 +324,7 @@ fn unbounded<T: Words, N: Listed>(
     requires whole { IsWhole T.value tab.now }
     requires column { e.col < width tab.now }
     ensures value { (t : tableaus.Tableau) → Shows T.value tab.now t →
-        IfOk result (λ o. IfSome o (λ c. c ≡ certificate_as N.of t (Some (primal.Unbounded e.col e.up)))) }
+        IfOk result (λ o. IfSome o (λ c. c ≡ certificate_as N.of t (Some (primal.Unbounded e.col e.direction)))) }
     ensures fits { IfOk result (λ o. IfSome o (AllFit N.fits)) }
 {
     let Some(x) = point(alloc, tab)? else {
@@ -350,7 +350,9 @@ fn certificate_at<T: Words, N: Listed>(
 {
     match end {
         PrimalEnd::Optimal => optimal(alloc, tab),
-        PrimalEnd::Unbounded { col, up } => unbounded(alloc, tab, Entering { col, up }),
+        PrimalEnd::Unbounded { col, direction } => {
+            unbounded(alloc, tab, Entering { col, direction })
+        }
     }
 }
 

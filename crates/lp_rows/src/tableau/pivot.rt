@@ -63,15 +63,15 @@ fn flip<T: Words>(tab: &mut RowTableau<T>, col: usize) -> bool
     requires column { col < width tab.old }
     ensures { IsTrue result → IsFlipped T.value col tab.old tab.new }
 {
-    let up = flip_way(tab.status[col]);
+    let way = flip_way(tab.status[col]);
     let Some(range) = minus(or_zero(tab.upper[col]), or_zero(tab.lower[col])) else {
         return false;
     };
     let n = tab.width();
-    if !move_all(&mut tab.rows, n, col, toward(up, range)) {
+    if !move_all(&mut tab.rows, n, col, toward(way, range)) {
         return false;
     }
-    tab.status[col] = other_bound(up);
+    tab.status[col] = other_bound(way);
     true
 }
 

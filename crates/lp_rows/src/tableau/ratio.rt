@@ -13,6 +13,7 @@ use crate::ratio::{Position, Stopper, better, gap_for, goes, stopper_at};
 use crate::tableau::tableau::RowTableau;
 use lp_natural::words::{Signed, Words, minus};
 use lp_tableau::other_bound;
+use spec_pivot::Way;
 use spec_simplex::Entering;
 
 // Whether the number is 0.
@@ -35,7 +36,7 @@ fn stop_between<T: Words>(e: Entering, lower: Signed<T>, upper: Signed<T>) -> Op
             entry: T::one(),
             col: e.col,
             position: None,
-            to: other_bound(e.up),
+            to: other_bound(e.direction),
         }),
         None => None,
     }
@@ -62,10 +63,10 @@ fn range<T: Words>(
 }
 
 // What stops the entering column in a position, if anything does.
-fn stop_at<T: Words>(up: bool, at: Position<T>) -> Option<Option<Stopper<T>>>
+fn stop_at<T: Words>(way: Way, at: Position<T>) -> Option<Option<Stopper<T>>>
     requires { 0 < T.value at.denominator }
     ensures value { IfSome result (λ s. (d : ℕ) → 0 < d → (best : Option (Best ℚ)) →
-        best_at up at.position at.col (over (whole at.entry.negative (T.value at.entry.size)) (T.value at.denominator))
+        best_at way at.position at.col (over (whole at.entry.negative (T.value at.entry.size)) (T.value at.denominator))
         (bound_of T.value d at.lower) (bound_of T.value d at.upper)
         (over (whole at.value.negative (T.value at.value.size)) (d * T.value at.denominator)) best ≡
         stopped T.value d s best) }
@@ -82,7 +83,7 @@ fn stop_at<T: Words>(up: bool, at: Position<T>) -> Option<Option<Stopper<T>>>
     if is_zero(entry) {
         return Some(None);
     }
-    match gap_for(goes(up, entry), lower, upper, value, denominator) {
+    match gap_for(goes(way, entry), lower, upper, value, denominator) {
         Some(gap) => Some(stopper_at(at, gap)),
         None => None,
     }
@@ -123,7 +124,7 @@ fn stop_in<T: Words>(tab: &RowTableau<T>, e: Entering, i: usize) -> Option<Optio
         upper: tab.upper[col as usize],
         value: row.numbers[tab.width()],
     };
-    stop_at(e.up, at)
+    stop_at(e.direction, at)
 }
 
 // The first stop so far, with that in position `i` compared too.

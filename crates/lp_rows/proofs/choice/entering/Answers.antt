@@ -8,7 +8,7 @@ use Rattle.lp_rows.proofs.choice.entering.Goals as goal
 pub returns-in-Some-clause-value : goal.returns-in-Some-clause-value
 returns-in-Some-clause-value g c t h =
     let l : c.loop-k.k < length c.args.fixed.now = c.loop-k-test.true in
-    sym (enters_at t c.loop-k.k (all_columns t) c.in-Some.up (c.loop-k.invariant t h) (omega (arith, l, h.columns))
+    sym (enters_at t c.loop-k.k (all_columns t) c.in-Some.direction (c.loop-k.invariant t h) (omega (arith, l, h.columns))
     (way_there g.T.Words.value t c.args.costs.now.numbers.items _ c.loop-k.k c.args.status.now c.args.fixed.now
     c.index-cost.result.now _ _ h c.requires.positive l c.requires.numbers c.requires.statuses c.index-cost.ensures
     c.in-Some.ensures))

@@ -5,6 +5,6 @@ use Rattle.lp_rows.proofs.ratio.goes.Goals as goal
 
 pub returns : goal.returns
 returns g c e p lower upper v =
-    gap_run_is c.args.up (whole c.args.entry.negative
+    gap_run_is c.args.way (whole c.args.entry.negative
     (g.T.Words.value c.args.entry.size)) e c.sign.result lower upper v p
     (c.sign.ensures ∙ ap (λ z. int_cmp z (pos 0)) c.toward.ensures)

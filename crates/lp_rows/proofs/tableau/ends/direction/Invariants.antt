@@ -9,4 +9,4 @@ use Rattle.lp_rows.proofs.tableau.ends.direction.Given as goal
 abbrev pub invariant-loop-k : goal.invariant-loop-k
 invariant-loop-k g l =
     ((t : Tableau) → Shows g.T.Words.value l.tab t →
-    l.direction ≡ made l.k (λ k. g.N.Listed.of (moves_by t l.e.col l.e.up k))) × All g.N.Listed.fits l.direction
+    l.direction ≡ made l.k (λ k. g.N.Listed.of (moves_by t l.e.col l.e.direction k))) × All g.N.Listed.fits l.direction

@@ -8,4 +8,4 @@ use Rattle.lp_rows.proofs.tableau.ends.move_of.Given as goal
 
 abbrev pub invariant-loop-i : goal.invariant-loop-i
 invariant-loop-i g l =
-    (t : Tableau) → Shows g.T.Words.value l.tab t → fraction_of g.T.Words.value l.moved ≡ moves_below t l.e.col l.e.up l.k l.i
+    (t : Tableau) → Shows g.T.Words.value l.tab t → fraction_of g.T.Words.value l.moved ≡ moves_below t l.e.col l.e.direction l.k l.i

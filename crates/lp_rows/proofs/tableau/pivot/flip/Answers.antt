@@ -8,12 +8,12 @@ pub returns : goal.returns
 returns g c h =
     let m = c.move_all.ensures c.if-not-move_all.false in
     flipped_is g.T.Words.value c.args.tab.now _ c.requires.whole c.args.col c.width-n.result c.deref_mut.result.now
-    c.move_all.new.rows c.flip_way-up.result (whole c.toward.result.negative (g.T.Words.value c.toward.result.size))
+    c.move_all.new.rows c.flip_way-way.result (whole c.toward.result.negative (g.T.Words.value c.toward.result.size))
     (whole c.in-Some.range.negative (g.T.Words.value c.in-Some.range.size))
     (whole c.or_zero.result.negative (g.T.Words.value c.or_zero.result.size))
     (whole c.or_zero-2.result.negative (g.T.Words.value c.or_zero-2.result.size)) c.index.result.now _
     c.other_bound.result c.index-2.result.now c.index-3.result.now _ _ c.requires.column c.width-n.ensures
     c.deref_mut.ensures.value m
     (written _ c.move_all.new.rows c.args.tab.now.rows.items (m.len ∙ c.deref_mut.ensures.len))
-    c.index.ensures c.flip_way-up.ensures c.index-2.ensures c.index-3.ensures c.or_zero.ensures c.or_zero-2.ensures
+    c.index.ensures c.flip_way-way.ensures c.index-2.ensures c.index-3.ensures c.or_zero.ensures c.or_zero-2.ensures
     c.in-Some.ensures c.toward.ensures c.other_bound.ensures refl refl refl refl refl refl refl refl
