@@ -43,7 +43,7 @@ use Rattle.lp_row_runs.proofs.PrimalFeasibleStarts.{basis_reached}
 
 pub same_at : (t : Tableau) (end : PrimalEnd) → certificate_as (λ q. q) t (Some end) ≡ certificate_at t end
 same_at t primal.Optimal = refl
-same_at t (primal.Unbounded j up) = refl
+same_at t (primal.Unbounded j way) = refl
 
 module _ (budget : ℕ) (f : Form) (basis : List Status) (t : Tableau) (starts : start_from None f basis ≡ Ok t)
     (fits : fit_run None t ≡ Ok fit.Primal) where
