@@ -59,11 +59,11 @@ module _ (limit : Option ℕ) where
       choice_at e x place ≡ End end → IsInside t (Some end)
   is_no_end t e x None end h = let z : ◌≡◌ {A = Choice ℚ} (Flip e.col) (End end) = h in cc
   is_no_end t e x (Some i) end h =
-      let z : ◌≡◌ {A = Choice ℚ} (Pivot i e.col (directed e.up x.ratio) x.to) (End end) = h in cc
+      let z : ◌≡◌ {A = Choice ℚ} (Pivot i e.col (directed e.direction x.ratio) x.to) (End end) = h in cc
 
   by_best : (t : Tableau) (e : Entering) (best : Option (Best ℚ)) (end : PrimalEnd) → e.col < all_columns t →
       choice_by e best ≡ End end → IsInside t (Some end)
-  by_best t e None end l h = let z : Unbounded e.col e.up ≡ end = cc in subst (λ end. IsInside t (Some end)) z l
+  by_best t e None end l h = let z : Unbounded e.col e.direction ≡ end = cc in subst (λ end. IsInside t (Some end)) z l
   by_best t e (Some x) end l h = is_no_end t e x x.place end h
 
   by_entering : (t : Tableau) (o : Option Entering) (end : PrimalEnd) → entering t ≡ o →

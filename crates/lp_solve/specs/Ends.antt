@@ -31,4 +31,4 @@ Ends answer (Err stop) = answer ≡ Err stop
 abbrev pub IsInside : Tableau → Option PrimalEnd → Type 0
 IsInside t None = Unit {0}
 IsInside t (Some Optimal) = Unit {0}
-IsInside t (Some (Unbounded j up)) = j < all_columns t
+IsInside t (Some (Unbounded j way)) = j < all_columns t

@@ -12,7 +12,8 @@ ghost use Rattle.lp_solve.specs.Ends.{IsInside};
 use lp_check::Certificate;
 use lp_frac::{Frac, Fracs, LARGEST, den, neg, num, one, zero};
 use lp_simplex::dual::DualEnd;
-use lp_tableau::{PrimalEnd, Tableau, directed};
+use lp_tableau::{PrimalEnd, Tableau, directed, way_back};
+use spec_pivot::Way;
 use std::alloc::{AllocError, Global};
 
 // Pushes `v` on the list, and tells proofs that its parts have at most 127 bits.
@@ -51,28 +52,28 @@ fn multipliers(alloc: Global, tab: &Tableau) -> Result<Fracs, AllocError>
 }
 
 // How far column `k` moves when the entering column `j` rises or falls by 1.
-fn move_of(tab: &Tableau, j: u32, up: bool, k: u32) -> Frac
+fn move_of(tab: &Tableau, j: u32, way: Way, k: u32) -> Frac
     requires { j < all_columns tab.now }
-    ensures { result ≡ cold.moves_by tab.now j up k }
+    ensures { result ≡ cold.moves_by tab.now j way k }
 {
-    let mut moved = if k == j { directed(up, one()) } else { zero() };
+    let mut moved = if k == j { directed(way, one()) } else { zero() };
     for i in 0..tab.rows() {
         if tab.basic(i) == k {
-            moved = neg(directed(up, tab.entry(i, j)));
+            moved = neg(directed(way, tab.entry(i, j)));
         }
     }
     moved
 }
 
 // The ray of an unbounded end: how far each of the model's columns moves when the entering column `j` moves by 1.
-fn direction(alloc: Global, tab: &Tableau, j: u32, up: bool) -> Result<Fracs, AllocError>
+fn direction(alloc: Global, tab: &Tableau, j: u32, way: Way) -> Result<Fracs, AllocError>
     requires { j < all_columns tab.now }
-    ensures value { IfOk result (λ r. r ≡ cold.direction tab.now j up) }
+    ensures value { IfOk result (λ r. r ≡ cold.direction tab.now j way) }
     ensures narrow { IfOk result (All IsNarrow) }
 {
     let mut direction = Fracs::new(alloc);
     for k in 0..tab.cols() {
-        push(&mut direction, move_of(tab, j, up, k))?;
+        push(&mut direction, move_of(tab, j, way, k))?;
     }
     Ok(direction)
 }
@@ -93,7 +94,7 @@ fn row_multipliers(
     for i in 0..tab.rows() {
         push(
             &mut multipliers,
-            directed(below, tab.entry(place, tab.cols() + i)),
+            directed(way_back(below), tab.entry(place, tab.cols() + i)),
         )?;
     }
     Ok(multipliers)
@@ -125,9 +126,12 @@ pub(crate) fn certificate_at(
             x,
             y: multipliers(alloc, tab)?,
         }),
-        PrimalEnd::Unbounded { col, up } => Ok(Certificate::Unbounded {
+        PrimalEnd::Unbounded {
+            col,
+            direction: way,
+        } => Ok(Certificate::Unbounded {
             x,
-            r: direction(alloc, tab, col, up)?,
+            r: direction(alloc, tab, col, way)?,
         }),
     }
 }

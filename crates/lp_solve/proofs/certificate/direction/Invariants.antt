@@ -7,4 +7,4 @@ use Rattle.lp_solve.proofs.certificate.direction.Given as goal
 
 -- the moves so far are there, each of at most 127 bits
 abbrev pub invariant-loop-k : goal.invariant-loop-k
-invariant-loop-k l = (l.direction ≡ made l.k (moves_by l.tab l.j l.up)) × All IsNarrow l.direction
+invariant-loop-k l = (l.direction ≡ made l.k (moves_by l.tab l.j l.way)) × All IsNarrow l.direction

@@ -5,4 +5,4 @@ use Rattle.lp_solve.proofs.certificate.move_of.Given as goal
 
 -- by the last position so far
 abbrev pub invariant-loop-i : goal.invariant-loop-i
-invariant-loop-i l = l.moved ≡ moves_below l.tab l.j l.up l.k l.i
+invariant-loop-i l = l.moved ≡ moves_below l.tab l.j l.way l.k l.i
