@@ -5,6 +5,7 @@
 //! | `check` | what the conditions of `spec_check`, run at 127 bits, say of a certificate | src/conditions |
 //! | `Certificate` | what is given to show something of one model | src/certificate |
 //! | `part` | a number of a certificate's list | src/steps |
+//! | `signed` | a cost where the objective is made least | src/multipliers |
 //! | `Verdict`, `Known` | what a check says, and what a certificate shows | src/certificate |
 //! | `wide` | the same for certificates whose numbers have any width | src/wide |
 //!
@@ -23,4 +24,5 @@ pub mod wide;
 
 pub use certificate::{Certificate, Known, Verdict};
 pub use conditions::check;
+pub use multipliers::signed;
 pub use steps::part;

@@ -12,7 +12,7 @@ use lp_frac::{Frac, Fracs, is_negative, is_positive, neg};
 use lp_model::{Column, Model, Sense, lower_limit, upper_limit};
 
 /// The cost where the objective is made least: its negative for `max`.
-pub(crate) fn signed(sense: Sense, cost: Frac) -> Frac
+pub fn signed(sense: Sense, cost: Frac) -> Frac
     ensures { result ≡ signed_by sense cost }
 {
     match sense {

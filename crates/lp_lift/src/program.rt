@@ -2,8 +2,9 @@
 ghost use Rattle.std.specs.Prelude.{◌≡◌, ◌+◌, IfOk, IfSome};
 ghost use Rattle.spec_model.specs.Model.{height, width};
 
-use lp_frac::{Frac, neg};
-use lp_model::{Model, Sense, lower_limit, upper_limit};
+use lp_check::signed;
+use lp_frac::Frac;
+use lp_model::{Model, lower_limit, upper_limit};
 use std::alloc::{AllocError, Global};
 
 /// A model with the bounds of its structural and then of its logical columns, and their costs.
@@ -73,14 +74,6 @@ fn bound_at(bounds: &[Option<Frac>], k: usize) -> Option<Frac> {
     }
 }
 
-// The cost to be made least.
-fn least_cost(sense: Sense, cost: Frac) -> Frac {
-    match sense {
-        Sense::Min => cost,
-        Sense::Max => neg(cost),
-    }
-}
-
 // Puts the bounds and the costs of all columns.
 fn put_columns(
     model: &Model,
@@ -92,7 +85,7 @@ fn put_columns(
         let column = model.col(j);
         lowers.push(column.lower)?;
         uppers.push(column.upper)?;
-        costs.push(least_cost(model.sense(), column.cost))?;
+        costs.push(signed(model.sense(), column.cost))?;
     }
     Ok(())
 }

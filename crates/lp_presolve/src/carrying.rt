@@ -5,7 +5,6 @@ ghost use Rattle.spec_exact.specs.Run.{quotient_run};
 ghost use Rattle.spec_exact.specs.Narrow.{number_limit};
 ghost use Rattle.spec_model.specs.Model.{Model, entry_of};
 ghost use Rattle.spec_model.specs.Model as models;
-ghost use Rattle.spec_check.specs.Checks as checks;
 ghost use Rattle.spec_presolve.specs.Choose.{ExactReduction};
 ghost use Rattle.spec_presolve.specs.Carry as carry;
 ghost use Rattle.lp_presolve.specs.Kept.{kept, all_kept};
@@ -16,12 +15,11 @@ ghost use Rattle.lp_presolve.specs.Clash.{clash_of};
 use crate::choosing::Reduction;
 use crate::reductions::Spent;
 use crate::step::Step;
-use lp_check::Certificate;
+use lp_check::{Certificate, signed};
 use lp_frac::{
     Frac, Fracs, Past, Stop, div, is_negative, is_positive, is_zero, less_product, neg, one,
     plus_product, within, zero, zeros,
 };
-use lp_model::Sense;
 use std::alloc::{AllocError, Global};
 
 // The number of the list at `i`, and 0 past the end.
@@ -53,16 +51,6 @@ fn put(list: &mut Fracs, place: u32, v: Frac) -> Result<(), AllocError>
         list.insert(place, v)
     } else {
         list.push(v)
-    }
-}
-
-// The cost as of a minimum: its negative where the model is maximized.
-fn signed(sense: Sense, cost: Frac) -> Frac
-    ensures { result ≡ checks.signed sense cost }
-{
-    match sense {
-        Sense::Min => cost,
-        Sense::Max => neg(cost),
     }
 }
 

@@ -8,23 +8,14 @@ ghost use Rattle.spec_check.specs.Checks.{signed as signed_by, priced as priced_
 ghost use Rattle.spec_check.specs.Run as run;
 ghost use Rattle.lp_ratio.specs.Multiple.{multiple};
 
+use crate::multipliers::signed;
 use crate::wide::certificate::Ratios;
 use lp_base::Items;
-use lp_frac::{Frac, neg};
-use lp_model::{Model, Sense};
+use lp_frac::Frac;
+use lp_model::Model;
 use lp_natural::Natural;
 use lp_ratio::{Ratio, common_denominator, multiples};
 use std::alloc::{AllocError, Global};
-
-// The cost where the objective is made least: its negative for `max`.
-fn signed(sense: Sense, cost: Frac) -> Frac
-    ensures { result ≡ signed_by sense cost }
-{
-    match sense {
-        Sense::Min => cost,
-        Sense::Max => neg(cost),
-    }
-}
 
 // The sum of a column's coefficients times the numbers of their rows.
 fn weighed_sum(alloc: Global, entries: &[(u32, Frac)], y: &[Ratio]) -> Result<Ratio, AllocError>
