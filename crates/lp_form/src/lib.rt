@@ -10,6 +10,7 @@
 //! | `is_basis` | whether statuses are those of a basis of a form | src/fitting |
 //! | `BasisStop`, `Singular` | why a basis has no factors or no tableau | src/stop |
 //! | `large_form`, `form` | the form of any model, and of a usual one | src/standard |
+//! | `least_cost` | a cost where the objective is made least | src/standard |
 //! | `Clash`, `FormStop` | why a model has no form | src/fault |
 //! | `shape`, `same_shape` | the 25 words of a form's shape; whether two forms have the same | src/packing |
 //! | `pack`, `unpack` | the 49 words of a basis, which begin with its form's shape; the basis in words | src/packing, src/unpacking |
@@ -48,7 +49,7 @@ pub use large::LargeForm;
 pub use lists::{BoundList, Columns, StatusList};
 pub use packing::{pack, same_shape, shape};
 pub use spec_pivot::Status;
-pub use standard::{form, large_form};
+pub use standard::{form, large_form, least_cost};
 pub use status::is_basic;
 pub use stop::{BasisStop, Singular};
 pub use unpacking::unpack;

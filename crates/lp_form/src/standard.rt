@@ -78,8 +78,8 @@ fn entries(alloc: Global, model: &Model) -> Result<Columns, AllocError>
     Ok(entries)
 }
 
-// The cost where the objective is made least: its negative for `max`.
-fn least_cost(sense: Sense, cost: Frac) -> Frac
+/// The cost where the objective is made least: its negative for `max`.
+pub fn least_cost(sense: Sense, cost: Frac) -> Frac
     ensures { result ≡ forms.least_cost sense cost }
 {
     match sense {

@@ -6,9 +6,8 @@ ghost use Rattle.spec_simplex.specs.Tableau.{all_columns, entry_at};
 ghost use Rattle.spec_range.specs.Rule as rule;
 ghost use Rattle.lp_range.specs.Answer.{IsSeated};
 
-use crate::columns::least_cost;
 use crate::ends::{Ends, at_least, at_most, at_side, no_ends};
-use lp_form::{Status, is_basic};
+use lp_form::{Status, is_basic, least_cost};
 use lp_frac::{Frac, Past, add, div, is_positive, neg, one, sub};
 use lp_model::Sense;
 use lp_simplex::dual::{is_zero, position_of};

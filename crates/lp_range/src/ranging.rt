@@ -14,10 +14,10 @@ ghost use Rattle.spec_range.specs.Span.{IsRange};
 ghost use Rattle.lp_range.specs.Answer.{IsSeated, IsKept, IsStart, IsFrom};
 
 use crate::carried::side_ends;
-use crate::columns::{least_cost, logical};
+use crate::columns::logical;
 use crate::ends::Range;
 use crate::moved::cost_ends;
-use lp_form::{Basis, Form};
+use lp_form::{Basis, Form, least_cost};
 use lp_frac::{Past, Stop};
 use lp_model::Model;
 use lp_tableau::{Tableau, start_from};
