@@ -10,6 +10,7 @@
 //! | `is_basis` | whether statuses are those of a basis of a form | src/fitting |
 //! | `BasisStop`, `Singular` | why a basis has no factors or no tableau | src/stop |
 //! | `large_form`, `form` | the form of any model, and of a usual one | src/standard |
+//! | `limits` | the limits of a row, both taken at 127 bits | src/row_limits |
 //! | `least_cost` | a cost where the objective is made least | src/standard |
 //! | `Clash`, `FormStop` | why a model has no form | src/fault |
 //! | `shape`, `same_shape` | the 25 words of a form's shape; whether two forms have the same | src/packing |
@@ -48,6 +49,7 @@ pub use forms::Form;
 pub use large::LargeForm;
 pub use lists::{BoundList, Columns, StatusList};
 pub use packing::{pack, same_shape, shape};
+pub use row_limits::limits;
 pub use spec_pivot::Status;
 pub use standard::{form, large_form, least_cost};
 pub use status::is_basic;

@@ -10,7 +10,7 @@ use std::cmp::Ordering;
 type FormFault = spec_simplex::FormFault<Frac>;
 
 /// The lower and the upper limit of the row's sum, at 127 bits.
-pub(crate) fn limits(row: &Row) -> Result<(Option<Frac>, Option<Frac>), Past>
+pub fn limits(row: &Row) -> Result<(Option<Frac>, Option<Frac>), Past>
     ensures { result ≡ forms.limits_run (Some number_limit) row.now }
 {
     let lower = lower_limit(row)?;

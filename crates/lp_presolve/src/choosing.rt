@@ -5,7 +5,8 @@ ghost use Rattle.spec_model.specs.Model.{width, height};
 ghost use Rattle.spec_presolve.specs.Choose as choose;
 
 use crate::bounds::{cut, is_far, quotient, raised};
-use crate::rows::{InRow, in_row, limits};
+use crate::rows::{InRow, in_row};
+use lp_form::limits;
 use lp_frac::{Frac, Past, are_same, cmp, is_negative, is_positive};
 use lp_model::Model;
 use spec_presolve::Halt;

@@ -1,12 +1,10 @@
-// The entries of a row, and between which limits its sum is.
-ghost use Rattle.std.specs.Prelude.{◌≡◌, ◌<◌, Some};
-ghost use Rattle.spec_exact.specs.Narrow.{number_limit};
+// The entries of a row.
+ghost use Rattle.std.specs.Prelude.{◌≡◌, ◌<◌};
 ghost use Rattle.spec_model.specs.Model.{height};
-ghost use Rattle.spec_simplex.specs.Form as forms;
 ghost use Rattle.spec_presolve.specs.Choose as choose;
 
-use lp_frac::{Frac, Past, are_same, zero};
-use lp_model::{Model, Row, lower_limit, upper_limit};
+use lp_frac::{Frac, are_same, zero};
+use lp_model::Model;
 
 // The entries of a row: none, one, or more.
 pub(crate) type InRow = spec_presolve::InRow<Frac>;
@@ -38,13 +36,4 @@ pub(crate) fn in_row(model: &Model, i: u32) -> InRow
         }
     }
     found
-}
-
-// The least and the most that the row's sum may be.
-pub(crate) fn limits(row: &Row) -> Result<(Option<Frac>, Option<Frac>), Past>
-    ensures { result ≡ forms.limits_run (Some number_limit) row.now }
-{
-    let lower = lower_limit(row)?;
-    let upper = upper_limit(row)?;
-    Ok((lower, upper))
 }
