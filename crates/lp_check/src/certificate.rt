@@ -10,5 +10,5 @@ pub type Known = spec_check::Known<Frac>;
 /// What a check of a certificate says.
 pub type Verdict = spec_check::Verdict<Frac>;
 
-// Why a certificate shows nothing.
-pub(crate) type CheckStop = spec_check::CheckStop<Frac>;
+/// Why a certificate shows nothing.
+pub type CheckStop = spec_check::CheckStop<Frac>;

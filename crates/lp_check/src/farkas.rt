@@ -56,8 +56,8 @@ fn rows_ask(model: &Model, y: &Fracs) -> Result<Frac, CheckStop>
     Ok(sum)
 }
 
-// The multipliers' part in column `j`: its coefficients times the multipliers of their rows.
-fn priced(model: &Model, y: &Fracs, j: u32) -> Result<Frac, CheckStop>
+/// The multipliers' part in column `j`: its coefficients times the multipliers of their rows.
+pub fn priced(model: &Model, y: &Fracs, j: u32) -> Result<Frac, CheckStop>
     requires inside { j < width model.now }
     requires multipliers { length y.now ≡ height model.now }
     ensures { result ≡ run.priced_run (Some number_limit) model.now y.now j }

@@ -10,35 +10,11 @@ ghost use Rattle.spec_check.specs.declared.certificate.Certificate.TheVariants a
 ghost use Rattle.spec_iis.specs.Rule as rule;
 
 use crate::lists::Sides;
-use lp_check::{Certificate, part};
-use lp_frac::{Frac, Fracs, is_negative, is_positive, zero};
+use lp_check::{Certificate, part, priced};
+use lp_frac::{Fracs, is_negative, is_positive};
 use lp_model::Model;
 use spec_iis::Side;
 use std::alloc::{AllocError, Global};
-
-// Why a checker's sum stops.
-type CheckStop = spec_check::CheckStop<Frac>;
-
-// `s` with `v * w` added, as the checker computes it.
-fn plus_product(v: Frac, w: Frac, s: Frac) -> Result<Frac, CheckStop>
-    ensures { result ≡ run.plus_product (Some number_limit) v w s }
-{
-    let sum = lp_frac::plus_product(v, w, s)?;
-    Ok(sum)
-}
-
-// The sum of the multipliers times the entries of column `j`.
-fn priced(model: &Model, y: &Fracs, j: u32) -> Result<Frac, CheckStop>
-    requires inside { j < width model.now }
-    requires multipliers { length y.now ≡ height model.now }
-    ensures { result ≡ run.priced_run (Some number_limit) model.now y.now j }
-{
-    let mut sum = zero();
-    for i in 0..model.rows() {
-        sum = plus_product(part(y, i), model.entry(i, j), sum)?;
-    }
-    Ok(sum)
-}
 
 // Adds the side to the list, if it is used.
 pub(crate) fn push_if(used: bool, side: Side, to: &mut Sides) -> Result<(), AllocError>
