@@ -1,6 +1,5 @@
 // The two bits of a column.
 ghost use Rattle.std.specs.Prelude.{◌≡◌, ◌+◌, ◌<◌, ◌/◌};
-ghost use Rattle.spec_simplex.specs.Tableau as tableau;
 ghost use Rattle.spec_board.specs.Words as shape;
 
 use crate::basis::Basis;
@@ -102,15 +101,5 @@ pub fn suits(status: Status, bounds: u64) -> bool
         Status::AtLower => bounds % 2 == 1,
         Status::AtUpper => bounds >= 2,
         Status::AtZero => bounds == 0,
-    }
-}
-
-/// Whether the column is basic.
-pub fn is_basic(status: Status) -> bool
-    ensures { result ≡ tableau.is_basic status }
-{
-    match status {
-        Status::Basic => true,
-        Status::AtLower | Status::AtUpper | Status::AtZero => false,
     }
 }

@@ -3,7 +3,8 @@ ghost use Rattle.std.specs.Prelude.{◌≡◌, ◌+◌, ◌<◌, ◌≤◌, ◌�
 ghost use Rattle.spec_simplex.specs.Eliminate.{basics_below};
 ghost use Rattle.spec_board.specs.Words.{columns_of, places, unpacked, AllSuit, RestIsZero, IsWellFormed};
 
-use crate::codes::{bounds_at, code_at, cols_of, is_basic, rows_of, status_at, suits};
+use crate::codes::{bounds_at, code_at, cols_of, rows_of, status_at, suits};
+use crate::status::is_basic;
 use spec_board::BasisWords;
 
 // The most columns that words have bits for.
