@@ -1,5 +1,5 @@
 // The equations of a form as rows of whole numbers, and the values of the nonbasic columns.
-ghost use Rattle.std.specs.Prelude.{◌≡◌, ◌<◌, ◌+◌, ◌++◌, ℕ, IfOk, IfSome, IsTrue, Some, List, length, replicate};
+ghost use Rattle.std.specs.Prelude.{◌≡◌, ◌<◌, ◌+◌, ℕ, IfOk, IfSome, IsTrue, Some, List, length, replicate};
 ghost use Rattle.spec_exact.specs.Fraction.{0ℚ};
 ghost use Rattle.spec_exact.specs.Run.{made};
 ghost use Rattle.spec_simplex.specs.declared.ends.RowStart.TheVariants.{Within};
@@ -21,6 +21,7 @@ use lp_rows::Row;
 use lp_rows::tableau::{
     RowTableau, bounds_on, denominator_with, is_fixed, move_all, row_of, stand,
 };
+use lp_tableau::start::with_artificials;
 use std::alloc::{AllocError, Global};
 
 // ---- rows
@@ -129,19 +130,6 @@ fn statuses(alloc: Global, form: &Form, basis: &[Status]) -> Result<Vec<Status>,
     let mut statuses = Vec::from_slice(alloc, basis)?;
     statuses.resize(statuses.len() + form.rows() as usize, Status::AtLower)?;
     Ok(statuses)
-}
-
-// These bounds of structural and logical columns, and the bound 0 for each artificial column.
-fn with_artificials(
-    alloc: Global,
-    bounds: &[Option<Frac>],
-    artificials: u32,
-) -> Result<Vec<Option<Frac>>, AllocError>
-    ensures { IfOk result (λ v. v.items ≡ bounds.now ++ replicate artificials (Some 0ℚ)) }
-{
-    let mut all = Vec::from_slice(alloc, bounds)?;
-    all.resize(all.len() + artificials as usize, Some(zero()))?;
-    Ok(all)
 }
 
 // For each structural and logical column whether its bounds are the same.

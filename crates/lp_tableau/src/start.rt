@@ -312,8 +312,8 @@ pub fn statuses(alloc: Global, form: &Form, starts: &[RowStart]) -> Result<Vec<S
     listed!(alloc, k in 0..width(form) => status(form, starts, k))
 }
 
-// The bounds of the form's columns, and 0 for each artificial.
-pub(crate) fn with_artificials(
+/// These bounds of structural and logical columns, and the bound 0 for each artificial column.
+pub fn with_artificials(
     alloc: Global,
     bounds: &[Option<Frac>],
     artificials: u32,
