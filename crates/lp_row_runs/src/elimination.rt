@@ -10,6 +10,7 @@ ghost use Rattle.lp_rows.specs.Shows.{height, width};
 ghost use Rattle.lp_rows.specs.Moves.{number_in};
 ghost use Rattle.lp_row_runs.specs.Rows.{IsSolvedBelow, IsComplete, IfDone};
 
+use crate::steps::spend;
 use lp_form::{Status, is_basic};
 use lp_natural::words::{Signed, Words};
 use lp_rows::tableau::{RowTableau, Step, Turn, effort_of, turn_rows};
@@ -38,17 +39,6 @@ fn none<T: Words>() -> Signed<T>
     Signed {
         negative: false,
         size: T::zero(),
-    }
-}
-
-// Takes the work of a step off the work that is left. Where that is less, it stays and the answer is false.
-fn spend(work: &mut u64, takes: u64) -> bool {
-    match work.checked_sub(takes) {
-        Some(left) => {
-            *work = left;
-            true
-        }
-        None => false,
     }
 }
 

@@ -30,8 +30,8 @@ fn is_too_narrow<T: Words>(tab: &RowTableau<T>, step: Step, may_widen: bool) -> 
     }
 }
 
-// Takes the work of a step off the work that is left. Where that is less, it stays and the answer is false.
-fn spend(work: &mut u64, takes: u64) -> bool {
+/// Takes the work of a step off the work that is left. Where that is less, it stays and the answer is false.
+pub(crate) fn spend(work: &mut u64, takes: u64) -> bool {
     match work.checked_sub(takes) {
         Some(left) => {
             *work = left;
