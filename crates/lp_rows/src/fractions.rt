@@ -4,7 +4,7 @@ ghost use Rattle.spec_exact.specs.Fraction.{0ℚ, inverse, ◌-ℚ◌, ◌*ℚ�
 ghost use Rattle.lp_rows.specs.Row.{fraction_at, AreNow};
 
 use crate::row::{eliminate, part, turn};
-use lp_natural::words::{Divisor, Signed, Words, quotient, quotient_by, some_common};
+use lp_natural::words::{Divisor, Signed, Words, is_one, quotient, quotient_by, some_common};
 
 /// Whole numbers on a denominator, which is not 0. The last of them is the value of the row's basic column.
 pub struct Row<T: Words> {
@@ -134,11 +134,6 @@ fn divisor<T: Words>(numbers: &[Signed<T>], denominator: T) -> T {
         }
     }
     found
-}
-
-// Whether the number is 1. Nothing is promised of it.
-fn is_one<T: Words>(n: T) -> bool {
-    n.is(T::one())
 }
 
 // Takes out what a row's numbers have in common with its denominator. Where it is false the row is spent.
