@@ -9,8 +9,8 @@ ghost use Rattle.lp_range.specs.Answer.{IsSeated};
 use crate::ends::{Ends, at_side, no_ends};
 use lp_form::is_basic;
 use lp_frac::{Frac, Past, add, div, is_positive, sub};
-use lp_simplex::dual::{is_there, is_zero, position_of};
-use lp_tableau::Tableau;
+use lp_simplex::dual::{is_there, position_of};
+use lp_tableau::{Tableau, is_zero};
 
 // The right side with which a bound that moves with it comes to `value`, if there is such a bound.
 fn shifted(rhs: Frac, value: Frac, bound: Option<Frac>) -> Result<Option<Frac>, Past>

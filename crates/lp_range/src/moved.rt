@@ -10,8 +10,8 @@ use crate::ends::{Ends, at_least, at_most, at_side, no_ends};
 use lp_form::{Status, is_basic, least_cost};
 use lp_frac::{Frac, Past, add, div, is_positive, neg, one, sub};
 use lp_model::Sense;
-use lp_simplex::dual::{is_zero, position_of};
-use lp_tableau::{Pivot, Tableau, is_fixed};
+use lp_simplex::dual::position_of;
+use lp_tableau::{Pivot, Tableau, is_fixed, is_zero};
 
 // The ends that a column of this status asks for, whose reduced cost is 0 where the cost is `v`.
 fn ends_by(status: Status, falls: bool, v: Frac, ends: Ends) -> Result<Ends, Past>

@@ -24,8 +24,8 @@ fn has_none(column: Option<u32>) -> bool
     }
 }
 
-// Whether the fraction is 0.
-fn is_zero(v: Frac) -> bool
+/// Whether the fraction is 0.
+pub fn is_zero(v: Frac) -> bool
     ensures { result ≡ eq_ℚ v 0ℚ }
 {
     are_same(v, zero())

@@ -1,22 +1,14 @@
 // Whether a tableau is primal or dual feasible.
 ghost use Rattle.std.specs.Prelude.{◌≡◌, ◌<◌, Some};
-ghost use Rattle.spec_exact.specs.Fraction.{0ℚ, eq_ℚ};
 ghost use Rattle.spec_exact.specs.Narrow.{number_limit};
 ghost use Rattle.spec_simplex.specs.Tableau.{all_columns};
 ghost use Rattle.spec_simplex.specs.Fit as spec;
 
 use crate::dual::leaving::leaving;
 use lp_form::Status;
-use lp_frac::{Frac, Past, are_same, is_negative, is_positive, zero};
-use lp_tableau::{Tableau, is_fixed};
+use lp_frac::{Frac, Past, is_negative, is_positive};
+use lp_tableau::{Tableau, is_fixed, is_zero};
 use spec_simplex::{Fit, Leaving};
-
-/// Whether the fraction is 0.
-pub fn is_zero(v: Frac) -> bool
-    ensures { result ≡ eq_ℚ v 0ℚ }
-{
-    are_same(v, zero())
-}
 
 /// Whether there is a bound.
 pub fn is_there(bound: Option<Frac>) -> bool
