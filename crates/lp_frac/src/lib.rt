@@ -12,6 +12,7 @@
 //! | `neg` `abs` `sign` `num` `den` `is_zero` `is_negative` `is_positive` `are_same` | the ones that never are | src/readers |
 //! | `plus_product`, `less_product` | a product, and then its sum with a number, or what is left of the number | src/less |
 //! | `within` `all_within` | that the parts of a fraction, or of all of a list, are within the limit | src/readers |
+//! | `narrow`, `narrow_if` | the same fraction, of which contracts on models then know that it has at most 127 bits | src/readers |
 //! | `Past`, `Op` | a refusal, and the operation that it names | src/frac |
 //! | `FracFault` | why two whole numbers make no fraction | src/frac |
 //! | `Fracs`, `Entries`, `zeros` | lists of fractions, and of a column's entries; a list of zeros | src/lists |
@@ -38,7 +39,7 @@ pub use less::{less_product, plus_product};
 pub use lists::{Entries, Fracs, zeros};
 pub use operations::{add, cmp, div, mul, sub};
 pub use readers::{
-    abs, all_within, are_same, den, is_negative, is_positive, is_zero, neg, num, one, sign, within,
-    zero,
+    abs, all_within, are_same, den, is_negative, is_positive, is_zero, narrow, narrow_if, neg, num,
+    one, sign, within, zero,
 };
 pub use stop::Stop;

@@ -1,9 +1,9 @@
 // Operations that are never refused: the parts, the sign, the negative and the magnitude.
-ghost use Rattle.std.specs.Prelude.{◌≡◌, ◌≢◌, ◌≤◌, unsigned_abs, pos, IsTrue, ◌↔◌, All};
+ghost use Rattle.std.specs.Prelude.{◌≡◌, ◌≢◌, ◌≤◌, unsigned_abs, pos, IsTrue, ◌↔◌, All, IfSome};
 ghost use Rattle.spec_exact.specs.Fraction.{neg_ℚ, abs_ℚ, 0ℚ, 1ℚ, inverse, eq_ℚ, lt_ℚ};
 ghost use Rattle.spec_exact.specs.Limit.{sign as sign_of};
 ghost use Rattle.spec_exact.specs.Laws.{IsWithin};
-ghost use Rattle.spec_exact.specs.Narrow.{number_limit};
+ghost use Rattle.spec_exact.specs.Narrow.{IsNarrow, number_limit};
 
 use crate::frac::Frac;
 use crate::limited::signed;
@@ -52,6 +52,26 @@ pub fn all_within(vs: &[Frac])
 {
     for v in vs {
         within(*v);
+    }
+}
+
+/// The same fraction, known to have at most 127 bits.
+pub fn narrow(v: Frac) -> Frac
+    ensures value { result ≡ v }
+    ensures narrow { IsNarrow result }
+{
+    let _parts = (num(v), den(v));
+    v
+}
+
+/// The same fraction, if there is one, known to have at most 127 bits.
+pub fn narrow_if(v: Option<Frac>) -> Option<Frac>
+    ensures value { result ≡ v }
+    ensures narrow { IfSome v IsNarrow }
+{
+    match v {
+        Some(v) => Some(narrow(v)),
+        None => None,
     }
 }
 

@@ -1,6 +1,6 @@
 // The rows of a model with some of its sides alone.
-ghost use Rattle.std.specs.Prelude.{◌≡◌, ◌<◌, true, false, All, IfOk, IfSome, Some};
-ghost use Rattle.spec_exact.specs.Narrow.{IsNarrow, number_limit};
+ghost use Rattle.std.specs.Prelude.{◌≡◌, ◌<◌, true, false, All, IfOk, Some};
+ghost use Rattle.spec_exact.specs.Narrow.{number_limit};
 ghost use Rattle.spec_model.specs.Model.{height};
 ghost use Rattle.spec_model.specs.Kept.{IsNarrowRow};
 ghost use Rattle.spec_iis.specs.Only as only;
@@ -9,20 +9,10 @@ ghost use Rattle.lp_iis.specs.Reading.{IsReadable};
 
 use crate::limits::{is_limited_above, is_limited_below, lower_limit, upper_limit};
 use crate::listed::{has_lower, has_upper, stays};
-use lp_frac::{Frac, LARGEST, den, num};
+use lp_frac::{Frac, narrow, narrow_if};
 use lp_model::{Kind, Model, Row};
 use spec_iis::Side;
 use std::alloc::{AllocError, Global};
-
-// The same fraction. The call does nothing: proofs take from it that the fraction's parts have at most 127 bits.
-fn narrow(v: Frac) -> Frac
-    ensures value { result ≡ v }
-    ensures narrow { IsNarrow v }
-{
-    prove!(num(v).unsigned_abs() <= LARGEST);
-    prove!(den(v).unsigned_abs() <= LARGEST);
-    v
-}
 
 // The row with this kind and right side, without a range.
 fn single(alloc: Global, kind: Kind, row: &Row, rhs: Frac) -> Result<Row, AllocError>
@@ -37,17 +27,6 @@ fn single(alloc: Global, kind: Kind, row: &Row, rhs: Frac) -> Result<Row, AllocE
     })
 }
 
-// The same range, of which proofs know by the call that its parts have at most 127 bits.
-fn narrow_range(range: Option<Frac>) -> Option<Frac>
-    ensures value { result ≡ range }
-    ensures narrow { IfSome range IsNarrow }
-{
-    match range {
-        Some(range) => Some(narrow(range)),
-        None => None,
-    }
-}
-
 // A copy of the row with both of its sides.
 fn copy(alloc: Global, row: &Row) -> Result<Row, AllocError>
     ensures value { IfOk result (λ r. r ≡ row.now) }
@@ -57,7 +36,7 @@ fn copy(alloc: Global, row: &Row) -> Result<Row, AllocError>
         name: row.name.copy(alloc)?,
         kind: row.kind,
         rhs: narrow(row.rhs),
-        range: narrow_range(row.range),
+        range: narrow_if(row.range),
     })
 }
 

@@ -11,8 +11,8 @@ ghost use Rattle.spec_edit.specs.Edited.{is_row_taken, is_column_taken};
 use crate::entries::{put_entry, take_row_out};
 use crate::indexed::with_name;
 use crate::model::{Column, Model, Row};
-use crate::narrow::{narrow, narrow_column, narrow_if, narrow_row};
-use lp_frac::Frac;
+use crate::narrow::{narrow_column, narrow_row};
+use lp_frac::{Frac, narrow, narrow_if};
 use spec_model::Sense;
 use std::alloc::AllocError;
 

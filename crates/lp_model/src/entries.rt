@@ -5,8 +5,7 @@ ghost use Rattle.spec_exact.specs.Narrow.{IsNarrow};
 ghost use Rattle.spec_edit.specs.Changes.{with_entry, without_entry};
 ghost use Rattle.lp_model.specs.Place.{IsPlace};
 
-use crate::narrow::narrow;
-use lp_frac::{Entries, Frac, is_zero};
+use lp_frac::{Entries, Frac, is_zero, narrow};
 use std::alloc::AllocError;
 
 /// Gives row `row` the coefficient `value`. 0 takes the row's entry out.

@@ -9,12 +9,11 @@ ghost use Rattle.spec_factor.specs.Revised.{seen};
 ghost use Rattle.spec_factor.specs.Over.{negatives, over_certificate};
 ghost use Rattle.lp_revised.specs.Runs.{EndsWith, selection_at};
 
-use crate::items::narrow;
 use crate::select::Column;
 use crate::state::{Revised, RowStart};
 use crate::steps::StepsEnd;
 use lp_form::StatusList;
-use lp_frac::{Frac, Fracs, neg, one, zero};
+use lp_frac::{Frac, Fracs, narrow, neg, one, zero};
 use lp_tableau::{PrimalEnd, directed};
 use spec_pivot::Way;
 use std::alloc::{AllocError, Global};

@@ -7,8 +7,8 @@ ghost use Rattle.spec_factor.specs.Factors.{forward_run, backward_run};
 ghost use Rattle.lp_revised.specs.FactorAnswer.{GivesRun};
 ghost use Rattle.lp_revised.specs.Eta.{AreItems};
 
-use crate::items::{less_part, narrow};
-use lp_frac::{Entries, Frac, Fracs, Past, div, is_zero, less_product};
+use crate::items::less_part;
+use lp_frac::{Entries, Frac, Fracs, Past, div, is_zero, less_product, narrow};
 use std::alloc::{AllocError, Global};
 use std::marker::Model;
 

@@ -3,16 +3,7 @@ ghost use Rattle.std.specs.Prelude.{◌≡◌, Some, All};
 ghost use Rattle.spec_exact.specs.Narrow.{IsNarrow, number_limit};
 ghost use Rattle.spec_exact.specs.Run as run;
 
-use lp_frac::{Frac, Fracs, Past, den, is_zero, less_product, num};
-
-// The same fraction. The call does nothing: proofs take from it that the fraction's parts have at most 127 bits.
-pub(crate) fn narrow(v: Frac) -> Frac
-    ensures value { result ≡ v }
-    ensures narrow { IsNarrow result }
-{
-    let _parts = (num(v), den(v));
-    v
-}
+use lp_frac::{Frac, Fracs, Past, is_zero, less_product, narrow};
 
 // `s` less `v * w`. `v` is often 0: then nothing is computed.
 #[inline(always)]

@@ -5,10 +5,9 @@ ghost use Rattle.spec_simplex.specs.Tableau.{all_columns};
 ghost use Rattle.spec_factor.specs.Revised.{price_run, way_run, entering_run};
 
 use crate::costs::cost;
-use crate::items::narrow;
 use crate::state::Revised;
 use lp_form::{Form, is_basic};
-use lp_frac::{Frac, Past, less_product, neg, one};
+use lp_frac::{Frac, Past, less_product, narrow, neg, one};
 use lp_simplex::primal::{is_fixed, way};
 use spec_pivot::Way;
 use spec_simplex::Entering;
