@@ -1,9 +1,10 @@
 // The factors of a basis, and the columns that came in since.
-use crate::lines::Lines;
 use crate::number::{at, index_at, product, put, put_index};
 use crate::program::Program;
 use crate::sparse::{add_line, put_in};
-use lp_sparse::{Factored, Factors, Marked, Matrix, Ordered, Sparse, factorize, order_factors};
+use lp_sparse::{
+    Entry, Factored, Factors, Lines, Marked, Matrix, Ordered, Sparse, factorize, order_factors,
+};
 use std::alloc::{AllocError, Global};
 
 /// The position of a column that has none.
@@ -28,7 +29,7 @@ pub(crate) struct Basis {
     room: Marked<f64>,
     places: Vec<usize>,
     pivots: Vec<f64>,
-    changes: Lines,
+    changes: Lines<f64>,
 }
 
 impl Drop for Basis {
@@ -62,9 +63,9 @@ fn logicals(alloc: Global, program: &Program) -> Result<Vec<usize>, AllocError> 
 }
 
 // Puts the numbers of a line into the column of a matrix.
-fn put_line(matrix: &mut Matrix<f64>, line: &[(usize, f64)]) -> Result<(), AllocError> {
-    for (i, number) in line {
-        matrix.put(*i, *number)?;
+fn put_line(matrix: &mut Matrix<f64>, line: &[Entry<f64>]) -> Result<(), AllocError> {
+    for entry in line {
+        matrix.put(entry.place, entry.value)?;
     }
     Ok(())
 }

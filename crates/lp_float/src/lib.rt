@@ -11,7 +11,7 @@
 //! | `run_primal` | the primal method, by the weights of Devex | src/primal, src/primal_ratio |
 //! | `State` | the basis, the values and the reduced costs of a run | src/state, src/rebuild |
 //! | `Basis` | the factors of a basis, with the product form of what changed since | src/basis |
-//! | `Lines` | sparse lines; `Sparse` of lp_sparse has numbers most of which are 0 | src/lines, src/sparse |
+//! | `add_line`, `add_to`, `put_in` | changes of `Sparse` of lp_sparse, whose numbers are 0 for the most part | src/sparse |
 //!
 //! Nothing is claimed of what a run finds, but that it is safe and ends: who uses a basis solves for it exactly.
 #![tactic(auto)]
@@ -20,7 +20,6 @@ mod basis;
 mod dual;
 mod dual_ratio;
 mod guess;
-mod lines;
 mod model;
 mod number;
 mod primal;

@@ -1,9 +1,9 @@
 // Programs of models.
-use crate::lines::{Lines, turned};
 use crate::program::Program;
 use crate::scaling::scale;
 use lp_frac::{Frac, Past, den, is_negative, num};
 use lp_model::{Model, lower_limit, upper_limit};
+use lp_sparse::{Lines, numbered, turned};
 use spec_model::Sense;
 use std::alloc::{AllocError, Global};
 use std::num::nearest_u64_to_f64;
@@ -97,7 +97,7 @@ fn add_rows(program: &mut Program, model: &Model) -> Result<(), AllocError> {
 }
 
 // Puts the numbers of a column into a line.
-fn put_line(lines: &mut Lines, entries: &[(u32, Frac)]) -> Result<(), AllocError> {
+fn put_line(lines: &mut Lines<f64>, entries: &[(u32, Frac)]) -> Result<(), AllocError> {
     for (i, number) in entries {
         lines.put(*i as usize, float(*number))?;
     }
@@ -105,7 +105,7 @@ fn put_line(lines: &mut Lines, entries: &[(u32, Frac)]) -> Result<(), AllocError
 }
 
 // Puts the numbers of the structural columns.
-fn put_lines(lines: &mut Lines, model: &Model) -> Result<(), AllocError> {
+fn put_lines(lines: &mut Lines<f64>, model: &Model) -> Result<(), AllocError> {
     for j in 0..model.cols() {
         put_line(lines, model.entries(j))?;
     }
@@ -117,7 +117,8 @@ fn put_model(alloc: Global, program: &mut Program, model: &Model) -> Result<(), 
     add_columns(program, model)?;
     add_rows(program, model)?;
     put_lines(&mut program.columns, model)?;
-    program.by_rows = turned(alloc, &program.columns, program.rows)?;
+    let names = numbered(alloc, program.cols)?;
+    program.by_rows = turned(alloc, &program.columns, &names, program.rows, 0.0)?;
     Ok(())
 }
 

@@ -1,4 +1,5 @@
 // Numbers and indices of lists, with 0 where there is none.
+use lp_sparse::Entry;
 
 /// The number at `k`, 0 where there is none.
 #[inline(always)]
@@ -67,10 +68,10 @@ pub(crate) fn copy(list: &mut [f64], from: &[f64]) {
 
 /// The sum of products with a sparse line.
 #[inline(always)]
-pub(crate) fn product(list: &[f64], line: &[(usize, f64)]) -> f64 {
+pub(crate) fn product(list: &[f64], line: &[Entry<f64>]) -> f64 {
     let mut sum = 0.0;
-    for (k, number) in line {
-        sum += *number * at(list, *k);
+    for entry in line {
+        sum += entry.value * at(list, entry.place);
     }
     sum
 }

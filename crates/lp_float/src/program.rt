@@ -1,5 +1,5 @@
 // The linear program in floats.
-use crate::lines::Lines;
+use lp_sparse::Lines;
 
 /// A program in floats: the least cost with each column within its bounds. The structural columns come first. The logical
 /// column of each row follows, whose value is the row's sum.
@@ -8,8 +8,8 @@ pub(crate) struct Program {
     /// How many structural columns there are.
     pub(crate) cols: usize,
     /// The numbers of each structural column by rows, and those of each row by structural columns.
-    pub(crate) columns: Lines,
-    pub(crate) by_rows: Lines,
+    pub(crate) columns: Lines<f64>,
+    pub(crate) by_rows: Lines<f64>,
     /// The bounds and the cost of each column. A bound that is absent is infinite.
     pub(crate) lower: Vec<f64>,
     pub(crate) upper: Vec<f64>,

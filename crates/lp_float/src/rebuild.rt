@@ -3,7 +3,7 @@ use crate::number::{add_at, at, copy, flag_at, index_at, product, put};
 use crate::program::Program;
 use crate::sparse::{add_line, add_to, is_dense, put_in};
 use crate::state::{Room, State};
-use lp_sparse::Sparse;
+use lp_sparse::{Entry, Sparse};
 use std::alloc::AllocError;
 
 // What is taken for 0 in a row of the inverse.
@@ -125,12 +125,12 @@ pub(crate) fn solve_unit(state: &mut State, place: usize) -> Result<(), AllocErr
 fn add_row(
     row: &mut Sparse<f64>,
     idle: &[bool],
-    line: &[(usize, f64)],
+    line: &[Entry<f64>],
     times: f64,
 ) -> Result<(), AllocError> {
-    for (k, number) in line {
-        if !flag_at(idle, *k) {
-            add_to(row, *k, times * *number)?;
+    for entry in line {
+        if !flag_at(idle, entry.place) {
+            add_to(row, entry.place, times * entry.value)?;
         }
     }
     Ok(())
@@ -147,7 +147,10 @@ fn make_by_rows(state: &mut State, program: &Program) -> Result<(), AllocError> 
         let number = at(&inverse_row.numbers, *i);
         if number.abs() > NOTHING {
             add_row(row, &state.idle, program.by_rows.line(*i), number)?;
-            let logical = [(program.logical(*i), -1.0)];
+            let logical = [Entry {
+                place: program.logical(*i),
+                value: -1.0,
+            }];
             add_row(row, &state.idle, &logical, number)?;
         }
     }

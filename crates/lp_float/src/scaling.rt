@@ -1,7 +1,7 @@
 // Rows and columns scaled by powers of two.
-use crate::lines::Lines;
 use crate::number::{at, greatest};
 use crate::program::Program;
+use lp_sparse::{Entry, Lines};
 use std::alloc::{AllocError, Global};
 
 // How often the rows and then the columns are scaled.
@@ -32,11 +32,11 @@ fn power_near(number: f64) -> f64 {
 }
 
 // The factor that brings the numbers of a line around 1, each times the factor of its index.
-fn line_factor(line: &[(usize, f64)], factors: &[f64]) -> f64 {
+fn line_factor(line: &[Entry<f64>], factors: &[f64]) -> f64 {
     let mut least = f64::INFINITY;
     let mut most = 0.0;
-    for (k, number) in line {
-        let magnitude = (*number * at(factors, *k)).abs();
+    for entry in line {
+        let magnitude = (entry.value * at(factors, entry.place)).abs();
         if magnitude > 0.0 {
             least = magnitude.min(least);
             most = magnitude.max(most);
@@ -50,7 +50,7 @@ fn line_factor(line: &[(usize, f64)], factors: &[f64]) -> f64 {
 }
 
 // Finds the factors of lines from those of their indices.
-fn find_factors(lines: &Lines, factors: &mut [f64], others: &[f64]) {
+fn find_factors(lines: &Lines<f64>, factors: &mut [f64], others: &[f64]) {
     for (k, factor) in factors.iter_mut().enumerate() {
         *factor = line_factor(lines.line(k), others);
     }
@@ -75,13 +75,14 @@ fn find_all_factors(program: &Program, rows: &mut [f64], cols: &mut [f64]) {
 
 // Puts the numbers of a line into lines, each times two factors.
 fn put_line(
-    lines: &mut Lines,
-    line: &[(usize, f64)],
+    lines: &mut Lines<f64>,
+    line: &[Entry<f64>],
     times: f64,
     factors: &[f64],
 ) -> Result<(), AllocError> {
-    for (k, number) in line {
-        lines.put(*k, *number * at(factors, *k) * times)?;
+    for entry in line {
+        let number = entry.value * at(factors, entry.place) * times;
+        lines.put(entry.place, number)?;
     }
     lines.end()
 }
@@ -89,10 +90,10 @@ fn put_line(
 // The lines, each number times the factors of its line and of its index.
 fn multiplied(
     alloc: Global,
-    lines: &Lines,
+    lines: &Lines<f64>,
     own: &[f64],
     factors: &[f64],
-) -> Result<Lines, AllocError> {
+) -> Result<Lines<f64>, AllocError> {
     let mut list = Lines::new(alloc);
     for (k, times) in own.iter().enumerate() {
         put_line(&mut list, lines.line(k), *times, factors)?;

@@ -1,6 +1,6 @@
 // Numbers most of which are 0.
 use crate::number::{add_at, at, put};
-use lp_sparse::Sparse;
+use lp_sparse::{Entry, Sparse};
 use std::alloc::AllocError;
 
 // What stands for 0 at a place that is noted.
@@ -35,9 +35,9 @@ pub(crate) fn put_in(list: &mut Sparse<f64>, k: usize, number: f64) -> Result<()
 
 // Adds a multiple of a sparse line, of which all places are noted.
 #[inline(always)]
-fn add_noted(list: &mut [f64], line: &[(usize, f64)], times: f64) {
-    for (k, number) in line {
-        add_at(list, *k, times * *number);
+fn add_noted(list: &mut [f64], line: &[Entry<f64>], times: f64) {
+    for entry in line {
+        add_at(list, entry.place, times * entry.value);
     }
 }
 
@@ -45,15 +45,15 @@ fn add_noted(list: &mut [f64], line: &[(usize, f64)], times: f64) {
 #[inline(always)]
 pub(crate) fn add_line(
     list: &mut Sparse<f64>,
-    line: &[(usize, f64)],
+    line: &[Entry<f64>],
     times: f64,
 ) -> Result<(), AllocError> {
     if list.is_full() {
         add_noted(&mut list.numbers, line, times);
         return Ok(());
     }
-    for (k, number) in line {
-        add_to(list, *k, times * *number)?;
+    for entry in line {
+        add_to(list, entry.place, times * entry.value)?;
     }
     Ok(())
 }

@@ -4,7 +4,9 @@ use crate::scales::{Scales, multiple, row_scales};
 use crate::statuses::{is_basic_at, put_status, resting};
 use crate::wide_kernel::long_whole;
 use lp_frac::Frac;
-use lp_sparse::{Factored, Factors, Field, Lines, Matrix, PRIME, Residue, factorize, turned};
+use lp_sparse::{
+    Factored, Factors, Field, Lines, Matrix, PRIME, Residue, factorize, numbered, turned,
+};
 use spec_pivot::Status;
 use std::alloc::{AllocError, Global};
 
@@ -197,15 +199,6 @@ fn magnitude(lines: &Lines<i64>, k: usize) -> u128 {
         sum = sum.saturating_add(entry.value.unsigned_abs() as u128);
     }
     sum
-}
-
-// The numbers from 0 on.
-fn numbered(alloc: Global, len: usize) -> Result<Vec<usize>, AllocError> {
-    let mut list = Vec::with_capacity(alloc, len)?;
-    for k in 0..len {
-        list.push(k)?;
-    }
-    Ok(list)
 }
 
 // Two lists as one, without the second where it has no numbers.

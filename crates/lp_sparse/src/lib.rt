@@ -29,7 +29,7 @@ pub mod wide;
 pub use factors::{Factored, Factors, Marked, Ordered, Sparse, factorize, order_factors};
 pub use field::Field;
 pub use lifting::{Right, System};
-pub use lines::{Lines, turned};
+pub use lines::{Entry, Lines, numbered, turned};
 pub use matrix::Matrix;
 pub use residue::{PRIME, Residue};
 pub use solution::{Solved, Whole, lifted_solution};

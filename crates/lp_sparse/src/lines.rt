@@ -124,6 +124,15 @@ fn spread<T: Copy>(line: &[Entry<T>], name: usize, ends: &mut [usize], entries: 
     }
 }
 
+/// The numbers from 0 on: the names of lines that are named as they stand.
+pub fn numbered(alloc: Global, len: usize) -> Result<Vec<usize>, AllocError> {
+    let mut list = Vec::with_capacity(alloc, len)?;
+    for k in 0..len {
+        list.push(k)?;
+    }
+    Ok(list)
+}
+
 /// The lines of the places: the numbers of each line stand in them under the line's name. The zero is for
 /// places that are not filled.
 pub fn turned<T: Copy>(
