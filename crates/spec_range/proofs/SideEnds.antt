@@ -93,7 +93,7 @@ still_ok limit b v lower upper e h x =
 abbrev carried_value : ℚ → ℚ → ℚ → ℚ → ℚ
 carried_value b v a x = v +ℚ (x -ℚ b) *ℚ neg_ℚ a
 
--- the entry a times the end for a bound less x is the value carried to x less the bound
+-- a * (end - x) = carried - bound: at the right side `end` the value meets the bound, at x it is `carried`
 carried_is : (b v a bound x : ℚ) → a ≢ 0ℚ →
     a *ℚ ((b +ℚ (v -ℚ bound) *ℚ inverse a) -ℚ x) ≡ carried_value b v a x -ℚ bound
 carried_is b v a bound x n = by (inverse a) (*ℚ_inverse a n)

@@ -3,7 +3,7 @@
 -- `said_true`: what a command may write after something was said of the bytes that were read is true of the input's
 --   model.
 -- `none_true`: an empty output is true of every model.
--- `no_seed_true`: an empty output is true of what a seed gives.
+-- `no_seed_true`: an empty output has no first two lines, so what is asked of the output behind them holds.
 use Rattle.std.proofs.Common.{◌≡◌, ◌≢◌, ℕ, false, nat_eq, List, [], ◌∷◌, ◌++◌, Option, Some, Ok, Err, ◌⊎◌, inl, inr}
 use Rattle.std.proofs.Common.{refl, sym, ◌∙◌, ap, subst, append_assoc}
 use Rattle.std.specs.Prelude.{All, codes, decimal}

@@ -152,7 +152,7 @@ seen_stage shape k reads (read.Seen j words) =
     if has_shape shape words then Solving (Some (record { place = k; words = words })) reads else looking shape k reads
 seen_stage shape k reads other = looking shape k reads
 
--- what the read of place k leaves
+-- what a session's read of slot k of the board leaves: the session with one more read, the slots as before, and no reply
 abbrev pub seen_left : List ExactPlace → Session → Words → ℕ → List ExactRead → ExactRead → Left
 seen_left now s shape k reads made = record {
   session = at_stage s (seen_stage shape k (reads ++ made ∷ []) made);
