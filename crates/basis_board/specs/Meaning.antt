@@ -16,7 +16,7 @@ pub record JustOne (f : View → ℕ) (views : List View) : Type 0 where
   pub one : f view ≡ 1
   pub others : (j : ℕ) (u : View) → j ≢ seat → get_elem? views j ≡ some u → f u ≡ 0
 
--- f is 0 of each view
+-- No view of the board counts: f, which counts something of a view, is 0 for each view of the list.
 abbrev pub NoView : (View → ℕ) → List View → Type 0
 NoView f views = (j : ℕ) (u : View) → get_elem? views j ≡ some u → f u ≡ 0
 

@@ -43,7 +43,8 @@ pub record IsLogOf (places workers worker : ℕ) (pass : Known) (log : List Logg
 
 -- ---- the reads of all
 
--- As many workers as passes, each with one of them, whose notes are one log and whose reads are backed.
+-- Where each worker's log has the reads of its pass, the notes of all passes make one log of the table, and each read is
+-- backed by a write, then all logs have one order in which the slots answer them.
 abbrev pub WholeLogsArePlayed : Type 0
 WholeLogsArePlayed =
     (places : ℕ) (passes : List Known) (logs : ℕ → List Logged) →

@@ -177,7 +177,7 @@ fn largest(list: &[Candidate]) -> Option<Candidate> {
     found
 }
 
-// Where a group begins.
+// The index in `taken` at which a group of candidates begins.
 fn first(trial: &Trial, group: usize) -> usize {
     if group == 0 {
         0

@@ -77,7 +77,7 @@ pub record IsCertified (m : Model) (kept sides : List Side) (cert : Certificate 
   pub certificate : ShowsInfeasible (only m sides) cert
   pub without : ArePointsWithout m sides points
 
--- the search may end so with the kept sides
+-- A search that keeps these sides may end in this way: with a certified IIS, or where a trial solve of them gives up.
 abbrev pub MayEnd : ℕ → Model → List Side → ExactIis → Type 0
 MayEnd budget m kept (Found sides cert points) = IsCertified m kept sides cert points
 MayEnd budget m kept (Other end) = ⊥

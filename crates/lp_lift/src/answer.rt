@@ -83,7 +83,8 @@ impl Drop for Run {
     }
 }
 
-// What is found at a basis.
+// The exact point and multipliers at the basis of a run, with the rooms and reduced costs in floats; `None` where
+// lifting found no solution of the basis' equations.
 fn found_at(
     alloc: Global,
     program: &Program<'_>,

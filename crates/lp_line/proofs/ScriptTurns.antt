@@ -184,7 +184,7 @@ leads_on from next here no_end g few = record {
   no_end = no_end;
 }
 
--- a line completes this ask
+-- Where a line makes just one ask in each script that fits a stage, it leads from the stage to a step that says the ask.
 leads_to_ask : (from : ScriptStage) (here : Line (List ℕ)) (asked : Asked ExactAsk) (what : NextAsk) → here ≢ line.End →
     ((addressing : Addressing) (pending : Pending) → Fits addressing pending from →
     asks_of_line addressing pending here ≡ asked ∷ []) →

@@ -97,7 +97,7 @@ impl Session {
         }
     }
 
-    /// Keeps the answer, with what became of its words.
+    /// Keeps the end of the solve, once it is known whether the words of its basis got a slot of the board.
     pub fn put(&mut self, put: Put) -> Reply
         requires { IsPutAwaited self.old.awaits }
         ensures { PutFits self.old.state self.old.awaits put result self.new }

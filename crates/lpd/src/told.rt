@@ -48,7 +48,7 @@ pub fn tell(rt: &HostRuntime, alloc: Global, ending: Ending<'_>) -> io::Result<(
     }
 }
 
-// What is said of a status that needs no more than its number.
+// What standard error says of an exit status of `lpd`; nothing of a status of which more is known than its number.
 fn what_happened(status: ExitStatus) -> Option<&'static str> {
     match status {
         ExitStatus::BAD_COMMAND_LINE => Some("bad command line\nlpd: a word is not UTF-8"),
