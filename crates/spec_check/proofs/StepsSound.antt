@@ -12,7 +12,7 @@
 -- `products_ok`: a sum of products gives, where it succeeds, that sum.
 -- `added`: an addition gives, where it succeeds, the sum.
 -- `lower_ok`: the lower limit of a row that comes out is the exact one.
--- `upper_ok`: the upper limit of a row that comes out is the exact one.
+-- `upper_ok`: where the upper limit of a row is not refused for its size, it is the exact one.
 -- `least_from`: where v does not compare as less than k, k is at most v.
 -- `most_from`: where v does not compare as greater than k, v is at most k.
 -- `less_from`: where v compares as less than k, v is below k.

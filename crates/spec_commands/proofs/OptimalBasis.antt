@@ -12,6 +12,7 @@ use Rattle.spec_solve.specs.Answers.{IsSolved, ColdFits}
 use Rattle.spec_range.specs.Span.{Keeps}
 use Rattle.spec_range.proofs.ColdBases.{cold_keeps}
 
+-- The basis with which a cold solve ends is optimal in the model, without a limit on the numbers.
 pub solved_keeps : (m : Model) (budget : ℕ) (solved : SolveEnd) (known : Known ℚ) (cert : Certificate (List ℚ))
     (left : List Status) (pivots : ℕ) → IsSolved m budget None solved →
     solved.end ≡ Ended known cert (Some left) pivots → Keeps m left

@@ -5,7 +5,7 @@
 -- `part_not_rows`: ROWS is neither RHS nor RANGES.
 -- `part_now`: a section that begins here has begun.
 -- `cards_first`: before the first line there are no cards of RHS or RANGES.
--- `cards_titled`: a heading leaves the cards of RHS and RANGES so far.
+-- `cards_titled`: a heading adds no card to the cards of RHS and RANGES that were read so far.
 -- `cards_more`: a data card goes behind the cards of RHS or RANGES where it is one of that section.
 -- `cards_all`: the cards of RHS or RANGES of the whole text are those that its lines have in that section.
 -- `set_card_did`: a card of RHS or RANGES that is taken puts its pairs, or is skipped because another set is used.

@@ -69,7 +69,7 @@ range_in text = if same text (codes "NONE") then Ok None else (number_in text >>
 unfoldable pub new_range_in : Kind → List ℕ → Reads ℚ
 new_range_in kind text = if is_free kind then Err fault.Word else number_in text
 
--- a lower bound is no more than finite, and an upper one no less
+-- A spelled value as a lower bound: a finite value is the bound, minus infinity is none, and plus infinity is refused.
 abbrev pub lower_by : BoundValue ℚ → Reads (Option ℚ)
 lower_by (Finite v) = Ok (Some v)
 lower_by MinusInf = Ok None

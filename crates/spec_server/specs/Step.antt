@@ -133,7 +133,7 @@ Works old found worked = SolvesWith old found worked ⊎ (worked ≡ Ends reply.
 
 -- ---- words were published, or not
 
--- the state after a put, with the answer that was pending
+-- the state after the try to publish the basis of an answer: the answer is the last one, with what became of its basis
 abbrev pub after_put : State → Pending → Put → State
 after_put old pending put = with_answer old pending.end pending.how (publication.Tried put)
 

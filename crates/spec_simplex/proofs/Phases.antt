@@ -33,6 +33,7 @@ use Rattle.spec_simplex.proofs.FormOfModel.{Limited, cost_length, formed_proper}
 use Rattle.spec_simplex.proofs.FormOfModel.{HasBounds}
 use Rattle.spec_simplex.proofs.FirstPhase.{never_goes_on}
 
+-- any label of a step, for where a list needs an item past its end
 pub some_label : Label
 some_label = record { kind = kind.Flip; way = Up; column = 0; position = 0; theta = 0ℚ; to = Basic }
 

@@ -82,7 +82,7 @@ narrow_fits v h =
 all_fit : (xs : List ℚ) → All IsNarrow xs → All FitsLine xs
 all_fit xs h = λ k d l. narrow_fits (get_or xs k d) (h k d l)
 
--- where a certificate's numbers are narrow, their texts fit lines
+-- where all numbers of a certificate have at most 127 bits, the text of each fits a line
 narrow_lines : (cert : Certificate (List ℚ)) → IsNarrowCertificate cert → FitsLines cert
 narrow_lines (Optimal x y) n = (all_fit x n.0, all_fit y n.1)
 narrow_lines (Infeasible y) n = all_fit y n

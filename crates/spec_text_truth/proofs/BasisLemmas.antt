@@ -93,7 +93,8 @@ text_ends limits style s n (line ∷ lines) = by (text.step limits style s line)
     by (Err why) is more =
         IsRefused (record { line = n + 1; code = why }) (ap (λ o. on_text o lines) is) (ap on_basis is)
 
--- behind a text that ends in its last line, what is said is said of a basis file for the text's model
+-- After a text whose last line ends it as a model, the lines behind it say what they say as a basis file for that
+-- model.
 text_leads : (limits : SizeLimits) (style : Style) (s : State) (n : ℕ) (front : Lines) (last : Line (List ℕ)) (behind : Lines) (m : Model) →
     text_said_from limits style s n front ≡ None → text.judge limits style s (n + 1) (front ++ last ∷ []) ≡ text.Spelled
     m →

@@ -28,7 +28,8 @@ asked_twice =
     ended_lines (codes "LOAD FREE" ∷ []) ++ ended_text
     ++ ended_lines (codes "SOLVE" ∷ codes "CERT" ∷ codes "SETRHS COST -6" ∷ codes "SOLVE" ∷ codes "HOW" ∷ codes "HOW" ∷ codes "HOW" ∷ codes "HOW" ∷ [])
 
--- the answer from before as the last one: were the lines of the certificate those of replies, it would be none to a solve
+-- A false output: behind the edit, the second solve is answered as the first one was. Were each line of the certificate
+-- taken as a reply, the last line would be the reply to no solve.
 abbrev pub answered_as_before : List (List ℕ) → List ℕ
 answered_as_before certificate =
     ended_lines (codes "LOADED 1 0" ∷ codes "OPTIMAL 5" ∷ codes "CERT 4" ∷ []) ++ ended_lines certificate

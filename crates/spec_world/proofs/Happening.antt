@@ -53,7 +53,7 @@ begins state asked (Solves m) is =
 begins state asked (SolvesWide m) is =
     (Answers reply.Memory state, inr (ap takes_memory (wide_due_held state m asked is).0, refl))
 
--- each act that fits a session's stage may leave some session and some places
+-- for each act that fits a session's stage there is an outcome: a session and places that the act may leave
 may_leave : (server : Server) (me : ℕ) (now : List ExactPlace) (s : Session) (stage : Stage) (a : ExactAct) →
     fits_stage stage a ≡ true → (left : Left) × Leaves server me now s stage a left
 may_leave server me now s Idle (act.Ask asked) h =

@@ -45,7 +45,7 @@ reads_so_far (Writes pending k reads) = reads
 abbrev pub asks_of : Session → List ExactAsk
 asks_of s = map (λ x. x.ask) s.finished ++ going s.stage
 
--- the reads of a session so far
+-- what a session read and wrote at the board so far: in its finished exchanges, and in the one that goes on
 abbrev pub reads_of : Session → List ExactRead
 reads_of s = flat_map (λ x. x.reads) s.finished ++ reads_so_far s.stage
 
@@ -54,7 +54,7 @@ abbrev pub asks_by : ExactAct → List ExactAsk
 asks_by (act.Ask asked) = asked ∷ []
 asks_by other = []
 
--- the asks of a session in a list of events
+-- the commands that were asked of this session, in the order of the events
 abbrev pub asks_in : ℕ → List ExactEvent → List ExactAsk
 asks_in session events = flat_map (λ e. if e.session == session then asks_by e.act else []) events
 
