@@ -1,6 +1,7 @@
 -- That views stay neat: their own places are those of their reads, and what they read they have seen.
 --
--- `fits_noted`: a view still fits the words when it notes a read that fits, publishes nothing and has been seen.
+-- `fits_noted`: a view that fits the board's words still fits them once it notes another read. The read fits the words,
+--   is no publication, and gives only what the view has seen.
 -- `neat_finished`: a neat view that publishes the place which it holds is neat.
 -- `neat_opening`: a neat view that reads a place as done, and none of its words yet, is neat.
 -- `neat_reading`: a neat view that reads one word more of the place that it read last is neat.

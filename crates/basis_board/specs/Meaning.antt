@@ -46,6 +46,6 @@ pub record Means (s : State ℕ View) : Type 0 where
   pub beyond : (k : ℕ) → count s.words ≤ k → (done s.words k ≡ 0) × NoView (holding k) s.views
   pub views : (j : ℕ) (v : View) → get_elem? s.views j ≡ some v → Remembers s v
 
--- each state that keeps the rule is so
+-- for each state that keeps the rule of the board, what the rule says in plain words is true
 abbrev pub AllMeans : Type 0
 AllMeans = (places : ℕ) (s : State ℕ View) → Kept places s → Means s

@@ -138,7 +138,8 @@ pub record NotesMore (old new : List Moment) : Type 0 where
   pub all : new ≡ more ++ old
   pub later : ComeAfter more old
 
--- what the pass noted since comes after what it had noted, and each read was so at its moment
+-- From sight v to sight w of a pass, only moments later than those of v were added. Each read of w was true of the
+-- board's words at its moment.
 pub record Later (v w : Sight) : Type 0 where
   pub notes : NotesMore v.moments w.moments
   pub were_true : WereTrue w.moments w.view.reads

@@ -57,7 +57,7 @@ impl MemListen {
         })
     }
 
-    /// The links that came back, in the order in which they did.
+    /// The links that were given back to the listener, in the order in which they came.
     pub fn links_back(&self) -> &[MemLink]
         ensures { result.now ≡ links_returned self.now }
     {

@@ -216,7 +216,7 @@ pub sees_agree : (st : Stage) (aw : Awaits) (shape : Words) (k : ℕ) → st ≡
     aw ≡ WhatIsFound shape
 sees_agree st aw shape k e a = subst (λ t. Agrees t aw) e a
 
--- a look below n places for a shape awaits what is found of that shape
+-- a stage in which a session looks for a shape below place n fits a session that waits for what is found of that shape
 looking_agrees : (shape : Words) (n : ℕ) (st : Stage) (aw : Awaits) → aw ≡ WhatIsFound shape →
     st ≡ looking_at shape n → Agrees st aw
 looking_agrees shape n st aw e is = subst (λ t. Agrees t aw) (sym is) (by (nat_eq n 0))

@@ -182,7 +182,8 @@ impl Seat {
         StepEnd::Quiet
     }
 
-    // The session solves, if its look has ended. It replies, or goes on with words to publish.
+    // Where the session's look has ended, the session solves with what the look found. It then has its reply, or goes
+    // on to publish the words of its final basis.
     fn work(
         &mut self,
         alloc: Global,

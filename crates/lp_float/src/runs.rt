@@ -176,7 +176,8 @@ fn first_phase(
     evaluate(state, program)
 }
 
-// Begins with costs moved apart, and a basis whose reduced costs are right if one is found.
+// Begins the float run: perturbs the costs, and makes the reduced costs and the basic values. Where a reduced cost has
+// the wrong sign, a first phase looks for a basis that is dual feasible; there may be none.
 fn begin(
     alloc: Global,
     state: &mut State,

@@ -1,7 +1,8 @@
 -- Words are made from the last column to the first, and lists of words from the first to the last.
 --
 -- `code_small`: the code of each column is below 4, so it has two bits.
--- `column_more`: four times a word with the code of the column before it added is the word from that column on.
+-- `column_more`: where a word holds the codes from one column on, four times the word, with the code of the column
+--   before added, is the word from that column on.
 -- `has_room`: before the last column is put, a word is below 2^62, so that two more bits fit.
 -- `word_more`: where k words are put behind a front, setting the next one puts k + 1 behind it.
 -- `copied_more`: copying the word at place i where the first i are copied makes the first i + 1 copied.

@@ -47,7 +47,8 @@ pub fn basis_code(basis: &Basis, c: u32) -> u64
     status_code(basis.at(c as usize))
 }
 
-/// The bits of column `c`, in words of which those of column 0 stand in word `first`.
+/// The two bits of column `c` in words that hold two bits for each column, 32 columns in a word. Column 0 stands in
+/// word `first`.
 pub fn code_at(words: &BasisWords, first: usize, c: u32) -> u64
     requires { first + c / 32 < 49 }
     ensures value { result ≡ shape.code_at first words.now c }

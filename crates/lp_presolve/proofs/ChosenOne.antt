@@ -1,6 +1,6 @@
 -- What goes next, by the first of the rules that finds something or is refused.
 --
--- `none_found`: what is never found is nothing.
+-- `none_found`: an option that is `Some` of no value is `None`.
 -- `refused₁`: a refusal of the rule on clashes is what is chosen.
 -- `refused₂`: where no bounds clash, a refusal of the rule on rows without entries is what is chosen.
 -- `refused₃`: where these two find nothing, a refusal of the rule on rows with one entry is what is chosen.

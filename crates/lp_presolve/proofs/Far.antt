@@ -9,7 +9,7 @@ use Rattle.spec_exact.specs.Fraction.{ℚ, neg_ℚ, whole, lt_ℚ}
 use Rattle.spec_exact.proofs.FractionSigns.{above_size}
 use Rattle.spec_presolve.specs.Choose.{is_far}
 
--- k, over d, against the whole number n
+-- d is at most k / n, rounded down, just where the fraction k / d is not below the whole number n
 far_parts : (k d n : ℕ) → 0 < n → leb d (k / n) ≡ not (int_lt (pos k *ℤ pos 1) (pos n *ℤ pos d))
 far_parts k d n z = by (int_lt (pos k *ℤ pos 1) (pos n *ℤ pos d)) refl
   where

@@ -26,7 +26,7 @@ use Rattle.lp_presolve.specs.Tells.{Tells}
 
 -- ---- the step is that of the definition
 
--- where a step is what is kept of a reduction, the reduction is the one that the step has
+-- where a step was kept of reduction r, and has t as its reduction, r is t
 reduction_is : (s : Step) (r t : ExactReduction) (m : Model) → s ≡ kept r m → s.reduction ≡ t → r ≡ t
 reduction_is s r t m h g = sym (ap (λ (s : Step). s.reduction) h) ∙ g
 

@@ -3,7 +3,7 @@
 -- `open_next`: where no place below i is open and place i is not, no place below i + 1 is open.
 -- `open_here`: where no place below i is open and place i is, place i is the least of n that is open.
 -- `opened`: the list is not 0 at a place that is open.
--- `free_is`: a place without a column is open just where the list is not 0 there.
+-- `free_is`: a place that no column has taken is open for the column of list `v` just where `v` is not 0 there.
 use Rattle.std.proofs.Common.{◌≡◌, ◌≢◌, ℕ, zero, suc, ◌+◌, ◌-◌, ◌<◌, List, length, get_or}
 use Rattle.std.proofs.Common.{slice_get, Option, Some, None, is_none, Result, Ok, Err, Bool, true}
 use Rattle.std.proofs.Common.{false, not, ◌&&◌, cond, refl, sym, ap, ap₂, ◌∙◌, subst, arith, add-one}

@@ -14,7 +14,8 @@ use Rattle.spec_factor.specs.Factors.{Pair, Factors}
 abbrev pub pair_of : ℕ → ℕ → List (ℕ × ℚ) → Pair
 pair_of rows place entries = record { place = place; column = made rows (λ i. entry_of entries i) }
 
--- the entries are in the order of their places, the pivot is the value at the pair's own place, and is not 0
+-- The items of a column that are not 0 stand in the order of their places. Its entry at the place that the pair of
+-- factors takes is the pivot, and is not 0.
 pub record IsEta (rows place : ℕ) (pivot : ℚ) (items : List (ℕ × ℚ)) : Type 0 where
   pub few : rows ≤ row_limit
   pub inside : place < rows

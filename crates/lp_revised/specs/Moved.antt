@@ -21,7 +21,8 @@ moved_by starts t z theta i values =
     less_product (Some number_limit) (seen_entry starts t z i) theta (get_or values (basic_at t i) 0ℚ) >>= λ v.
     Ok (slice_set values (basic_at t i) v)
 
--- the values after the basic columns at the first n positions moved so, but for the one at position `but`
+-- the values after the basic columns at the first n positions moved with the entering column, which is z by places and
+-- moves by theta; the one at position `but` stays
 abbrev pub moves_by : List (RowStart ℚ) → Tableau → List ℚ → ℚ → Option ℕ → ℕ → Run (List ℚ)
 moves_by starts t z theta but n =
     steps n (λ i values. if is_place but i then Ok values else moved_by starts t z theta i values) t.value

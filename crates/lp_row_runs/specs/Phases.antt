@@ -87,7 +87,7 @@ HasFit fits (Ended e) = AllFit fits e.certificate
 HasFit fits Narrow = Unit {0}
 HasFit fits GaveUp = Unit {0}
 
--- the pause is the end at this tableau and this count, or the run gave up
+-- both phases over rows stopped with this end at this tableau, after this many pivots and flips, or gave up
 abbrev pub EndsWith : {N : Type 0} → (ℚ → N) → Tableau → ℕ → Option PrimalEnd → PhasesPause N → Type 0
 EndsWith of t used end (Ended e) = e ≡ row_end of (end_by t used end)
 EndsWith of t used end Narrow = ⊥

@@ -5,7 +5,8 @@
 -- `negated_is`: a number of the other sign over d is the negative of the fraction.
 -- `shared_is`: both parts over a common divisor make the same fraction.
 -- `same_sign`: a sign and a magnitude make the same whole number by both definitions.
--- `ratio_is`: where magnitudes and denominators are equal, fractions by both definitions are equal.
+-- `ratio_is`: where magnitudes and denominators are equal, the fraction by `with_sign` and the one by `whole` of a
+--   magnitude with a sign are equal.
 use Rattle.std.proofs.Common.{◌≡◌, ℕ, zero, suc, ◌*◌, ◌<◌, pos, neg_ℤ, [], ◌∷◌, Bool, true, false, not}
 use Rattle.std.proofs.Common.{refl, sym, ap, ap₂, ◌∙◌, arith}
 use Rattle.spec_exact.specs.Fraction.{over, neg_ℚ, 0ℚ, 1ℚ}

@@ -24,7 +24,7 @@ abbrev pub IsFormHeld : Option Model → Form → Type 0
 IsFormHeld None f = ⊥
 IsFormHeld (Some m) f = form_of (Some number_limit) m ≡ Ok f
 
--- it may be answered so, within some budget
+-- a solve of the model that is held may end so, within some budget; without a model there is no end
 abbrev pub IsEndOf : Option Model → ExactSolveEnd → Type 0
 IsEndOf None end = ⊥
 IsEndOf (Some m) end = (budget : ℕ) × MayAnswer m budget end

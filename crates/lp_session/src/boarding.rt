@@ -5,7 +5,7 @@ ghost use Rattle.basis_board.specs.PassReads.{looked_by};
 use basis_board::Look;
 use spec_board::{BasisWords, Found};
 
-// What a look found.
+// The place that a look at the board found, with its words; nothing where the look found no basis.
 pub(crate) fn found_by(look: Look) -> Option<Found<BasisWords>>
     ensures { result ≡ looked_by look }
 {

@@ -15,7 +15,8 @@
 -- `row_inside`: a row number below m is one of the list of m rows.
 -- `column_inside`: where m rows have width n, a column number below n is inside each row.
 -- `grid_set`: m rows of width n stay such where one entry is replaced.
--- `row_finished`: where a loop over row p ends at n, the run over the row and its write give the rows.
+-- `row_finished`: where a loop has replaced all n items of row p, the run that makes these items and writes them as row
+--   p gives the rows that the loop leaves.
 -- `list_finished`: where a loop over a list of n items ends at n, the run over all items gives the list.
 -- `item_is`: an item that was read inside the list is the list's item, whatever default is asked with.
 use Rattle.std.proofs.Common.{◌≡◌, ◌≢◌, ℕ, ◌+◌, ◌<◌, ◌≤◌, List, [], length, take}

@@ -14,7 +14,7 @@ pub record ReadingAt : Type 0 where
   pub limits : SizeLimits
   pub stage : reading.Stage
 
--- a step of the reading, with the limits that stay as they are
+-- a step of reading a basis file, as one that keeps the limits on the sizes of texts beside the stage
 abbrev pub step_within : SizeLimits → said.Step reading.Stage reading.BasisSaid →
     said.Step ReadingAt reading.BasisSaid
 step_within limits (said.On next) = said.On (record { limits = limits; stage = next })

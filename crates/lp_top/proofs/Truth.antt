@@ -46,7 +46,7 @@ all_front bytes = ([], append-nil bytes)
 
 -- ---- a script
 
--- the asks of what was read of a script come first in all that is sent
+-- the commands of the script that was read so far are the first of those in any longer text of the script
 asked_first : (after : Option (List ℕ)) (read : List ℕ) (asks : List (Asked ExactAsk)) → AreAsked after read asks →
     HoldsOfAll after read (AreFirstIn Numbered asks)
 asked_first after read asks (inl e) = inr λ more.

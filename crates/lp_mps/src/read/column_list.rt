@@ -126,7 +126,8 @@ impl Columns {
         put_number(column, target, value)
     }
 
-    /// Sets the bounds of the whole column at a place, as the card gives them. A place past the end changes nothing.
+    /// Sets the bounds of a column as a card of BOUNDS gives them. The place is the column's number among those whose
+    /// cards of COLUMNS are all read. A place past the end changes nothing.
     pub(crate) fn bound_at(&mut self, place: usize, lowered: bool, card: &BoundCard)
         ensures { self.new ≡ record (self.old)
             { whole = changed_at place (bounded lowered (bound_seen card.now)) self.old.whole } }

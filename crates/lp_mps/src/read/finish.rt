@@ -71,7 +71,8 @@ impl Draft {
         }
     }
 
-    // The model of what was read, with these names and the columns that are whole.
+    // Makes the model of the rows and columns that were read, with these names of the model and of its objective. The
+    // draft is left without rows and columns.
     #[tactic(auto, unfolding(spec_mps::specs::Steps::model_by))]
     fn take_model(&mut self, alloc: Global, name: Name, objective: Name) -> Model
         requires { IsModel (steps.model_by (record (state_of self.old) { name = name; column = None }) objective) }

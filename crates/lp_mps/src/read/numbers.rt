@@ -60,7 +60,8 @@ impl Draft {
         }
     }
 
-    // Reads a row's name and a number, and gives the row this number.
+    // Reads a row's name and a number. The row gets the number as an entry, a right side or a range, as `what` says. A
+    // range of a free row is left out.
     fn pair(&mut self, what: Numbers, name: &[u8], text: &[u8]) -> Result<(), Fault>
         ensures { GivesState (numbers.pair_by what (state_of self.old) name.now text.now) (state_of self.new) result }
     {

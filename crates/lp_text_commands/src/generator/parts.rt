@@ -81,7 +81,7 @@ fn columns(
     Ok(columns)
 }
 
-// Draws row i: its right side. It is at most that.
+// Draws row `i`: its sum is at most the right side that is drawn, a whole number from 10 to 99.
 #[tactic(auto, unfolding(spec_commands::specs::Generated::generated_row))]
 fn row(alloc: Global, draws: &mut Draws, i: u32) -> Result<Row, AllocError>
     requires { i < row_limit }
