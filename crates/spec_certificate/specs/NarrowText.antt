@@ -34,7 +34,8 @@ Leads = LeadsBy narrow
 abbrev pub Judgement : Type 0
 Judgement = JudgementOf ℚ
 
--- what lines are found to be, behind what was read and from the line with this number on, with numbers of 127 bits
+-- The judgement of the lines of a certificate's text, with numbers of 127 bits: what was read before them is given, and
+-- the number of the first line.
 abbrev pub judge : Option ExactRaw → ℕ → List (Line (List ℕ)) → Judgement
 judge = judge_by narrow
 

@@ -73,7 +73,9 @@ pub fn replacing_keeps_factors()
         replace_run limit m s p k column ≡ Ok u → u.basic ≡ slice_set s.basic p k }
 {}
 
-/// At a limit each of the four is the one without a limit, or an operation is refused. Without a limit none is.
+/// With a limit on the numbers, ftran, btran, the factoring of a basis and the replacement of a column each give what
+/// they give without a limit, or are refused an operation. Without a limit ftran, btran and the factoring are never
+/// refused.
 pub fn factor_limits_only_refuse()
     ensures ftran { (limit : Option ℕ) (m : ℕ) (pairs : List Pair) (v : List ℚ) →
         (ftran_run limit m pairs v ≡ ftran_run None m pairs v) ⊎ ((p : Past ℚ) × (ftran_run limit m pairs v ≡ Err p)) }

@@ -52,7 +52,7 @@ value_at m z s = if s.row then activity m z s.at else part z s.at
 abbrev pub Meets : Model → List ℚ → Side → Type 0
 Meets m z s = IsWithin s.upper (end_of s.upper (limits_at m s)) (value_at m z s)
 
--- a part for each column, and each of the sides is met
+-- the point z has a value for each column of the model, and meets each of the sides
 pub record MeetsAll (m : Model) (sides : List Side) (z : List ℚ) : Type 0 where
   pub one_each : length z ≡ width m
   pub met : All (Meets m z) sides

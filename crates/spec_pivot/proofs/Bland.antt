@@ -95,7 +95,8 @@ no_move : (way : Way) (s : Status) → CanMove way s → s ≡ bound_ahead way �
 no_move Up s c e = subst (CanMove Up) e c
 no_move Down s c e = subst (CanMove Down) e c
 
--- a column with the status of the bound ahead has that bound as its value
+-- Going up, the bound ahead of a column is its upper one, and else its lower one. A column whose status says that it is
+-- at the bound ahead has that bound as its value.
 stands_ahead : (way : Way) (b : Bounds) (k : ℕ) (v : ℚ) (s : Status) → s ≡ bound_ahead way →
     Stands s (b.lower k) (b.upper k) v → ahead way b k ≡ Some v
 stands_ahead Up b k v s e = subst (λ s. Stands s (b.lower k) (b.upper k) v) e

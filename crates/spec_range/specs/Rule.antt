@@ -165,7 +165,8 @@ side_ends limit b t s =
     if is_basic (status_at t s) then still_ends limit b (value_at t s) (lower_at t s) (upper_at t s)
     else (if is_there (lower_at t s) || is_there (upper_at t s) then nonbasic_ends limit b t s else Ok no_ends)
 
--- the value grows by the row's multiplier, with the sign of the sense
+-- The range of row i's right side: its ends, and the slope, by which the optimal value grows for each unit of the right
+-- side. The slope is the reduced cost of the row's logical column, negated where the sense is to maximize.
 unfoldable pub side_run : Option ℕ → Model → Tableau → ℕ → Run (Range ℚ)
 side_run limit m t i =
     side_ends limit (row m i).rhs t (t.cols + i) >>= λ e.

@@ -85,7 +85,8 @@ pub record BreaksLink {places : ℕ} {s : Streams} {exchanges : List Exchange} (
   pub asked : map asked_in exchanges ≡ ended_link_asks_of moves.read
   pub whole : moves.written ≡ link_out exchanges
 
--- what an end says
+-- What the end of a link tells of the bytes that were read: they ended, were cut off in a line, were more than the
+-- limit, or reading failed. A failed write, or a lack of memory, tells nothing.
 abbrev pub EndsLinkSo : {places : ℕ} {s : Streams} {exchanges : List Exchange} → LinkMoves places s exchanges →
     LinkEnd → Type 0
 EndsLinkSo moves end.Done = EndsLink moves Ended

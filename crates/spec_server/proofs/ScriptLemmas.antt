@@ -181,7 +181,8 @@ begun_numbered session Check h = h
 begun_numbered session (Plain asked) h = tt
 begun_numbered session (Bad fault) h = tt
 
--- where an addressed command is for a session of at most 64, what is pending behind it is so too
+-- where an addressed command is for a session of at most 64, the text that it begins, if any, is for a session of at
+-- most 64
 begun_by_numbered : (found : Option (Asked ExactCommand)) → IsKeptLine found → IsNumbered (begun_by found)
 begun_by_numbered None h = tt
 begun_by_numbered (Some addressed) h = begun_numbered addressed.session addressed.ask h.0

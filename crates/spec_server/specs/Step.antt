@@ -37,7 +37,7 @@ pub data Begun : Type 0 where
   Answers : (replied : ExactReply) → (next : State) → Begun
   Looks : (shape : Words) → Begun
 
--- the line of an answer
+-- the first line of the reply to a solve that ended so, by the session's budget
 abbrev pub answered : State → ExactSolveEnd → ExactReply
 answered old end = answer_of old.budget end
 

@@ -65,7 +65,7 @@ answered style lines m what written is out spells =
 
 -- ---- the line behind that of a smaller model
 
--- the line of a smaller model's size behind the word REDUCED, without its line feed
+-- the line that gives a smaller model's size: the word REDUCED, the rows and the columns, without the line feed
 size_line : ℕ → ℕ → List ℕ
 size_line rows columns = codes "REDUCED " ++ decimal rows ++ codes " " ++ decimal columns
 
