@@ -341,7 +341,8 @@ true_alike ws us (Claim k) a b t = let x = a.counted in let y = b.counted in ome
 true_alike ws us (Lost c) a b t = let x = a.counted in let y = b.counted in omega arith
 true_alike ws us (Done k xs) a b t = let x = a.dones k in let y = b.dones k in omega arith
 
--- of notes that lie between words which are alike, the newest is so of them
+-- where all moments that were added lie between two states of the board's words that are the same, the newest read is
+-- true of these words
 newest_is : (ws us : List ℕ) (r : RawRead) (rs : List RawRead) (more old : List Moment) → us ≡ ws →
     Each (IsBetween ws us) more → WereTrue (more ++ old) (r ∷ rs) → WereTrue old rs → IsTrueOf ws r
 newest_is ws us r rs [] old same between now was =

@@ -126,7 +126,7 @@ logged_are (m ∷ ms) (r ∷ rs) (l ∷ ls) h e =
     ap (λ (x : Logged). x ∷ map logged_of (marks ms rs ls)) (one_logged l r first)
     ∙ ap (λ xs. l ∷ xs) (logged_are ms rs ls h.1 rest)
 
--- a number stands in the marks of a pass as often as in its notes
+-- a note's number stands in the list that `marks` makes of a pass as often as in the pass's notes
 marked_are : (t : ℕ) (ms : List Moment) (rs : List RawRead) (ls : List Logged) → WereTrue ms rs → AreReads rs ls →
     marked t (marks ms rs ls) ≡ numbered t (notes ms rs)
 unfolding marks
@@ -163,7 +163,8 @@ below_first n (m ∷ ms) old [] ls e = tt
 below_first n (m ∷ ms) old (r ∷ rs) [] e = tt
 below_first n (m ∷ ms) old (r ∷ rs) (l ∷ ls) e = (e.0, below_first n ms old rs ls e.1)
 
--- where each moment comes after those before it, the numbers of the marks fall
+-- where each moment of a pass comes after those before it, the numbers in the list that `marks` makes fall, as the
+-- newest is first
 marks_fall : (ms : List Moment) (rs : List RawRead) (ls : List Logged) → ComeAfter ms [] → Falls (marks ms rs ls)
 unfolding marks
 marks_fall [] rs ls c = tt

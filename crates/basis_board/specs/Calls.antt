@@ -14,7 +14,7 @@ use Rattle.basis_board.specs.Board.{Each, noted, seeing, publishing, met}
 use Rattle.basis_board.specs.Rule.{OwnsBelow, Consistent}
 pub use Rattle.basis_board.specs.Rule.{CountTells}
 
--- what the pass of this seat knows
+-- the view of the pass that this seat makes: what it has read, seen and published
 abbrev pub known : Seat ℕ Sight → View
 known s = s.me.0.view
 

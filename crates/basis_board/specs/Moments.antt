@@ -76,7 +76,8 @@ pub record FinishesPlace (k : ℕ) (ws us : List ℕ) : Type 0 where
   pub after : done us k ≡ 1
   pub others : (j : ℕ) → j ≢ k → done us j ≡ done ws j
 
--- what befell the places when the read was noted: the words before, and after
+-- How a read or write changed the board's words: a claim claims its place, and a publication makes its place done. Any
+-- other one leaves them alike.
 abbrev pub Turns : RawRead → List ℕ → List ℕ → Type 0
 Turns (Claim k) ws us = ClaimsPlace k ws us
 Turns (Done k xs) ws us = FinishesPlace k ws us

@@ -88,7 +88,8 @@ pub(crate) fn exchange_reduced(state: &mut State, entering: usize, leaving: usiz
     put(&mut state.reduced, leaving, -step);
 }
 
-// Turns columns, and notes by row what that leaves for the basic ones.
+// Puts the columns at their other bounds. The change in each row that the basic columns have to make up for is added to
+// `by_row`.
 fn turn_all(state: &mut State, program: &Program, flips: &[usize]) -> Result<(), AllocError> {
     for k in flips {
         let before = at(&state.value, *k);
@@ -260,7 +261,8 @@ fn exchange_surely(
     Ok(DualStep::Done)
 }
 
-// One step.
+// One step of the dual method: takes a leaving column, chooses an entering one by the ratio test, and exchanges them.
+// It ends where each basic value is within its bounds, or no column may enter.
 fn dual_step(
     state: &mut State,
     program: &Program,

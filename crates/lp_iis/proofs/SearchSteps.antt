@@ -3,7 +3,8 @@
 -- `ahead_first`: before the first step no side is kept, all are ahead, and all together clash.
 -- `ahead_at`: the sides ahead from i on are the side that is read at i and those behind it.
 -- `begun`: where the model's cold solve ends infeasible, the search begins with its certificate.
--- `begun_else`: where the model's cold solve ends otherwise, the search ends as it does, and not infeasible.
+-- `begun_else`: where the search ends at once with the end of the model's cold solve, that end is one of a cold solve,
+--   and not infeasible.
 -- `certified_all`: the kept sides with an accepted certificate and their points are certified.
 -- `ahead_same`: a way with equal kept sides, points and clashing sides is still ahead.
 use Rattle.std.proofs.Common.{◌≡◌, ℕ, ◌+◌, ◌<◌, List, length, drop, [], ◌∷◌, ◌++◌, All, Some, Ok}

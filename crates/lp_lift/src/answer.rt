@@ -132,7 +132,8 @@ enum Step {
     Lost,
 }
 
-// The numbers of the structural columns: those of a solution, and the others where a column is not basic.
+// The values of the structural columns: a column of the kernel has the value that the lifted solution gives it, and any
+// other column has its value in `others`.
 fn point(
     alloc: Global,
     program: &Program<'_>,

@@ -116,7 +116,7 @@ abbrev pub verdict_said : text.Verdict → TextSaid
 verdict_said (text.Spelled m) = Ok m
 verdict_said (text.Refused n code) = Err (record { line = n; code = code })
 
--- what the judgement of a certificate's text says
+-- the judgement of a certificate's text as a result: the certificate that the lines spell, or the line that is refused
 abbrev pub judgement_said : certificate.Judgement → CertificateSaid
 judgement_said (certificate.Spelled raw) = Ok raw
 judgement_said (certificate.Refused n) = Err n

@@ -25,12 +25,13 @@ is_wide_in Fixed f = is_wide f
 abbrev pub wide_field : Style → Fields → Option (List ℕ)
 wide_field style fields = option_map (λ f. f.text) (find (is_wide_in style) fields)
 
--- the stop names the item that has no room; that there is no memory says nothing
+-- a stop for width gives the item that is too wide, and `wide` is that item; a stop for lack of memory gives none
 abbrev pub Names : Option (List ℕ) → WriteStop → Type 0
 Names wide (TooWide item) = wide ≡ Some item
 Names wide NoMemory = Unit {0}
 
--- all fields follow the line, or it stops at the first that has no room
+-- Writing the fields of a card adds all of them to the line. Or it stops: at the first field that is too wide for its
+-- place in the card, or for lack of memory.
 abbrev pub PutsFields : Style → Fields → List ℕ → List ℕ → Result ⊤ WriteStop → Type 0
 PutsFields style fields before after (Ok done) =
     (wide_field style fields ≡ None) × (after ≡ with_fields style before fields)

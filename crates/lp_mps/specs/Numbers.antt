@@ -58,7 +58,8 @@ place_by numbers s text t = do
   v ← number_in text
   put_if numbers s target v
 
--- a row's name and a number beside it
+-- the state after a row's name and the text of a number, which the row gets as an entry, a right side or a range; or
+-- what is wrong with them
 abbrev pub pair_by : Numbers → State → Name → List ℕ → Check State
 pair_by numbers s name text = need (place_of s name) code.UnknownRow >>= place_by numbers s text
 

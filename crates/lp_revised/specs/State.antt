@@ -28,7 +28,8 @@ state_of rows cols basic value status lower upper pairs replaced =
       replaced = replaced;
     }
 
--- as many of each as there are positions and columns, and as many places of the factors as positions
+-- Each position has a basic column, and each column has a status, a value and two bounds. The factors have as many
+-- places as there are positions. No more rows and columns are there than a model may have.
 pub record IsState (places : ℕ) (s : Revised) : Type 0 where
   pub few_rows : s.bare.rows ≤ row_limit
   pub few_columns : s.bare.cols ≤ column_limit

@@ -68,8 +68,8 @@ impl Factors {
         self.basic[place as usize]
     }
 
-    // Solves for the basis's columns: `v`, by rows, becomes the list z, by places, with
-    // basis * z = v. After a refusal `v` is open.
+    // Solves for the basis's columns: `v`, by rows, becomes the list z, by places, with basis * z = v. After a refusal
+    // `v` may hold any numbers.
     pub(crate) fn ftran(&self, v: &mut Fracs) -> Result<(), Past>
         requires { length v.old ≡ length self.now.basic }
         ensures run { GivesRun (ftran_run (Some number_limit) (length self.now.basic) self.now.pairs v.old) v.new result }
@@ -78,8 +78,8 @@ impl Factors {
         forward_all(&self.etas, v)
     }
 
-    // Solves for the basis's rows: `v`, by places, becomes the list y, by rows, with y * basis = v.
-    // After a refusal `v` is open.
+    // Solves for the basis's rows: `v`, by places, becomes the list y, by rows, with y * basis = v. After a refusal `v`
+    // may hold any numbers.
     pub(crate) fn btran(&self, v: &mut Fracs) -> Result<(), Past>
         requires { length v.old ≡ length self.now.basic }
         ensures run { GivesRun (btran_run (Some number_limit) (length self.now.basic) self.now.pairs v.old) v.new result }

@@ -26,7 +26,8 @@ status_in r k = get_or r.status.items k Basic
 abbrev pub basic_in : {T : Type 0} → RowTableau T → ℕ → ℕ
 basic_in r i = get_or r.basic.items i 0
 
--- what neither changes
+-- what neither a flip nor a pivot changes: the number of columns, the lower bounds, the fixed columns, and the
+-- denominator of the bounds
 pub record IsKept {T : Type 0} (r s : RowTableau T) : Type 0 where
   pub cols : s.cols ≡ r.cols
   pub lower : s.lower ≡ r.lower
@@ -46,7 +47,8 @@ pub record IsFlipped {T : Type 0} (value : T → ℕ) (j : ℕ) (r s : RowTablea
       directed (flip_way (status_in r j)) (or_zero (upper_in value r j) -ℚ or_zero (lower_in value r j))
   pub rows : AreMoved value (width r) j by r.rows.items s.rows.items
 
--- the upper bound b of column k after q leaves, where n columns are no artificials
+-- The upper bound of column k once column q has left the basis, where it was b before. An artificial column that leaves
+-- gets the upper bound 0. The artificial columns are those from number n on.
 abbrev pub left_upper : ℕ → ℕ → ℕ → Option ℚ → Option ℚ
 left_upper n q k b = if nat_le n q then (if nat_eq k q then Some 0ℚ else b) else b
 

@@ -5,7 +5,8 @@
 -- `owns_all`: a neat view owns as many places as it published.
 -- `all_published`: if a view owns just the places below n, it published n times.
 -- `look_rests`: a look publishes nothing, and leaves the publications in order.
--- `rests_own`: a view that published nothing since still owns as many places as it published.
+-- `rests_own`: a view that owns as many places as it published still does so later, where it published nothing in
+--   between.
 use Rattle.std.proofs.Common.{◌≡◌, ℕ, ◌+◌, ◌<◌, ◌≤◌, List, [], ◌∷◌, ◌++◌, length, get_or, refl, sym, ap, ap₂, ◌∙◌}
 use Rattle.std.proofs.Common.{subst, ⊎_elim, inl, inr, arith, length-append}
 use Rattle.std.proofs.lemmas.Bool.{cases_lt}

@@ -91,7 +91,7 @@ fn settled_at(
     })
 }
 
-// The exact end by what was found: an answer, or else open.
+// How an exact solve ends: with the answer that was found, or as open where none was.
 fn or_open(found: Option<ExactAnswer>) -> ExactEnd
     ensures { (m : model) (budget : ℕ) (starting : Option (List status)) → (IsUsual m → MayGiveUp m budget starting) →
         IfSome found (IsExactAnswer m) → IsExactEnd m budget starting result }

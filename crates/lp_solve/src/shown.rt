@@ -210,7 +210,7 @@ pub(crate) fn at_basis(
     }
 }
 
-// How many steps an answer may be from a basis of the model.
+// The most steps that a search for an answer may take from a basis of the model. A small model has more of them.
 fn most_steps(model: &Model) -> u32 {
     MOST_STEPS + MORE_STEPS / (model.cols() + model.rows()).max(1)
 }

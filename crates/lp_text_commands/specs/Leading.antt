@@ -10,7 +10,7 @@ abbrev pub step_by : {T S R : Type 0} → (T → S) → Step T R → said.Step S
 step_by stage_of (step.On next) = said.On (stage_of next)
 step_by stage_of (step.Says what) = said.Says what
 
--- what lines say after a stage
+-- the lines that follow a stage of the reading lead to this answer; it is none where more lines are needed
 abbrev pub says_by : {T S R : Type 0} → (T → S) → (S → Line (List ℕ) → said.Step S R) → T → List (Line (List ℕ)) →
     Option R → Type 0
 says_by stage_of advance stage lines answer = said.said_by advance (stage_of stage) lines ≡ answer

@@ -170,7 +170,7 @@ fn text(word: &[u8]) -> &str {
     }
 }
 
-// What a plain word of a command has to be.
+// The words of the message that tell what an argument of this kind has to be: an argument that is no option.
 fn wanted(plain: Plain) -> &'static str {
     match plain {
         Plain::Address => "ADDRESS: an IP address or a host, a colon and a port",

@@ -35,7 +35,7 @@ impl<F: Field> Drop for Active<F> {
     }
 }
 
-// Puts so many rows with no numbers.
+// Appends `len` empty rows to the list.
 fn put_rows<F: Field>(
     alloc: Global,
     rows: &mut Vec<Vec<Entry<F>>>,
