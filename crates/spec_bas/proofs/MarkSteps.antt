@@ -1,8 +1,11 @@
 -- What each step that goes on marks, and that a basis of the form stays one from line to line.
 --
--- `pair_taken`: a pair that is taken names a column and a row of the model without marks, and marks both.
--- `usual_taken`: a card LL that is taken names a column without a mark, and marks it as without a card.
--- `upper_taken`: a card UL that is taken names a column without a mark that has an upper bound, and marks it there.
+-- `pair_taken`: an accepted card XU or XL names a column and a row that have no status from a card yet, and gives each
+--   one.
+-- `usual_taken`: an accepted card LL names a column that has no status from a card yet, and gives it the one that it
+--   has without a card.
+-- `upper_taken`: an accepted card UL names a column with an upper bound and no status from a card yet, and puts it at
+--   that bound.
 use Rattle.std.proofs.Common.{◌≡◌, ℕ, ◌+◌, ◌||◌, Bool, true, false, not}
 use Rattle.std.proofs.Common.{List}
 use Rattle.std.proofs.Common.{Option, Some, None, is_some, Ok, Err, refl, sym, ap, ◌∙◌, subst, arith}

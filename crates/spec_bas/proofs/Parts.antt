@@ -16,11 +16,11 @@ use Rattle.spec_bas.proofs.Marks.{mark_same, mark_other}
 
 -- ---- marks
 
--- a column or row that was marked tests as marked
+-- a column or row that was given a status by a card tests as having one
 marked_same : (s : State) (k : ℕ) (status : Status) → k < length s.marks → is_marked (mark k status s) k ≡ true
 marked_same s k status h = ap is_some (get_or-set_same s.marks k (Some status) None h)
 
--- marking one column or row does not change whether another is marked
+-- giving one column or row a status by a card does not change whether another one has a status from a card
 pub marked_other : (s : State) (k i : ℕ) (status : Status) → i ≢ k → is_marked (mark k status s) i ≡ is_marked s i
 marked_other s k i status ne = ap is_some (get_or-set_other s.marks k i (Some status) None ne)
 

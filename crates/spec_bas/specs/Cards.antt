@@ -49,7 +49,7 @@ abbrev pub section_by : Option ExactReading → ExactReading
 section_by None = Wrong code.Section
 section_by (Some reading) = reading
 
--- by the first word
+-- what a section card of a basis file is by its first word: the card NAME, the card ENDATA, or a fault
 unfoldable pub section_reading : List (List ℕ) → ExactReading
 section_reading [] = Wrong code.Section
 section_reading (word ∷ more) = section_by (look_up word ((codes "NAME", Named) ∷ (codes "ENDATA", Ends) ∷ []))

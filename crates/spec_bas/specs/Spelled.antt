@@ -21,7 +21,7 @@ abbrev pub unless_skipped : ExactReading → List ExactReading
 unless_skipped Skipped = []
 unless_skipped reading = reading ∷ []
 
--- what the lines are that are neither comments nor blank
+-- what the lines of a basis file are read as, in order, without the comments and the blank lines
 abbrev pub readings_of : List (Line (List ℕ)) → List ExactReading
 readings_of lines = flat_map (λ line. unless_skipped (reading_of line)) lines
 

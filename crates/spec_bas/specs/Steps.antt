@@ -39,12 +39,12 @@ usual_status f k = if nat_lt k f.cols then lower_first f k else Basic
 
 -- ---- what was read so far
 
--- what the cards of a basis file have said so far
+-- what the cards of a basis file that were read give: whether there was a card, and the statuses that cards gave
 pub record State : Type 0 where
   pub begun : Bool  -- whether there was a card
   pub marks : List (Option Status)  -- of each structural and then each logical column, the status that a card gave it
 
--- the state before the first line: no card, and no marks
+-- the state before the first line of a basis file: no card was read, and no column has a status from a card
 abbrev pub start : Form → State
 start f = record { begun = false; marks = replicate (f.cols + f.rows) None }
 
@@ -71,7 +71,7 @@ marked_basis f s = made (f.cols + f.rows) (status_of f s)
 
 -- ---- checks: a value, or what is wrong
 
--- a value, or what is wrong
+-- a value, or the code of a basis file's fault
 abbrev pub Check : Type 0 → Type 0
 Check A = Result A BasCode
 
@@ -80,7 +80,7 @@ abbrev pub must : Bool → BasCode → Check ⊤
 must true code = Ok tt
 must false code = Err code
 
--- goes on with what is there
+-- the value that was found, or the given fault where there is none
 abbrev pub need : {A : Type 0} → Option A → BasCode → Check A
 need None code = Err code
 need (Some x) code = Ok x
@@ -91,7 +91,8 @@ need (Some x) code = Ok x
 abbrev pub named_step : State → Check State
 named_step s = must (not s.begun) code.Section >>= λ _. Ok (record s { begun = true })
 
--- a column of the model is basic, and a row stands so
+-- The state after a card XU or XL: the named column of the model is basic, and the named row gets a status. An unknown
+-- name is a fault, and so is a column or row that has a status from an earlier card.
 unfoldable pub pair_step : Model → Form → State → Name → Name → (ℕ → Status) → Check State
 pair_step m f s column row status =
     need (column_place m column) code.UnknownColumn >>= λ j.
@@ -114,7 +115,7 @@ usual_step m f s column =
     must (not (is_marked s j)) code.Repeated >>= λ _.
     Ok (mark j (lower_first f j) s)
 
--- the state after a data card, or what is wrong with it
+-- the state after a data card of a basis file, or the code of the card's fault
 abbrev pub card_step : Model → Form → State → ExactCard → Check State
 card_step m f s (Xu column row) = pair_step m f s column row (upper_first f)
 card_step m f s (Xl column row) = pair_step m f s column row (lower_first f)
@@ -126,7 +127,7 @@ pub data Progress : Type 0 where
   More : (state : State) → Progress
   Done : (basis : List Status) → Progress
 
--- what a line leads to, or what is wrong with it
+-- what a line of a basis file leads to: the progress of the reading, or the code of the line's fault
 abbrev pub Outcome : Type 0
 Outcome = Check Progress
 
@@ -134,7 +135,7 @@ Outcome = Check Progress
 abbrev pub more : Check State → Outcome
 more check = check >>= λ t. Ok (More t)
 
--- ENDATA ends the file
+-- what a line of a basis file leads to: ENDATA ends the file with its basis, and a data card changes the state
 abbrev pub on_reading : Model → Form → State → ExactReading → Outcome
 on_reading m f s Skipped = Ok (More s)
 on_reading m f s Named = more (named_step s)
@@ -142,7 +143,7 @@ on_reading m f s Ends = Ok (Done (marked_basis f s))
 on_reading m f s (Says card) = more (card_step m f s card)
 on_reading m f s (Wrong code) = Err code
 
--- what a line leads to from a state, or what is wrong with it
+-- what a line of a basis file leads to from a state: the progress of the reading, or the code of the line's fault
 unfoldable pub step : Model → Form → State → Line (List ℕ) → Outcome
 step m f s line = on_reading m f s (reading_of line)
 

@@ -24,11 +24,11 @@ is_at_upper AtLower = false
 is_at_upper AtUpper = true
 is_at_upper AtZero = false
 
--- those of the first n numbers that pass a test, in order
+-- the numbers below n that pass a test, in order
 abbrev pub chosen : ℕ → (ℕ → Bool) → List ℕ
 chosen n test = filter test (made n (λ k. k))
 
--- the model's basic columns
+-- the numbers of the model's columns that are basic in a basis, in order
 abbrev pub basic_columns : Form → List Status → List ℕ
 basic_columns f basis = chosen f.cols (λ j. is_basic (basis_at basis j))
 

@@ -132,7 +132,7 @@ basis_bits f basis c h =
 rows_in : (m n : ℕ) → n < 65536 → (65536 * m + n) / 65536 ≡ m
 rows_in m n h = omega (arith, h)
 
--- where n is below 65,536, the rest of 65,536 m + n by 65,536 is n
+-- where n is below 65,536, the remainder of 65,536 m + n by 65,536 is n
 cols_in : (m n : ℕ) → n < 65536 → (65536 * m + n) % 65536 ≡ n
 cols_in m n h = omega (arith, h)
 

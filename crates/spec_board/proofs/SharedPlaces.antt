@@ -1,7 +1,7 @@
 -- The list of places that are claimed, with one more behind it, with another place at a number, and after a read.
 --
 -- `place_more`: with one more place behind them, the places before have their numbers.
--- `place_last`: the place that is put behind n places has number n.
+-- `place_last`: a place that is appended to n places has number n.
 -- `some_same`: where `Some p` is `Some q`, p is q.
 -- `place_before`: a place of the longer list is one of the places before, or the new one.
 -- `length_with`: another place at a number leaves the number of places as it was.

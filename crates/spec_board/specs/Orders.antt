@@ -37,7 +37,8 @@ published_by other = []
 abbrev pub published_in : List ExactRead → List ℕ
 published_in reads = flat_map published_by reads
 
--- no count exceeds this number, and what is read as done is published in these reads, with those words
+-- A read of the board fits all reads: a count is at most `claimed`, and words that are seen in a place are words that
+-- one of the reads published there, all of them or those in front.
 abbrev pub IsBacked : List ExactRead → ℕ → ExactRead → Type 0
 IsBacked all claimed (Count c) = c ≤ claimed
 IsBacked all claimed (Lost c) = c ≤ claimed

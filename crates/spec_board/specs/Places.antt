@@ -23,7 +23,7 @@ with_place [] k new = []
 with_place (p ∷ ps) zero new = new ∷ ps
 with_place (p ∷ ps) (suc k) new = p ∷ with_place ps k new
 
--- what is read of a place: all its words, or only those in front, which are the shape
+-- a look-up sees all words of a place, or only those in front, which are the basis's shape
 abbrev pub IsShown : Words → Words → Type 0
 IsShown payload words = (words ≡ payload) ⊎ (words ≡ front payload)
 

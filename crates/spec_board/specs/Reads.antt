@@ -34,7 +34,7 @@ front words = take shape_words words
 abbrev pub has_shape : Words → Words → Bool
 has_shape shape words = same (front words) shape
 
--- what is read of a place that is done: all its words where they have the shape, and else those in front
+-- what a look-up for a shape reads of a published place: all words where they have the shape, and else those in front
 abbrev pub shown : Words → Words → Words
 shown shape words = if has_shape shape words then words else front words
 
@@ -70,8 +70,8 @@ pub record LookReads (shape : Words) (reads : List ExactRead) (found : Looked) :
 
 -- ---- puts
 
--- A put of words among `places` places. It claims one and writes it; or another session was quicker, and e are claimed;
--- or all are claimed.
+-- What publishing words among `places` places reads and writes. It claims a place and writes it; or another session was
+-- quicker, and e places are claimed; or all places are claimed.
 abbrev pub PutReads : ℕ → Words → Put → List ExactRead → Type 0
 PutReads places words (Published k) reads = (k < places) × (reads ≡ Count k ∷ Claim k ∷ Done k words ∷ [])
 PutReads places words (Raced e) reads = (c : ℕ) × (c < e) × (reads ≡ Count c ∷ Lost e ∷ [])

@@ -16,7 +16,7 @@ use Rattle.spec_simplex.specs.Eliminate.{basis_at, basics_below}
 
 -- ---- two bits for each column
 
--- which bounds there are
+-- the number for which bounds a column has: 0 for none, 1 for the lower, 2 for the upper, 3 for both
 abbrev pub bounds_code : Option ℚ → Option ℚ → ℕ
 bounds_code None None = 0
 bounds_code (Some l) None = 1
@@ -104,7 +104,7 @@ bounds_at words c = code_at 1 words c
 abbrev pub status_at : List ℕ → ℕ → Status
 status_at words c = status_of (code_at 25 words c)
 
--- the basis in words
+-- the statuses of all columns that packed words of a basis hold
 unfoldable pub unpacked : List ℕ → List Status
 unpacked words = made (columns_of words) (status_at words)
 

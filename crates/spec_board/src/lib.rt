@@ -47,7 +47,7 @@ pub fn words_give_the_basis()
         length basis ≡ f.cols + f.rows → unpacked (packed f basis) ≡ basis }
 {}
 
-/// They begin with the form's shape, and are well formed where the basis is one of the form.
+/// The words of a packed basis begin with the form's shape, and are well formed where the basis is one of the form.
 pub fn packed_words_are_well_formed()
     ensures front { (f : Form) (basis : List Status) → take 25 (packed f basis) ≡ shape_of f }
     ensures formed { (f : Form) (basis : List Status) → IsForm f → IsBasisOf f basis → IsWellFormed (packed f basis) }
@@ -59,7 +59,8 @@ pub fn words_of_one_shape_fit()
         take 25 words ≡ shape_of f → IsBasisOf f (unpacked words) }
 {}
 
-/// And they are the words of that basis: so a basis has its words, and no others.
+/// A basis of a form has exactly one list of words: well-formed words that begin with the form's shape are unpacked to
+/// a basis that is packed as the same words.
 pub fn bases_have_one_list_of_words()
     ensures { (f : Form) (words : List ℕ) → IsForm f → IsWellFormed words →
         take 25 words ≡ shape_of f → All (λ w. w < 2 ^ 64) words →

@@ -206,15 +206,15 @@ module _ (read : Reading ℚ) (text : ℚ → List ℕ) where
 
 -- ---- numbers of 127 bits
 
--- the text of a narrow number is a word that is read as the number
+-- the text of a number of at most 127 bits is a word that is read as the number
 narrow_back : (v : ℚ) → IsNarrow v → IsReadable narrow number_text v
 narrow_back v n = record { word = number_word v n.top n.bottom; back = ap value_in (read_written v n.top n.bottom) }
 
--- where all numbers of a list are narrow, the text of each is read as the number
+-- where all numbers of a list have at most 127 bits, the text of each is read as the number
 all_back : (xs : List ℚ) → All IsNarrow xs → All (IsReadable narrow number_text) xs
 all_back xs h = λ k d l. narrow_back (get_or xs k d) (h k d l)
 
--- where a certificate's numbers are narrow, the text of each is read as the number
+-- where a certificate's numbers have at most 127 bits, the text of each is read as the number
 numbers_back : (cert : Certificate (List ℚ)) → IsNarrowCertificate cert → AllNumbers (IsReadable narrow number_text) cert
 numbers_back (Optimal x y) n = (all_back x n.0, all_back y n.1)
 numbers_back (Infeasible y) n = all_back y n

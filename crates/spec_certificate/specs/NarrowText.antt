@@ -30,7 +30,7 @@ step = step_by narrow
 abbrev pub Leads : Option ExactRaw → List (Line (List ℕ)) → Option ExactRaw → Type 0
 Leads = LeadsBy narrow
 
--- what is found of a certificate's text with numbers of 127 bits
+-- the verdict on a certificate's text that is read with numbers of at most 127 bits
 abbrev pub Judgement : Type 0
 Judgement = JudgementOf ℚ
 

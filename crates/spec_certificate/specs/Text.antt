@@ -79,13 +79,15 @@ abbrev pub with_part : {F : Type 0} → RawOf F → Option (PartOf F) → Outcom
 with_part raw None = Unfit
 with_part raw (Some p) = More (record raw { parts = raw.parts ++ p ∷ [] })
 
--- what the words of a line lead to, after nothing or after a kind and its parts so far
+-- What the words of a line of a certificate lead to, where the lines before gave nothing, or the certificate's kind and
+-- some of its parts.
 abbrev pub words_step : {F : Type 0} → Reading F → Option (RawOf F) → List (List ℕ) → OutcomeOf F
 words_step read None words = opened (kind_of words)
 words_step read (Some raw) words =
     if is_end words then Done raw else with_part raw (part_by read raw.kind words)
 
--- what a line leads to, after nothing or after a kind and its parts so far
+-- What a line of a certificate leads to, where the lines before gave nothing, or the certificate's kind and some of its
+-- parts. A line that is too long is unfit, and so is the end of the input.
 unfoldable pub step_by : {F : Type 0} → Reading F → Option (RawOf F) → Line (List ℕ) → OutcomeOf F
 step_by read so_far (line.Text bytes) = words_step read so_far (words_of bytes)
 step_by read so_far (line.Long len) = Unfit

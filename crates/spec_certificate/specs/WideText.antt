@@ -4,7 +4,7 @@ use Rattle.spec_exact.specs.Fraction.{ℚ}
 use Rattle.spec_mps.specs.WideText.{WideReading, Is, Shape, Far, wide_of}
 use Rattle.spec_certificate.specs.Text.{Reading}
 
--- the number that a text is; one with too far an exponent is none
+-- the number that a text was read as; none where the text is no number, or its exponent is too large
 abbrev pub wide_in : WideReading → Option ℚ
 wide_in (Is value) = Some value
 wide_in Shape = None

@@ -29,7 +29,7 @@ known_ok : (o : Option ℕ) (name : Name) (k : ℕ) → known o name ≡ Ok k �
 known_ok None name k e = cc
 known_ok (Some j) name k e = cc
 
--- a certificate that fits a model still fits it with another number put in
+-- a certificate that fits a model still fits it after one of its numbers is replaced
 with_value_fits : (m : Model) (letter : Letter) (k : ℕ) (v : ℚ) (cert : Certificate (List ℚ)) → IsFor m cert →
     IsFor m (with_value letter k v cert)
 with_value_fits m X k v (Optimal x y) f = (length-set x k v ∙ f.0, f.1)
@@ -65,7 +65,7 @@ put_fits m before p cert next f e =
         subst (IsFor m) (ok_same (with_value p.letter k p.value cert) next h)
         (with_value_fits m p.letter k p.value cert f)
 
--- a certificate that fits a model still fits it with all its parts put in
+-- a certificate that fits a model still fits it after the numbers that all parts name are set
 all_fit : (m : Model) (before parts : List ExactPart) (cert last : Certificate (List ℚ)) → IsFor m cert →
     put_all m before parts cert ≡ Ok last → IsFor m last
 all_fit m before [] cert last f e = subst (IsFor m) (ok_same cert last e) f

@@ -33,7 +33,7 @@ weighed_at_all n d o b s e = subst (λ z. weighed_at n None d z s ≡ Ok (s +ℚ
 nothing : (s d : ℚ) → ◌≡◌ {A = Run ℚ} (Ok s) (Ok (s +ℚ d *ℚ 0ℚ))
 nothing s d = ap Ok (sym (+ℚ_zero s) ∙ ap (λ z. s +ℚ z) (sym (*ℚ_zero d)))
 
--- where the bound that d asks for is given, weighing without a limit on numbers adds d times the bound
+-- where the limit that goes with the sign of d is there, weighing without a limit on numbers adds d times that limit
 weighed_all : (n : ℕ) (l : Limits) (d s : ℚ) → HasLimit l d → weighed n None l d s ≡ Ok (s +ℚ d *ℚ asked l d)
 weighed_all n l d s h = by (lt_ℚ 0ℚ d) (lt_ℚ d 0ℚ) refl refl
   where
@@ -44,7 +44,7 @@ weighed_all n l d s h = by (lt_ℚ 0ℚ d) (lt_ℚ d 0ℚ) refl refl
     by false true p q = let w = h.below (lt_if d 0ℚ q) in weighed_at_all n d l.upper w.0 s w.1
     by false false p q = nothing s d
 
--- where row i has the limit that its multiplier asks for, the run adds the multiplier times that limit
+-- where row i has the limit that goes with its multiplier's sign, the run without a limit on numbers adds their product
 row_all : (m : Model) (y : List ℚ) (i : ℕ) (s : ℚ) → HasLimit (limits m i) (part y i) →
     row_asks_run None m y i s ≡ Ok (s +ℚ part y i *ℚ asked (limits m i) (part y i))
 row_all m y i s h = by (lt_ℚ 0ℚ d) (lt_ℚ d 0ℚ) refl refl

@@ -39,21 +39,21 @@ weighed_at_ok n limit d (Some b) s u e = (b, refl, plus_ok limit d b s u e)
 
 -- ---- with a multiplier above 0, with one below 0, and with none
 
--- where d is above 0, adding d times the lower limit has weighed the limit that d asks for
+-- for d above 0, s plus d times the lower limit is s with the limits weighed by d
 above_weighed : (l : Limits) (d s u b : ℚ) → 0ℚ <ℚ d → l.lower ≡ Some b → u ≡ s +ℚ d *ℚ b → Weighed l d s u
 above_weighed l d s u b p e h = record {
   there = record { above = λ _. (b, e); below = λ k. clash_ℚ 0ℚ d p (<ℚ-le d 0ℚ k) };
   sum = h ∙ ap (λ z. s +ℚ d *ℚ z) (sym (rw (lt_test 0ℚ d p) (ap or_zero e)));
 }
 
--- where d is below 0, adding d times the upper limit has weighed the limit that d asks for
+-- for d below 0, s plus d times the upper limit is s with the limits weighed by d
 below_weighed : (l : Limits) (d s u b : ℚ) → d <ℚ 0ℚ → l.upper ≡ Some b → u ≡ s +ℚ d *ℚ b → Weighed l d s u
 below_weighed l d s u b p e h = record {
   there = record { above = λ k. clash_ℚ 0ℚ d k (<ℚ-le d 0ℚ p); below = λ _. (b, e) };
   sum = h ∙ ap (λ z. s +ℚ d *ℚ z) (sym (rw (not_lt_test 0ℚ d (<ℚ-le d 0ℚ p), lt_test d 0ℚ p) (ap or_zero e)));
 }
 
--- where d is neither above nor below 0, adding nothing has weighed what d asks for
+-- for d = 0, s itself is s with the limits weighed by d
 none_weighed : (l : Limits) (d s u : ℚ) → lt_ℚ 0ℚ d ≡ false → lt_ℚ d 0ℚ ≡ false → s ≡ u → Weighed l d s u
 none_weighed l d s u p q h = record {
   there = record { above = λ k. clash_ℚ 0ℚ d k (le_if_not 0ℚ d p); below = λ k. clash_ℚ d 0ℚ k (le_if_not d 0ℚ q) };
@@ -62,7 +62,7 @@ none_weighed l d s u p q h = record {
 
 -- ---- the limit that a row's multiplier asks for
 
--- where the run of row i gives a sum, it has weighed the limit that the row's multiplier asks for
+-- where the run of row i gives a sum, the row's multiplier times the limit that goes with its sign was added
 row_ok : (limit : Option ℕ) (m : Model) (y : List ℚ) (i : ℕ) (s u : ℚ) → row_asks_run limit m y i s ≡ Ok u →
     Weighed (limits m i) (part y i) s u
 row_ok limit m y i s u e = by (lt_ℚ 0ℚ d) (lt_ℚ d 0ℚ) refl refl e
@@ -88,7 +88,7 @@ row_ok limit m y i s u e = by (lt_ℚ 0ℚ d) (lt_ℚ d 0ℚ) refl refl e
         below_weighed (limits m i) d s u w.0 (lt_if d 0ℚ q) (sym (upper_ok limit (row m i) a.0 a.1) ∙ w.1) w.2
     by false false p q h = none_weighed (limits m i) d s u p q (ok_same s u h)
 
--- where the run of weighing limits by d gives a sum, it has weighed the limit that d asks for
+-- where the run of weighing limits by d gives a sum, d times the limit that goes with the sign of d was added
 weighed_ok : (n : ℕ) (limit : Option ℕ) (l : Limits) (d s u : ℚ) → weighed n limit l d s ≡ Ok u → Weighed l d s u
 weighed_ok n limit l d s u e = by (lt_ℚ 0ℚ d) (lt_ℚ d 0ℚ) refl refl e
   where
@@ -100,7 +100,8 @@ weighed_ok n limit l d s u e = by (lt_ℚ 0ℚ d) (lt_ℚ d 0ℚ) refl refl e
         let w = weighed_at_ok n limit d l.upper s u h in below_weighed l d s u w.0 (lt_if d 0ℚ q) w.1 w.2
     by false false p q h = none_weighed l d s u p q (ok_same s u h)
 
--- where the run of column j gives a sum, it has weighed the bound that the multipliers' part asks for
+-- where the run of column j gives a sum, the multipliers' part of the column times the bound that goes with the part's
+-- sign was added
 column_ok : (limit : Option ℕ) (m : Model) (y : List ℚ) (j : ℕ) (s u : ℚ) → column_gives_run limit m y j s ≡ Ok u →
     Weighed (turned_limits (bounds m j)) (priced m y j) s u
 column_ok limit m y j s u e =

@@ -28,7 +28,7 @@ reduced_all m y j =
     ∙ ap (λ s. Ok (signed m.sense (cost m j) +ℚ s))
     (sym (neg-sum_below (height m) (λ i. part y i *ℚ coefficient m i j)))
 
--- where column j stands at the bound that its reduced cost asks for, the run accepts the column
+-- where column j is at the bound that goes with its reduced cost's sign, the run accepts the column
 column_tight_all : (m : Model) (x y : List ℚ) (j : ℕ) → IsTight (bounds m j) (reduced m y j) (part x j) →
     column_tight_run None m x y j ≡ Ok tt
 column_tight_all m x y j t =
@@ -44,7 +44,7 @@ stands_all m x i run o e s =
     then_ok (activity_run None m x i) (activity m x i) _ tt (activity_all m x i)
     (then_ok run o (λ l. need 4 (stands_at l (activity m x i))) tt e (need_true 4 _ (stands_test o (activity m x i) s)))
 
--- where row i stands at the limit that its multiplier asks for, the run accepts the row
+-- where the activity of row i is at the limit that goes with its multiplier's sign, the run accepts the row
 row_tight_all : (m : Model) (x y : List ℚ) (i : ℕ) → IsTight (limits m i) (part y i) (activity m x i) →
     row_tight_run None m x y i ≡ Ok tt
 row_tight_all m x y i t = by (lt_ℚ 0ℚ d) (lt_ℚ d 0ℚ) refl refl

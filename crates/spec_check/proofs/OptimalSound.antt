@@ -31,7 +31,7 @@ reduced_ok limit m y j d e =
     (λ k u w p h. less_ok limit (part y k) (coefficient m k j) u w h) d e
     ∙ ap (λ s. signed m.sense (cost m j) +ℚ s) (sym (neg-sum_below (height m) (λ i. part y i *ℚ coefficient m i j)))
 
--- where the run accepts column j, the column stands at the bound that its reduced cost asks for
+-- where the run accepts column j, the column is at the bound that goes with its reduced cost's sign
 column_tight_ok : (limit : Option ℕ) (m : Model) (x y : List ℚ) (j : ℕ) → column_tight_run limit m x y j ≡ Ok tt →
     IsTight (bounds m j) (reduced m y j) (part x j)
 column_tight_ok limit m x y j e =
@@ -48,7 +48,7 @@ stands_ok limit m x i run o g e =
     let b = after_ok run (λ l. need 4 (stands_at l a.0)) tt a.2 in
     sym (g b.0 b.1) ∙ stands_from b.0 a.0 (need_ok 4 _ tt b.2) ∙ ap Some (activity_ok limit m x i a.0 a.1)
 
--- where the run accepts row i, the row stands at the limit that its multiplier asks for
+-- where the run accepts row i, the row's activity is at the limit that goes with its multiplier's sign
 row_tight_ok : (limit : Option ℕ) (m : Model) (x y : List ℚ) (i : ℕ) → row_tight_run limit m x y i ≡ Ok tt →
     IsTight (limits m i) (part y i) (activity m x i)
 row_tight_ok limit m x y i e = by (lt_ℚ 0ℚ d) (lt_ℚ d 0ℚ) refl refl e

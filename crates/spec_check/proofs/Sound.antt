@@ -2,10 +2,10 @@
 --
 -- `signed-sum_below`: the sum of signed costs times values is the signed sum of costs times values.
 -- `optimal_holds`: a feasible point with multipliers that are complementary to it is optimal.
--- `asked_above`: where a multiplier above 0 has its limit, the limit that it asks for is the lower one.
--- `asked_below`: where a multiplier below 0 has its limit, the limit that it asks for is the upper one.
--- `tight_has`: where a value is at the limit that a multiplier asks for, the limit is there.
--- `asked_weighs`: a multiplier times the limit that it asks for is the multiplier times a value at that limit.
+-- `asked_above`: where a multiplier above 0 has its limit, `asked` is the lower limit.
+-- `asked_below`: where a multiplier below 0 has its limit, `asked` is the upper limit.
+-- `tight_has`: where a value is at the limit that goes with a multiplier's sign, that limit is there.
+-- `asked_weighs`: a multiplier times the limit that goes with its sign is the multiplier times any value at that limit.
 -- `checks_hold`: what a certificate shows is true where the conditions hold.
 use Rattle.std.proofs.Common.{◌≡◌, ℕ, zero, suc, List, Option, Some, IfSome, refl, sym, ap, ◌∙◌, subst, subst₂, Bool}
 use Rattle.std.proofs.Common.{true, false, cond}

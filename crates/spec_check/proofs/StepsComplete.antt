@@ -15,7 +15,7 @@
 -- `upper_all`: the upper limit of a row comes out exact without a limit of numbers.
 -- `ordered`: a comparison without a limit succeeds with the order.
 -- `stands_test`: the test that a limit is v passes where it is v.
--- `tight_test`: the test that a value is at the limit a multiplier asks for passes where it is.
+-- `tight_test`: where a value is at the limit that goes with a multiplier's sign, `is_tight` is true.
 -- `columns_all`: condition 1, on the columns' bounds, succeeds at a feasible point without a limit.
 -- `activity_all`: the activity of a row comes out exact without a limit.
 -- `rows_all`: condition 2, on the rows' limits, succeeds at a feasible point without a limit.
@@ -120,14 +120,14 @@ not_greater_test Less v k e h = refl
 not_greater_test Equal v k e h = refl
 not_greater_test Greater v k e h = clash_ℚ k v ((order_greater v k).0 e) h
 
--- where v is at least a bound, if one is given, the run without a limit finds it so
+-- where v is at least the lower limit, or there is none, the run without a limit on numbers goes on
 least_all : (n : ℕ) (o : Option ℚ) (v : ℚ) → IfSome o (λ k. k ≤ℚ v) → at_least n None o v ≡ Ok tt
 least_all n None v h = refl
 least_all n (Some k) v h =
     then_ok (step Cmp v k (compare None v k)) (order v k) (λ o. need n (not (is_lt o))) tt
     (ordered v k) (need_true n _ (not_less_test (order v k) v k refl h))
 
--- where v is at most a bound, if one is given, the run without a limit finds it so
+-- where v is at most the upper limit, or there is none, the run without a limit on numbers goes on
 most_all : (n : ℕ) (o : Option ℚ) (v : ℚ) → IfSome o (λ k. v ≤ℚ k) → at_most n None o v ≡ Ok tt
 most_all n None v h = refl
 most_all n (Some k) v h =

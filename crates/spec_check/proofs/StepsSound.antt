@@ -21,7 +21,7 @@
 -- `at_least_ok`: where the condition of a lower limit succeeds, the limit is at most the value, or absent.
 -- `at_most_ok`: where the condition of an upper limit succeeds, the value is at most the limit, or it is absent.
 -- `stands_from`: where the test that a limit is v passes, it is v.
--- `tight_from`: where the test passes, the value is at the limit that the multiplier asks for.
+-- `tight_from`: where `is_tight` is true, the value is at the limit that goes with the multiplier's sign.
 -- `activity_ok`: the activity of a row that comes out is the exact one.
 -- `feasible_ok`: a point that conditions 1 and 2 accept, with a value for each column, is feasible.
 use Rattle.std.proofs.Common.{◌≡◌, ℕ, zero, suc, ◌<◌, List, length, Option, Some, None}

@@ -48,7 +48,8 @@ abbrev pub or_zero : Option ℚ → ℚ
 or_zero None = 0ℚ
 or_zero (Some b) = b
 
--- the limit that the multiplier d asks for, or 0 where it asks for none
+-- the limit that goes with the sign of the multiplier d: the lower one for d above 0, the upper one for d below 0, and
+-- 0 for d = 0
 abbrev pub asked : Limits → ℚ → ℚ
 asked l d = cond (lt_ℚ 0ℚ d) (or_zero l.lower) (cond (lt_ℚ d 0ℚ) (or_zero l.upper) 0ℚ)
 
@@ -64,7 +65,7 @@ rows_ask m y = sum_below (height m) (λ i. part y i *ℚ asked (limits m i) (par
 abbrev pub columns_give : Model → List ℚ → ℚ
 columns_give m y = sum_below (width m) (λ j. priced m y j *ℚ asked (turned_limits (bounds m j)) (priced m y j))
 
--- multipliers with which the bounds give less than the rows ask (Farkas)
+-- Farkas multipliers: each has the limit that goes with its sign, and the columns give less than the rows ask for
 pub record ChecksInfeasible (m : Model) (y : List ℚ) : Type 0 where
   pub rows : (i : ℕ) → i < height m → HasLimit (limits m i) (part y i)
   pub columns : (j : ℕ) → j < width m → HasLimit (turned_limits (bounds m j)) (priced m y j)

@@ -30,7 +30,7 @@ Run A = Result A (CheckStop ℚ)
 abbrev pub step : {A : Type 0} → Op → ℚ → ℚ → Option A → Run A
 step op v w answer = refused_as stop.Past (told op v w answer)
 
--- condition n asks that the test holds
+-- the run goes on where the test holds; else it stops with n, the number of the condition that fails
 abbrev pub need : ℕ → Bool → Run ⊤
 need n true = Ok tt
 need n false = Err (stop.No n)
@@ -63,12 +63,12 @@ upper_run limit r = refused_as stop.Past (model.upper_run limit r)
 
 -- ---- tests
 
--- condition n asks that v is at least a lower limit
+-- the run goes on where v is at least the lower limit, if there is one; else it stops with the number n of a condition
 abbrev pub at_least : ℕ → Option ℕ → Option ℚ → ℚ → Run ⊤
 at_least n limit None v = Ok tt
 at_least n limit (Some k) v = step Cmp v k (compare limit v k) >>= λ o. need n (not (is_lt o))
 
--- condition n asks that v is at most an upper limit
+-- the run goes on where v is at most the upper limit, if there is one; else it stops with the number n of a condition
 abbrev pub at_most : ℕ → Option ℕ → Option ℚ → ℚ → Run ⊤
 at_most n limit None v = Ok tt
 at_most n limit (Some k) v = step Cmp v k (compare limit v k) >>= λ o. need n (not (is_gt o))
@@ -78,7 +78,7 @@ abbrev pub stands_at : Option ℚ → ℚ → Bool
 stands_at None v = false
 stands_at (Some k) v = eq_ℚ k v
 
--- the value v is at the limit that the multiplier d asks for
+-- whether v is at the lower limit for a multiplier d above 0, and at the upper limit for d below 0; true for d = 0
 abbrev pub is_tight : Limits → ℚ → ℚ → Bool
 is_tight l d v = cond (lt_ℚ 0ℚ d) (stands_at l.lower v) (cond (lt_ℚ d 0ℚ) (stands_at l.upper v) true)
 
@@ -115,12 +115,13 @@ abbrev pub reduced_run : Option ℕ → Model → List ℚ → ℕ → Run ℚ
 reduced_run limit m y j =
     steps (height m) (λ i d. less_product limit (part y i) (coefficient m i j) d) (signed m.sense (cost m j))
 
--- condition 3 of column j: its value is at the bound that its reduced cost asks for
+-- condition 3 of column j: its value is at its lower bound for a reduced cost above 0, at its upper bound for one below
+-- 0
 abbrev pub column_tight_run : Option ℕ → Model → List ℚ → List ℚ → ℕ → Run ⊤
 column_tight_run limit m x y j = reduced_run limit m y j >>= λ d. need 3 (is_tight (bounds m j) d (part x j))
 
--- Condition 4 of row i: its activity is at the limit that its multiplier asks for. Activity and limit are computed
--- again.
+-- Condition 4 of row i: its activity is at its lower limit for a multiplier above 0, and at its upper limit for one
+-- below 0. Activity and limit are computed again.
 abbrev pub row_tight_run : Option ℕ → Model → List ℚ → List ℚ → ℕ → Run ⊤
 row_tight_run limit m x y i =
     cond (lt_ℚ 0ℚ (part y i))
@@ -147,18 +148,20 @@ optimal_run limit m x y =
 
 -- ---- rows that no point satisfies together
 
--- s + d * b for a limit b, which condition n asks to be there
+-- s + d * b for a limit b; where the limit is absent, the run stops with the number n of a condition
 abbrev pub weighed_at : ℕ → Option ℕ → ℚ → Option ℚ → ℚ → Run ℚ
 weighed_at n limit d None s = Err (stop.No n)
 weighed_at n limit d (Some b) s = plus_product limit d b s
 
--- s + y_i * b, where b is the limit of row i that its multiplier y_i asks for
+-- s + y_i * b, where b is the lower limit of row i for a multiplier y_i above 0, and the upper limit for y_i below 0; s
+-- for y_i = 0
 abbrev pub row_asks_run : Option ℕ → Model → List ℚ → ℕ → ℚ → Run ℚ
 row_asks_run limit m y i s =
     cond (lt_ℚ 0ℚ (part y i)) (lower_run limit (row m i) >>= λ l. weighed_at 1 limit (part y i) l s)
     (cond (lt_ℚ (part y i) 0ℚ) (upper_run limit (row m i) >>= λ u. weighed_at 1 limit (part y i) u s) (Ok s))
 
--- s + d * b for the limit b that d asks for, which condition n asks to be there
+-- s + d * b, where b is the lower limit for d above 0 and the upper limit for d below 0; s for d = 0. Where the limit
+-- is absent, the run stops with the number n of a condition.
 abbrev pub weighed : ℕ → Option ℕ → Limits → ℚ → ℚ → Run ℚ
 weighed n limit l d s =
     cond (lt_ℚ 0ℚ d) (weighed_at n limit d l.lower s) (cond (lt_ℚ d 0ℚ) (weighed_at n limit d l.upper s) (Ok s))
@@ -245,6 +248,6 @@ verdict_of (Ok known) = verdict.Yes known
 verdict_of (Err (stop.No n)) = verdict.No n
 verdict_of (Err (stop.Past p)) = verdict.Past p
 
--- both runs end alike, or an operation of the first is refused
+-- two runs end alike, or the first one ends with a refused operation
 unfoldable pub Agrees : {A : Type 0} → Run A → Run A → Type 0
 Agrees o u = (o ≡ u) ⊎ ((p : Past ℚ) × (o ≡ Err (stop.Past p)))

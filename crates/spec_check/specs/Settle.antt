@@ -80,10 +80,10 @@ abbrev pub put_all : {F : Type 0} → Model → List (PartOf F) → List (PartOf
 put_all m before [] cert = Ok cert
 put_all m before (p ∷ parts) cert = put m before p cert >>= λ next. put_all m (before ++ p ∷ []) parts next
 
--- the certificate of these parts, in which what is not named is v; or the first name that does not fit
+-- the certificate of these parts, where a number that no part names is v; or the first name that does not fit the model
 unfoldable pub certificate_by : {F : Type 0} → F → Model → RawOf F → Settled (Certificate (List F))
 certificate_by v m raw = blank v m raw.kind >>= λ cert. put_all m [] raw.parts cert
 
--- the certificate of these parts, in which what is not named is 0
+-- the certificate of these parts, where a number that no part names is 0; or the first name that does not fit the model
 abbrev pub certificate_for : Model → ExactRaw → Settled (Certificate (List ℚ))
 certificate_for m raw = certificate_by 0ℚ m raw

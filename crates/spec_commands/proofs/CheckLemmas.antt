@@ -6,7 +6,7 @@ use Rattle.spec_certificate.specs.Text.{step_by}
 use Rattle.spec_server.specs.Said.{On}
 use Rattle.spec_commands.specs.CheckOut.{Stage, InText, InCertificate, check_step}
 
--- at the end of the input a check does not go on to another stage
+-- at the end of the input `check` says something, in the text as well as in the certificate
 pub end_says : (stage next : Stage) → check_step stage End ≡ On next → ⊥
 unfolding check_step text.step step_by
 end_says (InText style s n) next e = cc

@@ -13,7 +13,8 @@ use Rattle.spec_commands.specs.Draws.{next}
 use Rattle.spec_commands.specs.Generated.{number_from, has_entry, at_row, entry, entries}
 use Rattle.spec_commands.proofs.GeneratedNumbers.{number_from_narrow, number_from_not_zero}
 
--- where entries are in rows below n, in order and none 0, they are so with one in row n or without it
+-- entries in rows below n, in order and none of them 0, stay so in n + 1 rows, also with a nonzero number in row n
+-- added
 more_entries : (b : Bool) (n : ℕ) (q : ℚ) (es : List (ℕ × ℚ)) → q ≢ 0ℚ → AreEntries n es →
     AreEntries (suc n) (es ++ cond b ((n, q) ∷ []) [])
 more_entries false n q es h k =

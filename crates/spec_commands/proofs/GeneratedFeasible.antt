@@ -92,7 +92,7 @@ zero_feasible seed rows columns =
 
 -- ---- an upper limit of the values
 
--- whole numbers that are in order are so as fractions
+-- where a is at most b, the fraction a / 1 is at most the fraction b / 1
 whole_mono : (a b : ℕ) → a ≤ b → whole (pos a) ≤ℚ whole (pos b)
 unfolding whole
 whole_mono a b h = record { at_most = omega (arith, ints) }

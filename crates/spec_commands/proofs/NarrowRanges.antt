@@ -88,21 +88,21 @@ lesser_narrow new (Some old) x h n k =
     by Equal = k
     by Greater = k
 
--- ends with one more lower end have at most 127 bits, where this end and the others have
+-- where v and a range's ends have at most 127 bits, so do the ends with v as one more lower end
 at_least_narrow : (v : ℚ) (e x : Ends ℚ) → at_least limit v e ≡ Ok x → IsNarrow v → NarrowEnds e → NarrowEnds x
 at_least_narrow v e x h n k =
     let o = then_ok (greater_run limit v e.low) (λ low. Ok (record { low = Some low; high = e.high })) x h in
     same_narrow (record { low = Some o.0; high = e.high }) x o.2
     (record { low = greater_narrow v e.low o.0 o.1 n k.low; high = k.high })
 
--- ends with one more upper end have at most 127 bits, where this end and the others have
+-- where v and a range's ends have at most 127 bits, so do the ends with v as one more upper end
 at_most_narrow : (v : ℚ) (e x : Ends ℚ) → at_most limit v e ≡ Ok x → IsNarrow v → NarrowEnds e → NarrowEnds x
 at_most_narrow v e x h n k =
     let o = then_ok (lesser_run limit v e.high) (λ high. Ok (record { low = e.low; high = Some high })) x h in
     same_narrow (record { low = e.low; high = Some o.0 }) x o.2
     (record { low = k.low; high = lesser_narrow v e.high o.0 o.1 n k.high })
 
--- ends with one more end of either side have at most 127 bits, where this end and the others have
+-- where v and a range's ends have at most 127 bits, so do the ends with v as one more end of either side
 at_side_narrow : (upper : Bool) (v : ℚ) (e x : Ends ℚ) → at_side limit upper v e ≡ Ok x → IsNarrow v →
     NarrowEnds e → NarrowEnds x
 at_side_narrow true v e x h n k = at_most_narrow v e x h n k
@@ -110,7 +110,7 @@ at_side_narrow false v e x h n k = at_least_narrow v e x h n k
 
 -- ---- a cost
 
--- ends with the one that a column's status gives have at most 127 bits, where the number and the others have
+-- where v and a range's ends have at most 127 bits, so do the ends with v as the end that a column's status gives
 ends_by_narrow : (status : Status) (falls : Bool) (v : ℚ) (e x : Ends ℚ) → ends_by limit status falls v e ≡ Ok x →
     IsNarrow v → NarrowEnds e → NarrowEnds x
 ends_by_narrow Basic falls v e x h n k = same_narrow e x h k
@@ -199,7 +199,7 @@ still_narrow b v lower upper x h =
     same_narrow (record { low = low.0; high = high.0 }) x low.2
     (record { low = shifted_narrow b v upper low.0 low.1; high = shifted_narrow b v lower high.0 high.1 })
 
--- ends with the one at which a basic column comes to a bound have at most 127 bits, where the others have
+-- where a range's ends have at most 127 bits, so do the ends with that at which a basic column comes to a bound
 bound_narrow : (b v a : ℚ) (bound : Option ℚ) (upper : Bool) (e x : Ends ℚ) →
     bound_ends limit b v a bound upper e ≡ Ok x → NarrowEnds e → NarrowEnds x
 bound_narrow b v a None upper e x h n = same_narrow e x h n
@@ -210,7 +210,7 @@ bound_narrow b v a (Some u) upper e x h n =
     let y = then_ok (sum_run limit b q.0) (λ y. at_side limit upper y e) x q.2 in
     at_side_narrow upper y.0 e x y.2 (sum_narrow b q.0 y.0 y.1) n
 
--- ends with those at which a basic column comes to its bounds have at most 127 bits, where the others have
+-- where a range's ends have at most 127 bits, so do the ends with those at which a basic column comes to its bounds
 carried_narrow : (b v a : ℚ) (lower upper : Option ℚ) (e x : Ends ℚ) →
     carried_ends limit b v a lower upper e ≡ Ok x → NarrowEnds e → NarrowEnds x
 carried_narrow b v a lower upper e x h n =

@@ -52,7 +52,7 @@ card_ends s fields m h =
     let b = must_ok (may_follow s.seen a.0 && not (has_begun s.seen a.0)) code.SectionOrder _ (Done m) a.2 in
     a.1 ∙ ap Some (begins_end s a.0 (text_at 2 fields) m b.1)
 
--- what is read of a line that ends a text is the section card of the end
+-- where the text of a model is complete after a card, the card is ENDATA
 reading_ends : (limits : SizeLimits) (style : Style) (s : State) (reading : CardReading) (m : Model) →
     on_reading limits style s reading ≡ Ok (Done m) → IsEndCard reading
 reading_ends limits style s (Is card.Skip) m h = absurd (let z : ◌≡◌ {A = Outcome} (Ok (More s)) (Ok (Done m)) = h in cc)

@@ -36,7 +36,7 @@ use Rattle.spec_server.proofs.Truth.{checked}
 abbrev pub IsPast : Verdict ℚ → Type 0
 IsPast v = (p : Past ℚ) × (v ≡ verdict.Past p)
 
--- replies that are the same as what is said are the same
+-- two replies are equal where they are equal as results that are there
 told : (a b : ExactReply) → Some a ≡ Some b → a ≡ b
 told a b e = cc
 
@@ -70,7 +70,7 @@ abbrev Keeps : List (Line (List ℕ)) → Stage → Verdict ℚ → Type 0
 Keeps lines stage v =
     says lines stage ≡ Some (reply.Checked v) → (wide_says lines stage ≡ Some (reply.Checked v)) ⊎ IsPast v
 
--- where a verdict is said at a certificate's end, it is so with wide numbers, or the verdict is PAST
+-- where `check` says a verdict at a certificate's end, `check --wide` says the same one, or the verdict is PAST
 ended : (m : Model) (answer : Settled (Certificate (List ℚ))) (v : Verdict ℚ) →
     Some (verdict_on m answer) ≡ Some (reply.Checked v) →
     (Some (wide_verdict_on m answer) ≡ Some (reply.Checked v)) ⊎ IsPast v
@@ -81,7 +81,8 @@ ended m answer v e = by (same_verdict m answer v (told _ _ e))
     by (inl same) = inl (ap Some same)
     by (inr past) = inr past
 
--- where a verdict is said from a line of a certificate on, it is so with wide numbers, or the verdict is PAST
+-- where `check` says a verdict from a line of a certificate on, `check --wide` does, or it is PAST, if so from the next
+-- line on
 behind : (m : Model) (n : ℕ) (lines : List (Line (List ℕ))) (v : Verdict ℚ) →
     ((raw : ExactRaw) → Keeps lines (InCertificate m (Some raw) n) v) → (o : Outcome) →
     follow (behind_certificate m n o) (says lines) ≡ Some (reply.Checked v) →
@@ -95,7 +96,7 @@ refused : (n : ℕ) (v : Verdict ℚ) →
     ◌≡◌ {A = Option ExactReply} (Some (reply.Refused (refusal.Unfit n))) (Some (reply.Checked v)) → ⊥
 refused n v e = cc
 
--- where verdicts on a certificate are the same with wide numbers from the next line on, they are so from this one on
+-- where `check` and `check --wide` agree from the next line of a certificate on, they agree from this line on
 in_certificate : (m : Model) (s : Option ExactRaw) (n : ℕ) (line : Line (List ℕ)) (lines : List (Line (List ℕ)))
     (v : Verdict ℚ) → ((raw : ExactRaw) → Keeps lines (InCertificate m (Some raw) (n + 1)) v) →
     Keeps (line ∷ lines) (InCertificate m s n) v
@@ -110,14 +111,14 @@ in_certificate m s n line lines v more e = by (step_same narrow wide is_read s l
     by (inr unfit) =
         absurd (refused (n + 1) v (sym (ap (λ o. follow (behind_certificate m (n + 1) o) (says lines)) unfit) ∙ e))
 
--- where a verdict is said of a certificate's lines, it is so with wide numbers, or the verdict is PAST
+-- where `check` says a verdict of the lines of a certificate, `check --wide` says the same one, or the verdict is PAST
 from_certificate : (lines : List (Line (List ℕ))) (m : Model) (s : Option ExactRaw) (n : ℕ) (v : Verdict ℚ) →
     Keeps lines (InCertificate m s n) v
 from_certificate [] m s n v e = cc
 from_certificate (line ∷ lines) m s n v e =
     in_certificate m s n line lines v (λ raw. from_certificate lines m (Some raw) (n + 1) v) e
 
--- where verdicts are the same with wide numbers behind each end of a text's line, they are so from this line on
+-- where `check` and `check --wide` agree after each outcome of a line of a model's text, they agree from this line on
 in_text : (style : Style) (n : ℕ) (lines : List (Line (List ℕ))) (v : Verdict ℚ) →
     ((s : State) → Keeps lines (InText style s n) v) → ((m : Model) → Keeps lines (InCertificate m None 0) v) →
     (o : text.Outcome) → follow (behind_text style n o) (says lines) ≡ Some (reply.Checked v) →
@@ -126,7 +127,7 @@ in_text style n lines v more done (Ok (text.More s)) e = more s e
 in_text style n lines v more done (Ok (text.Done m)) e = done m e
 in_text style n lines v more done (Err code) e = cc
 
--- where a verdict is said of the lines of a text, it is so with wide numbers, or the verdict is PAST
+-- where `check` says a verdict of the lines of a text, `check --wide` says the same one, or the verdict is PAST
 from_text : (lines : List (Line (List ℕ))) (style : Style) (s : State) (n : ℕ) (v : Verdict ℚ) →
     Keeps lines (InText style s n) v
 unfolding check_step wide_step

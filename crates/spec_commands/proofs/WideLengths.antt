@@ -17,7 +17,7 @@ use Rattle.spec_commands.proofs.PlainLines.{narrow_fitting}
 abbrev onto : ℕ → ℕ → List ℕ → List ℕ
 onto fuel n acc = digits_onto fuel 10 false n acc
 
--- the digits of a number below 10 ^ (k + 1), put before a text, make it at most k + 1 bytes longer
+-- writing the digits of a number below 10 ^ (k + 1) before a text makes it at most k + 1 bytes longer
 digits_few : (k fuel n : ℕ) (acc : List ℕ) → n < 10 ^ suc k → length (onto fuel n acc) ≤ suc k + length acc
 digits_few k zero n acc h = omega arith
 digits_few k (suc fuel) n acc h = by k h (n / 10) refl (λ k below. digits_few k fuel (n / 10) rest below)

@@ -86,7 +86,8 @@ based_true handed written (Open, is, lines) = inl lines
 
 -- ---- lines of a text, and of a certificate
 
--- behind a text that ends in its last line, what is said is said of a certificate for the text's model
+-- after the last line of a model's text, `check --wide` reads the lines behind as a certificate for the model that the
+-- text spells
 text_leads : (style : Style) (s : State) (n : ℕ) (front : List (Line (List ℕ))) (last : Line (List ℕ))
     (behind : List (Line (List ℕ))) (m : Model) →
     said_by (text_step large_limits style) (record { state = s; lines = n }) front ≡ None →
@@ -120,11 +121,11 @@ text_leads style s n (line ∷ front) last behind m none spelled =
     by (Ok (text.Done d)) h e go = cc
     by (Err why) h e go = cc
 
--- two certificates are the same where they are so as what lines spell
+-- two certificates are equal where they are equal as verdicts on lines
 same_spelled : (a b : ExactRaw) → Spelled a ≡ Spelled b → a ≡ b
 same_spelled a b e = cc
 
--- where lines spell a certificate, what is said of them is the wide verdict on it for the model
+-- where lines spell a certificate, `check --wide` says of them its verdict on the certificate for the model
 certificate_said : (m : Model) (lines : List (Line (List ℕ))) (so_far : Option ExactRaw) (n : ℕ) (raw : ExactRaw) →
     judge_by wide so_far (n + 1) lines ≡ Spelled raw →
     said_by wide_step (InCertificate m so_far n) lines ≡ Some (wide_verdict_on m (certificate_for m raw))

@@ -54,7 +54,8 @@ use Rattle.spec_commands.proofs.CertificateLengths.{text_fits}
 
 -- ---- a text of which the last line alone ends it
 
--- behind a text that ends in its last line, what is said is said of a certificate for the text's model
+-- after the last line of a model's text, `check` reads the lines behind as a certificate for the model that the text
+-- spells
 text_leads : (style : Style) (m : Model) (lines : List (Line (List ℕ))) (last : Line (List ℕ)) (s : State) (n : ℕ) →
     All (λ l. ends_text l ≡ false) lines
     → text.judge usual_limits style s (n + 1) (lines ++ last ∷ []) ≡ text.Spelled m
@@ -87,7 +88,7 @@ text_leads style m (l ∷ lines) last s n inner h more =
 
 -- ---- a certificate's text
 
--- two certificates are the same where they are so as what lines spell
+-- two certificates are equal where they are equal as verdicts on lines
 same_spelled : (a b : certificate.ExactRaw) → certificate.Spelled a ≡ certificate.Spelled b → a ≡ b
 same_spelled a b e = cc
 

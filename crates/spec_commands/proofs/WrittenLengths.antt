@@ -1,7 +1,7 @@
 -- The text of a model that may be kept, by its bytes.
 --
--- `take_behind`: the first bytes of a text within the limit, and more behind it, are the text and the first of the
---   rest.
+-- `take_behind`: the first `limit` bytes of a shorter text and more bytes are the text and the first of the bytes
+--   behind it.
 -- `model_fits`: the text of a model within the usual limits has at most 61,000,000 bytes, in either form.
 use Rattle.std.proofs.Common.{◌≡◌, ℕ, suc, ◌+◌, ◌-◌, ◌*◌, ◌≤◌, ◌<◌, ◌&&◌, Bool, true, false, cond, Option}
 use Rattle.std.proofs.Common.{Some, None, List, [], ◌∷◌, ◌++◌, length, take, map, get_or, replicate, ap, ◌∙◌}

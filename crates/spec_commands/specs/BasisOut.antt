@@ -68,7 +68,8 @@ unfoldable pub basis_step : SizeLimits → Stage → Line (List ℕ) → Step St
 basis_step limits (InText style s n) line = behind_text style (n + 1) (text.step limits style s line)
 basis_step limits (InFile m f s n) line = behind_file m f (n + 1) (file.step m f s line)
 
--- what lines say after a stage; nothing where more are needed
+-- what `basis` says of lines from a stage of its input on, in the text or in the basis file; nothing where more lines
+-- are needed
 abbrev pub basis_said_from : SizeLimits → Stage → List (Line (List ℕ)) → Option BasisSaid
 basis_said_from limits stage lines = said_by (basis_step limits) stage lines
 
@@ -113,7 +114,7 @@ BasisOut (Ok handed) written =
     × (written ≡ basis_lines handed.model solved)
 BasisOut (Err why) written = written ≡ basis_fault_line why
 
--- the status of it
+-- the exit status of `basis`: 0 where its input is in order, 9 where the input has a fault
 abbrev pub basis_code : BasisSaid → ℕ
 basis_code (Ok handed) = 0
 basis_code (Err why) = 9

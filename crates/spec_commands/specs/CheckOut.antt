@@ -39,7 +39,8 @@ unfoldable pub check_step : Stage → Line (List ℕ) → Step Stage ExactReply
 check_step (InText style s n) line = behind_text style (n + 1) (text.step usual_limits style s line)
 check_step (InCertificate m so_far n) line = behind_certificate m (n + 1) (certificate.step so_far line)
 
--- what lines say after a stage; nothing where more are needed
+-- what `check` says of lines from a stage of its input on, in the text or in the certificate; nothing where more lines
+-- are needed
 abbrev pub said_from : Stage → List (Line (List ℕ)) → Option ExactReply
 said_from stage lines = said_by check_step stage lines
 
@@ -51,7 +52,7 @@ said style lines = said_from (InText style start 0) lines
 abbrev pub CheckOut : ExactReply → List ℕ → Type 0
 CheckOut replied written = written ≡ check_line replied
 
--- the status of what is said
+-- the exit status of `check`: 9 where its input is refused, and else 0
 abbrev pub check_code : ExactReply → ℕ
 check_code (reply.Refused why) = 9
 check_code replied = 0

@@ -46,7 +46,8 @@ wide_step (InCertificate m so_far n) line = behind_wide m (n + 1) (step_by wide 
 abbrev pub wide_said : Style → List (Line (List ℕ)) → Option ExactReply
 wide_said style lines = said_by wide_step (InText style start 0) lines
 
--- the value of an optimum in lowest terms, however wide, and all else as it is written of narrow numbers
+-- the text of a reply of `check --wide`: an optimal value of any width in lowest terms, and any other reply as `check`
+-- writes it
 abbrev pub wide_reply_text : ExactReply → List ℕ
 wide_reply_text (reply.Checked (verdict.Yes (known.Optimal v))) = codes "YES OPTIMAL " ++ wide_text v
 wide_reply_text replied = reply_text replied
@@ -55,6 +56,6 @@ wide_reply_text replied = reply_text replied
 unfoldable pub wide_check_line : ExactReply → List ℕ
 wide_check_line replied = wide_reply_text replied ++ 10 ∷ []
 
--- it alone may be written
+-- what `check --wide` may write for a reply: the line of the reply, and nothing else
 abbrev pub WideCheckOut : ExactReply → List ℕ → Type 0
 WideCheckOut replied written = written ≡ wide_check_line replied

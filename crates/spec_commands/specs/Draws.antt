@@ -7,7 +7,7 @@ use Rattle.std.specs.List.{range_with_len}
 unfoldable pub next : ℕ → ℕ
 next s = (1103515245 * s + 12345) % 2 ^ 31
 
--- what is drawn at a state
+-- the number that the generator draws at state s: the next state divided by 65,536
 unfoldable pub draw : ℕ → ℕ
 draw s = next s / 65536
 
@@ -16,6 +16,6 @@ abbrev pub after : ℕ → ℕ → ℕ
 after zero s = s
 after (suc n) s = next (after n s)
 
--- the first n draws
+-- the first n numbers that the generator draws from state s on
 abbrev pub draws : ℕ → ℕ → List ℕ
 draws n s = map (λ k. draw (after k s)) (range_with_len 0 n)

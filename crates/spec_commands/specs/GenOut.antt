@@ -25,7 +25,7 @@ size_text m =
     ++ decimal (entry_count m)
     ++ 10 ∷ []
 
--- it, the answer's line, and the line of the pivots and flips behind it
+-- what `gen` writes of a model: the line of its size, the line of the answer, and the line of the pivots and flips
 unfoldable pub generated_lines : Model → ExactSolveEnd → List ℕ
 generated_lines m solved =
     size_text m
@@ -39,6 +39,6 @@ abbrev pub SolvedOut : Model → List ℕ → Type 0
 SolvedOut m written =
     (solved : SolveEnd) × IsSolved m opening_budget None solved × (written ≡ generated_lines m solved.end)
 
--- what `gen` may write: what is written of a solve of the generated model
+-- what `gen` may write for a seed and a size: the lines of a solve of the model that is generated from them
 abbrev pub GenOut : ℕ → ℕ → ℕ → List ℕ → Type 0
 GenOut seed rows columns written = SolvedOut (generated seed rows columns) written

@@ -5,7 +5,7 @@ use Rattle.spec_text.specs.declared.line.Line.{Line}
 use Rattle.spec_text.specs.declared.line.Line.TheVariants.{End}
 use Rattle.spec_text.specs.Lines.{lines_of, ended_lines_of, input_limit}
 
--- whatever follows these bytes, by the lines that end as far as an input may be read
+-- the same is said whatever bytes follow those read: the lines that end within the limit of an input decide it
 abbrev pub IsSaidEarly : {R : Type 0} → (List (Line (List ℕ)) → Option R) → List ℕ → R → Type 0
 IsSaidEarly said read what = (more : List ℕ) → said (ended_lines_of (take input_limit (read ++ more))) ≡ Some what
 
@@ -20,6 +20,6 @@ pub record IsSaidAtEnd {R : Type 0} (said : List (Line (List ℕ)) → Option R)
 abbrev pub IsSaid : {R : Type 0} → (List (Line (List ℕ)) → Option R) → Option (List ℕ) → List ℕ → R → Type 0
 IsSaid said after read what = IsSaidEarly said read what ⊎ IsSaidAtEnd said after read what
 
--- nothing is said by the lines that end among the bytes, as far as an input may be read
+-- the lines that end among these bytes, within the limit of an input, do not decide what is said
 abbrev pub IsUndecided : {R : Type 0} → (List (Line (List ℕ)) → Option R) → List ℕ → Type 0
 IsUndecided said read = said (ended_lines_of (take input_limit read)) ≡ None

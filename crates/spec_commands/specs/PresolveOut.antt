@@ -24,7 +24,7 @@ abbrev pub way_line : Way ℚ → List ℕ
 way_line (Reduced rows columns) = codes "REDUCED " ++ decimal rows ++ codes " " ++ decimal columns ++ 10 ∷ []
 way_line (Plain why) = codes "PLAIN " ++ why_line why
 
--- it, and what is written of a solve of the model
+-- what `presolve` writes: the line on how the model was reduced, and the lines of a solve of the model
 unfoldable pub presolved_lines : Model → ExactPresolved → List ℕ
 presolved_lines m p = way_line p.way ++ solved_lines m p.end
 
@@ -34,7 +34,7 @@ PresolveOut (Ok m) written =
     (p : ExactPresolved) × IsPresolved m opening_budget p × (written ≡ presolved_lines m p)
 PresolveOut (Err fault) written = written ≡ check_line (reply.Refused (refusal.Misspelled fault))
 
--- the status of it
+-- the exit status of `presolve`: 0 where the text spells a model, 9 where the text is refused
 abbrev pub presolve_code : TextSaid → ℕ
 presolve_code (Ok m) = 0
 presolve_code (Err fault) = 9

@@ -59,12 +59,12 @@ ranged_text (Ok r) = range_line r
 ranged_text (Err (stop.Past p)) = check_line (reply.Past p)
 ranged_text (Err stop.Singular) = []
 
--- from this basis
+-- the line of a number's range for a basis of the model's form; nothing where the model has no form
 abbrev pub based_text : Moved → Model → List Status → ℕ → Result Form (FormFault ℚ) → List ℕ
 based_text moved m basis at (Ok f) = ranged_text (range_of moved (Some number_limit) m f basis at)
 based_text moved m basis at (Err why) = []
 
--- it stands after an optimum alone
+-- the line of a number's range for the basis of an optimal answer; nothing after any other end
 abbrev pub range_text : Moved → Model → ℕ → ExactSolveEnd → List ℕ
 range_text moved m at (Ended (known.Optimal v) certificate (Some basis) pivots) =
     based_text moved m basis at (form_of (Some number_limit) m)
@@ -90,12 +90,12 @@ abbrev pub RangeOut : Moved → Name → TextSaid → List ℕ → Type 0
 RangeOut moved name (Ok m) written = PlaceOut moved name m (place_by moved m name) written
 RangeOut moved name (Err fault) written = written ≡ check_line (reply.Refused (refusal.Misspelled fault))
 
--- the status of it
+-- the exit status of `range` by the named column or row: 9 where the model has none of that name, and else 0
 abbrev pub place_code : Option ℕ → ℕ
 place_code None = 9
 place_code (Some at) = 0
 
--- the status of the command by what is said of the text
+-- the exit status of `range`: 9 where the text is refused or the model has no column or row of the name, and else 0
 abbrev pub range_code : Moved → Name → TextSaid → ℕ
 range_code moved name (Ok m) = place_code (place_by moved m name)
 range_code moved name (Err fault) = 9

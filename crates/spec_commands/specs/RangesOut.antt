@@ -23,7 +23,7 @@ use Rattle.spec_program.specs.declared.command_line.Moved.{Moved}
 use Rattle.spec_program.specs.declared.command_line.Moved.TheVariants.{Cost, RightSide}
 use Rattle.spec_commands.specs.RangeOut.{range_of, ranged_text}
 
--- the words before a range: those of the command line that asks for it alone
+-- the words before a range in the list of all: `cost` or `rhs`, and the name of the column or row
 abbrev pub number_words : Moved → Name → List ℕ
 number_words Cost name = codes "cost " ++ name ++ codes " "
 number_words RightSide name = codes "rhs " ++ name ++ codes " "
@@ -38,16 +38,16 @@ unfoldable pub number_line : Moved → Model → Form → List Status → ℕ �
 number_line moved m f basis at =
     number_words moved (name_by moved m at) ++ ranged_text (range_of moved (Some number_limit) m f basis at)
 
--- those of the first so many columns or rows
+-- the lines of the ranges of the first `count` columns or rows
 abbrev pub number_lines : Moved → Model → Form → List Status → ℕ → List ℕ
 number_lines moved m f basis count = flat_map (number_line moved m f basis) (made count (λ at. at))
 
--- from this basis
+-- the lines of all ranges for a basis of the model's form: of the columns' costs, then of the rows' right sides
 abbrev pub ranges_from : Model → List Status → Result Form (FormFault ℚ) → List ℕ
 ranges_from m basis (Ok f) = number_lines Cost m f basis (width m) ++ number_lines RightSide m f basis (height m)
 ranges_from m basis (Err why) = []
 
--- they stand after an optimum alone
+-- the lines of all ranges for the basis of an optimal answer; nothing after any other end
 abbrev pub ranges_text : Model → ExactSolveEnd → List ℕ
 ranges_text m (Ended (known.Optimal v) certificate (Some basis) pivots) =
     ranges_from m basis (form_of (Some number_limit) m)

@@ -21,7 +21,7 @@ SolveOut (Ok m) written =
     (solved : SolveEnd) × IsSolved m opening_budget None solved × (written ≡ solved_lines m solved.end)
 SolveOut (Err fault) written = written ≡ check_line (reply.Refused (refusal.Misspelled fault))
 
--- the status of it
+-- the exit status of `solve`: 0 where the text spells a model, 9 where the text is refused
 abbrev pub solve_code : TextSaid → ℕ
 solve_code (Ok m) = 0
 solve_code (Err fault) = 9

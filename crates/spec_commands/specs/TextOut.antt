@@ -19,7 +19,7 @@ use Rattle.spec_commands.specs.SolveWideOut.{SolveWideOut}
 use Rattle.spec_commands.specs.BasisOut.{BasisSaid, basis_said, BasisOut, basis_code}
 use Rattle.spec_commands.specs.BasisWideOut.{BasisWideOut}
 
--- what is said
+-- the type of what each command says of its input: of a model's text, of a certificate, or of a basis file
 abbrev pub SaidBy : ExactTextCommand → Type 0
 SaidBy Solve = TextSaid
 SaidBy SolveWide = TextSaid
@@ -58,7 +58,7 @@ MayWrite Iis what written = IisOut what written
 MayWrite (Range moved name) what written = RangeOut moved name what written
 MayWrite RangeAll what written = RangesOut what written
 
--- the status of it
+-- the exit status of each command, by what it says of its input
 abbrev pub code_of : (command : ExactTextCommand) → SaidBy command → ℕ
 code_of Solve what = solve_code what
 code_of SolveWide what = solve_code what

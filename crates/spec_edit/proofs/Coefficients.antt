@@ -1,7 +1,8 @@
 -- The coefficient in a row, after a change of a column's entries.
 --
 -- `none_at`: where no entry is of row k, the coefficient in row k is 0.
--- `entry_of-with_entry`: after v is put in row i, the coefficient in row i is v, and all others stay.
+-- `entry_of-with_entry`: setting the entry of row i to v makes the coefficient in row i v, and leaves those in all
+--   other rows.
 -- `entry_of-without_entry`: after row i is removed, row k has the coefficient of the row that was there before.
 use Rattle.std.proofs.Common.{◌≡◌, ◌≢◌, ℕ, ◌+◌, ◌-◌, ◌<◌, ◌≤◌, Bool, true, false, not, cond, eqb, ltb, List, []}
 use Rattle.std.proofs.Common.{◌∷◌, ◌++◌, map, All, refl, sym, ap, ◌∙◌, subst, arith, ⊎_elim, eq-eqb, ne_eqb}
@@ -23,13 +24,13 @@ none_at k [] h = refl
 none_at k (e ∷ es) h =
     rw (ne_eqb e.0 k (All-head (λ e. e.0 ≢ k) e es h)) (none_at k es (All-tail (λ e. e.0 ≢ k) e es h))
 
--- entries at other rows, put in front, leave the coefficient in row k
+-- entries of other rows before a list of entries leave the coefficient in row k
 behind_others : (k : ℕ) (xs ys : List (ℕ × ℚ)) → All (λ e. e.0 ≢ k) xs → entry_of (xs ++ ys) k ≡ entry_of ys k
 behind_others k [] ys h = refl
 behind_others k (e ∷ xs) ys h =
     rw (ne_eqb e.0 k (All-head (λ e. e.0 ≢ k) e xs h)) (behind_others k xs ys (All-tail (λ e. e.0 ≢ k) e xs h))
 
--- entries at other rows, put behind, leave the coefficient in row k
+-- entries of other rows behind a list of entries leave the coefficient in row k
 before_others : (k : ℕ) (xs ys : List (ℕ × ℚ)) → All (λ e. e.0 ≢ k) ys → entry_of (xs ++ ys) k ≡ entry_of xs k
 before_others k [] ys h = none_at k ys h
 before_others k (e ∷ xs) ys h = ap (cond (eqb e.0 k) e.1) (before_others k xs ys h)

@@ -3,8 +3,8 @@
 -- `filtered_below`: the entries that pass the test of being before row i are before it.
 -- `filtered_above`: the entries that pass the test of being after row i are after it.
 -- `entry_if-row`: the entry for row i, where there is one, is of row i.
--- `with_entry-kept`: entries in order stay so when a number is put in one of the rows.
--- `with_entry-narrow`: entries of 127 bits stay so when a number of 127 bits is put in a row.
+-- `with_entry-kept`: setting the entry of one of the first n rows keeps the entries of a column in order.
+-- `with_entry-narrow`: setting an entry to a number of 127 bits keeps entries of 127 bits within 127 bits.
 -- `without_entry-kept`: entries in order are in the order of one row less when a row is removed.
 -- `without_entry-narrow`: entries of 127 bits stay so when a row is removed.
 use Rattle.std.proofs.Common.{◌≡◌, ◌≢◌, ℕ, suc, ◌-◌, ◌<◌, ◌≤◌, Bool, true, false, not, cond}

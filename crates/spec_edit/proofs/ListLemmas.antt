@@ -2,8 +2,10 @@
 --
 -- `All-remove`: what holds of each item holds of each that is left when one is removed.
 -- `map-remove`: removing an item and then mapping gives the same as mapping and then removing.
--- `map-map_unseen`: what is read of each item, and no change of items alters, is the same after the change.
--- `map-set_unseen`: what is read of each item is the same after one is replaced by one that reads alike.
+-- `map-map_unseen`: where a change of items does not alter what f gives for an item, it does not alter what f gives for
+--   a list's items.
+-- `map-set_unseen`: replacing an item by one for which f gives the same does not alter what f gives for the items of a
+--   list.
 use Rattle.std.proofs.Common.{◌≡◌, ℕ, suc, ◌<◌, List, [], ◌∷◌, length, map, take}
 use Rattle.std.proofs.Common.{drop, set, get_or, All, refl, sym, ap, ap₂, ◌∙◌}
 use Rattle.std.specs.List.{remove}

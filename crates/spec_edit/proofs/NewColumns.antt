@@ -1,9 +1,10 @@
 -- The entries of a new column are in the order of their rows, and the column may be kept.
 --
--- `puts_pair`: where pairs give entries, the first one names a row, is no repetition, and the others follow it.
+-- `puts_pair`: where pairs of a name and a number give entries, the first names a row, no earlier pair names it, and
+--   the later ones give the rest.
 -- `column_of-kept`: a new column with a valid name and entries in order may be kept.
 -- `new_column-ok`: where a new column is no fault, its name is free, there is room, and its pairs give entries.
--- `new_column-kept`: a model that sessions may hold is so after a new column of numbers of 127 bits.
+-- `new_column-kept`: a new column with numbers of 127 bits leaves a model one that sessions may hold.
 use Rattle.std.proofs.Common.{◌≡◌, ℕ, ◌<◌, true, false, not, leb, Some, Ok}
 use Rattle.std.proofs.Common.{List, [], ◌∷◌, ◌++◌, All, IsTrue, subst, arith}
 use borrow.Author.Tests.{leb-false}
@@ -38,7 +39,7 @@ puts_pair m before p pairs es out h =
     let b = test_ok (is_given p.0 before) _ _ out a.2 in
     record { place = a.0; names = known_ok (row_place m p.0) p.0 a.0 a.1; first = b.0; rest = b.1 }
 
--- entries in order, with the entries of more pairs put in, are in order
+-- entries in order stay in order when the entries of further pairs are set among them
 entries_of-kept : (m : Model) (before pairs : Pairs) (es out : List (ℕ × ℚ)) →
     entries_of m before pairs es ≡ Ok out → AreEntries (height m) es → AreEntries (height m) out
 entries_of-kept m before [] es out h k = subst (AreEntries (height m)) (same_ok es out h) k
@@ -47,7 +48,7 @@ entries_of-kept m before (p ∷ pairs) es out h k =
     entries_of-kept m (before ++ p ∷ []) pairs (with_entry s.place p.1 es) out s.rest
     (with_entry-kept (height m) s.place p.1 es k (row_inside m p.0 s.place s.names))
 
--- entries of 127 bits, with the entries of pairs of 127 bits put in, are of 127 bits
+-- entries of 127 bits stay within 127 bits when the entries of further pairs of 127 bits are set among them
 entries_of-narrow : (m : Model) (before pairs : Pairs) (es out : List (ℕ × ℚ)) →
     entries_of m before pairs es ≡ Ok out → All (λ e. IsNarrow e.1) es → All (λ p. IsNarrow p.1) pairs →
     All (λ e. IsNarrow e.1) out

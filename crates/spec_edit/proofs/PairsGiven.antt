@@ -36,7 +36,7 @@ given_more name before more h =
     list_any-append (λ (p : Name × ℚ). same p.0 name) before more
     ∙ or_left (is_given name before) (is_given name more) h
 
--- pairs have the name of the pair that is put at their end
+-- a name counts as given where the last of the pairs has it
 given_last : (name : Name) (before : Pairs) (p : Name × ℚ) → same p.0 name ≡ true →
     is_given name (before ++ p ∷ []) ≡ true
 given_last name before p h =

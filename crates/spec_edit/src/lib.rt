@@ -44,7 +44,7 @@ pub fn changes_have_their_meaning()
         IsModel m → coefficient (with_row m r) (height m) j ≡ 0ℚ }
 {}
 
-/// A new column has in each row the number that its pairs give to the row's name, and 0 in the others.
+/// A new column has in each row the number that its pairs give to the row's name, and 0 in a row that no pair names.
 pub fn new_columns_have_their_pairs()
     ensures { (m n : Model) (name : Name) (cost : ℚ) (pairs : Pairs) →
         IsModel m → new_column m name cost pairs ≡ Ok n → IsWithPairs m n pairs }
