@@ -29,7 +29,7 @@ pub refused_then : {A B E : Type 0} (kind : Past ℚ → E) (o : Run A) (next : 
 refused_then kind (Ok a) next = refl
 refused_then kind (Err e) next = refl
 
--- where k is below n, k + 1 and what is left up to n are together n
+-- where k is below n, k + 1 and n - (k + 1) are together n
 up_to : (k n : ℕ) → k < n → suc k + (n - suc k) ≡ n
 up_to k n h = omega arith
 

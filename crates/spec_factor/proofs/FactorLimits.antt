@@ -52,7 +52,7 @@ module _ (limit : Option ℕ) (m : ℕ) where
   unfolding replace_run
   replace_agrees s p k column = agrees_then as_it_is _ _ _ _ (ftran_agrees s.pairs column) (λ v. agrees_ok as_it_is _)
 
--- a run that ends as singular agrees with one that ends so
+-- two runs agree that both end because the basis is singular
 singular_agrees : {A : Type 0} → Agrees {A = A} stop.Past (Err stop.Singular) (Err stop.Singular)
 singular_agrees =
     agrees_err stop.Past stop.Singular (λ p e. let z : ◌≡◌ {A = NoFactors ℚ} stop.Singular (stop.Past p) = e in cc)

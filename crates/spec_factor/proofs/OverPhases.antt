@@ -86,7 +86,7 @@ module _ (f : Form) (F : ℕ → ℕ → ℚ) (cost : ℕ → ℚ) (b : Bounds) 
   pub same_stuck : is_stuck (bare_with t basic) ≡ is_stuck t
   same_stuck = same_any (λ k. is_artificial t k && not (eq_ℚ (value_at t k) 0ℚ))
 
--- what is stuck has an artificial among its basic columns
+-- a tableau that `is_stuck` has an artificial column among its basic columns
 wants_where_stuck : (t : Tableau) → is_stuck t ≡ true → wants_phase_one t ≡ true
 wants_where_stuck t e =
     let o = some_of (λ k. is_artificial t k && not (eq_ℚ (value_at t k) 0ℚ)) t.basic 0 e in

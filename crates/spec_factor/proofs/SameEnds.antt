@@ -72,7 +72,7 @@ module _ (m n : ℕ) (f : Matrix) (cost : ℕ → ℚ) (b : Bounds) (t u : Table
       none q.0 q.1 q.2))))
       (at_position m (n + m + m) f cost b (table_of t) st.tableau k)
 
--- the same entries in column j make the same moves
+-- where two tableaus have the same entries in column j, a column moves alike in both as column j moves
 moves_same : (v u : Tableau) (j : ℕ) (way : Way) (k : ℕ) → SameColumn v u j → (n : ℕ) → n ≤ u.rows →
     moves_below v j way k n ≡ moves_below u j way k n
 moves_same v u j way k s zero h = refl

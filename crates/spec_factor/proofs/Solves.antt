@@ -1,7 +1,8 @@
 -- Where pairs stand for a basis, ftran solves for its columns and btran for its rows; and a column can be replaced.
 --
 -- `pair_keeps`: an elementary matrix leaves a list as it is that is 0 at its place.
--- `replaced_basic`: after a replacement the new column is the basic one at its place, and the others are as before.
+-- `replaced_basic`: after a replacement the new column is the basic one at its place, and each other place keeps its
+--   column.
 use Rattle.std.proofs.Common.{◌≡◌, ◌≢◌, ℕ, ◌<◌, List, [], ◌∷◌, length, set, Option}
 use Rattle.std.proofs.Common.{Ok, refl, sym, ap, ap₂, ◌∙◌, subst, eq-eqb, ne_eqb}
 use Rattle.std.specs.Prelude.{All}

@@ -9,7 +9,8 @@ use Rattle.spec_simplex.specs.Form.{Form}
 use Rattle.spec_simplex.specs.Eliminate.{basis_at}
 use Rattle.spec_factor.specs.Factors.{Pair, pair_at, Factors, column_entry}
 
--- the elementary matrix of a pair, applied to v: it makes the pair's column the unit vector of its place
+-- one step of ftran in exact numbers: it applies to v the elementary matrix that makes the pair's column the unit
+-- vector of its place
 abbrev pub forward_one : Pair → (ℕ → ℚ) → ℕ → ℚ
 forward_one e v i =
     cond (nat_eq i e.place) (v e.place *ℚ inverse (pair_at e e.place))
@@ -45,7 +46,7 @@ pub record SolvesRows (m : ℕ) (basis : Matrix) (c y : List ℚ) : Type 0 where
   pub only : (x : ℕ → ℚ) → ((s : ℕ) → s < m → sum_below m (λ r. x r *ℚ basis r s) ≡ get_or c s 0ℚ) → (r : ℕ) → r < m →
       x r ≡ get_or y r 0ℚ
 
--- the same basis with another column in place p
+-- the basis matrix in which the column of place p is replaced by another one
 abbrev pub with_column : Matrix → ℕ → List ℚ → Matrix
 with_column basis p column r s = cond (nat_eq s p) (get_or column r 0ℚ) (basis r s)
 

@@ -43,34 +43,34 @@ column_of f k = made f.rows (λ i. column_entry f i k)
 
 -- ---- ftran: from a list by rows to the solution by places, with the pairs from first to last
 
--- the item at the pair's place is divided; each other one loses its entry's part of it
+-- one step of ftran: the item at the pair's place is divided; each other item loses its own entry times the quotient
 unfoldable pub forward_run : Option ℕ → ℕ → Pair → List ℚ → Run (List ℚ)
 forward_run limit m e v =
     quotient_run limit (get_or v e.place 0ℚ) (pair_at e e.place) >>= λ q.
     list_run m (λ i. if nat_eq i e.place then Ok q else less_product limit (pair_at e i) q (get_or v i 0ℚ))
 
--- ftran by all pairs
+-- ftran: the step of each pair, from the first pair to the last
 abbrev pub ftran_run : Option ℕ → ℕ → List Pair → List ℚ → Run (List ℚ)
 ftran_run limit m [] v = Ok v
 ftran_run limit m (e ∷ es) v = forward_run limit m e v >>= λ w. ftran_run limit m es w
 
 -- ---- btran: from a list by places to the solution by rows, with the pairs from last to first
 
--- the item at the pair's place loses the others' parts, and is divided
+-- one step of btran: the item at the pair's place loses the product of each other item and its entry, and is divided
 unfoldable pub backward_run : Option ℕ → ℕ → Pair → List ℚ → Run (List ℚ)
 backward_run limit m e v =
     steps m (λ i s. if nat_eq i e.place then Ok s else less_product limit (get_or v i 0ℚ) (pair_at e i) s)
     (get_or v e.place 0ℚ) >>= λ s.
     quotient_run limit s (pair_at e e.place) >>= λ q. Ok (slice_set v e.place q)
 
--- btran by all pairs
+-- btran: the step of each pair, from the last pair to the first
 abbrev pub btran_run : Option ℕ → ℕ → List Pair → List ℚ → Run (List ℚ)
 btran_run limit m [] v = Ok v
 btran_run limit m (e ∷ es) v = btran_run limit m es v >>= λ w. backward_run limit m e w
 
 -- ---- factor: the basic columns one by one in the order of their numbers
 
--- the pairs so far, and the columns of the places that have one
+-- the state of factoring a basis: the pairs that were made, and for each place the column that has it, if one does
 pub record Chosen : Type 0 where
   pub pairs : List Pair
   pub columns : List (Option ℕ)
@@ -99,7 +99,8 @@ abbrev pub chosen_at : Chosen → ℕ → List ℚ → Option ℕ → Result Cho
 chosen_at s k v None = Err stop.Singular
 chosen_at s k v (Some p) = Ok (record { pairs = with_pair s.pairs p v; columns = slice_set s.columns p (Some k) })
 
--- column k taken after the others, where it finds a place
+-- a step of factoring: ftran by the pairs that were made solves column k, which takes a free place; else the basis is
+-- singular
 abbrev pub choose_run : Option ℕ → Form → ℕ → Chosen → Result Chosen (NoFactors ℚ)
 choose_run limit f k s =
     refused_as stop.Past (ftran_run limit f.rows s.pairs (column_of f k)) >>= λ v.

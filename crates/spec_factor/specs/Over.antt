@@ -113,7 +113,7 @@ abbrev pub over_two : Option ℕ → ℕ → Form → List (RowStart ℚ) → Re
 over_two limit budget f starts one =
     over_from limit f starts f.cost (budget - one.used) one.used (second_state one.state) >>= λ two. Ok (end_answer two)
 
--- both phases share the budget
+-- phase one and, where it leaves no artificial column above 0, phase two of the run over factors; they share the budget
 abbrev pub over_phases : Option ℕ → ℕ → Form → List (RowStart ℚ) → Revised → Result OverEnd (RunStop ℚ)
 over_phases limit budget f starts s =
     over_one limit budget f starts s >>= λ one.

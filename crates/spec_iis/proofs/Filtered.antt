@@ -3,8 +3,9 @@
 -- `filtered_none`: where sides of the model are infeasible together, the invariant of the rule holds at its begin.
 -- `clash_infeasible`: sides are infeasible together where a few of them are.
 -- `clash_without`: a few sides that clash still do so without a side that is none of them.
--- `present_without`: where all of some sides are sides of the model, they are so without one of them.
--- `filtered_without`: the invariant stays where a side is left out without which the others are infeasible together.
+-- `present_without`: where all sides of a list are sides of the model, so are all without one of them.
+-- `filtered_without`: the rule's invariant stays where a side is left out and all the remaining sides are still
+--   infeasible together.
 -- `filtered_kept`: the invariant stays where a side is kept, by a point that is feasible without it.
 -- `filtered_points`: at the end each kept side has a point that is feasible without it.
 -- `filtered_all`: at the end the kept sides are an irreducible infeasible set.
@@ -65,7 +66,7 @@ filtered_without m kept x rest points f h = record {
         subst (All (IsSide m)) (remove-append_left kept (x ∷ rest) k l)
         (All-remove (IsSide m) (kept ++ x ∷ rest) k f.present)
 
--- a list with one more at its end, without that one, is the list
+-- appending a side to a list and removing the last side again gives the list
 removed_last : (kept : List Side) (x : Side) → remove (kept ++ x ∷ []) (length kept) ≡ kept
 removed_last kept x =
     remove-append_right kept (x ∷ []) (length kept) (length kept) refl (omega arith)

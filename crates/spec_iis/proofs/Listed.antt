@@ -6,7 +6,7 @@
 -- `listed_left`: a side that is listed in one list is listed with another list behind it.
 -- `listed_right`: a side that is listed in one list is listed with another list before it.
 -- `among_both`: sides without the one between are among those with it.
--- `among_without`: a few sides among some, of which one is none of the few, are among the others.
+-- `among_without`: where each of a few sides is in a list and none of them is x, each is in the list without x.
 -- `among_filter`: the sides that pass a test are among all of them.
 -- `listed_filter`: a side that is listed and passes a test is listed among those that pass.
 use Rattle.std.proofs.Common.{◌≡◌, ℕ, Bool, true, false, cond, eqb, List, [], ◌∷◌, ◌++◌, All, get_or}
@@ -104,7 +104,7 @@ among_both xs x ys =
     (All-weaker (λ s. is_listed (x ∷ ys) s ≡ true) (λ s. is_listed (xs ++ x ∷ ys) s ≡ true) (listed_right xs (x ∷ ys)) ys
     (All-weaker (λ s. is_listed ys s ≡ true) (λ s. is_listed (x ∷ ys) s ≡ true) (listed_more x ys) ys (all_listed ys)))
 
--- a side that is not x, and is listed with x between the others, is listed among the others
+-- a side that is in a list and differs from x is in the list without x
 listed_between : (xs : List Side) (x : Side) (ys : List Side) (s : Side) → same_side s x ≡ false →
     is_listed (xs ++ x ∷ ys) s ≡ true → is_listed (xs ++ ys) s ≡ true
 unfolding is_listed

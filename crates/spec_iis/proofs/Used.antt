@@ -54,7 +54,7 @@ listed_if false s h = absurd (let z : false ≡ true = h in cc)
 
 -- ---- multipliers
 
--- a multiplier is tight at the limit that it asks for, where only the limits that it uses stay
+-- a multiplier is tight at the limit that goes with its sign, where only the limits that it uses are kept
 tight_if : (l : Limits) (d : ℚ) → HasLimit l d →
     Tight (if_listed (lt_ℚ 0ℚ d) l.lower) (if_listed (lt_ℚ d 0ℚ) l.upper) d (asked l d)
 tight_if l d h = record {

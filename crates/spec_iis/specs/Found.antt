@@ -25,11 +25,11 @@ use Rattle.spec_iis.specs.Rule.{used, Reaches}
 abbrev pub ExactIis : Type 0
 ExactIis = Iis (List Side) (Certificate (List ℚ)) (List (List ℚ)) ExactSolveEnd
 
--- a solve of the model to which no basis is handed may end so
+-- a solve of the model without a starting basis may end with `end`
 abbrev pub EndsCold : Model → ℕ → ExactSolveEnd → Type 0
 EndsCold m budget end = IsSolved m budget None (record { end = end; route = route.Cold })
 
--- the certificate is one for the model, of narrow numbers, and the checker says yes: no point is feasible
+-- the certificate is for the model, has numbers of at most 127 bits, and the checker accepts it as one of infeasibility
 pub record ShowsInfeasible (m : Model) (cert : Certificate (List ℚ)) : Type 0 where
   pub fits : IsFor m cert
   pub narrow : IsNarrowCertificate cert
@@ -53,7 +53,7 @@ pub record IsFound (m : Model) (budget : ℕ) (sides : List Side) (cert : Certif
   pub certificate : ShowsInfeasible (only m sides) cert
   pub without : ArePointsWithout m sides points
 
--- it ends otherwise than with that no point is feasible
+-- a solve ends in another way than with an infeasible model
 abbrev pub IsElse : ExactSolveEnd → Type 0
 IsElse (Ended known.Infeasible cert basis pivots) = ⊥
 IsElse (Ended (known.Optimal v) cert basis pivots) = Unit {0}
@@ -61,7 +61,8 @@ IsElse (Ended known.Unbounded cert basis pivots) = Unit {0}
 IsElse (Past p) = Unit {0}
 IsElse Spent = Unit {0}
 
--- a solve of the model with the sides alone of a set that the rule reaches gives up so
+-- The rule gives up. The model is infeasible, and a solve of it with only the sides of a set that the rule reaches ends
+-- with `end`, without an answer.
 pub record IsStopped (m : Model) (budget : ℕ) (end : ExactSolveEnd) : Type 0 where
   pub infeasible : IsInfeasible m
   pub sides : List Side

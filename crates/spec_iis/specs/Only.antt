@@ -31,7 +31,8 @@ stays sides i = has_lower sides true i || has_upper sides true i
 abbrev pub single : Kind → ExactRow → ℚ → ExactRow
 single kind r b = record { name = r.name; kind = kind; rhs = b; range = None }
 
--- with one of the two sides that it has, a row has that one as its right side; else it stays as it is
+-- A row with those of its two limits that are kept. Where one of both is kept, it becomes the right side; else the row
+-- stays as it is.
 abbrev pub with_sides : Bool → Bool → ExactRow → Option ℚ → Option ℚ → ExactRow
 with_sides true false r (Some low) (Some high) = single G r low
 with_sides false true r (Some low) (Some high) = single L r high
@@ -55,7 +56,7 @@ rank p (suc k) = if p k then rank p k + 1 else rank p k
 abbrev pub only_row_at : Model → List Side → ℕ → ExactRow
 only_row_at m sides i = only_row (has_lower sides true i) (has_upper sides true i) (row m i)
 
--- the same side in the model with some sides alone, where the rows that stay have other numbers
+-- a side of the model as a side of the model with some sides alone, in which the rows that stay have new numbers
 abbrev pub renumbered : List Side → Side → Side
 renumbered sides s = record { row = s.row; at = if s.row then rank (stays sides) s.at else s.at; upper = s.upper }
 
@@ -65,7 +66,7 @@ renumbered sides s = record { row = s.row; at = if s.row then rank (stays sides)
 abbrev pub if_listed : Bool → Option ℚ → Option ℚ
 if_listed listed bound = if listed then bound else None
 
--- those in rows that stay, with the numbers that these have then
+-- the entries of a column in the rows that stay, with the new numbers of these rows
 unfoldable pub only_entries : (ℕ → Bool) → List (ℕ × ℚ) → List (ℕ × ℚ)
 only_entries p entries = map (λ e. (rank p e.0, e.1)) (filter (λ e. p e.0) entries)
 

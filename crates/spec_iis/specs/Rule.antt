@@ -44,7 +44,7 @@ used m (Clash j) = record { row = false; at = j; upper = false } ∷ record { ro
 used m (Optimal x y) = []
 used m (Unbounded x r) = []
 
--- those of some sides that a certificate uses which is of the model with them alone
+-- those of some sides that a certificate uses, where the certificate is for the model with these sides alone
 unfoldable pub used_among : Model → List Side → Certificate (List ℚ) → List Side
 used_among m sides cert = filter (λ s. is_listed (used (only m sides) cert) (renumbered sides s)) sides
 
@@ -64,7 +64,8 @@ Reaches m kept (x ∷ rest) s =
     ⊎ (IsInfeasible (only m (kept ++ rest)) × Reaches m kept rest s)
     ⊎ (((z : List ℚ) × IsFeasible (only m (kept ++ rest)) z) × Reaches m (kept ++ x ∷ []) rest s)
 
--- what holds on the way: all are infeasible together, and for each kept side there is a point that meets all the others
+-- The rule's invariant. The kept sides and those still to be tried are infeasible together, and for each kept side a
+-- point meets all the other ones.
 pub record IsFiltered (m : Model) (kept rest : List Side) (points : List (List ℚ)) : Type 0 where
   pub present : All (IsSide m) (kept ++ rest)
   pub infeasible : IsInfeasible (only m (kept ++ rest))

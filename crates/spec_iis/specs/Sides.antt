@@ -20,7 +20,7 @@ pub record IsSide (m : Model) (s : Side) : Type 0 where
   pub inside : s.at < (if s.row then height m else width m)
   pub there : (b : ℚ) × (end_of s.upper (limits_at m s) ≡ Some b)
 
--- the same row or column, and the same one of its two sides
+-- whether two Booleans are equal, as whether two sides are both of rows, or both upper ones
 abbrev pub same_way : Bool → Bool → Bool
 same_way true b = b
 same_way false b = not b
@@ -33,7 +33,7 @@ same_side s t = same_way s.row t.row && ((s.at == t.at) && same_way s.upper t.up
 unfoldable pub is_listed : List Side → Side → Bool
 is_listed sides s = list_any (same_side s) sides
 
--- each of the first ones is one of the others
+-- each of the few sides is in the list `more`
 abbrev pub Among : List Side → List Side → Type 0
 Among few more = All (λ s. is_listed more s ≡ true) few
 

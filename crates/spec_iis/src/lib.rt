@@ -63,7 +63,8 @@ pub fn used_sides_are_infeasible()
         check_run limit m cert ≡ Ok known.Infeasible → All (IsRead limit m) (used m cert) }
 {}
 
-/// Those of some sides that an accepted certificate uses, which is of the model with them alone, clash.
+/// Where the checker accepts a certificate for the model with some sides alone, those of them that the certificate uses
+/// are infeasible together.
 pub fn sides_that_a_certificate_uses_clash()
     ensures { (limit : Option ℕ) (m : Model) (sides : List Side) (cert : Certificate (List ℚ)) → All (IsSide m) sides →
         IsFor (only m sides) cert → check_run limit (only m sides) cert ≡ Ok known.Infeasible →
@@ -78,14 +79,15 @@ pub fn sides_beside_a_clash_are_not_needed()
         IsClash m (kept ++ x ∷ rest) few → is_listed few x ≡ false → IsClash m (kept ++ rest) few }
 {}
 
-/// Some sides alone of a usual model that may be kept make one that may be kept, if the limits in it are narrow.
+/// A usual model with some of its sides alone is a usual model, if the limits in it have at most 127 bits.
 pub fn sides_alone_may_be_kept()
     ensures { (m : Model) (sides : List Side) →
         IsUsualModel m → All IsNarrowRow (only m sides).rows → IsUsualModel (only m sides) }
 {}
 
-/// Where no side is left to be tried, the sides that the rule keeps are irreducible. It begins with sides that are
-/// infeasible together. It leaves a side out where the others are, and keeps it with a point that meets the others.
+/// Where no side is left to be tried, the sides that the rule keeps are irreducible. The rule begins with sides that
+/// are infeasible together. It leaves out a side without which all the remaining sides are still infeasible together,
+/// and keeps a side with a point that meets all the remaining ones.
 pub fn the_rule_keeps_what_is_needed()
     ensures begin { (m : Model) (sides : List Side) →
         All (IsSide m) sides → IsInfeasible (only m sides) → IsFiltered m [] sides [] }

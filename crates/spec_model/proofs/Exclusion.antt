@@ -30,7 +30,7 @@ below v =
     subst₂ ◌≤ℚ◌ (neg-whole (pos (suc (floor (neg_ℚ v)))))
     (neg-neg v) (<ℚ-le _ _ (neg_strict _ _ (below_floor (neg_ℚ v))))
 
--- a whole number, so that what is better than it is better than v
+-- for each v there is a whole number k such that any number that is better than k is better than v
 past : (s : Sense) (v : ℚ) → (k : ℤ) × ((w : ℚ) → IsBetter s w (whole k) → IsBetter s w v)
 past Min v = (neg_ℤ (pos (suc (floor (neg_ℚ v)))), λ w h. <ℚ-≤ℚ_trans w _ v h (below v))
 past Max v = (pos (suc (floor v)), λ w h. ≤ℚ-<ℚ_trans v _ w (<ℚ-le _ _ (below_floor v)) h)

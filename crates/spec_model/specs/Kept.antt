@@ -47,7 +47,8 @@ is_printable b = nat_le 33 b && nat_le b 126
 unfoldable pub is_name : Name → Bool
 is_name bytes = nat_lt 0 (length bytes) && nat_le (length bytes) 64 && list_all is_printable bytes
 
--- a name of a row or of the objective: the word that marks integer columns in texts of models is none
+-- whether bytes may name a row or the objective: they are a name, and not the word 'MARKER', with which texts set
+-- integer columns apart
 unfoldable pub is_row_name : Name → Bool
 is_row_name bytes = is_name bytes && not (same bytes (codes "'MARKER'"))
 

@@ -107,7 +107,7 @@ bounds_of c = record { lower = c.lower; upper = c.upper }
 
 -- ---- rows, columns and entries by their numbers
 
--- what is read where there is no row of this number
+-- the row that stands for any row number that the model does not have
 abbrev pub no_row : ExactRow
 no_row = record { name = []; kind = L; rhs = 0ℚ; range = None }
 
@@ -115,19 +115,19 @@ no_row = record { name = []; kind = L; rhs = 0ℚ; range = None }
 abbrev pub no_column : ExactColumn
 no_column = record { name = []; cost = 0ℚ; lower = None; upper = None; entries = [] }
 
--- the number of columns
+-- the number of columns of a model
 abbrev pub width : Model → ℕ
 width m = length m.columns
 
--- the number of rows
+-- the number of rows of a model
 abbrev pub height : Model → ℕ
 height m = length m.rows
 
--- column j
+-- column j of a model; `no_column` where the model has fewer
 abbrev pub column : Model → ℕ → ExactColumn
 column m j = get_or m.columns j no_column
 
--- row i
+-- row i of a model; `no_row` where the model has fewer
 abbrev pub row : Model → ℕ → ExactRow
 row m i = get_or m.rows i no_row
 

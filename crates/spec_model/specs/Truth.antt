@@ -5,7 +5,7 @@ use Rattle.spec_model.specs.declared.parts.Sense.{Sense}
 use Rattle.spec_model.specs.declared.parts.Sense.TheVariants.{Min, Max}
 use Rattle.spec_model.specs.Model.{Model, Limits, width, height, bounds, limits, activity, value_of, part}
 
--- v is at least the lower limit and at most the upper one, as far as they are there
+-- v is at least the lower limit, if there is one, and at most the upper limit, if there is one
 pub record IsBetween (l : Limits) (v : ℚ) : Type 0 where
   pub lower : IfSome l.lower (λ k. k ≤ℚ v)
   pub upper : IfSome l.upper (λ k. v ≤ℚ k)
@@ -26,7 +26,7 @@ pub record IsOptimal (m : Model) (v : ℚ) : Type 0 where
   pub point : (z : List ℚ) × IsFeasible m z × (value_of m z ≡ v)
   pub best : (z : List ℚ) → IsFeasible m z → ¬ (IsBetter m.sense (value_of m z) v)
 
--- no point is feasible
+-- no point is feasible in the model
 abbrev pub IsInfeasible : Model → Type 0
 IsInfeasible m = (z : List ℚ) → ¬ (IsFeasible m z)
 

@@ -1,6 +1,7 @@
 -- What a data card of a section leaves in the state as it was.
 --
--- `changed_unseen`: where a change of an element does not change how it is viewed, a list's view stays.
+-- `changed_unseen`: where a change of an element does not alter what a function gives for it, what it gives for a
+--   list's elements stays.
 -- `card_leads`: a data card that the reader takes changes nothing but what belongs to its section.
 use Rattle.std.proofs.Common.{◌≡◌, ℕ, zero, suc, Bool, true, false, not, ◌&&◌, cond}
 use Rattle.std.proofs.Common.{Some, None, Ok, List, [], ◌∷◌, ◌++◌, map, refl}

@@ -1,7 +1,7 @@
 -- Cards of RHS or of RANGES give numbers to rows, and the state has these numbers.
 --
 -- `row_put`: a change that sets the number of a row without one, and keeps kind and name, puts it there alone.
--- `viewed_row`: two lists of rows with the same view show the same at each place.
+-- `viewed_row`: where two lists of rows agree in what `view` keeps of a row, f gives the same at each place of both.
 -- `row_counts`: whether a row counts depends on its kind alone.
 use Rattle.std.proofs.Common.{◌≡◌, ◌≢◌, ℕ, zero, suc, ◌<◌, Bool, true, false, cond, eqb, eq-eqb, Option}
 use Rattle.std.proofs.Common.{Some, None, Ok, List, [], ◌∷◌, ◌++◌, length, map, refl}

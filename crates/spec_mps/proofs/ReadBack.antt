@@ -1,6 +1,6 @@
 -- The text that a number of any width is written as is read as that number.
 --
--- `text_is`: a number's text is its narrow text where it fits 127 bits, and else a sign and whole digits.
+-- `text_is`: a number's text is its text of at most 127 bits where it fits 127 bits, and else a sign and whole digits.
 -- `same_text`: a number within 127 bits has the same text in the wide format as in the narrow one.
 -- `read_again`: a number whose text has at most 16,384 bytes is read again from the text it is written as.
 use Rattle.std.proofs.Common.{◌≡◌, ℕ, zero, suc, ◌*◌, ◌^◌, ◌<◌, ◌≤◌, Bool, true, false, cond}

@@ -46,13 +46,13 @@ labels rows = map (λ r. (r.kind, r.name)) rows
 abbrev pub row_view : State → RowView
 row_view s = record { objective = s.objective; rows = labels s.rows }
 
--- a view that leaves kinds and names leaves those of a list of rows
+-- changing each row of a list so that its kind and name stay leaves the list's kinds and names
 same_labels : (view : ExactRow → ExactRow) → ((r : ExactRow) → (view r).kind ≡ r.kind) →
     ((r : ExactRow) → (view r).name ≡ r.name) → (rows : List ExactRow) → labels (map view rows) ≡ labels rows
 same_labels view k n [] = refl
 same_labels view k n (r ∷ rows) = λ i. (k r i, n r i) ∷ same_labels view k n rows i
 
--- rows with the same view, which keeps kinds and names, have the same kinds and names
+-- two lists of rows that agree in parts with kind and name among them have the same kinds and names
 viewed_labels : (view : ExactRow → ExactRow) → ((r : ExactRow) → (view r).kind ≡ r.kind) →
     ((r : ExactRow) → (view r).name ≡ r.name) → (xs ys : List ExactRow) → map view xs ≡ map view ys →
     labels xs ≡ labels ys

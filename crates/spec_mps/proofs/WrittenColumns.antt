@@ -31,7 +31,7 @@ no_space b h =
 
 -- ---- blanks at both ends
 
--- blanks are spaces alone
+-- all bytes of `blanks n` are spaces
 all_blank : (n : ℕ) → list_all is_space (blanks n) ≡ true
 all_blank zero = refl
 all_blank (suc n) = all_blank n

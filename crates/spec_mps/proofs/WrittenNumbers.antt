@@ -1,6 +1,6 @@
 -- The text of a number within 127 bits is a word.
 --
--- `printed`: digits are printable bytes.
+-- `printed`: a text of digits is of printable bytes.
 -- `has_some`: a text with a positive length has bytes.
 -- `longer`: a word with more printable bytes behind it is a word.
 -- `number_word`: the text of a fraction with numerator and denominator within 127 bits is a word.

@@ -1,6 +1,6 @@
 -- What stands before ROWS in a written text: the model's name and its sense.
 --
--- `heading_word`: NAME is a word.
+-- `heading_word`: the word NAME is a word of a card: not empty, without blanks.
 -- `start_is_read`: the cards before ROWS of a kept model lead the reader to the model's name and sense.
 use Rattle.std.proofs.Common.{◌≡◌, ℕ, true, Some, None, Ok, List, [], ◌∷◌, length, refl, ap, ◌∙◌}
 use Rattle.std.specs.Prelude.{codes, nat_le}

@@ -44,7 +44,7 @@ both_card (Finite v) = Ok (SetsBoth (Some v) (Some v))
 both_card PlusInf = Err code.BoundKind
 both_card MinusInf = Err code.BoundKind
 
--- a text as a bound, or the code of what is wrong with it
+-- the bound that a text spells, or the code of its fault
 unfoldable pub bound_in : List ℕ → Check (BoundValue ℚ)
 bound_in text = coded (bound_answer (bound_of text))
 
@@ -126,7 +126,7 @@ use_bound s kind texts = do
   card ← bound_card kind texts.value
   Ok (with_bound (record s { set = Some texts.set }) place card)
 
--- the state after a card of BOUNDS, or what is wrong with it
+-- the state after a card of BOUNDS, or the code of the card's fault
 unfoldable pub bounds_card : Style → State → Fields → Check State
 bounds_card style s fields = do
   kind ← bound_kind_of (text_at 1 fields)

@@ -5,7 +5,7 @@ use Rattle.spec_mps.specs.declared.fault.Code.TheVariants as code
 use Rattle.spec_mps.specs.declared.number.NumFault.{NumFault}
 use Rattle.spec_mps.specs.declared.number.NumFault.TheVariants as fault
 
--- a result, or the code of what is wrong with a text
+-- a result, or the code of a text's fault
 abbrev pub Check : Type 0 → Type 0
 Check A = Result A Code
 
@@ -20,12 +20,12 @@ abbrev pub must : Bool → Code → Check ⊤
 must true code = Ok tt
 must false code = Err code
 
--- goes on with what is there
+-- the value that was found, or the given fault where there is none
 abbrev pub need : {A : Type 0} → Option A → Code → Check A
 need None code = Err code
 need (Some x) code = Ok x
 
--- the code of what is no number
+-- the code of the fault of a text that should be a number
 abbrev pub fault_code : NumFault → Code
 fault_code fault.Shape = code.NumberShape
 fault_code fault.Wide = code.NumberWide

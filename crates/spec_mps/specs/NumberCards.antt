@@ -57,7 +57,7 @@ set_on card = (side_of (texts_of card)).set
 abbrev pub pairs_on : Fields → Pairs
 pairs_on card = (side_of (texts_of card)).pairs
 
--- the same name, or none on both
+-- whether two cards name the same set, or neither of both names one
 abbrev pub is_same_set : Option Name → Option Name → Bool
 is_same_set None None = true
 is_same_set (Some a) (Some b) = same a b

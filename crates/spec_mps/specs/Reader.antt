@@ -81,7 +81,7 @@ unfoldable pub place_of : State → Name → Option Target
 place_of s name =
     if is_objective s.objective name then Some Objective else row_at (position (λ r. same r.name name) s.rows)
 
--- a text as a number within 127 bits, or the code of what is wrong with it
+-- the number of at most 127 bits that a text spells, or the code of its fault
 unfoldable pub number_in : List ℕ → Check ℚ
 number_in text = coded (answer (number_of text))
 
@@ -119,7 +119,7 @@ add_row limits s kind name = do
   _ ← must (is_first s kind || nat_lt (length s.rows) limits.rows) code.Limit
   Ok (with_row s kind name)
 
--- the state after a card of ROWS, or what is wrong with it
+-- the state after a card of ROWS, or the code of the card's fault
 unfoldable pub rows_card : SizeLimits → Style → State → Fields → Check State
 rows_card limits style s fields = do
   _ ← shaped style section.Rows fields
@@ -132,12 +132,12 @@ rows_card limits style s fields = do
 abbrev pub new_column : Name → ExactColumn
 new_column name = record { name = name; cost = 0ℚ; lower = Some 0ℚ; upper = None; entries = [] }
 
--- the whole columns and the one that cards are read of
+-- the columns whose cards are all read, and behind them the column whose cards are being read, if any
 abbrev pub columns_with : List ExactColumn → Option ExactColumn → List ExactColumn
 columns_with columns None = columns
 columns_with columns (Some column) = columns ++ column ∷ []
 
--- all columns so far
+-- all columns that were read, with the one whose cards are being read
 abbrev pub whole_columns : State → List ExactColumn
 whole_columns s = columns_with s.columns s.column
 
@@ -183,7 +183,7 @@ column_pair s name text = do
   v ← number_in text
   enter s t v
 
--- texts in pairs
+-- the texts of a list in pairs; a single last one is dropped
 abbrev pub pairs_of : List (List ℕ) → List (List ℕ × List ℕ)
 pairs_of [] = []
 pairs_of (a ∷ []) = []
@@ -206,12 +206,12 @@ column_by limits s (name ∷ texts) = do
   t ← opened limits s name
   column_pairs t (pairs_of texts)
 
--- the field that says 'MARKER' on a card that marks whole columns
+-- the number of the field that says 'MARKER' on a card that marks integer columns
 abbrev pub marker_field : Style → ℕ
 marker_field Free = 2
 marker_field Fixed = 3
 
--- the state after a card of COLUMNS, or what is wrong with it
+-- the state after a card of COLUMNS, or the code of the card's fault
 unfoldable pub columns_card : SizeLimits → Style → State → Fields → Check State
 columns_card limits style s fields = do
   _ ← must (not (same (text_at (marker_field style) fields) (codes "'MARKER'"))) code.Integer

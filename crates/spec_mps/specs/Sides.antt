@@ -54,7 +54,7 @@ changed_at i change [] = []
 changed_at zero change (x ∷ xs) = change x ∷ xs
 changed_at (suc i) change (x ∷ xs) = x ∷ changed_at i change xs
 
--- what is done with the pairs of a card of the set that is used; a card of another set is skipped
+-- the state after a card: its pairs are taken where its set is the one that is used, and else the card is skipped
 abbrev pub if_used : (State → List (List ℕ × List ℕ) → Check State) → State → SetAndPairs → Check State
 if_used take s card = if is_used s.set card.set then take (record s { set = Some card.set }) card.pairs else Ok s
 
@@ -127,10 +127,10 @@ rhs_by s card = if_used side_pairs s card
 unfoldable pub ranges_by : State → SetAndPairs → Check State
 ranges_by s card = if_used range_pairs s card
 
--- the state after a card of RHS, or what is wrong with it
+-- the state after a card of RHS, or the code of the card's fault
 unfoldable pub rhs_card : Style → State → Fields → Check State
 rhs_card style s fields = set_card section.RightSides rhs_by style s fields
 
--- the state after a card of RANGES, or what is wrong with it
+-- the state after a card of RANGES, or the code of the card's fault
 unfoldable pub ranges_card : Style → State → Fields → Check State
 ranges_card style s fields = set_card section.Ranges ranges_by style s fields

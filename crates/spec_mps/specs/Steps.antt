@@ -103,7 +103,7 @@ pub data Progress : Type 0 where
   More : (state : State) → Progress
   Done : (model : Model) → Progress
 
--- what a line leads to, or what is wrong with it
+-- what a line of a model's text leads to, or the code of the line's fault
 abbrev pub Outcome : Type 0
 Outcome = Check Progress
 
@@ -171,7 +171,7 @@ reading_of Free part bytes = free_fields bytes
 reading_of Fixed (Some section.Sense) bytes = free_fields bytes
 reading_of Fixed part bytes = fixed_fields bytes
 
--- what a line leads to from a state, or what is wrong with it
+-- what a line of a model's text leads to from a state, or the code of the line's fault
 unfoldable pub step : SizeLimits → Style → State → Line (List ℕ) → Outcome
 step limits style s (Text bytes) = on_reading limits style s (reading_of style s.part bytes)
 step limits style s (Long len) = Err code.Limit

@@ -15,7 +15,7 @@ use Rattle.spec_mps.specs.Fields.{Fields, word_fields, column_fields, text_at}
 abbrev pub Lines : Type 0
 Lines = List (Line (List ℕ))
 
--- a line's bytes
+-- the bytes of a line; none for one that is too long, and for the end
 abbrev pub bytes_of : Line (List ℕ) → List ℕ
 bytes_of (Text bytes) = bytes
 bytes_of (Long length) = []
@@ -33,7 +33,7 @@ section_word section.Ranges = codes "RANGES"
 section_word section.Bounds = codes "BOUNDS"
 section_word section.End = codes "ENDATA"
 
--- neither a comment nor blank, and something stands in column 1
+-- whether a line is the heading of a section: no comment, not blank, and with a byte other than a blank in column 1
 abbrev pub is_heading : Line (List ℕ) → Bool
 is_heading line = not (is_skipped (bytes_of line)) && not (begins_with_blank (bytes_of line))
 
@@ -41,7 +41,7 @@ is_heading line = not (is_skipped (bytes_of line)) && not (begins_with_blank (by
 abbrev pub begins : Section → Line (List ℕ) → Bool
 begins part line = is_heading line && same (text_at 1 (word_fields (bytes_of line))) (section_word part)
 
--- the lines before ENDATA
+-- the lines of a text before the heading ENDATA
 unfoldable pub lines_up_to_end : Lines → Lines
 lines_up_to_end lines = before_first (begins section.End) lines
 

@@ -18,7 +18,7 @@ ghost use Rattle.spec_mps.specs.WideText.{most_zeros, wide_of};
 ghost use Rattle.spec_mps.specs.WideText as wide;
 ghost use Rattle.spec_mps.specs.WideWritten.{wide_text};
 
-/// What is read as a number of at most 127 bits is read as the same number here.
+/// A text that the reader of numbers of at most 127 bits takes is read as the same number by the reader of any width.
 pub fn narrow_numbers_are_read_the_same()
     ensures { (text : List ℕ) (q : ℚ) → number_of text ≡ number.Is q → wide_of text ≡ wide.Is q }
 {}

@@ -79,7 +79,8 @@ not_at_bound Down b k v AtLower n st c e = c
 not_at_bound Down b k v AtUpper n st c e = n (v, e, st)
 not_at_bound Down b k v AtZero n st c e = let z : None ≡ Some v = sym st.0 ∙ e in cc
 
--- a column is basic, can move that way, or has the status of the bound ahead
+-- a column is basic, or can move the given way, or has the status of the bound in that way: the upper one for up, the
+-- lower one for down
 by_status : {P : Type 0} (way : Way) (s : Status) → (s ≡ Basic → P) → (¬ (s ≡ Basic) → CanMove way s → P) →
     (¬ (s ≡ Basic) → s ≡ bound_ahead way → P) → P
 by_status way Basic f g h = f refl
@@ -90,7 +91,7 @@ by_status Down AtLower f g h = h (λ e. cc) refl
 by_status Down AtUpper f g h = g (λ e. cc) tt
 by_status Down AtZero f g h = g (λ e. cc) tt
 
--- a column with the status of the bound ahead cannot move that way
+-- a column cannot move up where its status is at its upper bound, nor down where its status is at its lower bound
 no_move : (way : Way) (s : Status) → CanMove way s → s ≡ bound_ahead way → ⊥
 no_move Up s c e = subst (CanMove Up) e c
 no_move Down s c e = subst (CanMove Down) e c
@@ -102,12 +103,13 @@ stands_ahead : (way : Way) (b : Bounds) (k : ℕ) (v : ℚ) (s : Status) → s �
 stands_ahead Up b k v s e = subst (λ s. Stands s (b.lower k) (b.upper k) v) e
 stands_ahead Down b k v s e = subst (λ s. Stands s (b.lower k) (b.upper k) v) e
 
--- a column that goes a way and is blocked stands at the bound ahead
+-- a column that moves and is blocked is at its upper bound where it moves up, and at its lower bound where it moves
+-- down
 blocked_ahead : (way : Way) (b : Bounds) (k : ℕ) (v r : ℚ) → Goes way r → IsBlocked b k v r → ahead way b k ≡ Some v
 blocked_ahead Up b k v r p = ⊎_elim (λ u. u.1) (λ l. clash_ℚ _ _ p (<ℚ-le _ _ l.0))
 blocked_ahead Down b k v r p = ⊎_elim (λ u. clash_ℚ _ _ p (<ℚ-le _ _ u.0)) (λ l. l.1)
 
--- a column that goes a way and stands at the bound ahead is blocked
+-- a column that moves up and is at its upper bound is blocked, and so is one that moves down and is at its lower bound
 blocked_back : (way : Way) (b : Bounds) (k : ℕ) (v r : ℚ) → Goes way r → ahead way b k ≡ Some v → IsBlocked b k v r
 blocked_back Up b k v r p e = inl (p, e)
 blocked_back Down b k v r p e = inr (p, e)

@@ -12,10 +12,10 @@
 -- `back`: each row before a pivot is a combination of the rows after it, where the pivot entry is not 0.
 -- `pivot_row_zero`: where the row of the pivot has 0 in a column, it still has after the pivot.
 -- `kept`: where the row of the pivot has 0 in a column, the pivot changes no row in that column.
--- `new_unit`: after a pivot its column is 1 in the row of the pivot and 0 in the others.
+-- `new_unit`: after a pivot the entering column is 1 in the row of the pivot and 0 in all other rows.
 -- `entered_at`: after a pivot the entering column is basic at the position of the pivot.
 -- `entered_off`: after a pivot each other position has the basic column that it had.
--- `units`: where the basic columns are unit columns, they are so after a pivot on an entry other than 0.
+-- `units`: a pivot on an entry other than 0 leaves the basic columns unit columns.
 use Rattle.std.proofs.Common.{◌≡◌, ℕ, zero, suc, ◌+◌, ◌<◌, ◌≢◌, cond, nat_eq, refl}
 use Rattle.std.proofs.Common.{sym, ap, ap₂, ◌∙◌, subst, arith, eq-eqb, ne_eqb, ⊎_elim}
 use Rattle.std.proofs.lemmas.Bool.{cases_eq}

@@ -1,13 +1,13 @@
 -- What the scan of the ratio test finds, and how the room of a column follows from its bounds.
 --
--- `won`: a ratio that is better than the best so far is less, or equal in a lesser column.
--- `better_still`: what replaces the best so far is no worse than anything that the best was no worse than.
+-- `won`: a ratio that replaces the best one found before it is less, or equal in a column of a lesser number.
+-- `better_still`: a ratio that replaces the best one is no worse than anything that the replaced one was no worse than.
 -- `no_more`: a best that is no worse than a ratio is at most that ratio.
 -- `no_later`: a best that is no worse than its own ratio in another column has a column that is no greater.
 -- `reaches`: a move by (a - v) / r at the rate r leads from v to a.
 -- `reaches_down`: a move by (v - a) / s downward at the rate s leads from v to a.
--- `blocked_room`: a column that is at the bound ahead after a move by q has the room q.
--- `room_blocked`: a column with the room q is at the bound ahead after a move by q.
+-- `blocked_room`: where a column is blocked by a bound after a move by q, its room before the move is q.
+-- `room_blocked`: a column with the room q is blocked by a bound after a move by q.
 use Rattle.std.proofs.Common.{◌≡◌, ℕ, zero, suc, ◌<◌, ◌≤◌, ◌⊎◌, Option, Some, None, Bool, true}
 use Rattle.std.proofs.Common.{false, not, ◌&&◌, ◌||◌, cond, nat_lt, option_map, refl, sym}
 use Rattle.std.proofs.Common.{ap, ◌∙◌, subst, arith, inl, inr, ⊎_elim, ltb-true, ltb-false}

@@ -18,7 +18,7 @@ use Rattle.spec_pivot.proofs.Ray.{ray_at}
 use Rattle.spec_pivot.proofs.Ratio.{no_later, IsFoundAt, found, scan_least, blocked_room, room_blocked}
 use Rattle.spec_pivot.proofs.Best.{best_has_room}
 
--- a column that is blocked is at the bound ahead
+-- a column that is blocked is at its upper bound where it rises, and at its lower bound where it falls
 ahead_stands : (b : Bounds) (k : ℕ) (v r : ℚ) → IsBlocked b k v r →
     Stands (bound_ahead (way_of r)) (b.lower k) (b.upper k) v
 ahead_stands b k v r (inl h) = rw (lt_test 0ℚ r h.0) h.1

@@ -6,7 +6,8 @@
 -- `at_or`: the values that are v at index q, and x elsewhere.
 -- `at_own`: values that are v at index q, and x elsewhere, are v at q.
 -- `at_other`: values that are v at index q, and x elsewhere, are x at any other index.
--- `term_least`: a coefficient times a value within bounds is least at the bound that the coefficient's sign asks for.
+-- `term_least`: a coefficient times a value within bounds is least at the lower bound for a coefficient above 0, at the
+--   upper for one below 0.
 -- `refuted`: a combination of rows that makes more than 0 within the bounds leaves no solution.
 use Rattle.std.proofs.Common.{◌≡◌, ◌≢◌, ℕ, ◌<◌, Option, Some, None, IfSome, cond, nat_eq}
 use Rattle.std.proofs.Common.{refl, sym, ap, ap₂, ◌∙◌, subst, subst₂, eq-eqb, ne_eqb, ⊎_elim}

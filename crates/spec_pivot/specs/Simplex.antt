@@ -10,7 +10,7 @@ use Rattle.spec_pivot.specs.Tableau.{Matrix, Spans, delta, IsUnit, pivot_row, pi
 
 -- ---- bounds
 
--- the two bounds of each column, as far as they are there, and which columns never enter, as artificial ones
+-- the two bounds of each column, each of which may be absent, and which columns never enter, as artificial ones
 pub record Bounds : Type 0 where
   pub lower : ℕ → Option ℚ
   pub upper : ℕ → Option ℚ
@@ -24,7 +24,7 @@ IsFixed b k = (v : ℚ) × (b.lower k ≡ Some v) × (b.upper k ≡ Some v)
 abbrev pub MayEnter : Bounds → ℕ → Type 0
 MayEnter b k = (b.barred k ≡ false) × ¬ (IsFixed b k)
 
--- v is at least the lower bound and at most the upper one, as far as they are there
+-- v is at least the lower bound, if there is one, and at most the upper bound, if there is one
 pub record IsInside (l u : Option ℚ) (v : ℚ) : Type 0 where
   pub lower : IfSome l (λ k. k ≤ℚ v)
   pub upper : IfSome u (λ k. v ≤ℚ k)
@@ -70,7 +70,7 @@ pub record IsTableau (m n : ℕ) (f : Matrix) (cost : ℕ → ℚ) (b : Bounds) 
 abbrev pub IsWithin : ℕ → Bounds → Table → Type 0
 IsWithin n b t = (k : ℕ) → k < n → IsInside (b.lower k) (b.upper k) (t.value k)
 
--- the same basic columns, and the same statuses of the others
+-- two tables give each of the first n columns the same status, so they have the same basic columns
 abbrev pub SameStatuses : ℕ → Table → Table → Type 0
 SameStatuses n t u = (k : ℕ) → k < n → t.status k ≡ u.status k
 

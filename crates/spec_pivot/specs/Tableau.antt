@@ -28,6 +28,6 @@ Spans m s t = (w : Matrix) × ((i k : ℕ) → i < m → s i k ≡ sum_below m (
 abbrev pub delta : ℕ → ℕ → ℚ
 delta i r = cond (nat_eq i r) 1ℚ 0ℚ
 
--- each of the m basic columns is 1 in its own row and 0 in the others
+-- each of the m basic columns is 1 in its own row and 0 in all other rows
 abbrev pub IsUnit : ℕ → Matrix → (ℕ → ℕ) → Type 0
 IsUnit m t basic = (i r : ℕ) → i < m → r < m → t r (basic i) ≡ delta i r

@@ -44,8 +44,8 @@ pub use dual::{
 };
 pub use status::{Status, Way};
 
-/// A pivot keeps the span of the rows, and makes the entering column a unit column beside the others
-/// (Chvátal, Linear Programming, chapters 2 and 8).
+/// A pivot keeps the span of the rows. It makes the entering column a unit column, and leaves the basic columns that
+/// stay unit columns (Chvátal, Linear Programming, chapters 2 and 8).
 pub fn pivots_keep_rows()
     ensures forth { (m : ℕ) (t : Matrix) (p j : ℕ) →
         p < m → ¬ (t p j ≡ 0ℚ) → Spans m (pivoted t p j) t }
