@@ -1,7 +1,7 @@
 -- A certificate beside a free row: the row's multiplier is 0, and all else is as without the row.
 --
--- `free_row-checks`: a certificate checks without a free row exactly where, with a 0 put in for that row, it checks
---   with it.
+-- `free_row-checks`: a certificate checks for the model without a free row exactly where it checks for the model with
+--   the multiplier 0 for that row.
 -- `free_row-optimal`: an optimal certificate that checks has the multiplier 0 for a free row.
 -- `free_row-infeasible`: Farkas multipliers that check have 0 for a free row.
 use Rattle.std.proofs.Common.{◌≡◌, ◌↔◌, ℕ, ◌+◌, ◌<◌, ◌≤◌, List, length, Option, Some, None, true}

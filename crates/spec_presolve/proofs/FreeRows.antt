@@ -1,13 +1,15 @@
 -- A model without its free rows: one free row after the other goes, the last first.
 --
 -- `optimal_without`: a number is a model's optimal value exactly where it is that of the model without its free rows.
--- `infeasible_without`: a model is infeasible exactly where it is so without its free rows.
--- `unbounded_without`: a model is unbounded exactly where it is so without its free rows.
+-- `infeasible_without`: a model is infeasible exactly where the model without its free rows is infeasible.
+-- `unbounded_without`: a model is unbounded exactly where the model without its free rows is unbounded.
 -- `rows_without`: the rows of a model without its free rows are those of its rows that are not free, in their order.
--- `checks_without`: a certificate checks exactly where its free rows have 0, and the rest checks without these rows.
+-- `checks_without`: a certificate checks exactly where its multipliers of free rows are 0 and, without these, it checks
+--   for the model without free rows.
 -- `fits_and_shows`: without the free rows' multipliers a certificate fits the model without these rows, and shows the
 --   same.
--- `comes_from`: a certificate that checks without the free rows is what is left of one that checks with them.
+-- `comes_from`: a certificate that checks for the model without free rows comes from one that checks for the model,
+--   less the multipliers of free rows.
 use mathlib.Core.Logic.Iff.{trans}
 use Rattle.std.proofs.Common.{◌≡◌, ◌↔◌, ℕ, zero, suc, ◌+◌, ◌<◌, ◌≤◌, Bool, true, false, not, cond}
 use Rattle.std.proofs.Common.{List, [], ◌∷◌, length, get_or, refl, sym, ap, ◌∙◌, subst, arith, ⊎_elim}

@@ -33,7 +33,7 @@ Is m i n More = Unit {0}
 last : (P : ℕ → Type 0) (n k : ℕ) → k < suc n → (k < n → P k) → P n → P k
 last P n k l before now = ⊎_elim (λ e. subst P (sym e) now) (λ o. before (omega (arith, l, o))) (cases_eq k n)
 
--- what is found in a row's first n columns is found in n + 1 where the row has no entry in column n
+-- where row i has no entry in column n, its entries in the first n + 1 columns are those in the first n
 more : (m : Model) (i n : ℕ) (found : InRow ℚ) → Is m i n found → coefficient m i n ≡ 0ℚ → Is m i (suc n) found
 more m i n Nothing h e = λ k l. last (λ k. coefficient m i k ≡ 0ℚ) n k l (λ p. h k p) e
 more m i n (One j a) h e = record {

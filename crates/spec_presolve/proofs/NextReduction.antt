@@ -241,12 +241,12 @@ near_is q None e h = tt
 near_is q (Some v) e h =
     lt_if (abs_ℚ v) (whole (pos (10 ^ 20))) (not-false _ (subst (λ q. is_far q ≡ false) (h v refl) e))
 
--- where q is narrow and a bound can only be q, the bound is narrow
+-- where q has at most 127 bits and a bound can only be q, the bound has at most 127 bits
 narrow_is : (q x : Option ℚ) → IfSome q IsNarrow → ((v : ℚ) → x ≡ Some v → q ≡ Some v) → IfSome x IsNarrow
 narrow_is q None n h = tt
 narrow_is q (Some v) n h = subst (λ o. IfSome o IsNarrow) (h v refl) n
 
--- a quotient of a limit that is worked out under the number limit is narrow
+-- a quotient of a limit that is worked out under the number limit has at most 127 bits
 quotient_is_narrow : (limit : Option ℕ) (o q : Option ℚ) (a : ℚ) → quotient limit o a ≡ Ok q →
     limit ≡ Some number_limit →
     IfSome q IsNarrow

@@ -92,17 +92,17 @@ moved_is : (t v : ℚ) (o : Option ℚ) → lessened t o ≡ Some v → o ≡ So
 moved_is t v None h = let z : None ≡ Some v = h in cc
 moved_is t v (Some b) h = let e : b -ℚ t ≡ v = cc in ap Some (sym (again b t) ∙ ap (λ w. w +ℚ t) e)
 
--- a number at the moved limit that a multiplier asks for is, with t added, at the limit itself
+-- a value that a multiplier makes tight at limits lessened by t is, with t added, tight at the limits themselves
 moved_tight : (t d v : ℚ) (l : Limits) → IsTight (moved t l) d v → IsTight l d (v +ℚ t)
 moved_tight t d v l h =
     record { above = λ p. moved_is t v l.lower (h.above p); below = λ p. moved_is t v l.upper (h.below p) }
 
--- a ray that is at least 0 where a moved limit is given is so where the limit itself is given
+-- where a ray is at least 0 if a limit lessened by t is there, it is at least 0 if the limit itself is there
 rises : (t r : ℚ) (o : Option ℚ) → IfSome (lessened t o) (λ _. 0ℚ ≤ℚ r) → IfSome o (λ _. 0ℚ ≤ℚ r)
 rises t r None h = tt
 rises t r (Some b) h = h
 
--- a ray that is at most 0 where a moved limit is given is so where the limit itself is given
+-- where a ray is at most 0 if a limit lessened by t is there, it is at most 0 if the limit itself is there
 falls : (t r : ℚ) (o : Option ℚ) → IfSome (lessened t o) (λ _. r ≤ℚ 0ℚ) → IfSome o (λ _. r ≤ℚ 0ℚ)
 falls t r None h = tt
 falls t r (Some b) h = h

@@ -1,7 +1,7 @@
 -- What is carried back over a row with one entry, where no operation is refused.
 --
--- `one_tight`: the multiplier 1 asks for the lower limit, where there is one.
--- `minus_tight`: the multiplier -1 asks for the upper limit, where there is one.
+-- `one_tight`: a value at the lower limit is tight for the multiplier 1.
+-- `minus_tight`: a value at the upper limit is tight for the multiplier -1.
 -- `minus_times`: -1 times a number is its negative.
 use Rattle.std.proofs.Common.{◌≡◌, ℕ, ◌<◌, Bool, true, false, cond, eqb, List}
 use Rattle.std.proofs.Common.{Option, Some, None, Ok, refl, sym, ap, ◌∙◌, subst, subst₂}

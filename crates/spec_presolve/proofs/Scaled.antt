@@ -7,7 +7,8 @@
 -- `scaled_between`: a value between the divided limits, times the entry, is between the limits.
 -- `scaled_allows`: a direction that the divided limits allow, times the entry, is one that the limits allow.
 -- `whole_of`: where a limit divided by the entry is v, the limit is the entry times v.
--- `scaled_tight`: a multiplier that asks for a divided limit, divided by the entry, asks for the limit itself.
+-- `scaled_tight`: a value that is tight for d at limits divided by a is, times a, tight for d / a at the limits
+--   themselves.
 -- `scaled_ordered`: where the lower limit is at most the upper one, so it is of the divided limits.
 use Rattle.std.proofs.Common.{◌≡◌, true, false, cond, Option, Some, None, IfSome}
 use Rattle.std.proofs.Common.{sym, ap, ◌∙◌, subst, subst₂}

@@ -2,8 +2,9 @@
 --
 -- `by_skip`: what holds of i, and of each index below n that skips i, holds of each index below n + 1.
 -- `skipping_inside`: an index below n that skips i is below n + 1.
--- `part_at`: a list with v put in at i has the part v there.
--- `part_skipping`: a list with v put in at i has its own parts at the indexes that skip i.
+-- `part_at`: after v is inserted into a list at i, the list has v at i.
+-- `part_skipping`: after v is inserted into a list at i, the list has its former number k at index k, or at k + 1 from
+--   i on.
 -- `sum_skipping`: a sum of n + 1 terms is the sum of those that skip index i, and term i.
 -- `sum_of_one`: where all terms but term j are 0, their sum is term j.
 -- `sum_but_one`: two sums whose terms are the same but at j differ by their terms at j.

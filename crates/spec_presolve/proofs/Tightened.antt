@@ -1,7 +1,7 @@
 -- Bounds that a row with one entry tightens.
 --
--- `asked_tight`: where the limit that a multiplier asks for exists, the multiplier is tight at it.
--- `tight_zero`: the multiplier 0 asks for no limit, so it is tight at any value.
+-- `asked_tight`: where the limit that goes with a multiplier's sign is there, that limit is tight for the multiplier.
+-- `tight_zero`: any value is tight for the multiplier 0.
 use Rattle.std.proofs.Common.{◌≡◌, Bool, true, false, cond, Option, Some, None, IfSome, is_some}
 use Rattle.std.proofs.Common.{refl, sym, ap, ◌∙◌, subst, subst₂}
 use Rattle.spec_exact.specs.Fraction.{ℚ, 0ℚ, neg_ℚ, ◌≤ℚ◌, ◌<ℚ◌, lt_ℚ}

@@ -26,7 +26,7 @@ alone_at n i v = insert (replicate n 0ℚ) i v
 
 -- ---- what the stops show
 
--- that no point is feasible, where it is so
+-- the certificate that no point is feasible, where the presolve stopped because it found that; else none
 abbrev pub halted : Model → Halt → Option ExactCertificate
 halted m halt.Done = None
 halted m (halt.Clash j) = Some (Clash j)

@@ -23,12 +23,12 @@ ExactChoice = Choice ℚ
 
 -- ---- what is first
 
--- what was found stands; else it is looked for so
+-- what was found already, or else what the run finds
 abbrev pub unless : {A : Type 0} → Option A → Run (Option A) → Run (Option A)
 unless None run = run
 unless (Some a) run = Ok (Some a)
 
--- what is found first, by f 0, f 1 .. f (n - 1)
+-- the first of f 0, f 1 .. f (n - 1) that finds something; none where no one does
 abbrev pub first : {A : Type 0} → ℕ → (ℕ → Run (Option A)) → Run (Option A)
 first n f = steps n (λ k found. unless found (f k)) None
 
@@ -62,7 +62,7 @@ abbrev pub in_row_below : Model → ℕ → ℕ → InRow ℚ
 in_row_below m i zero = Nothing
 in_row_below m i (suc n) = and_next (in_row_below m i n) n (coefficient m i n)
 
--- what is found in row i: no entry, one, or more
+-- the entries of row i in the model's columns: none, one, or more
 abbrev pub in_row : Model → ℕ → InRow ℚ
 in_row m i = in_row_below m i (width m)
 
@@ -100,7 +100,7 @@ abbrev pub quotient : Option ℕ → Option ℚ → ℚ → Run (Option ℚ)
 quotient limit None a = Ok None
 quotient limit (Some l) a = quotient_run limit l a >>= λ q. Ok (Some q)
 
--- no bound is as far from 0 as this
+-- whether a bound is given whose absolute value is 10^20 or more
 abbrev pub is_far : Option ℚ → Bool
 is_far None = false
 is_far (Some q) = not (lt_ℚ (abs_ℚ q) (whole (pos (10 ^ 20))))
@@ -123,7 +123,8 @@ given limit m i j a l u =
     raised limit l (bounds m j).lower >>= λ lower. cut limit u (bounds m j).upper >>= λ upper.
     Ok (Some (Reduce (Single i j a lower upper)))
 
--- a row that asks for a bound too far from 0 stays
+-- the reduction of row i with the one entry a, in column j; where it would give the column a bound of 10^20 or more,
+-- row i stays
 abbrev pub near : Option ℕ → Model → ℕ → ℕ → ℚ → Option ℚ → Option ℚ → Run (Option ExactChoice)
 near limit m i j a p q =
     if is_far p || is_far q then Ok None

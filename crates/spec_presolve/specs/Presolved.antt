@@ -48,7 +48,7 @@ IsLast last budget None end =
 
 -- ---- the model itself
 
--- it is solved as it is, for this reason
+-- the model was solved without reductions, for the reason `why`
 abbrev pub IsPlain : Model → ℕ → ExactWhy → ExactPresolved → Type 0
 IsPlain m budget why p =
     (p.way ≡ Plain why) × ((solved : SolveEnd) × IsSolved m budget None solved × (p.end ≡ solved.end))
@@ -72,7 +72,7 @@ ByLast m budget r (Ok (certificate, pivots)) p =
     ByCarried m budget r.last pivots (carried (Some number_limit) r.steps certificate) p
 ByLast m budget r (Err why) p = IsPlain m budget why p
 
--- by the reductions
+-- the model was solved by these reductions; where an operation of theirs was past the limit, without them
 abbrev pub ByReductions : Model → ℕ → Run Reductions → ExactPresolved → Type 0
 ByReductions m budget (Ok r) p =
     (end : LastEnd) × IsLast r.last budget (halted r.last r.halt) end × ByLast m budget r end p

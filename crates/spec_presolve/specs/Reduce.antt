@@ -49,7 +49,7 @@ abbrev pub proceed : Model → ExactChoice → (ExactReduction → Run Reduction
 proceed m (choice.Halt halt) next = Ok (record { steps = []; last = m; halt = halt })
 proceed m (Reduce r) next = next r
 
--- the first n
+-- at most n reductions of a model, one after the other, and the model that is left
 abbrev pub reduced_within : Option ℕ → ℕ → Model → Run Reductions
 reduced_within limit zero m = Ok (record { steps = []; last = m; halt = Done })
 reduced_within limit (suc n) m =

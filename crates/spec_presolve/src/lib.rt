@@ -109,7 +109,7 @@ pub fn reduced_models_may_be_kept()
         All (λ s. IsUsualModel s.1) r.steps × IsUsualModel r.last }
 {}
 
-/// What is known by a smaller model is true of the model itself.
+/// An answer that presolve and the solve of a smaller model give is true of the model itself.
 pub fn presolved_answers_are_true()
     ensures { (m : Model) (budget : ℕ) (p : ExactPresolved) (known : Known ℚ) (cert : Certificate (List ℚ))
         (basis : Option (List Status)) (pivots : ℕ) →

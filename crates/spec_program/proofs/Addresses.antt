@@ -21,7 +21,7 @@ IsNoServer (Read command style) = Unit {0}
 IsNoServer (Generate seed rows columns) = Unit {0}
 IsNoServer (Serve workers each places) = ⊥
 
--- where what a command's row asks for is no server, what words ask of the row is none
+-- where a row gives no command that starts a server, words give none by that row
 asked : (row : Row) (words : List Word) (command : ExactLine) →
     ((given : Given) → row.asks given ≡ Some command → IsNoServer command) → asked_by words row ≡ Some command →
     IsNoServer command
@@ -31,19 +31,19 @@ asked row words command none e = by (given_in (row.plain words) row.names row.sw
     by None h = absurd (none_is_not command h)
     by (Some given) h = none given h
 
--- a command line `run` with its numbers asks for no server
+-- the command `run` starts no server
 runs : (workers places : Option ℕ) (command : ExactLine) → run_by workers places ≡ Some command → IsNoServer command
 runs None places command e = absurd (none_is_not command e)
 runs (Some k) None command e = absurd (none_is_not command e)
 runs (Some k) (Some n) command e = let is : Run k n ≡ command = cc in subst IsNoServer is tt
 
--- a command line that reads a text asks for no server
+-- a command that reads a text starts no server
 reads : (text : ExactTextCommand) (style : Option Style) (command : ExactLine) →
     option_map (Read text) style ≡ Some command → IsNoServer command
 reads text None command e = absurd (none_is_not command e)
 reads text (Some style) command e = let is : Read text style ≡ command = cc in subst IsNoServer is tt
 
--- a command line `gen` with its numbers asks for no server
+-- the command `gen` with its numbers starts no server
 makes_by : (seed rows columns : Option ℕ) (command : ExactLine) → generate_by seed rows columns ≡ Some command →
     IsNoServer command
 makes_by None rows columns command e = absurd (none_is_not command e)
@@ -51,7 +51,7 @@ makes_by (Some s) None columns command e = absurd (none_is_not command e)
 makes_by (Some s) (Some n) None command e = absurd (none_is_not command e)
 makes_by (Some s) (Some n) (Some k) command e = let is : Generate s n k ≡ command = cc in subst IsNoServer is tt
 
--- words that ask for a generated model ask for no server
+-- the words behind `gen` give no command that starts a server
 makes : (words : List Word) (command : ExactLine) → generate_with words ≡ Some command → IsNoServer command
 makes [] command e = absurd (none_is_not command e)
 makes (seed ∷ []) command e = absurd (none_is_not command e)
@@ -60,17 +60,17 @@ makes (seed ∷ rows ∷ columns ∷ []) command e =
     makes_by (seed_of seed) (row_count_of rows) (column_count_of columns) command e
 makes (seed ∷ rows ∷ columns ∷ word ∷ words) command e = absurd (none_is_not command e)
 
--- the row of `serve` asks for nothing, where no words follow
+-- `serve` without further words gives no command
 serves_nothing : (command : ExactLine) → asked_by [] serve_row ≡ Some command → ⊥
 unfolding given_in
 serves_nothing command e = none_is_not command e
 
--- the row of `range` asks for nothing, where no words follow
+-- `range` without further words gives no command
 ranges_nothing : (command : ExactLine) → asked_by [] range_row ≡ Some command → ⊥
 unfolding given_in
 ranges_nothing command e = none_is_not command e
 
--- a command line of one word asks for no server
+-- a command line of one word starts no server
 alone : (word : Word) (command : ExactLine) → command_line_of (word ∷ []) ≡ Some command → IsNoServer command
 unfolding command_line_of
 alone word command e =
@@ -114,7 +114,7 @@ empty : (command : ExactLine) → command_line_of [] ≡ Some command → ⊥
 unfolding command_line_of
 empty command e = none_is_not command e
 
--- a command line that asks for a server has an address
+-- a command line that starts a server has an address
 pub has_address : (words : List Word) (workers each places : ℕ) →
     command_line_of words ≡ Some (Serve workers each places) →
     (address : Word) × (address_of words ≡ Some (record { address = address; workers = workers }))

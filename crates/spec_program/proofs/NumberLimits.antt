@@ -86,7 +86,7 @@ columns-within word n e = (number-within 512 3 word n e).1
 
 -- ---- commands
 
--- where what a command's row asks for has numbers within limits, so has what words ask of the row
+-- where each command that a row gives has numbers within limits, each command that words give by that row has
 row-fits : (row : Row) (words : List Word) (command : ExactLine) →
     ((given : Given) → row.asks given ≡ Some command → Fits command) → asked_by words row ≡ Some command →
     Fits command
@@ -120,14 +120,14 @@ read-fits : (asked : ExactTextCommand) (style : Option Style) (command : ExactLi
 read-fits asked None command e = absurd (none_is_not command e)
 read-fits asked (Some style) command e = let same : Read asked style ≡ command = cc in subst Fits same tt
 
--- the numbers of what words ask of a text's command are within their limits
+-- a command that reads a text has numbers within limits
 text-fits : (asked : ExactTextCommand) (words : List Word) (command : ExactLine) →
     asked_by words (text_row asked) ≡ Some command → Fits command
 text-fits asked words command e =
     row-fits (text_row asked) words command
     (λ given h. read-fits asked (form_given (look_up (codes "--form") given.options)) command h) e
 
--- the numbers of what words ask of a command with `--wide` or without are within their limits
+-- a command with `--wide` or without has numbers within limits
 wide-fits : (narrow wide : ExactTextCommand) (words : List Word) (command : ExactLine) →
     asked_by words (wide_row narrow wide) ≡ Some command → Fits command
 wide-fits narrow wide words command e =
@@ -142,7 +142,7 @@ range_by-fits None name style command e = absurd (none_is_not command e)
 range_by-fits (Some w) None style command e = absurd (none_is_not command e)
 range_by-fits (Some w) (Some n) style command e = read-fits (Range w n) style command e
 
--- the numbers of what the words behind `range` ask are within their limits
+-- the words behind `range` give a command whose numbers are within limits
 range_with-fits : (words : List Word) (options : Options) (command : ExactLine) →
     range_with words options ≡ Some command → Fits command
 range_with-fits [] options command e = absurd (none_is_not command e)
@@ -171,7 +171,7 @@ generate_by-fits (Some s) (Some n) None command r c e = absurd (none_is_not comm
 generate_by-fits (Some s) (Some n) (Some k) command r c e =
     let same : Generate s n k ≡ command = cc in subst Fits same (r n refl, c k refl)
 
--- the numbers of what the words behind `gen` ask are within their limits
+-- the words behind `gen` give a command whose numbers are within limits
 generate_with-fits : (words : List Word) (command : ExactLine) → generate_with words ≡ Some command → Fits command
 generate_with-fits [] command e = absurd (none_is_not command e)
 generate_with-fits (seed ∷ []) command e = absurd (none_is_not command e)
@@ -196,7 +196,7 @@ serve_by-fits (Some k) (Some c) None command w l p e = absurd (none_is_not comma
 serve_by-fits (Some k) (Some c) (Some n) command w l p e =
     let same : Serve k c n ≡ command = cc in subst Fits same (w k refl, l c refl, p n refl)
 
--- the numbers of what the words behind `serve` ask are within their limits
+-- the words behind `serve` give a command whose numbers are within limits
 serve_with-fits : (words : List Word) (options : Options) (command : ExactLine) →
     serve_with words options ≡ Some command → Fits command
 serve_with-fits [] options command e = absurd (none_is_not command e)

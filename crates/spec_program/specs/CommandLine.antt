@@ -34,7 +34,7 @@ ExactTextCommand = TextCommand Word
 abbrev pub Options : Type 0
 Options = List (Word × Word)
 
--- the names of options
+-- the names of the options that a command may have
 abbrev pub OptionNames : Type 0
 OptionNames = List Word
 
@@ -66,12 +66,12 @@ unfoldable pub options_in : OptionNames → OptionNames → List Word → Option
 options_in names switches words =
     option_and_then (λ options. if are_options_of names options then Some options else None) (in_pairs switches words)
 
--- what is given after a command's word
+-- the words behind a command's own word: those that are no options, and the options with their values
 pub record Given : Type 0 where
   pub plain : List Word
   pub options : Options
 
--- so many plain words, and options with these names after them
+-- the first `plain` words, and the options behind them; none where the words are too few, or an option has another name
 unfoldable pub given_in : ℕ → OptionNames → OptionNames → List Word → Option Given
 given_in plain names switches words =
     if nat_le plain (length words)
@@ -159,7 +159,7 @@ pub record Row : Type 0 where
 abbrev pub run_by : Option ℕ → Option ℕ → Option ExactLine
 run_by workers places = option_and_then (λ k. option_map (Run k) places) workers
 
--- `run` with its options
+-- the command `run`, which takes the options --workers and --places
 abbrev pub run_row : Row
 run_row = record {
   plain = λ words. 0;
@@ -210,7 +210,7 @@ range_by moved name style =
 abbrev pub is_all : Word → Bool
 is_all word = same word (codes "all")
 
--- it stands alone, and another one with a name
+-- how many words `range` takes: one where it is the word for all ranges, and else two: what is ranged, and a name
 abbrev pub range_plain : List Word → ℕ
 range_plain [] = 2
 range_plain (what ∷ words) = if is_all what then 1 else 2
@@ -223,7 +223,7 @@ range_with (what ∷ name ∷ []) options =
     range_by (moved_of what) (name_of name) (form_given (look_up (codes "--form") options))
 range_with words options = None
 
--- `range` with its options
+-- the command `range`, which takes one word or two and the option --form
 abbrev pub range_row : Row
 range_row = record {
   plain = range_plain;
@@ -232,7 +232,7 @@ range_row = record {
   asks = λ given. range_with given.plain given.options;
 }
 
--- `gen` with these numbers
+-- the command `gen` with a seed, a count of rows and a count of columns, where all three are there
 abbrev pub generate_by : Option ℕ → Option ℕ → Option ℕ → Option ExactLine
 generate_by seed rows columns =
     option_and_then (λ s. option_and_then (λ r. option_map (Generate s r) columns) rows) seed
@@ -242,11 +242,11 @@ abbrev pub generate_with : List Word → Option ExactLine
 generate_with (seed ∷ rows ∷ columns ∷ []) = generate_by (seed_of seed) (row_count_of rows) (column_count_of columns)
 generate_with words = None
 
--- `gen`, with three words
+-- the command `gen`, which takes three words and no options
 abbrev pub generate_row : Row
 generate_row = record { plain = λ words. 3; names = []; switches = []; asks = λ given. generate_with given.plain }
 
--- `serve` with these numbers
+-- the command `serve` with the counts of workers, of links for each and of places, where all three are there
 abbrev pub serve_by : Option ℕ → Option ℕ → Option ℕ → Option ExactLine
 serve_by workers each places =
     option_and_then (λ k. option_and_then (λ c. option_map (Serve k c) places) each) workers
@@ -260,7 +260,7 @@ serve_with (address ∷ []) options =
     else None
 serve_with words options = None
 
--- `serve` with its options
+-- the command `serve`, which takes an address and the options --workers, --each and --places
 abbrev pub serve_row : Row
 serve_row = record {
   plain = λ words. 1;
@@ -283,11 +283,11 @@ commands =
     ∷ (codes "serve", serve_row)
     ∷ []
 
--- what the words after a command's word ask
+-- the command that the words behind a command's own word give by its row, if they fit the row
 abbrev pub asked_by : List Word → Row → Option ExactLine
 asked_by words row = option_and_then row.asks (given_in (row.plain words) row.names row.switches words)
 
--- what the words after the program's name ask
+-- the command that the words behind the program's name give, if they give one
 unfoldable pub command_line_of : List Word → Option ExactLine
 command_line_of [] = None
 command_line_of (word ∷ words) = option_and_then (asked_by words) (look_up word commands)

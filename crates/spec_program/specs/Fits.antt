@@ -5,7 +5,7 @@ use Rattle.spec_server.specs.Shared.{IsWorkers, IsPlaces}
 use Rattle.spec_program.specs.CommandLine.{ExactLine}
 use Rattle.spec_program.specs.declared.command_line.CommandLine.TheVariants.{Run, Read, Generate, Serve}
 
--- so many links each of them may serve
+-- how many links each worker may serve: 1 to 1,000
 abbrev pub IsLinks : ℕ → Type 0
 IsLinks each = (1 ≤ each) × (each ≤ 1000)
 

@@ -19,7 +19,7 @@ ghost use Rattle.spec_program.specs.declared.command_line.CommandLine.TheVariant
 
 pub use command_line::{CommandLine, Moved, TextCommand};
 
-/// What words ask has no numbers but those that a command line may have.
+/// The command that a command line gives has only numbers that are within the limits of its options.
 pub fn command_lines_fit()
     ensures { (words : List Word) (command : ExactLine) → command_line_of words ≡ Some command → Fits command }
 {}

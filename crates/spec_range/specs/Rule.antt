@@ -25,7 +25,7 @@ use Rattle.spec_range.specs.declared.range.Range.{Range}
 
 -- ---- the ends so far
 
--- every number
+-- a range without ends, in which every number is
 abbrev pub no_ends : Ends ℚ
 no_ends = record { low = None; high = None }
 
@@ -41,12 +41,12 @@ lesser_by new kept Less = new
 lesser_by new kept Equal = kept
 lesser_by new kept Greater = kept
 
--- the greater of a new lower end and the one so far
+-- the greater of a new lower end and the lower end that was kept, if one was
 abbrev pub greater_run : Option ℕ → ℚ → Option ℚ → Run ℚ
 greater_run limit new None = Ok new
 greater_run limit new (Some kept) = order_run limit new kept >>= λ o. Ok (greater_by new kept o)
 
--- the lesser of a new upper end and the one so far
+-- the lesser of a new upper end and the upper end that was kept, if one was
 abbrev pub lesser_run : Option ℕ → ℚ → Option ℚ → Run ℚ
 lesser_run limit new None = Ok new
 lesser_run limit new (Some kept) = order_run limit new kept >>= λ o. Ok (lesser_by new kept o)

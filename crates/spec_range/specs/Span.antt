@@ -23,7 +23,7 @@ pub record Keeps (m : Model) (basis : List Status) : Type 0 where
   pub started : start_from None form basis ≡ Ok tableau
   pub checks : Checks m (Optimal (point tableau) (multipliers tableau))
 
--- the numbers t with which the basis does so, where `with_number t` is the model with t
+-- the numbers t for which the basis keeps the model `with_number t`
 abbrev pub Span : (ℚ → Model) → List Status → ℚ → Type 0
 Span with_number basis t = Keeps (with_number t) basis
 

@@ -35,7 +35,7 @@ can_stand AtLower l u h = h.1 ∙ ap Some (sym (ap or_zero h.1))
 can_stand AtUpper l u h = h.1 ∙ ap Some (sym (ap or_zero h.1))
 can_stand AtZero l u h = (h.0, h.1, refl)
 
--- the value at which a column of basic status is put is 0
+-- the value that a status gives a column is 0 where the status is basic
 basic_stands_zero : (s : Status) (l u : Option ℚ) → s ≡ Basic → stand s l u ≡ 0ℚ
 basic_stands_zero s l u e = ap (λ s. stand s l u) e
 

@@ -1,7 +1,7 @@
 -- The flips give each reduced cost the sign that belongs to its status.
 --
 -- `wrong`: a column that needs a flip is at one bound, has the other one, and its reduced cost suits the other one.
--- `flip_shape`: a flip gives one column the status of its other bound, and changes only values beside that.
+-- `flip_shape`: a flip gives one column the status of its other bound; besides, it changes only values.
 use Rattle.std.proofs.Common.{◌≡◌, ◌≢◌, ℕ, suc, ◌+◌, ◌<◌, ◌≤◌, List, Option, Some, None, Ok, Bool, true}
 use Rattle.std.proofs.Common.{false, not, ◌&&◌, ◌||◌, cond, nat_le, refl, sym, ap, ap₂, ◌∙◌, subst, subst₂, arith}
 use Rattle.std.proofs.lemmas.Bool.{false≢true}

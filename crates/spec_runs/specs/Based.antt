@@ -25,7 +25,7 @@ pub record IsBased (m n : ℕ) (f : Matrix) (cost : ℕ → ℚ) (b : Bounds) (t
   pub tableau : IsTableauOf m n f cost b t
   pub top : (k : ℕ) → n + m ≤ k → k < n + m + m → b.upper k ≡ Some 0ℚ
 
--- such a tableau that is dual feasible: each reduced cost has the sign that suits its status
+-- a tableau as in `IsBased` that is dual feasible: each reduced cost has the sign that suits its column's status
 pub record IsReady (m n : ℕ) (f : Matrix) (cost : ℕ → ℚ) (b : Bounds) (t : Tableau) : Type 0 where
   pub based : IsBased m n f cost b t
   pub feasible : IsDualFeasible (n + m + m) b (table_of t)

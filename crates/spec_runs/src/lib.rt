@@ -130,8 +130,8 @@ pub fn cold_limits_only_refuse()
     ensures exact { (budget : ℕ) (m : Model) (p : Past ℚ) → ¬ (cold None budget m ≡ outcome.Past p) }
 {}
 
-/// So each model is decided: it has an optimal value, or no feasible point, or points that get better without limit,
-/// and the cold solve without a limit says which.
+/// Each model is decided: it has an optimal value, or no feasible point, or points that get better without limit, and
+/// the cold solve without a limit says which.
 pub fn every_model_is_decided()
     ensures { (budget : ℕ) (m : Model) → 2 * 3 ^ (width m + 2 * height m) ≤ budget → IsAnswered budget m }
 {}

@@ -108,8 +108,8 @@ pub fn ends_leave_bases()
         form_of limit m ≡ Ok f → phases_run limit budget f ≡ Ok e → basis_of e ≡ Some left → IsBasisOf f left }
 {}
 
-/// What a warm start ends with is true, and the checker accepts its certificate. Where it stops but for a refused
-/// operation, its run stopped so.
+/// A warm start ends with a true answer, and the checker accepts its certificate. Where it stops for another reason
+/// than a refused operation, the run from the basis stopped for that reason.
 pub fn warm_ends_true()
     ensures ended { (limit : Option ℕ) (budget : ℕ) (m : Model) (basis : List Status)
         (answer : Known ℚ) (cert : Certificate (List ℚ)) (left : Option (List Status)) (pivots : ℕ) →

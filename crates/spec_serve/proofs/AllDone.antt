@@ -102,7 +102,7 @@ concludes_keeps places me old (Publishes pending) looked reads replied new now l
     put_keeps places me pending.words c.put c.tried now last c.puts
     (subst (λ ps. Plays places ps (logged me c.tried) last) (stays p.0 p.1) p.2) none
 
--- where no place is claimed, none is claimed once an ask that has begun goes on to its end
+-- where no place is claimed, none is claimed once a request that has begun goes on to its end
 goes_keeps : (places : ℕ) (me : ℕ) (old : State) (begun : Begun) (reads : List ExactRead) (replied : ExactReply)
     (new : State) (now last : List ExactPlace) →
     GoesOn places old begun reads replied new → Plays places now (logged me reads) last → NoneClaimed now →

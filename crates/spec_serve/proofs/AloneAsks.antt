@@ -1,7 +1,7 @@
 -- Lines that name no session ask session 0.
 --
--- `asked_alone`: where lines that name no session give one ask, it is one of session 0.
--- `script_alone`: all asks of bytes whose lines name no session are of session 0.
+-- `asked_alone`: where lines that name no session give one request, it is one of session 0.
+-- `script_alone`: all requests of bytes whose lines name no session are of session 0.
 use Rattle.std.proofs.Common.{◌≡◌, ℕ, Bool, true, false, cond, Option, Some, None, List, [], ◌∷◌, ◌++◌, length, take}
 use Rattle.std.proofs.Common.{refl, sym, subst}
 use Rattle.std.specs.Prelude.{nat_le}
@@ -38,7 +38,7 @@ abbrev IsLineAlone : Option (Asked ExactCommand) → Type 0
 IsLineAlone None = Unit {0}
 IsLineAlone (Some addressed) = addressed.session ≡ 0
 
--- where the asks of two lists are of session 0, so are those of the one behind the other
+-- where the requests of two lists are of session 0, so are those of the one behind the other
 AreAlone-append : (xs ys : List (Asked ExactAsk)) → AreAlone xs → AreAlone ys → AreAlone (xs ++ ys)
 AreAlone-append [] ys h k = k
 AreAlone-append (x ∷ xs) ys h k = (h.0, AreAlone-append xs ys h.1 k)
@@ -76,14 +76,14 @@ begun_by_alone : (found : Option (Asked ExactCommand)) → IsLineAlone found →
 begun_by_alone None h = tt
 begun_by_alone (Some addressed) h = begun_alone addressed.session addressed.ask h
 
--- the asks of a command for session 0 are of session 0
+-- the requests of a command for session 0 are of session 0
 command_alone : (session : ℕ) (c : ExactCommand) → session ≡ 0 → AreAlone (asks_of_command session c)
 command_alone session (Load form) h = tt
 command_alone session Check h = tt
 command_alone session (Plain asked) h = (h, tt)
 command_alone session (Bad fault) h = (h, tt)
 
--- the asks of an addressed command for session 0 are of session 0
+-- the requests of an addressed command for session 0 are of session 0
 asks_by_alone : (found : Option (Asked ExactCommand)) → IsLineAlone found → AreAlone (asks_by found)
 asks_by_alone None h = tt
 asks_by_alone (Some addressed) h = command_alone addressed.session addressed.ask h
@@ -95,7 +95,7 @@ pending_alone : (t : Bool) (p : Pending) → IsPendingAlone p → IsPendingAlone
 pending_alone true p h = tt
 pending_alone false p h = h
 
--- where an ask is of session 0, the list of it alone, or of none, is of session 0 by a test
+-- where a request is of session 0, the list of it alone, or of none, is of session 0 by a test
 body_alone : (t : Bool) (asked : Asked ExactAsk) → IsAlone asked → AreAlone (cond t (asked ∷ []) [])
 body_alone true asked h = (h, tt)
 body_alone false asked h = tt
@@ -109,14 +109,14 @@ after_line_alone (Text session form body) next h =
 after_line_alone (Certificate session body) next h =
     pending_alone (ends_certificate next) (Certificate session (body ++ next ∷ [])) h
 
--- where what is pending is of session 0, the asks of a line that names no session are too
+-- where what is pending is of session 0, the requests of a line that names no session are too
 of_line_alone : (p : Pending) (next : Line (List ℕ)) → IsPendingAlone p → AreAlone (asks_of_line Alone p next)
 of_line_alone Between next h = asks_by_alone (addressed_in Alone next) (line_alone next)
 of_line_alone (Text session form body) next h = body_alone (ends_text next) (record { session = session; ask = _ }) h
 of_line_alone (Certificate session body) next h =
     body_alone (ends_certificate next) (record { session = session; ask = _ }) h
 
--- where what is pending is of session 0, the asks of lines that name no session are too
+-- where what is pending is of session 0, the requests of lines that name no session are too
 asks_alone : (p : Pending) (lines : List (Line (List ℕ))) → IsPendingAlone p → AreAlone (asks_from Alone p lines)
 asks_alone p [] h = tt
 asks_alone p (next ∷ lines) h =

@@ -1,8 +1,8 @@
 -- The asks of a link are the first of those that its lines ask, and the exchanges of a service are of the first of these.
 --
--- `link_asks_first`: the asks of a link are the first of the asks of all its bytes, read as a script.
--- `ended_link_asks_first`: the asks of a link's ended lines are the first of those of the ended lines as a script.
--- `served_script`: the asks that were served are the first of the asks of the bytes that were read.
+-- `link_asks_first`: the requests of a link are the first of the requests of all its bytes, read as a script.
+-- `ended_link_asks_first`: the requests of a link's ended lines are the first of those of the ended lines as a script.
+-- `served_script`: the requests that were served are the first of the requests of the bytes that were read.
 use Rattle.std.proofs.Common.{ℕ, Bool, true, false, cond, Option, List, [], ◌∷◌, ◌++◌, map, refl, ap, ◌∙◌}
 use Rattle.std.proofs.Common.{subst, append_assoc, append-nil, inl, inr}
 use Rattle.spec_server.specs.declared.addressing.Addressing.TheVariants.{Alone}
@@ -24,13 +24,13 @@ first_trans xs ys zs h k =
 
 -- ---- up to QUIT
 
--- where the asks up to QUIT are the first of some, they are so with one ask before both, QUIT or not
+-- where the requests up to QUIT are the first of some, they are so with one request before both, QUIT or not
 first_if : (t : Bool) (a : Asked ExactAsk) (asks : Asks) → AreFirstOf (up_to_quit asks) asks →
     AreFirstOf (a ∷ cond t [] (up_to_quit asks)) (a ∷ asks)
 first_if true a asks h = (asks, refl)
 first_if false a asks h = (h.0, ap (λ zs. a ∷ zs) h.1)
 
--- the asks up to the first QUIT are the first of all asks
+-- the requests up to the first QUIT are the first of all requests
 up_to_quit_first : (asks : Asks) → AreFirstOf (up_to_quit asks) asks
 up_to_quit_first [] = ([], refl)
 up_to_quit_first (a ∷ asks) = first_if (is_quit a.ask) a asks (up_to_quit_first asks)
@@ -50,7 +50,7 @@ of_read : (after : Option (List ℕ)) (read : List ℕ) (P : List ℕ → Type 0
 of_read after read P (inl h) = h.1
 of_read after read P (inr h) = subst P (append-nil read) (h [])
 
--- the asks of a link's exchanges are the first of those that the bytes read of it ask
+-- the requests of a link's exchanges are the first of those that the bytes read of it ask
 served_first : (places : ℕ) (s : Streams) (exchanges : List Exchange) (moves : LinkMoves places s exchanges) →
     AreFirstOf (map asked_in exchanges) (link_asks_of moves.read).asks
 served_first places s exchanges moves =

@@ -1,9 +1,9 @@
 -- The models that the asks of a link hold may be kept, and so may the numbers of its edits; and its last answers stand up.
 --
--- `link_kept`: the asks of a link hold models and numbers that may be kept.
--- `ended_link_kept`: the asks of a link's ended lines hold models and numbers that may be kept.
--- `served_kept`: the asks that were served hold models and numbers that may be kept.
--- `served_front_kept`: so do the asks of the first exchanges of those that were served.
+-- `link_kept`: the requests of a link hold models and numbers that may be kept.
+-- `ended_link_kept`: the requests of a link's ended lines hold models and numbers that may be kept.
+-- `served_kept`: the requests that were served hold models and numbers that may be kept.
+-- `served_front_kept`: so do the requests of the first exchanges of those that were served.
 use Rattle.std.proofs.Common.{ℕ, List, [], ◌∷◌, ◌++◌, map, subst}
 use Rattle.std.proofs.lemmas.List.{map-append}
 use Rattle.std.proofs.lemmas.List.Elements.{All-nil, All-cons, All-head, All-tail}
@@ -20,7 +20,7 @@ use Rattle.spec_serve.proofs.FirstAsks.{Asks, link_asks_first, ended_link_asks_f
 abbrev IsKept : Asked ExactAsk → Type 0
 IsKept a = IsKeptAsk a.ask
 
--- where what the asks of two lists hold may be kept, so may what those of the first hold
+-- where what the requests of two lists hold may be kept, so may what those of the first hold
 front_kept : (xs ys : Asks) → AreKept (xs ++ ys) → AreKept xs
 front_kept [] ys h = All-nil IsKept
 front_kept (a ∷ xs) ys h =

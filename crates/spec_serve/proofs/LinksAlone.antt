@@ -15,25 +15,25 @@ use Rattle.spec_serve.proofs.AloneAsks.{AreAlone, script_alone}
 use Rattle.spec_serve.proofs.FirstAsks.{Asks, link_asks_first, served_script}
 use Rattle.spec_serve.proofs.KeptAsks.{link_kept}
 
--- where the asks of two lists one behind the other are of session 0, so are those of the first
+-- where the requests of two lists one behind the other are of session 0, so are those of the first
 front_alone : (xs ys : Asks) → AreAlone (xs ++ ys) → AreAlone xs
 front_alone [] ys h = tt
 front_alone (a ∷ xs) ys h = (h.0, front_alone xs ys h.1)
 
--- where asks are of session 0, so are the first of them
+-- where requests are of session 0, so are the first of them
 first_alone : (first all : Asks) → AreFirstOf first all → AreAlone all → AreAlone first
 first_alone first all h alone = front_alone first h.0 (subst AreAlone h.1 alone)
 
 -- ---- the exchanges of session 0, and of other sessions
 
--- where all asks of exchanges are of session 0, the exchanges of session 0 are all of them
+-- where all requests of exchanges are of session 0, the exchanges of session 0 are all of them
 of_first_session : (xs : List Exchange) → AreAlone (map asked_in xs) → of_session 0 xs ≡ xs
 of_first_session [] h = refl
 of_first_session (x ∷ xs) h =
     ap (λ (t : Bool). cond t (x ∷ of_session 0 xs) (of_session 0 xs)) (eq-eqb x.session 0 h.0)
     ∙ ap (λ ys. x ∷ ys) (of_first_session xs h.1)
 
--- where all asks of exchanges are of session 0, another session has no exchanges
+-- where all requests of exchanges are of session 0, another session has no exchanges
 of_other_session : (n : ℕ) (xs : List Exchange) → AreAlone (map asked_in xs) → of_session (suc n) xs ≡ []
 of_other_session n [] h = refl
 of_other_session n (x ∷ xs) h =
@@ -42,7 +42,7 @@ of_other_session n (x ∷ xs) h =
     (ne_eqb x.session (suc n) (λ e. omega (arith, here, e)))
     ∙ of_other_session n xs h.1
 
--- where all asks of exchanges are of session 0 and they run from its opening, each session runs alone
+-- where all requests of exchanges are of session 0 and they run from its opening, each session runs alone
 runs_alone : (places : ℕ) (xs : List Exchange) (last : State) → AreAlone (map asked_in xs) →
     AloneRun places opening xs last → RunAlone places xs
 runs_alone places xs last h run zero =

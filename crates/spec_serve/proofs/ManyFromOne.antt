@@ -1,7 +1,7 @@
 -- What one worker may reply, many may.
 --
 -- `log_reads`: the reads in the log of some exchanges are those of the exchanges.
--- `one_runs_by`: what one worker may reply to some asks, any number of workers may.
+-- `one_runs_by`: what one worker may reply to some requests, any number of workers may.
 use Rattle.std.proofs.Common.{◌≡◌, ℕ, zero, ◌<◌, ◌≤◌, ◌%◌, Bool, true, false, List, [], ◌∷◌, ◌++◌, length, map, Some}
 use Rattle.std.proofs.Common.{refl, sym, ap, ◌∙◌, subst, ◌⊎◌, inl, inr, nat_eq, cond, arith}
 use Rattle.std.specs.List.{filter, flat_map, Contains, AllByRecursion}

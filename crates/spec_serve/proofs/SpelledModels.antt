@@ -23,7 +23,7 @@ record IsAmong (all before : Asks) (session : ℕ) (m : Model) : Type 0 where
   behind : Asks
   is : all ≡ before ++ loaded session m ∷ behind
 
--- a model that is loaded among the first asks is loaded among all asks, behind the same ones
+-- a model that is loaded among the first requests is loaded among all requests, behind the same ones
 among : (first all before behind : Asks) (session : ℕ) (m : Model) → AreFirstOf first all →
     first ≡ before ++ loaded session m ∷ behind → IsAmong all before session m
 among first all before behind session m h e = record {

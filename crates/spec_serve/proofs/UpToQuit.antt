@@ -1,8 +1,8 @@
 -- Asks up to the first QUIT, where it is known which of them may be one.
 --
--- `up_to_quit_none`: where no ask is `QUIT`, the asks up to the first `QUIT` are all of them.
--- `until_quit_none`: a script none of whose asks is `QUIT` is the same up to its first `QUIT`.
--- `first_before_quit`: asks none of which is `QUIT` are the first of those up to the first `QUIT`, whatever follows
+-- `up_to_quit_none`: where no request is `QUIT`, the requests up to the first `QUIT` are all of them.
+-- `until_quit_none`: a script none of whose requests is `QUIT` is the same up to its first `QUIT`.
+-- `first_before_quit`: requests none of which is `QUIT` are the first of those up to the first `QUIT`, whatever follows
 --   them.
 use Rattle.std.proofs.Common.{◌≡◌, ◌||◌, Bool, true, false, cond, List, [], ◌∷◌, ◌++◌, ap, sym, ◌∙◌, refl}
 use Rattle.std.proofs.Common.{append_assoc, append-nil}
@@ -14,7 +14,7 @@ use Rattle.spec_serve.specs.Link.{is_quit, quits, up_to_quit, until_quit, AreFir
 
 -- ---- an ask, by whether it is QUIT
 
--- behind an ask that is not QUIT all others stay, where those up to QUIT are all of them
+-- behind a request that is not QUIT all others stay, where those up to QUIT are all of them
 first_by : (t u : Bool) (a : Asked ExactAsk) (xs ys : List (Asked ExactAsk)) → (t || u) ≡ false →
     (u ≡ false → xs ≡ ys) → ◌≡◌ {A = List (Asked ExactAsk)} (a ∷ cond t [] xs) (a ∷ ys)
 first_by true u a xs ys none more = absurd (let h = none in cc)

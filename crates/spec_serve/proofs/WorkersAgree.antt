@@ -23,13 +23,13 @@ asked_more : (session : ℕ) (x : Exchange) (xs : List Exchange) (t : Bool) →
 asked_more session x xs true more = ap (λ zs. x.ask ∷ zs) more
 asked_more session x xs false more = more
 
--- what a session is asked in its exchanges is what the asks of all exchanges ask of it
+-- what a session is asked in its exchanges is what the requests of all exchanges ask of it
 asked_of : (session : ℕ) (xs : List Exchange) →
     map (λ (x : Exchange). x.ask) (of_session session xs) ≡ asks_of session (map asked_in xs)
 asked_of session [] = refl
 asked_of session (x ∷ xs) = asked_more session x xs (nat_eq x.session session) (asked_of session xs)
 
--- two runs with the same asks, by any numbers of workers, give a session replies that agree, with memory enough
+-- two runs with the same requests, by any numbers of workers, give a session replies that agree, with memory enough
 pub workers_agree : (workers workers' places places' session : ℕ) (xs ys : List Exchange) →
     RunsBy workers places xs → RunsBy workers' places' ys → map asked_in xs ≡ map asked_in ys →
     HasMemory (of_session session xs) → HasMemory (of_session session ys) →

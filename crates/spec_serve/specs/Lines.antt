@@ -21,7 +21,7 @@ abbrev pub end_lines : ℕ → ℕ → List LinkEnd → List ℕ
 end_lines worker link [] = []
 end_lines worker link (end ∷ ends) = end_line worker link end ++ end_lines worker (suc link) ends
 
--- those of all workers, from the one with this number on
+-- the lines on how links ended, of all workers from number `worker` on
 abbrev pub lines_from : ℕ → List (List LinkEnd) → List ℕ
 lines_from worker [] = []
 lines_from worker (ends ∷ workers) = end_lines worker 1 ends ++ lines_from (suc worker) workers

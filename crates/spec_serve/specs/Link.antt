@@ -18,16 +18,16 @@ use Rattle.spec_serve.specs.declared.link_end.LinkEnd.TheVariants as end
 
 -- ---- what is asked
 
--- whether an ask is `QUIT`
+-- whether a request is `QUIT`
 abbrev pub is_quit : ExactAsk → Bool
 is_quit (ask.Plain command.Quit) = true
 is_quit other = false
 
--- whether one of some asks is `QUIT`
+-- whether one of some requests is `QUIT`
 abbrev pub quits : List (Asked ExactAsk) → Bool
 quits asks = list_any (λ asked. is_quit asked.ask) asks
 
--- the asks up to the first QUIT, with it
+-- the requests up to the first QUIT, which is one of them
 abbrev pub up_to_quit : List (Asked ExactAsk) → List (Asked ExactAsk)
 up_to_quit [] = []
 up_to_quit (asked ∷ asks) = asked ∷ (if is_quit asked.ask then [] else up_to_quit asks)
@@ -36,32 +36,33 @@ up_to_quit (asked ∷ asks) = asked ∷ (if is_quit asked.ask then [] else up_to
 abbrev pub until_quit : Script → Script
 until_quit s = record { asks = up_to_quit s.asks; ending = if quits s.asks then Ended else s.ending }
 
--- the asks of the lines that end among these bytes, as far as a link may be read
+-- the requests of a link up to QUIT in the lines that end among these bytes, within the limit on a link's bytes
 unfoldable pub ended_link_asks_of : List ℕ → List (Asked ExactAsk)
 ended_link_asks_of bytes = up_to_quit (ended_asks_of Alone bytes)
 
--- the asks of the lines of all these bytes, and how they end
+-- the requests of a link up to QUIT in all lines of these bytes, and how they end
 unfoldable pub link_asks_of : List ℕ → Script
 link_asks_of bytes = until_quit (script_of Alone bytes)
 
 -- ---- what is written
 
--- what is written of the exchanges of a link
+-- the lines that a link writes as the replies of its exchanges
 abbrev pub link_out : List Exchange → List ℕ
 link_out xs = flat_map (λ x. reply_lines Alone x.session x.reply) xs
 
 -- ---- the service of a link
 
--- these are the first of all
+-- the list `first` is a prefix of the list `all`
 abbrev pub AreFirstOf : {X : Type 0} → List X → List X → Type 0
 AreFirstOf {X} first all = (more : List X) × (all ≡ first ++ more)
 
--- it holds of all the bytes that the link sends: they were read, and no more come, or whatever follows them
+-- P holds of all bytes that a link sends: of those that were read, where no more come, and else of them with any bytes
+-- behind
 abbrev pub HoldsOfAll : Option (List ℕ) → List ℕ → (List ℕ → Type 0) → Type 0
 HoldsOfAll after read P = (IsAtEnd after × P read) ⊎ ((more : List ℕ) → P (read ++ more))
 
--- The bytes that were read; the exchanges of the link's session, which runs alone from its opening, of the first asks
--- of the link; and the bytes that were written, a prefix of what is written of the exchanges.
+-- The bytes that were read; the exchanges of the link's session, which runs alone from its opening, of the first
+-- requests of the link; and the bytes that were written, a prefix of what is written of the exchanges.
 pub record LinkMoves (places : ℕ) (s : Streams) (exchanges : List Exchange) : Type 0 where
   pub read : List ℕ
   pub written : List ℕ
@@ -96,6 +97,6 @@ EndsLinkSo moves end.Read = BreaksLink moves
 EndsLinkSo moves end.Write = Unit {0}
 EndsLinkSo moves end.NoMemory = Unit {0}
 
--- the service of a link: what it read, wrote and replied, and what its end says of this
+-- the service of a link: what it read, wrote and replied, and an end that tells this as it was
 abbrev pub ServesLink : ℕ → Streams → List Exchange → LinkEnd → Type 0
 ServesLink places s exchanges end = (moves : LinkMoves places s exchanges) × EndsLinkSo moves end

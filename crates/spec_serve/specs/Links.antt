@@ -18,7 +18,7 @@ exchanges_of_links workers i k [] = []
 exchanges_of_links workers i k (xs ∷ links) =
     as_session (session_of_link workers i k) xs ++ exchanges_of_links workers i (suc k) links
 
--- those of all workers, one worker after the other, from this one on
+-- the exchanges of the links of all workers, one worker after the other, from worker i on
 abbrev pub exchanges_from : ℕ → ℕ → List (List (List Exchange)) → List Exchange
 exchanges_from workers i [] = []
 exchanges_from workers i (links ∷ all) =

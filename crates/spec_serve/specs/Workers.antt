@@ -16,7 +16,7 @@ reads_in_all xs = flat_map (λ x. x.reads) xs
 abbrev pub reads_of_worker : ℕ → ℕ → List Exchange → List ExactRead
 reads_of_worker workers worker xs = flat_map (λ x. if x.session % workers == worker then x.reads else []) xs
 
--- those exchanges
+-- the exchanges of one worker: of the sessions whose number leaves the worker's when divided by `workers`
 abbrev pub exchanges_of_worker : ℕ → ℕ → List Exchange → List Exchange
 exchanges_of_worker workers worker xs = filter (λ x. x.session % workers == worker) xs
 
@@ -24,8 +24,8 @@ exchanges_of_worker workers worker xs = filter (λ x. x.session % workers == wor
 abbrev pub logs_of : ℕ → List Exchange → ℕ → List Logged
 logs_of workers xs worker = log_of (exchanges_of_worker workers worker xs)
 
--- Each session runs alone, and each worker answered its asks one after the other. The reads of all workers stand in one
--- order, in which each is answered by the places as they are then; so no place was published twice, the published
+-- Each session runs alone, and each worker answered its requests one after the other. The reads of all workers stand in
+-- one order, in which each is answered by the places as they are then; so no place was published twice, the published
 -- places are those below some number, and what is read as done was published before it with those words.
 pub record ManyFits (places workers : ℕ) (xs : List Exchange) : Type 0 where
   pub alone : RunAlone places xs
@@ -33,19 +33,19 @@ pub record ManyFits (places workers : ℕ) (xs : List Exchange) : Type 0 where
   pub backed : AreBacked (reads_in_all xs)
   pub together : HaveOneOrder places workers (logs_of workers xs)
 
--- By so many workers; and with one of them the asks are answered one after the other, each read by the places as they
--- are then.
+-- `workers` workers may have these exchanges; one worker alone answers the requests one after the other, and each read
+-- by the places as they are then.
 pub record RunsBy (workers places : ℕ) (xs : List Exchange) : Type 0 where
   pub many : ManyFits places workers xs
   pub one : workers ≡ 1 → RunFits places xs
 
 -- ---- what each worker has had by itself
 
--- the asks of one worker, which serves the sessions whose number leaves its own when divided by `workers`
+-- the requests of one worker: of the sessions whose number leaves the worker's when divided by `workers`
 abbrev pub asks_of_worker : ℕ → ℕ → List (Asked ExactAsk) → List (Asked ExactAsk)
 asks_of_worker workers worker asks = filter (λ asked. asked.session % workers == worker) asks
 
--- exchanges of these asks, in their order, of which each worker had its own
+-- exchanges of these requests, in their order, of which those of each worker are the ones that it had
 pub record Interleaves (workers : ℕ) (asks : List (Asked ExactAsk)) (had : ℕ → List Exchange) : Type 0 where
   pub exchanges : List Exchange
   pub asked : map asked_in exchanges ≡ asks

@@ -37,7 +37,7 @@ mod link_end;
 pub use link_end::LinkEnd;
 
 /// The models that a link asks its session to hold may be kept, and its edits have numbers and bounds that a kept model
-/// may have. So it is of all asks of a link, of those of its lines that end, and of those of a service.
+/// may have. So it is of all requests of a link, of those of its lines that end, and of those of a service.
 pub fn links_ask_kept_models()
     ensures whole { (bytes : List ℕ) → AreKept (link_asks_of bytes).asks }
     ensures ended { (bytes : List ℕ) → AreKept (ended_link_asks_of bytes) }
@@ -98,9 +98,9 @@ pub fn one_worker_is_many()
     ensures { (places workers : ℕ) (xs : List Exchange) → RunFits places xs → RunsBy workers places xs }
 {}
 
-/// The exchanges that workers had beside each other, each with its own asks, can stand in the order of the asks. It is
-/// then what many workers may reply, if each answered its own asks alone and in order, and all that was read is backed
-/// and stands in one order.
+/// The exchanges that workers had beside each other, each with its own requests, can stand in the order of the
+/// requests. It is then what many workers may reply, if each answered its own requests alone and in order, and all that
+/// was read is backed and stands in one order.
 pub fn workers_are_many()
     ensures interleave { (workers : ℕ) (asks : List (Asked ExactAsk)) (had : ℕ → List Exchange) →
         ((worker : ℕ) → map asked_in (had worker) ≡ asks_of_worker workers worker asks) →
@@ -110,8 +110,8 @@ pub fn workers_are_many()
         AreBacked (reads_in_all xs) → HaveOneOrder places workers (logs_of workers xs) → ManyFits places workers xs }
 {}
 
-/// Runs of the same asks, by any workers and places, give a session the same replies, but for `HOW`, certificates, and
-/// answers in place of a refused operation or of a spent budget.
+/// Runs of the same requests, by any workers and places, give a session the same replies, but for `HOW`, certificates,
+/// and answers in place of a refused operation or of a spent budget.
 pub fn workers_agree()
     ensures { (workers workers' places places' session : ℕ) (xs ys : List Exchange) →
         RunsBy workers places xs → RunsBy workers' places' ys → map asked_in xs ≡ map asked_in ys →
