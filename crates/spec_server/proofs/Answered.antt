@@ -1,8 +1,9 @@
 -- Each list of asks has a run, with memory enough.
 --
--- `asked_in-answered`: the exchanges that are made for some asks have these asks, in their order.
--- `answered_runs`: where models and asks may be kept, the exchanges made for some asks are a run for each session.
--- `ample_answers`: none of the replies in the exchanges made for some asks is `MEMORY`.
+-- `asked_in-answered`: the exchanges that are made for some requests have these requests, in their order.
+-- `answered_runs`: where models and requests may be kept, the exchanges made for some requests are a run for each
+--   session.
+-- `ample_answers`: none of the replies in the exchanges made for some requests is `MEMORY`.
 use Rattle.std.proofs.Common.{◌≡◌, ℕ, suc, Bool, true, false, List, [], ◌∷◌, cond, map, refl, ap, ◌∙◌, nat_eq, arith}
 use Rattle.std.specs.List.{filter}
 use Rattle.spec_server.specs.declared.asks.Asked.{Asked}

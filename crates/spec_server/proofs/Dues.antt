@@ -1,7 +1,8 @@
 -- What a session is due to do for an ask it can do, with memory enough, where its model is one that may be kept.
 --
--- `good_step`: in a state whose model may be kept, the reads, the reply and the next state made for an ask are a step.
--- `ample_reply`: the reply that is made for an ask is not `MEMORY`.
+-- `good_step`: in a state whose model may be kept, the reads, the reply and the next state made for a request are a
+--   step.
+-- `ample_reply`: the reply that is made for a request is not `MEMORY`.
 use Rattle.std.proofs.Common.{◌≡◌, ℕ, false, List, [], ◌∷◌, Option, Some, None, Result, Ok, Err, refl, inl}
 use Rattle.std.specs.Prelude.{IfSome}
 use Rattle.spec_exact.specs.Fraction.{ℚ}

@@ -40,7 +40,7 @@ change_fits : (old new : State) (replied : ExactReply) (held : Option Model) (e 
 change_fits old new replied None e fits h = subst Fits (sym h.1) fits
 change_fits old new replied (Some m) e fits h = edit_fits old new replied (edited m e) fits h
 
--- where the last answer fits the model that is held, it does so after what is due to an ask
+-- where the last answer fits the model that is held, it does so after what is due to a request
 does_fit : (old new : State) (asked : ExactAsk) (replied : ExactReply) → Fits old →
     Does old (due old asked) replied new → Fits new
 does_fit old new (ask.Plain (command.Write form)) replied fits h = subst Fits (sym h.1) fits

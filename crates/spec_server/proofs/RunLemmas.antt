@@ -3,7 +3,7 @@
 -- `AloneRun-append`: a run from a to b and one from b to c are, in order, a run from a to c.
 -- `of_session-append`: the exchanges of a session in two lists are those in the first and then those in the second.
 -- `script_out-append`: the output of two lists of exchanges is that of the first and then that of the second.
--- `asked_in-append`: the asks of two lists of exchanges are those of the first and then those of the second.
+-- `asked_in-append`: the requests of two lists of exchanges are those of the first and then those of the second.
 -- `log_of-append`: the reads of two lists of exchanges are those of the first and then those of the second.
 -- `Plays-append`: where the places answer some reads, and then others, they answer both in order.
 -- `runs_on`: a step of one session before exchanges that are runs of all sessions gives runs of all sessions.

@@ -3,7 +3,7 @@
 -- `script_by`: bytes are a whole script where the test of their length says yes, and one that is too long where it says
 --   no.
 -- `script_within`: at most 2 ^ 26 bytes are read whole.
--- `script_past`: more than 2 ^ 26 bytes give the asks of their ended lines, and the ending `Over`.
+-- `script_past`: more than 2 ^ 26 bytes give the requests of their ended lines, and the ending `Over`.
 use Rattle.std.proofs.Common.{◌≡◌, ℕ, ◌^◌, ◌≤◌, ◌<◌, Bool, true, false, cond, nat_le, List, length, ap, le-leb}
 use Rattle.std.proofs.lemmas.Bool.{lt-leb}
 use Rattle.spec_text.specs.Lines.{lines_of, input_limit}

@@ -1,8 +1,9 @@
 -- The models that a script's asks hold may be kept, and so may the numbers of its edits.
 --
--- `lines_kept`: the asks of lines, from any text or certificate that has begun, have models and edits that may be kept.
--- `ended_kept`: the asks of the ended lines of bytes have models and edits that may be kept.
--- `script_kept`: the asks of a script's bytes have models and edits that may be kept.
+-- `lines_kept`: the requests of lines, from any text or certificate that has begun, have models and edits that may be
+--   kept.
+-- `ended_kept`: the requests of the ended lines of bytes have models and edits that may be kept.
+-- `script_kept`: the requests of a script's bytes have models and edits that may be kept.
 use Rattle.std.proofs.Common.{◌≡◌, ℕ, Bool, true, false, cond, Option, Some, None, List, [], ◌∷◌, ◌++◌, length, take}
 use Rattle.std.proofs.Common.{refl, sym, subst}
 use Rattle.std.specs.Prelude.{nat_le}
@@ -30,11 +31,11 @@ use Rattle.spec_server.specs.Script.{ended_asks_of, script_of}
 use Rattle.spec_server.proofs.ScriptBytes.{whole_script, long_script, script_by}
 use Rattle.spec_server.proofs.ScriptLemmas.{IsKeptCommand, IsKeptLine, line_is_kept}
 
--- where nothing is asked, all models and edits of the asks may be kept
+-- where nothing is asked, all models and edits of the requests may be kept
 none_kept : AreKept []
 none_kept = All-nil (λ (a : Asked ExactAsk). IsKeptAsk a.ask)
 
--- where the model or the edit of an ask may be kept, so may those of the list of this ask alone
+-- where the model or the edit of a request may be kept, so may those of the list of this request alone
 one_kept : (a : Asked ExactAsk) → IsKeptAsk a.ask → AreKept (a ∷ [])
 one_kept a h = All-cons (λ (a : Asked ExactAsk). IsKeptAsk a.ask) a [] h none_kept
 
@@ -50,25 +51,25 @@ judgement_kept : (j : certificate.Judgement) → IsKeptAsk (ask_of_judgement j)
 judgement_kept (certificate.Spelled raw) = tt
 judgement_kept (certificate.Refused n) = tt
 
--- where the numbers of a command's edit may be kept, so may those of the asks that the command makes
+-- where the numbers of a command's edit may be kept, so may those of the requests that the command makes
 command_asks_kept : (session : ℕ) (c : ExactCommand) → IsKeptCommand c → AreKept (asks_of_command session c)
 command_asks_kept session (Load form) h = none_kept
 command_asks_kept session Check h = none_kept
 command_asks_kept session (Plain asked) h = one_kept (record { session = session; ask = ask.Plain asked }) h
 command_asks_kept session (Bad fault) h = one_kept (record { session = session; ask = ask.Bad fault }) tt
 
--- where the numbers of an addressed command's edit may be kept, so may those of the asks that it makes
+-- where the numbers of an addressed command's edit may be kept, so may those of the requests that it makes
 asks_kept : (found : Option (Asked ExactCommand)) → IsKeptLine found → AreKept (asks_by found)
 asks_kept None h = none_kept
 asks_kept (Some addressed) h = command_asks_kept addressed.session addressed.ask h.1
 
--- where the model or the edit of an ask may be kept, so may those of its list, or of the empty one, by a test
+-- where the model or the edit of a request may be kept, so may those of its list, or of the empty one, by a test
 if_kept : (t : Bool) (session : ℕ) (asked : ExactAsk) → IsKeptAsk asked →
     AreKept (cond t (record { session = session; ask = asked } ∷ []) [])
 if_kept true session asked h = one_kept (record { session = session; ask = asked }) h
 if_kept false session asked h = none_kept
 
--- the asks that a line makes hold models and edits that may be kept
+-- the requests that a line makes hold models and edits that may be kept
 line_kept : (addressing : Addressing) (p : Pending) (next : Line (List ℕ)) → AreKept (asks_of_line addressing p next)
 line_kept addressing Between next = asks_kept (addressed_in addressing next) (line_is_kept addressing next)
 line_kept addressing (Text session form body) next =

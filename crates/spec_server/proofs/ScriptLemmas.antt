@@ -1,7 +1,7 @@
 -- A script's asks, line by line; its sessions have the numbers 0 to 64.
 --
--- `asks_from-append`: the asks of two lists of lines are those of the first, and then those of the second from where it
---   ended.
+-- `asks_from-append`: the requests of two lists of lines are those of the first, and then those of the second from
+--   where it ended.
 -- `pending_after-append`: what is pending after two lists of lines is what is pending after the second from the first's
 --   end.
 -- `line_is_kept`: the command of any line is to a session of at most 64, and its numbers may be kept.
@@ -209,15 +209,15 @@ pending_numbered addressing p [] h = h
 pending_numbered addressing p (l ∷ ls) h =
     pending_numbered addressing (pending_after_line addressing p l) ls (line_numbered addressing p l h)
 
--- two lists of one ask are the same in this ask
+-- two lists of one request are the same in this request
 first_asked : (a b : Asked ExactAsk) → ◌≡◌ {A = List (Asked ExactAsk)} (a ∷ []) (b ∷ []) → a ≡ b
 first_asked a b e = cc
 
--- the empty list of asks is no list of one ask
+-- the empty list of requests is no list of one request
 none_asked : (a : Asked ExactAsk) → ◌≡◌ {A = List (Asked ExactAsk)} [] (a ∷ []) → ⊥
 none_asked a e = cc
 
--- where a command for a session of at most 64 makes one ask, the ask is of such a session
+-- where a command for a session of at most 64 makes one request, the request is of such a session
 command_asked : (session : ℕ) (c : ExactCommand) (a : Asked ExactAsk) → session ≤ 64 →
     asks_of_command session c ≡ a ∷ [] → a.session ≤ 64
 command_asked session (Load form) a h e = absurd (none_asked a e)
@@ -225,20 +225,20 @@ command_asked session Check a h e = absurd (none_asked a e)
 command_asked session (Plain asked) a h e = subst (λ (b : Asked ExactAsk). b.session ≤ 64) (first_asked _ a e) h
 command_asked session (Bad fault) a h e = subst (λ (b : Asked ExactAsk). b.session ≤ 64) (first_asked _ a e) h
 
--- where an addressed command for a session of at most 64 makes one ask, the ask is of such a session
+-- where an addressed command for a session of at most 64 makes one request, the request is of such a session
 addressed_asked : (found : Option (Asked ExactCommand)) (a : Asked ExactAsk) → IsKeptLine found →
     asks_by found ≡ a ∷ [] → a.session ≤ 64
 addressed_asked None a h e = absurd (none_asked a e)
 addressed_asked (Some addressed) a h e = command_asked addressed.session addressed.ask a h.0 e
 
--- where a line of the body of a session of at most 64 makes one ask, the ask is of such a session
+-- where a line of the body of a session of at most 64 makes one request, the request is of such a session
 body_asked : (t : Bool) (session : ℕ) (asked : ExactAsk) (a : Asked ExactAsk) → session ≤ 64 →
     ◌≡◌ {A = List (Asked ExactAsk)} (cond t (record { session = session; ask = asked } ∷ []) []) (a ∷ []) → a.session ≤
     64
 body_asked true session asked a h e = subst (λ (b : Asked ExactAsk). b.session ≤ 64) (first_asked _ a e) h
 body_asked false session asked a h e = absurd (none_asked a e)
 
--- where what is pending is of a session of at most 64 and a line makes one ask, the ask is of such a session
+-- where what is pending is of a session of at most 64 and a line makes one request, the request is of such a session
 line_asked : (addressing : Addressing) (p : Pending) (next : Line (List ℕ)) (a : Asked ExactAsk) → IsNumbered p →
     asks_of_line addressing p next ≡ a ∷ [] → a.session ≤ 64
 line_asked addressing Between next a h e =

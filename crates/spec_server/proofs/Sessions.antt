@@ -1,9 +1,10 @@
 -- What holds of a session whatever it was asked before: its model may be kept, and its last answer is one that the
 -- model may have.
 --
--- `step_keeps`: a step with an ask that may be kept leads from a state whose model may be kept to another such state.
--- `run_good`: a run of asks that may be kept keeps the model one that may be kept, and the last answer one that fits
---   it.
+-- `step_keeps`: a step with a request that may be kept leads from a state whose model may be kept to another such
+--   state.
+-- `run_good`: a run of requests that may be kept keeps the model one that may be kept, and the last answer one that
+--   fits it.
 use Rattle.std.proofs.Common.{ℕ, List, [], ◌∷◌, map, sym, subst, ◌⊎◌, inl, inr}
 use Rattle.std.proofs.lemmas.List.Elements.{All-head, All-tail}
 use Rattle.spec_board.specs.Reads.{ExactRead}

@@ -38,7 +38,7 @@ number_to last digits text =
     && not (begins_with_zero text) && nat_le (spelled_from 0 text) last
     then Some (spelled_from 0 text) else None
 
--- a session's number
+-- the number of a session, at most 64, that a text of at most two digits spells
 unfoldable pub session_of : List ℕ → Option ℕ
 session_of text = number_to 64 2 text
 

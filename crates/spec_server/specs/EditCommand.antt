@@ -34,7 +34,7 @@ abbrev pub ◌>>=◌ : {A B : Type 0} → Reads A → (A → Reads B) → Reads 
 
 -- ---- one word
 
--- what is wrong with an edit's line where a number's text has this fault
+-- the fault of an edit's line in which the text of a number has the given fault
 abbrev pub number_fault : NumFault → LineFault
 number_fault number.Shape = fault.Number
 number_fault number.Wide = fault.Wide
@@ -97,7 +97,7 @@ two_by_two [] = Some []
 two_by_two (name ∷ []) = None
 two_by_two (name ∷ value ∷ words) = option_map (λ pairs. (name, value) ∷ pairs) (two_by_two words)
 
--- names with their numbers
+-- names with the numbers that their texts spell, or the first fault of a number's text
 unfoldable pub numbers_in : List (List ℕ × List ℕ) → Reads Pairs
 numbers_in [] = Ok []
 numbers_in (p ∷ pairs) = number_in p.1 >>= λ v. numbers_in pairs >>= λ rest. Ok ((p.0, v) ∷ rest)

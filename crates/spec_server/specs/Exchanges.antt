@@ -7,7 +7,7 @@ use Rattle.spec_server.specs.declared.asks.Asked.{Asked}
 use Rattle.spec_server.specs.Machine.{ExactAsk, ExactReply, State, opening}
 use Rattle.spec_server.specs.Step.{AloneStep}
 
--- an ask of a session, what it read, and its reply
+-- a request of a session, what was read of the board for it, and its reply
 pub record Exchange : Type 0 where
   pub session : ℕ
   pub ask : ExactAsk
@@ -24,7 +24,7 @@ AloneRun places old [] new = new ≡ old
 AloneRun places old (x ∷ xs) new =
     (middle : State) × AloneStep places old x.ask x.reads x.reply middle × AloneRun places middle xs new
 
--- those of one session
+-- the exchanges of one session, in order
 abbrev pub of_session : ℕ → List Exchange → List Exchange
 of_session session xs = filter (λ x. x.session == session) xs
 
@@ -36,8 +36,8 @@ RunAlone places xs = (session : ℕ) → (last : State) × AloneRun places openi
 abbrev pub log_of : List Exchange → List Logged
 log_of xs = flat_map (λ x. logged x.session x.reads) xs
 
--- The asks are answered one after the other. Each session runs alone, and nobody else reads or writes the places, of
--- which none is claimed at first: each read is answered by the places as they are then.
+-- The requests are answered one after the other. Each session runs alone, and nobody else reads or writes the places,
+-- of which none is claimed at first: each read is answered by the places as they are then.
 pub record RunFits (places : ℕ) (xs : List Exchange) : Type 0 where
   pub alone : RunAlone places xs
   pub last : List ExactPlace

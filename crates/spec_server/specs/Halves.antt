@@ -18,7 +18,7 @@ pub data Awaits : Type 0 where
   -- what became of words that it publishes
   WhatBecameOf : (pending : Pending) → Awaits
 
--- a session: what it holds, and where it is in its ask
+-- a session: what it holds, and what it waits for to go on with its request
 pub record Standing : Type 0 where
   pub state : State
   pub awaits : Awaits
@@ -29,7 +29,7 @@ at_rest state = record { state = state; awaits = Nothing }
 
 -- ---- an ask begins
 
--- a session begins an ask: it replies at once, or awaits what a look for a shape finds
+-- a session begins a request: it replies at once, or waits for what a look-up of a shape on the board finds
 abbrev pub StartFits : State → ExactAsk → Started ExactReply → Standing → Type 0
 StartFits old asked (started.Reply replied) new = Begins old asked (Answers replied new.state) × (new.awaits ≡ Nothing)
 StartFits old asked (started.Look shape) new =
@@ -52,20 +52,20 @@ pub record AwaitsPut (old : State) (found : Looked) (words : Words) (new : Stand
   pub formed : IsWellFormed words
   pub awaited : new ≡ record { state = old; awaits = WhatBecameOf pending }
 
--- what a session does next after a look: it replies, or awaits the end of a put
+-- what a session does after a look-up: it replies, or waits for how publishing words ends
 abbrev pub NextFits : State → Looked → Next ExactReply → Standing → Type 0
 NextFits old found (next.Reply replied) new = Works old found (Ends replied new.state) × (new.awaits ≡ Nothing)
 NextFits old found (next.Publish words) new = AwaitsPut old found words new
 
 -- ---- words were published, or not
 
--- the session awaits what becomes of a put
+-- the session waits for how publishing words ends
 abbrev pub IsPutAwaited : Awaits → Type 0
 IsPutAwaited Nothing = ⊥
 IsPutAwaited (WhatIsFound shape) = ⊥
 IsPutAwaited (WhatBecameOf pending) = Unit {0}
 
--- after a put the session replies what was pending, and rests
+-- after words were published, or could not be, the session gives the reply that was pending, and waits for nothing
 abbrev pub PutFits : State → Awaits → Put → ExactReply → Standing → Type 0
 PutFits old Nothing put replied new = ⊥
 PutFits old (WhatIsFound shape) put replied new = ⊥

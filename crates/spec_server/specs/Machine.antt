@@ -31,7 +31,7 @@ use Rattle.spec_server.specs.declared.asks.Refusal.TheVariants as refusal
 use Rattle.spec_server.specs.declared.command.Plain.{Plain}
 use Rattle.spec_server.specs.declared.command.Plain.TheVariants as command
 
--- an ask, a reply and a last answer of exact numbers
+-- a request, a reply and a last answer of exact numbers
 abbrev pub ExactAsk : Type 0
 ExactAsk = Ask Model ExactRaw ExactEdit
 
@@ -48,17 +48,17 @@ abbrev pub IsKeptPlain : Plain ExactEdit → Type 0
 IsKeptPlain (command.Change e) = edits.IsKeptEdit e
 IsKeptPlain asked = Unit {0}
 
--- a model that an ask loads is usual, and the numbers of an edit may be kept
+-- a model that a request loads is usual, and the numbers of an edit may be kept
 abbrev pub IsKeptAsk : ExactAsk → Type 0
 IsKeptAsk (ask.Loaded m) = IsUsualModel m
 IsKeptAsk (ask.Plain asked) = IsKeptPlain asked
 IsKeptAsk asked = Unit {0}
 
--- all asks hold models and numbers that may be kept
+-- all requests hold models and numbers that may be kept
 abbrev pub AreKept : List (Asked ExactAsk) → Type 0
 AreKept asks = All (λ a. IsKeptAsk a.ask) asks
 
--- what a session holds
+-- what a session holds: a model, a budget and the last answer
 pub record State : Type 0 where
   pub model : Option Model
   pub budget : ℕ
@@ -74,7 +74,7 @@ opening = record { model = None; budget = opening_budget; last = None }
 
 -- ---- replies
 
--- memory ran out
+-- whether a reply says that memory ran out
 abbrev pub is_memory : ExactReply → Bool
 is_memory reply.Memory = true
 is_memory replied = false
@@ -94,7 +94,7 @@ abbrev pub check_reply : Option Model → ExactRaw → ExactReply
 check_reply None raw = reply.Refused refusal.NoModel
 check_reply (Some m) raw = verdict_on m (certificate_for m raw)
 
--- the text of a model in fixed form, or what is too wide for it
+-- the reply to WRITE FIXED: the text of the model, or a refusal that names an item too wide for fixed form
 abbrev pub fixed_reply : Model → Option (List ℕ) → ExactReply
 fixed_reply m None = reply.Written (fixed m)
 fixed_reply m (Some item) = reply.Refused (refusal.FixedWide item)
@@ -104,7 +104,7 @@ abbrev pub text_reply : Model → Style → ExactReply
 text_reply m style.Free = reply.Written (free m)
 text_reply m style.Fixed = fixed_reply m (too_wide m)
 
--- the reply to `WRITE`
+-- the reply to `WRITE`: the model's text in the given form, or that there is no model
 abbrev pub write_reply : Option Model → Style → ExactReply
 write_reply None form = reply.Refused refusal.NoModel
 write_reply (Some m) form = text_reply m form
@@ -145,12 +145,12 @@ pub data Due : Type 0 where
   Solves : (model : Model) → Due
   SolvesWide : (model : Model) → Due
 
--- what is due to `SOLVE`
+-- what a session does for `SOLVE`: it solves its model, or replies that there is none
 abbrev pub solve_due : State → Option Model → Due
 solve_due state None = Replies (reply.Refused refusal.NoModel) state
 solve_due state (Some m) = Solves m
 
--- what is due to `WIDE`
+-- what a session does for `WIDE`: it solves its model exactly, or replies that there is none
 abbrev pub wide_due : State → Option Model → Due
 wide_due state None = Replies (reply.Refused refusal.NoModel) state
 wide_due state (Some m) = SolvesWide m
@@ -169,12 +169,12 @@ abbrev pub edit_due : State → OrFault Model → Due
 edit_due state (Ok m) = Replies reply.Done (record state { model = Some m; last = None })
 edit_due state (Err why) = Replies (edit_refusal why) state
 
--- what is due to an edit of the model that is held
+-- what a session does for an edit: it edits its model, or replies that there is none
 abbrev pub change_due : State → Option Model → ExactEdit → Due
 change_due state None e = Replies (reply.Refused refusal.NoModel) state
 change_due state (Some m) e = edit_due state (edited m e)
 
--- what is due to a command of one line
+-- what a session does for a command of one line
 abbrev pub plain_due : State → Plain ExactEdit → Due
 plain_due state (command.Write form) = Replies (write_reply state.model form) state
 plain_due state command.Solve = solve_due state state.model
@@ -185,7 +185,7 @@ plain_due state command.Wide = wide_due state state.model
 plain_due state command.Quit = Replies reply.Bye opening
 plain_due state (command.Change e) = change_due state state.model e
 
--- what a session in this state does for an ask: it replies and is in the next state, or it solves a model
+-- what a session in this state does for a request: it replies and is in the next state, or it solves a model
 abbrev pub due : State → ExactAsk → Due
 due state (ask.Plain asked) = plain_due state asked
 due state (ask.Loaded m) =
@@ -197,8 +197,8 @@ due state (ask.Bad fault) = Replies (reply.Refused (refusal.Bad fault)) state
 
 -- ---- memory
 
--- whether memory may run out for the reply: where lines are made, a certificate is put to a model, a row, a column or
--- an entry comes, or a model is solved
+-- whether memory may run out for the reply: where lines are made, a row, a column or an entry comes, or a model is
+-- solved
 abbrev pub plain_takes_memory : Plain ExactEdit → Bool
 plain_takes_memory (command.Write form) = true
 plain_takes_memory command.Solve = true
@@ -207,7 +207,7 @@ plain_takes_memory command.Cert = true
 plain_takes_memory (command.Change e) = edits.takes_memory e
 plain_takes_memory asked = false
 
--- whether an ask may be answered with `MEMORY`
+-- whether a request may be answered with `MEMORY`
 abbrev pub takes_memory : ExactAsk → Bool
 takes_memory (ask.Plain asked) = plain_takes_memory asked
 takes_memory (ask.Checked raw) = true

@@ -79,7 +79,7 @@ abbrev pub pivots_text : Option ℕ → List ℕ
 pivots_text None = codes "-"
 pivots_text (Some n) = decimal n
 
--- what became of a put, as it is printed
+-- the text of how publishing words ended: the place that has them, or how many places were claimed
 abbrev pub put_text : Put → List ℕ
 put_text (put.Published k) = codes "PUBLISHED " ++ decimal k
 put_text (put.Raced c) = codes "RACED " ++ decimal c
@@ -98,11 +98,11 @@ line_fault_text fault.Number = codes "2 NUMBER"
 line_fault_text fault.Wide = codes "3 WIDE"
 line_fault_text fault.Long = codes "11 LONG"
 
--- the line of a text that is wrong, and the number of what is wrong with it
+-- the text of a fault in a model's text: the number of the line, and the number of the fault
 unfoldable pub fault_text : MpsFault → List ℕ
 fault_text fault = codes "MPS " ++ decimal fault.line ++ codes " M" ++ decimal (code_number fault.code)
 
--- what is too wide for fixed form
+-- the text of a refusal to write fixed form: the item that is too wide for it
 unfoldable pub item_text : List ℕ → List ℕ
 item_text item = codes "FIXEDWIDE " ++ item
 

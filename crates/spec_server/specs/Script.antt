@@ -41,12 +41,12 @@ ends_certificate (line.Long len) = false
 ends_certificate line.End = false
 ends_certificate line.Over = false
 
--- the ask of a text that was read: its model, or its fault
+-- the request of a text that was read: its model, or its fault
 abbrev pub ask_of_verdict : Verdict → ExactAsk
 ask_of_verdict (Spelled m) = ask.Loaded m
 ask_of_verdict (Refused n fault) = ask.Misspelled (record { line = n; code = fault })
 
--- the ask of a certificate that was read: its numbers, or its fault
+-- the request of a certificate that was read: its numbers, or its fault
 abbrev pub ask_of_judgement : certificate.Judgement → ExactAsk
 ask_of_judgement (certificate.Spelled raw) = ask.Checked raw
 ask_of_judgement (certificate.Refused n) = ask.Unfit n
@@ -59,19 +59,19 @@ pub data Pending : Type 0 where
   Text : (session : ℕ) → (form : Style) → (body : List (Line (List ℕ))) → Pending
   Certificate : (session : ℕ) → (body : List (Line (List ℕ))) → Pending
 
--- what a command begins
+-- the text of a model or the certificate that begins behind a command; none behind another command
 abbrev pub begun : ℕ → ExactCommand → Pending
 begun session (Load form) = Text session form []
 begun session Check = Certificate session []
 begun session (Plain asked) = Between
 begun session (Bad fault) = Between
 
--- what is pending after a line that may begin a text or a certificate
+-- the text of a model or the certificate that begins behind a line, if the line is a command that has one
 abbrev pub begun_by : Option (Asked ExactCommand) → Pending
 begun_by None = Between
 begun_by (Some addressed) = begun addressed.session addressed.ask
 
--- what is pending after a line
+-- the text of a model or the certificate that has begun and not ended, if any, after one more line
 abbrev pub pending_after_line : Addressing → Pending → Line (List ℕ) → Pending
 pending_after_line addressing Between next = begun_by (addressed_in addressing next)
 pending_after_line addressing (Text session form body) next =
@@ -79,19 +79,19 @@ pending_after_line addressing (Text session form body) next =
 pending_after_line addressing (Certificate session body) next =
     if ends_certificate next then Between else Certificate session (body ++ next ∷ [])
 
--- the ask of a command in one line; none for one whose text or certificate follows
+-- the request of a command in one line; none for a command whose text or certificate follows
 abbrev pub asks_of_command : ℕ → ExactCommand → List (Asked ExactAsk)
 asks_of_command session (Load form) = []
 asks_of_command session Check = []
 asks_of_command session (Plain asked) = record { session = session; ask = ask.Plain asked } ∷ []
 asks_of_command session (Bad fault) = record { session = session; ask = ask.Bad fault } ∷ []
 
--- the asks of a line by its command, where it has one
+-- the request of a line by its command, where it has one
 abbrev pub asks_by : Option (Asked ExactCommand) → List (Asked ExactAsk)
 asks_by None = []
 asks_by (Some addressed) = asks_of_command addressed.session addressed.ask
 
--- the ask that a line completes, if it completes one
+-- the request that a line completes, if it completes one
 abbrev pub asks_of_line : Addressing → Pending → Line (List ℕ) → List (Asked ExactAsk)
 asks_of_line addressing Between next = asks_by (addressed_in addressing next)
 asks_of_line addressing (Text session form body) next =
@@ -103,13 +103,13 @@ asks_of_line addressing (Certificate session body) next =
     then record { session = session; ask = ask_of_judgement (certificate.judge None 1 (body ++ next ∷ [])) } ∷ []
     else []
 
--- the asks that these lines complete, and what is pending after them
+-- the requests that lines complete, from the text or certificate on that has begun before them, if any
 abbrev pub asks_from : Addressing → Pending → List (Line (List ℕ)) → List (Asked ExactAsk)
 asks_from addressing pending [] = []
 asks_from addressing pending (next ∷ lines) =
     asks_of_line addressing pending next ++ asks_from addressing (pending_after_line addressing pending next) lines
 
--- what is pending after some lines
+-- the text of a model or the certificate that has begun and not ended, if any, after some lines
 abbrev pub pending_after : Addressing → Pending → List (Line (List ℕ)) → Pending
 pending_after addressing pending [] = pending
 pending_after addressing pending (next ∷ lines) =
@@ -117,28 +117,28 @@ pending_after addressing pending (next ∷ lines) =
 
 -- ---- a whole script
 
--- it ends between two commands, or inside a body, or is longer than may be read
+-- how a script ends: between two commands, inside a text or certificate, or past the limit on its bytes
 pub data Ending : Type 0 where
   Ended : Ending
   Cut : Ending
   Over : Ending
 
--- the ending of a script, by what is pending after its last line
+-- how a script ends, by whether a text or certificate has begun and not ended with its last line
 abbrev pub ending_by : Pending → Ending
 ending_by Between = Ended
 ending_by (Text session form body) = Cut
 ending_by (Certificate session body) = Cut
 
--- the asks that are whole, in order, and the end
+-- the requests that a script completes, in order, and how the script ends
 pub record Script : Type 0 where
   pub asks : List (Asked ExactAsk)
   pub ending : Ending
 
--- the asks of the lines that end among these bytes, as far as a script may be read
+-- the requests of the lines that end among these bytes, within the limit on a script's bytes
 unfoldable pub ended_asks_of : Addressing → List ℕ → List (Asked ExactAsk)
 ended_asks_of addressing bytes = asks_from addressing Between (ended_lines_of (take input_limit bytes))
 
--- the asks of a script's bytes, and how it ends
+-- the requests of a script's bytes, and how the script ends
 unfoldable pub script_of : Addressing → List ℕ → Script
 script_of addressing bytes =
     if nat_le (length bytes) input_limit

@@ -1,10 +1,10 @@
 -- How many workers serve sessions, and how many places these share.
 use Rattle.std.specs.Prelude.{ℕ, ◌≤◌}
 
--- so many workers there may be
+-- how many workers there may be: 1 to 16
 abbrev pub IsWorkers : ℕ → Type 0
 IsWorkers workers = (1 ≤ workers) × (workers ≤ 16)
 
--- so many places they may share
+-- how many places of the board workers may share: 1 to 1,024
 abbrev pub IsPlaces : ℕ → Type 0
 IsPlaces places = (1 ≤ places) × (places ≤ 1024)

@@ -32,7 +32,7 @@ use Rattle.spec_server.specs.WideLines.{wide_lines}
 
 -- ---- an ask begins
 
--- it ends with a reply and the next state; or words of this shape are looked for
+-- how a session begins a request: it replies and is in its next state, or looks up words of a shape
 pub data Begun : Type 0 where
   Answers : (replied : ExactReply) → (next : State) → Begun
   Looks : (shape : Words) → Begun
@@ -59,13 +59,13 @@ pub record AnswersWide (old : State) (m : Model) (begun : Begun) : Type 0 where
   pub is_end : IsExactEnd m old.budget None end
   pub answers : begun ≡ Answers (reply.Wide (wide_lines m end)) old
 
--- how a session begins with what is due to an ask
+-- how a session begins what it does for a request
 abbrev pub BegunBy : State → Due → Begun → Type 0
 BegunBy old (Replies replied next) begun = begun ≡ Answers replied next
 BegunBy old (Solves m) begun = begun ≡ solve_begun old m (form_of (Some number_limit) m)
 BegunBy old (SolvesWide m) begun = AnswersWide old m begun
 
--- with memory enough the ask begins as is due; where memory runs out the reply says so, and the state stays
+-- with memory enough the session begins a request as `due` has it; else it may reply `MEMORY` and keep its state
 abbrev pub Begins : State → ExactAsk → Begun → Type 0
 Begins old asked begun =
     BegunBy old (due old asked) begun ⊎ ((takes_memory asked ≡ true) × (begun ≡ Answers reply.Memory old))
@@ -78,7 +78,7 @@ pub record Pending : Type 0 where
   pub how : How
   pub words : Words
 
--- the ask ends with a reply and the next state; or words are published first
+-- the request ends with a reply and the next state; or words are published first
 pub data Worked : Type 0 where
   Ends : (replied : ExactReply) → (next : State) → Worked
   Publishes : (pending : Pending) → Worked
@@ -98,7 +98,7 @@ abbrev pub how_by : Looked → Route → How
 how_by None route = how.Cold
 how_by (Some place) route = how_from place.place route
 
--- these are the words that were found
+-- whether these words are those that a look-up found
 abbrev pub is_found : Looked → Words → Bool
 is_found None words = false
 is_found (Some place) words = same words place.words
@@ -147,7 +147,7 @@ pub record PutStep (places : ℕ) (old : State) (pending : Pending) (looked read
   pub answer : replied ≡ answered old pending.end
   pub kept : new ≡ after_put old pending put
 
--- a solve ends without a put, or with one
+-- how a solve ends: with its reply at once, or after it published words
 abbrev pub Concludes : ℕ → State → Worked → List ExactRead → List ExactRead → ExactReply → State → Type 0
 Concludes places old (Ends stated next) looked reads replied new = (reads ≡ looked) × (replied ≡ stated) × (new ≡ next)
 Concludes places old (Publishes pending) looked reads replied new = PutStep places old pending looked reads replied new

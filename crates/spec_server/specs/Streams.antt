@@ -9,7 +9,7 @@ pub record Streams : Type 0 where
   pub taken_before : Option (List ℕ)
   pub taken_after : Option (List ℕ)
 
--- these four in order
+-- the record of an input before and after a run, and of an output before and after it
 abbrev pub streams : Option (List ℕ) → Option (List ℕ) → Option (List ℕ) → Option (List ℕ) → Streams
 streams before after taken now =
     record { left_before = before; left_after = after; taken_before = taken; taken_after = now }

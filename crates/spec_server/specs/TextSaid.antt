@@ -19,7 +19,7 @@ pub record TextStage : Type 0 where
 abbrev pub TextSaid : Type 0
 TextSaid = Result Model MpsFault
 
--- where line n leads
+-- what line n of a model's text leads to: a further stage of the reading, the model, or a fault in line n
 abbrev pub behind_line : ℕ → text.Outcome → Step TextStage TextSaid
 behind_line n (Ok (text.More s)) = On (record { state = s; lines = n })
 behind_line n (Ok (text.Done m)) = Says (Ok m)

@@ -9,7 +9,7 @@ use Rattle.spec_certificate.specs.TextWritten.{wide_certificate_lines}
 use Rattle.spec_solve.specs.declared.exact.ExactEnd.TheVariants.{Answered, Open}
 use Rattle.spec_solve.specs.Exact.{RationalEnd}
 
--- as an answer with narrow numbers, with the optimal value in lowest terms, however wide
+-- the text of an answer whose optimal value may have any width, in lowest terms
 abbrev pub wide_known_text : Known ℚ → List ℕ
 wide_known_text (known.Optimal v) = codes "OPTIMAL " ++ wide_text v
 wide_known_text known.Infeasible = codes "INFEASIBLE"

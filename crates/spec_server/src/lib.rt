@@ -116,17 +116,17 @@ pub fn certificates_are_accepted_back()
         IsModel m → MayAnswer m budget (outcome.Ended known cert basis pivots) → IsAcceptedBack m known cert }
 {}
 
-/// For each list of asks whose models may be kept there are exchanges in which each session runs as one that is alone,
-/// with memory enough.
+/// For each list of requests whose models may be kept there are exchanges in which each session runs as one that is
+/// alone, with memory enough.
 pub fn asks_have_a_run()
     ensures { (places : ℕ) (asks : List (asked_of ExactAsk)) → AreKept asks →
         (xs : List Exchange) × (map asked_in xs ≡ asks) × RunAlone places xs
         × (filter (λ x. is_memory x.reply) xs ≡ []) }
 {}
 
-/// The models that asks are to hold may be kept, and their edits have numbers and bounds that a kept model may have.
-/// The asks are those of lines, of the lines that end among some bytes, and of a whole script, whether its lines name
-/// sessions or not.
+/// The models that requests are to hold may be kept, and their edits have numbers and bounds that a kept model may
+/// have. The requests are those of lines, of the lines that end among some bytes, and of a whole script, whether its
+/// lines name sessions or not.
 pub fn scripts_ask_kept_models()
     ensures lines { (addressing : addressing_kind) (lines : List (Line (List ℕ))) →
         AreKept (asks_from addressing Between lines) }

@@ -1,6 +1,6 @@
 -- A step of the run is a step by Bland's rule.
 --
--- `ahead_is`: the bound that lies ahead of a column on its way is the other bound that the run names.
+-- `ahead_is`: the bound towards which a column moves is the one that the run takes as its other bound.
 -- `way_is`: a column with a lower bound flips the way in which it may enter.
 -- `choice_is_meant`: what the run chooses in a tableau within its bounds is an end, a flip or a pivot by the rule.
 use Rattle.std.proofs.Common.{◌≡◌, ℕ, ◌+◌, Option, Some, None, Ok, refl, sym, ◌∙◌, subst, subst₂}

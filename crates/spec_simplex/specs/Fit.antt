@@ -58,7 +58,7 @@ needs_flip AtLower d = lt_ℚ d 0ℚ
 needs_flip AtUpper d = lt_ℚ 0ℚ d
 needs_flip AtZero d = false
 
--- a bound is there
+-- whether a bound is given
 abbrev pub is_there : Option ℚ → Bool
 is_there None = false
 is_there (Some v) = true

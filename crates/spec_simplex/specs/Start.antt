@@ -123,7 +123,7 @@ is_wanting (Above gap) = true
 
 -- ---- the tableau
 
--- how row i starts
+-- how the row of number i starts phase one; as one within its limits with the sum 0 where there is none
 abbrev pub start_at : List (RowStart ℚ) → ℕ → RowStart ℚ
 start_at starts i = get_or starts i (Within 0ℚ)
 

@@ -30,7 +30,7 @@ form_columns t = t.cols + t.rows
 abbrev pub all_columns : Tableau → ℕ
 all_columns t = t.cols + t.rows + t.rows
 
--- column k is artificial
+-- whether column k of a tableau is artificial
 abbrev pub is_artificial : Tableau → ℕ → Bool
 is_artificial t k = nat_le (form_columns t) k
 
@@ -75,7 +75,7 @@ is_basic AtLower = false
 is_basic AtUpper = false
 is_basic AtZero = false
 
--- both bounds are there, and equal
+-- whether a column has both bounds, and they are equal
 abbrev pub is_fixed : Option ℚ → Option ℚ → Bool
 is_fixed None upper = false
 is_fixed (Some l) None = false

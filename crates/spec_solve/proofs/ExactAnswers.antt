@@ -71,14 +71,14 @@ module _ (m : Model) where
 
 -- ---- what a solve at 127 bits finds
 
--- the text of a narrow number fits a line
+-- the text of a number of at most 127 bits fits a line
 narrow_fits : (v : ℚ) → IsNarrow v → FitsLine v
 narrow_fits v h =
     let top = h.top in
     let bottom = h.bottom in
     (39, 39, omega (arith, top), omega (arith, bottom), omega arith)
 
--- where all numbers of a list are narrow, the text of each fits a line
+-- where all numbers of a list have at most 127 bits, the text of each fits a line
 all_fit : (xs : List ℚ) → All IsNarrow xs → All FitsLine xs
 all_fit xs h = λ k d l. narrow_fits (get_or xs k d) (h k d l)
 

@@ -50,7 +50,7 @@ use Rattle.spec_solve.proofs.NarrowStart.{IsNarrowForm, one_narrow, form_narrow,
 
 -- ---- steps up to an end
 
--- a run that ends with its budget used up ends at the tableau it was at, with narrow numbers
+-- a run that ends with its budget used up ends at the tableau it was at, with numbers of at most 127 bits
 spent_narrow : (t : Tableau) (used : ℕ) (choice : Choice ℚ) (e : PrimalEnded) → end_or_spent t used choice ≡ Ok e →
     AreNarrow t → AreNarrow e.tableau
 spent_narrow t used (End end) e h n =
@@ -59,7 +59,7 @@ spent_narrow t used (End end) e h n =
 spent_narrow t used (Flip j) e h n = cc
 spent_narrow t used (Pivot p j theta to) e h n = cc
 
--- where each next step keeps a tableau's numbers narrow, a run ends at a tableau with narrow numbers
+-- where each next step keeps a tableau's numbers narrow, a run ends at a tableau with numbers of at most 127 bits
 next_narrow : (t : Tableau) (used : ℕ) (next : Tableau → Result PrimalEnded (Spending ℚ)) (choice : Choice ℚ)
     (e : PrimalEnded) → end_or_next (Some number_limit) t used next choice ≡ Ok e → AreNarrow t
     → ((u : Tableau) → next u ≡ Ok e → AreNarrow u → AreNarrow e.tableau) → AreNarrow e.tableau
@@ -74,7 +74,7 @@ next_narrow t used next (Pivot p j theta to) e h n k =
     k o.0 o.2 (pivot_narrow t o.0 p j theta to (refused_ok stop.Past (pivot_run (Some number_limit) t p j theta to) o.0
     o.1) n)
 
--- steps from a tableau with narrow numbers end at a tableau with narrow numbers
+-- steps from a tableau with numbers of at most 127 bits end at a tableau with numbers of at most 127 bits
 run_narrow : (left used : ℕ) (t : Tableau) (e : PrimalEnded) → run_from (Some number_limit) left used t ≡ Ok e →
     AreNarrow t → AreNarrow e.tableau
 unfolding run_from
@@ -95,7 +95,7 @@ fixed_narrow n zero bounds h = h
 fixed_narrow n (suc m) bounds h =
     All-set NarrowBound (fixed_at_zero n m bounds) (n + m) (Some 0ℚ) zero_narrow (fixed_narrow n m bounds h)
 
--- phase two begins with narrow numbers, where the form and the tableau before have such
+-- phase two begins with numbers of at most 127 bits, where the form and the tableau before have such
 two_narrow : (f : Form) (t u : Tableau) → phase_two_run (Some number_limit) f t ≡ Ok u → IsNarrowForm f → AreNarrow t →
     AreNarrow u
 unfolding phase_two_run
@@ -115,7 +115,7 @@ abbrev NarrowEnd : PhasesEnd → Type 0
 NarrowEnd (Infeasible t used) = AreNarrow t
 NarrowEnd (Finished e) = AreNarrow e.tableau
 
--- phase one ends with narrow numbers where it begins with such
+-- phase one ends with numbers of at most 127 bits where it begins with such
 one_phase_narrow : (budget : ℕ) (t : Tableau) (e : PrimalEnded) → phase_one (Some number_limit) budget t ≡ Ok e →
     AreNarrow t → AreNarrow e.tableau
 one_phase_narrow budget t e h n = by (wants_phase_one t) h
@@ -128,7 +128,7 @@ one_phase_narrow budget t e h n = by (wants_phase_one t) h
         let same : ◌≡◌ {A = PrimalEnded} (record { end = Optimal; tableau = t; used = 0 }) e = cc in
         subst (λ (e : PrimalEnded). AreNarrow e.tableau) same n
 
--- where the form and the end of phase one have narrow numbers, so has the end of both phases
+-- where the form and the end of phase one have numbers of at most 127 bits, so has the end of both phases
 two_phases_narrow : (budget : ℕ) (f : Form) (one : PrimalEnded) (e : PhasesEnd) →
     phase_two (Some number_limit) budget f one ≡ Ok e → IsNarrowForm f → AreNarrow one.tableau → NarrowEnd e
 two_phases_narrow budget f one e h k n =
@@ -139,7 +139,7 @@ two_phases_narrow budget f one e h k n =
     (run_narrow (budget - one.used) one.used o.0 p.0 p.1
     (two_narrow f one.tableau o.0 (refused_ok stop.Past (phase_two_run (Some number_limit) f one.tableau) o.0 o.1) k n))
 
--- both phases on a form with narrow numbers end with narrow numbers
+-- both phases on a form with numbers of at most 127 bits end with numbers of at most 127 bits
 phases_narrow : (budget : ℕ) (f : Form) (e : PhasesEnd) → phases_run (Some number_limit) budget f ≡ Ok e →
     IsNarrowForm f → NarrowEnd e
 unfolding phases_run
@@ -157,7 +157,7 @@ phases_narrow budget f e h k =
 
 -- ---- certificates
 
--- a narrow number is narrow in either direction
+-- a number of at most 127 bits has at most 127 bits in either direction
 directed_narrow : (way : Way) (v : ℚ) → IsNarrow v → IsNarrow (directed way v)
 directed_narrow Up v h = h
 directed_narrow Down v h = neg_narrow v h
@@ -180,18 +180,18 @@ moves_narrow t j way k (suc m) n = by (nat_eq (basic_at t m) k) (moves_narrow t 
 pub point_narrow : (t : Tableau) → AreNarrow t → All IsNarrow (point t)
 point_narrow t n = All-made IsNarrow t.cols (value_at t) (λ k l. number_at t.value n.value k)
 
--- the multipliers of a tableau with narrow numbers are narrow
+-- the multipliers of a tableau with numbers of at most 127 bits have at most 127 bits
 multipliers_narrow : (t : Tableau) → AreNarrow t → All IsNarrow (multipliers t)
 multipliers_narrow t n =
     All-made IsNarrow t.rows (λ i. reduced_at t (t.cols + i)) (λ i l. number_at t.reduced n.reduced (t.cols + i))
 
--- the certificate of any end at a tableau with narrow numbers has narrow numbers
+-- the certificate of any end at a tableau with numbers of at most 127 bits has numbers of at most 127 bits
 end_narrow : (t : Tableau) (end : PrimalEnd) → AreNarrow t → IsNarrowCertificate (certificate_at t end)
 end_narrow t Optimal n = (point_narrow t n, multipliers_narrow t n)
 end_narrow t (Unbounded j way) n =
     (point_narrow t n, All-made IsNarrow t.cols (moves_by t j way) (λ k l. moves_narrow t j way k t.rows n))
 
--- the certificate of an end of both phases with narrow numbers has narrow numbers
+-- the certificate of an end of both phases with numbers of at most 127 bits has numbers of at most 127 bits
 certificate_narrow : (e : PhasesEnd) → NarrowEnd e → IsNarrowCertificate (certificate_of e)
 certificate_narrow (Infeasible t used) n = multipliers_narrow t n
 certificate_narrow (Finished e) n = end_narrow e.tableau e.end n

@@ -53,7 +53,7 @@ use Rattle.spec_solve.proofs.NarrowCold.{fixed_narrow, moves_narrow, point_narro
 
 -- ---- solves over pairs
 
--- one step of ftran over a pair gives narrow numbers
+-- one step of ftran over a pair gives numbers of at most 127 bits
 forward_narrow : (m : ℕ) (e : Pair) (v w : List ℚ) → forward_run (Some number_limit) m e v ≡ Ok w → All IsNarrow w
 unfolding forward_run
 forward_narrow m e v w h =
@@ -66,7 +66,7 @@ forward_narrow m e v w h =
     by true i x q n h = let z : q ≡ x = cc in subst IsNarrow z n
     by false i x q n h = less_narrow (pair_at e i) q (get_or v i 0ℚ) x h
 
--- ftran over all pairs makes narrow numbers of narrow numbers
+-- ftran over all pairs makes numbers of at most 127 bits of numbers of at most 127 bits
 ftran_narrow : (m : ℕ) (pairs : List Pair) (v w : List ℚ) → ftran_run (Some number_limit) m pairs v ≡ Ok w →
     All IsNarrow v → All IsNarrow w
 ftran_narrow m [] v w h n = let z : v ≡ w = cc in subst (All IsNarrow) z n
@@ -74,7 +74,7 @@ ftran_narrow m (e ∷ es) v w h n =
     let o = then_ok (forward_run (Some number_limit) m e v) (λ u. ftran_run (Some number_limit) m es u) w h in
     ftran_narrow m es o.0 w o.2 (forward_narrow m e v o.0 o.1)
 
--- one step of btran over a pair makes narrow numbers of narrow numbers
+-- one step of btran over a pair makes numbers of at most 127 bits of numbers of at most 127 bits
 backward_narrow : (m : ℕ) (e : Pair) (v w : List ℚ) → backward_run (Some number_limit) m e v ≡ Ok w →
     All IsNarrow v → All IsNarrow w
 unfolding backward_run
@@ -86,7 +86,7 @@ backward_narrow m e v w h n =
     subst (All IsNarrow) z
     (All-set IsNarrow v e.place p.0 (quotient_narrow o.0 (pair_at e e.place) p.0 p.1) n)
 
--- btran over all pairs makes narrow numbers of narrow numbers
+-- btran over all pairs makes numbers of at most 127 bits of numbers of at most 127 bits
 btran_narrow : (m : ℕ) (pairs : List Pair) (v w : List ℚ) → btran_run (Some number_limit) m pairs v ≡ Ok w →
     All IsNarrow v → All IsNarrow w
 btran_narrow m [] v w h n = let z : v ≡ w = cc in subst (All IsNarrow) z n
@@ -94,7 +94,7 @@ btran_narrow m (e ∷ es) v w h n =
     let o = then_ok (btran_run (Some number_limit) m es v) (λ u. backward_run (Some number_limit) m e u) w h in
     backward_narrow m e o.0 w o.2 (btran_narrow m es v o.0 o.1 n)
 
--- a column of the equations of a form with narrow numbers has narrow numbers
+-- a column of the equations of a form with numbers of at most 127 bits has numbers of at most 127 bits
 column_narrow : (f : Form) (k : ℕ) → IsNarrowForm f → All IsNarrow (column_of f k)
 column_narrow f k n = All-made IsNarrow f.rows (λ i. column_entry f i k) (λ i l. by (nat_lt k f.cols) i)
   where
@@ -104,14 +104,14 @@ column_narrow f k n = All-made IsNarrow f.rows (λ i. column_entry f i k) (λ i 
 
 -- ---- signs
 
--- a narrow number times the entry of a logical column in its row is narrow
+-- a number of at most 127 bits times the entry of a logical column in its row has at most 127 bits
 signed_by : (s : RowStart ℚ) (v : ℚ) → IsNarrow v → IsNarrow (logical_sign s *ℚ v)
 signed_by (Within w) v n = subst IsNarrow (sym (one-*ℚ v)) n
 signed_by (Above gap) v n = subst IsNarrow (sym (one-*ℚ v)) n
 signed_by (Below gap) v n =
     subst IsNarrow (sym (neg-*ℚ 1ℚ v)) (neg_narrow (1ℚ *ℚ v) (subst IsNarrow (sym (one-*ℚ v)) n))
 
--- a narrow number times the sign of column k is narrow
+-- a number of at most 127 bits times the sign of column k has at most 127 bits
 signed_narrow : (starts : List (RowStart ℚ)) (t : Tableau) (k : ℕ) (v : ℚ) → IsNarrow v →
     IsNarrow (sign_of starts t k *ℚ v)
 signed_narrow starts t k v n = by (is_artificial t k)
@@ -126,7 +126,7 @@ pub record NarrowSelection (s : Selection) : Type 0 where
   pub multipliers : All IsNarrow s.multipliers
   pub tableau : AreNarrow s.tableau
 
--- the tableau that a step sees has narrow numbers where the tableau and the solved column have such
+-- the tableau that a step sees has numbers of at most 127 bits where the tableau and the solved column have such
 seen_narrow : (starts : List (RowStart ℚ)) (t : Tableau) (j : ℕ) (z : List ℚ) → AreNarrow t → All IsNarrow z →
     AreNarrow (seen starts t j z)
 seen_narrow starts t j z n h = record {
@@ -365,7 +365,8 @@ module _ (f : Form) (starts : List (RowStart ℚ)) (form : IsNarrowForm f) where
           subst NarrowAnswer z (negatives_narrow one.state.bare.rows one.selection.multipliers k.selection.multipliers)
       by false one q k = two_narrow_phases budget one a q k
 
--- the run over factors of a form with narrow numbers ends with a certificate of narrow numbers
+-- the run over factors of a form with numbers of at most 127 bits ends with a certificate of numbers of at most 127
+-- bits
 run_narrow : (budget : ℕ) (f : Form) (a : OverEnd) → over_run (Some number_limit) budget f ≡ Ok a → IsNarrowForm f →
     IsNarrowCertificate a.certificate
 unfolding over_run

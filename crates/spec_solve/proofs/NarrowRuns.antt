@@ -37,7 +37,7 @@ last_two true true false d e = cc
 last_two true false c d e = cc
 last_two false b c d e = cc
 
--- a sum that is not refused at the limit of the program is narrow
+-- a sum that is not refused at the limit of the program has at most 127 bits
 add_narrow : (v w x : ℚ) → add (Some number_limit) v w ≡ Some x → IsNarrow x
 unfolding add
 add_narrow v w x e =
@@ -53,7 +53,7 @@ add_narrow v w x e =
     (leb-true (unsigned_abs (whole_sum v.num v.den w.num w.den)) number_limit t.0))
     (leb-true (sum_den v.num v.den w.num w.den) number_limit t.1))
 
--- a product that is not refused at the limit of the program is narrow
+-- a product that is not refused at the limit of the program has at most 127 bits
 mul_narrow : (v w x : ℚ) → mul (Some number_limit) v w ≡ Some x → IsNarrow x
 unfolding mul
 mul_narrow v w x e =
@@ -65,12 +65,12 @@ mul_narrow v w x e =
     (leb-true (unsigned_abs (product_num v.num v.den w.num w.den)) number_limit t.0)
     (leb-true (product_den v.num v.den w.num w.den) number_limit t.1))
 
--- a difference that is not refused at the limit of the program is narrow
+-- a difference that is not refused at the limit of the program has at most 127 bits
 sub_narrow : (v w x : ℚ) → sub (Some number_limit) v w ≡ Some x → IsNarrow x
 unfolding sub
 sub_narrow v w x e = add_narrow v (neg_ℚ w) x e
 
--- a quotient that is not refused at the limit of the program is narrow
+-- a quotient that is not refused at the limit of the program has at most 127 bits
 div_narrow : (v w x : ℚ) → div (Some number_limit) v w ≡ Some x → IsNarrow x
 unfolding div
 div_narrow v w x e = mul_narrow v (inverse w) x e

@@ -75,7 +75,7 @@ abbrev IsNarrowGiven : RowLimit ℚ → Type 0
 IsNarrowGiven (Given v) = IsNarrow v
 IsNarrowGiven other = Unit {0}
 
--- where a row's right side is narrow, a lower limit that takes no operation is narrow
+-- where a row's right side has at most 127 bits, a lower limit that takes no operation has at most 127 bits
 lower_given : (kind : Kind) (b : ℚ) (range : Option ℚ) → IsNarrow b → IsNarrowGiven (lower_by kind b range)
 lower_given L b None n = tt
 lower_given L b (Some r) n = tt
@@ -88,7 +88,7 @@ lower_given E b (Some r) n = by (lt_ℚ r 0ℚ)
     by true = tt
     by false = n
 
--- where a row's right side is narrow, an upper limit that takes no operation is narrow
+-- where a row's right side has at most 127 bits, an upper limit that takes no operation has at most 127 bits
 upper_given : (kind : Kind) (b : ℚ) (range : Option ℚ) → IsNarrow b → IsNarrowGiven (upper_by kind b range)
 upper_given L b range n = n
 upper_given G b None n = tt
@@ -101,7 +101,7 @@ upper_given E b (Some r) n = by (lt_ℚ r 0ℚ)
     by true = n
     by false = tt
 
--- a row's limit is narrow where it comes of an operation at the program's limit, or is given as narrow
+-- a row's limit has at most 127 bits where it comes of an operation at the program's limit, or is given as narrow
 limit_narrow : (o : RowLimit ℚ) (l : Option ℚ) → limit_run (Some number_limit) o ≡ Ok l → IsNarrowGiven o → NarrowBound l
 limit_narrow Absent l h n = subst NarrowBound (ok_same None l h) tt
 limit_narrow (Given v) l h n = subst NarrowBound (ok_same (Some v) l h) n
@@ -112,7 +112,7 @@ limit_narrow (Difference v w) l h n =
     let o = then_ok (difference_run (Some number_limit) v w) (λ d. Ok (Some d)) l h in
     subst NarrowBound (ok_same (Some o.0) l o.2) (difference_narrow v w o.0 o.1)
 
--- both limits of a row with a narrow right side, worked out at the program's limit, are narrow
+-- both limits of a row with a right side of at most 127 bits, worked out at the program's limit, have at most 127 bits
 limits_narrow : (r : ExactRow) (p : Pair) → limits_run (Some number_limit) r ≡ Ok p → IsNarrow r.rhs → NarrowPair p
 limits_narrow r p h n =
     let l = then_ok (lower_run (Some number_limit) r) (λ l. upper_run (Some number_limit) r >>= λ u. Ok (l, u)) p h in
@@ -126,7 +126,7 @@ pub least_narrow : (sense : Sense) (c : ℚ) → IsNarrow c → IsNarrow (least_
 least_narrow Min c h = h
 least_narrow Max c h = neg_narrow c h
 
--- the form of a model and row limits with narrow numbers has narrow numbers
+-- the form of a model and row limits with numbers of at most 127 bits has numbers of at most 127 bits
 formed_narrow : (m : Model) (ls : List Pair) → IsNarrowModel m → All NarrowPair ls → IsNarrowForm (formed m ls)
 formed_narrow m ls n h = record {
   entries =
@@ -156,7 +156,7 @@ form_narrow m f h n =
     (refused_ok fault.Past _ o.0 o.1)
     (λ i q l g. limits_narrow (row m i) q g (n.rows i no_row l).rhs)))
 
--- each entry of a column whose listed entries are narrow is narrow
+-- each entry of a column whose listed entries have at most 127 bits has at most 127 bits
 entry_narrow : (es : List (ℕ × ℚ)) (i : ℕ) → All (λ e. IsNarrow e.1) es → IsNarrow (entry_of es i)
 entry_narrow [] i h = zero_narrow
 entry_narrow (e ∷ es) i h = by (nat_eq e.0 i) (entry_narrow es i (λ k d l. h (suc k) d (omega arith)))
@@ -177,7 +177,7 @@ NarrowStart (Within v) = IsNarrow v
 NarrowStart (Below gap) = IsNarrow gap
 NarrowStart (Above gap) = IsNarrow gap
 
--- the sum with which a row begins, worked out at the limit of the program, is narrow
+-- the sum with which a row begins, worked out at the limit of the program, has at most 127 bits
 sum_of_row : (f : Form) (i : ℕ) (v : ℚ) → row_sum (Some number_limit) f i ≡ Ok v → IsNarrow v
 sum_of_row f i v h =
     steps_ok (λ _ s. IsNarrow s) f.cols (λ j s. plus_product (Some number_limit) (form_entry f i j) (first_value f j)
@@ -186,11 +186,11 @@ sum_of_row f i v h =
 
 -- ---- no gap, and one that is a difference
 
--- a gap that is not there is narrow
+-- a gap that is not there has at most 127 bits
 no_gap : (gap : Option ℚ) → (let r : Run (Option ℚ) = Ok None in r) ≡ Ok gap → NarrowBound gap
 no_gap gap h = let e : None ≡ gap = cc in subst NarrowBound e tt
 
--- a gap that is a difference worked out at the limit of the program is narrow
+-- a gap that is a difference worked out at the limit of the program has at most 127 bits
 some_gap : (v w : ℚ) (gap : Option ℚ) →
     (difference_run (Some number_limit) v w >>= λ gap. Ok (Some gap)) ≡ Ok gap → NarrowBound gap
 some_gap v w gap h =
@@ -198,7 +198,7 @@ some_gap v w gap h =
     let e : Some g.0 ≡ gap = cc in
     subst NarrowBound e (difference_narrow v w g.0 g.1)
 
--- the gap by which v is below a lower limit, if it is, is narrow
+-- the gap by which v is below a lower limit, if it is, has at most 127 bits
 below_narrow : (lower : Option ℚ) (v : ℚ) (gap : Option ℚ) → below_run (Some number_limit) lower v ≡ Ok gap →
     NarrowBound gap
 below_narrow None v gap h = no_gap gap h
@@ -210,7 +210,7 @@ below_narrow (Some l) v gap h =
     by Equal q = no_gap gap q
     by Greater q = no_gap gap q
 
--- the gap by which v is above an upper limit, if it is, is narrow
+-- the gap by which v is above an upper limit, if it is, has at most 127 bits
 above_narrow : (upper : Option ℚ) (v : ℚ) (gap : Option ℚ) → above_run (Some number_limit) upper v ≡ Ok gap →
     NarrowBound gap
 above_narrow None v gap h = no_gap gap h
@@ -222,7 +222,8 @@ above_narrow (Some u) v gap h =
     by Equal q = no_gap gap q
     by Greater q = some_gap v u gap q
 
--- where a row's sum and the gap below its lower limit are narrow, the row begins with narrow numbers
+-- where a row's sum and the gap below its lower limit have at most 127 bits, the row begins with numbers of at most 127
+-- bits
 start_by_narrow : (upper : Option ℚ) (v : ℚ) (gap : Option ℚ) (s : RowStart ℚ) →
     row_start_by (Some number_limit) upper v gap ≡ Ok s → IsNarrow v → NarrowBound gap → NarrowStart s
 start_by_narrow upper v None s h n k =
@@ -244,7 +245,8 @@ row_start_narrow f i s h =
 
 -- ---- the tableau
 
--- where the numbers for structural, logical and artificial columns are narrow, that of column k is narrow
+-- where the numbers for structural, logical and artificial columns have at most 127 bits, that of column k has at most
+-- 127 bits
 by_column_narrow : (f : Form) (k : ℕ) (s : ℚ) (l a : ℕ → ℚ) → IsNarrow s → ((r : ℕ) → IsNarrow (l r)) →
     ((r : ℕ) → IsNarrow (a r)) → IsNarrow (by_column f k s l a)
 by_column_narrow f k s l a p q r = by (nat_lt k f.cols) (nat_lt k (f.cols + f.rows))
@@ -261,38 +263,38 @@ one_at_narrow i r v h = by (nat_eq i r)
     by true = h
     by false = zero_narrow
 
--- the entry of a structural column with a narrow coefficient is narrow
+-- the entry of a structural column with a coefficient of at most 127 bits has at most 127 bits
 structural_narrow : (s : RowStart ℚ) (a : ℚ) → IsNarrow a → IsNarrow (structural_entry s a)
 structural_narrow (Within v) a h = neg_narrow a h
 structural_narrow (Below gap) a h = h
 structural_narrow (Above gap) a h = neg_narrow a h
 
--- the entry of a logical column in its row is narrow
+-- the entry of a logical column in its row has at most 127 bits
 sign_narrow : (s : RowStart ℚ) → IsNarrow (logical_sign s)
 sign_narrow (Within v) = one_narrow
 sign_narrow (Below gap) = neg_narrow 1ℚ one_narrow
 sign_narrow (Above gap) = one_narrow
 
--- where a row's start and its limits are narrow, its logical column begins at a narrow value
+-- where a row's start and its limits have at most 127 bits, its logical column begins at a value of at most 127 bits
 logical_narrow : (s : RowStart ℚ) (lower upper : Option ℚ) → NarrowStart s → NarrowBound lower → NarrowBound upper →
     IsNarrow (logical_value s lower upper)
 logical_narrow (Within v) lower upper h k l = h
 logical_narrow (Below gap) lower upper h k l = or_zero_narrow lower k
 logical_narrow (Above gap) lower upper h k l = or_zero_narrow upper l
 
--- where a row's start is narrow, its artificial column begins at a narrow value
+-- where a row's start has at most 127 bits, its artificial column begins at a value of at most 127 bits
 artificial_narrow : (s : RowStart ℚ) → NarrowStart s → IsNarrow (artificial_value s)
 artificial_narrow (Within v) h = zero_narrow
 artificial_narrow (Below gap) h = h
 artificial_narrow (Above gap) h = h
 
--- the upper bound of an artificial column is narrow, if there is one
+-- the upper bound of an artificial column has at most 127 bits, if there is one
 artificial_bound : (s : RowStart ℚ) → NarrowBound (artificial_upper s)
 artificial_bound (Within v) = zero_narrow
 artificial_bound (Below gap) = tt
 artificial_bound (Above gap) = tt
 
--- the cost of an artificial column in phase one is narrow
+-- the cost of an artificial column in phase one has at most 127 bits
 first_cost_narrow : (s : RowStart ℚ) → IsNarrow (first_cost s)
 first_cost_narrow (Within v) = zero_narrow
 first_cost_narrow (Below gap) = one_narrow

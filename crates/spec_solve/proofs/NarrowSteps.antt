@@ -1,7 +1,9 @@
 -- The numbers of a tableau, of at most 127 bits, stay so in each step of the method at the limit of the program.
 --
--- `at`: a property of all items of a list and of the default holds of what is read at each place.
--- `number_at`: what is read at a place of a list of numbers within 127 bits, or 0, is within 127 bits.
+-- `at`: where all items of a list and the default have a property, so has the item at any place, or the default behind
+--   the list.
+-- `number_at`: where the numbers of a list have at most 127 bits, so has the number at any place, which is 0 behind the
+--   list.
 -- `place_narrow`: each entry of rows of numbers within 127 bits, or 0, is within 127 bits.
 -- `bound_at`: each bound of a list of bounds within 127 bits, or none, is within 127 bits.
 -- `or_zero_narrow`: a bound within 127 bits, or 0 where there is none, is within 127 bits.
@@ -67,7 +69,7 @@ stand_narrow AtZero lower upper h k = zero_narrow
 
 -- ---- moving
 
--- where values are narrow, they stay so as the basic column at position i moves
+-- where values have at most 127 bits, they stay so as the basic column at position i moves
 moved_at_narrow : (t : Tableau) (j : ℕ) (theta : ℚ) (i : ℕ) (xs ys : List ℚ) →
     moved_at (Some number_limit) t j theta i xs ≡ Ok ys → All IsNarrow xs → All IsNarrow ys
 moved_at_narrow t j theta i xs ys h n =
@@ -112,7 +114,7 @@ flip_narrow t u j h n =
 
 -- ---- a pivot
 
--- where all rows are narrow, they stay so as the pivot's row is scaled
+-- where all rows have at most 127 bits, they stay so as the pivot's row is scaled
 scaled_narrow : (n : ℕ) (rows new : List (List ℚ)) (p j : ℕ) → scaled_run (Some number_limit) n rows p j ≡ Ok new →
     All (All IsNarrow) rows → All (All IsNarrow) new
 unfolding scaled_run
@@ -124,7 +126,7 @@ scaled_narrow n rows new p j h k =
     (All-set (All IsNarrow) rows p o.0
     (all_given IsNarrow n _ o.0 o.1 (λ i x l q. quotient_narrow (at_place rows p i) (at_place rows p j) x q)) k)
 
--- where all rows are narrow, they stay so as row i is cleared of the entering column
+-- where all rows have at most 127 bits, they stay so as row i is cleared of the entering column
 cleared_narrow : (n p j i : ℕ) (rows new : List (List ℚ)) → cleared_run (Some number_limit) n p j i rows ≡ Ok new →
     All (All IsNarrow) rows → All (All IsNarrow) new
 unfolding cleared_run
@@ -137,7 +139,7 @@ cleared_narrow n p j i rows new h k =
     (all_given IsNarrow n _ o.0 o.1 (λ k x l q. less_narrow (at_place rows i j) (at_place rows p k) (at_place rows i k)
     x q)) k)
 
--- where all rows are narrow, they stay so in a pivot
+-- where all rows have at most 127 bits, they stay so in a pivot
 turned_narrow : (m n : ℕ) (rows new : List (List ℚ)) (p j : ℕ) → turned_run (Some number_limit) m n rows p j ≡ Ok new →
     All (All IsNarrow) rows → All (All IsNarrow) new
 unfolding turned_run
@@ -153,7 +155,7 @@ turned_narrow m n rows new p j h k =
     by true i xs ys k h = let e : xs ≡ ys = cc in subst (All (All IsNarrow)) e k
     by false i xs ys k h = cleared_narrow n p j i xs ys h k
 
--- reduced costs that a pivot works out at the limit of the program are narrow
+-- reduced costs that a pivot works out at the limit of the program have at most 127 bits
 repriced_narrow : (n : ℕ) (reduced : List ℚ) (rows : List (List ℚ)) (p j : ℕ) (new : List ℚ) →
     repriced_run (Some number_limit) n reduced rows p j ≡ Ok new → All IsNarrow new
 unfolding repriced_run
@@ -170,7 +172,7 @@ shifted_narrow values new j theta h n =
     let e : set values j o.0 ≡ new = cc in
     subst (All IsNarrow) e (All-set IsNarrow values j o.0 (sum_narrow (get_or values j 0ℚ) theta o.0 o.1) n)
 
--- where bounds are narrow, they stay so as an artificial column that leaves is bounded by 0
+-- where bounds have at most 127 bits, they stay so as an artificial column that leaves is bounded by 0
 leave_narrow : (t : Tableau) (q : ℕ) (bounds : List (Option ℚ)) → All NarrowBound bounds →
     All NarrowBound (leave_bound t q bounds)
 leave_narrow t q bounds h = by (is_artificial t q)

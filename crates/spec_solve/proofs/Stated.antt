@@ -24,7 +24,7 @@ use Rattle.spec_solve.proofs.NarrowCold.{cold_narrow}
 use Rattle.spec_solve.proofs.NarrowOver.{over_narrow}
 use Rattle.spec_solve.proofs.Solves.{cold_solved, formless_solved}
 
--- the certificate has narrow numbers, whichever of both runs ended with it
+-- the certificate has numbers of at most 127 bits, whichever of both runs ended with it
 or_narrow : (known : Known ℚ) (c : Certificate (List ℚ)) (basis : Option (List Status)) (pivots : ℕ) (budget : ℕ)
     (m : Model) (f : Form) (o : ExactSolveEnd) →
     form_of (Some number_limit) m ≡ Ok f → IsModel m → over_factors (Some number_limit) budget m f ≡ o →

@@ -17,7 +17,7 @@ use Rattle.spec_runs.specs.Solve.{SolveEnd, fall_of}
 use Rattle.spec_factor.specs.Over.{over_factors}
 use Rattle.spec_solve.specs.Order.{GivesUp}
 
--- so many pivots and flips are enough for each model of that size (`a_stated_budget_is_enough` of spec_runs)
+-- how many pivots and flips suffice for any model of the size of m (`a_stated_budget_is_enough` of spec_runs)
 abbrev pub enough_pivots : Model → ℕ
 enough_pivots m = 2 * 3 ^ (width m + 2 * height m)
 

@@ -121,7 +121,7 @@ pub fn what_the_cold_solve_finds_is_answered()
 {}
 
 /// What a solve may end with are the ends that the relation allows at the limit, where a certificate is one for the
-/// model, of narrow numbers.
+/// model, of numbers of at most 127 bits.
 pub fn answers_are_ends_of_solves()
     ensures allowed { (m : Model) (budget : ℕ) (handed : Option (List Status)) (solved : SolveEnd) →
         IfSome handed (HasBasis (Some number_limit) m) → MayEnd (Some number_limit) budget m handed solved →
@@ -156,7 +156,7 @@ pub fn exact_answers_are_true()
         IsExactEnd m budget starting (exact.Answered a) → Holds m a.known }
 {}
 
-/// What is known of a model by two exact solves is the same, whatever their budgets and the bases that they start from.
+/// Two exact solves of a model give the same answer, whatever their budgets and the bases that they start from.
 pub fn exact_answers_agree()
     ensures { (m : Model) (budget other : ℕ) (starting given : Option (List Status)) (a b : RationalAnswer) →
         IsExactEnd m budget starting (exact.Answered a) → IsExactEnd m other given (exact.Answered b) →

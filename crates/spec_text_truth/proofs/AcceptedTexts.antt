@@ -49,7 +49,8 @@ use Rattle.spec_text_truth.proofs.PlainReplies.{fall_no_feed, pivots_no_feed}
 
 -- ---- a text that ends in its last line
 
--- behind a text that ends in its last line, what is said is said of a certificate for the text's model
+-- after the last line of a model's text, `check` reads the lines behind as a certificate for the model that the text
+-- spells
 text_leads : (style : Style) (s : State) (n : ℕ) (front : List (Line (List ℕ))) (last : Line (List ℕ))
     (behind : List (Line (List ℕ))) (m : Model) →
     said_by (text_step usual_limits style) (record { state = s; lines = n }) front ≡ None →

@@ -46,7 +46,7 @@ effect_of other = keeps
 abbrev pub asking_of : Asked ExactAsk → Asking
 asking_of asked = record { session = asked.session; effect = effect_of asked.ask }
 
--- the effects of a command are those of the asks that the command makes
+-- the effects of a command are those of the requests that the command makes
 command_effects : (session : ℕ) (c : ExactCommand) →
     asked_of session (effects_of c) ≡ map asking_of (asks_of_command session c)
 command_effects session (commands.Load form) = refl
@@ -61,13 +61,13 @@ command_effects session (commands.Plain (command.Change e)) = refl
 command_effects session (commands.Plain command.Quit) = refl
 command_effects session (commands.Bad fault) = refl
 
--- the effects of an addressed command, or of none, are those of the asks that the command makes
+-- the effects of an addressed command, or of none, are those of the requests that the command makes
 by_effects : (o : Option (Asked ExactCommand)) →
     unwrap_or (option_map (λ a. asked_of a.session (effects_of a.ask)) o) [] ≡ map asking_of (asks_by o)
 by_effects None = refl
 by_effects (Some addressed) = command_effects addressed.session addressed.ask
 
--- the effect of a text with a verdict is that of the ask which the verdict makes
+-- the effect of a text with a verdict is that of the request which the verdict makes
 verdict_effect : (v : Verdict) → effect_of_text v ≡ effect_of (ask_of_verdict v)
 verdict_effect (Spelled m) = refl
 verdict_effect (Refused n fault) = refl
@@ -77,7 +77,7 @@ judgement_effect : (j : certificate.Judgement) → keeps ≡ effect_of (ask_of_j
 judgement_effect (certificate.Spelled raw) = refl
 judgement_effect (certificate.Refused n) = refl
 
--- where an effect is that of an ask, both are asked, or neither is, as a line ends its body or not
+-- where an effect is that of a request, both are asked, or neither is, as a line ends its body or not
 if_asked : (t : Bool) (session : ℕ) (effect : Effect) (asked : ExactAsk) → effect ≡ effect_of asked →
     asked_of session (cond t (effect ∷ []) [])
     ≡ map asking_of (cond {A = List (Asked ExactAsk)} t (record { session = session; ask = asked } ∷ []) [])
@@ -93,7 +93,7 @@ line_effects addressing (Text session form body) next =
 line_effects addressing (Certificate session body) next =
     if_asked (ends_certificate next) session keeps _ (judgement_effect (certificate.judge None 1 (body ++ next ∷ [])))
 
--- what lines ask of models, from a pending text or certificate on, is what the lines' asks do to them
+-- what lines ask of models, from a pending text or certificate on, is what the lines' requests do to them
 pub asked_from-is : (addressing : Addressing) (p : Pending) (lines : List (Line (List ℕ))) →
     asked_from addressing p lines ≡ map asking_of (asks_from addressing p lines)
 asked_from-is addressing p [] = refl

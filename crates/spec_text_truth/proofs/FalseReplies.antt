@@ -1,6 +1,6 @@
 -- An answer that was true before an edit is refuted behind a certificate whose lines are counted.
 --
--- `told_is`: what was told for an ask, with a line, is this ask and this line, with the lines behind it.
+-- `told_is`: what was told for a request, with a line, is this request and this line, with the lines behind it.
 -- `before_refuted`: an output is not true in which the answer before an edit is repeated after it.
 use Rattle.std.proofs.Common.{◌≡◌, ℕ, ℤ, pos, negsuc, List, [], ◌∷◌, ◌++◌, length, map, Option, Some, refl, sym, ap, ap₂}
 use Rattle.std.proofs.Common.{◌∙◌, subst, inl, inr, append_assoc, append-nil}
@@ -56,7 +56,7 @@ told_is x effect line asked is =
 abbrev askings : List Asking
 askings = asked_of 0 asked_effects
 
--- what is told first of the bytes of the example is told of the example's own asks
+-- what is told first of the bytes of the example is told of the example's own requests
 asked_first : (after : Option (List ℕ)) (told : List Told) →
     HoldsOfAll after asked_twice (λ bytes. AreFirstOf (map (λ (x : Told). x.asked) told) (asked_from Alone Between (lines_of bytes))) →
     AreFirstOf (map (λ (x : Told). x.asked) told) askings

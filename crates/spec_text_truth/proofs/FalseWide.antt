@@ -46,7 +46,7 @@ not_six v six h =
 abbrev askings : List Asking
 askings = asked_of 0 widely_effects
 
--- what is told first of the bytes of the example is told of the example's own asks
+-- what is told first of the bytes of the example is told of the example's own requests
 asked_first : (after : Option (List ℕ)) (told : List Told) →
     HoldsOfAll after asked_widely (λ bytes. AreFirstOf (map (λ (x : Told). x.asked) told) (asked_from Alone Between (lines_of bytes))) →
     AreFirstOf (map (λ (x : Told). x.asked) told) askings

@@ -1,7 +1,7 @@
 -- The asks of the lines that were read, or of a whole script, are the first of those that the lines of the input make.
 --
--- `ended_first`: the asks of the ended lines of bytes are the first of those of all lines, whatever bytes follow.
--- `script_first`: the asks of a script's bytes are the first of those of all its lines.
+-- `ended_first`: the requests of the ended lines of bytes are the first of those of all lines, whatever bytes follow.
+-- `script_first`: the requests of a script's bytes are the first of those of all its lines.
 use Rattle.std.proofs.Common.{◌≡◌, ℕ, Bool, true, false, nat_le, List, [], ◌++◌, length, take, refl, sym, ap, ◌∙◌, subst, append-nil}
 use Rattle.spec_text.specs.declared.line.Line.{Line}
 use Rattle.spec_text.specs.Lines.{lines_of, ended_lines_of, input_limit}

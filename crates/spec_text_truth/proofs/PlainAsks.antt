@@ -382,26 +382,26 @@ judged_plain so_far n (next ∷ lines) h k =
 none_plain : ArePlainAsks []
 none_plain = All-nil (λ (a : Asked ExactAsk). IsPlainAsk a.ask)
 
--- where an ask has no name with a line feed, the list of it alone has none
+-- where a request has no name with a line feed, the list of it alone has none
 one_plain : (session : ℕ) (asked : ExactAsk) → IsPlainAsk asked →
     ArePlainAsks (record { session = session; ask = asked } ∷ [])
 one_plain session asked h =
     All-cons (λ (a : Asked ExactAsk). IsPlainAsk a.ask) (record { session = session; ask = asked }) [] h none_plain
 
--- where an ask has no name with a line feed, the list of it alone has none, nor has the empty list
+-- where a request has no name with a line feed, the list of it alone has none, nor has the empty list
 if_plain : (t : Bool) (session : ℕ) (asked : ExactAsk) → IsPlainAsk asked →
     ArePlainAsks (cond t (record { session = session; ask = asked } ∷ []) [])
 if_plain true session asked h = one_plain session asked h
 if_plain false session asked h = none_plain
 
--- where a command has no name with a line feed, the asks that it makes have none
+-- where a command has no name with a line feed, the requests that it makes have none
 command_asks_plain : (session : ℕ) (c : ExactCommand) → IsPlainCommand c → ArePlainAsks (asks_of_command session c)
 command_asks_plain session (Load form) h = none_plain
 command_asks_plain session Check h = none_plain
 command_asks_plain session (Plain asked) h = one_plain session (ask.Plain asked) h
 command_asks_plain session (Bad fault) h = one_plain session (ask.Bad fault) tt
 
--- where an addressed command has no name with a line feed, the asks that it makes have none
+-- where an addressed command has no name with a line feed, the requests that it makes have none
 asks_by_plain : (found : Option (Asked ExactCommand)) → IsPlainLine found → ArePlainAsks (asks_by found)
 asks_by_plain None h = none_plain
 asks_by_plain (Some addressed) h = command_asks_plain addressed.session addressed.ask h
@@ -411,7 +411,7 @@ verdict_plain : (v : Verdict) → IsPlainAsk (ask_of_verdict v)
 verdict_plain (Spelled m) = tt
 verdict_plain (Refused n fault) = tt
 
--- where a judged certificate has no name with a line feed, the ask that it makes has none
+-- where a judged certificate has no name with a line feed, the request that it makes has none
 judgement_plain : (j : Judgement) → IsPlainJudgement j → IsPlainAsk (ask_of_judgement j)
 judgement_plain (certificate_text.Spelled raw) h = h
 judgement_plain (certificate_text.Refused n) h = tt
@@ -427,7 +427,7 @@ with_next : (body : List (Line (List ℕ))) (next : Line (List ℕ)) → All IsP
 with_next body next h k =
     All-append IsPlainText body (next ∷ []) h (All-cons IsPlainText next [] k (All-nil IsPlainText))
 
--- where what is pending and a line have no line feed, the asks of the line have no name with one
+-- where what is pending and a line have no line feed, the requests of the line have no name with one
 line_asks_plain : (addressing : Addressing) (p : Pending) (next : Line (List ℕ)) → IsPlainPending p → IsPlainText next →
     ArePlainAsks (asks_of_line addressing p next)
 line_asks_plain addressing Between next h k =
@@ -466,7 +466,7 @@ pending_plain addressing (Certificate session body) next h k = by (ends_certific
     by true = tt
     by false = with_next body next h k
 
--- where what is pending and all lines have no line feed, the asks of the lines have no name with one
+-- where what is pending and all lines have no line feed, the requests of the lines have no name with one
 from_lines : (addressing : Addressing) (p : Pending) (lines : List (Line (List ℕ))) → IsPlainPending p →
     All IsPlainText lines → ArePlainAsks (asks_from addressing p lines)
 from_lines addressing p [] h k = none_plain
@@ -478,7 +478,7 @@ from_lines addressing p (next ∷ lines) h k =
     (from_lines addressing (pending_after_line addressing p next) lines (pending_plain addressing p next h first)
     (All-tail IsPlainText next lines k))
 
--- where no line has a line feed, the asks that the lines make from the beginning have no name with one
+-- where no line has a line feed, the requests that the lines make from the beginning have no name with one
 pub asks_plain : (addressing : Addressing) (lines : List (Line (List ℕ))) → All IsPlainText lines →
     ArePlainAsks (asks_from addressing Between lines)
 asks_plain addressing lines h = from_lines addressing Between lines tt h

@@ -3,7 +3,7 @@
 -- `fall_no_feed`: the text of why a warm start was given up has no line feed.
 -- `pivots_no_feed`: the text of a number of pivots has no line feed.
 -- `reply_no_feed`: the line of a reply has no line feed in it, where no name in it has one.
--- `step_plain`: where no name in an ask has a line feed, and the model is usual, no name in the reply has one.
+-- `step_plain`: where no name in a request has a line feed, and the model is usual, no name in the reply has one.
 use Rattle.std.proofs.Common.{◌≡◌, ℕ, Bool, true, false, cond, List, [], ◌∷◌, ◌++◌, length, Option, Some, None}
 use Rattle.std.proofs.Common.{Ok, Err, IfErr, refl, sym, subst, ◌⊎◌, inl, inr, option_map, arith}
 use Rattle.std.specs.Prelude.{All, IfSome, codes, decimal}

@@ -124,11 +124,11 @@ grouped low high slope behind =
     ∙ append_assoc (low ++ codes " ") high (codes " SLOPE " ++ (slope ++ 10 ∷ behind))
     ∙ append_assoc low (codes " ") (high ++ (codes " SLOPE " ++ (slope ++ 10 ∷ behind)))
 
--- two texts are the same where they are so behind the word RANGE
+-- two texts are equal where they are equal behind the word RANGE
 behind_word : (x y : List ℕ) → codes "RANGE " ++ x ≡ codes "RANGE " ++ y → x ≡ y
 behind_word x y e = cc
 
--- two texts are the same where they are so behind the word SLOPE
+-- two texts are equal where they are equal behind the word SLOPE
 behind_slope : (x y : List ℕ) → codes "SLOPE " ++ x ≡ codes "SLOPE " ++ y → x ≡ y
 behind_slope x y e = cc
 

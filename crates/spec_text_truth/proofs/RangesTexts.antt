@@ -187,11 +187,11 @@ words_some : (moved : Moved) (name text : List ℕ) → IsSome (number_words mov
 words_some Cost name text e = apart 99 0 refl (ap first e)
 words_some RightSide name text e = apart 114 0 refl (ap first e)
 
--- two texts are the same where they are so behind the word `cost`
+-- two texts are equal where they are equal behind the word `cost`
 behind_cost : (x y : List ℕ) → codes "cost " ++ x ≡ codes "cost " ++ y → x ≡ y
 behind_cost x y e = cc
 
--- two texts are the same where they are so behind the word `rhs`
+-- two texts are equal where they are equal behind the word `rhs`
 behind_rhs : (x y : List ℕ) → codes "rhs " ++ x ≡ codes "rhs " ++ y → x ≡ y
 behind_rhs x y e = cc
 

@@ -230,7 +230,7 @@ out_answered m written out = found_answered m out.0 written out.1 out.2
 
 -- ---- the sides
 
--- two texts are the same where they are so behind the line `INFEASIBLE` and the word IIS
+-- two texts are equal where they are equal behind the line `INFEASIBLE` and the word IIS
 behind_iis : (x y : List ℕ) →
     codes "INFEASIBLE" ++ 10 ∷ (codes "IIS " ++ x) ≡ codes "INFEASIBLE" ++ 10 ∷ (codes "IIS " ++ y) → x ≡ y
 behind_iis x y e = cc

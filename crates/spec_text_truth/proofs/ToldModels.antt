@@ -69,7 +69,7 @@ quit_told places old new reads replied s = by s.begins
         let g = subst (λ b. GoesOn places old b reads replied new) e s.goes_on in ap (λ (s : State). s.model) g.2
     by (inr e) = let z : false ≡ true = e.0 in cc
 
--- after a step the session has the model that the ask's effect makes by the text of the reply
+-- after a step the session has the model that the request's effect makes by the text of the reply
 step_told : (places : ℕ) (old new : State) (asked : ExactAsk) (reads : List ExactRead) (replied : ExactReply) →
     AloneStep places old asked reads replied new →
     new.model ≡ effect_of asked old.model (reply_text replied)

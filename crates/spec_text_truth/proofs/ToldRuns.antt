@@ -46,7 +46,7 @@ use Rattle.spec_text_truth.proofs.ToldModels.{told_of, told_then}
 
 -- ---- a session before an exchange
 
--- where all asks of exchanges may be kept, so may those of the first exchanges
+-- where all requests of exchanges may be kept, so may those of the first exchanges
 front_kept : (before behind : List Exchange) → AreKept (map asked_in (before ++ behind)) → AreKept (map asked_in before)
 front_kept [] behind may = All-nil (λ (a : Asked ExactAsk). IsKeptAsk a.ask)
 front_kept (x ∷ before) behind may =
@@ -55,7 +55,7 @@ front_kept (x ∷ before) behind may =
     (front_kept before behind
     (All-tail (λ (a : Asked ExactAsk). IsKeptAsk a.ask) (asked_in x) (map asked_in (before ++ behind)) may))
 
--- where all asks of exchanges may be kept, so may those of one session
+-- where all requests of exchanges may be kept, so may those of one session
 session_kept : (session : ℕ) (xs : List Exchange) → AreKept (map asked_in xs) →
     AreKept (map asked_in (of_session session xs))
 session_kept session [] may = may
@@ -235,13 +235,13 @@ asked_told : (xs : List Exchange) → map (λ (x : Told). x.asked) (map told_of 
 asked_told [] = refl
 asked_told (x ∷ xs) = ap (λ asked. asking_of (asked_in x) ∷ asked) (asked_told xs)
 
--- what holds of all asks of a list holds of its first asks
+-- what holds of all requests of a list holds of its first requests
 first_all : (P : Asked ExactAsk → Type 0) (first later : List (Asked ExactAsk)) → All P (first ++ later) → All P first
 first_all P [] later h = All-nil P
 first_all P (a ∷ first) later h =
     All-cons P a first (All-head P a (first ++ later) h) (first_all P first later (All-tail P a (first ++ later) h))
 
--- where the asks of a run have no name with a line feed, the ask of one exchange has none
+-- where the requests of a run have no name with a line feed, the request of one exchange has none
 asked_at : (before behind : List Exchange) (x : Exchange) → ArePlainAsks (map asked_in (before ++ x ∷ behind)) →
     IsPlainAsk x.ask
 asked_at [] behind x h = All-head (λ (a : Asked ExactAsk). IsPlainAsk a.ask) (asked_in x) (map asked_in behind) h
@@ -251,7 +251,7 @@ asked_at (y ∷ before) behind x h =
 
 -- ---- the whole
 
--- where exchanges are of the first asks of bytes, what is told of them is of the first effects
+-- where exchanges are of the first requests of bytes, what is told of them is of the first effects
 first_told : (addressing : Addressing) (xs : List Exchange) (bytes : List ℕ) →
     AreFirstOf (map asked_in xs) (asks_from addressing Between (lines_of bytes)) →
     AreFirstOf (map (λ (x : Told). x.asked) (map told_of xs)) (asked_from addressing Between (lines_of bytes))
@@ -262,7 +262,7 @@ first_told addressing xs bytes (later, asks) = (
       ∙ ap (λ (asked : List Asking). asked ++ map asking_of later) (sym (asked_told xs)),
 )
 
--- where exchanges are of the first asks of an input, what is told of them is of the input's first effects
+-- where exchanges are of the first requests of an input, what is told of them is of the input's first effects
 told_of_all : (addressing : Addressing) (after : Option (List ℕ)) (read : List ℕ) (xs : List Exchange) →
     HoldsOfAll after read (λ bytes. AreFirstOf (map asked_in xs) (asks_from addressing Between (lines_of bytes))) →
     HoldsOfAll after read
@@ -270,14 +270,14 @@ told_of_all : (addressing : Addressing) (after : Option (List ℕ)) (read : List
 told_of_all addressing after read xs (inl (at_end, first)) = inl (at_end, first_told addressing xs read first)
 told_of_all addressing after read xs (inr always) = inr λ more. first_told addressing xs (read ++ more) (always more)
 
--- exchanges that are of the first asks of an input are of the first asks of some bytes
+-- exchanges that are of the first requests of an input are of the first requests of some bytes
 first_of_some : (addressing : Addressing) (after : Option (List ℕ)) (read : List ℕ) (xs : List Exchange) →
     HoldsOfAll after read (λ bytes. AreFirstOf (map asked_in xs) (asks_from addressing Between (lines_of bytes))) →
     (bytes : List ℕ) × AreFirstOf (map asked_in xs) (asks_from addressing Between (lines_of bytes))
 first_of_some addressing after read xs (inl (at_end, first)) = (read, first)
 first_of_some addressing after read xs (inr always) = (read ++ [], always [])
 
--- in a run of the first asks of an input's lines, the replies are true
+-- in a run of the first requests of an input's lines, the replies are true
 pub replies_true : (places : ℕ) (addressing : Addressing) (after : Option (List ℕ)) (read : List ℕ) (xs : List Exchange) →
     RunAlone places xs →
     HoldsOfAll after read (λ bytes. AreFirstOf (map asked_in xs) (asks_from addressing Between (lines_of bytes))) →

@@ -52,7 +52,7 @@ valued_or_same reply.Bye = inr refl
 valued_or_same reply.Memory = inr refl
 valued_or_same (reply.Refused why) = inr refl
 
--- two texts are the same where they are so behind the words YES OPTIMAL
+-- two texts are equal where they are equal behind the words YES OPTIMAL
 behind_optimal : (a b : List ℕ) → codes "YES OPTIMAL " ++ a ≡ codes "YES OPTIMAL " ++ b → a ≡ b
 behind_optimal a b e = cc
 
@@ -75,7 +75,8 @@ valued is text e = by (valued_or_same is)
     by (inl (v, h)) = (v, h, value v h)
     by (inr same) = let y = optimal_yes is text (sym same ∙ e) in (y.0, y.1, value y.0 y.1)
 
--- where the wide text of a reply has another letter than O behind the word YES, its narrow text is the same
+-- where the wide text of a reply has another letter than O behind the word YES, its text of at most 127 bits is the
+-- same
 same_text : (is : ExactReply) (text : List ℕ) (letter : ℕ) → (79 ≡ letter → ⊥) → get_or text 4 0 ≡ letter →
     wide_reply_text is ≡ text → reply_text is ≡ text
 same_text is text letter other begins e = by (valued_or_same is)

@@ -17,7 +17,7 @@ use Rattle.spec_server.specs.declared.asks.Reply.TheVariants as reply
 use Rattle.spec_server.proofs.Truth.{said_yes, checked}
 use Rattle.spec_commands.specs.CheckWideOut.{wide_verdict_on}
 
--- a yes to a certificate that is put to the model
+-- where `check --wide` says yes to a certificate for a model, the answer that it names is true of the model
 pub wide_yes_holds : (m : Model) (raw : ExactRaw) (what : Known ℚ) →
     wide_verdict_on m (certificate_for m raw) ≡ reply.Checked (verdict.Yes what) → Holds m what
 wide_yes_holds m raw what h = by (certificate_for m raw) refl h

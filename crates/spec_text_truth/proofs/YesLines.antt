@@ -1,6 +1,6 @@
 -- What a reader makes of the line that `check` writes of a yes.
 --
--- `same_end`: two lines are the same where they are so with a line feed behind each.
+-- `same_end`: two lines are equal where they are equal with a line feed behind each.
 -- `optimal_line`: where `check` writes `YES OPTIMAL` and a text, the text reads as the optimal value of a model that
 --   the lines spell.
 -- `infeasible_line`: where `check` writes `YES INFEASIBLE`, the lines spell a model that is infeasible.

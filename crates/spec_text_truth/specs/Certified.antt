@@ -34,6 +34,6 @@ pub record IsCertifiedBy (read : Reading ℚ) (limits : SizeLimits) (style : Sty
 abbrev pub IsCertified : Style → List (Line (List ℕ)) → (Model → Type 0) → Type 0
 IsCertified = IsCertifiedBy narrow usual_limits
 
--- they may have any width, and the model may be large
+-- as `IsCertified`, for large models too, with numbers of any width in the certificate
 abbrev pub IsWidelyCertified : Style → List (Line (List ℕ)) → (Model → Type 0) → Type 0
 IsWidelyCertified = IsCertifiedBy wide (limits_of CheckWide)

@@ -9,7 +9,7 @@ unended_text =
     ended_lines (codes "ROWS" ∷ codes " N COST" ∷ codes " L ROW" ∷ codes "COLUMNS" ∷ codes "RHS" ∷ codes " RHS COST -5 ROW 1" ∷ [])
     ++ codes "ENDATA"
 
--- this text with its last line feed
+-- `unended_text` with its last line feed
 abbrev pub ended_text : List ℕ
 ended_text = unended_text ++ 10 ∷ []
 
@@ -39,6 +39,6 @@ answered_as_before certificate =
 abbrev pub asked_widely : List ℕ
 asked_widely = ended_lines (codes "LOAD FREE" ∷ []) ++ ended_text ++ ended_lines (codes "WIDE" ∷ [])
 
--- another value behind the line of the answer to that
+-- a false output: to a wide solve of a model whose optimal value is 5, it replies lines with the value 6
 abbrev pub answered_widely : List ℕ
 answered_widely = ended_lines (codes "LOADED 1 0" ∷ codes "WIDE 4" ∷ codes "OPTIMAL 6" ∷ [])

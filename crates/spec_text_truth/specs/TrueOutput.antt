@@ -55,7 +55,7 @@ IsNumber text v = number_of text ≡ Is v
 abbrev pub IsWideNumber : List ℕ → ℚ → Type 0
 IsWideNumber text v = text ≡ wide_text v
 
--- what the line says as an answer is so of the model that it is of, and there is one
+-- where a line is the text of an answer, there is a model of the given kind, and the answer is true of it
 pub record IsTrueLine (IsOf : Model → Type 0) (IsText : List ℕ → ℚ → Type 0) (line : List ℕ) : Type 0 where
   pub optimal : (text : List ℕ) → line ≡ codes "OPTIMAL " ++ text →
       (m : Model) × IsOf m × ((v : ℚ) × IsText text v × IsOptimal m v)
@@ -137,11 +137,11 @@ IsTrueOfText command IsOf output = OfFirst (IsTrueLine IsOf IsNumber) output
 
 -- ---- what lines ask of sessions, as far as it changes their models
 
--- the model of a session after an ask, by the one before it and the line of the reply
+-- how a request changes the model of a session: by the model before it and the line of the reply
 abbrev pub Effect : Type 0
 Effect = Option Model → List ℕ → Option Model
 
--- an ask as its effect on the model, with its session
+-- a request as its effect on the model, with its session
 pub record Asking : Type 0 where
   pub session : ℕ
   pub effect : Effect
@@ -161,11 +161,11 @@ abbrev pub effect_of_text : Verdict → Effect
 effect_of_text (Spelled m) = λ held line. Some m
 effect_of_text (Refused n fault) = λ held line. held
 
--- the asks of one session, by their effects
+-- the requests of one session, by their effects
 abbrev pub asked_of : ℕ → List Effect → List Asking
 asked_of session effects = map (λ effect. record { session = session; effect = effect }) effects
 
--- what a line asks, if it completes an ask
+-- the effect of the request that a line completes, with its session, if it completes one
 abbrev pub asked_in_line : Addressing → Pending → Line (List ℕ) → List Asking
 asked_in_line addressing Between next =
     unwrap_or (option_map (λ a. asked_of a.session (effects_of a.ask)) (addressed_in addressing next)) []
@@ -175,7 +175,7 @@ asked_in_line addressing (Text session form body) next =
 asked_in_line addressing (Certificate session body) next =
     asked_of session (if ends_certificate next then (λ held line. held) ∷ [] else [])
 
--- the asks of lines, from what is pending before them
+-- the effects of the requests that lines complete, from a text or certificate on that has begun before them, if any
 abbrev pub asked_from : Addressing → Pending → List (Line (List ℕ)) → List Asking
 asked_from addressing pending [] = []
 asked_from addressing pending (next ∷ lines) =
@@ -183,18 +183,18 @@ asked_from addressing pending (next ∷ lines) =
 
 -- ---- what is told of it
 
--- an ask, and what was written of it: the line of the reply, and the lines behind that
+-- a request, and what was written of it: the line of the reply, and the lines behind this line
 pub record Told : Type 0 where
   pub asked : Asking
   pub line : List ℕ
   pub behind : List (List ℕ)
 
--- The line begins with the word of lines that stand behind it, those of the text of a model, of a certificate or of a wide
--- solve, and goes on so.
+-- the line is the word TEXT, CERT or WIDE, by which a reply announces lines behind it, with `more` behind the word
 abbrev pub Announces : List ℕ → List ℕ → Type 0
 Announces line more = (line ≡ codes "TEXT" ++ more) ⊎ (line ≡ codes "CERT" ++ more) ⊎ (line ≡ codes "WIDE" ++ more)
 
--- It is one line. Behind it stand exactly as many lines as it says; and none where it does not begin so.
+-- The reply has one first line. Behind it stand exactly as many lines as it announces, and none where it announces
+-- none.
 pub record IsFramed (x : Told) : Type 0 where
   pub one : HasNoFeed x.line
   pub each : All HasNoFeed x.behind
@@ -205,11 +205,11 @@ pub record IsFramed (x : Told) : Type 0 where
 abbrev pub told_out : Addressing → List Told → List ℕ
 told_out addressing told = flat_map (λ x. front_of addressing x.asked.session ++ x.line ++ 10 ∷ ended_lines x.behind) told
 
--- none at first
+-- the model of a session after what was told of it; none at first
 abbrev pub model_told : ℕ → List Told → Option Model
 model_told session told = fold (λ held x. x.asked.effect held x.line) None (filter (λ x. x.asked.session == session) told)
 
--- it is so of the first line behind the word WIDE and a number
+-- a property holds of the first line behind a line of the word WIDE and a number
 abbrev pub BehindWide : (List ℕ → Type 0) → Told → Type 0
 BehindWide IsTrue x = (count : List ℕ) → x.line ≡ codes "WIDE " ++ count → OfFirst IsTrue (ended_lines x.behind)
 
@@ -220,8 +220,8 @@ IsTrueReply before x =
     let IsTrue = IsTrueLine IsOf IsNumber in
     IsTrue x.line × BehindYes IsTrue x.line × BehindWide (IsTrueLine IsOf IsWideNumber) x
 
--- The output is that of replies to the first asks of the input's lines, and each reply is true of the model that its session
--- has then.
+-- The output is that of replies to the first requests of the input's lines, and each reply is true of the model that
+-- its session has then.
 pub record AreTrueReplies (addressing : Addressing) (after : Option (List ℕ)) (read output : List ℕ) : Type 0 where
   pub told : List Told
   pub asked : HoldsOfAll after read
