@@ -201,18 +201,18 @@ steps_agree places places' a b alike asked reads reads' replied replied' new new
     by (inl x) (inr w) = absurd (enough' w.memory)
     by (inl x) (inl y) = due_agrees a b alike replied replied' new new' asked x y
 
--- two lists of asks that are the same begin with the same ask
+-- two lists of requests that are the same begin with the same request
 heads : (a b : ExactAsk) (as' bs : List ExactAsk) → a ∷ as' ≡ b ∷ bs → a ≡ b
 heads a b as' bs e = cc
 
--- two lists of asks that are the same go on with the same asks behind the first
+-- two lists of requests that are the same go on with the same requests behind the first
 tails : (a b : ExactAsk) (as' bs : List ExactAsk) → a ∷ as' ≡ b ∷ bs → as' ≡ bs
 tails a b as' bs e = cc
 
 abbrev asks_in : List Exchange → List ExactAsk
 asks_in xs = map (λ (x : Exchange). x.ask) xs
 
--- two runs with the same asks from states alike but for last answers have replies that agree, with memory enough
+-- two runs with the same requests from states alike but for last answers have replies that agree, with memory enough
 run_agrees : (places places' : ℕ) (a b : State) (xs ys : List Exchange) (c d : State) → IsAlike a b →
     AloneRun places a xs c → AloneRun places' b ys d → asks_in xs ≡ asks_in ys → HasMemory xs → HasMemory ys →
     RepliesAgree xs ys
@@ -227,7 +227,7 @@ run_agrees places places' a b (x ∷ xs) (y ∷ ys) c d alike run run' e none no
     (subst (λ asked. AloneStep places' b asked y.reads y.reply run'.0) (sym same) run'.1) none.0 none'.0 in
     (s.same, run_agrees places places' run.0 run'.0 xs ys c d s.alike run.2 run'.2 rest none.1 none'.1)
 
--- two runs of a session from its opening with the same asks have replies that agree, where memory never runs out
+-- two runs of a session from its opening with the same requests have replies that agree, where memory never runs out
 pub runs_agree : (places places' : ℕ) (xs ys : List Exchange) (last last' : State) → AloneRun places opening xs last →
     AloneRun places' opening ys last' → asks_in xs ≡ asks_in ys → HasMemory xs → HasMemory ys → RepliesAgree xs ys
 runs_agree places places' xs ys last last' =

@@ -1,7 +1,7 @@
 -- The machine's state holds the model that the asks and replies of its run say.
 --
--- `step_then`: a step leaves the model that its ask and reply say that the session holds from then on.
--- `holds_then`: after a run a session holds the model that its asks and replies say.
+-- `step_then`: a step leaves the model that its request and reply say that the session holds from then on.
+-- `holds_then`: after a run a session holds the model that its requests and replies say.
 use Rattle.std.proofs.Common.{◌≡◌, ℕ, List, [], ◌∷◌, Option, Some, None, Ok, Err, refl, sym, ◌∙◌, ap, ◌⊎◌, inl, inr}
 use Rattle.spec_model.specs.Model.{Model, Name}
 use Rattle.spec_edit.specs.declared.edit.EditFault.{EditFault}
@@ -59,7 +59,7 @@ wide_then old new (Some m) replied d = ap (λ s. s.model) d.stays
 
 -- ---- what is due to an ask
 
--- what is due to an ask leaves the model that the ask and its reply say
+-- what is due to a request leaves the model that the request and its reply say
 due_then : (old new : State) (asked : ExactAsk) (replied : ExactReply) → Does old (due old asked) replied new →
     new.model ≡ after_exchange old.model asked replied
 due_then old new (ask.Plain command.Solve) replied d = solve_then old new old.model replied d
@@ -71,7 +71,7 @@ due_then old new (ask.Loaded m) replied d =
     ap (λ s. s.model) d.1 ∙ sym (ap (after_exchange old.model (ask.Loaded m)) d.0)
 due_then old new asked replied d = ap (λ s. s.model) d.1
 
--- an ask that is answered `MEMORY` leaves the model that the session held
+-- a request that is answered `MEMORY` leaves the model that the session held
 memory_then : (held : Option Model) (asked : ExactAsk) → after_exchange held asked reply.Memory ≡ held
 memory_then held (ask.Plain (command.Change e)) = refl
 memory_then held (ask.Plain command.Quit) = refl
@@ -90,7 +90,7 @@ step_then places old new asked reads replied s = by (step_simply places old read
 
 -- ---- runs
 
--- a run leaves the model that its asks and replies say, from the one that was held before it
+-- a run leaves the model that its requests and replies say, from the one that was held before it
 run_then : (places : ℕ) (old new : State) (xs : List Exchange) (held : Option Model) → old.model ≡ held →
     AloneRun places old xs new → new.model ≡ after_exchanges held xs
 run_then places old new [] held is run = ap (λ s. s.model) run ∙ is

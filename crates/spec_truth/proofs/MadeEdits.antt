@@ -58,7 +58,7 @@ step_made places old new e reads s = by (step_simply places old reads reply.Done
 
 -- ---- the model after one more exchange
 
--- one exchange more leaves the model that its ask and reply say, from the one that the others leave
+-- one exchange more leaves the model that its request and reply say, from the one that the others leave
 after_more : (held : Option Model) (xs : List Exchange) (x : Exchange) →
     after_exchanges held (xs ++ x ∷ []) ≡ after_exchange (after_exchanges held xs) x.ask x.reply
 after_more held [] x = refl

@@ -9,7 +9,7 @@
 -- `infeasible_answer`: a reply whose text is `INFEASIBLE` answers that no point is feasible.
 -- `unbounded_answer`: a reply whose text is `UNBOUNDED` answers that the model is unbounded.
 -- `yes_text_is`: the text of a reply that accepts a certificate is `YES` and the text of what it shows.
--- `behind_yes`: two texts are the same where they are so behind the word `YES`.
+-- `behind_yes`: two texts are equal where they are equal behind the word `YES`.
 -- `optimal_yes`: a reply whose text is `YES OPTIMAL` and a text accepts the certificate of an optimum with this value.
 -- `infeasible_yes`: a reply whose text is `YES INFEASIBLE` accepts a certificate that no point is feasible.
 -- `unbounded_yes`: a reply whose text is `YES UNBOUNDED` accepts a certificate that the model is unbounded.
@@ -133,7 +133,7 @@ unbounded known.Unbounded e = refl
 
 -- ---- answers
 
--- the text of a reply that answers what is known is the text of this
+-- the text of a reply that gives an answer is the text of that answer
 answer_text_is : (is : ExactReply) (what : Known ℚ) → is ≡ answer_to what → reply_text is ≡ known_text what
 unfolding reply_text
 answer_text_is is what e = ap reply_text e

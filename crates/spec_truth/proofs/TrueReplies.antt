@@ -82,7 +82,7 @@ refusal_sort fault.BadName = refl
 refusal_sort (fault.Repeated name) = refl
 refusal_sort (fault.FreeRow name) = refl
 
--- what is due to an edit of a model is no answer, no verdict and no reply of a wide solve
+-- what a session does for an edit is no answer, no verdict and no reply of a wide solve
 edit_sort : (state : State) (r : OrFault Model) → due_sort (edit_due state r) ≡ 0
 edit_sort state (Ok m) = refl
 edit_sort state (Err why) = refusal_sort why
@@ -114,22 +114,22 @@ check_sort : (held : Option Model) (raw : ExactRaw) → sort (check_reply held r
 check_sort None raw h = cc
 check_sort (Some m) raw h = verdict_sort m (certificate_for m raw) h
 
--- what is due to a solve is no verdict on a certificate
+-- what a session does for a solve is no verdict on a certificate
 solve_sort : (state : State) (held : Option Model) → due_sort (solve_due state held) ≡ 2 → ⊥
 solve_sort state None h = cc
 solve_sort state (Some m) h = cc
 
--- what is due to a solve is no reply of a wide solve
+-- what a session does for a solve is no reply of a wide solve
 solve_not_wide : (state : State) (held : Option Model) → due_sort (solve_due state held) ≡ 3 → ⊥
 solve_not_wide state None h = cc
 solve_not_wide state (Some m) h = cc
 
--- what is due to a wide solve is no answer of a solve
+-- what a session does for a wide solve is no answer of a solve
 wide_no_answer : (state : State) (held : Option Model) → due_sort (wide_due state held) ≡ 1 → ⊥
 wide_no_answer state None h = cc
 wide_no_answer state (Some m) h = cc
 
--- what is due to a wide solve is no verdict on a certificate
+-- what a session does for a wide solve is no verdict on a certificate
 wide_no_yes : (state : State) (held : Option Model) → due_sort (wide_due state held) ≡ 2 → ⊥
 wide_no_yes state None h = cc
 wide_no_yes state (Some m) h = cc
@@ -181,7 +181,7 @@ check_shown : (held : Option Model) (raw : ExactRaw) (what : Known ℚ) →
 check_shown None raw what e = cc
 check_shown (Some m) raw what e = record { model = m; is_held = refl; shown = yes_shown m raw what (sym e) }
 
--- where an ask to which an answer is due is answered, the answer is shown of the model that is held
+-- where a request to which an answer is due is answered, the answer is shown of the model that is held
 answer_by : (old new : State) (asked : ExactAsk) (what : Known ℚ) → 1 ≡ due_sort (due old asked) →
     Does old (due old asked) (reply.Known what) new → IsShownOfHeld old.model what
 answer_by old new (ask.Plain command.Solve) what h d = solve_shown old new old.model what d
@@ -201,7 +201,7 @@ answer_is_shown places old new asked reads what s =
     let d = step_done places old new asked reads (reply.Known what) 0 s refl in
     answer_by old new asked what (done_sort old new (due old asked) (reply.Known what) d) d
 
--- where an ask to which a verdict is due is told yes, what the yes says is shown of the model that is held
+-- where a request to which a verdict is due is told yes, what the yes says is shown of the model that is held
 yes_by : (old new : State) (asked : ExactAsk) (what : Known ℚ) → 2 ≡ due_sort (due old asked) →
     Does old (due old asked) (reply.Checked (verdict.Yes what)) new → IsShownOfHeld old.model what
 yes_by old new (ask.Checked raw) what h d = check_shown old.model raw what d.0
@@ -246,7 +246,7 @@ wide_shown old new (Some m) lines d =
           (lines_true m old.budget d.end d.is_end);
     }
 
--- where an ask to which lines of a wide solve are due has lines as its reply, they begin as is true of the model
+-- where a request to which lines of a wide solve are due has lines as its reply, they begin as is true of the model
 wide_by : (old new : State) (asked : ExactAsk) (lines : List (List ℕ)) → 3 ≡ due_sort (due old asked) →
     Does old (due old asked) (reply.Wide lines) new → IsWideOfHeld old.model lines
 wide_by old new (ask.Plain command.Wide) lines h d = wide_shown old new old.model lines d

@@ -34,16 +34,16 @@ MayDiffer (ask.Plain command.Solve) a b = IsWon a b
 MayDiffer (ask.Plain command.Wide) (reply.Wide lines) (reply.Wide lines') = IsWonLine lines lines'
 MayDiffer asked a b = ⊥
 
--- two replies to an ask are the same, or are ones that may differ
+-- two replies to a request are the same, or are of the kinds in which replies may differ
 abbrev pub IsSameBut : ExactAsk → ExactReply → ExactReply → Type 0
 IsSameBut asked a b = (a ≡ b) ⊎ MayDiffer asked a b
 
--- one after the other
+-- the replies of two lists of exchanges agree, one by one, and the lists are equally long
 abbrev pub RepliesAgree : List Exchange → List Exchange → Type 0
 RepliesAgree [] [] = Unit {0}
 RepliesAgree (x ∷ xs) (y ∷ ys) = IsSameBut x.ask x.reply y.reply × RepliesAgree xs ys
 RepliesAgree xs ys = ⊥
 
--- memory never ran out
+-- no reply of the exchanges says that memory ran out
 abbrev pub HasMemory : List Exchange → Type 0
 HasMemory xs = AllByRecursion (λ x. x.reply ≡ reply.Memory → ⊥) xs

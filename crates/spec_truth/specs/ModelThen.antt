@@ -23,7 +23,7 @@ abbrev pub after_change : Option Model → ExactEdit → ExactReply → Option M
 after_change held e reply.Done = after_edit held e
 after_change held e replied = held
 
--- the model after an ask to load m, by its reply
+-- the model after a request to load m, by its reply
 abbrev pub after_load : Option Model → Model → ExactReply → Option Model
 after_load held m (reply.Loaded rows columns) = Some m
 after_load held m replied = held

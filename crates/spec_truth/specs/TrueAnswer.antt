@@ -10,7 +10,7 @@ use Rattle.spec_server.specs.declared.asks.Reply.TheVariants as reply
 use Rattle.spec_server.specs.Machine.{ExactReply}
 use Rattle.spec_server.specs.Output.{reply_text}
 
--- its text is this, or this behind the word YES, as that of a yes to a certificate is
+-- the text of a reply is `text`, or the word YES and `text`, as for a yes to a certificate
 abbrev pub Says : ExactReply → List ℕ → Type 0
 Says replied text = (reply_text replied ≡ text) ⊎ (reply_text replied ≡ codes "YES " ++ text)
 

@@ -41,7 +41,7 @@ ghost use Rattle.spec_truth.specs.LoadedFrom.{IsLoadedFrom};
 ghost use Rattle.spec_truth.specs.ModelThen.{model_then};
 ghost use Rattle.spec_truth.specs.TrueAnswer.{Says, IsNarrowKnown};
 
-/// A session holds the model that its asks and replies say.
+/// A session holds the model that its requests and replies say.
 pub fn sessions_hold_the_model_then()
     ensures { (places session : ℕ) (xs : List Exchange) (last : State) →
         AloneRun places opening (of_session session xs) last → last.model ≡ model_then session xs }

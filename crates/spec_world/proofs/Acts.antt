@@ -38,7 +38,7 @@ looking_going : (shape : List ℕ) (k : ℕ) (reads : List ExactRead) → going 
 looking_going shape zero reads = refl
 looking_going shape (suc k) reads = refl
 
--- what is shown of words to a look for a shape is what may be shown of the words
+-- what a look-up for a shape reads of words is all of them or those in front
 shown_so : (shape payload : List ℕ) → IsShown payload (shown shape payload)
 shown_so shape payload = by (has_shape shape payload)
   where

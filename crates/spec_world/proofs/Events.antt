@@ -3,8 +3,8 @@
 -- `step_reads`: where a world is good, an event adds at most one read, which the places answer as they are then.
 -- `reads_now`: in a run from the opening, an event adds at most one read, which the places answer as they are then.
 -- `done_stays`: a place that is done stays so, with its words, whatever events follow.
--- `end_fits`: in a run from the opening, an event ends with the reply of the ask that it ends, or quietly where it ends
---   none.
+-- `end_fits`: in a run from the opening, an event ends with the reply of the request that it ends, or quietly where it
+--   ends none.
 -- `not_where_disabled`: an event ends with `Not` exactly where it is not enabled.
 use Rattle.std.proofs.Common.{◌≡◌, ℕ, Bool, true, false, List, [], ◌∷◌, ◌++◌, Option, Some, None, refl, sym, ap}
 use Rattle.std.proofs.Common.{◌∙◌, subst, nat_eq, eqb-true, ◌↔◌, arith}
@@ -83,7 +83,7 @@ done_stays server before old events new k words first run at =
 
 -- ---- ends
 
--- where an event's session has no more ended asks and other sessions stay, no session has more ended asks
+-- where an event's session has no more ended requests and other sessions stay, no session has more ended requests
 same_lists : (old new : World) (event : ExactEvent) →
     (new.sessions event.session).finished ≡ (old.sessions event.session).finished →
     ((other : ℕ) → (event.session ≡ other → ⊥) → new.sessions other ≡ old.sessions other) → (session : ℕ) →
@@ -96,7 +96,7 @@ same_lists old new event own others session = by (nat_eq event.session session) 
         (eqb-true event.session session e) own
     by false e = ap (λ (s : Session). s.finished) (others session (eqb-false event.session session e))
 
--- where a session's ended asks grow as an act's reply says, the end with this reply fits the event
+-- where a session's ended requests grow as an act's reply says, the end with this reply fits the event
 end_by : (old new : World) (event : ExactEvent) (replied : Option ExactReply) →
     Grows event.session (old.sessions event.session) replied (new.sessions event.session) →
     ((other : ℕ) → (event.session ≡ other → ⊥) → new.sessions other ≡ old.sessions other) →

@@ -273,7 +273,7 @@ run_formed server old (event ∷ events) new good may w run =
     run_formed server run.1 events new (step_good server old event run.0 run.1 good run.2) may.1
     (step_formed (is_enabled server old event) server old event run.0 run.1 good may.0 w run.2) run.3
 
--- in each world of asks whose models may be kept, the words of a done place are well formed
+-- in each world of requests whose models may be kept, the words of a done place are well formed
 pub done_are_formed : (server : Server) (events : List ExactEvent) (world : World) (k : ℕ) (words : Words) →
     AreKeptEvents events → WorldRun server opening_world events world →
     place_at world.places k ≡ Some (place.Done words) → IsWellFormed words

@@ -51,7 +51,7 @@ acts_read server old me (a ∷ acts) new good run =
       good = more.good;
     }
 
--- the reads of a session that is idle are those of its ended asks
+-- the reads of a session that is idle are those of its ended requests
 idle_reads : (s : Session) → s.stage ≡ Idle → reads_of s ≡ flat_map (λ (x : Exchange). x.reads) s.finished
 idle_reads s e = ap (λ stage. flat_map (λ (x : Exchange). x.reads) s.finished ++ reads_so_far stage) e
     ∙ append-nil (flat_map (λ (x : Exchange). x.reads) s.finished)
@@ -109,7 +109,7 @@ module _ (server : Server) (old : World) (x : Exchange) (xs : List Exchange) (mi
         good = c.good;
       }
 
--- where all sessions are idle and one ask runs to its end, all are idle again
+-- where all sessions are idle and one request runs to its end, all are idle again
 idle_after : (server : Server) (old : World) (x : Exchange) (middle : World) → AskRuns server old x middle →
     Reads server old x.session middle → ((session : ℕ) → (old.sessions session).stage ≡ Idle) →
     (session : ℕ) → (middle.sessions session).stage ≡ Idle
@@ -133,7 +133,7 @@ comes_to server old (x ∷ xs) new good idle t =
     let c = comes_to server t.0 xs new reads.good (idle_after server old x t.0 t.1 reads idle) t.2 in
     comes_on server old x xs t.0 new t.1 reads c (idle x.session)
 
--- a world that comes of asks one after the other has exchanges that one worker may have had
+-- a world that comes of requests one after the other has exchanges that one worker may have had
 pub together_one : (server : Server) (xs : List Exchange) (world : World) → Together server opening_world xs world →
     RunFits server.places xs
 together_one server xs world t =

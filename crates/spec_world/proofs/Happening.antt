@@ -44,7 +44,7 @@ act_taken server old event left leaves = record {
   ends = refl;
 }
 
--- each ask may begin to be answered; memory may run out for a wide solve
+-- each request may begin to be answered; memory may run out for a wide solve
 begins : (state : State) (asked : ExactAsk) (what : Due) → due state asked ≡ what → (begun : Begun) × Begins state asked begun
 begins state asked (Replies replied next) is = (Answers replied next, inl (subst (λ d. BegunBy state d (Answers replied next)) (sym is) refl))
 begins state asked (Solves m) is =

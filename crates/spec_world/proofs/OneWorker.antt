@@ -26,7 +26,7 @@ record AskEnds (server : Server) (old : World) (x : Exchange) (state : State) (l
   others : (other : ℕ) → (x.session ≡ other → ⊥) → new.sessions other ≡ old.sessions other
   places : new.places ≡ last
 
--- what one worker does for an ask may happen in a world as the acts of the ask's session
+-- what one worker does for a request may happen in a world as the acts of the request's session
 ask_ends : (server : Server) (old : World) (x : Exchange) (state : State) (last : List ExactPlace) →
     RunsTo server old x.session x.ask x.reads x.reply state last → AskEnds server old x state last
 ask_ends server old x state last r =

@@ -1,6 +1,7 @@
 -- What is published is the packed final basis of a solve.
 --
--- `published_words`: where a put of p is either no put at all or a put of q, p and q have the same words.
+-- `published_words`: where publishing p is the outcome of a solve that publishes nothing or q, p and q have the same
+--   words.
 -- `puts_basis`: what a session publishes after a look is the packed final basis of the solve that followed.
 use Rattle.std.proofs.Common.{◌≡◌, ℕ, Bool, true, false, List, [], ◌∷◌, ◌++◌, Some, None, Ok, refl, ap, ◌⊎◌, inl, inr}
 use Rattle.std.proofs.Common.{cond}

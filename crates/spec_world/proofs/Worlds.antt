@@ -90,7 +90,7 @@ reads_in-append : (session : ℕ) (xs ys : List Logged) →
     reads_in session (xs ++ ys) ≡ reads_in session xs ++ reads_in session ys
 reads_in-append session xs ys = flat_map-append (λ (x : Logged). cond (nat_eq x.session session) (x.read ∷ []) []) xs ys
 
--- a session's asks in events with one more behind them are those before, and its ask in this event
+-- a session's requests in events with one more behind them are those before, and its request in this event
 asks_in-append : (session : ℕ) (xs : List ExactEvent) (y : ExactEvent) →
     asks_in session (xs ++ y ∷ []) ≡ asks_in session xs ++ cond (nat_eq y.session session) (asks_by y.act) []
 asks_in-append session xs y =

@@ -26,12 +26,12 @@ use Rattle.spec_world.specs.World.{Claims, Writes, Session, World, solve}
 
 -- ---- what a session was asked and what it read
 
--- the ask that is being answered, and what was read for it so far
+-- the request that a session is answering: none while it is idle, and else a solve
 abbrev pub going : Stage → List ExactAsk
 going Idle = []
 going other = solve ∷ []
 
--- the reads of the ask that is being answered
+-- what a session read of the board for the request that it is answering
 abbrev pub reads_so_far : Stage → List ExactRead
 reads_so_far Idle = []
 reads_so_far (Counts shape) = []
@@ -41,7 +41,7 @@ reads_so_far (Puts pending reads) = reads
 reads_so_far (Claims pending c reads) = reads
 reads_so_far (Writes pending k reads) = reads
 
--- the asks of a session: those that have ended, and the one that is being answered
+-- the requests of a session: those that have ended, and the one that is being answered
 abbrev pub asks_of : Session → List ExactAsk
 asks_of s = map (λ x. x.ask) s.finished ++ going s.stage
 
@@ -49,7 +49,7 @@ asks_of s = map (λ x. x.ask) s.finished ++ going s.stage
 abbrev pub reads_of : Session → List ExactRead
 reads_of s = flat_map (λ x. x.reads) s.finished ++ reads_so_far s.stage
 
--- the asks of a session among events
+-- the requests of a session among events
 abbrev pub asks_by : ExactAct → List ExactAsk
 asks_by (act.Ask asked) = asked ∷ []
 asks_by other = []
@@ -60,8 +60,8 @@ asks_in session events = flat_map (λ e. if e.session == session then asks_by e.
 
 -- ---- who published what
 
--- From this state the exchange is a solve that ends optimal, and these are the packed words of its final basis, which
--- it put at place k.
+-- From the state `old` the exchange is a solve that ends optimal and publishes the packed words of its final basis,
+-- `words`, at place k.
 pub record PutsBasis (old : State) (exchange : Exchange) (k : ℕ) (words : Words) : Type 0 where
   pub shape : Words
   pub looked : List ExactRead
@@ -82,7 +82,7 @@ pub record PutsBasis (old : State) (exchange : Exchange) (k : ℕ) (words : Word
   pub is_packed : words ≡ packed form basis
   pub reads : exchange.reads ≡ looked ++ read.Count k ∷ read.Claim k ∷ read.Done k words ∷ []
 
--- it is one of the session's exchanges
+-- one of the session's exchanges is a solve that published these words at place k
 pub record IsPublisher (places : ℕ) (s : Session) (k : ℕ) (words : Words) : Type 0 where
   pub before : List Exchange
   pub after : List Exchange
@@ -94,10 +94,10 @@ pub record IsPublisher (places : ℕ) (s : Session) (k : ℕ) (words : Words) : 
 
 -- ---- worlds
 
--- For each session, its asks that have ended, with their reads and replies, are a run of the one-session machine. The
--- reads of all sessions stand in one order, and each was answered by the places as they were then. Its asks are those
--- that its events ask, in order. The words of a place that is done are the packed final basis of a session's solve,
--- which put it there.
+-- For each session, its requests that have ended, with their reads and replies, are a run of the one-session machine.
+-- The reads of all sessions stand in one order, and each was answered by the places as they were then. Its requests are
+-- those that its events ask, in order. The words of a place that is done are the packed final basis of a session's
+-- solve, which put it there.
 pub record IsSound (server : Server) (world : World) : Type 0 where
   pub alone : (session : ℕ) →
       AloneRun server.places opening (world.sessions session).finished (world.sessions session).state
@@ -128,14 +128,14 @@ pub record ReadsNow (server : Server) (old : World) (event : ExactEvent) (new : 
   pub answered : Plays server.places old.places (logged event.session made) new.places
   pub others : (other : ℕ) → (event.session ≡ other → ⊥) → new.sessions other ≡ old.sessions other
 
--- an ask of the session has ended with this reply
+-- a request of the session has ended with this reply
 pub record EndsAsk (old : Session) (replied : ExactReply) (new : Session) : Type 0 where
   pub exchange : Exchange
   pub finished : new.finished ≡ old.finished ++ exchange ∷ []
   pub is_reply : exchange.reply ≡ replied
   pub is_idle : new.stage ≡ Idle
 
--- An event that is not taken changes nothing. One that is taken is the last of the events; it ends an ask of its
+-- An event that is not taken changes nothing. One that is taken is the last of the events; it ends a request of its
 -- session with the reply that is given, or it is quiet and ends none.
 abbrev pub EndFits : World → ExactEvent → ExactEnd → World → Type 0
 EndFits old event Not new = new ≡ old

@@ -17,11 +17,11 @@ pub record AskRuns (server : Server) (old : World) (x : Exchange) (new : World) 
   pub finished : (new.sessions x.session).finished ≡ (old.sessions x.session).finished ++ x ∷ []
   pub is_idle : (new.sessions x.session).stage ≡ Idle
 
--- one ask after the other
+-- exchanges whose requests run to their ends one after the other, from the world `old` to `new`
 abbrev pub Together : Server → World → List Exchange → World → Type 0
 Together server old [] new = new ≡ old
 Together server old (x ∷ xs) new = (middle : World) × AskRuns server old x middle × Together server middle xs new
 
--- each ask is one of a session that there is
+-- each exchange is of a session that the server has
 abbrev pub HaveSessions : Server → List Exchange → Type 0
 HaveSessions server xs = AllByRecursion (λ x. has_session server x.session ≡ true) xs

@@ -19,11 +19,11 @@ use Rattle.spec_world.specs.declared.event.Event.{Event}
 use Rattle.spec_world.specs.declared.event.StepEnd.{StepEnd}
 use Rattle.spec_world.specs.declared.event.StepEnd.TheVariants.{Quiet, Replied, Not}
 
--- an act, with exact asks
+-- an act, with exact requests
 abbrev pub ExactAct : Type 0
 ExactAct = Act ExactAsk
 
--- an event, with exact asks
+-- an event, with exact requests
 abbrev pub ExactEvent : Type 0
 ExactEvent = Event ExactAsk
 
@@ -36,7 +36,7 @@ pub record Server : Type 0 where
   pub sessions : ℕ
   pub places : ℕ
 
--- Where a session is in its ask, with what it read so far. Only a solve goes beyond its beginning.
+-- How far a session is with its request, and what it read for it. Only a solve goes beyond its beginning.
 pub data Stage : Type 0 where
   -- no ask is being answered
   Idle : Stage
@@ -53,7 +53,7 @@ pub data Stage : Type 0 where
   -- this place is the session's
   Writes : (pending : Pending) → (place : ℕ) → (reads : List ExactRead) → Stage
 
--- a session: what it holds, where it is, and its asks that have ended, with their reads and replies
+-- a session: what it holds, where it is, and its requests that have ended, with their reads and replies
 pub record Session : Type 0 where
   pub state : State
   pub stage : Stage
@@ -75,7 +75,7 @@ opening_world = record { sessions = λ session. opening_session; places = []; ev
 
 -- ---- where an event is enabled
 
--- whether an act is the next one at a stage
+-- whether an act is the next one of a session that is this far with its request
 abbrev pub fits_stage : Stage → ExactAct → Bool
 fits_stage Idle (act.Ask asked) = true
 fits_stage (Counts shape) act.Count = true
@@ -90,25 +90,25 @@ fits_stage stage other = false
 abbrev pub has_session : Server → ℕ → Bool
 has_session server session = nat_lt 0 session && nat_le session server.sessions
 
--- whether an event can be taken: the session exists, and the act fits its stage
+-- whether an event can be taken: the session exists, and the act is its next one
 abbrev pub is_enabled : Server → World → ExactEvent → Bool
 is_enabled server world event =
     has_session server event.session && fits_stage (world.sessions event.session).stage event.act
 
 -- ---- what an act leaves
 
--- the session, the places, the reads that it made, and the reply if its ask has ended
+-- what an act leaves: the session, the places, the reads that it made, and the reply if the request has ended
 pub record Left : Type 0 where
   pub session : Session
   pub places : List ExactPlace
   pub reads : List ExactRead
   pub replied : Option ExactReply
 
--- the ask to solve
+-- the request to solve the model that the session holds
 abbrev pub solve : ExactAsk
 solve = ask.Plain command.Solve
 
--- the ask of session number me has ended
+-- the session of number `me` after its request has ended: idle, with one more exchange
 abbrev pub ended : ℕ → Session → ExactAsk → List ExactRead → ExactReply → State → Session
 ended me s asked reads replied next = record {
   state = next;
@@ -116,11 +116,11 @@ ended me s asked reads replied next = record {
   finished = s.finished ++ record { session = me; ask = asked; reads = reads; reply = replied } ∷ [];
 }
 
--- the session at another stage
+-- the session at another stage of its request
 abbrev pub at_stage : Session → Stage → Session
 at_stage s stage = record s { stage = stage }
 
--- what the begin of an ask leaves: its reply, or a look that begins
+-- what the begin of a request leaves: its reply, or a look that begins
 abbrev pub begun_left : ℕ → List ExactPlace → Session → ExactAsk → Begun → Left
 begun_left me now s asked (Answers replied next) =
     record { session = ended me s asked [] replied next; places = now; reads = []; replied = Some replied }
@@ -141,7 +141,7 @@ counted_left now s shape = record {
   replied = None;
 }
 
--- what is read of place k
+-- what a look-up for a shape reads of place k: the words that it may see, or that the place is not done
 abbrev pub read_of : Words → ℕ → Option ExactPlace → ExactRead
 read_of shape k (Some (place.Done words)) = read.Seen k (shown shape words)
 read_of shape k other = read.NotDone k
@@ -161,14 +161,14 @@ seen_left now s shape k reads made = record {
   replied = None;
 }
 
--- what a solve leaves: its reply, or a put that begins
+-- what a solve leaves: its reply, or words that are to be published
 abbrev pub worked_left : ℕ → List ExactPlace → Session → List ExactRead → Worked → Left
 worked_left me now s reads (Ends replied next) =
     record { session = ended me s solve reads replied next; places = now; reads = []; replied = Some replied }
 worked_left me now s reads (Publishes pending) =
     record { session = at_stage s (Puts pending reads); places = now; reads = []; replied = None }
 
--- a put has ended, with this last read
+-- what is left where publishing words has ended with one last read: the reply of the session's solve
 abbrev pub put_left : ℕ → List ExactPlace → Session → Pending → List ExactRead → ExactRead → Put → Left
 put_left me now s pending reads made put = record {
   session =
@@ -178,7 +178,7 @@ put_left me now s pending reads made put = record {
   replied = Some (answered s.state pending.end);
 }
 
--- what the count of a put leaves: a claim, or the reply where all places are claimed
+-- what publishing words leaves after it counted the claimed places: a claim to make, or the reply where all are claimed
 abbrev pub put_counted_left : Server → ℕ → List ExactPlace → Session → Pending → List ExactRead → Left
 put_counted_left server me now s pending reads =
     if length now == server.places
@@ -207,7 +207,7 @@ abbrev pub done_left : ℕ → List ExactPlace → Session → Pending → ℕ �
 done_left me now s pending k reads =
     put_left me (with_place now k (place.Done pending.words)) s pending reads (read.Done k pending.words) (Published k)
 
--- what an act of session number me may leave, at a stage
+-- what an act of the session of number `me` may leave, by how far the session is with its request
 abbrev pub Leaves : Server → ℕ → List ExactPlace → Session → Stage → ExactAct → Left → Type 0
 Leaves server me now s Idle (act.Ask asked) left =
     (begun : Begun) × Begins s.state asked begun × (left ≡ begun_left me now s asked begun)
@@ -223,7 +223,7 @@ Leaves server me now s stage other left = ⊥
 
 -- ---- steps and runs
 
--- what comes of an act, by the reply that it ended an ask with
+-- what comes of an act, by the reply that it ended a request with
 abbrev pub end_of : ℕ → Option ExactReply → ExactEnd
 end_of session None = Quiet
 end_of session (Some replied) = Replied session replied

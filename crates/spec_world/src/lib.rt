@@ -64,7 +64,8 @@ pub fn done_places_are_well_formed()
         place_at world.places k ≡ Some (place.Done words) → IsWellFormed words }
 {}
 
-/// An event is not taken exactly where it is not enabled, and what is said of it is so.
+/// An event is refused exactly where it is not enabled. An event that is taken ends as is reported: it ends a request
+/// of its session with a reply, or ends none.
 pub fn events_are_told()
     ensures not { (server : Server) (old : World) (event : ExactEvent) (end : ExactEnd) (new : World) →
         WorldStep server old event end new → (end ≡ Not) ↔ (is_enabled server old event ≡ false) }
@@ -90,8 +91,8 @@ pub fn replies_agree()
         RepliesAgree (world.sessions session).finished (world'.sessions session).finished }
 {}
 
-/// What sessions may reply whose asks are answered one after the other, with their reads, is exactly what a world
-/// replies in which the events of each ask stand together.
+/// What sessions may reply whose requests are answered one after the other, with their reads, is exactly what a world
+/// replies in which the events of each request stand together.
 pub fn one_worker_is_a_world()
     ensures worlds { (server : Server) (xs : List Exchange) → RunFits server.places xs → HaveSessions server xs →
         (world : World) × Together server opening_world xs world }
