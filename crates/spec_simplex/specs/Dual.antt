@@ -2,12 +2,11 @@
 -- needs, and then steps up to an end.
 use Rattle.std.specs.Prelude.{ℕ, zero, suc, ◌+◌, ◌-◌, Option, Some, None, Result, Ok}
 use Rattle.std.specs.Prelude.{Err, Bool, true, false, nat_le, nat_eq, if◌then◌else◌}
-use Rattle.std.specs.declared.cmp.Ordering.{Ordering}
-use Rattle.std.specs.declared.cmp.Ordering.TheVariants.{Less, Equal, Greater}
+use Rattle.std.specs.Ordering.{is_lt}
 use Rattle.spec_exact.specs.Fraction.{ℚ, abs_ℚ}
 use Rattle.spec_pivot.specs.declared.status.Status.{Status}
-use Rattle.spec_pivot.specs.declared.status.Status.TheVariants.{AtLower, AtUpper}
 use Rattle.spec_pivot.specs.declared.status.Way.{Way}
+use Rattle.spec_pivot.specs.Dual.{bound_behind}
 use Rattle.spec_simplex.specs.declared.ends.RunStop.{RunStop}
 use Rattle.spec_simplex.specs.declared.ends.RunStop.TheVariants as stop
 use Rattle.spec_exact.specs.Run.{Run, ◌>>=◌, refused_as, difference_run, quotient_run, order_run, steps}
@@ -21,7 +20,6 @@ use Rattle.spec_simplex.specs.declared.ends.DualEnd.TheVariants.{Optimal, Infeas
 use Rattle.spec_simplex.specs.declared.ends.DualChoice.{DualChoice}
 use Rattle.spec_simplex.specs.declared.ends.DualChoice.TheVariants.{End, Pivot}
 use Rattle.spec_simplex.specs.Fit.{leaving_run, needs_flip_at}
-use Rattle.spec_simplex.specs.Tables.{way}
 
 -- ---- flips
 
@@ -60,22 +58,16 @@ place_below t k (suc n) = if nat_eq (basic_at t n) k then n else place_below t k
 abbrev pub place_of : Tableau → ℕ → ℕ
 place_of t k = place_below t k t.rows
 
--- Whether column k rises or falls as it enters, if it may: the column at position p, which is below its lower bound or
--- above its upper one, then comes back. A basic and a fixed column never enter.
-abbrev pub dual_way_at : Tableau → ℕ → Bool → ℕ → Option Way
-dual_way_at t p below k =
-    if is_fixed (lower_at t k) (upper_at t k) then None else way_by (status_at t k) (directed (way below) (entry_at t p k))
+-- Whether column k rises or falls as it enters, if it may: the column at position p, which is outside its bounds, then
+-- moves this way and comes back. A basic and a fixed column never enter.
+abbrev pub dual_way_at : Tableau → ℕ → Way → ℕ → Option Way
+dual_way_at t p way k =
+    if is_fixed (lower_at t k) (upper_at t k) then None else way_by (status_at t k) (directed way (entry_at t p k))
 
--- the cheaper of two candidates. Of equal ratios the earlier candidate stays
-abbrev pub cheaper_by : Cheapest ℚ → Cheapest ℚ → Ordering → Cheapest ℚ
-cheaper_by new best Less = new
-cheaper_by new best Equal = best
-cheaper_by new best Greater = best
-
--- the cheaper of a new candidate and the best so far
+-- the cheaper of a new candidate and the best so far. Of equal ratios the earlier candidate stays
 abbrev pub cheaper_run : Option ℕ → Cheapest ℚ → Option (Cheapest ℚ) → Run (Option (Cheapest ℚ))
 cheaper_run limit new None = Ok (Some new)
-cheaper_run limit new (Some best) = order_run limit new.ratio best.ratio >>= λ o. Ok (Some (cheaper_by new best o))
+cheaper_run limit new (Some old) = order_run limit new.ratio old.ratio >>= λ o. Ok (Some (if is_lt o then new else old))
 
 -- the cheapest candidate after column k, whose ratio is the magnitude of its reduced cost over that of its entry
 abbrev pub cheapest_by : Option ℕ → Tableau → ℕ → ℕ → Option (Cheapest ℚ) → Option Way → Run (Option (Cheapest ℚ))
@@ -85,32 +77,26 @@ cheapest_by limit t p k best (Some w) =
     λ ratio. cheaper_run limit (record { ratio = ratio; col = k }) best
 
 -- the cheapest candidate after column k, if column k may enter
-abbrev pub cheapest_with : Option ℕ → Tableau → ℕ → Bool → ℕ → Option (Cheapest ℚ) → Run (Option (Cheapest ℚ))
-cheapest_with limit t p below k best = cheapest_by limit t p k best (dual_way_at t p below k)
+abbrev pub cheapest_with : Option ℕ → Tableau → ℕ → Way → ℕ → Option (Cheapest ℚ) → Run (Option (Cheapest ℚ))
+cheapest_with limit t p way k best = cheapest_by limit t p k best (dual_way_at t p way k)
 
 -- the cheapest candidate of all columns: the first with the least ratio
-abbrev pub cheapest_run : Option ℕ → Tableau → ℕ → Bool → Run (Option (Cheapest ℚ))
-cheapest_run limit t p below = steps (all_columns t) (cheapest_with limit t p below) None
+abbrev pub cheapest_run : Option ℕ → Tableau → ℕ → Way → Run (Option (Cheapest ℚ))
+cheapest_run limit t p way = steps (all_columns t) (cheapest_with limit t p way) None
 
 -- ---- what a step does
 
--- the bound that the leaving column has passed, to which it goes back
-abbrev pub passed_bound : Bool → Status
-passed_bound below = if below then AtLower else AtUpper
-
--- a pivot on the cheapest candidate, or the end that no point is feasible where there is none
-abbrev pub dual_choice_by : ℕ → Bool → Option (Cheapest ℚ) → DualChoice
-dual_choice_by p below None = End (Infeasible p below)
-dual_choice_by p below (Some x) = Pivot p x.col (passed_bound below)
-
--- what the step does where the column at position p leaves
-abbrev pub dual_choice_at : Option ℕ → Tableau → ℕ → Bool → Run DualChoice
-dual_choice_at limit t p below = cheapest_run limit t p below >>= λ best. Ok (dual_choice_by p below best)
+-- a pivot on the cheapest candidate, by which the leaving column goes back to the bound that it has passed, or the end
+-- that no point is feasible where there is none
+abbrev pub dual_choice_by : ℕ → Way → Option (Cheapest ℚ) → DualChoice
+dual_choice_by p way None = End (Infeasible p way)
+dual_choice_by p way (Some x) = Pivot p x.col (bound_behind way)
 
 -- what the step does, by the leaving column; without one the tableau is optimal
 abbrev pub dual_choice_of : Option ℕ → Tableau → Option Leaving → Run DualChoice
 dual_choice_of limit t None = Ok (End Optimal)
-dual_choice_of limit t (Some x) = dual_choice_at limit t (place_of t x.col) x.below
+dual_choice_of limit t (Some x) =
+    cheapest_run limit t (place_of t x.col) x.direction >>= λ c. Ok (dual_choice_by (place_of t x.col) x.direction c)
 
 -- what a step of the dual method does
 unfoldable pub dual_choice_run : Option ℕ → Tableau → Run DualChoice

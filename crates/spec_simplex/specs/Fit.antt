@@ -1,10 +1,12 @@
 -- Whether the tableau of a basis is primal or dual feasible, at a limit.
 use Rattle.std.specs.Prelude.{ℕ, zero, suc, Option, Some, None, Ok, Bool, true}
-use Rattle.std.specs.Prelude.{false, not, ◌&&◌, ◌||◌, option_map, if◌then◌else◌}
+use Rattle.std.specs.Prelude.{false, not, ◌&&◌, ◌||◌, is_some, option_map, if◌then◌else◌}
 use Rattle.std.specs.Ordering.{is_lt, is_gt}
 use Rattle.spec_exact.specs.Fraction.{ℚ, 0ℚ, eq_ℚ, lt_ℚ}
 use Rattle.spec_pivot.specs.declared.status.Status.{Status}
 use Rattle.spec_pivot.specs.declared.status.Status.TheVariants.{Basic, AtLower, AtUpper, AtZero}
+use Rattle.spec_pivot.specs.declared.status.Way.{Way}
+use Rattle.spec_pivot.specs.declared.status.Way.TheVariants.{Up, Down}
 use Rattle.spec_exact.specs.Run.{Run, ◌>>=◌, order_run, steps}
 use Rattle.spec_simplex.specs.Tableau.{Tableau, all_columns, value_at, reduced_at}
 use Rattle.spec_simplex.specs.Tableau.{status_at, lower_at, upper_at, is_fixed, is_basic}
@@ -25,19 +27,19 @@ above_upper limit None v = Ok false
 above_upper limit (Some u) v = order_run limit v u >>= λ o. Ok (is_gt o)
 
 -- a value that is below the lower bound is not compared with the upper one
-abbrev pub outside_by : Option ℕ → Option ℚ → ℚ → Bool → Run (Option Bool)
-outside_by limit upper v true = Ok (Some true)
-outside_by limit upper v false = above_upper limit upper v >>= λ above. Ok (if above then Some false else None)
+abbrev pub outside_by : Option ℕ → Option ℚ → ℚ → Bool → Run (Option Way)
+outside_by limit upper v true = Ok (Some Up)
+outside_by limit upper v false = above_upper limit upper v >>= λ above. Ok (if above then Some Down else None)
 
--- whether v is below the lower bound or above the upper one, if it is either
-abbrev pub outside_run : Option ℕ → Option ℚ → Option ℚ → ℚ → Run (Option Bool)
+-- the way in which v comes back inside its bounds, if it is below the lower one or above the upper one
+abbrev pub outside_run : Option ℕ → Option ℚ → Option ℚ → ℚ → Run (Option Way)
 outside_run limit lower upper v = below_lower limit lower v >>= outside_by limit upper v
 
 -- column k as the one that leaves, if its value is outside its bounds
 abbrev pub leaving_at : Option ℕ → Tableau → ℕ → Run (Option Leaving)
 leaving_at limit t k =
     outside_run limit (lower_at t k) (upper_at t k) (value_at t k) >>=
-    λ side. Ok (option_map (λ below. record { col = k; below = below }) side)
+    λ out. Ok (option_map (λ way. record { col = k; direction = way }) out)
 
 -- the leaving column so far, or column k if it is basic and outside its bounds. Nothing is compared after the first
 -- one.
@@ -58,16 +60,11 @@ needs_flip AtLower d = lt_ℚ d 0ℚ
 needs_flip AtUpper d = lt_ℚ 0ℚ d
 needs_flip AtZero d = false
 
--- whether a bound is given
-abbrev pub is_there : Option ℚ → Bool
-is_there None = false
-is_there (Some v) = true
-
 -- a column has the other bound if it needs it; a column without bounds has the reduced cost 0
 abbrev pub meets_need : Status → ℚ → Option ℚ → Option ℚ → Bool
 meets_need Basic d lower upper = true
-meets_need AtLower d lower upper = not (lt_ℚ d 0ℚ) || is_there upper
-meets_need AtUpper d lower upper = not (lt_ℚ 0ℚ d) || is_there lower
+meets_need AtLower d lower upper = not (lt_ℚ d 0ℚ) || is_some upper
+meets_need AtUpper d lower upper = not (lt_ℚ 0ℚ d) || is_some lower
 meets_need AtZero d lower upper = eq_ℚ d 0ℚ
 
 -- column k needs its other bound. A fixed column needs nothing

@@ -1,10 +1,9 @@
 -- A tableau of lists, as one of functions of an index, and what a choice of the run means for it.
 use Rattle.std.specs.Prelude.{◌≡◌, ◌⊎◌, ℕ, ◌+◌, ◌<◌, ◌≤◌, Option, None, Ok, []}
-use Rattle.std.specs.Prelude.{length, get_or, Some, Bool, true, false, if◌then◌else◌}
+use Rattle.std.specs.Prelude.{length, get_or, Some, true, false}
 use Rattle.spec_exact.specs.Fraction.{ℚ, 0ℚ}
 use Rattle.spec_pivot.specs.declared.status.Status.TheVariants.{Basic}
 use Rattle.spec_pivot.specs.declared.status.Way.{Way}
-use Rattle.spec_pivot.specs.declared.status.Way.TheVariants.{Up, Down}
 use Rattle.spec_pivot.specs.Tableau.{Matrix}
 use Rattle.spec_pivot.specs.Simplex.{Bounds, Table, IsTableau, IsWithin, IsEligible, Label, IsStep}
 use Rattle.spec_pivot.specs.Ratio.{GoesOn}
@@ -23,10 +22,6 @@ table_of t =
 -- the bounds of a tableau's columns, of which the artificial ones never enter
 abbrev pub bounds_of : Tableau → Bounds
 bounds_of t = record { lower = lower_at t; upper = upper_at t; barred = is_artificial t }
-
--- the way in which a value that is below its lower bound comes back, or else one that is above its upper bound
-abbrev pub way : Bool → Way
-way below = if below then Up else Down
 
 -- each list has as many items as there are positions or columns
 pub record IsWhole (t : Tableau) : Type 0 where

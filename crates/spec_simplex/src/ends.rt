@@ -109,11 +109,11 @@ pub enum Fit {
     Unfit,
 }
 
-/// A basic column that is outside its bounds, below the lower one or above the upper one.
+/// A basic column that is outside its bounds, and the way in which its value comes back: `Up` from below the lower one.
 #[derive(Clone, Copy)]
 pub struct Leaving {
     pub col: u32,
-    pub below: bool,
+    pub direction: Way,
 }
 
 /// The least ratio so far, and its column.
@@ -128,8 +128,9 @@ pub struct Cheapest<F> {
 pub enum DualEnd {
     /// Each value is within its bounds.
     Optimal,
-    /// The column at this position is outside its bounds, and no column can bring it back.
-    Infeasible { place: u32, below: bool },
+    /// The column at this position has to move in this direction to come back inside its bounds, and no column can
+    /// bring it back.
+    Infeasible { position: u32, direction: Way },
 }
 
 /// What a dual step does.
