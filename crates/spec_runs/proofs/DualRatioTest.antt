@@ -4,6 +4,7 @@ use Rattle.std.proofs.Common.{false, cond, nat_eq, refl, sym, ap, ◌∙◌, sub
 use Rattle.std.proofs.lemmas.Bool.{eqb-true, eqb-false}
 use Rattle.std.specs.declared.cmp.Ordering.{Ordering}
 use Rattle.std.specs.declared.cmp.Ordering.TheVariants.{Less, Equal, Greater}
+use Rattle.std.specs.Ordering.{is_lt}
 use Rattle.spec_exact.specs.Fraction.{ℚ, 0ℚ, ◌≤ℚ◌, ◌<ℚ◌, lt_ℚ, abs_ℚ}
 use Rattle.spec_exact.specs.Limit.{order}
 use Rattle.spec_exact.proofs.Compare.{order_less, order_equal, order_greater}
@@ -20,13 +21,13 @@ use Rattle.spec_exact.specs.Run.{quotient_run, order_run}
 use Rattle.spec_simplex.specs.Step.{directed, way_by}
 use Rattle.spec_simplex.specs.Tableau.{Tableau, all_columns, basic_at, entry_at}
 use Rattle.spec_simplex.specs.Tableau.{reduced_at, status_at, lower_at, upper_at, is_fixed}
-use Rattle.spec_simplex.specs.Tables.{way, table_of}
+use Rattle.spec_simplex.specs.Tables.{table_of}
 use Rattle.spec_simplex.proofs.RunParts.{then_ok, quotient_ok, order_ok, steps_ok}
 use Rattle.spec_simplex.proofs.Flips.{directed_is}
 use Rattle.spec_pivot.specs.Dual.{Helps, row_of, ratio, IsCandidate, IsCheapest}
 use Rattle.spec_simplex.specs.declared.ends.Cheapest.{Cheapest}
 use Rattle.spec_runs.specs.Based.{IsBased}
-use Rattle.spec_simplex.specs.Dual.{place_below, dual_way_at, cheaper_by, cheaper_run}
+use Rattle.spec_simplex.specs.Dual.{place_below, dual_way_at, cheaper_run}
 use Rattle.spec_simplex.specs.Dual.{cheapest_by, cheapest_with, cheapest_run}
 use Rattle.spec_runs.proofs.Bounded.{fixed_is, not_fixed_is}
 
@@ -87,7 +88,7 @@ way_some AtZero a w e = by (lt_ℚ a 0ℚ) (lt_ℚ 0ℚ a) refl refl e
 
 -- the cheaper of two candidates has a ratio of at most that of each
 kept_least : (new best : Cheapest ℚ) (o : Ordering) → o ≡ order new.ratio best.ratio →
-    ((cheaper_by new best o).ratio ≤ℚ new.ratio) × ((cheaper_by new best o).ratio ≤ℚ best.ratio)
+    ((cond (is_lt o) new best).ratio ≤ℚ new.ratio) × ((cond (is_lt o) new best).ratio ≤ℚ best.ratio)
 kept_least new best Less e =
     (≤ℚ_refl new.ratio, <ℚ-le new.ratio best.ratio ((order_less new.ratio best.ratio).0 (sym e)))
 kept_least new best Equal e = (
@@ -98,42 +99,42 @@ kept_least new best Greater e =
     (<ℚ-le best.ratio new.ratio ((order_greater new.ratio best.ratio).0 (sym e)), ≤ℚ_refl best.ratio)
 
 -- what holds of two candidates holds of the cheaper one
-one_of : (P : Cheapest ℚ → Type 0) (new best : Cheapest ℚ) (o : Ordering) → P new → P best → P (cheaper_by new best o)
+one_of : (P : Cheapest ℚ → Type 0) (new best : Cheapest ℚ) (o : Ordering) → P new → P best → P (cond (is_lt o) new best)
 one_of P new best Less p q = p
 one_of P new best Equal p q = q
 one_of P new best Greater p q = q
 
 -- ---- the test of a tableau
 module _ (limit : Option ℕ) (f : Matrix) (cost : ℕ → ℚ) (b : Bounds) (t : Tableau)
-    (s : IsBased t.rows t.cols f cost b t) (p : ℕ) (below : Bool) where
+    (s : IsBased t.rows t.cols f cost b t) (p : ℕ) (way : Way) where
   abbrev Candidate : ℕ → Type 0
-  Candidate k = IsCandidate b (table_of t) (way below) p k
+  Candidate k = IsCandidate b (table_of t) way p k
 
-  row_is : (k : ℕ) → directed (way below) (entry_at t p k) ≡ row_of (table_of t) (way below) p k
-  row_is k = directed_is (way below) (entry_at t p k)
+  row_is : (k : ℕ) → directed way (entry_at t p k) ≡ row_of (table_of t) way p k
+  row_is k = directed_is way (entry_at t p k)
 
-  not_candidate : (k : ℕ) → k < all_columns t → dual_way_at t p below k ≡ None → ¬ (Candidate k)
+  not_candidate : (k : ℕ) → k < all_columns t → dual_way_at t p way k ≡ None → ¬ (Candidate k)
   not_candidate k h e c = by (is_fixed (lower_at t k) (upper_at t k)) refl e
     where
       by : (d : Bool) → is_fixed (lower_at t k) (upper_at t k) ≡ d →
-          cond d None (way_by (status_at t k) (directed (way below) (entry_at t p k))) ≡ None → ⊥
+          cond d None (way_by (status_at t k) (directed way (entry_at t p k))) ≡ None → ⊥
       by true d e = c.not_fixed (fixed_is f cost b t s k h d)
       by false d e =
-          way_none (status_at t k) (directed (way below) (entry_at t p k)) e
+          way_none (status_at t k) (directed way (entry_at t p k)) e
           (subst (Helps (status_at t k)) (sym (row_is k)) c.helps)
 
-  a_candidate : (k : ℕ) (w : Way) → k < all_columns t → dual_way_at t p below k ≡ Some w → Candidate k
+  a_candidate : (k : ℕ) (w : Way) → k < all_columns t → dual_way_at t p way k ≡ Some w → Candidate k
   a_candidate k w h e = by (is_fixed (lower_at t k) (upper_at t k)) refl e
     where
       by : (d : Bool) → is_fixed (lower_at t k) (upper_at t k) ≡ d →
-          cond d None (way_by (status_at t k) (directed (way below) (entry_at t p k))) ≡ Some w → Candidate k
+          cond d None (way_by (status_at t k) (directed way (entry_at t p k))) ≡ Some w → Candidate k
       by true d e = let z : None ≡ Some w = e in cc
       by false d e =
           record {
             not_fixed = not_fixed_is f cost b t s k h d;
             helps =
                 subst (Helps (status_at t k)) (row_is k)
-                (way_some (status_at t k) (directed (way below) (entry_at t p k)) w e);
+                (way_some (status_at t k) (directed way (entry_at t p k)) w e);
           }
 
   -- a candidate whose ratio is the least of those of the first n columns
@@ -161,18 +162,17 @@ module _ (limit : Option ℕ) (f : Matrix) (cost : ℕ → ℚ) (b : Bounds) (t 
             (λ y. absurd (was i (omega (arith, l, y)) d));
       })
   with_one k q h c e (Some x) next was ok =
-      let o =
-      then_ok (order_run limit q x.ratio) (λ o. Ok (Some (cheaper_by (record { ratio = q; col = k }) x o))) next ok in
       let new : Cheapest ℚ = record { ratio = q; col = k } in
-      let z : Some (cheaper_by new x o.0) ≡ next = cc in
+      let o = then_ok (order_run limit q x.ratio) (λ o. Ok (Some (cond (is_lt o) new x))) next ok in
+      let z : Some (cond (is_lt o.0) new x) ≡ next = cc in
       let less = kept_least new x o.0 (order_ok limit q x.ratio o.0 o.1) in
       subst (CheapestIs (suc k)) z (record {
         inside = one_of (λ x. x.col < all_columns t) new x o.0 h was.inside;
         candidate = one_of (λ x. Candidate x.col) new x o.0 c was.candidate;
         ratio_at = one_of (λ x. x.ratio ≡ ratio (table_of t) p x.col) new x o.0 e was.ratio_at;
         least = λ i l d. by_eq i k
-            (λ y. subst (λ a. (cheaper_by new x o.0).ratio ≤ℚ a) (e ∙ ap (ratio (table_of t) p) (sym y)) less.0)
-            (λ y. ≤ℚ_trans (cheaper_by new x o.0).ratio x.ratio (ratio (table_of t) p i) less.1
+            (λ y. subst (λ a. (cond (is_lt o.0) new x).ratio ≤ℚ a) (e ∙ ap (ratio (table_of t) p) (sym y)) less.0)
+            (λ y. ≤ℚ_trans (cond (is_lt o.0) new x).ratio x.ratio (ratio (table_of t) p i) less.1
             (was.least i (omega (arith, l, y)) d));
       })
 
@@ -187,10 +187,10 @@ module _ (limit : Option ℕ) (f : Matrix) (cost : ℕ → ℚ) (b : Bounds) (t 
   }
 
   step : (k : ℕ) (best next : Option (Cheapest ℚ)) → k < all_columns t → CheapestIs k best →
-      cheapest_with limit t p below k best ≡ Ok next → CheapestIs (suc k) next
-  step k best next h was ok = by (dual_way_at t p below k) refl ok
+      cheapest_with limit t p way k best ≡ Ok next → CheapestIs (suc k) next
+  step k best next h was ok = by (dual_way_at t p way k) refl ok
     where
-      by : (o : Option Way) → dual_way_at t p below k ≡ o → cheapest_by limit t p k best o ≡ Ok next →
+      by : (o : Option Way) → dual_way_at t p way k ≡ o → cheapest_by limit t p k best o ≡ Ok next →
           CheapestIs (suc k) next
       by None e ok =
           let z : best ≡ next = cc in subst (CheapestIs (suc k)) z (without_one k best (not_candidate k h e) was)
@@ -201,17 +201,17 @@ module _ (limit : Option ℕ) (f : Matrix) (cost : ℕ → ℚ) (b : Bounds) (t 
           with_one k o.0 h (a_candidate k w h e)
           (quotient_ok limit (abs_ℚ (reduced_at t k)) (abs_ℚ (entry_at t p k)) o.0 o.1) best next was o.2
 
-  cheapest_is : (best : Option (Cheapest ℚ)) → cheapest_run limit t p below ≡ Ok best → CheapestIs (all_columns t) best
+  cheapest_is : (best : Option (Cheapest ℚ)) → cheapest_run limit t p way ≡ Ok best → CheapestIs (all_columns t) best
   cheapest_is best ok =
-      steps_ok CheapestIs (all_columns t) (cheapest_with limit t p below) None best ok
+      steps_ok CheapestIs (all_columns t) (cheapest_with limit t p way) None best ok
       (λ k l. absurd (let z : ⊥ = omega (arith, l) in z)) step
 
-  pub none_cheapest : cheapest_run limit t p below ≡ Ok None → (k : ℕ) → k < all_columns t →
-      ¬ (IsCandidate b (table_of t) (way below) p k)
+  pub none_cheapest : cheapest_run limit t p way ≡ Ok None → (k : ℕ) → k < all_columns t →
+      ¬ (IsCandidate b (table_of t) way p k)
   none_cheapest ok = cheapest_is None ok
 
-  pub a_cheapest : (x : Cheapest ℚ) → cheapest_run limit t p below ≡ Ok (Some x) →
-      IsCheapest (all_columns t) b (table_of t) (way below) p x.col
+  pub a_cheapest : (x : Cheapest ℚ) → cheapest_run limit t p way ≡ Ok (Some x) →
+      IsCheapest (all_columns t) b (table_of t) way p x.col
   a_cheapest x ok =
       let there : IsLeast (all_columns t) x = cheapest_is (Some x) ok in
       record {

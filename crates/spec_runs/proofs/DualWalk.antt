@@ -1,19 +1,20 @@
 -- Dual steps up to an end: what holds of the first tableau holds of the last.
-use Rattle.std.proofs.Common.{◌≡◌, ℕ, zero, suc, ◌+◌, Option, Result, Ok, Bool, sym, ap, ◌∙◌, subst, subst₂}
+use Rattle.std.proofs.Common.{◌≡◌, ℕ, zero, suc, ◌+◌, Option, Result, Ok, sym, ap, ◌∙◌, subst, subst₂}
 use Rattle.spec_exact.specs.Fraction.{ℚ}
+use Rattle.spec_pivot.specs.declared.status.Way.{Way}
 use Rattle.spec_pivot.specs.Tableau.{Matrix}
 use Rattle.spec_pivot.specs.Simplex.{Bounds}
 use Rattle.spec_simplex.specs.declared.ends.RunStop.{RunStop}
 use Rattle.spec_simplex.specs.declared.ends.RunStop.TheVariants as stop
 use Rattle.spec_exact.specs.Run.{refused_as}
 use Rattle.spec_simplex.specs.Tableau.{Tableau}
-use Rattle.spec_simplex.specs.Tables.{way, table_of}
+use Rattle.spec_simplex.specs.Tables.{table_of}
 use Rattle.spec_simplex.proofs.RunParts.{then_ok, refused_ok}
-use Rattle.spec_pivot.specs.Dual.{Leaves, IsCheapest, after_dual}
+use Rattle.spec_pivot.specs.Dual.{bound_behind, Leaves, IsCheapest, after_dual}
 use Rattle.spec_simplex.specs.declared.ends.DualChoice.{DualChoice}
 use Rattle.spec_simplex.specs.declared.ends.DualChoice.TheVariants.{End, Pivot}
 use Rattle.spec_runs.specs.Based.{IsReady, IsDualStep, IsDualMeant}
-use Rattle.spec_simplex.specs.Dual.{passed_bound, dual_choice_run, dual_pivot_run, DualEnded}
+use Rattle.spec_simplex.specs.Dual.{dual_choice_run, dual_pivot_run, DualEnded}
 use Rattle.spec_simplex.specs.Dual.{dual_end_or_spent, dual_end_or_next, dual_from}
 use Rattle.spec_exact.proofs.Results.{ok_same, err_not_ok}
 use Rattle.spec_runs.proofs.Stepped.{choice_meant, pivot_ready, pivot_table}
@@ -28,26 +29,26 @@ module _ (limit : Option ℕ) (m n : ℕ) (f : Matrix) (cost : ℕ → ℚ) (b :
       subst₂ (λ m n. IsDualMeant m n b t choice) s.based.tableau.rows s.based.tableau.cols
       (choice_meant limit f cost b t (own_ready t s).based choice h)
 
-  pub ready_next : (t u : Tableau) (p j : ℕ) (below : Bool) → IsReady m n f cost b t → IsDualStep m n b t p j below →
-      dual_pivot_run limit t p j (passed_bound below) ≡ Ok u → IsReady m n f cost b u
-  ready_next t u p j below s d h =
+  pub ready_next : (t u : Tableau) (p j : ℕ) (way : Way) → IsReady m n f cost b t → IsDualStep m n b t p j way →
+      dual_pivot_run limit t p j (bound_behind way) ≡ Ok u → IsReady m n f cost b u
+  ready_next t u p j way s d h =
       subst₂ (λ m n. IsReady m n f cost b u) s.based.tableau.rows s.based.tableau.cols
-      (pivot_ready limit f cost b t (own_ready t s).based (own_ready t s).feasible p j below
-      (subst₂ (λ m n. IsDualStep m n b t p j below) (sym s.based.tableau.rows) (sym s.based.tableau.cols) d) u h)
+      (pivot_ready limit f cost b t (own_ready t s).based (own_ready t s).feasible p j way
+      (subst₂ (λ m n. IsDualStep m n b t p j way) (sym s.based.tableau.rows) (sym s.based.tableau.cols) d) u h)
 
-  pub next_table : (t u : Tableau) (p j : ℕ) (below : Bool) → IsReady m n f cost b t →
-      (d : IsDualStep m n b t p j below) → dual_pivot_run limit t p j (passed_bound below) ≡ Ok u
-      → table_of u ≡ after_dual m (table_of t) (way below) p j d.bound
-  next_table t u p j below s d h =
-      pivot_table limit f cost b t (own_ready t s).based (own_ready t s).feasible p j below own u h
-      ∙ ap (λ m. after_dual m (table_of t) (way below) p j d.bound) s.based.tableau.rows
+  pub next_table : (t u : Tableau) (p j : ℕ) (way : Way) → IsReady m n f cost b t →
+      (d : IsDualStep m n b t p j way) → dual_pivot_run limit t p j (bound_behind way) ≡ Ok u
+      → table_of u ≡ after_dual m (table_of t) way p j d.bound
+  next_table t u p j way s d h =
+      pivot_table limit f cost b t (own_ready t s).based (own_ready t s).feasible p j way own u h
+      ∙ ap (λ m. after_dual m (table_of t) way p j d.bound) s.based.tableau.rows
     where
-      own : IsDualStep t.rows t.cols b t p j below
+      own : IsDualStep t.rows t.cols b t p j way
       own = record {
         bound = d.bound;
-        leaves = subst (λ m. Leaves m b (table_of t) (way below) p d.bound) (sym s.based.tableau.rows) d.leaves;
+        leaves = subst (λ m. Leaves m b (table_of t) way p d.bound) (sym s.based.tableau.rows) d.leaves;
         cheapest =
-            subst₂ (λ m n. IsCheapest (n + m + m) b (table_of t) (way below) p j)
+            subst₂ (λ m n. IsCheapest (n + m + m) b (table_of t) way p j)
             (sym s.based.tableau.rows) (sym s.based.tableau.cols) d.cheapest;
       }
 

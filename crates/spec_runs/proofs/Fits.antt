@@ -9,12 +9,13 @@ use Rattle.spec_exact.proofs.Order.{≤ℚ_refl, <ℚ-le, le_if_not}
 use Rattle.spec_exact.proofs.Same.{eq_if}
 use Rattle.spec_pivot.specs.declared.status.Status.{Status}
 use Rattle.spec_pivot.specs.declared.status.Status.TheVariants.{Basic, AtLower, AtUpper, AtZero}
+use Rattle.spec_pivot.specs.declared.status.Way.{Way}
+use Rattle.spec_pivot.specs.declared.status.Way.TheVariants.{Up, Down}
 use Rattle.spec_pivot.specs.Simplex.{IsInside}
 use Rattle.spec_pivot.proofs.Pivot.{by_eq}
 use Rattle.spec_exact.specs.Run.{Run}
 use Rattle.spec_simplex.specs.Tableau.{Tableau, all_columns, value_at, status_at, lower_at, upper_at}
 use Rattle.spec_simplex.specs.Tableau.{is_basic}
-use Rattle.spec_simplex.specs.Tables.{way}
 use Rattle.spec_simplex.proofs.Orders.{by_order, given}
 use Rattle.spec_simplex.proofs.RunParts.{then_ok, steps_ok}
 use Rattle.spec_pivot.specs.Dual.{Suits, IsPast}
@@ -57,26 +58,26 @@ above_is limit (Some a) v c h =
     (λ p e. given (AboveIs (Some a) v) true c e (a, refl, p))
 
 -- within both bounds, or past one of them
-abbrev OutsideIs : Option ℚ → Option ℚ → ℚ → Option Bool → Type 0
+abbrev OutsideIs : Option ℚ → Option ℚ → ℚ → Option Way → Type 0
 OutsideIs l u v None = IsInside l u v
-OutsideIs l u v (Some below) = (c : ℚ) × IsPast (way below) l u v c
+OutsideIs l u v (Some way) = (c : ℚ) × IsPast way l u v c
 
 -- where the test of v is not refused, it says whether v is within both bounds, or past which one
-outside_is : (limit : Option ℕ) (l u : Option ℚ) (v : ℚ) (side : Option Bool) → outside_run limit l u v ≡ Ok side →
+outside_is : (limit : Option ℕ) (l u : Option ℚ) (v : ℚ) (side : Option Way) → outside_run limit l u v ≡ Ok side →
     OutsideIs l u v side
 outside_is limit l u v side h =
     let o = then_ok (below_lower limit l v) (outside_by limit u v) side h in
     by o.0 (below_is limit l v o.0 o.1) o.2
   where
-    up : (c : Bool) → IfSome l (λ c. c ≤ℚ v) → AboveIs u v c → OutsideIs l u v (cond c (Some false) None)
+    up : (c : Bool) → IfSome l (λ c. c ≤ℚ v) → AboveIs u v c → OutsideIs l u v (cond c (Some Down) None)
     up true b a = (a.0, (a.1, a.2))
     up false b a = record { lower = b; upper = a }
 
     by : (c : Bool) → BelowIs l v c → outside_by limit u v c ≡ Ok side → OutsideIs l u v side
-    by true b h = let z : Some true ≡ side = cc in subst (OutsideIs l u v) z (b.0, (b.1, b.2))
+    by true b h = let z : Some Up ≡ side = cc in subst (OutsideIs l u v) z (b.0, (b.1, b.2))
     by false b h =
-        let o = then_ok (above_upper limit u v) (λ above. Ok (cond above (Some false) None)) side h in
-        let z : cond o.0 (Some false) None ≡ side = cc in
+        let o = then_ok (above_upper limit u v) (λ above. Ok (cond above (Some Down) None)) side h in
+        let z : cond o.0 (Some Down) None ≡ side = cc in
         subst (OutsideIs l u v) z (up o.0 b (above_is limit u v o.0 o.1))
 
 -- ---- the first of many
@@ -86,7 +87,7 @@ pub record IsLeaving (t : Tableau) (n : ℕ) (x : Leaving) : Type 0 where
   pub inside : x.col < n
   pub basic : status_at t x.col ≡ Basic
   pub bound : ℚ
-  pub past : IsPast (way x.below) (lower_at t x.col) (upper_at t x.col) (value_at t x.col) bound
+  pub past : IsPast x.direction (lower_at t x.col) (upper_at t x.col) (value_at t x.col) bound
 
 abbrev InsideAt : Tableau → ℕ → Type 0
 InsideAt t k = IsInside (lower_at t k) (upper_at t k) (value_at t k)
@@ -102,18 +103,18 @@ module _ (limit : Option ℕ) (t : Tableau) where
   here_is k x b before h =
       let o =
       then_ok (outside_run limit (lower_at t k) (upper_at t k) (value_at t k))
-      (λ side. Ok (option_map (λ below. record { col = k; below = below }) side)) x h in
+      (λ side. Ok (option_map (λ way. record { col = k; direction = way }) side)) x h in
       by o.0 (outside_is limit (lower_at t k) (upper_at t k) (value_at t k) o.0 o.1) o.2
     where
-      by : (side : Option Bool) → OutsideIs (lower_at t k) (upper_at t k) (value_at t k) side →
-          ◌≡◌ {A = Run (Option Leaving)} (Ok (option_map (λ below. record { col = k; below = below }) side)) (Ok x) →
+      by : (side : Option Way) → OutsideIs (lower_at t k) (upper_at t k) (value_at t k) side →
+          ◌≡◌ {A = Run (Option Leaving)} (Ok (option_map (λ way. record { col = k; direction = way }) side)) (Ok x) →
           LeavingIs t (suc k) x
       by None i h =
           let z : None ≡ x = cc in
           subst (LeavingIs t (suc k)) z
           (λ j l e. by_eq j k (λ y. subst (InsideAt t) (sym y) i) (λ y. before j (omega (arith, l, y)) e))
-      by (Some below) i h =
-          let z : ◌≡◌ {A = Option Leaving} (Some (record { col = k; below = below })) x = cc in
+      by (Some way) i h =
+          let z : ◌≡◌ {A = Option Leaving} (Some (record { col = k; direction = way })) x = cc in
           subst (LeavingIs t (suc k)) z (record { inside = omega arith; basic = b; bound = i.0; past = i.1 })
 
   leaving_step : (k : ℕ) (x y : Option Leaving) → k < all_columns t → LeavingIs t k x →

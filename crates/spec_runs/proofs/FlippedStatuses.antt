@@ -3,7 +3,7 @@
 -- `wrong`: a column that needs a flip is at one bound, has the other one, and its reduced cost suits the other one.
 -- `flip_shape`: a flip gives one column the status of its other bound; besides, it changes only values.
 use Rattle.std.proofs.Common.{◌≡◌, ◌≢◌, ℕ, suc, ◌+◌, ◌<◌, ◌≤◌, List, Option, Some, None, Ok, Bool, true}
-use Rattle.std.proofs.Common.{false, not, ◌&&◌, ◌||◌, cond, nat_le, refl, sym, ap, ap₂, ◌∙◌, subst, subst₂, arith}
+use Rattle.std.proofs.Common.{false, not, ◌&&◌, ◌||◌, is_some, cond, nat_le, refl, sym, ap, ap₂, ◌∙◌, subst, subst₂, arith}
 use Rattle.std.proofs.lemmas.Bool.{false≢true}
 use Rattle.std.proofs.lemmas.List.{get_or-set_same, get_or-set_other}
 use Rattle.spec_exact.specs.Fraction.{ℚ, 0ℚ, ◌+ℚ◌, ◌-ℚ◌, ◌*ℚ◌, lt_ℚ}
@@ -33,7 +33,7 @@ use Rattle.spec_simplex.proofs.LeastIndexSteps.{ahead_is}
 use Rattle.spec_pivot.specs.Dual.{Suits}
 use Rattle.spec_runs.specs.Based.{IsBased, IsReady}
 use Rattle.spec_simplex.specs.Dual.{Reached, one_more, flip_by, flip_next, flips_run}
-use Rattle.spec_simplex.specs.Fit.{needs_flip, is_there, meets_need, needs_flip_at, meets_need_at}
+use Rattle.spec_simplex.specs.Fit.{needs_flip, meets_need, needs_flip_at, meets_need_at}
 use Rattle.spec_runs.proofs.Bounded.{own_counts, given_counts, lower_same}
 use Rattle.spec_runs.proofs.Bounded.{upper_same, fixed_is, not_fixed_is, free_open}
 use Rattle.spec_runs.proofs.Fits.{met_suits}
@@ -50,7 +50,7 @@ pub record IsWrong (s : Status) (d : ℚ) (l u : Option ℚ) (way : Way) : Type 
   pub suits : Suits (other_bound way) d
 
 -- a bound that tests as given is some number
-there_is : (o : Option ℚ) → is_there o ≡ true → (v : ℚ) × (o ≡ Some v)
+there_is : (o : Option ℚ) → is_some o ≡ true → (v : ℚ) × (o ≡ Some v)
 there_is None h = absurd (false≢true h)
 there_is (Some v) h = (v, refl)
 
@@ -68,7 +68,7 @@ wrong AtLower d v l u st h n = (
     can_move = tt;
     way_is = refl;
     low = (v, st);
-    high = there_is u (either (lt_ℚ d 0ℚ) (is_there u) h n);
+    high = there_is u (either (lt_ℚ d 0ℚ) (is_some u) h n);
     suits = <ℚ-le d 0ℚ (lt_if d 0ℚ n);
   },
 )
@@ -77,7 +77,7 @@ wrong AtUpper d v l u st h n = (
   record {
     can_move = tt;
     way_is = refl;
-    low = there_is l (either (lt_ℚ 0ℚ d) (is_there l) h n);
+    low = there_is l (either (lt_ℚ 0ℚ d) (is_some l) h n);
     high = (v, st);
     suits = <ℚ-le 0ℚ d (lt_if 0ℚ d n);
   },

@@ -130,16 +130,16 @@ module _ (limit : Option ℕ) where
       also _ _ _ _ (agrees_quotient limit (abs_ℚ (reduced_at t k)) (abs_ℚ (entry_at t p k)))
       (λ ratio. cheaper_agrees _ best)
 
-  cheapest_agrees : (t : Tableau) (p : ℕ) (below : Bool) →
-      Agrees as_it_is (cheapest_run limit t p below) (cheapest_run None t p below)
-  cheapest_agrees t p below =
-      agrees_steps as_it_is (all_columns t) (cheapest_with limit t p below)
-      (cheapest_with None t p below) None (λ k best. cheapest_by_agrees t p k best (dual_way_at t p below k))
+  cheapest_agrees : (t : Tableau) (p : ℕ) (way : Way) →
+      Agrees as_it_is (cheapest_run limit t p way) (cheapest_run None t p way)
+  cheapest_agrees t p way =
+      agrees_steps as_it_is (all_columns t) (cheapest_with limit t p way)
+      (cheapest_with None t p way) None (λ k best. cheapest_by_agrees t p k best (dual_way_at t p way k))
 
   choice_of_agrees : (t : Tableau) (x : Option Leaving) →
       Agrees as_it_is (dual_choice_of limit t x) (dual_choice_of None t x)
   choice_of_agrees t None = ok _
-  choice_of_agrees t (Some x) = also _ _ _ _ (cheapest_agrees t (place_of t x.col) x.below) (λ best. ok _)
+  choice_of_agrees t (Some x) = also _ _ _ _ (cheapest_agrees t (place_of t x.col) x.direction) (λ best. ok _)
 
   choice_agrees : (t : Tableau) → Agrees as_it_is (dual_choice_run limit t) (dual_choice_run None t)
   unfolding dual_choice_run

@@ -1,6 +1,6 @@
 -- What a warm start ends with shows what it says of the model.
 use Rattle.std.proofs.Common.{◌≡◌, ℕ, ◌+◌, ◌-◌, ◌<◌, ◌≤◌, List, Option, Some, None}
-use Rattle.std.proofs.Common.{Result, Ok, Err, Bool, true, sym, ap, ◌∙◌, subst, subst₂, arith}
+use Rattle.std.proofs.Common.{Result, Ok, Err, true, sym, ap, ◌∙◌, subst, subst₂, arith}
 use Rattle.spec_exact.specs.Fraction.{ℚ, 0ℚ, 1ℚ, ◌≤ℚ◌}
 use Rattle.spec_exact.proofs.Field.{*ℚ_one}
 use Rattle.spec_exact.proofs.Order.{≤ℚ_refl}
@@ -8,6 +8,7 @@ use Rattle.spec_model.specs.Model.{Model, width, height}
 use Rattle.spec_check.specs.declared.certificate.Certificate.TheVariants as certificate
 use Rattle.spec_pivot.specs.declared.status.Status.{Status}
 use Rattle.spec_pivot.specs.declared.status.Status.TheVariants.{Basic}
+use Rattle.spec_pivot.specs.declared.status.Way.{Way}
 use Rattle.spec_pivot.specs.Simplex.{Bounds, IsInside, IsWithin}
 use Rattle.spec_pivot.specs.Simplex as kind
 use Rattle.spec_simplex.specs.declared.ends.PrimalEnd.{PrimalEnd}
@@ -20,7 +21,7 @@ use Rattle.spec_simplex.specs.Tableau.{Tableau, form_columns, all_columns, entry
 use Rattle.spec_simplex.specs.Tableau.{value_at, status_at, lower_at, upper_at}
 use Rattle.spec_simplex.specs.Phases.{PrimalEnded, run_from}
 use Rattle.spec_exact.proofs.RunsInOrder.{length-made}
-use Rattle.spec_simplex.specs.Tables.{way, table_of, bounds_of, IsWithinBounds}
+use Rattle.spec_simplex.specs.Tables.{table_of, bounds_of, IsWithinBounds}
 use Rattle.spec_runs.specs.Cold as cold
 use Rattle.spec_simplex.proofs.RunParts.{then_ok, refused_ok, get_or-made}
 use Rattle.spec_simplex.proofs.ListIndices.{by_lt}
@@ -117,21 +118,21 @@ module _ (limit : Option ℕ) (m : Model) (ls : List (Option ℚ × Option ℚ))
       within_where_basic r (w + r + r) F costs (bounds_of t) (table_of u) d.tableau.tableau ordered inside
 
   -- ---- the dual method
-  stuck_shows : (u : Tableau) (p : ℕ) (below : Bool) → IsReady r w F costs (bounds_of t) u →
-      IsStuck r w (bounds_of t) u p below → Shows m (certificate.Infeasible (row_multipliers u p below))
-  stuck_shows u p below d k = record {
-    for = length-made u.rows (λ i. directed (way below) (entry_at u p (u.cols + i))) ∙ d.based.tableau.rows;
+  stuck_shows : (u : Tableau) (p : ℕ) (way : Way) → IsReady r w F costs (bounds_of t) u →
+      IsStuck r w (bounds_of t) u p way → Shows m (certificate.Infeasible (row_multipliers u p way))
+  stuck_shows u p way d k = record {
+    for = length-made u.rows (λ i. directed way (entry_at u p (u.cols + i))) ∙ d.based.tableau.rows;
     checks =
-        refuted_checks m ls h (bounds_of t) bounded fixed (row_of (table_of u) (way below) p)
+        refuted_checks m ls h (bounds_of t) bounded fixed (row_of (table_of u) way p)
         (stops r (w + r + r) F costs (bounds_of t) (table_of u) d.based.tableau.tableau
-        (way below) p k.bound k.leaves k.none)
+        way p k.bound k.leaves k.none)
         (row_refutes r (w + r + r) F costs (bounds_of t)
-        (table_of u) d.based.tableau.tableau (way below) p k.bound k.leaves k.none)
-        (row_multipliers u p below)
-        (λ i l. get_or-made u.rows (λ i. directed (way below) (entry_at u p (u.cols + i))) 0ℚ i
+        (table_of u) d.based.tableau.tableau way p k.bound k.leaves k.none)
+        (row_multipliers u p way)
+        (λ i l. get_or-made u.rows (λ i. directed way (entry_at u p (u.cols + i))) 0ℚ i
         (omega (arith, l, d.based.tableau.rows))
-        ∙ ap (λ n. directed (way below) (entry_at u p (n + i))) d.based.tableau.cols
-        ∙ directed_is (way below) (entry_at u p (w + i)));
+        ∙ ap (λ n. directed way (entry_at u p (n + i))) d.based.tableau.cols
+        ∙ directed_is way (entry_at u p (w + i)));
   }
 
   dual_shows : (u : Tableau) (end : DualEnd) → IsReady r w F costs (bounds_of t) u →
@@ -140,7 +141,7 @@ module _ (limit : Option ℕ) (m : Model) (ls : List (Option ℚ × Option ℚ))
       primal_shows m ls h (λ _. 1ℚ) (bounds_of t) bounded fixed limit
       (record { end = primal.Optimal; tableau = u; used = 0 }) d.based.tableau (all_within u d.based inside)
       (none_eligible (w + r + r) (bounds_of t) (table_of u) d.feasible)
-  dual_shows u (Infeasible p below) d k = stuck_shows u p below d k
+  dual_shows u (Infeasible p way) d k = stuck_shows u p way d k
 
   -- ---- the ends
   abbrev end_tableau : WarmEnd → Tableau
@@ -226,7 +227,7 @@ module _ (limit : Option ℕ) (m : Model) (ls : List (Option ℚ × Option ℚ))
     where
       by : (end : DualEnd) → dual_basis e.tableau end ≡ Some left → IsBasisOf (formed m ls) left
       by Optimal q = fits_at e.tableau d.based left q
-      by (Infeasible p below) q = let z : None ≡ Some left = q in cc
+      by (Infeasible p way) q = let z : None ≡ Some left = q in cc
 
 module _ (limit : Option ℕ) (m : Model) (ls : List (Option ℚ × Option ℚ)) (h : Limited m ls)
     (budget : ℕ) (basis : List Status) (e : WarmEnd) (fits : IsBasisOf (formed m ls) basis)

@@ -1,22 +1,22 @@
 -- What holds of the tableau of a basis and of those that the dual method makes of it,
 -- and what a choice of that method means.
-use Rattle.std.specs.Prelude.{◌≡◌, ◌≢◌, ℕ, List, ◌+◌, ◌<◌, ◌≤◌, Some, Bool}
+use Rattle.std.specs.Prelude.{◌≡◌, ◌≢◌, ℕ, List, ◌+◌, ◌<◌, ◌≤◌, Some}
 use Rattle.spec_exact.specs.Fraction.{ℚ, 0ℚ, 1ℚ, ◌*ℚ◌}
 use Rattle.spec_exact.specs.Sums.{sum_below}
 use Rattle.spec_pivot.specs.declared.status.Status.{Status}
 use Rattle.spec_pivot.specs.declared.status.Status.TheVariants.{Basic}
+use Rattle.spec_pivot.specs.declared.status.Way.{Way}
 use Rattle.spec_pivot.specs.Tableau.{Matrix}
 use Rattle.spec_pivot.specs.Simplex.{Bounds, IsInside}
 use Rattle.spec_simplex.specs.Form.{Form, form_lower, form_upper}
 use Rattle.spec_simplex.specs.Start.{cost_at}
 use Rattle.spec_simplex.specs.Tableau.{Tableau, value_at, status_at, lower_at, upper_at}
-use Rattle.spec_simplex.specs.Tables.{way, table_of, bounds_of, IsTableauOf}
+use Rattle.spec_simplex.specs.Tables.{table_of, bounds_of, IsTableauOf}
 use Rattle.spec_simplex.specs.Begins.{form_rows}
-use Rattle.spec_pivot.specs.Dual.{IsDualFeasible, Leaves, IsCandidate, IsCheapest}
+use Rattle.spec_pivot.specs.Dual.{IsDualFeasible, bound_behind, Leaves, IsCandidate, IsCheapest}
 use Rattle.spec_simplex.specs.declared.ends.DualEnd.TheVariants.{Optimal, Infeasible}
 use Rattle.spec_simplex.specs.declared.ends.DualChoice.{DualChoice}
 use Rattle.spec_simplex.specs.declared.ends.DualChoice.TheVariants.{End, Pivot}
-use Rattle.spec_simplex.specs.Dual.{passed_bound}
 use Rattle.spec_simplex.specs.Eliminate.{basis_at}
 
 -- a tableau of these rows, costs and bounds in which artificials are fixed at 0; its basic values may be outside their
@@ -48,21 +48,21 @@ pub record IsDependent (f : Form) (basis : List Status) (j : ℕ) (x : ℕ → �
   pub others : (k : ℕ) → k ≢ j → ¬ ((k < j) × (basis_at basis k ≡ Basic)) → x k ≡ 0ℚ
   pub solves : (i : ℕ) → i < f.rows → sum_below (f.cols + f.rows + f.rows) (λ k. equations f i k *ℚ x k) ≡ 0ℚ
 
--- the column at position p is past its bound, and no column can bring it back
-pub record IsStuck (m n : ℕ) (b : Bounds) (t : Tableau) (p : ℕ) (below : Bool) : Type 0 where
+-- the column at position p is past its bound and has to go this way, and no column can bring it back
+pub record IsStuck (m n : ℕ) (b : Bounds) (t : Tableau) (p : ℕ) (way : Way) : Type 0 where
   pub bound : ℚ
-  pub leaves : Leaves m b (table_of t) (way below) p bound
-  pub none : (k : ℕ) → k < n + m + m → ¬ (IsCandidate b (table_of t) (way below) p k)
+  pub leaves : Leaves m b (table_of t) way p bound
+  pub none : (k : ℕ) → k < n + m + m → ¬ (IsCandidate b (table_of t) way p k)
 
 -- the column at position p is past its bound, and of those that can bring it back column j has the least ratio
-pub record IsDualStep (m n : ℕ) (b : Bounds) (t : Tableau) (p j : ℕ) (below : Bool) : Type 0 where
+pub record IsDualStep (m n : ℕ) (b : Bounds) (t : Tableau) (p j : ℕ) (way : Way) : Type 0 where
   pub bound : ℚ
-  pub leaves : Leaves m b (table_of t) (way below) p bound
-  pub cheapest : IsCheapest (n + m + m) b (table_of t) (way below) p j
+  pub leaves : Leaves m b (table_of t) way p bound
+  pub cheapest : IsCheapest (n + m + m) b (table_of t) way p j
 
 -- no basic column is outside its bounds; or one is, and stays there, or comes back by a pivot
 abbrev pub IsDualMeant : ℕ → ℕ → Bounds → Tableau → DualChoice → Type 0
 IsDualMeant m n b t (End Optimal) =
     (k : ℕ) → k < n + m + m → status_at t k ≡ Basic → IsInside (b.lower k) (b.upper k) (value_at t k)
-IsDualMeant m n b t (End (Infeasible p below)) = IsStuck m n b t p below
-IsDualMeant m n b t (Pivot p j to) = (below : Bool) × IsDualStep m n b t p j below × (to ≡ passed_bound below)
+IsDualMeant m n b t (End (Infeasible p way)) = IsStuck m n b t p way
+IsDualMeant m n b t (Pivot p j to) = (way : Way) × IsDualStep m n b t p j way × (to ≡ bound_behind way)

@@ -1,6 +1,6 @@
 -- The warm start of a model from a basis, at a limit and within a budget: the form, the tableau of the basis, the
 -- method that suits it, and the check of what that ended with.
-use Rattle.std.specs.Prelude.{◌≡◌, ℕ, ◌+◌, List, Option, None, Result, Ok, Err, Bool}
+use Rattle.std.specs.Prelude.{◌≡◌, ℕ, ◌+◌, List, Option, None, Result, Ok, Err}
 use Rattle.spec_exact.specs.Fraction.{ℚ}
 use Rattle.spec_model.specs.Model.{Model}
 use Rattle.spec_check.specs.declared.certificate.Certificate.{Certificate}
@@ -10,6 +10,7 @@ use Rattle.spec_check.specs.declared.certificate.CheckStop.{CheckStop as Refusal
 use Rattle.spec_check.specs.declared.certificate.CheckStop.TheVariants as check
 use Rattle.spec_check.specs.Run.{check_run}
 use Rattle.spec_pivot.specs.declared.status.Status.{Status}
+use Rattle.spec_pivot.specs.declared.status.Way.{Way}
 use Rattle.spec_simplex.specs.declared.ends.FormFault.{FormFault}
 use Rattle.spec_simplex.specs.declared.ends.FormFault.TheVariants as fault
 use Rattle.spec_simplex.specs.declared.ends.PrimalEnd.TheVariants as primal
@@ -18,7 +19,6 @@ use Rattle.spec_simplex.specs.declared.ends.RunStop.TheVariants as stop
 use Rattle.spec_exact.specs.Run.{◌>>=◌, refused_as, made}
 use Rattle.spec_simplex.specs.Form.{Form, form_of}
 use Rattle.spec_simplex.specs.Step.{directed}
-use Rattle.spec_simplex.specs.Tables.{way}
 use Rattle.spec_simplex.specs.Tableau.{Tableau, entry_at}
 use Rattle.spec_simplex.specs.Phases.{PrimalEnded, run_from}
 use Rattle.spec_runs.specs.Cold.{point, multipliers, certificate_at, basis_at}
@@ -76,13 +76,13 @@ warm_run limit budget f basis =
 -- ---- certificates of ends
 
 -- the entries of a position's row in the rows' logicals, or their negatives
-abbrev pub row_multipliers : Tableau → ℕ → Bool → List ℚ
-row_multipliers t p below = made t.rows (λ i. directed (way below) (entry_at t p (t.cols + i)))
+abbrev pub row_multipliers : Tableau → ℕ → Way → List ℚ
+row_multipliers t p way = made t.rows (λ i. directed way (entry_at t p (t.cols + i)))
 
 -- the certificate of what the dual method ends with at a tableau
 abbrev pub dual_certificate : Tableau → DualEnd → Certificate (List ℚ)
 dual_certificate t Optimal = certificate.Optimal (point t) (multipliers t)
-dual_certificate t (Infeasible p below) = certificate.Infeasible (row_multipliers t p below)
+dual_certificate t (Infeasible p way) = certificate.Infeasible (row_multipliers t p way)
 
 -- the certificate of what the run from a basis ends with
 abbrev pub warm_certificate : WarmEnd → Certificate (List ℚ)
@@ -94,7 +94,7 @@ warm_certificate (ByDual e) = dual_certificate e.tableau e.end
 -- the basis that the dual method leaves, if that is of an optimum
 abbrev pub dual_basis : Tableau → DualEnd → Option (List Status)
 dual_basis t Optimal = basis_at t primal.Optimal
-dual_basis t (Infeasible p below) = None
+dual_basis t (Infeasible p way) = None
 
 -- the basis that the run from a basis leaves, if that is of an optimum
 abbrev pub warm_basis : WarmEnd → Option (List Status)

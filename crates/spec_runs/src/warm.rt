@@ -16,7 +16,7 @@
 //! The elimination, the fit and the steps are those of `spec_simplex`, the dual steps on functions of an index those of
 //! `spec_pivot`, and the certificates and their checker those of `spec_check`.
 
-ghost use Rattle.std.specs.Prelude.{◌≡◌, ◌≢◌, ◌⊎◌, ◌+◌, ◌≤◌, ℕ, List, length, Option, Some, None, Ok, Err, Bool};
+ghost use Rattle.std.specs.Prelude.{◌≡◌, ◌≢◌, ◌⊎◌, ◌+◌, ◌≤◌, ℕ, List, length, Option, Some, None, Ok, Err};
 ghost use Rattle.spec_exact.specs.Fraction.{ℚ};
 ghost use Rattle.spec_exact.specs.declared.past.Past.{Past};
 ghost use Rattle.spec_model.specs.Model.{Model};
@@ -25,6 +25,7 @@ ghost use Rattle.spec_check.specs.declared.certificate.Known.{Known};
 ghost use Rattle.spec_check.specs.Certificate.{Holds};
 ghost use Rattle.spec_check.specs.Run.{check_run};
 ghost use Rattle.spec_pivot.specs.declared.status.Status.{Status};
+ghost use Rattle.spec_pivot.specs.declared.status.Way.{Way};
 ghost use Rattle.spec_pivot.specs.Tableau.{Matrix};
 ghost use Rattle.spec_pivot.specs.Simplex.{Bounds};
 ghost use Rattle.spec_simplex.specs.Form.{Form, form_of};
@@ -33,8 +34,8 @@ ghost use Rattle.spec_simplex.specs.Phases.{PhasesEnd, phases_run};
 ghost use Rattle.spec_runs.specs.Accepted.{IsAccepted};
 ghost use Rattle.spec_runs.specs.Cold.{basis_of};
 ghost use Rattle.spec_simplex.specs.Begins.{IsProper};
-ghost use Rattle.spec_simplex.specs.Tables.{way, table_of, IsTableauOf, IsWithinBounds};
-ghost use Rattle.spec_pivot.specs.Dual.{IsOrdered, after_dual};
+ghost use Rattle.spec_simplex.specs.Tables.{table_of, IsTableauOf, IsWithinBounds};
+ghost use Rattle.spec_pivot.specs.Dual.{IsOrdered, after_dual, bound_behind};
 ghost use Rattle.spec_simplex.specs.declared.ends.DualChoice.{DualChoice};
 ghost use Rattle.spec_simplex.specs.declared.ends.Fit.TheVariants as fit;
 ghost use Rattle.spec_simplex.specs.declared.ends.StartStop.TheVariants as start;
@@ -43,7 +44,7 @@ ghost use Rattle.spec_simplex.specs.declared.ends.WarmStop.{WarmStop};
 ghost use Rattle.spec_simplex.specs.declared.ends.WarmStop.TheVariants as fall;
 ghost use Rattle.spec_simplex.specs.Eliminate.{IsBasisOf, start_from};
 ghost use Rattle.spec_simplex.specs.Fit.{fit_run};
-ghost use Rattle.spec_simplex.specs.Dual.{Reached, passed_bound, flips_run, dual_choice_run, dual_pivot_run};
+ghost use Rattle.spec_simplex.specs.Dual.{Reached, flips_run, dual_choice_run, dual_pivot_run};
 ghost use Rattle.spec_runs.specs.Based.{IsBased, IsReady, BeginsFrom, IsDependent, IsDualStep, IsDualMeant};
 ghost use Rattle.spec_runs.specs.Warm.{WarmEnd, warm_run, warm_certificate, warm_basis, warm, IsBasisFor};
 
@@ -80,13 +81,13 @@ pub fn dual_choices_mean_steps()
         (cost : ℕ → ℚ) (b : Bounds) (t : Tableau) (choice : DualChoice) →
         IsReady m n f cost b t → dual_choice_run limit t ≡ Ok choice → IsDualMeant m n b t choice }
     ensures table { (limit : Option ℕ) (m n : ℕ) (f : Matrix) (cost : ℕ → ℚ)
-        (b : Bounds) (t u : Tableau) (p j : ℕ) (below : Bool) →
-        IsReady m n f cost b t → (d : IsDualStep m n b t p j below) →
-        dual_pivot_run limit t p j (passed_bound below) ≡ Ok u →
-        table_of u ≡ after_dual m (table_of t) (way below) p j d.bound }
+        (b : Bounds) (t u : Tableau) (p j : ℕ) (way : Way) →
+        IsReady m n f cost b t → (d : IsDualStep m n b t p j way) →
+        dual_pivot_run limit t p j (bound_behind way) ≡ Ok u →
+        table_of u ≡ after_dual m (table_of t) way p j d.bound }
     ensures ready { (limit : Option ℕ) (m n : ℕ) (f : Matrix) (cost : ℕ → ℚ)
-        (b : Bounds) (t u : Tableau) (p j : ℕ) (below : Bool) →
-        IsReady m n f cost b t → IsDualStep m n b t p j below → dual_pivot_run limit t p j (passed_bound below) ≡ Ok u →
+        (b : Bounds) (t u : Tableau) (p j : ℕ) (way : Way) →
+        IsReady m n f cost b t → IsDualStep m n b t p j way → dual_pivot_run limit t p j (bound_behind way) ≡ Ok u →
         IsReady m n f cost b u }
 {}
 
