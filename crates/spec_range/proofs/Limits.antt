@@ -1,6 +1,6 @@
 -- A range at a limit beside the one without a limit.
 use Rattle.std.proofs.Common.{◌≡◌, ◌≢◌, ◌⊎◌, inl, inr, ⊎_elim, ℕ, Option, Some, None, Result, Ok, Err, Bool}
-use Rattle.std.proofs.Common.{◌+◌, not, ◌||◌, refl, sym, ap, ◌∙◌, List}
+use Rattle.std.proofs.Common.{◌+◌, not, ◌||◌, is_some, refl, sym, ap, ◌∙◌, List}
 use Rattle.spec_exact.specs.Fraction.{ℚ, neg_ℚ, 1ℚ, lt_ℚ, 0ℚ}
 use Rattle.spec_exact.specs.declared.past.Past.{Past}
 use Rattle.spec_exact.specs.Run.{Run, ◌>>=◌, refused_as}
@@ -13,7 +13,6 @@ use Rattle.spec_simplex.specs.declared.ends.StartStop.TheVariants as stop
 use Rattle.spec_simplex.specs.Form.{Form, form_of, least_cost}
 use Rattle.spec_simplex.specs.Tableau.{Tableau, all_columns, entry_at, value_at, reduced_at, status_at}
 use Rattle.spec_simplex.specs.Tableau.{lower_at, upper_at, is_basic, is_fixed}
-use Rattle.spec_simplex.specs.Fit.{is_there}
 use Rattle.spec_simplex.specs.Dual.{place_of}
 use Rattle.spec_simplex.specs.Eliminate.{start_from}
 use Rattle.spec_simplex.proofs.Refusals.{Agrees, as_it_is, agrees_then, agrees_if, agrees_steps, agrees_as}
@@ -124,7 +123,7 @@ module _ (limit : Option ℕ) where
   side_agrees m t i =
       also _ _ _ _ (agrees_if as_it_is (is_basic (status_at t (t.cols + i))) _ _ _ _
       (still_agrees (row m i).rhs (value_at t (t.cols + i)) (lower_at t (t.cols + i)) (upper_at t (t.cols + i)))
-      (agrees_if as_it_is (is_there (lower_at t (t.cols + i)) || is_there (upper_at t (t.cols + i))) _ _ _ _
+      (agrees_if as_it_is (is_some (lower_at t (t.cols + i)) || is_some (upper_at t (t.cols + i))) _ _ _ _
       (nonbasic_agrees (row m i).rhs t (t.cols + i)) (ok _))) (λ e. ok _)
 
   -- ---- the whole

@@ -1,6 +1,6 @@
 -- The range of a right side has exactly the numbers of the span, and says the optimal values in it.
 use Rattle.std.proofs.Common.{◌≡◌, ◌≢◌, ◌↔◌, ℕ, ◌+◌, ◌<◌, List, Option, Some, None, Ok, Bool, true, false}
-use Rattle.std.proofs.Common.{cond, ◌||◌, refl, sym, ap, ap₂, ◌∙◌, subst, subst₂, arith}
+use Rattle.std.proofs.Common.{cond, ◌||◌, is_some, refl, sym, ap, ap₂, ◌∙◌, subst, subst₂, arith}
 use Rattle.spec_exact.specs.Fraction.{ℚ, ◌+ℚ◌, ◌-ℚ◌, ◌*ℚ◌, neg_ℚ, 0ℚ}
 use Rattle.spec_exact.specs.Sums.{sum_below}
 use Rattle.spec_exact.specs.Run.{◌>>=◌, refused_as}
@@ -28,7 +28,6 @@ use Rattle.spec_simplex.specs.Start.{cost_at}
 use Rattle.spec_simplex.specs.Tableau.{Tableau, entry_at, basic_at, value_at, reduced_at, status_at}
 use Rattle.spec_simplex.specs.Tableau.{lower_at, upper_at, is_basic}
 use Rattle.spec_simplex.specs.Eliminate.{IsBasisOf, start_from}
-use Rattle.spec_simplex.specs.Fit.{is_there}
 use Rattle.spec_simplex.specs.Dual.{place_of}
 use Rattle.spec_simplex.proofs.Statuses.{basic_if}
 use Rattle.spec_simplex.specs.Tables.{table_of}
@@ -76,19 +75,19 @@ sense_zero Min = refl
 sense_zero Max = neg-zero
 
 -- where neither bound tests as given, both are absent
-two_none : (l u : Option ℚ) → is_there l || is_there u ≡ false → (l ≡ None) × (u ≡ None)
+two_none : (l u : Option ℚ) → is_some l || is_some u ≡ false → (l ≡ None) × (u ≡ None)
 two_none None None e = (refl, refl)
 two_none None (Some u) e = let z : true ≡ false = e in cc
 two_none (Some l) u e = let z : true ≡ false = e in cc
 
 -- a column that is not basic and has a bound is at one, and goes along with it
-goes_along : (s : Status) (l u : Option ℚ) (v d : ℚ) → ¬ (s ≡ Basic) → is_there l || is_there u ≡ true →
+goes_along : (s : Status) (l u : Option ℚ) (v d : ℚ) → ¬ (s ≡ Basic) → is_some l || is_some u ≡ true →
     Stands s l u v → Stands s (shifted d l) (shifted d u) (v +ℚ d)
 goes_along Basic l u v d free e s = absurd (free refl)
 goes_along AtLower l u v d free e s = ap (shifted d) s
 goes_along AtUpper l u v d free e s = ap (shifted d) s
 goes_along AtZero l u v d free e s =
-    let z : false ≡ true = ap₂ (λ l u. is_there l || is_there u) (sym s.0) (sym s.1) ∙ e in cc
+    let z : false ≡ true = ap₂ (λ l u. is_some l || is_some u) (sym s.0) (sym s.1) ∙ e in cc
 
 -- a column that is not basic and has no bound stands at 0 and stays there as bounds move
 stays : (s : Status) (l u : Option ℚ) (v d : ℚ) → ¬ (s ≡ Basic) → l ≡ None → u ≡ None → Stands s l u v →
@@ -319,14 +318,14 @@ module _ (m : Model) (ls : List (Option ℚ × Option ℚ)) (h : Limited m ls) (
             (good_optimal m (with_rhs m i x) ls basis fits h t ok _ _ _ (moved x) (good_in x q));
       }
 
-    along : is_there (lower_at t s) || is_there (upper_at t s) ≡ true → (limit : Option ℕ) (e : Ends ℚ) →
+    along : is_some (lower_at t s) || is_some (upper_at t s) ≡ true → (limit : Option ℕ) (e : Ends ℚ) →
         nonbasic_ends limit c t s ≡ Ok e →
         IsRange (with_rhs m i) basis (row m i).rhs v (record { ends = e; slope = slope })
     along there limit e q =
         carried_range (λ x. x -ℚ c)
         (λ x. goes_along (status_at t s) ((form_bounds (formed m ls)).lower s) ((form_bounds (formed m ls)).upper s)
         (value_at t s) (x -ℚ c) free
-        (ap₂ (λ l u. is_there l || is_there u) (sym (low None m ls h basis fits t ok s))
+        (ap₂ (λ l u. is_some l || is_some u) (sym (low None m ls h basis fits t ok s))
         (sym (high None m ls h basis fits t ok s)) ∙ there)
         ((g m ls h basis fits t ok i i_in).stands s s_in))
         (λ x. refl) e
@@ -334,7 +333,7 @@ module _ (m : Model) (ls : List (Option ℚ × Option ℚ)) (h : Limited m ls) (
         (λ k k_in b. subst₂ (λ l u. IsInside l u (value_at t k)) (sym (low None m ls h basis fits t ok k))
         (sym (high None m ls h basis fits t ok k)) (kept_good.inside k k_in b)) e q)
 
-    alone : is_there (lower_at t s) || is_there (upper_at t s) ≡ false →
+    alone : is_some (lower_at t s) || is_some (upper_at t s) ≡ false →
         IsRange (with_rhs m i) basis (row m i).rhs v (record { ends = no_ends; slope = slope })
     alone none =
         let o = two_none (lower_at t s) (upper_at t s) none in
@@ -371,9 +370,9 @@ module _ (m : Model) (ls : List (Option ℚ × Option ℚ)) (h : Limited m ls) (
       λ e. Ok (record { ends = e; slope = least_cost m.sense (reduced_at t k) })) ≡ Ok rg) z q in
       let o = then_ok (side_ends limit c t s) (λ e. Ok (record { ends = e; slope = slope })) rg q' in
       given (IsRange (with_rhs m i) basis (row m i).rhs v) (record { ends = o.0; slope = slope }) rg o.2
-      (by (is_basic (status_at t s)) (is_there (lower_at t s) || is_there (upper_at t s)) refl refl o.0 o.1)
+      (by (is_basic (status_at t s)) (is_some (lower_at t s) || is_some (upper_at t s)) refl refl o.0 o.1)
     where
-      by : (x y : Bool) → is_basic (status_at t s) ≡ x → is_there (lower_at t s) || is_there (upper_at t s) ≡ y →
+      by : (x y : Bool) → is_basic (status_at t s) ≡ x → is_some (lower_at t s) || is_some (upper_at t s) ≡ y →
           (e : Ends ℚ) → cond x (still_ends limit c (value_at t s) (lower_at t s) (upper_at t s))
           (cond y (nonbasic_ends limit c t s) (Ok no_ends)) ≡ Ok e →
           IsRange (with_rhs m i) basis (row m i).rhs v (record { ends = e; slope = slope })

@@ -3,7 +3,7 @@
 -- Each column or position lets the number go as far as some end. Of the lower ends the greatest is kept, and of the
 -- upper ones the least.
 use Rattle.std.specs.Prelude.{ℕ, ◌+◌, List, Option, Some, None, Result, Ok, Bool, not, ◌||◌}
-use Rattle.std.specs.Prelude.{◌&&◌, if◌then◌else◌}
+use Rattle.std.specs.Prelude.{◌&&◌, is_some, if◌then◌else◌}
 use Rattle.std.specs.declared.cmp.Ordering.{Ordering}
 use Rattle.std.specs.declared.cmp.Ordering.TheVariants.{Less, Equal, Greater}
 use Rattle.spec_exact.specs.Fraction.{ℚ, 0ℚ, 1ℚ, neg_ℚ, eq_ℚ, lt_ℚ}
@@ -18,7 +18,6 @@ use Rattle.spec_simplex.specs.Form.{Form, least_cost}
 use Rattle.spec_simplex.specs.Tableau.{Tableau, all_columns, entry_at, value_at, reduced_at, status_at}
 use Rattle.spec_simplex.specs.Tableau.{lower_at, upper_at, is_basic, is_fixed}
 use Rattle.spec_simplex.specs.Eliminate.{start_from}
-use Rattle.spec_simplex.specs.Fit.{is_there}
 use Rattle.spec_simplex.specs.Dual.{place_of}
 use Rattle.spec_range.specs.declared.range.Ends.{Ends}
 use Rattle.spec_range.specs.declared.range.Range.{Range}
@@ -163,7 +162,7 @@ nonbasic_ends limit b t s = steps (all_columns t) (carried_if limit b t s) no_en
 abbrev pub side_ends : Option ℕ → ℚ → Tableau → ℕ → Run (Ends ℚ)
 side_ends limit b t s =
     if is_basic (status_at t s) then still_ends limit b (value_at t s) (lower_at t s) (upper_at t s)
-    else (if is_there (lower_at t s) || is_there (upper_at t s) then nonbasic_ends limit b t s else Ok no_ends)
+    else (if is_some (lower_at t s) || is_some (upper_at t s) then nonbasic_ends limit b t s else Ok no_ends)
 
 -- The range of row i's right side: its ends, and the slope, by which the optimal value grows for each unit of the right
 -- side. The slope is the reduced cost of the row's logical column, negated where the sense is to maximize.
