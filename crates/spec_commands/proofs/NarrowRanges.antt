@@ -5,7 +5,7 @@
 -- `side_range_narrow`: the range of a right side has numbers of at most 127 bits in the same case.
 use Rattle.std.proofs.Common.{◌≡◌, ◌+◌, ◌<◌, ℕ, Bool, true, false, not, cond, Option, Some, None, Ok, List, set}
 use Rattle.std.proofs.Common.{replicate, subst}
-use Rattle.std.specs.Prelude.{All, ◌||◌}
+use Rattle.std.specs.Prelude.{All, ◌||◌, is_some}
 use Rattle.std.specs.declared.cmp.Ordering.{Ordering}
 use Rattle.std.specs.declared.cmp.Ordering.TheVariants.{Less, Equal, Greater}
 use Rattle.std.proofs.lemmas.List.Elements.{All-append, All-replicate, All-set}
@@ -26,7 +26,6 @@ use Rattle.spec_simplex.specs.Tableau.{lower_at, upper_at, is_basic, is_fixed}
 use Rattle.spec_simplex.specs.Start.{priced_run, with_reduced}
 use Rattle.spec_simplex.specs.Eliminate.{Elimination, basis_lower, basis_upper, basis_value, with_basis}
 use Rattle.spec_simplex.specs.Eliminate.{position_run, valued_run, with_values, filled_run, eliminate_run, start_from}
-use Rattle.spec_simplex.specs.Fit.{is_there}
 use Rattle.spec_simplex.specs.Dual.{place_of}
 use Rattle.spec_simplex.proofs.RunParts.{then_ok, refused_ok, steps_ok}
 use Rattle.spec_solve.proofs.NarrowRuns.{sum_narrow, difference_narrow, less_narrow}
@@ -231,7 +230,7 @@ module _ (b : ℚ) (t : Tableau) (s : ℕ) where
       by false q = same_narrow e x q n
 
   side_ends_narrow : (x : Ends ℚ) → side_ends limit b t s ≡ Ok x → NarrowEnds x
-  side_ends_narrow x h = by (is_basic (status_at t s)) (is_there (lower_at t s) || is_there (upper_at t s)) h
+  side_ends_narrow x h = by (is_basic (status_at t s)) (is_some (lower_at t s) || is_some (upper_at t s)) h
     where
       by : (c d : Bool) →
           cond c (still_ends limit b (value_at t s) (lower_at t s) (upper_at t s))
