@@ -8,7 +8,7 @@
 //! | `Tableau::pivot`, `flip`, `phase_two` | the changes, each exact or refused as `spec_simplex` has it | src/pivot, src/moves, src/price |
 //! | `Pivot` | the column that enters in a pivot, and the position at which it becomes basic | src/pivot |
 //! | `Tableau::wants_phase_one`, `is_stuck` | whether an artificial is basic, and whether a basic one is not 0 | src/phases |
-//! | `or_zero`, `stand`, `directed`, `flip_way`, `other_bound`, `way_back`, `is_place` | the values of nonbasic columns, and which way a column goes in a flip | src/steps, src/moves |
+//! | `or_zero`, `stand`, `directed`, `flip_way`, `other_bound`, `is_place` | the values of nonbasic columns, and which way a column goes in a flip | src/steps, src/moves |
 //! | `is_fixed` | whether a column has equal bounds | src/steps |
 //! | `is_zero` | whether a number is 0, as the definitions test it | src/solve |
 //! | `PrimalEnd`, `RunStop` | how a run of steps ends, and why it does not | src/ends |
@@ -37,7 +37,7 @@ mod twins;
 
 pub use basis::start_from;
 pub use ends::{ColdStop, PrimalEnd, RunStop};
-pub use moves::{directed, flip_way, is_place, other_bound, way_back};
+pub use moves::{directed, flip_way, is_place, other_bound};
 pub use pivot::Pivot;
 pub use solve::is_zero;
 pub use start::start_cold;

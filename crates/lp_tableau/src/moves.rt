@@ -5,7 +5,6 @@ ghost use Rattle.spec_simplex.specs.Tableau.{all_columns};
 ghost use Rattle.spec_simplex.specs.Step.{CanFlip, directed as directed_by, other_bound as other_bound_of};
 ghost use Rattle.spec_simplex.specs.Step.{is_place as is_place_of, moved_at};
 ghost use Rattle.spec_simplex.specs.Step.{moved_run, flip_way as flip_way_of, flipped, flip_run};
-ghost use Rattle.spec_simplex.specs.Tables.{way as way_of};
 ghost use Rattle.lp_tableau.specs.Answer.{GivesRun};
 
 use crate::steps::{or_zero, stand};
@@ -33,13 +32,6 @@ pub fn other_bound(way: Way) -> Status
         Way::Up => Status::AtUpper,
         Way::Down => Status::AtLower,
     }
-}
-
-/// The way in which a value that is below its lower bound comes back, or else one that is above its upper bound.
-pub fn way_back(below: bool) -> Way
-    ensures { result ≡ way_of below }
-{
-    if below { Way::Up } else { Way::Down }
 }
 
 /// The way in which a flip moves a column of this status.
