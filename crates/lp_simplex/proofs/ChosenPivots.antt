@@ -1,23 +1,24 @@
 -- A pivot that is chosen may be made.
-use Rattle.std.proofs.Common.{◌≡◌, ℕ, ◌+◌, ◌<◌, Option, Some, Ok, Bool, true, false, sym, subst}
+use Rattle.std.proofs.Common.{◌≡◌, ℕ, ◌+◌, ◌<◌, Option, Some, Ok, sym, subst}
 use Rattle.spec_exact.specs.Fraction.{ℚ}
 use Rattle.spec_simplex.specs.Step.{NamesBound}
 use Rattle.spec_simplex.specs.Tableau.{Tableau, basic_at, lower_at, upper_at}
-use Rattle.spec_simplex.specs.Tables.{way}
-use Rattle.spec_pivot.specs.Dual.{IsPast}
+use Rattle.spec_pivot.specs.declared.status.Way.{Way}
+use Rattle.spec_pivot.specs.declared.status.Way.TheVariants.{Up, Down}
+use Rattle.spec_pivot.specs.Dual.{IsPast, bound_behind}
 use Rattle.spec_simplex.specs.declared.ends.Leaving.{Leaving}
 use Rattle.spec_simplex.specs.declared.ends.Cheapest.{Cheapest}
-use Rattle.spec_simplex.specs.Dual.{place_of, passed_bound, cheapest_run}
+use Rattle.spec_simplex.specs.Dual.{place_of, cheapest_run}
 use Rattle.spec_simplex.specs.Fit.{leaving_run}
 use Rattle.spec_runs.proofs.DualRatioTest.{place_is}
 use Rattle.spec_runs.proofs.Fits.{IsLeaving, leaving_is}
 use Rattle.lp_simplex.specs.Starts.{HasPlace, IsSeated, CanEnter}
 use Rattle.lp_simplex.proofs.DualEntering.{MayEnter, best_enters}
 
-passed : (below : Bool) (lower upper : Option ℚ) (v c : ℚ) → IsPast (way below) lower upper v c →
-    NamesBound (passed_bound below) lower upper c
-passed true lower upper v c h = h.0
-passed false lower upper v c h = h.0
+passed : (way : Way) (lower upper : Option ℚ) (v c : ℚ) → IsPast way lower upper v c →
+    NamesBound (bound_behind way) lower upper c
+passed Up lower upper v c h = h.0
+passed Down lower upper v c h = h.0
 
 module _ (limit : Option ℕ) (t : Tableau) (s : IsSeated t) (x : Leaving) (h : leaving_run limit t ≡ Ok (Some x)) where
   out : IsLeaving t (t.cols + t.rows + t.rows) x
@@ -30,10 +31,10 @@ module _ (limit : Option ℕ) (t : Tableau) (s : IsSeated t) (x : Leaving) (h : 
   pub place_inside : place_of t x.col < t.rows
   place_inside = there.0
 
-  pub can_enter : (best : Cheapest ℚ) → cheapest_run limit t (place_of t x.col) x.below ≡ Ok (Some best) →
-      CanEnter t (place_of t x.col) best.col (passed_bound x.below)
+  pub can_enter : (best : Cheapest ℚ) → cheapest_run limit t (place_of t x.col) x.direction ≡ Ok (Some best) →
+      CanEnter t (place_of t x.col) best.col (bound_behind x.direction)
   can_enter best g =
-      let m : MayEnter t (place_of t x.col) x.below best.col = best_enters limit t (place_of t x.col) x.below best g in
+      let m : MayEnter t (place_of t x.col) x.direction best.col = best_enters limit t (place_of t x.col) x.direction best g in
       record {
         place = there.0;
         column = m.inside;
@@ -41,7 +42,7 @@ module _ (limit : Option ℕ) (t : Tableau) (s : IsSeated t) (x : Leaving) (h : 
         entry = m.entry;
         bound = (
           out.bound,
-          subst (λ k. NamesBound (passed_bound x.below) (lower_at t k) (upper_at t k) out.bound)
-              (sym there.1) (passed x.below _ _ _ out.bound out.past),
+          subst (λ k. NamesBound (bound_behind x.direction) (lower_at t k) (upper_at t k) out.bound)
+              (sym there.1) (passed x.direction _ _ _ out.bound out.past),
         );
       }

@@ -3,18 +3,18 @@ use Rattle.std.proofs.Common.{◌≡◌, ◌≢◌, ℕ, suc, ◌<◌, Option, S
 use Rattle.std.proofs.Common.{Bool, true, false, cond, refl, sym, ap, ◌∙◌, subst}
 use Rattle.std.specs.declared.cmp.Ordering.{Ordering}
 use Rattle.std.specs.declared.cmp.Ordering.TheVariants.{Less, Equal, Greater}
+use Rattle.std.specs.Ordering.{is_lt}
 use Rattle.spec_exact.specs.Fraction.{ℚ, 0ℚ, whole, lt_ℚ, abs_ℚ}
 use Rattle.spec_pivot.specs.declared.status.Status.{Status}
 use Rattle.spec_pivot.specs.declared.status.Status.TheVariants.{Basic, AtLower, AtUpper, AtZero}
 use Rattle.spec_pivot.specs.declared.status.Way.{Way}
 use Rattle.spec_exact.specs.Run.{quotient_run, order_run}
 use Rattle.spec_simplex.specs.Step.{directed, way_by}
-use Rattle.spec_simplex.specs.Tables.{way}
 use Rattle.spec_simplex.specs.Tableau.{Tableau, all_columns, entry_at, reduced_at}
 use Rattle.spec_simplex.specs.Tableau.{status_at, lower_at, upper_at, is_fixed}
 use Rattle.spec_simplex.proofs.RunParts.{then_ok, steps_ok}
 use Rattle.spec_simplex.specs.declared.ends.Cheapest.{Cheapest}
-use Rattle.spec_simplex.specs.Dual.{dual_way_at, cheaper_by, cheaper_run, cheapest_by, cheapest_with, cheapest_run}
+use Rattle.spec_simplex.specs.Dual.{dual_way_at, cheaper_run, cheapest_by, cheapest_with, cheapest_run}
 use Rattle.lp_simplex.proofs.Entering.{not_basic}
 use Rattle.lp_simplex.proofs.Ratios.{directed_zero, abs_not_zero}
 
@@ -27,17 +27,17 @@ no_way AtUpper = refl
 no_way AtZero = refl
 
 -- a column that goes some way in the dual ratio test has an entry other than 0
-has_entry : (b below : Bool) (s : Status) (a : ℚ) (w : Way) → cond b None (way_by s (directed (way below) a)) ≡ Some w →
+has_entry : (b : Bool) (way : Way) (s : Status) (a : ℚ) (w : Way) → cond b None (way_by s (directed way a)) ≡ Some w →
     a ≢ 0ℚ
-has_entry true below s a w h e = let z : None ≡ Some w = h in cc
-has_entry false below s a w h e =
-    let z : None ≡ Some w = sym (no_way s) ∙ ap (way_by s) (sym (directed_zero (way below) a e)) ∙ h in cc
+has_entry true way s a w h e = let z : None ≡ Some w = h in cc
+has_entry false way s a w h e =
+    let z : None ≡ Some w = sym (no_way s) ∙ ap (way_by s) (sym (directed_zero way a e)) ∙ h in cc
 
-module _ (t : Tableau) (p : ℕ) (below : Bool) where
-  pub entry_there : (k : ℕ) (w : Way) → dual_way_at t p below k ≡ Some w → entry_at t p k ≢ 0ℚ
-  entry_there k w h = has_entry (is_fixed (lower_at t k) (upper_at t k)) below (status_at t k) (entry_at t p k) w h
+module _ (t : Tableau) (p : ℕ) (way : Way) where
+  pub entry_there : (k : ℕ) (w : Way) → dual_way_at t p way k ≡ Some w → entry_at t p k ≢ 0ℚ
+  entry_there k w h = has_entry (is_fixed (lower_at t k) (upper_at t k)) way (status_at t k) (entry_at t p k) w h
 
-  pub divides : (k : ℕ) (w : Way) → dual_way_at t p below k ≡ Some w → abs_ℚ (entry_at t p k) ≢ 0ℚ
+  pub divides : (k : ℕ) (w : Way) → dual_way_at t p way k ≡ Some w → abs_ℚ (entry_at t p k) ≢ 0ℚ
   divides k w h = abs_not_zero (entry_at t p k) (entry_there k w h)
 
   -- column k may enter
@@ -50,27 +50,27 @@ module _ (t : Tableau) (p : ℕ) (below : Bool) where
   BestEnters n best = IfSome best (λ x. MayEnter x.col)
 
   one_of : (new best : Cheapest ℚ) (o : Ordering) → MayEnter new.col → MayEnter best.col →
-      MayEnter (cheaper_by new best o).col
+      MayEnter (cond (is_lt o) new best).col
   one_of new best Less p q = p
   one_of new best Equal p q = q
   one_of new best Greater p q = q
 
-module _ (limit : Option ℕ) (t : Tableau) (p : ℕ) (below : Bool) where
-  cheaper_enters : (new : Cheapest ℚ) (best next : Option (Cheapest ℚ)) → MayEnter t p below new.col →
-      BestEnters t p below 0 best → cheaper_run limit new best ≡ Ok next → BestEnters t p below 0 next
-  cheaper_enters new None next m was h = let z : Some new ≡ next = cc in subst (BestEnters t p below 0) z m
+module _ (limit : Option ℕ) (t : Tableau) (p : ℕ) (way : Way) where
+  cheaper_enters : (new : Cheapest ℚ) (best next : Option (Cheapest ℚ)) → MayEnter t p way new.col →
+      BestEnters t p way 0 best → cheaper_run limit new best ≡ Ok next → BestEnters t p way 0 next
+  cheaper_enters new None next m was h = let z : Some new ≡ next = cc in subst (BestEnters t p way 0) z m
   cheaper_enters new (Some x) next m was h =
-      let o = then_ok (order_run limit new.ratio x.ratio) (λ o. Ok (Some (cheaper_by new x o))) next h in
-      let z : Some (cheaper_by new x o.0) ≡ next = cc in
-      subst (BestEnters t p below 0) z (one_of t p below new x o.0 m was)
+      let o = then_ok (order_run limit new.ratio x.ratio) (λ o. Ok (Some (cond (is_lt o) new x))) next h in
+      let z : Some (cond (is_lt o.0) new x) ≡ next = cc in
+      subst (BestEnters t p way 0) z (one_of t p way new x o.0 m was)
 
-  step : (k : ℕ) (best next : Option (Cheapest ℚ)) → k < all_columns t → BestEnters t p below k best →
-      cheapest_with limit t p below k best ≡ Ok next → BestEnters t p below (suc k) next
-  step k best next l was h = by (dual_way_at t p below k) refl h
+  step : (k : ℕ) (best next : Option (Cheapest ℚ)) → k < all_columns t → BestEnters t p way k best →
+      cheapest_with limit t p way k best ≡ Ok next → BestEnters t p way (suc k) next
+  step k best next l was h = by (dual_way_at t p way k) refl h
     where
-      by : (o : Option Way) → dual_way_at t p below k ≡ o → cheapest_by limit t p k best o ≡ Ok next →
-          BestEnters t p below (suc k) next
-      by None e h = let z : best ≡ next = cc in subst (BestEnters t p below (suc k)) z was
+      by : (o : Option Way) → dual_way_at t p way k ≡ o → cheapest_by limit t p k best o ≡ Ok next →
+          BestEnters t p way (suc k) next
+      by None e h = let z : best ≡ next = cc in subst (BestEnters t p way (suc k)) z was
       by (Some w) e h =
           let o =
           then_ok (quotient_run limit (abs_ℚ (reduced_at t k)) (abs_ℚ (entry_at t p k)))
@@ -80,11 +80,11 @@ module _ (limit : Option ℕ) (t : Tableau) (p : ℕ) (below : Bool) where
             inside = l;
             nonbasic =
                 not_basic (is_fixed (lower_at t k) (upper_at t k))
-                (status_at t k) (directed (way below) (entry_at t p k)) w e;
-            entry = entry_there t p below k w e;
+                (status_at t k) (directed way (entry_at t p k)) w e;
+            entry = entry_there t p way k w e;
           })
           was o.2
 
-  pub best_enters : (x : Cheapest ℚ) → cheapest_run limit t p below ≡ Ok (Some x) → MayEnter t p below x.col
+  pub best_enters : (x : Cheapest ℚ) → cheapest_run limit t p way ≡ Ok (Some x) → MayEnter t p way x.col
   best_enters x h =
-      steps_ok (BestEnters t p below) (all_columns t) (cheapest_with limit t p below) None (Some x) h tt step
+      steps_ok (BestEnters t p way) (all_columns t) (cheapest_with limit t p way) None (Some x) h tt step

@@ -40,7 +40,7 @@ pub record CanEnter (t : Tableau) (p j : ℕ) (to : Status) : Type 0 where
 -- the position of a column that cannot come back is one of the tableau's
 abbrev pub IsPlace : Tableau → DualEnd → Type 0
 IsPlace t Optimal = Unit {0}
-IsPlace t (Infeasible p below) = p < t.rows
+IsPlace t (Infeasible p way) = p < t.rows
 
 -- what a choice asks for may be done
 abbrev pub CanTake : Tableau → DualChoice → Type 0

@@ -4,7 +4,7 @@
 //! |---|---|---|
 //! | `fit` | whether a tableau is primal or dual feasible | src/dual/needs |
 //! | `run` | flips that give each reduced cost its sign, and then dual steps up to an end | src/dual/steps |
-//! | `position_of`, `is_there` | the position of a basic column, and whether there is a bound, for ranging too | src/dual/choice, src/dual/needs |
+//! | `position_of` | the position of a basic column, for ranging too | src/dual/choice |
 //! | `Fit`, `DualEnd` | what they answer | `spec_simplex`, `spec_simplex` |
 //! | `fit_tableaus_can_run` | that a dual feasible tableau may be run | here |
 //!
@@ -29,7 +29,7 @@ ghost use Rattle.spec_simplex.specs.Fit.{fit_run};
 ghost use Rattle.lp_simplex.specs.Starts.{IsDualStart};
 
 pub use choice::position_of;
-pub use needs::{fit, is_there};
+pub use needs::fit;
 pub use spec_simplex::{DualEnd, Fit};
 pub use steps::run;
 

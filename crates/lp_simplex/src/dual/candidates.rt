@@ -7,32 +7,32 @@ ghost use Rattle.spec_simplex.specs.Dual as dual;
 
 use crate::primal::way;
 use lp_frac::{Frac, Past, abs, cmp, div};
-use lp_tableau::{Tableau, directed, is_fixed, way_back};
+use lp_tableau::{Tableau, directed, is_fixed};
 use spec_pivot::Way;
 use std::cmp::Ordering;
 
 // The least ratio so far.
 pub(crate) type Cheapest = spec_simplex::Cheapest<Frac>;
 
-// A position whose basic column is outside its bounds: below the lower one, or above the upper one.
+// A position whose basic column is outside its bounds, and the way in which this comes back.
 #[derive(Clone, Copy)]
 pub(crate) struct Outside {
     pub(crate) position: u32,
-    pub(crate) below: bool,
+    pub(crate) direction: Way,
 }
 
 // The way in which column `k` moves as it enters, if it may bring the column that is outside back to its bound.
 fn column_way(tab: &Tableau, out: Outside, k: u32) -> Option<Way>
     requires place { out.position < tab.now.rows }
     requires column { k < all_columns tab.now }
-    ensures { result ≡ dual.dual_way_at tab.now out.position out.below k }
+    ensures { result ≡ dual.dual_way_at tab.now out.position out.direction k }
 {
     if is_fixed(tab.lower(k), tab.upper(k)) {
         return None;
     }
     way(
         tab.status(k),
-        directed(way_back(out.below), tab.entry(out.position, k)),
+        directed(out.direction, tab.entry(out.position, k)),
     )
 }
 
@@ -58,7 +58,7 @@ fn cheapest_with(
 ) -> Result<Option<Cheapest>, Past>
     requires place { out.position < tab.now.rows }
     requires column { k < all_columns tab.now }
-    ensures { result ≡ dual.cheapest_with (Some number_limit) tab.now out.position out.below k best }
+    ensures { result ≡ dual.cheapest_with (Some number_limit) tab.now out.position out.direction k best }
 {
     match column_way(tab, out, k) {
         None => Ok(best),
@@ -72,7 +72,7 @@ fn cheapest_with(
 // The column with the least ratio, if any may enter.
 pub(crate) fn cheapest(tab: &Tableau, out: Outside) -> Result<Option<Cheapest>, Past>
     requires { out.position < tab.now.rows }
-    ensures { result ≡ dual.cheapest_run (Some number_limit) tab.now out.position out.below }
+    ensures { result ≡ dual.cheapest_run (Some number_limit) tab.now out.position out.direction }
 {
     let mut best = None;
     for k in 0..tab.width() {

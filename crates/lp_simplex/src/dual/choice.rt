@@ -1,6 +1,7 @@
 // Which pivot a dual step makes, or how the run ends.
 ghost use Rattle.std.specs.Prelude.{◌≡◌, IfOk, Some};
 ghost use Rattle.spec_exact.specs.Narrow.{number_limit};
+ghost use Rattle.spec_pivot.specs.Dual.{bound_behind as bound_behind_of};
 ghost use Rattle.spec_simplex.specs.Dual as dual;
 ghost use Rattle.lp_simplex.specs.Starts.{IsSeated, CanTake};
 
@@ -9,6 +10,7 @@ use crate::dual::leaving::leaving;
 use lp_form::Status;
 use lp_frac::Past;
 use lp_tableau::Tableau;
+use spec_pivot::Way;
 use spec_simplex::{DualChoice, DualEnd};
 
 /// The position of column `k`: the last at which it is basic, and 0 where there is none.
@@ -24,14 +26,13 @@ pub fn position_of(tab: &Tableau, k: u32) -> u32
     position
 }
 
-// The bound that the leaving column has passed.
-fn passed_bound(below: bool) -> Status
-    ensures { result ≡ dual.passed_bound below }
+// The bound that a column has passed which moves this way to come back.
+fn bound_behind(way: Way) -> Status
+    ensures { result ≡ bound_behind_of way }
 {
-    if below {
-        Status::AtLower
-    } else {
-        Status::AtUpper
+    match way {
+        Way::Up => Status::AtLower,
+        Way::Down => Status::AtUpper,
     }
 }
 
@@ -45,16 +46,22 @@ pub(crate) fn choice(tab: &Tableau) -> Result<DualChoice, Past>
     let Some(out) = leaving(tab)? else {
         return Ok(DualChoice::End(DualEnd::Optimal));
     };
-    let (position, below) = (position_of(tab, out.col), out.below);
-    match cheapest(tab, Outside { position, below })? {
+    let (position, direction) = (position_of(tab, out.col), out.direction);
+    match cheapest(
+        tab,
+        Outside {
+            position,
+            direction,
+        },
+    )? {
         None => Ok(DualChoice::End(DualEnd::Infeasible {
-            place: position,
-            below,
+            position,
+            direction,
         })),
         Some(best) => Ok(DualChoice::Pivot {
             place: position,
             col: best.col,
-            to: passed_bound(below),
+            to: bound_behind(direction),
         }),
     }
 }

@@ -7,6 +7,7 @@ ghost use Rattle.spec_simplex.specs.Fit as fit;
 use lp_form::is_basic;
 use lp_frac::{Frac, Past, cmp};
 use lp_tableau::Tableau;
+use spec_pivot::Way;
 use spec_simplex::Leaving;
 
 // Whether `v` is below the bound.
@@ -29,15 +30,15 @@ fn above_upper(bound: Option<Frac>, v: Frac) -> Result<bool, Past>
     }
 }
 
-// Whether `v` is below the lower bound or above the upper one, if it is either.
-fn outside(lower: Option<Frac>, upper: Option<Frac>, v: Frac) -> Result<Option<bool>, Past>
+// The way in which `v` comes back inside its bounds, if it is below the lower one or above the upper one.
+fn outside(lower: Option<Frac>, upper: Option<Frac>, v: Frac) -> Result<Option<Way>, Past>
     ensures { result ≡ fit.outside_run (Some number_limit) lower upper v }
 {
     if below_lower(lower, v)? {
-        return Ok(Some(true));
+        return Ok(Some(Way::Up));
     }
     if above_upper(upper, v)? {
-        return Ok(Some(false));
+        return Ok(Some(Way::Down));
     }
     Ok(None)
 }
@@ -48,7 +49,7 @@ fn leaving_at(tab: &Tableau, col: u32) -> Result<Option<Leaving>, Past>
     ensures { result ≡ fit.leaving_at (Some number_limit) tab.now col }
 {
     match outside(tab.lower(col), tab.upper(col), tab.value(col))? {
-        Some(below) => Ok(Some(Leaving { col, below })),
+        Some(direction) => Ok(Some(Leaving { col, direction })),
         None => Ok(None),
     }
 }

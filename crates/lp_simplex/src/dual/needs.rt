@@ -10,16 +10,6 @@ use lp_frac::{Frac, Past, is_negative, is_positive};
 use lp_tableau::{Tableau, is_fixed, is_zero};
 use spec_simplex::{Fit, Leaving};
 
-/// Whether there is a bound.
-pub fn is_there(bound: Option<Frac>) -> bool
-    ensures { result ≡ spec.is_there bound }
-{
-    match bound {
-        Some(_) => true,
-        None => false,
-    }
-}
-
 // Whether a column of this status and reduced cost needs its other bound.
 fn needs_flip(status: Status, reduced: Frac) -> bool
     ensures { result ≡ spec.needs_flip status reduced }
@@ -37,8 +27,8 @@ fn meets_need(status: Status, reduced: Frac, lower: Option<Frac>, upper: Option<
 {
     match status {
         Status::Basic => true,
-        Status::AtLower => !is_negative(reduced) || is_there(upper),
-        Status::AtUpper => !is_positive(reduced) || is_there(lower),
+        Status::AtLower => !is_negative(reduced) || upper.is_some(),
+        Status::AtUpper => !is_positive(reduced) || lower.is_some(),
         Status::AtZero => is_zero(reduced),
     }
 }

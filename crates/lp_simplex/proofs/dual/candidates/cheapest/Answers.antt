@@ -11,5 +11,5 @@ pub returns-in_err-best : goal.returns-in_err-best
 returns-in_err-best c =
     let p = err_from_is_err_and c.from_residual.result c.from_residual.ensures.1 in
     rw (p.1, p.2) (sym (steps_stop c.loop-k.k (all_columns c.args.tab.now)
-    (cheapest_with (Some number_limit) c.args.tab.now c.args.out.position c.args.out.below) None c.loop-k.best _
+    (cheapest_with (Some number_limit) c.args.tab.now c.args.out.position c.args.out.direction) None c.loop-k.best _
     (omega (arith, c.loop-k-test.true, c.width-k-end.ensures.value)) c.loop-k.invariant (sym c.in_err-best.ensures)))

@@ -7,4 +7,4 @@ use Rattle.lp_simplex.proofs.dual.candidates.cheapest.Given as goal
 
 -- the best so far
 abbrev pub invariant-loop-k : goal.invariant-loop-k
-invariant-loop-k l = steps l.k (cheapest_with (Some number_limit) l.tab l.out.position l.out.below) None ≡ Ok l.best
+invariant-loop-k l = steps l.k (cheapest_with (Some number_limit) l.tab l.out.position l.out.direction) None ≡ Ok l.best

@@ -15,10 +15,10 @@ cheapest-requires c =
 pub returns-in-Some-2-clause-possible : goal.returns-in-Some-2-clause-possible
 returns-in-Some-2-clause-possible c =
     subst₂ (λ i to. CanEnter c.args.tab.now i c.in-Some-2.best.col to)
-    (sym c.position_of-position.ensures) (sym c.passed_bound.ensures)
+    (sym c.position_of-position.ensures) (sym c.bound_behind.ensures)
     (can_enter (Some number_limit) c.args.tab.now c.requires c.in-Some.out
     (sym c.in_ok-out.ensures ∙ ap Ok c.in-Some.is) c.in-Some-2.best
-    (ap (λ i. cheapest_run (Some number_limit) c.args.tab.now i c.in-Some.out.below) (sym c.position_of-position.ensures)
+    (ap (λ i. cheapest_run (Some number_limit) c.args.tab.now i c.in-Some.out.direction) (sym c.position_of-position.ensures)
     ∙ sym c.in_ok-cheapest.ensures ∙ ap Ok c.in-Some-2.is))
 
 pub returns-in-None-clause-possible : goal.returns-in-None-clause-possible
