@@ -9,7 +9,7 @@ ghost use Rattle.lp_range.specs.Answer.{IsSeated};
 use crate::ends::{Ends, at_side, no_ends};
 use lp_form::is_basic;
 use lp_frac::{Frac, Past, add, div, is_positive, sub};
-use lp_simplex::dual::{is_there, position_of};
+use lp_simplex::dual::position_of;
 use lp_tableau::{Tableau, is_zero};
 
 // The right side with which a bound that moves with it comes to `value`, if there is such a bound.
@@ -110,7 +110,7 @@ pub(crate) fn side_ends(tab: &Tableau, rhs: Frac, s: u32) -> Result<Ends, Past>
     let (lower, upper) = (tab.lower(s), tab.upper(s));
     if is_basic(tab.status(s)) {
         still(rhs, tab.value(s), lower, upper)
-    } else if is_there(lower) || is_there(upper) {
+    } else if lower.is_some() || upper.is_some() {
         nonbasic(tab, rhs, s)
     } else {
         Ok(no_ends())
