@@ -5,7 +5,7 @@
 -- `inside_read`: where the value that a row holds is within the bounds that are read, the position's basic column of
 --   the tableau is within its bounds.
 use Rattle.std.proofs.Common.{◌≡◌, ℕ, ◌+◌, ◌*◌, ◌<◌, ◌⊎◌, ⊎_elim, List, get_or, ℤ, pos, ◌*ℤ◌, int_cmp, Option, Some, None, IfSome, Ok, Err}
-use Rattle.std.proofs.Common.{Ordering, Bool, true, false, refl, sym, ap, ap₂, subst, subst₂, ◌∙◌, arith}
+use Rattle.std.proofs.Common.{Ordering, refl, sym, ap, ap₂, subst, subst₂, ◌∙◌, arith}
 use Rattle.std.specs.declared.cmp.Ordering.TheVariants.{Less, Equal, Greater}
 use Rattle.std.proofs.lemmas.List.{get_or_default}
 use Rattle.std.proofs.Math.Nat.{mul-one}
@@ -23,8 +23,10 @@ use Rattle.spec_simplex.specs.Form.{Form}
 use Rattle.spec_simplex.specs.Start.{cost_at}
 use Rattle.spec_simplex.specs.Tableau.{Tableau, all_columns, form_columns, basic_at, value_at, status_at, lower_at, upper_at}
 use Rattle.spec_simplex.specs.Begins.{IsProper}
-use Rattle.spec_simplex.specs.Tables.{way, bounds_of, IsTableauOf, IsWithinBounds}
+use Rattle.spec_simplex.specs.Tables.{bounds_of, IsTableauOf, IsWithinBounds}
 use Rattle.spec_simplex.proofs.ListIndices.{by_lt}
+use Rattle.spec_pivot.specs.declared.status.Way.{Way}
+use Rattle.spec_pivot.specs.declared.status.Way.TheVariants.{Up, Down}
 use Rattle.spec_pivot.specs.Dual.{IsOrdered, IsPast}
 use Rattle.spec_runs.specs.Based.{equations, BeginsFrom}
 use Rattle.spec_runs.proofs.Fits.{IsLeaving, leaving_is}
@@ -115,9 +117,9 @@ inside_read value r t i n k row low low' high high' v w h s row_is k_is n_is v_i
 -- ---- no basic column leaves
 
 -- a value that is within its bounds is not past either of them
-not_past : (below : Bool) (l u : Option ℚ) (v c : ℚ) → IsInside l u v → IsPast (way below) l u v c → ⊥
-not_past true l u v c i p = clash_ℚ v c p.1 (subst (λ l. IfSome l (λ c. c ≤ℚ v)) p.0 i.lower)
-not_past false l u v c i p = clash_ℚ c v p.1 (subst (λ u. IfSome u (λ c. v ≤ℚ c)) p.0 i.upper)
+not_past : (way : Way) (l u : Option ℚ) (v c : ℚ) → IsInside l u v → IsPast way l u v c → ⊥
+not_past Up l u v c i p = clash_ℚ v c p.1 (subst (λ l. IfSome l (λ c. c ≤ℚ v)) p.0 i.lower)
+not_past Down l u v c i p = clash_ℚ c v p.1 (subst (λ u. IfSome u (λ c. v ≤ℚ c)) p.0 i.upper)
 
 module _ (t : Tableau) (inside : (k : ℕ) → k < all_columns t → status_at t k ≡ Basic →
     IsInside (lower_at t k) (upper_at t k) (value_at t k)) where
@@ -128,7 +130,7 @@ module _ (t : Tableau) (inside : (k : ℕ) → k < all_columns t → status_at t
   stays (Ok None) h = ap (λ o. o >>= λ x. Ok (fit_by t x)) h
   stays (Ok (Some x)) h =
       let l : IsLeaving t (all_columns t) x = leaving_is None t (Some x) h in
-      absurd (not_past x.below (lower_at t x.col) (upper_at t x.col) (value_at t x.col) l.bound
+      absurd (not_past x.direction (lower_at t x.col) (upper_at t x.col) (value_at t x.col) l.bound
       (inside x.col l.inside l.basic) l.past)
 
   pub fit_is_primal : fit_run None t ≡ Ok fit.Primal
