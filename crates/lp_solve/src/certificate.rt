@@ -12,7 +12,7 @@ ghost use Rattle.lp_solve.specs.Ends.{IsInside};
 use lp_check::Certificate;
 use lp_frac::{Frac, Fracs, LARGEST, den, neg, num, one, zero};
 use lp_simplex::dual::DualEnd;
-use lp_tableau::{PrimalEnd, Tableau, directed, way_back};
+use lp_tableau::{PrimalEnd, Tableau, directed};
 use spec_pivot::Way;
 use std::alloc::{AllocError, Global};
 
@@ -83,18 +83,18 @@ fn direction(alloc: Global, tab: &Tableau, j: u32, way: Way) -> Result<Fracs, Al
 fn row_multipliers(
     alloc: Global,
     tab: &Tableau,
-    place: u32,
-    below: bool,
+    position: u32,
+    way: Way,
 ) -> Result<Fracs, AllocError>
-    requires { place < tab.now.rows }
-    ensures value { IfOk result (λ y. y ≡ warm.row_multipliers tab.now place below) }
+    requires { position < tab.now.rows }
+    ensures value { IfOk result (λ y. y ≡ warm.row_multipliers tab.now position way) }
     ensures narrow { IfOk result (All IsNarrow) }
 {
     let mut multipliers = Fracs::new(alloc);
     for i in 0..tab.rows() {
         push(
             &mut multipliers,
-            directed(way_back(below), tab.entry(place, tab.cols() + i)),
+            directed(way, tab.entry(position, tab.cols() + i)),
         )?;
     }
     Ok(multipliers)
@@ -148,8 +148,11 @@ pub(crate) fn dual_certificate(
 {
     match end {
         DualEnd::Optimal => certificate_at(alloc, tab, PrimalEnd::Optimal),
-        DualEnd::Infeasible { place, below } => Ok(Certificate::Infeasible {
-            y: row_multipliers(alloc, tab, place, below)?,
+        DualEnd::Infeasible {
+            position,
+            direction,
+        } => Ok(Certificate::Infeasible {
+            y: row_multipliers(alloc, tab, position, direction)?,
         }),
     }
 }
