@@ -3,6 +3,7 @@ use Rattle.std.specs.Prelude.{Option, Some, None, []}
 use Rattle.spec_model.specs.Model.{Name}
 use Rattle.spec_mps.specs.Reader.{State}
 use Rattle.lp_mps.specs.declared.read.draft.Draft.{Draft}
+use Rattle.lp_mps.specs.Sets.{set_of}
 
 -- a text may have no name
 abbrev pub name_of : Option Name → Name
@@ -24,5 +25,5 @@ state_of d =
       column = d.columns.current;
       lowered = d.lowered.items;
       paired = d.paired;
-      set = d.set;
+      set = set_of d.set;
     }

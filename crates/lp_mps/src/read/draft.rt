@@ -5,6 +5,7 @@ ghost use Rattle.lp_mps.specs.Draft.{state_of};
 
 use crate::read::column_list::Columns;
 use crate::read::row_list::Rows;
+use crate::read::sets::FirstSet;
 use crate::read::targets::Targets;
 use lp_base::{Name, are_same};
 use lp_frac::{Frac, zero};
@@ -30,8 +31,7 @@ pub(crate) struct Draft {
     pub(crate) lowered: Vec<bool>,
     /// What has a number already, in this column or in this section.
     pub(crate) paired: Targets,
-    /// The set of this section's first card, which may be absent.
-    pub(crate) set: Option<Option<Name>>,
+    pub(crate) set: FirstSet,
 }
 
 impl Draft {
@@ -58,7 +58,7 @@ impl Draft {
             columns: Columns::new(alloc),
             lowered: Vec::new(alloc),
             paired: Targets::new(alloc),
-            set: None,
+            set: FirstSet::Unseen,
         }
     }
 

@@ -8,6 +8,7 @@ ghost use Rattle.lp_mps.specs.Draft.{state_of};
 use crate::card::Fields;
 use crate::read::draft::{Draft, set_name};
 use crate::read::fault::{Fault, Went};
+use crate::read::sets::FirstSet;
 use crate::read::words::section_of;
 use lp_model::is_model_name;
 use spec_mps::{Code, Section, Seen};
@@ -94,7 +95,7 @@ impl Draft {
         self.part = Some(part);
         self.seen = with_section(self.seen, part);
         self.paired.clear();
-        drop(self.set.take());
+        self.set = FirstSet::Unseen;
         Ok(())
     }
 

@@ -4,7 +4,7 @@ ghost use Rattle.std.specs.Option.{option_copied};
 ghost use Rattle.spec_mps.specs.Fields.{texts_of};
 ghost use Rattle.spec_mps.specs.Sides as sides;
 ghost use Rattle.lp_mps.specs.Draft.{state_of};
-ghost use Rattle.lp_mps.specs.Sets.{card_seen};
+ghost use Rattle.lp_mps.specs.Sets.{card_seen, set_of};
 
 use crate::card::Field;
 use crate::read::draft::Draft;
@@ -43,24 +43,24 @@ impl<'a> SetAndPairs<'a> {
     }
 }
 
-// Whether two sets, each of which may have no name, are the same.
-fn is_set(first: &Option<Name>, set: Option<&[u8]>) -> bool
-    ensures { result ≡ sides.same_set first.now (option_copied set.entry) }
-{
-    match (first, set) {
-        (None, None) => true,
-        (Some(first), Some(set)) => are_same(first.as_slice(), set),
-        _ => false,
-    }
+/// The set of a section's first card. Cards without a set form a set of their own.
+#[derive(Drop)]
+pub(crate) enum FirstSet {
+    /// No card has put a set in use.
+    Unseen,
+    Unnamed,
+    Named(Name),
 }
 
 /// Whether a card of this set is read: it is the set in use, or there is none in use yet.
-pub(crate) fn is_used(first: &Option<Option<Name>>, set: Option<&[u8]>) -> bool
-    ensures { result ≡ sides.is_used first.now (option_copied set.entry) }
+pub(crate) fn is_used(first: &FirstSet, set: Option<&[u8]>) -> bool
+    ensures { result ≡ sides.is_used (set_of first.now) (option_copied set.entry) }
 {
-    match first {
-        None => true,
-        Some(first) => is_set(first, set),
+    match (first, set) {
+        (FirstSet::Unseen, _) => true,
+        (FirstSet::Unnamed, None) => true,
+        (FirstSet::Named(first), Some(set)) => are_same(first.as_slice(), set),
+        _ => false,
     }
 }
 
@@ -70,10 +70,10 @@ impl Draft {
         ensures { OnOk result
             (state_of self.new ≡ record (state_of self.old) { set = Some (option_copied set.entry) }) }
     {
-        self.set = Some(match set {
-            Some(name) => Some(Name::from_slice(alloc, name)?),
-            None => None,
-        });
+        self.set = match set {
+            Some(name) => FirstSet::Named(Name::from_slice(alloc, name)?),
+            None => FirstSet::Unnamed,
+        };
         Ok(())
     }
 }
