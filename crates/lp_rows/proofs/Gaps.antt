@@ -9,8 +9,7 @@
 -- `goes_down`: where the basic column falls, the gap to its lower bound, if within the width, is that by its
 --   direction.
 use Rattle.std.proofs.Common.{◌≡◌, ℕ, ◌*◌, ◌<◌, ℤ, pos, neg_ℤ, ◌*ℤ◌, ◌-ℤ◌, [], ◌∷◌, refl, sym, ap, ◌∙◌, Option, Some}
-use Rattle.std.proofs.Common.{None, Ok, true, false, Ordering, Less, Greater}
-use Rattle.std.specs.Prelude.{IfSome}
+use Rattle.std.proofs.Common.{None, Result, Ok, Err, IfOk, Ordering, Less, Greater}
 use Rattle.std.proofs.Math.Nat.{mul-pos}
 use Rattle.spec_exact.specs.Fraction.{ℚ, over, ◌+ℚ◌, ◌-ℚ◌}
 use Rattle.spec_exact.specs.Answer.{told}
@@ -23,11 +22,13 @@ use Rattle.spec_exact.proofs.Field.{over-+}
 use Rattle.spec_exact.proofs.Limit.{sub_unlimited}
 use Rattle.spec_pivot.specs.declared.status.Status.{Status}
 use Rattle.spec_pivot.specs.declared.status.Status.TheVariants.{AtUpper, AtLower}
+use Rattle.spec_pivot.specs.declared.status.Way.TheVariants.{Up, Down}
 use Rattle.spec_simplex.specs.Step.{rise_run, fall_run}
 use Rattle.lp_natural.specs.Whole.{whole}
 use Rattle.lp_natural.specs.declared.words.signed.Signed.{Signed}
 use Rattle.lp_rows.specs.Ratio.{bound_of, gap_of, gap_by, IsGap}
 use Rattle.lp_rows.specs.declared.ratio.Gap.{Gap}
+use Rattle.lp_rows.specs.declared.overflow.Overflow.{Overflow}
 use Rattle.lp_rows.proofs.Cleared.{over_neg}
 
 -- on one denominator
@@ -47,7 +48,7 @@ pub difference_is : (v w : ℚ) → ◌≡◌ {A = Run ℚ} (difference_run None
 difference_is v w = ap (told Sub v w) (sub_unlimited v w)
 
 pub rises : {T : Type 0} (value : T → ℕ) (d e : ℕ) (upper : Option (Signed T)) (v : Signed T) (g : Option (Gap T)) →
-    0 < d → 0 < e → IsGap value true upper v e AtUpper g →
+    0 < d → 0 < e → IsGap value Up upper v e AtUpper g →
     rise_run None (bound_of value d upper) (over (whole v.negative (value v.size)) (d * e)) ≡ Ok (gap_of value d e g)
 rises value d e None v None p q h = refl
 rises value d e None v (Some g) p q h = absurd h
@@ -63,7 +64,7 @@ rises value d e (Some b) v (Some g) p q h =
     ∙ ap (λ (s : Status). Ok (Some (over (whole g.size.negative (value g.size.size)) (d * e), s))) (sym h.1)
 
 pub falls : {T : Type 0} (value : T → ℕ) (d e : ℕ) (lower : Option (Signed T)) (v : Signed T) (g : Option (Gap T)) →
-    0 < d → 0 < e → IsGap value false lower v e AtLower g →
+    0 < d → 0 < e → IsGap value Down lower v e AtLower g →
     fall_run None (bound_of value d lower) (over (whole v.negative (value v.size)) (d * e)) ≡ Ok (gap_of value d e g)
 falls value d e None v None p q h = refl
 falls value d e None v (Some g) p q h = absurd h
@@ -80,22 +81,22 @@ falls value d e (Some b) v (Some g) p q h =
 
 -- the gap of a column that rises, and of one that falls
 pub goes_up : {T : Type 0} (value : T → ℕ) (goes : Ordering) (e : ℕ) (lower upper : Option (Signed T)) (v : Signed T)
-    (r : Option (Option (Gap T))) → goes ≡ Less → 0 < e → IfSome r (λ g. IsGap value true upper v e AtUpper g) →
-    IfSome r (λ g. (d : ℕ) → 0 < d → gap_by goes (bound_of value d lower) (bound_of value d upper)
+    (r : Result (Option (Gap T)) Overflow) → goes ≡ Less → 0 < e → IfOk r (λ g. IsGap value Up upper v e AtUpper g) →
+    IfOk r (λ g. (d : ℕ) → 0 < d → gap_by goes (bound_of value d lower) (bound_of value d upper)
     (over (whole v.negative (value v.size)) (d * e)) ≡ Ok (gap_of value d e g))
-goes_up value goes e lower upper v None h q k = k
-goes_up value goes e lower upper v (Some g) h q k =
+goes_up value goes e lower upper v (Err o) h q k = k
+goes_up value goes e lower upper v (Ok g) h q k =
     λ d p.
     ap (λ (o : Ordering). gap_by o (bound_of value d lower) (bound_of value d upper)
     (over (whole v.negative (value v.size)) (d * e))) h
     ∙ rises value d e upper v g p q k
 
 pub goes_down : {T : Type 0} (value : T → ℕ) (goes : Ordering) (e : ℕ) (lower upper : Option (Signed T)) (v : Signed T)
-    (r : Option (Option (Gap T))) → goes ≡ Greater → 0 < e → IfSome r (λ g. IsGap value false lower v e AtLower g) →
-    IfSome r (λ g. (d : ℕ) → 0 < d → gap_by goes (bound_of value d lower) (bound_of value d upper)
+    (r : Result (Option (Gap T)) Overflow) → goes ≡ Greater → 0 < e → IfOk r (λ g. IsGap value Down lower v e AtLower g) →
+    IfOk r (λ g. (d : ℕ) → 0 < d → gap_by goes (bound_of value d lower) (bound_of value d upper)
     (over (whole v.negative (value v.size)) (d * e)) ≡ Ok (gap_of value d e g))
-goes_down value goes e lower upper v None h q k = k
-goes_down value goes e lower upper v (Some g) h q k =
+goes_down value goes e lower upper v (Err o) h q k = k
+goes_down value goes e lower upper v (Ok g) h q k =
     λ d p.
     ap (λ (o : Ordering). gap_by o (bound_of value d lower) (bound_of value d upper)
     (over (whole v.negative (value v.size)) (d * e))) h

@@ -1,5 +1,5 @@
 -- What stops the entering column, with its ratio as a fraction.
-use Rattle.std.specs.Prelude.{ℕ, ◌*◌, ℤ, ◌-ℤ◌, ◌*ℤ◌, pos, ◌≡◌, Bool, true, false, Option, Some, None, Ok}
+use Rattle.std.specs.Prelude.{ℕ, ◌*◌, ℤ, ◌-ℤ◌, ◌*ℤ◌, pos, ◌≡◌, Option, Some, None, Ok}
 use Rattle.std.specs.declared.cmp.Ordering.{Ordering}
 use Rattle.std.specs.declared.cmp.Ordering.TheVariants.{Less, Equal, Greater}
 use Rattle.spec_exact.specs.Run.{Run}
@@ -11,6 +11,8 @@ use Rattle.lp_natural.specs.Whole.{whole}
 use Rattle.lp_rows.specs.declared.ratio.Stopper.{Stopper}
 use Rattle.lp_rows.specs.declared.ratio.Gap.{Gap}
 use Rattle.spec_pivot.specs.declared.status.Status.{Status}
+use Rattle.spec_pivot.specs.declared.status.Way.{Way}
+use Rattle.spec_pivot.specs.declared.status.Way.TheVariants.{Up, Down}
 
 -- the ratio and the position of a stop, as the ratio test has them; d is the denominator of all bounds
 abbrev pub best_of : {T : Type 0} → (T → ℕ) → ℕ → Stopper T → Best ℚ
@@ -23,9 +25,9 @@ best_of value d s =
     }
 
 -- from the value up to the bound, or down to it
-abbrev pub room_of : Bool → ℤ → ℤ → ℤ
-room_of true bound value = bound -ℤ value
-room_of false bound value = value -ℤ bound
+abbrev pub room_of : Way → ℤ → ℤ → ℤ
+room_of Up bound value = bound -ℤ value
+room_of Down bound value = value -ℤ bound
 
 -- a bound, or none, on the denominator d
 abbrev pub bound_of : {T : Type 0} → (T → ℕ) → ℕ → Option (Signed T) → Option ℚ
@@ -49,11 +51,11 @@ gap_by Equal lower upper v = Ok None
 gap_by Greater lower upper v = fall_run None lower v
 
 -- the bound is there, and so is the gap up or down to it; or neither is
-abbrev pub IsGap : {T : Type 0} → (T → ℕ) → Bool → Option (Signed T) → Signed T → ℕ → Status → Option (Gap T) → Type 0
-IsGap value rises None v e to None = Unit {0}
-IsGap value rises None v e to (Some g) = ⊥
-IsGap value rises (Some b) v e to None = ⊥
-IsGap value rises (Some b) v e to (Some g) =
+abbrev pub IsGap : {T : Type 0} → (T → ℕ) → Way → Option (Signed T) → Signed T → ℕ → Status → Option (Gap T) → Type 0
+IsGap value way None v e to None = Unit {0}
+IsGap value way None v e to (Some g) = ⊥
+IsGap value way (Some b) v e to None = ⊥
+IsGap value way (Some b) v e to (Some g) =
     (whole g.size.negative (value g.size.size) ≡
-    room_of rises (whole b.negative (value b.size) *ℤ pos e) (whole v.negative (value v.size)))
+    room_of way (whole b.negative (value b.size) *ℤ pos e) (whole v.negative (value v.size)))
     × (g.to ≡ to)

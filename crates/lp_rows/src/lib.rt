@@ -15,6 +15,7 @@ mod choice;
 mod fractions;
 mod narrow;
 mod number;
+mod overflow;
 mod ratio;
 mod row;
 pub mod tableau;

@@ -1,5 +1,5 @@
 // Which of two positions stops the entering column first: ratios are compared crosswise, and nothing is divided.
-ghost use Rattle.std.specs.Prelude.{◌≡◌, ◌<◌, ◌+◌, ◌*◌, ℕ, IsTrue, false, pos, ◌*ℤ◌, Ok, Some, None, IfSome, Option, ◌⊎◌};
+ghost use Rattle.std.specs.Prelude.{◌≡◌, ◌<◌, ◌+◌, ◌*◌, ℕ, IsTrue, false, pos, ◌*ℤ◌, Ok, Some, None, IfOk, IfSome, Option, ◌⊎◌};
 ghost use Rattle.std.specs.Ordering.{int_cmp};
 ghost use Rattle.spec_exact.specs.Fraction.{ℚ, over};
 ghost use Rattle.spec_simplex.specs.declared.ends.Best.{Best};
@@ -9,6 +9,7 @@ ghost use Rattle.lp_rows.specs.Row.{toward as toward_of};
 ghost use Rattle.lp_rows.specs.Ratio.{best_of, room_of, bound_of, gap_of, gap_by, stopped, IsGap};
 
 use crate::choice::sign;
+use crate::overflow::Overflow;
 use lp_natural::words::{Signed, Words, minus, times};
 use spec_pivot::{Status, Way};
 use std::cmp::Ordering;
@@ -84,14 +85,9 @@ pub(crate) struct Gap<T> {
     pub(crate) to: Status,
 }
 
-// How far a value is below a bound, or above it, both over the row's denominator.
-fn room<T: Words>(
-    rises: bool,
-    bound: Signed<T>,
-    value: Signed<T>,
-    denominator: T,
-) -> Option<Signed<T>>
-    ensures { IfSome result (λ r. whole r.negative (T.value r.size) ≡ room_of rises
+// How far a value is below a bound (`Up`), or above it (`Down`), both over the row's denominator.
+fn room<T: Words>(way: Way, bound: Signed<T>, value: Signed<T>, denominator: T) -> Option<Signed<T>>
+    ensures { IfSome result (λ r. whole r.negative (T.value r.size) ≡ room_of way
         (whole bound.negative (T.value bound.size) *ℤ pos (T.value denominator))
         (whole value.negative (T.value value.size))) }
 {
@@ -100,57 +96,53 @@ fn room<T: Words>(
         size: denominator,
     };
     match times(bound, on) {
-        Some(bound) => {
-            if rises {
-                minus(bound, value)
-            } else {
-                minus(value, bound)
-            }
-        }
+        Some(bound) => match way {
+            Way::Up => minus(bound, value),
+            Way::Down => minus(value, bound),
+        },
         None => None,
     }
 }
 
 // The gap between a value and a bound, if there is such a bound.
 fn gap_to<T: Words>(
-    rises: bool,
+    way: Way,
     bound: Option<Signed<T>>,
     value: Signed<T>,
     denominator: T,
     to: Status,
-) -> Option<Option<Gap<T>>>
+) -> Result<Option<Gap<T>>, Overflow>
     requires { 0 < T.value denominator }
-    ensures { IfSome result (λ g. IsGap T.value rises bound value (T.value denominator) to g) }
+    ensures { IfOk result (λ g. IsGap T.value way bound value (T.value denominator) to g) }
 {
     match bound {
-        Some(bound) => match room(rises, bound, value, denominator) {
-            Some(size) => Some(Some(Gap { size, to })),
-            None => None,
+        Some(bound) => match room(way, bound, value, denominator) {
+            Some(size) => Ok(Some(Gap { size, to })),
+            None => Err(Overflow),
         },
-        None => Some(None),
+        None => Ok(None),
     }
 }
 
 // The gap between the value of a basic column and the bound toward which it moves: its upper bound where it rises
 // (`Less`), its lower bound where it falls (`Greater`). There is no gap where it stays, or has no such bound. `value`
-// is over the row's denominator times that of all bounds; `lower` and `upper` are over the latter. There is no answer
-// where a number overflows the width.
+// is over the row's denominator times that of all bounds; `lower` and `upper` are over the latter.
 pub(crate) fn gap_for<T: Words>(
     goes: Ordering,
     lower: Option<Signed<T>>,
     upper: Option<Signed<T>>,
     value: Signed<T>,
     denominator: T,
-) -> Option<Option<Gap<T>>>
+) -> Result<Option<Gap<T>>, Overflow>
     requires { 0 < T.value denominator }
-    ensures { IfSome result (λ g. (d : ℕ) → 0 < d → gap_by goes (bound_of T.value d lower) (bound_of T.value d upper)
+    ensures { IfOk result (λ g. (d : ℕ) → 0 < d → gap_by goes (bound_of T.value d lower) (bound_of T.value d upper)
         (over (whole value.negative (T.value value.size)) (d * T.value denominator)) ≡
         Ok (gap_of T.value d (T.value denominator) g)) }
 {
     match goes {
-        Ordering::Less => gap_to(true, upper, value, denominator, Status::AtUpper),
-        Ordering::Equal => Some(None),
-        Ordering::Greater => gap_to(false, lower, value, denominator, Status::AtLower),
+        Ordering::Less => gap_to(Way::Up, upper, value, denominator, Status::AtUpper),
+        Ordering::Equal => Ok(None),
+        Ordering::Greater => gap_to(Way::Down, lower, value, denominator, Status::AtLower),
     }
 }
 

@@ -10,6 +10,7 @@ ghost use Rattle.lp_rows.specs.Steps.{step_of, IsInReach, MayMake};
 ghost use Rattle.lp_rows.specs.Stops.{IsStop};
 
 use crate::choice::entering;
+use crate::overflow::Overflow;
 use crate::ratio::Stopper;
 use crate::tableau::ratio::first_stop;
 use crate::tableau::tableau::RowTableau;
@@ -58,8 +59,8 @@ fn step_in<T: Words>(tab: &RowTableau<T>, e: Entering) -> Option<Step>
     ensures inside { IfSome result (MayMake tab.now) }
 {
     match first_stop(tab, e) {
-        Some(stop) => Some(step_by(e, stop)),
-        None => None,
+        Ok(stop) => Some(step_by(e, stop)),
+        Err(Overflow) => None,
     }
 }
 

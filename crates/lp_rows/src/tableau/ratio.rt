@@ -1,5 +1,5 @@
 // The ratio test over all positions.
-ghost use Rattle.std.specs.Prelude.{◌≡◌, ◌<◌, ◌*◌, ℕ, IfSome, Option, None, Ok, option_map, IsTrue, ◌↔◌};
+ghost use Rattle.std.specs.Prelude.{◌≡◌, ◌<◌, ◌*◌, ℕ, IfOk, IfSome, Option, None, Ok, option_map, IsTrue, ◌↔◌};
 ghost use Rattle.spec_exact.specs.Fraction.{ℚ, over};
 ghost use Rattle.spec_simplex.specs.declared.ends.Best.{Best};
 ghost use Rattle.spec_simplex.specs.Tableau as tableaus;
@@ -9,6 +9,7 @@ ghost use Rattle.lp_rows.specs.Ratio.{best_of, bound_of, stopped};
 ghost use Rattle.lp_rows.specs.Shows.{IsWhole, Shows, height, width};
 ghost use Rattle.lp_rows.specs.Stops.{IsStop, best_at};
 
+use crate::overflow::Overflow;
 use crate::ratio::{Position, Stopper, better, gap_for, goes, stopper_at};
 use crate::tableau::tableau::RowTableau;
 use lp_natural::words::{Signed, Words, minus};
@@ -47,30 +48,30 @@ fn range<T: Words>(
     e: Entering,
     lower: Option<Signed<T>>,
     upper: Option<Signed<T>>,
-) -> Option<Option<Stopper<T>>>
-    ensures value { (d : ℕ) → 0 < d → IfSome result (λ s.
+) -> Result<Option<Stopper<T>>, Overflow>
+    ensures value { (d : ℕ) → 0 < d → IfOk result (λ s.
         step.range_run None e (bound_of T.value d lower) (bound_of T.value d upper) ≡
         Ok (option_map (best_of T.value d) s)) }
-    ensures inside { IfSome result (IsStop T.value 0) }
+    ensures inside { IfOk result (IsStop T.value 0) }
 {
     match (lower, upper) {
         (Some(lower), Some(upper)) => match stop_between(e, lower, upper) {
-            Some(stop) => Some(Some(stop)),
-            None => None,
+            Some(stop) => Ok(Some(stop)),
+            None => Err(Overflow),
         },
-        _ => Some(None),
+        _ => Ok(None),
     }
 }
 
 // What stops the entering column in a position, if anything does.
-fn stop_at<T: Words>(way: Way, at: Position<T>) -> Option<Option<Stopper<T>>>
+fn stop_at<T: Words>(way: Way, at: Position<T>) -> Result<Option<Stopper<T>>, Overflow>
     requires { 0 < T.value at.denominator }
-    ensures value { IfSome result (λ s. (d : ℕ) → 0 < d → (best : Option (Best ℚ)) →
+    ensures value { IfOk result (λ s. (d : ℕ) → 0 < d → (best : Option (Best ℚ)) →
         best_at way at.position at.col (over (whole at.entry.negative (T.value at.entry.size)) (T.value at.denominator))
         (bound_of T.value d at.lower) (bound_of T.value d at.upper)
         (over (whole at.value.negative (T.value at.value.size)) (d * T.value at.denominator)) best ≡
         stopped T.value d s best) }
-    ensures inside { (n : ℕ) → at.position < n → IfSome result (IsStop T.value n) }
+    ensures inside { (n : ℕ) → at.position < n → IfOk result (IsStop T.value n) }
 {
     let Position {
         entry,
@@ -81,12 +82,10 @@ fn stop_at<T: Words>(way: Way, at: Position<T>) -> Option<Option<Stopper<T>>>
         ..
     } = at;
     if is_zero(entry) {
-        return Some(None);
+        return Ok(None);
     }
-    match gap_for(goes(way, entry), lower, upper, value, denominator) {
-        Some(gap) => Some(stopper_at(at, gap)),
-        None => None,
-    }
+    let gap = gap_for(goes(way, entry), lower, upper, value, denominator)?;
+    Ok(stopper_at(at, gap))
 }
 
 // The first of two stops, as far as there are any.
@@ -105,13 +104,17 @@ fn first<T: Words>(new: Option<Stopper<T>>, best: Option<Stopper<T>>) -> Option<
 }
 
 // What stops it in position `i`.
-fn stop_in<T: Words>(tab: &RowTableau<T>, e: Entering, i: usize) -> Option<Option<Stopper<T>>>
+fn stop_in<T: Words>(
+    tab: &RowTableau<T>,
+    e: Entering,
+    i: usize,
+) -> Result<Option<Stopper<T>>, Overflow>
     requires whole { IsWhole T.value tab.now }
     requires column { e.col < width tab.now }
     requires place { i < height tab.now }
-    ensures value { (t : tableaus.Tableau) → Shows T.value tab.now t → (best : Option (Best ℚ)) → IfSome result (λ s.
+    ensures value { (t : tableaus.Tableau) → Shows T.value tab.now t → (best : Option (Best ℚ)) → IfOk result (λ s.
         step.best_with None t e i best ≡ stopped T.value (T.value tab.now.denominator) s best) }
-    ensures inside { IfSome result (IsStop T.value (height tab.now)) }
+    ensures inside { IfOk result (IsStop T.value (height tab.now)) }
 {
     let row = &tab.rows[i];
     let col = tab.basic[i];
@@ -133,34 +136,35 @@ fn first_with<T: Words>(
     e: Entering,
     i: usize,
     best: Option<Stopper<T>>,
-) -> Option<Option<Stopper<T>>>
+) -> Result<Option<Stopper<T>>, Overflow>
     requires whole { IsWhole T.value tab.now }
     requires column { e.col < width tab.now }
     requires place { i < height tab.now }
     requires best { IsStop T.value (height tab.now) best }
-    ensures value { (t : tableaus.Tableau) → Shows T.value tab.now t → IfSome result (λ s.
+    ensures value { (t : tableaus.Tableau) → Shows T.value tab.now t → IfOk result (λ s.
         step.best_with None t e i (option_map (best_of T.value (T.value tab.now.denominator)) best) ≡
         Ok (option_map (best_of T.value (T.value tab.now.denominator)) s)) }
-    ensures inside { IfSome result (IsStop T.value (height tab.now)) }
+    ensures inside { IfOk result (IsStop T.value (height tab.now)) }
 {
-    match stop_in(tab, e, i) {
-        Some(stop) => Some(first(stop, best)),
-        None => None,
-    }
+    let stop = stop_in(tab, e, i)?;
+    Ok(first(stop, best))
 }
 
-/// What stops the entering column first, if anything does. There is no answer where a number overflows the width.
-pub(crate) fn first_stop<T: Words>(tab: &RowTableau<T>, e: Entering) -> Option<Option<Stopper<T>>>
+/// What stops the entering column first, if anything does.
+pub(crate) fn first_stop<T: Words>(
+    tab: &RowTableau<T>,
+    e: Entering,
+) -> Result<Option<Stopper<T>>, Overflow>
     requires whole { IsWhole T.value tab.now }
     requires column { e.col < width tab.now }
-    ensures value { (t : tableaus.Tableau) → Shows T.value tab.now t → IfSome result (λ s.
+    ensures value { (t : tableaus.Tableau) → Shows T.value tab.now t → IfOk result (λ s.
         step.best_run None t e ≡ Ok (option_map (best_of T.value (T.value tab.now.denominator)) s)) }
-    ensures inside { IfSome result (IsStop T.value (height tab.now)) }
+    ensures inside { IfOk result (IsStop T.value (height tab.now)) }
 {
     let j = e.col as usize;
     let mut best = range(e, tab.lower[j], tab.upper[j])?;
     for i in 0..tab.rows.len() {
         best = first_with(tab, e, i, best)?;
     }
-    Some(best)
+    Ok(best)
 }

@@ -5,14 +5,14 @@ use Rattle.lp_rows.specs.Shows.{height, width}
 use Rattle.lp_rows.proofs.RatioAtPosition.{chosen_by}
 use Rattle.lp_rows.proofs.tableau.choice.step_in.Goals as goal
 
-pub returns-in-Some-clause-chosen : goal.returns-in-Some-clause-chosen
-returns-in-Some-clause-chosen g c t shows =
+pub returns-in-Ok-clause-chosen : goal.returns-in-Ok-clause-chosen
+returns-in-Ok-clause-chosen g c t shows =
     let d = g.T.Words.value c.args.tab.now.denominator in (
-      choice_by c.args.e (option_map (best_of g.T.Words.value d) c.in-Some.stop),
-      chosen_by t c.args.e (option_map (best_of g.T.Words.value d) c.in-Some.stop) (c.in-Some.ensures.value t shows),
+      choice_by c.args.e (option_map (best_of g.T.Words.value d) c.in-Ok.stop),
+      chosen_by t c.args.e (option_map (best_of g.T.Words.value d) c.in-Ok.stop) (c.in-Ok.ensures.value t shows),
       c.step_by.ensures.value d,
     )
 
-pub returns-in-Some-clause-inside : goal.returns-in-Some-clause-inside
-returns-in-Some-clause-inside g c =
-    c.step_by.ensures.inside (height c.args.tab.now) (width c.args.tab.now) c.requires.column c.in-Some.ensures.inside
+pub returns-in-Ok-clause-inside : goal.returns-in-Ok-clause-inside
+returns-in-Ok-clause-inside g c =
+    c.step_by.ensures.inside (height c.args.tab.now) (width c.args.tab.now) c.requires.column c.in-Ok.ensures.inside

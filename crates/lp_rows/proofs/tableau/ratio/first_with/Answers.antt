@@ -3,12 +3,12 @@ use Rattle.lp_rows.specs.Ratio.{best_of}
 use Rattle.lp_rows.specs.Shows.{height}
 use Rattle.lp_rows.proofs.tableau.ratio.first_with.Goals as goal
 
-pub returns-in-Some-clause-value : goal.returns-in-Some-clause-value
-returns-in-Some-clause-value g c t shows =
-    c.in-Some.ensures.value t shows
+pub returns-clause-value : goal.returns-clause-value
+returns-clause-value g c t shows =
+    c.in_ok-stop.ensures.value t shows
     (option_map (best_of g.T.Words.value (g.T.Words.value c.args.tab.now.denominator)) c.args.best)
     ∙ c.first.ensures.value (g.T.Words.value c.args.tab.now.denominator) c.requires.whole.positive
 
-pub returns-in-Some-clause-inside : goal.returns-in-Some-clause-inside
-returns-in-Some-clause-inside g c =
-    c.first.ensures.inside (height c.args.tab.now) c.in-Some.ensures.inside c.requires.best
+pub returns-clause-inside : goal.returns-clause-inside
+returns-clause-inside g c =
+    c.first.ensures.inside (height c.args.tab.now) c.in_ok-stop.ensures.inside c.requires.best
