@@ -13,7 +13,8 @@ use Rattle.basis_board.specs.Spelled.{AreSpelled, IsAnswered}
 use Rattle.basis_board.specs.Noted.{IsOfClaimed, AnyKindIsAnswered}
 use Rattle.basis_board.proofs.StepLemmas.{steps_read}
 
--- a read that is so of the words, and of a claimed place or the count, is answered by the places they spell
+-- a read that is true of the board's words, and of a claimed place or the count, is answered by the places that the
+-- words spell
 answered : (places session : ℕ) (s : State ℕ View) (now : List ExactPlace) (r : RawRead) → Kept places s →
     AreSpelled s.words now → IsTrueOf s.words r → IsOfClaimed s.words r →
     IsAnswered places now session (exact_read r) s.words

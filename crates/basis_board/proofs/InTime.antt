@@ -1,8 +1,8 @@
 -- Each kind of step keeps the whole rule, and notes what is so when it is taken.
 --
--- `only_so`: a read that a step notes, and leaves its word as it was, is so of the words if the rule holds before and
---   after.
--- `allowed_so`: a kind of load that notes one read is allowed only where that read is so of the words.
+-- `only_so`: where a step notes a read and leaves its word as it was, the read is true of the words, if the rule holds
+--   before and after.
+-- `allowed_so`: a kind of load that notes one read is allowed only where the read is true of the board's words.
 use Rattle.std.proofs.Common.{◌≡◌, ◌≢◌, ℕ, zero, suc, ◌+◌, ◌-◌, ◌*◌, ◌/◌, ◌<◌, List, [], ◌∷◌, ◌++◌, length}
 use Rattle.std.proofs.Common.{get_or, set}
 use Rattle.std.proofs.Common.{Some, None, eqb, map, sym, refl, ap, ◌∙◌, subst, ⊎_elim, inl, inr, arith}
@@ -38,21 +38,21 @@ use Rattle.basis_board.proofs.Timing.{made_then, one_log, set_here, same_notes, 
 
 -- ---- views among sights
 
--- where a sight stands at i, its view stands at i in the list of views
+-- leaving out the times of reads leaves the place of each pass in the list of passes
 get_view : (vs : List Sight) (i : ℕ) (v : Sight) → get_elem? vs i ≡ some v →
     get_elem? (map (λ (u : Sight). u.view) vs) i ≡ some v.view
 get_view [] i v e = absurd (some-ne-none v (sym e))
 get_view (z ∷ zs) zero v e = ap (λ (u : Sight). some u.view) (some-injective z v e)
 get_view (z ∷ zs) (suc i) v e = get_view zs i v e
 
--- the views of sights of which one is replaced are the views with its view replaced
+-- leaving out the times of reads and replacing what one pass knows may be done in either order
 set_view : (vs : List Sight) (i : ℕ) (w : Sight) →
     map (λ (u : Sight). u.view) (set vs i w) ≡ set (map (λ (u : Sight). u.view) vs) i w.view
 set_view [] i w = refl
 set_view (z ∷ zs) zero w = refl
 set_view (z ∷ zs) (suc i) w = ap (λ l. z.view ∷ l) (set_view zs i w)
 
--- the views of sights with one more at the end are the views with its view at the end
+-- leaving out the times of reads and appending one more pass may be done in either order
 push_view : (vs : List Sight) (w : Sight) →
     map (λ (u : Sight). u.view) (vs ++ w ∷ []) ≡ map (λ (u : Sight). u.view) vs ++ w.view ∷ []
 push_view [] w = refl
@@ -70,7 +70,7 @@ like_is ws us e = record { counted = ap count e; dones = λ k. ap (λ l. done l 
 grows_back : (ws us : List ℕ) → us ≡ ws → Grows us ws
 grows_back ws us e = subst (λ l. Grows l ws) (sym e) (grows_same ws)
 
--- reads that were true at their moments are true when the newest one has one word more
+-- reads that were true when they were noted are so when the newest one has one word more
 true_grown : (ms : List Moment) (rs : List RawRead) (b : ℕ) → WereTrue ms rs → WereTrue ms (grown_reads rs b)
 true_grown [] [] b h = tt
 true_grown [] (r ∷ rs) b h = absurd h
@@ -341,8 +341,8 @@ true_alike ws us (Claim k) a b t = let x = a.counted in let y = b.counted in ome
 true_alike ws us (Lost c) a b t = let x = a.counted in let y = b.counted in omega arith
 true_alike ws us (Done k xs) a b t = let x = a.dones k in let y = b.dones k in omega arith
 
--- where all moments that were added lie between two states of the board's words that are the same, the newest read is
--- true of these words
+-- where all times that were added lie between two states of the board with the same words, the newest read is true of
+-- these words
 newest_is : (ws us : List ℕ) (r : RawRead) (rs : List RawRead) (more old : List Moment) → us ≡ ws →
     Each (IsBetween ws us) more → WereTrue (more ++ old) (r ∷ rs) → WereTrue old rs → IsTrueOf ws r
 newest_is ws us r rs [] old same between now was =

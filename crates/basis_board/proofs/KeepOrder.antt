@@ -120,7 +120,7 @@ one_more r reads h after whole = record {
   whole = all_more IsWhole r reads h.whole whole;
 }
 
--- a view is orderly where its reads are
+-- what a pass knows is orderly where its reads are
 of_view : (v : View) → AreOrderly v.reads → IsOrderly v
 of_view v h = record { ordered = h.ordered; whole = h.whole }
 

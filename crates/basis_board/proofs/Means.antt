@@ -11,13 +11,13 @@ use Rattle.basis_board.specs.Meaning.{JustOne, NoView, Means}
 use Rattle.basis_board.proofs.Totals.{each_has}
 use Rattle.basis_board.proofs.Frames.{St}
 
--- where f adds up to 0 over the views, f is 0 of each view
+-- where f adds up to 0 over the passes, f is 0 of each pass
 no_view : (f : View → ℕ) (vs : List View) → total f vs ≡ 0 → NoView f vs
 no_view f [] z j u e = absurd (some-ne-none u (sym e))
 no_view f (v ∷ vs) z zero u e = let same : f v ≡ f u = ap f (some-injective v u e) in omega arith
 no_view f (v ∷ vs) z (suc j) u e = no_view f vs (omega arith) j u e
 
--- where f adds up to 1 over the views, f is 1 of one view and 0 of all others
+-- where f adds up to 1 over the passes, f is 1 of one pass and 0 of any other
 just_one : (f : View → ℕ) (vs : List View) → total f vs ≡ 1 → JustOne f vs
 just_one f [] z = absurd (omega arith)
 just_one f (v ∷ vs) z = ⊎_elim
@@ -51,7 +51,7 @@ just_one f (v ∷ vs) z = ⊎_elim
     later none seat rest zero u n e = ap f (sym (some-injective v u e)) ∙ none
     later none seat rest (suc j) u n e = rest j u (λ q. n (ap suc q)) e
 
--- a state that keeps the rule is what the rule says in plain words
+-- a state of a board that keeps the rule `Kept` has what `Means` says in plain words
 pub means : (places : ℕ) (s : St) → Kept places s → Means s
 means places s r = record {
   below = λ k l.

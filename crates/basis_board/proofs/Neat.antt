@@ -1,11 +1,11 @@
 -- That views stay neat: their own places are those of their reads, and what they read they have seen.
 --
--- `fits_noted`: a view that fits the board's words still fits them once it notes another read. The read fits the words,
---   is no publication, and gives only what the view has seen.
--- `neat_finished`: a neat view that publishes the place which it holds is neat.
--- `neat_opening`: a neat view that reads a place as done, and none of its words yet, is neat.
--- `neat_reading`: a neat view that reads one word more of the place that it read last is neat.
--- `neat_met`: two neat views met into one are neat.
+-- `fits_noted`: A pass that fits the board's words still fits them after it notes another read. The read fits the
+--   words, is no publication, and gives only words that the pass has seen.
+-- `neat_finished`: a neat pass that publishes the place which it has claimed stays neat.
+-- `neat_opening`: a neat pass that reads that a place is done, and none of its words yet, stays neat.
+-- `neat_reading`: a neat pass that reads one word more of the place that it read last stays neat.
+-- `neat_met`: two neat passes merged into one are neat.
 use Rattle.std.proofs.Common.{◌≡◌, ℕ, zero, suc, ◌+◌, ◌*◌, ◌<◌, ◌≤◌, List, [], ◌∷◌, ◌++◌}
 use Rattle.std.proofs.Common.{length, get_or, set, Some, refl, sym, ap, ◌∙◌, subst, ⊎_elim}
 use Rattle.std.proofs.Common.{inl, inr, arith, length-append, append_assoc, append-nil}
@@ -33,7 +33,7 @@ stands_in seen more into (Claim k) h = tt
 stands_in seen more into (Lost c) h = tt
 stands_in seen more into (Done k xs) h = (h.0, into (k, h.0) h.1, h.2)
 
--- a neat view stays neat when it notes a read that publishes nothing and has been seen
+-- what a neat pass knows stays neat when it notes a read that is no publication and gives only words that it has seen
 neat_noted : (v : View) (r : RawRead) → published_places (r ∷ v.reads) ≡ published_places v.reads → StandsIn v.seen r →
     Neat v → Neat (noted v r)
 neat_noted v r same stands n = record { published = n.published ∙ sym same; stands = (stands, n.stands) }
@@ -136,7 +136,7 @@ neat_met v w n m = record {
       (stands_in v.seen (v.seen ++ w.seen) (λ p. has_left v.seen w.seen p)) v.reads n.stands);
 }
 
--- two entries that both fit the words agree as far as both go
+-- two entries of seen words that both fit the board's words are the same up to the end of the shorter one
 agree : (ws : List ℕ) (p q : ℕ × List ℕ) → SeenFits ws p → SeenFits ws q → Agree p q
 agree ws p q a b e i l m = sym (a.1.same i l) ∙ (ap (λ (z : ℕ). get_or ws (50 * z + 1 + i) 0) e ∙ b.1.same i m)
 

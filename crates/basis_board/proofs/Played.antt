@@ -92,7 +92,7 @@ contains_flat f (x ∷ xs) (suc i) d y l h =
 
 -- ---- the notes of one pass, with the sessions of its reads
 
--- the newest first
+-- the reads of a pass, the newest first, each with its number among all reads of the board and as a logged read
 marks : List Moment → List RawRead → List Logged → List Mark
 marks [] rs ls = []
 marks (m ∷ ms) [] ls = []
@@ -111,7 +111,7 @@ AreReads rs ls = map (λ (x : Logged). x.read) ls ≡ map exact_read rs
 one_logged : (l : Logged) (r : RawRead) → l.read ≡ exact_read r → of_read l.session (exact_read r) ≡ l
 one_logged l r e = ap (of_read l.session) (sym e)
 
--- the marks of a pass, as logged reads, are its log
+-- the logged reads in the list that `marks` makes of a pass are the pass's log
 logged_are : (ms : List Moment) (rs : List RawRead) (ls : List Logged) → WereTrue ms rs → AreReads rs ls →
     map logged_of (marks ms rs ls) ≡ ls
 unfolding marks
@@ -154,7 +154,7 @@ abbrev Falls : List Mark → Type 0
 Falls [] = Unit {0}
 Falls (x ∷ xs) = AllByRecursion (λ (y : Mark). y.number < x.number) xs × Falls xs
 
--- where all moments are before number n, the numbers of the marks are below n
+-- where all times have numbers below n, so has the list that `marks` makes
 below_first : (n : ℕ) (ms old : List Moment) (rs : List RawRead) (ls : List Logged) →
     Each (λ (m : Moment). m.0 < n) (ms ++ old) → AllByRecursion (λ (y : Mark). y.number < n) (marks ms rs ls)
 unfolding marks
@@ -187,7 +187,7 @@ ascends_back (x ∷ xs) f =
     (ascends_push 0 (reverse xs) x (ascends_back xs f.1) (omega arith)
     (all_reverse (λ (y : Mark). y.number < x.number) xs f.0))
 
--- a mark at the end adds 1 to how often its number stands there
+-- one more element at the end of a list adds 1 to how often its number is in the list
 marked_push : (t : ℕ) (xs : List Mark) (x : Mark) →
     marked t (xs ++ x ∷ []) ≡ one_if (eqb x.number t) + marked t xs
 marked_push t [] x = refl
@@ -281,7 +281,7 @@ numbered_all t (p ∷ passes) f h =
     let rest = numbered_all t passes (λ i. f (suc i)) (λ i d l. h (suc i) d (omega arith)) in
     let both = numbered_push t (notes_of p) (flat_map notes_of passes) in omega arith
 
--- a worker's part of marks, as logged reads, is its log of all of them
+-- a worker's part of a list, as logged reads, is the worker's part of the logged reads
 filter_logged : (workers i : ℕ) (xs : List Mark) →
     log_of_worker workers i (map logged_of xs) ≡ map logged_of (part workers i xs)
 filter_logged workers i [] = refl
@@ -301,7 +301,7 @@ part_has : (xs ys : List Mark) (x y : Mark) (b : Bool) → (Has xs y → Has ys 
 part_has xs ys x y true more h = ⊎_elim (λ (e : x ≡ y). inl e) (λ (m : Has xs y). inr (more m)) h
 part_has xs ys x y false more h = inr (more h)
 
--- a mark of a worker's part is one of the list
+-- an element of a worker's part of a list is an element of the list
 has_part : (workers i : ℕ) (xs : List Mark) (y : Mark) → Has (part workers i xs) y → Has xs y
 has_part workers i [] y h = absurd h
 has_part workers i (x ∷ xs) y h =

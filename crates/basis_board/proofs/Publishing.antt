@@ -6,7 +6,7 @@ use Rattle.basis_board.specs.Board.{noted}
 use Rattle.basis_board.specs.Rule.{OwnsBelow, CountTells, Counted, Claimed}
 use Rattle.basis_board.specs.Calls.{IsRaced}
 
--- a whole view cannot own the places below two numbers
+-- a pass cannot have published exactly the places below n and exactly those below a greater e
 two_bounds : (v : View) (n e : ℕ) → n < e → OwnsBelow v n → OwnsBelow v e → ⊥
 two_bounds v n e less a b = let x = (a n).1 (omega arith) in let y = (b n).0 less in omega arith
 

@@ -48,6 +48,8 @@ module _ (P : ExactRead → Type 0) where
 
 -- ---- each two
 
+-- where each two of some reads are in relation R, and each of them is to a further read, each two are with that read
+-- behind them
 pub pairs_more : (R : ExactRead → ExactRead → Type 0) (r : RawRead) (reads : List RawRead) → InPairs R (in_turn reads) →
     Each (λ q. R (exact_read q) (exact_read r)) reads → InPairs R (in_turn (r ∷ reads))
 pairs_more R r reads h e =

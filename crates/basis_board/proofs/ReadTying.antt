@@ -2,7 +2,7 @@
 --
 -- `reads_more`: reads that were noted later stand behind the older ones when both are put in order.
 -- `looks_read`: a look of a pass adds to its reads those of one look.
--- `puts_read`: a publication of a pass adds to its reads those of one put.
+-- `puts_read`: a publication by a pass adds to the pass's reads those of one publication.
 use Rattle.std.proofs.Common.{◌≡◌, ◌≢◌, ℕ, zero, suc, ◌+◌, Bool, true, false, List, [], ◌∷◌, ◌++◌, length, map, Some}
 use Rattle.std.proofs.Common.{None, refl, sym, ap, ◌∙◌, subst, arith}
 use Rattle.std.specs.Prelude.{reverse}

@@ -1,8 +1,9 @@
 -- The longest entry that a view has of a place, and that its words stay in front of later ones.
 --
 -- `longest`: where a place was seen, it has a longest entry, which is at least as long as each of its entries.
--- `seen_grows`: the words that were seen of a place are the first of those that a later consistent view has seen of it.
--- `in_seen`: an entry of the list that a view has seen is an entry of the view.
+-- `seen_grows`: the words that a pass has seen of a place are the first of those that it has seen of it later, if it is
+--   consistent.
+-- `in_seen`: an entry of the list of words that a pass has seen is an entry of what it knows.
 use Rattle.std.proofs.Common.{◌≡◌, ◌⊎◌, ℕ, ◌<◌, ◌≤◌, Bool, true, false, List, [], ◌∷◌, length, Option, Some}
 use Rattle.std.proofs.Common.{None, ltb, refl, sym, ap, ◌∙◌, subst, ⊎_elim, inl, inr, arith, eq-eqb, ne_eqb}
 use Rattle.std.proofs.lemmas.Bool.{cases_eq}

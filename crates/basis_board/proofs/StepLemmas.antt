@@ -16,7 +16,7 @@ use Rattle.basis_board.proofs.Changing.{spelled_with}
 
 -- ---- one place
 
--- the place that is spelled so
+-- where a place is spelled as claimed, some session has claimed it
 taken_place : (ps : List ExactPlace) (k : ℕ) → slice_get (map spelled ps) k ≡ Some Taken →
     (owner : ℕ) × (place_at ps k ≡ Some (place.Claimed owner))
 taken_place [] k e = cc

@@ -1,21 +1,22 @@
 -- The rule of moments: what a step, a split and a meeting keep of it.
 --
--- `grows_same`: words grow to themselves.
--- `set_here`: a seat that has a view has the new one once its view is replaced.
--- `notes_none`: moments that stay the same note nothing more.
--- `note`: a step that notes one read, which is so and is what befell the places, keeps the rule of moments.
--- `hush`: a step that notes nothing and changes neither the count nor a done word keeps the rule of moments.
+-- `grows_same`: the words of a board are no older than themselves.
+-- `set_here`: the pass for which other knowledge is set has this knowledge.
+-- `notes_none`: where the times of a pass are the same, the pass noted nothing more.
+-- `note`: a step that notes one read, which is true and tells what befell the places, keeps the rule of times.
+-- `hush`: a step that notes nothing and changes neither the count nor a done word keeps the rule of times.
 -- `same_notes`: each note of the same reads is one that was there, of the same kind.
 -- `notes_on`: noting more twice is noting more.
 -- `later_on`: a pass that is later than a later one is later.
--- `timed_splits`: cutting a pass in two keeps the rule of moments.
--- `true_join`: reads that were so when they were noted are so too behind others that were.
+-- `timed_splits`: splitting a pass in two keeps the rule of times.
+-- `true_join`: reads that were true when they were noted are so behind others that were.
 -- `notes_join`: the notes of two passes together are those of one behind those of the other.
--- `true_long`: where each read was so at its moment, there are as many moments as reads.
--- `notes_nothing`: a pass with the same reads has the same moments.
--- `timed_joins`: meeting two passes into one keeps the rule of moments.
--- `timed_first`: the rule of moments holds of a new board, whose only pass has noted nothing.
--- `one_log`: when one pass is left, its notes are one log: numbered in order, and each of them was so.
+-- `true_long`: where each read was true at its time, there are as many times as reads.
+-- `notes_nothing`: a pass that goes on with the same reads has the same times.
+-- `timed_joins`: merging two passes into one keeps the rule of times.
+-- `timed_first`: the rule of times holds of a new board, whose only pass has noted nothing.
+-- `one_log`: where one pass alone is left, its notes are one log: numbered in order, and each read was true when it was
+--   noted.
 -- `made_then`: a note that a step made is of words between those before the step and those after it.
 use Rattle.std.proofs.Common.{◌≡◌, ◌≢◌, ◌⊎◌, ℕ, zero, suc, ◌+◌, ◌-◌, ◌<◌, ◌≤◌, List, [], ◌∷◌, ◌++◌, set, eqb}
 use Rattle.std.proofs.Common.{sym, refl, ap, ◌∙◌, subst, ⊎_elim, inl, inr, arith, append_assoc, length, length-append}
@@ -76,7 +77,7 @@ turns_grow (Done k xs) ws us t =
           (λ (n : j ≡ k → ⊥). let p = t.others j n in omega arith) (cases_eq j k);
     }
 
--- a read that turns some words into others turns words alike to them into those others
+-- a read that turns ws into us turns any words like ws into us
 turns_from : (vs ws us : List ℕ) (r : RawRead) → IsLike vs ws → Turns r ws us → Turns r vs us
 turns_from vs ws us (Count c) a t = like_on vs ws us a t
 turns_from vs ws us (Open k) a t = like_on vs ws us a t
@@ -96,7 +97,7 @@ turns_from vs ws us (Done k xs) a t = record {
 
 -- ---- which notes there are
 
--- the number of a moment that a list has stands there at least once
+-- the number of a time is in a list that has the time at least once
 has_stamp : (ms : List Moment) (m : Moment) → Has ms m → 1 ≤ stamped_in m.0 ms
 has_stamp [] m h = absurd h
 has_stamp (n ∷ ms) m h =
@@ -105,7 +106,7 @@ has_stamp (n ∷ ms) m h =
     subst (λ (z : Moment). one_if (eqb n.0 z.0) ≡ 1) e (times_here n.0) in omega arith)
     (λ (r : Has ms m). let x = has_stamp ms m r in omega arith) h
 
--- where a number stands in a list of moments, the list has a moment of that number
+-- where a number is in a list of times, the list has a time of that number
 stamp_has : (t : ℕ) (ms : List Moment) → 1 ≤ stamped_in t ms → (m : Moment) × Has ms m × (m.0 ≡ t)
 stamp_has t [] l = absurd (omega arith)
 stamp_has t (n ∷ ms) l =
@@ -114,7 +115,7 @@ stamp_has t (n ∷ ms) l =
     let r = stamp_has t ms (omega arith) in (r.0, inr r.1, r.2))
     (cases_eq n.0 t)
 
--- a number stands in two lists of moments together as often as in one and in the other
+-- a number is in two lists of times together as often as in both added up
 stamps_join : (t : ℕ) (ms ns : List Moment) → stamped_in t (ms ++ ns) ≡ stamped_in t ms + stamped_in t ns
 stamps_join t [] ns = omega arith
 stamps_join t (m ∷ ms) ns = let h = stamps_join t ms ns in omega arith
@@ -127,7 +128,7 @@ has_either {X} (z ∷ xs) ys x h =
     (λ (q : Has (xs ++ ys) x).
     ⊎_elim (λ (a : Has xs x). inl (inr a)) (λ (b : Has ys x). inr b) (has_either xs ys x q)) h
 
--- the moment of a note
+-- the time of a note of a pass is one of the times of its reads
 has_moment : (ms : List Moment) (rs : List RawRead) (n : Note) → Has (notes ms rs) n → Has ms (n.number, n.words)
 has_moment [] rs n h = absurd h
 has_moment (m ∷ ms) [] n h = absurd h
@@ -135,7 +136,7 @@ has_moment (m ∷ ms) (r ∷ rs) n h =
     ⊎_elim (λ (e : record { number = m.0; words = m.1; read = r } ≡ n). inl (ap (λ (z : Note). (z.number, z.words)) e))
     (λ (q : Has (notes ms rs) n). inr (has_moment ms rs n q)) h
 
--- the moment of a note that a pass has is one that is noted
+-- the time of a note that some pass has is a time of some pass
 note_noted : (vs : List Sight) (n : Note) → HasNote vs n → IsNoted vs (n.number, n.words)
 note_noted vs n h = (h.0, h.1, h.2, has_moment h.1.moments h.1.view.reads n h.3)
 
@@ -150,13 +151,13 @@ HadAlike old n = (q : RawRead) × Has old (record n { read = q }) × TurnsAlike 
 abbrev WasNote : List Sight → Note → Type 0
 WasNote vs n = (q : RawRead) × HasNote vs (record n { read = q }) × TurnsAlike q n.read
 
--- the number of a noted moment stands at least once in all passes together
+-- the number of a time of some pass is counted at least once over all passes
 noted_total : (vs : List Sight) (m : Moment) → IsNoted vs m → 1 ≤ total (stamped m.0) vs
 noted_total vs m n =
     let a = has_stamp n.1.moments m n.3 in
     let b = total_at (stamped m.0) vs n.0 n.1 n.2 in omega arith
 
--- a number that stands in all passes together is the number of a noted moment
+-- a number that is counted over all passes is the number of a time of some pass
 total_noted : (t : ℕ) (vs : List Sight) → 1 ≤ total (stamped t) vs → (m : Moment) × IsNoted vs m × (m.0 ≡ t)
 total_noted t [] l = absurd (omega arith)
 total_noted t (v ∷ vs) l =
@@ -166,7 +167,7 @@ total_noted t (v ∷ vs) l =
     (r.0, (suc r.1.0, r.1.1, r.1.2, r.1.3), r.2))
     (cases_lt 0 (stamped t v))
 
--- a moment noted after a sight is replaced is one of the new sight or was noted before
+-- after what one pass knows is replaced, each time is one of the new ones or was a time of some pass before
 noted_set : (vs : List Sight) (id : ℕ) (w : Sight) (m : Moment) → IsNoted (set vs id w) m →
     Has w.moments m ⊎ IsNoted vs m
 noted_set vs id w m n =
@@ -174,7 +175,7 @@ noted_set vs id w m n =
     (λ (t : (n.0 ≢ id) × (get_elem? vs n.0 ≡ some n.1)). inr (n.0, n.1, t.1, n.3))
     (at_set vs id n.0 w n.1 n.2)
 
--- a note there after a sight is replaced is one of the new sight or was there before
+-- after what one pass knows is replaced, each note is one of the new ones or was there before
 note_set : (vs : List Sight) (id : ℕ) (w : Sight) (n : Note) → HasNote (set vs id w) n →
     Has (notes_in w) n ⊎ HasNote vs n
 note_set vs id w n h =
@@ -182,7 +183,7 @@ note_set vs id w n h =
     (λ (t : (h.0 ≢ id) × (get_elem? vs h.0 ≡ some h.1)). inr (h.0, h.1, t.1, h.3))
     (at_set vs id h.0 w h.1 h.2)
 
--- what holds of a new sight and of all sights holds of each when the new one replaces one
+-- a property of what each pass knows stays where what one pass knows is replaced by knowledge with the property
 sights_stay : (P : Sight → Type 0) (vs : List Sight) (id : ℕ) (w : Sight) → P w →
     ((j : ℕ) (u : Sight) → get_elem? vs j ≡ some u → P u) → (j : ℕ) (u : Sight) →
     get_elem? (set vs id w) j ≡ some u → P u
@@ -204,7 +205,7 @@ set_there (z ∷ zs) zero (suc j) x y n e = e
 set_there (z ∷ zs) (suc i) zero x y n e = e
 set_there (z ∷ zs) (suc i) (suc j) x y n e = set_there zs i j x y (λ q. n (ap suc q)) e
 
--- each noted moment has a number below the number of notes so far
+-- the number of each time is below the count of all reads that were noted
 noted_before : (ws : List ℕ) (vs : List Sight) (r : Timed ws vs) (m : Moment) → IsNoted vs m → m.0 < r.now
 noted_before ws vs r m n =
     ⊎_elim (λ (l : m.0 < r.now). l)
@@ -213,7 +214,7 @@ noted_before ws vs r m n =
 
 -- ---- steps
 
--- the same notes, however they are shared out
+-- the rule of times stays where the same reads are noted, however they are divided among the passes
 timed_same : (ws us : List ℕ) (vs vs' : List Sight) → Timed ws vs → Grows ws us → Grows us ws →
     ((t : ℕ) → total (stamped t) vs' ≡ total (stamped t) vs) → ((m : Moment) → IsNoted vs' m → IsNoted vs m) →
     ((n : Note) → HasNote vs' n → WasNote vs n) →
@@ -528,14 +529,14 @@ timed_first ws places none =
         subst (λ (u : Sight). WereTrue u.moments u.view.reads) (some-injective (first_sight places) v e) tt
     one (suc j) v e = absurd (some-ne-none v (sym e))
 
--- where the reads were true at their moments, a number stands in the notes as often as in the moments
+-- where the reads were true at their times, a number is in the notes as often as in the times
 numbered_is : (t : ℕ) (ms : List Moment) (rs : List RawRead) → WereTrue ms rs →
     numbered t (notes ms rs) ≡ stamped_in t ms
 numbered_is t [] rs h = refl
 numbered_is t (m ∷ ms) [] h = absurd h
 numbered_is t (m ∷ ms) (r ∷ rs) h = ap (λ x. one_if (eqb m.0 t) + x) (numbered_is t ms rs h.1)
 
--- where the reads were true at their moments, each note's read is true of the note's words
+-- where the reads were true at their times, each note's read is true of the note's words
 note_true : (ms : List Moment) (rs : List RawRead) → WereTrue ms rs → (n : Note) → Has (notes ms rs) n →
     IsTrueOf n.words n.read
 note_true [] rs h n x = absurd x

@@ -106,7 +106,7 @@ done_kept seen (Claim k) s a = tt
 done_kept seen (Lost c) s a = tt
 done_kept seen (Done k words) s a = (s.0, s.1, s.2, a)
 
--- two lists of words that agree as far as both go
+-- 25 or 49 words that are the same as a place's 49 words, up to their end, are what may be seen of the place
 shown_of : (payload words : List ℕ) → length payload ≡ 49 →
     ((i : ℕ) → i < length words → i < length payload → get_or words i 0 ≡ get_or payload i 0) →
     (length words ≡ 49) ⊎ (length words ≡ 25) → IsShown payload words

@@ -15,7 +15,7 @@ abbrev pub Has : {X : Type 0} → List X → X → Type 0
 Has [] y = ⊥
 Has (x ∷ xs) y = (x ≡ y) ⊎ Has xs y
 
--- f of each view, added up
+-- the sum of what f gives for each element of a list
 abbrev pub total : {X : Type 0} → (X → ℕ) → List X → ℕ
 total f [] = 0
 total f (x ∷ xs) = f x + total f xs
@@ -48,31 +48,31 @@ abbrev pub holding_in : ℕ → Option (ℕ × List ℕ) → ℕ
 holding_in k None = 0
 holding_in k (Some p) = one_if (p.0 == k)
 
--- 1 where the view holds place k
+-- 1 where the pass that knows v has claimed place k and not published it, and else 0
 abbrev pub holding : ℕ → View → ℕ
 holding k v = holding_in k v.held
 
--- how often the view published place k: at most once while the rule holds
+-- how often place k is among the places that the pass which knows v published: at most once while the rule holds
 abbrev pub owning : ℕ → View → ℕ
 owning k v = times k v.own
 
--- how many of the 64 parts the view has
+-- how many of the 64 parts of the right to the board the pass that knows v has
 abbrev pub share_of : View → ℕ
 share_of v = v.share
 
--- the view of a pass that was met into another
+-- what a pass knows after it was merged into another: nothing, and it has no part of the right to the board
 abbrev pub spent : View
 spent = record { places = 0; share = 0; held = None; seen = []; own = []; reads = [] }
 
--- the view of a new board's only pass: it has all 64 parts, and has read nothing
+-- what the only pass of a new board knows: it has all 64 parts of the right to the board, and has read nothing
 abbrev pub first_view : ℕ → View
 first_view places = record { places = places; share = 64; held = None; seen = []; own = []; reads = [] }
 
--- the view with one read more
+-- what a pass knows after one more read
 abbrev pub noted : View → RawRead → View
 noted v r = record v { reads = r ∷ v.reads }
 
--- the view that claimed place k, of which it has stored no word
+-- what a pass knows after it claimed place k, in which it has stored no word
 abbrev pub claiming : View → ℕ → View
 claiming v k = record v { held = Some (k, []); reads = Claim k ∷ v.reads }
 
@@ -81,17 +81,17 @@ abbrev pub grown_held : Option (ℕ × List ℕ) → ℕ → Option (ℕ × List
 grown_held None b = None
 grown_held (Some p) b = Some (p.0, p.1 ++ b ∷ [])
 
--- the view that stored one word more of the place that it holds
+-- what a pass knows after it stored one more word in the place that it claimed
 abbrev pub writing : View → ℕ → View
 writing v b = record v { held = grown_held v.held b }
 
--- the view that published the place which it held, with the words that it stored there
+-- what a pass knows after it published the place that it had claimed, with the words that it stored there
 abbrev pub finished : Option (ℕ × List ℕ) → View → View
 finished None v = v
 finished (Some p) v =
     record v { held = None; seen = p ∷ v.seen; own = v.own ++ p.0 ∷ []; reads = Done p.0 p.1 ∷ v.reads }
 
--- the view that read place k as done, and has read none of its words
+-- what a pass knows after it read that place k is done, and none of its words
 abbrev pub opening_place : View → ℕ → View
 opening_place v k = record v { seen = (k, []) ∷ v.seen; reads = See k [] ∷ v.reads }
 
@@ -125,15 +125,17 @@ abbrev pub head_words : List (ℕ × List ℕ) → List ℕ
 head_words [] = []
 head_words (p ∷ ps) = p.1
 
--- the view of a pass from which another was cut off: it keeps all but one part
+-- what a pass knows after another was split off: all that it knew, with one part of the right to the board less
 abbrev pub cut_left : View → View
 cut_left v = record v { share = v.share - 1 }
 
--- the view of a pass that was cut off: it has one part, and has seen what the other had
+-- what a pass knows that was split off another: it has one part of the right to the board, and has seen what the other
+-- had
 abbrev pub cut_right : View → View
 cut_right v = record { places = v.places; share = 1; held = None; seen = v.seen; own = []; reads = [] }
 
--- the view that has both shares, and knows what either does; the second one's reads are the newer ones
+-- what a pass knows after another was merged into it: it has the parts of both and knows what either does; the other's
+-- reads are newer
 abbrev pub met : View → View → View
 met v w =
     record {
@@ -145,15 +147,15 @@ met v w =
       reads = w.reads ++ v.reads;
     }
 
--- the view, when the place k was read as done and then these words of it
+-- what a pass knows after it read that place k is done, and these words of it
 abbrev pub seeing : View → ℕ → List ℕ → View
 seeing v k xs = record v { seen = (k, xs) ∷ v.seen; reads = See k xs ∷ v.reads }
 
--- the view, when the claimer of place k has stored these words
+-- what a pass knows after it stored these words in the place k that it claimed
 abbrev pub storing : View → ℕ → List ℕ → View
 storing v k xs = record v { held = Some (k, xs) }
 
--- the view that read the count k, claimed place k, stored these words and published them
+-- what a pass knows after it read the count k, claimed place k, stored these words and published them
 abbrev pub publishing : View → ℕ → List ℕ → View
 publishing v k xs =
     record v {

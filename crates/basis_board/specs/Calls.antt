@@ -14,11 +14,11 @@ use Rattle.basis_board.specs.Board.{Each, noted, seeing, publishing, met}
 use Rattle.basis_board.specs.Rule.{OwnsBelow, Consistent}
 pub use Rattle.basis_board.specs.Rule.{CountTells}
 
--- the view of the pass that this seat makes: what it has read, seen and published
+-- what the pass of this seat knows: what it has read, seen and published
 abbrev pub known : Seat ℕ Sight → View
 known s = s.me.0.view
 
--- they are one seat of one table, and hold the same words of it
+-- two seats are one seat of one table, and hold the same words of it
 abbrev pub IsSameSeat : Seat ℕ Sight → Seat ℕ Sight → Type 0
 IsSameSeat s t = (t.table_id ≡ s.table_id) × (t.id ≡ s.id) × (t.me.1 ≡ s.me.1)
 
@@ -49,7 +49,7 @@ Puts v xs (Published k) w = IsPublished v xs k w
 Puts v xs (Full c) w = IsFull v c w
 Puts v xs (Raced e) w = IsRaced v e w
 
--- words that were seen of a place, if it is place k, are the words xs as far as both go
+-- where an entry of seen words is of place k, its words and xs are the same up to the end of the shorter list
 abbrev pub AgreesWith : ℕ → List ℕ → ℕ × List ℕ → Type 0
 AgreesWith k xs p = p.0 ≡ k → (i : ℕ) → i < length xs → i < length p.1 → slice_index p.1 i ≡ slice_index xs i
 
@@ -96,11 +96,11 @@ abbrev pub Passed : List ℕ → ℕ → ℕ → List RawRead → Type 0
 Passed shape c k [] = k ≡ c
 Passed shape c k (r ∷ rs) = SeesOther shape k r × Passed shape c (k + 1) rs
 
--- the words of the place were read at least as far as their shape, which is this one
+-- at least 25 words of the place were read, and these first 25 are the shape
 abbrev pub HasShape : List ℕ → ℕ × List ℕ → Type 0
 HasShape shape p = (25 ≤ length p.1) × (take 25 p.1 ≡ shape)
 
--- the view that read the count c, then made these newer reads, and saw these places more
+-- what a pass knows after it read the count c, then made these newer reads, and saw these words of places
 abbrev pub looked : View → ℕ → List RawRead → List (ℕ × List ℕ) → View
 looked v c added more = record v { seen = more ++ v.seen; reads = added ++ Count c ∷ v.reads }
 

@@ -8,7 +8,7 @@ use Rattle.spec_board.specs.Words.{IsWellFormed}
 use Rattle.basis_board.specs.Board.{Has, times, count, done, Shows, holding}
 use Rattle.basis_board.specs.Rule.{Kept}
 
--- one view at one seat has f 1, and f is 0 of all others
+-- f is 1 of what one pass knows, and 0 of what any other pass knows
 pub record JustOne (f : View → ℕ) (views : List View) : Type 0 where
   pub seat : ℕ
   pub view : View
@@ -16,36 +16,37 @@ pub record JustOne (f : View → ℕ) (views : List View) : Type 0 where
   pub one : f view ≡ 1
   pub others : (j : ℕ) (u : View) → j ≢ seat → get_elem? views j ≡ some u → f u ≡ 0
 
--- No view of the board counts: f, which counts something of a view, is 0 for each view of the list.
+-- f is 0 of what each pass of the board knows
 abbrev pub NoView : (View → ℕ) → List View → Type 0
 NoView f views = (j : ℕ) (u : View) → get_elem? views j ≡ some u → f u ≡ 0
 
--- the place is claimed by one view, which knows what it wrote
+-- the place is claimed by exactly one pass, which knows what it wrote there, and the place is not done
 pub record IsTaken (s : State ℕ View) (k : ℕ) : Type 0 where
   pub holder : JustOne (holding k) s.views
   pub words : (xs : List ℕ) → holder.view.held ≡ Some (k, xs) → Shows s.words k xs
   pub undone : done s.words k ≡ 0
   pub in_no_own : NoView (λ v. times k v.own) s.views
 
--- the place is done and well formed, and stands in `own` of one view, once
+-- the place is done, its words are well formed, and exactly one pass published it, once
 pub record IsShown (s : State ℕ View) (k : ℕ) : Type 0 where
   pub no_holder : NoView (holding k) s.views
   pub is_done : done s.words k ≡ 1
   pub formed : (xs : List ℕ) × Shows s.words k xs × IsWellFormed xs
   pub owner : JustOne (λ v. times k v.own) s.views
 
--- the view finds each place that it has seen done, and beginning with what it has seen of it; it has seen all words of
--- a place that it published
+-- each place that a pass has seen is done and begins with the words that it saw; it has seen all words of a place that
+-- it published
 pub record Remembers (s : State ℕ View) (v : View) : Type 0 where
   pub seen : (k : ℕ) (xs : List ℕ) → Has v.seen (k, xs) → (done s.words k ≡ 1) × Shows s.words k xs
   pub own : (k : ℕ) → Has v.own k → (xs : List ℕ) × Has v.seen (k, xs) × (length xs ≡ 49)
 
--- what the rule says: each place below the count is taken or shown, none from there on is, and each view remembers
+-- the board's rule in plain words: each place below the count is claimed or done, none from there on is, and what
+-- passes saw stays
 pub record Means (s : State ℕ View) : Type 0 where
   pub below : (k : ℕ) → k < count s.words → IsTaken s k ⊎ IsShown s k
   pub beyond : (k : ℕ) → count s.words ≤ k → (done s.words k ≡ 0) × NoView (holding k) s.views
   pub views : (j : ℕ) (v : View) → get_elem? s.views j ≡ some v → Remembers s v
 
--- for each state that keeps the rule of the board, what the rule says in plain words is true
+-- in each state of a board that keeps the rule `Kept`, what `Means` says in plain words is true
 abbrev pub AllMeans : Type 0
 AllMeans = (places : ℕ) (s : State ℕ View) → Kept places s → Means s

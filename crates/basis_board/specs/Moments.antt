@@ -15,7 +15,7 @@ use Rattle.basis_board.specs.Rule.{Kept, learned}
 abbrev pub Moment : Type 0
 Moment = ℕ × List ℕ
 
--- a read with its moment
+-- a read of the board, its number among all reads, and the board's words when it was noted
 pub record Note : Type 0 where
   pub number : ℕ
   pub words : List ℕ
@@ -31,13 +31,13 @@ notes (m ∷ ms) (r ∷ rs) = record { number = m.0; words = m.1; read = r } ∷
 abbrev pub notes_in : Sight → List Note
 notes_in v = notes v.moments v.view.reads
 
--- a view with these moments
+-- what a pass knows, with the times at which it noted its reads
 abbrev pub sight : View → List Moment → Sight
 sight v ms = record { view = v; moments = ms }
 
 -- ---- what words say of a read
 
--- what a read says is so of these words
+-- what a read says is true of the board's words ws
 abbrev pub IsTrueOf : List ℕ → RawRead → Type 0
 IsTrueOf ws (Count c) = count ws ≡ c
 IsTrueOf ws (Open k) = done ws k ≡ 0
@@ -46,7 +46,7 @@ IsTrueOf ws (Claim k) = count ws ≡ k + 1
 IsTrueOf ws (Lost c) = count ws ≡ c
 IsTrueOf ws (Done k xs) = done ws k ≡ 1
 
--- each read has its moment, and was so then
+-- each read has its time, and was true of the board's words at that time
 abbrev pub WereTrue : List Moment → List RawRead → Type 0
 WereTrue [] [] = Unit {0}
 WereTrue [] (r ∷ rs) = ⊥
@@ -89,7 +89,7 @@ Turns other ws us = IsLike ws us
 abbrev pub stamped_in : ℕ → List Moment → ℕ
 stamped_in t ms = total (λ m. one_if (m.0 == t)) ms
 
--- 1 where the pass with this sight made note number t
+-- 1 where the pass noted the read of number t, and else 0
 abbrev pub stamped : ℕ → Sight → ℕ
 stamped t v = stamped_in t v.moments
 
@@ -117,39 +117,39 @@ pub record Timed (ws : List ℕ) (sights : List Sight) : Type 0 where
       Turns n.read m.1 n.words
   pub were_true : (j : ℕ) (v : Sight) → get_elem? sights j ≡ some v → WereTrue v.moments v.view.reads
 
--- the state without its moments
+-- the state of a board without the times at which reads were noted
 abbrev pub viewed : State ℕ Sight → State ℕ View
 viewed s = record { words = s.words; homes = s.homes; views = map (λ v. v.view) s.views }
 
--- the whole rule
+-- the whole rule of a board: `Kept` of its words and passes, and `Timed` of the times at which reads were noted
 pub record KeptInTime (places : ℕ) (s : State ℕ Sight) : Type 0 where
   pub kept : Kept places (viewed s)
   pub timed : Timed s.words s.views
 
 -- ---- what a step, and a call, does to the moments of a pass
 
--- each of these moments is later than those before it, the newest first
+-- each of these times is later than all times behind it in the list, as the newest is first
 abbrev pub ComeAfter : List Moment → List Moment → Type 0
 ComeAfter [] old = Unit {0}
 ComeAfter (m ∷ ms) old = Each (λ n. n.0 < m.0) (ms ++ old) × ComeAfter ms old
 
--- later moments came to the old ones, which stay
+-- a pass noted further reads, later than its old ones, which stay
 pub record NotesMore (old new : List Moment) : Type 0 where
   pub more : List Moment
   pub all : new ≡ more ++ old
   pub later : ComeAfter more old
 
--- From sight v to sight w of a pass, only moments later than those of v were added. Each read of w was true of the
--- board's words at its moment.
+-- From v to w a pass only noted further reads, later than its old ones. Each read of w was true of the board's words
+-- when it was noted.
 pub record Later (v w : Sight) : Type 0 where
   pub notes : NotesMore v.moments w.moments
   pub were_true : WereTrue w.moments w.view.reads
 
--- a seat's view and its held slots, without its moments
+-- what a seat's pass knows and the slots that it holds, without the times at which reads were noted
 abbrev pub seen_of : Me ℕ Sight → Me ℕ View
 seen_of m = (m.0.view, m.1)
 
--- a kind of step that does so besides what it tells of the view
+-- a kind of step as `told` has it, in which the pass besides only notes further reads, which were true then
 abbrev pub in_time : (Step ℕ → Me ℕ View → ℕ → Me ℕ View → Type 0) → Step ℕ → Me ℕ Sight → ℕ → Me ℕ Sight → Type 0
 in_time told st m n m' = told st (seen_of m) n (seen_of m') × Later m.0 m'.0
 
@@ -178,29 +178,29 @@ learned_in_time st m n m' =
 
 -- ---- passes as they begin, are cut in two, and meet
 
--- the sight of a new board's only pass
+-- what the only pass of a new board knows, with the times of its reads: none
 abbrev pub first_sight : ℕ → Sight
 first_sight places = sight (first_view places) []
 
--- the sight of a pass from which another was cut off
+-- what a pass knows after another was split off, with the times of its reads
 abbrev pub left_sight : Sight → Sight
 left_sight v = sight (cut_left v.view) v.moments
 
--- the sight of a pass that was cut off: it has noted nothing
+-- what a pass knows that was split off another, with the times of its reads: none
 abbrev pub right_sight : Sight → Sight
 right_sight v = sight (cut_right v.view) []
 
--- the sight of two passes that were met into one
+-- what a pass knows after another was merged into it, with the times of the reads of both
 abbrev pub met_sight : Sight → Sight → Sight
 met_sight v w = sight (met v.view w.view) (w.moments ++ v.moments)
 
--- the sight of a pass that was met into another
+-- what a pass knows after it was merged into another: nothing
 abbrev pub spent_sight : Sight
 spent_sight = sight spent []
 
 -- ---- what no kind of step can do
 
--- these words lie between those
+-- the board's words at time m are no older than ws, and us is no older than these words
 pub record IsBetween (ws us : List ℕ) (m : Moment) : Type 0 where
   pub after : Grows ws m.1
   pub before : Grows m.1 us

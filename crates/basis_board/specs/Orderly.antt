@@ -13,7 +13,7 @@ IsWhole (Seen k words) = (length words ≡ basis_words) ⊎ (length words ≡ sh
 IsWhole (Done k words) = length words ≡ basis_words
 IsWhole other = Unit {0}
 
--- the view's reads are in order, in pairs, and each is of a whole shape or of all words
+-- each two reads of a pass are in an order that can be, and each read is of a whole shape or of all words of a place
 pub record IsOrderly (v : View) : Type 0 where
   pub ordered : InPairs AreInOrder (reads_of v)
   pub whole : AllByRecursion IsWhole (reads_of v)

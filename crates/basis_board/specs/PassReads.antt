@@ -33,7 +33,7 @@ pub record AddsLook (shape : Words) (look : Look) (before after : View) : Type 0
   pub reads : LookReads shape made (looked_by look)
   pub all : reads_of after ≡ reads_of before ++ made
 
--- the pass reads one put more
+-- the reads of a pass grow by those of one publication
 pub record AddsPut (words : Words) (put : Put) (before after : View) : Type 0 where
   pub made : List ExactRead
   pub reads : PutReads before.places words put made

@@ -33,7 +33,7 @@ AreFounded places made (x ∷ log) = Supposes places made x.session x.read × Ar
 abbrev pub IsOfWorker : ℕ → ℕ → Logged → Type 0
 IsOfWorker workers worker x = x.session % workers ≡ worker
 
--- these are the reads of a pass, in order, by which a worker served its sessions
+-- the log is the reads of a pass, in order, by which a worker served its own sessions
 pub record IsLogOf (places workers worker : ℕ) (pass : Known) (log : List Logged) : Type 0 where
   pub reads : map (λ (x : Logged). x.read) log ≡ reads_of pass.view
   pub own : AllByRecursion (IsOfWorker workers worker) log

@@ -20,7 +20,7 @@ HeldFits ws (Some p) = Shows ws p.0 p.1
 abbrev pub SeenFits : List ℕ → ℕ × List ℕ → Type 0
 SeenFits ws p = (done ws p.0 ≡ 1) × Shows ws p.0 p.1
 
--- the view has seen all words of place k
+-- all 49 words of place k were seen
 abbrev pub OwnFits : List (ℕ × List ℕ) → ℕ → Type 0
 OwnFits seen k = (xs : List ℕ) × Has seen (k, xs) × (length xs ≡ 49)
 
@@ -32,7 +32,7 @@ ReadFits ws (See k xs) = SeenFits ws (k, xs)
 ReadFits ws (Done k xs) = SeenFits ws (k, xs)
 ReadFits ws r = Unit {0}
 
--- two lists agree as far as both go
+-- two entries of seen words, if they are of one place, are the same up to the end of the shorter one
 abbrev pub Agree : ℕ × List ℕ → ℕ × List ℕ → Type 0
 Agree p q = p.0 ≡ q.0 → (i : ℕ) → i < length p.1 → i < length q.1 → slice_index p.1 i ≡ slice_index q.1 i
 
@@ -48,12 +48,13 @@ StandsIn seen (See k xs) = (ys : List ℕ) × Has seen (k, ys) × (length xs ≤
 StandsIn seen (Done k xs) = (ys : List ℕ) × Has seen (k, ys) × (length xs ≤ length ys)
 StandsIn seen r = Unit {0}
 
--- what holds of a view whatever the words are
+-- what a pass knows is in itself in order, whatever the board's words are: its publications are among its reads, and
+-- its reads in what it saw
 pub record Neat (v : View) : Type 0 where
   pub published : v.own ≡ published_places v.reads
   pub stands : Each (StandsIn v.seen) v.reads
 
--- what the rule says of one view
+-- what the board's rule says of one pass: what it knows is true of the board's words
 pub record Fits (places : ℕ) (ws : List ℕ) (v : View) : Type 0 where
   pub on_board : 0 < v.share → v.places ≡ places
   pub is_spent : v.share ≡ 0 → v ≡ spent
@@ -70,7 +71,8 @@ pub record PlaceFits (ws : List ℕ) (views : List View) (k : ℕ) : Type 0 wher
   pub owned : total (owning k) views ≡ done ws k
   pub formed : done ws k ≡ 1 → (xs : List ℕ) × Shows ws k xs × IsWellFormed xs
 
--- the rule of a board of so many places: of its words, of each place, of each view, and of the shares of all
+-- the rule of a board of so many places: of its words, of each place, of what each pass knows, and of the 64 parts of
+-- all passes
 pub record Kept (places : ℕ) (s : State ℕ View) : Type 0 where
   pub wide : length s.words ≡ 50 * places + 1
   pub bounded : count s.words ≤ places
@@ -84,7 +86,7 @@ ReadAgrees seen (See k xs) = Each (Agree (k, xs)) seen
 ReadAgrees seen (Done k xs) = Each (Agree (k, xs)) seen
 ReadAgrees seen r = Unit {0}
 
--- what the rule says of a view by itself, whatever the words are now
+-- what the board's rule says of a pass by itself, whatever the board's words are now
 pub record Consistent (v : View) : Type 0 where
   pub neat : Neat v
   pub agree : Each (λ p. Each (Agree p) v.seen) v.seen
@@ -93,7 +95,7 @@ pub record Consistent (v : View) : Type 0 where
   pub own : Each (OwnFits v.seen) v.own
   pub once : (k : ℕ) → times k v.own ≤ 1
 
--- while a view is whole, it owns the places below n and no others
+-- the pass published each place below n once, and no other place
 abbrev pub OwnsBelow : View → ℕ → Type 0
 OwnsBelow v n = (k : ℕ) → (k < n → times k v.own ≡ 1) × (n ≤ k → times k v.own ≡ 0)
 
@@ -138,7 +140,7 @@ pub record Saw (k : ℕ) (v : View) (n : ℕ) (w : View) : Type 0 where
   pub not_done : n ≡ 0 → w ≡ noted v (Open k)
   pub known : Each (λ p. p.0 ≡ k → n ≡ 1) v.seen
 
--- p begins with n at m, as far as it goes
+-- where an entry of seen words is of place k and has a word m, that word is n
 abbrev pub HasAt : ℕ → ℕ → ℕ → ℕ × List ℕ → Type 0
 HasAt k m n p = p.0 ≡ k → m < length p.1 → slice_index p.1 m ≡ n
 

@@ -38,8 +38,8 @@ pub fn whole_passes_own_all()
     ensures { (v : View) (count : ℕ) → OwnsBelow v count → length v.own ≡ count }
 {}
 
-/// What a step of a seat notes was so of words between those before the step and those after it. The rule has to hold
-/// before and after. So a load notes only what is so when it loads.
+/// What a step of a pass notes was true of words between those before the step and those after it, where the rule holds
+/// before and after. So a load notes only what is true when it loads.
 pub fn notes_are_made_then()
     ensures { NotesAreMadeThen }
 {}

@@ -35,13 +35,13 @@ pub fn looks_are_read()
         Looks shape before look after → AddsLook shape look before after }
 {}
 
-/// Where a pass publishes on the board, its reads grow by this put alone.
+/// Where a pass publishes on the board, its reads grow by those of this publication alone.
 pub fn puts_are_read()
     ensures { (words : Words) (before after : View) (put : Put) →
         Puts before words put after → AddsPut words put before after }
 {}
 
-/// What is read of places changes them as a step of a board changes those that its words spell.
+/// A read that the places answer changes them as a step of a board changes the places that its words spell.
 pub fn reads_change_the_board()
     ensures { (places session : ℕ) (now next : List ExactPlace) (made : ExactRead) →
         Answers places now session made next → Changes now made next }
@@ -76,7 +76,7 @@ pub fn whole_passes_are_backed()
         AllByRecursion IsWhole (reads_of v) → AreBacked (reads_of v) }
 {}
 
-/// Reads that are backed are so in any other order.
+/// Reads that fit each other in one order (`AreBacked`) do so in any other order.
 pub fn backed_in_any_order()
     ensures { (a b : List ExactRead) → IsPermutation a b → AreBacked a → AreBacked b }
 {}

@@ -2,9 +2,9 @@
 --
 -- `near`: the items between two places of a list, the second of which is at most 4,096, are at most 4,096.
 -- `near_front`: the first `n` items of a list, with `n` at most 4,096, are at most 4,096.
--- `no_ahead`: where the buffer's bytes end at or before the place of the next one, no byte is ahead.
+-- `no_ahead`: where the buffer's bytes end at or before the place of the next one, no byte is unread.
 -- `reads_none`: at the end of the input `ReadsOn` holds with nothing read and the answer `false`.
--- `reads_some`: where bytes are ahead, `ReadsOn` holds with nothing read and the answer `true`.
+-- `reads_some`: where bytes of the buffer are unread, `ReadsOn` holds with nothing read and the answer `true`.
 -- `refilled_len`: 4,096 bytes written over the front of a buffer of 4,096 leave its length.
 -- `refilled`: the first `n` bytes of a buffer that was written over are those of what was written.
 -- `reads_filled`: where nothing was ahead, `ReadsOn` holds after a read that fills the buffer's front. No byte read is

@@ -146,7 +146,7 @@ state_is r ahead given ended a g e =
     ∙ ap (λ (x : ℕ). let w : LinesState = record { ahead = ahead; given = x; ended = r.ended } in w) g
     ∙ ap (λ (x : Bool). let w : LinesState = record { ahead = ahead; given = given; ended = x } in w) e
 
--- where nothing is ahead, all bytes belong to the line
+-- where no byte of the buffer is unread, all bytes that were read belong to the line
 all_raw : {before after : Option (List ℕ)} {old new : LinesState} {part : Part} (s : SoFar before after old new part) →
     new.ahead ≡ [] → old.ahead ++ s.bytes ≡ s.raw
 all_raw s none = s.cut ∙ ap (λ xs. s.raw ++ xs) none ∙ append-nil s.raw

@@ -8,7 +8,7 @@ pub record SinkState : Type 0 where
   pub taken : Option (List ℕ)
   pub write_faults : ℕ
 
--- what is left of a source, where it is known, and how often it failed
+-- the bytes that are still to be read of a source, where they are known, and how often reading failed
 pub record SourceState : Type 0 where
   pub left : Option (List ℕ)
   pub read_faults : ℕ

@@ -7,6 +7,6 @@ pub record LinesState : Type 0 where
   pub given : ℕ
   pub ended : Bool
 
--- nothing was read
+-- the state of a reader of lines that has read nothing
 abbrev pub at_start : LinesState
 at_start = record { ahead = []; given = 0; ended = false }

@@ -8,7 +8,7 @@ use Rattle.lp_base.specs.declared.mem_event.MemEvent.{MemEvent}
 use Rattle.lp_base.specs.declared.mem_event.MemEvent.TheVariants.{Given, Returned}
 use Rattle.lp_base.specs.declared.mem_link.MemLink.{MemLink}
 
--- what is known of a link in memory
+-- the state of a link in memory: its unread bytes, the bytes that it took, and how often reads and writes failed
 abbrev pub mem_link_state : MemLink → LinkState
 mem_link_state link = record {
   source = source_of (Some (unread link.source)) (source_faults link.source);

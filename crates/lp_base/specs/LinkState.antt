@@ -10,7 +10,8 @@ source_of left faults = record { left = left; read_faults = faults }
 abbrev pub sink_of : Option (List ℕ) → ℕ → SinkState
 sink_of taken faults = record { taken = taken; write_faults = faults }
 
--- what is left to be read and what was taken, where they are known, and how often reads and writes have failed
+-- the bytes still to be read of a link and the bytes that it took, where they are known, and how often reads and writes
+-- failed
 pub record LinkState : Type 0 where
   pub source : SourceState
   pub sink : SinkState

@@ -8,12 +8,12 @@ pub data LinkEvent : Type 0 where
   Given : (link : LinkState) → LinkEvent
   Returned : (link : LinkState) → LinkEvent
 
--- a log that is known has these events more at its end; one that is not known stays so
+-- a log that is known has these further events at its end; a log that is not known stays unknown
 abbrev pub Grows : Option (List LinkEvent) → Option (List LinkEvent) → List LinkEvent → Type 0
 Grows None after more = after ≡ None
 Grows (Some log) after more = after ≡ Some (log ++ more)
 
--- that a link was given is the last of the log
+-- a listener that gives a link has this as the last event of its log; one that fails keeps its log
 abbrev pub HandsOver : {L : Type 0} → (L → LinkState) → Option (List LinkEvent) → Option (List LinkEvent) →
     Result L Failed → Type 0
 HandsOver known before after (Ok link) = Grows before after (Given (known link) ∷ []) × IsNothing (known link).sink.taken
@@ -30,8 +30,8 @@ abbrev pub HasOneOut : Option (List LinkEvent) → Type 0
 HasOneOut None = Unit {0}
 HasOneOut (Some log) = 0 < links_out 0 log
 
--- what is known of a listener: which links it gave and which came back, in the order of time, where that is known, and
--- how often it has failed to give one
+-- which links a listener gave and which came back, in the order of time, where that is known, and how often it failed
+-- to give one
 pub record ListenerState : Type 0 where
   pub log : Option (List LinkEvent)
   pub accept_faults : ℕ

@@ -12,7 +12,7 @@ use Rattle.lp_base.specs.declared.lines.LineStop.{LineStop}
 use Rattle.lp_base.specs.declared.lines.LineStop.TheVariants.{Read, NoMemory}
 use Rattle.lp_base.specs.declared.part.Part.{Part}
 
--- what is kept of a line with these bytes
+-- what a reader keeps of a line with these bytes: the first ones, up to a limit, their number, and the last byte
 pub record IsKept (part : Part) (raw : List ℕ) : Type 0 where
   pub bytes : part.bytes.items ≡ take (line_limit + 1) raw
   pub len : part.len ≡ length raw
@@ -39,12 +39,12 @@ pub record TakesRun (old new : LinesState) (before after : Part) (found : Bool) 
 abbrev pub HasEnded : LinesState → Option (List ℕ) → Option (List ℕ) → Type 0
 HasEnded old before after = ((old.ended ≡ true) × (after ≡ before)) ⊎ ((old.ended ≡ false) × IsAtEnd after)
 
--- Some bytes are ahead, or the input has ended.
+-- some bytes of the buffer are unread, or the input has ended
 abbrev pub HasMore : Bool → LinesState → LinesState → Option (List ℕ) → Option (List ℕ) → Type 0
 HasMore true old new before after = (0 < length new.ahead) × (old.ended ≡ false) × (new.ended ≡ false)
 HasMore false old new before after = (new.ahead ≡ []) × (new.ended ≡ true) × HasEnded old before after
 
--- Bytes were read, unless some are ahead. Where none are now, the input has ended.
+-- Bytes were read into the buffer, unless some in it were unread. Where none is unread now, the input has ended.
 abbrev pub ReadsOn : Option (List ℕ) → Option (List ℕ) → LinesState → LinesState → Result Bool Failed → Type 0
 ReadsOn before after old new (Ok more) =
     (bytes : List ℕ) × Consumes before after bytes × (new.ahead ≡ old.ahead ++ bytes)
@@ -94,7 +94,7 @@ pub record IsOver (old : LinesState) (bytes : List ℕ) : Type 0 where
   pub more : 0 < length rest
   pub near : length rest ≤ 4096
 
--- the source failed in a line, of which all bytes so far are given up
+-- the source failed in the middle of a line, whose bytes up to there are given up
 pub record IsBrokenOff (old : LinesState) (bytes : List ℕ) (new : LinesState) : Type 0 where
   pub live : old.ended ≡ false
   pub plain : All (λ b. b ≢ 10) (old.ahead ++ bytes)

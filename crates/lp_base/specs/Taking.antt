@@ -9,12 +9,12 @@ use Rattle.lp_base.specs.NextLine.{GivesNext}
 use Rattle.lp_base.specs.declared.lines.LineStop.{LineStop}
 use Rattle.lp_base.specs.declared.lines.LineStop.TheVariants.{Read, NoMemory}
 
--- these are the first lines of a text that begins so, whatever bytes follow
+-- whatever bytes follow `raw`, the lines of them all begin with these lines
 pub record BeginsWith (raw : List ℕ) (lines : List (Line (List ℕ))) : Type 0 where
   pub all : (more : List ℕ) → lines_of (raw ++ more) ≡ lines ++ lines_of more
   pub ended : (more : List ℕ) → ended_lines_of (raw ++ more) ≡ lines ++ ended_lines_of more
 
--- these are all the lines of an input that has ended
+-- these are all the lines of an input, which has ended
 pub record IsWhole (after : Option (List ℕ)) (raw ahead : List ℕ) (lines : List (Line (List ℕ))) : Type 0 where
   pub all : lines_of raw ≡ lines
   pub none : ahead ≡ []
@@ -85,7 +85,7 @@ pub record ReadsLittleMore (read : List ℕ) (lines : List (Line (List ℕ))) : 
   pub plain : All (λ b. b ≢ 10) part
   pub near : length ahead ≤ 4096
 
--- the source failed
+-- these lines were taken before the source failed, and little more was read
 pub record ReadsToFault (before after : Option (List ℕ)) (lines : List (Line (List ℕ))) : Type 0 where
   pub front : ReadsFront before after lines
   pub near : ReadsLittleMore front.read lines

@@ -41,7 +41,7 @@ impl Calls {
         Ok(())
     }
 
-    // Counts a fault.
+    // Counts one more failed call, and gives the error that stands for it.
     pub(crate) fn fail(&mut self) -> Failed
         ensures fails { self.new.fails ≡ self.old.fails }
         ensures next { self.new.next ≡ self.old.next }

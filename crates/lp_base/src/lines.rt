@@ -137,7 +137,7 @@ impl Lines {
         self.given == MAX_INPUT
     }
 
-    // Reads into the buffer where no byte is ahead, and says whether some are then.
+    // Reads into the buffer where no byte in it is unread, and says whether one is then.
     fn has_more<S: Source>(&mut self, source: &mut S) -> Result<bool, Failed>
         ensures moved { ReadsOn (S.left source.old) (S.left source.new) self.old self.new result }
         ensures ended { self.old.ended ≡ true → (result ≡ Ok false) × (S.left source.new ≡ S.left source.old) }
@@ -160,7 +160,7 @@ impl Lines {
         Ok(count > 0)
     }
 
-    // The bytes ahead, as far as they may be given.
+    // The unread bytes of the buffer, as many as may still be given.
     fn ahead(&self) -> &[u8]
         ensures { result.now ≡ take (2 ^ 26 - self.now.given) self.now.ahead }
     {
@@ -169,7 +169,7 @@ impl Lines {
         &self.buffer[self.from..to]
     }
 
-    // Skips this many of the bytes ahead.
+    // Skips this many of the unread bytes of the buffer.
     fn pass(&mut self, count: usize)
         requires some { count ≤ length self.old.ahead }
         requires room { self.old.given + count ≤ 2 ^ 26 }
@@ -180,7 +180,7 @@ impl Lines {
         self.given += count as u64;
     }
 
-    // Moves the bytes ahead to the line, up to a line feed, and says whether there was one, which is passed over.
+    // Moves unread bytes to the line, up to a line feed, which is skipped, and says whether there was one.
     fn take_run(&mut self, line: &mut Part) -> Result<bool, AllocError>
         requires some { 0 < length self.old.ahead }
         requires room { self.old.given < 2 ^ 26 }

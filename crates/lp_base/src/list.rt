@@ -63,7 +63,7 @@ impl<T> Items<T> {
         items
     }
 
-    /// The items, in order.
+    /// The items of the list, in order.
     pub fn as_slice(&self) -> &[T]
         ensures { result.now ≡ self.now }
     {
@@ -103,7 +103,7 @@ impl<T: Drop> Items<T> {
         Ok(())
     }
 
-    /// Puts an item at `place` and moves those from there on up by one.
+    /// Adds an item at `place`; the items from there on move up by one.
     pub fn insert(&mut self, place: usize, item: T) -> Result<(), AllocError>
         requires { place ≤ length self.old }
         ensures ok { OnOk result (self.new ≡ insert self.old place item) }
@@ -121,7 +121,7 @@ impl<T: Drop> Items<T> {
         self.items.remove(place);
     }
 
-    /// Puts `item` in place of the one at `i`.
+    /// Replaces the item at `i` by `item`.
     pub fn set(&mut self, i: usize, item: T)
         requires { i < length self.old }
         ensures { self.new ≡ slice_set self.old i item }

@@ -66,7 +66,7 @@ impl MemSource {
     }
 }
 
-// Copies from the start of the bytes as far as there is room, and says how many.
+// Copies the first bytes, as many as there is room for, and gives their number.
 fn copy_front(bytes: &[u8], buf: &mut [u8]) -> usize
     ensures count { result ≡ min (length bytes.now) (length buf.old) }
     ensures len { length buf.new ≡ length buf.old }

@@ -6,7 +6,7 @@ use Rattle.spec_exact.specs.Fraction.{ℚ}
 abbrev pub less_num : ℤ → ℕ → ℤ → ℕ → ℤ → ℕ → ℤ
 less_num a b c d e f = e *ℤ pos (b * d) -ℤ a *ℤ c *ℤ pos f
 
--- the product of the three denominators
+-- the product of the denominators b, d and f
 abbrev pub less_den : ℕ → ℕ → ℕ → ℕ
 less_den b d f = b * d * f
 

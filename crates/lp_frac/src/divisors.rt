@@ -182,7 +182,7 @@ pub(crate) fn common_of_short(a: u64, b: u64) -> u64
     any_short_common(a, b)
 }
 
-// The greatest common divisor.
+// The greatest common divisor of two numbers of 128 bits.
 pub(crate) fn common(a: u128, b: u128) -> u128
     ensures value { result ≡ gcd a b }
     ensures positive { 0 < b → 0 < result }

@@ -13,7 +13,7 @@ pub type Fracs = Items<Frac>;
 /// The entries of a column: rows, counted from 0, each with a fraction.
 pub type Entries = Items<(u32, Frac)>;
 
-/// `n` zeros.
+/// A list of `n` fractions that are all 0.
 pub fn zeros(alloc: Global, n: usize) -> Result<Fracs, AllocError>
     ensures { IfOk result (λ v. v ≡ replicate n 0ℚ) }
 {

@@ -39,14 +39,16 @@ pub fn is_zero(v: Frac) -> bool
     has_top_zero(v)
 }
 
-/// Both parts of a fraction are within the limit. It does nothing: proofs call it for this fact.
+/// The numerator and the denominator of a fraction are within the limit. The call does nothing: proofs make it for this
+/// fact.
 pub fn within(v: Frac)
     ensures { IsWithin number_limit v }
 {
     let (_, _) = (v.top(), v.bottom());
 }
 
-/// Both parts of each fraction of a list are within the limit. It does nothing: proofs call it for this fact.
+/// The numerators and the denominators of a list of fractions are within the limit. The call does nothing: proofs make
+/// it for this fact.
 pub fn all_within(vs: &[Frac])
     ensures { All (IsWithin number_limit) vs.now }
 {
@@ -55,7 +57,7 @@ pub fn all_within(vs: &[Frac])
     }
 }
 
-/// The same fraction, known to have at most 127 bits.
+/// Gives a fraction as it is, known to have at most 127 bits.
 pub fn narrow(v: Frac) -> Frac
     ensures value { result ≡ v }
     ensures narrow { IsNarrow result }
@@ -64,7 +66,7 @@ pub fn narrow(v: Frac) -> Frac
     v
 }
 
-/// The same fraction, if there is one, known to have at most 127 bits.
+/// Gives a fraction as it is, if there is one, known to have at most 127 bits.
 pub fn narrow_if(v: Option<Frac>) -> Option<Frac>
     ensures value { result ≡ v }
     ensures narrow { IfSome v IsNarrow }
@@ -75,21 +77,21 @@ pub fn narrow_if(v: Option<Frac>) -> Option<Frac>
     }
 }
 
-/// The negative of `v`.
+/// The negative of the fraction `v`.
 pub fn neg(v: Frac) -> Frac
     ensures { result ≡ neg_ℚ v }
 {
     Frac::make(-v.top(), v.bottom())
 }
 
-/// The magnitude of `v`.
+/// The absolute value of the fraction `v`.
 pub fn abs(v: Frac) -> Frac
     ensures { result ≡ abs_ℚ v }
 {
     if v.top() < 0 { neg(v) } else { v }
 }
 
-/// Compares `v` with 0.
+/// Whether the fraction `v` is below 0, equal to 0, or above 0.
 pub fn sign(v: Frac) -> Ordering
     ensures { result ≡ sign_of v }
 {

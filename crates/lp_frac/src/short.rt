@@ -77,7 +77,7 @@ fn short_num(e: i64, p: u64, n: i64, q: u64) -> Option<i64>
     }
 }
 
-// e p
+// The product of e and p, in 128 bits.
 fn long_scaled(e: i64, p: u64) -> i128
     requires { p ≤ 9223372036854775807 }
     ensures value { result ≡ e *ℤ pos p }
@@ -96,7 +96,7 @@ fn long_num(e: i64, p: u64, n: i64, q: u64) -> i128
     long_scaled(e, p) - long_scaled(n, q)
 }
 
-// p f
+// The product of p and f, in 128 bits.
 fn long_den(p: u64, f: u64) -> u128
     requires p_size { p ≤ 9223372036854775807 }
     requires f_size { f ≤ 9223372036854775807 }
@@ -121,7 +121,7 @@ fn difference_on(e: i64, f: u64, n: i64, p: u64, q: u64) -> Frac
     }
 }
 
-// e/f - n/k
+// The fraction e/f - n/k, in lowest terms.
 fn difference(e: i64, f: u64, n: i64, k: u64) -> Frac
     requires f_positive { 0 < f }
     requires f_size { f ≤ 9223372036854775807 }

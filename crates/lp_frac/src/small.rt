@@ -32,7 +32,7 @@ fn small_product(a: i32, c: i32) -> i64
     a as i64 * c as i64
 }
 
-// k = b d
+// The product of the denominators b and d, of 32 bits each.
 #[inline(always)]
 fn small_product_den(b: u64, d: u64) -> u64
     requires b_size { b ≤ 4294967295 }
@@ -58,7 +58,7 @@ fn small_on(n: i64, q: u64) -> Option<i64>
     Some(n * q as i64)
 }
 
-// e p
+// The product of e and p, in 64 bits.
 #[inline(always)]
 fn small_scaled(e: i32, p: u64) -> i64
     requires { p ≤ 2147483647 }
@@ -79,7 +79,7 @@ fn small_num(x: i64, y: i64) -> i64
     x - y
 }
 
-// p f
+// The product of p and f, in 64 bits.
 #[inline(always)]
 fn small_den(p: u64, f: u64) -> u64
     requires p_size { p ≤ 2147483647 }

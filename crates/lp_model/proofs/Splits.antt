@@ -92,11 +92,11 @@ module _ (i : ℕ) (front own back : Entries) (own_row : All (λ e. e.0 ≡ i) o
 
 -- ---- the entry that is put
 
--- where the coefficient is 0, no entry is put
+-- a column gets no entry for a coefficient that is 0
 put-zero : (i : ℕ) (v : ℚ) → v ≡ 0ℚ → entry_if i v ≡ []
 put-zero i v e = rw (eq_test v 0ℚ e) refl
 
--- where the coefficient is not 0, one entry is put
+-- a column gets one entry for a coefficient other than 0
 put-other : (i : ℕ) (v : ℚ) → v ≢ 0ℚ → entry_if i v ≡ (i, v) ∷ []
 put-other i v n = by (eq_ℚ v 0ℚ) refl
   where

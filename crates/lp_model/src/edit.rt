@@ -100,7 +100,7 @@ impl Pairs {
         &self.items
     }
 
-    /// Takes out the name of the pair at `place`, counted from 0. Of the pairs left, the last one moves to its place.
+    /// Takes out the name of the pair at `place`, counted from 0. The last pair moves to its place.
     pub(crate) fn take_name(&mut self, place: usize) -> Name
         requires { place < length self.old }
         ensures { IfSome (slice_get self.old place) (λ p. result ≡ p.0) }

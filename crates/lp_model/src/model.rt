@@ -132,7 +132,7 @@ impl Model {
         self.sense
     }
 
-    /// The objective's name.
+    /// The name of the model's objective.
     pub fn objective(&self) -> &Name
         ensures { result.now ≡ self.now.objective }
     {

@@ -6,7 +6,7 @@ ghost use Rattle.spec_model.specs.Kept.{IsNarrowRow, IsNarrowColumn};
 use crate::model::{Column, Row};
 use lp_frac::{narrow, narrow_if};
 
-/// The same row, whose numbers are then known to have at most 127 bits.
+/// Gives a row as it is, whose numbers are then known to have at most 127 bits.
 pub(crate) fn narrow_row(row: Row) -> Row
     ensures value { result ≡ row }
     ensures narrow { IsNarrowRow row }
@@ -18,7 +18,7 @@ pub(crate) fn narrow_row(row: Row) -> Row
     }
 }
 
-/// The same column, whose cost and bounds are then known to have at most 127 bits, as its coefficients were.
+/// Gives a column as it is, whose cost and bounds are then known to have at most 127 bits, as its coefficients were.
 pub(crate) fn narrow_column(column: Column) -> Column
     requires { All (λ e. IsNarrow e.1) column.entries }
     ensures value { result ≡ column }

@@ -43,7 +43,7 @@ impl UsualModel {
         UsualModel { model }
     }
 
-    /// The model itself.
+    /// The usual model, as a model of any size.
     pub fn model(&self) -> &Model
         ensures value { result.now ≡ self.now }
         ensures usual { IsUsual result.now }
